@@ -2,7 +2,7 @@
 // whole words.
 
 ghost use Rattle.std.specs.Prelude.{◌≡◌, ◌≤◌, ◌+◌, ◌*◌, length, drop, IfNone};
-ghost use Rattle.elf_image.specs.Layout.{file_header, program_header, is_load, is_readable, is_writable, is_executable, loads};
+ghost use Rattle.elf_image.specs.Layout.{field, file_header, program_header, is_load, is_readable, is_writable, is_executable, loads};
 ghost use Rattle.elf_image.specs.Tests.{header_fault, load_fault};
 
 use crate::fault::ImageFault;
@@ -73,17 +73,17 @@ impl FileHeader {
         ensures { result ≡ file_header bytes.now }
     {
         FileHeader {
-            magic: LittleEndian::read_u32(bytes),
+            magic: u32_at(bytes, 0),
             class: bytes[4],
             data_encoding: bytes[5],
             identification_version: bytes[6],
-            object_type: LittleEndian::read_u16(&bytes[16..]),
-            machine: LittleEndian::read_u16(&bytes[18..]),
-            version: LittleEndian::read_u32(&bytes[20..]),
-            entry: LittleEndian::read_u64(&bytes[24..]),
-            program_header_offset: LittleEndian::read_u64(&bytes[32..]),
-            program_header_size: LittleEndian::read_u16(&bytes[54..]),
-            program_header_count: LittleEndian::read_u16(&bytes[56..]),
+            object_type: u16_at(bytes, 16),
+            machine: u16_at(bytes, 18),
+            version: u32_at(bytes, 20),
+            entry: u64_at(bytes, 24),
+            program_header_offset: u64_at(bytes, 32),
+            program_header_size: u16_at(bytes, 54),
+            program_header_count: u16_at(bytes, 56),
         }
     }
 
@@ -149,12 +149,12 @@ impl ProgramHeader {
         ensures { result ≡ program_header bytes.now }
     {
         ProgramHeader {
-            segment_type: LittleEndian::read_u32(bytes),
-            flags: LittleEndian::read_u32(&bytes[4..]),
-            offset: LittleEndian::read_u64(&bytes[8..]),
-            virtual_address: LittleEndian::read_u64(&bytes[16..]),
-            file_size: LittleEndian::read_u64(&bytes[32..]),
-            memory_size: LittleEndian::read_u64(&bytes[40..]),
+            segment_type: u32_at(bytes, 0),
+            flags: u32_at(bytes, 4),
+            offset: u64_at(bytes, 8),
+            virtual_address: u64_at(bytes, 16),
+            file_size: u64_at(bytes, 32),
+            memory_size: u64_at(bytes, 40),
         }
     }
 
@@ -219,4 +219,25 @@ pub fn count_loads(table: &[u8], count: usize) -> usize
         rest = after;
     }
     found
+}
+
+fn u16_at(bytes: &[u8], offset: usize) -> u16
+    requires { offset + 2 ≤ length bytes.now }
+    ensures { result ≡ field bytes.now offset 2 }
+{
+    LittleEndian::read_u16(&bytes[offset..])
+}
+
+fn u32_at(bytes: &[u8], offset: usize) -> u32
+    requires { offset + 4 ≤ length bytes.now }
+    ensures { result ≡ field bytes.now offset 4 }
+{
+    LittleEndian::read_u32(&bytes[offset..])
+}
+
+fn u64_at(bytes: &[u8], offset: usize) -> u64
+    requires { offset + 8 ≤ length bytes.now }
+    ensures { result ≡ field bytes.now offset 8 }
+{
+    LittleEndian::read_u64(&bytes[offset..])
 }

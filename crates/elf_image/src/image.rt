@@ -36,6 +36,7 @@ impl<'a> Model for Segment<'a> {
 
 impl Segment<'_> {
     ghost use Rattle.std.specs.Prelude.{◌≡◌, ◌+◌};
+    ghost use Rattle.std.specs.List.{list_any};
     ghost use Rattle.elf_image.specs.Tests.{meets, holds};
 
     /// The first address of the segment (ELF-64, `p_vaddr`).
@@ -94,6 +95,13 @@ impl Segment<'_> {
         let start = self.address.max(other.address);
         let end = self.end().min(other.end());
         u128::from(start) < end
+    }
+
+    // Whether the segment shares an address with one of the others.
+    fn meets_any(&self, others: &[Segment]) -> bool
+        ensures { result ≡ list_any (meets self.now) others.now }
+    {
+        others.iter().any(|other| self.meets(other))
     }
 
     // The address after the last.
@@ -272,7 +280,7 @@ fn overlaps(segments: &[Segment]) -> bool
 {
     match segments {
         [] => false,
-        [first, rest @ ..] => rest.iter().any(|other| first.meets(other)) || overlaps(rest),
+        [first, rest @ ..] => first.meets_any(rest) || overlaps(rest),
     }
 }
 

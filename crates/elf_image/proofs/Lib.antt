@@ -1,0 +1,4 @@
+pub mod Fits
+pub mod Loads
+pub mod Pages
+pub mod Written

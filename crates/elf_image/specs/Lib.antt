@@ -1,0 +1,4 @@
+pub mod Content
+pub mod Layout
+pub mod Tests
+pub mod Writing

@@ -1,0 +1,13 @@
+// Executable files of the ELF-64 Object File Format for RISC-V: written from four segments, and read back, borrowed,
+// by tests in a fixed order.
+#![tactic(auto)]
+
+pub mod fault;
+pub mod header;
+pub mod image;
+pub mod part;
+mod writing;
+
+pub use fault::{ImageFault, ReadError};
+pub use image::{Image, Segment};
+pub use part::{Part, Parts};

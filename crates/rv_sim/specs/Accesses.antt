@@ -1,0 +1,56 @@
+-- The accesses of objects that compiled code makes. In an image of the compiler the second executable segment is the code
+-- that was compiled, and objects stand at addresses from 0x10000000 on, below 0x40000000.
+use Rattle.std.specs.Prelude.{ℕ, Bool, false, ◌&&◌, nat_lt, nat_le, if◌then◌else◌, List, [], ◌∷◌, filter, Option, Some, None, slice_get}
+use Rattle.behaviours.specs.Shown.{Access, Read, Write}
+use Rattle.rv_isa.specs.declared.instruction.Instr.{Instr}
+use Rattle.rv_isa.specs.declared.instruction.Instr.TheVariants.{Lui, Auipc, Jal, Jalr, Branch, Load, Store, OpImm, ShiftImm, Addiw, ShiftImm32, Op, Op32, Fence, Ecall, Ebreak}
+use Rattle.rv_isa.specs.Decoding.{decoded}
+use Rattle.rv_sim.specs.Memory.{SegmentState, ◌>>=◌, holds, fetch}
+use Rattle.rv_sim.specs.State.{MachineState}
+use Rattle.rv_sim.specs.Step.{address_of, load_bytes, store_bytes}
+
+abbrev pub objects_begin : ℕ
+objects_begin = 0x10000000
+
+abbrev pub objects_end : ℕ
+objects_end = 0x40000000
+
+-- the load or store that an instruction makes in this state
+abbrev pub access_of : Instr → MachineState → Option Access
+access_of (Load op rd rs1 imm) s = Some record { address = address_of s rs1 imm; size = load_bytes op; kind = Read }
+access_of (Store op rs1 rs2 imm) s = Some record { address = address_of s rs1 imm; size = store_bytes op; kind = Write }
+access_of (Lui rd imm) s = None
+access_of (Auipc rd imm) s = None
+access_of (Jal rd imm) s = None
+access_of (Jalr rd rs1 imm) s = None
+access_of (Branch op rs1 rs2 imm) s = None
+access_of (OpImm op rd rs1 imm) s = None
+access_of (ShiftImm op rd rs1 shamt) s = None
+access_of (Addiw rd rs1 imm) s = None
+access_of (ShiftImm32 op rd rs1 shamt) s = None
+access_of (Op op rd rs1 rs2) s = None
+access_of (Op32 op rd rs1 rs2) s = None
+access_of (Fence rd rs1 fields) s = None
+access_of Ecall s = None
+access_of Ebreak s = None
+
+-- that of the instruction at pc
+unfoldable pub next_access : MachineState → Option Access
+next_access s = fetch s.memory s.pc >>= λ word. decoded word >>= λ i. access_of i s
+
+abbrev pub holds_in : Option SegmentState → ℕ → Bool
+holds_in None a = false
+holds_in (Some s) a = holds s a
+
+-- whether an address lies in the second executable segment
+unfoldable pub is_compiled : List SegmentState → ℕ → Bool
+is_compiled memory a = holds_in (slice_get (filter (λ s. s.executable) memory) 1) a
+
+-- an access, where it is one of objects
+abbrev pub objects_only : Option Access → List Access
+objects_only None = []
+objects_only (Some a) = if nat_le objects_begin a.address && nat_lt a.address objects_end then a ∷ [] else []
+
+-- the access of objects that the instruction at pc makes, where it is of the compiled code and can be done
+unfoldable pub object_access : MachineState → List Access
+object_access s = if is_compiled s.memory s.pc then objects_only (next_access s) else []

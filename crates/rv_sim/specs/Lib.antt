@@ -1,0 +1,12 @@
+pub mod Accesses
+pub mod Behaviour
+pub mod Memory
+pub mod Run
+pub mod Seen
+pub mod Simulation
+pub mod Start
+pub mod State
+pub mod Step
+pub mod Trap
+pub mod Width
+pub mod Word

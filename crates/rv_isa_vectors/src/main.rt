@@ -4,7 +4,8 @@
 //
 // `stdin` and `stdout` are made by the assembler and the disassembler of GNU Binutils for Debian 2.40 (Debian 12,
 // binutils-riscv64-linux-gnu), objdump with `-D -b binary -m riscv:rv64 -M numeric,no-aliases`, as `vectors.py` beside
-// them says. Where objdump knows an instruction outside RV64IM, the line is `unknown` too.
+// them says. Where objdump knows an instruction outside RV64IM, the line is `unknown` too. No FENCE with more than its
+// two sets is among the words: objdump has no text for it.
 #![tactic(auto)]
 
 mod listing;
@@ -13,7 +14,7 @@ mod names;
 use crate::listing::Listing;
 use anyhow::{Context, Result};
 use rv_isa::{decode, encode};
-use std::io::BufReader;
+use std::io::{BufRead, BufReader};
 
 fn main(rt: HostRuntime) -> Result<()> {
     let mut address = 0u64;
@@ -21,11 +22,11 @@ fn main(rt: HostRuntime) -> Result<()> {
         let word = word_of(line?.as_str())?;
         match decode(word) {
             Some(instr) => {
-                let text = Listing {
+                let listing = Listing {
                     instr: &instr,
                     address,
                 };
-                println!(rt; "{:08x} {text}", encode(instr))?;
+                println!(rt; "{:08x} {listing}", encode(*listing.instr))?;
             }
             None => println!(rt; "unknown")?,
         }

@@ -11,3 +11,6 @@ mod writing;
 pub use fault::{ImageFault, ReadError};
 pub use image::{Image, Segment};
 pub use part::{Part, Parts};
+
+#[cfg(test)]
+mod tests;

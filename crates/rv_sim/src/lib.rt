@@ -7,7 +7,7 @@
 
 pub mod arithmetic;
 pub mod call;
-// pub mod laws;
+pub mod laws;
 pub mod machine;
 pub mod memory;
 pub mod state;

@@ -1,0 +1,7 @@
+pub mod Content
+pub mod Failures
+pub mod Faults
+pub mod HeldFile
+pub mod MemoryFiles
+pub mod MemorySink
+pub mod MemorySource

@@ -1,0 +1,171 @@
+//! The outside of the process: its standard streams and the files of the system. What they give or
+//! take is not told: these adapters are trusted to hand on what the system says.
+ghost use Rattle.std.specs.Prelude.{◌≡◌, ◌≤◌, ◌^◌, ◌<◌, None};
+ghost use Rattle.sb_outside.specs.Content.{ReadsUntold};
+
+use crate::files::{FileFault, Files};
+use crate::sink::Sink;
+use crate::source::{Failed, Source};
+use std::alloc::Global;
+use std::io::{Read, Write};
+use std::{fs, rt};
+
+// How many bytes are read from a file at a time.
+const CHUNK: usize = 4096;
+
+/// A source over a reader. Its count of faults rises with each error that the reader gives.
+#[derive(Drop)]
+pub struct StdSource<R: Read> {
+    reader: R,
+    faults: u64,
+}
+
+impl<R: Read> StdSource<R> {
+    pub fn new(reader: R) -> Self {
+        StdSource { reader, faults: 0 }
+    }
+}
+
+impl<R: Read> Source for StdSource<R> {
+    ghost rest = { λ _. None };
+
+    ghost faults = { λ s. s.faults };
+
+    fn take(&mut self) -> Result<Option<u8>, Failed> {
+        let mut byte = [0; 1];
+        match self.reader.read(&mut byte) {
+            Ok(0) => Ok(None),
+            Ok(_) => Ok(Some(byte[0])),
+            Err(_) => {
+                self.faults = self.faults.saturating_add(1);
+                Err(Failed)
+            }
+        }
+    }
+}
+
+/// A sink over a writer. Its count of faults rises with each error that the writer gives, and where
+/// it takes nothing of a piece that is not empty.
+#[derive(Drop)]
+pub struct StdSink<W: Write> {
+    writer: W,
+    faults: u64,
+}
+
+impl<W: Write> StdSink<W> {
+    pub fn new(writer: W) -> Self {
+        StdSink { writer, faults: 0 }
+    }
+}
+
+impl<W: Write> Sink for StdSink<W> {
+    ghost taken = { λ _. None };
+
+    ghost faults = { λ s. s.faults };
+
+    fn put(&mut self, bytes: &[u8]) -> Result<(), Failed> {
+        if write_whole(&mut self.writer, bytes) {
+            return Ok(());
+        }
+        self.faults = self.faults.saturating_add(1);
+        Err(Failed)
+    }
+}
+
+/// The files of the system. A name is a path of it. The counts of faults rise with each error that
+/// the system gives.
+#[derive(Drop)]
+pub struct HostFiles<'a, R: rt::Files> {
+    runtime: &'a R,
+    read_faults: u64,
+    write_faults: u64,
+}
+
+impl<'a, R: rt::Files> HostFiles<'a, R> {
+    pub fn new(runtime: &'a R) -> Self {
+        HostFiles {
+            runtime,
+            read_faults: 0,
+            write_faults: 0,
+        }
+    }
+}
+
+impl<'a, R: rt::Files> Files for HostFiles<'a, R> {
+    ghost held = { λ _. None };
+
+    ghost read_faults = { λ f. f.read_faults };
+
+    ghost write_faults = { λ f. f.write_faults };
+
+    /// At most `max + 1` bytes of the file are read.
+    fn read(&mut self, alloc: Global, name: &str, max: u64) -> Result<Vec<u8>, FileFault> {
+        let result = match fs::open(self.runtime, name) {
+            Ok(mut file) => read_whole(alloc, &mut file, max),
+            Err(_) => Err(FileFault::Failed),
+        };
+        if let Err(FileFault::Failed) = &result {
+            self.read_faults = self.read_faults.saturating_add(1);
+        }
+        result
+    }
+
+    fn write(&mut self, name: &str, bytes: &[u8]) -> Result<(), Failed> {
+        let written = match fs::create(self.runtime, name) {
+            Ok(mut file) => write_whole(&mut file, bytes),
+            Err(_) => false,
+        };
+        if written {
+            return Ok(());
+        }
+        self.write_faults = self.write_faults.saturating_add(1);
+        Err(Failed)
+    }
+}
+
+// Writes all the bytes, piece by piece. It is false where the writer failed or took nothing.
+fn write_whole<W: Write>(writer: &mut W, bytes: &[u8]) -> bool {
+    let mut at = 0;
+    while at < bytes.len() {
+        match writer.write(&bytes[at..]) {
+            Ok(0) | Err(_) => return false,
+            Ok(count) => at += count,
+        }
+    }
+    true
+}
+
+// All that a reader gives, where it is at most `max` bytes. At most one more is read.
+fn read_whole<R: Read>(alloc: Global, reader: &mut R, max: u64) -> Result<Vec<u8>, FileFault>
+    ensures { ReadsUntold max result }
+{
+    let mut bytes = Vec::new(alloc);
+    let mut chunk = [0; CHUNK];
+    loop {
+        let room = max - bytes.len() as u64;
+        let wanted = wanted_of(room);
+        let count = match reader.read(&mut chunk[..wanted]) {
+            Ok(0) => return Ok(bytes),
+            Ok(count) => count,
+            Err(_) => return Err(FileFault::Failed),
+        };
+        if count as u64 > room {
+            return Err(FileFault::TooLong(max + 1));
+        }
+        if bytes.extend_from_slice(&chunk[..count]).is_err() {
+            return Err(FileFault::Memory);
+        }
+    }
+}
+
+// How many bytes are read where there is room for so many: one more, to see whether the file ends.
+fn wanted_of(room: u64) -> usize
+    ensures within { result ≤ 4096 }
+    ensures some { 0 < result }
+{
+    if room < CHUNK as u64 {
+        room as usize + 1
+    } else {
+        CHUNK
+    }
+}

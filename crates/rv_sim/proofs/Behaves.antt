@@ -1,20 +1,17 @@
 -- The behaviour of the machine grows with the number of instructions.
-use Rattle.std.proofs.Common.{◌≡◌, ℕ, zero, suc, ◌+◌, ◌-◌, ◌≤◌, Bool, true, false, List, [], ◌∷◌, ◌++◌, Option, Some, None, refl, sym, ap, ◌∙◌, append_assoc, arith}
+use Rattle.std.proofs.Common.{◌≡◌, ℕ, zero, suc, ◌+◌, ◌-◌, ◌≤◌, Bool, true, false, List, [], ◌++◌, Option, Some, None, refl, sym, ap, ◌∙◌, append_assoc, arith}
 use Rattle.std.specs.Prelude.{if◌then◌else◌, ◌==◌, ◌||◌}
 use Rattle.std.proofs.lemmas.List.{append-nil}
-use Rattle.behaviours.specs.Shown.{Access, End, Shown, IsPrefix, IsEarlier}
-use Rattle.behaviours.specs.Behaviour.{Behaviour, IsMachine}
-use Rattle.rv_sim.specs.declared.trap.TrapKind.{TrapKind}
-use Rattle.rv_sim.specs.declared.trap.TrapKind.TheVariants as kinds
+use Rattle.behaviours.specs.Shown.{Shown, IsPrefix, IsEarlier}
+use Rattle.behaviours.specs.Behaviour.{IsMachine}
 use Rattle.rv_sim.specs.declared.trap.Action.{Action}
 use Rattle.rv_sim.specs.declared.trap.Action.TheVariants.{Done, Ask, Refuse}
-use Rattle.rv_sim.specs.declared.stop.Stop.{Stop}
 use Rattle.rv_sim.specs.Accesses.{object_access}
-use Rattle.rv_sim.specs.Memory.{bytes_at, may_write}
+use Rattle.rv_sim.specs.Memory.{may_write}
 use Rattle.rv_sim.specs.State.{MachineState, register}
-use Rattle.rv_sim.specs.Step.{Stepped, step}
-use Rattle.rv_sim.specs.Run.{Configuration, Turn, a0, a1, a2, a7, answered, exited, received, sent, trapped, turned, turn, calls, read_call, write_call, onwards, runs}
-use Rattle.rv_sim.specs.Behaviour.{begun, end_of, shown_by, behaviour}
+use Rattle.rv_sim.specs.Step.{step}
+use Rattle.rv_sim.specs.Run.{Configuration, Turn, a0, a1, a2, a7, answered, received, sent, turned, turn, calls, read_call, write_call, onwards, runs}
+use Rattle.rv_sim.specs.Behaviour.{begun, shown_by, behaviour}
 use Rattle.rv_sim.proofs.Runs.{runs-suc}
 
 -- what is shown at a moment is the first of what is shown at another
@@ -99,23 +96,23 @@ grows_read : (c : Configuration) → Grows c (read_call c).0
 unfolding read_call
 grows_read c =
     grows_if c (register c.state a0 == 0) _ _
-      (grows_if c (register c.state a2 == 0) _ _ (grows_answered c _)
-        (grows_if c (may_write c.state.memory (register c.state a1) (register c.state a2)) _ _ (grows_received c _) (grows_same c)))
-      (grows_answered c _)
+    (grows_if c (register c.state a2 == 0) _ _ (grows_answered c _)
+    (grows_if c (may_write c.state.memory (register c.state a1) (register c.state a2)) _ _ (grows_received c _) (grows_same c)))
+    (grows_answered c _)
 
 grows_write : (c : Configuration) → Grows c (write_call c).0
 unfolding write_call
 grows_write c =
     grows_if c (register c.state a0 == 1 || register c.state a0 == 2) _ _
-      (grows_if c (register c.state a2 == 0) _ _ (grows_answered c _) (grows_sent c _))
-      (grows_answered c _)
+    (grows_if c (register c.state a2 == 0) _ _ (grows_answered c _) (grows_sent c _))
+    (grows_answered c _)
 
 grows_call : (c : Configuration) → Grows c (calls c).0
 unfolding calls
 grows_call c =
     grows_if c (register c.state a7 == 63) _ _ (grows_read c)
-      (grows_if c (register c.state a7 == 64) _ _ (grows_write c)
-        (grows_if c (register c.state a7 == 93) _ _ (grows_same c) (grows_same c)))
+    (grows_if c (register c.state a7 == 64) _ _ (grows_write c)
+    (grows_if c (register c.state a7 == 93) _ _ (grows_same c) (grows_same c)))
 
 grows_turned : (c : Configuration) (s : MachineState) (a : Action) → Grows c (turned c (s, a)).0
 grows_turned c s Done = record {

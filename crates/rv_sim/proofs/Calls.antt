@@ -1,8 +1,8 @@
 -- One instruction that asks the environment.
-use Rattle.std.proofs.Common.{◌≡◌, ℕ, Bool, true, false, List, [], ◌++◌, Result, Ok, Err, OnErr, is_err, sym, ap, ◌∙◌, arith, refl}
+use Rattle.std.proofs.Common.{◌≡◌, ℕ, true, false, List, [], ◌++◌, Result, Ok, Err, OnErr, is_err, sym, ap, ◌∙◌, arith, refl}
 use Rattle.std.proofs.lemmas.Bool.{eq-eqb, ne_eqb}
 use Rattle.std.proofs.lemmas.List.{append-nil}
-use Rattle.std.specs.Prelude.{if◌then◌else◌, ◌==◌, ◌||◌, ◌%◌, Option, Some, None}
+use Rattle.std.specs.Prelude.{if◌then◌else◌, ◌==◌, Option, Some, None}
 use Rattle.sb_outside.specs.Content.{gained, GainsPart}
 use Rattle.rv_sim.specs.declared.trap.TrapKind.TheVariants as kinds
 use Rattle.rv_sim.specs.declared.stop.Stop.{Stop}
@@ -10,7 +10,7 @@ use Rattle.rv_sim.specs.declared.stop.Stop.TheVariants.{Exited, Trap, Limit, Inp
 use Rattle.rv_sim.specs.Memory.{bytes_at}
 use Rattle.rv_sim.specs.State.{MachineState, register}
 use Rattle.rv_sim.specs.Run.{Configuration, Turn, a0, a1, a2, a7, answered, exited, trapped, turned, turn, calls, read_call, write_call}
-use Rattle.rv_sim.specs.Seen.{IsSeen, IsCut, KeepsPart, Asks, ByFault}
+use Rattle.rv_sim.specs.Seen.{KeepsPart, Asks, ByFault}
 use Rattle.rv_sim.specs.Turns.{ReadOrFault, WrittenOrFault, CalledOrFault, TurnedOrFault}
 use Rattle.rv_sim.proofs.Told.{gained_gained}
 
@@ -42,19 +42,19 @@ pub by_read : (o e : Option (List ℕ)) (c : Configuration) (r : Option Stop) (s
 by_read o e c r state rest output errors k out err m =
     let at = calls-read c k in
     by_fault_map r _ _ _ _ _ _
-      (λ q. record { state_is = q.0; rest_is = q.1; output_is = out; errors_is = err })
-      (λ q. absurd q)
-      (λ p. rw at (p.stop_is, record { state_is = p.state_is; rest_is = p.rest_is; output_is = out ∙ ap (gained o) (sym p.output_stays); errors_is = err ∙ ap (gained e) (sym p.errors_stay) }))
-      m
+    (λ q. record { state_is = q.0; rest_is = q.1; output_is = out; errors_is = err })
+    (λ q. absurd q)
+    (λ p. rw at (p.stop_is, record { state_is = p.state_is; rest_is = p.rest_is; output_is = out ∙ ap (gained o) (sym p.output_stays); errors_is = err ∙ ap (gained e) (sym p.errors_stay) }))
+    m
 
 pub by_write : (o e : Option (List ℕ)) (c : Configuration) (r : Option Stop) (state : MachineState) (rest output errors : Option (List ℕ)) → register c.state a7 ≡ 64 → rest ≡ Some c.input → WrittenOrFault o e r c state output errors → CalledOrFault o e r c state rest output errors
 by_write o e c r state rest output errors k i m =
     let at = calls-write c k in
     by_fault_map r _ _ _ _ _ _
-      (λ q. absurd q)
-      (λ q. record { state_is = q.0; rest_is = i; output_part = rw at q.1; errors_part = rw at q.2 })
-      (λ p. rw at (p.stop_is, record { state_is = p.state_is; rest_is = i ∙ ap Some (sym p.input_stays); output_is = p.output_is; errors_is = p.errors_is }))
-      m
+    (λ q. absurd q)
+    (λ q. record { state_is = q.0; rest_is = i; output_part = rw at q.1; errors_part = rw at q.2 })
+    (λ p. rw at (p.stop_is, record { state_is = p.state_is; rest_is = i ∙ ap Some (sym p.input_stays); output_is = p.output_is; errors_is = p.errors_is }))
+    m
 
 turn-asks : (c : Configuration) → Asks c.state → turn c ≡ calls c
 unfolding turn

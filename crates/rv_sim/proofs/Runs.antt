@@ -4,7 +4,7 @@ use Rattle.rv_sim.specs.declared.stop.Stop.{Stop}
 use Rattle.rv_sim.specs.declared.stop.Stop.TheVariants.{Exited, Trap, Limit, InputFault, OutputFault}
 use Rattle.rv_sim.specs.State.{MachineState}
 use Rattle.rv_sim.specs.Run.{Configuration, Turn, onwards, turn, runs}
-use Rattle.rv_sim.specs.Seen.{IsSeen, IsRun, Asks}
+use Rattle.rv_sim.specs.Seen.{IsSeen, IsRun}
 use Rattle.rv_sim.specs.Turns.{FaultKeeps, TurnedOrFault}
 
 -- the two equations of a run

@@ -79,6 +79,6 @@ CountsInput result before now = ByFault result (Rises before now) (now ≡ befor
 abbrev pub CountsOutput : Option Stop → (output output_now errors errors_now : ℕ) → Type 0
 CountsOutput result output output_now errors errors_now =
     ByFault result
-      ((output_now ≡ output) × (errors_now ≡ errors))
-      ((Rises output output_now × (errors_now ≡ errors)) ⊎ ((output_now ≡ output) × Rises errors errors_now))
-      ((output_now ≡ output) × (errors_now ≡ errors))
+    ((output_now ≡ output) × (errors_now ≡ errors))
+    ((Rises output output_now × (errors_now ≡ errors)) ⊎ ((output_now ≡ output) × Rises errors errors_now))
+    ((output_now ≡ output) × (errors_now ≡ errors))

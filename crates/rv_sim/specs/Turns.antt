@@ -1,5 +1,5 @@
 -- What one instruction, and what an environment call, leave in the state and in the outside.
-use Rattle.std.specs.Prelude.{◌≡◌, ℕ, List, Option, Some, None}
+use Rattle.std.specs.Prelude.{◌≡◌, ℕ, List, Option, Some}
 use Rattle.sb_outside.specs.Content.{gained}
 use Rattle.rv_sim.specs.declared.stop.Stop.{Stop}
 use Rattle.rv_sim.specs.State.{MachineState}
@@ -29,24 +29,24 @@ ReadOrFault result c state rest =
 abbrev pub WrittenOrFault : (o e : Option (List ℕ)) → Option Stop → Configuration → MachineState → (output errors : Option (List ℕ)) → Type 0
 WrittenOrFault o e result c state output errors =
     ByFault result ⊥
-      ((state ≡ c.state) × KeepsPart o c.output (write_call c).0.output output × KeepsPart e c.errors (write_call c).0.errors errors)
-      (IsWritten o e result (write_call c) state output errors c)
+    ((state ≡ c.state) × KeepsPart o c.output (write_call c).0.output output × KeepsPart e c.errors (write_call c).0.errors errors)
+    (IsWritten o e result (write_call c) state output errors c)
 
 -- an environment call at the moment c
 abbrev pub CalledOrFault : (o e : Option (List ℕ)) → Option Stop → Configuration → MachineState → (rest output errors : Option (List ℕ)) → Type 0
 CalledOrFault o e result c state rest output errors =
     ByFault result
-      (IsSeen o e state rest output errors c)
-      (IsCut o e state rest output errors c)
-      ((result ≡ (calls c).1) × IsSeen o e state rest output errors (calls c).0)
+    (IsSeen o e state rest output errors c)
+    (IsCut o e state rest output errors c)
+    ((result ≡ (calls c).1) × IsSeen o e state rest output errors (calls c).0)
 
 -- an instruction at the moment c, in the state before
 abbrev pub TurnedOrFault : (o e : Option (List ℕ)) → Option Stop → Configuration → (before state : MachineState) → (rest output errors : Option (List ℕ)) → Type 0
 TurnedOrFault o e result c before state rest output errors =
     ByFault result
-      (Asks before × IsSeen o e state rest output errors c)
-      (Asks before × IsCut o e state rest output errors c)
-      ((result ≡ (turn c).1) × IsSeen o e state rest output errors (turn c).0)
+    (Asks before × IsSeen o e state rest output errors c)
+    (Asks before × IsCut o e state rest output errors c)
+    ((result ≡ (turn c).1) × IsSeen o e state rest output errors (turn c).0)
 
 -- a fault of the outside leaves the state
 abbrev pub FaultKeeps : Option Stop → (old new : MachineState) → Type 0

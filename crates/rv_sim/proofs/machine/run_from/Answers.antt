@@ -13,8 +13,8 @@ loop-count-init g c = record {
 pub loop-count-preserved : goal.loop-count-preserved
 loop-count-preserved g c = record {
   told = λ o e now seen.
-    let before = c.loop-count.invariant.told o e now seen in
-    goes_on o e c.loop-count._count now c.loop-count.state c.turn.new.state _ _ _ before.goes (c.in_default.ensures.told o e _ before.seen);
+      let before = c.loop-count.invariant.told o e now seen in
+      goes_on o e c.loop-count._count now c.loop-count.state c.turn.new.state _ _ _ before.goes (c.in_default.ensures.told o e _ before.seen);
   input = search rules;
   output = search rules;
   errors = search rules;

@@ -1,4 +1,4 @@
-// From words to instructions.
+//! From words to instructions.
 
 ghost use Rattle.std.specs.Prelude.{◌≡◌, ℕ, ◌+◌, ◌-◌, ◌*◌, ◌/◌, ◌%◌, ◌^◌, ◌<◌, ◌≤◌, IfSome};
 ghost use Rattle.rv_isa.specs.Table.{word_of, IsOfTable, branch_code, load_code, store_code, imm_code, shift_code, shift32_code, reg_code, reg32_code};

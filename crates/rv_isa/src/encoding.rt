@@ -1,4 +1,4 @@
-// From instructions to words.
+//! From instructions to words.
 
 ghost use Rattle.std.specs.Prelude.{◌≡◌, ℕ, ◌+◌, ◌-◌, ◌*◌, ◌/◌, ◌%◌, ◌^◌, ◌<◌, ◌≤◌};
 ghost use Rattle.rv_isa.specs.Table.{word_of, IsOfTable, r_word, i_word, s_word, b_word, u_word, j_word, branch_code, load_code, store_code, imm_code, shift_code, shift32_code, reg_code, reg32_code};

@@ -1,6 +1,6 @@
-// The instructions of RV64IM, as the RISC-V unprivileged ISA manual names them ("RV32I Base Integer
-// Instruction Set", "RV64I Base Integer Instruction Set", "M Extension for Integer Multiplication and
-// Division"). Operations that share a format and an opcode share a variant of `Instr`.
+//! The instructions of RV64IM, as the RISC-V unprivileged ISA manual names them ("RV32I Base Integer
+//! Instruction Set", "RV64I Base Integer Instruction Set", "M Extension for Integer Multiplication and
+//! Division"). Operations that share a format and an opcode share a variant of `Instr`.
 
 use crate::operand::{BranchOffset, Imm12, Imm20, JumpOffset, Reg, ShiftAmount, ShiftAmount32};
 

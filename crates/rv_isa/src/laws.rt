@@ -1,4 +1,4 @@
-// Laws of the table of instructions, each as the contract of a function that does nothing: layers above rest on them.
+//! Laws of the table of instructions, each as the contract of a function that does nothing: layers above rest on them.
 ghost use Rattle.std.specs.Prelude.{◌≡◌};
 ghost use Rattle.rv_isa.specs.Table.{word_of, IsOfTable};
 ghost use Rattle.rv_isa.specs.Decoding.{decoded};

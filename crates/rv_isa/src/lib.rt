@@ -1,5 +1,5 @@
-// The instructions of RV64IM, after the RISC-V unprivileged ISA manual: the type `Instr`, and the word of each
-// instruction. `encode` and `decode` are proved against one table, `word_of` in specs/Table.antt.
+//! The instructions of RV64IM, after the RISC-V unprivileged ISA manual: the type `Instr`, and the word of each
+//! instruction. `encode` and `decode` are proved against one table, `word_of` in specs/Table.antt.
 #![tactic(auto)]
 
 pub mod decoding;

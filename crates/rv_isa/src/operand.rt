@@ -1,5 +1,5 @@
-// The operands of instructions. In a clause each of them is the number in its field: a register its number, an
-// immediate its bits in two's complement, with the zeros that its format leaves out.
+//! The operands of instructions. In a clause each of them is the number in its field: a register its number, an
+//! immediate its bits in two's complement, with the zeros that its format leaves out.
 ghost use Rattle.std.specs.Prelude.{◌≡◌, ℕ, ◌+◌, ◌-◌, ◌*◌, ◌/◌, ◌%◌, ◌^◌, ◌<◌, ◌≤◌};
 ghost use Rattle.rv_isa.specs.Word.{sext};
 

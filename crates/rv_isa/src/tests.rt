@@ -1,4 +1,4 @@
-// Words that the manual's table gives, by hand: `encode` makes them, and `decode` reads them back.
+//! Words that the manual's table gives, by hand: `encode` makes them, and `decode` reads them back.
 use crate::{
     BranchOffset, BranchOp, Imm12, ImmOp, Instr, LoadOp, Reg, RegOp, RegOp32, ShiftAmount, ShiftOp,
     StoreOp, decode, encode,

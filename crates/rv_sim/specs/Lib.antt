@@ -8,5 +8,6 @@ pub mod Start
 pub mod State
 pub mod Step
 pub mod Trap
+pub mod Turns
 pub mod Width
 pub mod Word

@@ -1,7 +1,7 @@
 -- What a run of the machine leaves in its state and in the outside, told by the run's definition.
-use Rattle.std.specs.Prelude.{◌≡◌, ℕ, ◌<◌, ◌⊎◌, List, ◌++◌, Option, Some, None}
+use Rattle.std.specs.Prelude.{◌≡◌, ℕ, ◌<◌, ◌≤◌, ◌⊎◌, List, ◌++◌, Option, Some, None}
 use Rattle.sb_outside.specs.Content.{gained}
-use Rattle.sb_outside.specs.Faults.{Rose}
+use Rattle.sb_outside.specs.Faults.{Rose, last_count}
 use Rattle.rv_sim.specs.declared.trap.Action.TheVariants.{Ask}
 use Rattle.rv_sim.specs.declared.stop.Stop.{Stop}
 use Rattle.rv_sim.specs.declared.stop.Stop.TheVariants.{Exited, Trap, Limit, InputFault, OutputFault}
@@ -65,11 +65,20 @@ ByFault (Some Limit) I O P = P
 ByFault (Some (Exited status)) I O P = P
 ByFault (Some (Trap kind pc)) I O P = P
 
+-- a count of faults rises, up to its last value
+pub record Rises (before now : ℕ) : Type 0 where
+  pub later : before ≤ now
+  pub within : before ≤ last_count → now ≤ last_count
+  pub rose : Rose before now
+
 -- the input's count of faults rises with InputFault, and stands else
 abbrev pub CountsInput : Option Stop → ℕ → ℕ → Type 0
-CountsInput result old new = ByFault result (Rose old new) (new ≡ old) (new ≡ old)
+CountsInput result before now = ByFault result (Rises before now) (now ≡ before) (now ≡ before)
 
 -- a sink's count of faults rises with OutputFault; that of the other stands, and both stand else
-abbrev pub CountsOutput : Option Stop → (o o' e e' : ℕ) → Type 0
-CountsOutput result o o' e e' =
-    ByFault result ((o' ≡ o) × (e' ≡ e)) ((Rose o o' × (e' ≡ e)) ⊎ ((o' ≡ o) × Rose e e')) ((o' ≡ o) × (e' ≡ e))
+abbrev pub CountsOutput : Option Stop → (output output_now errors errors_now : ℕ) → Type 0
+CountsOutput result output output_now errors errors_now =
+    ByFault result
+    ((output_now ≡ output) × (errors_now ≡ errors))
+    ((Rises output output_now × (errors_now ≡ errors)) ⊎ ((output_now ≡ output) × Rises errors errors_now))
+    ((output_now ≡ output) × (errors_now ≡ errors))

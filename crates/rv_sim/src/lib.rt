@@ -5,10 +5,16 @@
 //! behaviour that a run shows in `Behaviour`.
 #![tactic(auto)]
 
+pub mod arithmetic;
+pub mod call;
+pub mod laws;
+pub mod machine;
+pub mod memory;
+pub mod state;
 pub mod stop;
 pub mod trap;
 pub mod width;
 
+pub use crate::machine::Machine;
 pub use crate::stop::Stop;
-pub use crate::trap::{Action, TrapKind};
-pub use crate::width::Width;
+pub use crate::trap::TrapKind;

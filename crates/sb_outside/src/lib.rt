@@ -20,3 +20,6 @@ pub use memory_sink::MemSink;
 pub use memory_source::MemSource;
 pub use sink::Sink;
 pub use source::{Failed, Source};
+
+#[cfg(test)]
+mod tests;

@@ -1,0 +1,6 @@
+pub mod Lexing
+pub mod Meaning
+pub mod Part
+pub mod Source
+pub mod Spelling
+pub mod Tokens

@@ -1,4 +1,4 @@
-// A file that is written and read back, and files with one byte changed.
+//! A file that is written and read back, and files with one byte changed.
 
 ghost use Rattle.std.specs.Prelude.{IfOk};
 ghost use Rattle.elf_image.specs.Writing.{PiecesFit};

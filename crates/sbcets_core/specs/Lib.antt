@@ -1,7 +1,9 @@
+pub mod Accepted
 pub mod Code
 pub mod Faithful
 pub mod Lexing
 pub mod Meaning
+pub mod Outcomes
 pub mod Part
 pub mod Source
 pub mod Spelling

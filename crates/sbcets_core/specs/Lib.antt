@@ -1,5 +1,6 @@
 pub mod Accepted
 pub mod Code
+pub mod Command
 pub mod Faithful
 pub mod Lexing
 pub mod Meaning
@@ -8,3 +9,4 @@ pub mod Part
 pub mod Source
 pub mod Spelling
 pub mod Tokens
+pub mod Top

@@ -13,12 +13,12 @@ use rv_sim::TrapKind;
 use sb_outside::{Failed, Sink};
 
 /// Puts the line of an outcome, where it has one.
-pub fn report<S: Sink>(sink: &mut S, outcome: Outcome) -> Result<(), Failed>
-    ensures ok { OnOk result (S.taken sink.new ≡ gained (S.taken sink.old) (tool_line outcome)) }
-    ensures err { OnErr result (GainsPart (S.taken sink.old) (S.taken sink.new) (tool_line outcome)) }
+pub fn report<S: Sink>(sink: &mut S, outcome: &Outcome) -> Result<(), Failed>
+    ensures ok { OnOk result (S.taken sink.new ≡ gained (S.taken sink.old) (tool_line outcome.now)) }
+    ensures err { OnErr result (GainsPart (S.taken sink.old) (S.taken sink.new) (tool_line outcome.now)) }
     ensures cause { CountsFaults (S.faults sink.old) (S.faults sink.new) result }
 {
-    match outcome {
+    match *outcome {
         Outcome::Exited(_) | Outcome::WriteFault => Ok(()),
         Outcome::Usage => put_plain(sink, b"usage"),
         Outcome::ReadFault(ReadFault::Failed) => put_plain(sink, b"cannot read"),

@@ -7,6 +7,7 @@
 
 mod files;
 mod host;
+pub mod laws;
 mod memory_files;
 mod memory_sink;
 mod memory_source;

@@ -1,12 +1,11 @@
 -- An accepted source runs.
-use Rattle.std.proofs.Common.{◌≡◌, ◌<◌, ◌≤◌, ℕ, List, length, Option, Some, None, Ok, Err, sym, ap, ◌∙◌, subst, arith}
+use Rattle.std.proofs.Common.{◌≡◌, ℕ, List, length, Option, Some, sym, ◌∙◌, subst, arith}
 use Rattle.std.specs.Prelude.{IfSome}
 use Rattle.sbcets_core.specs.declared.outcome.ReadFault.TheVariants.{Failed, TooLong}
 use Rattle.sbcets_core.specs.declared.outcome.Outcome.{Outcome}
 use Rattle.sbcets_core.specs.declared.outcome.Outcome.TheVariants.{Exited, Usage, WriteFault, InputFault, Memory, Limit, Refused, Trap}
 use Rattle.sbcets_core.specs.declared.outcome.Outcome.TheVariants as outcomes
-use Rattle.sbcets_core.specs.Accepted.{accepted}
-use Rattle.sbcets_core.specs.Top.{Streams, Does, IsAccepted, IsOfRun, RefusesSource, DoesNothing}
+use Rattle.sbcets_core.specs.Top.{Streams, Does, IsAccepted, IsOfRun}
 
 -- at the file of the name
 no_refusal : (held : Option (List ℕ → Option (List ℕ))) (command : Option (List ℕ)) (a : IsAccepted held command) (outcome : Outcome) (image : List ℕ) (before after : Streams) → Does (Some a.files) (Some a.name) outcome image before after → IsOfRun outcome

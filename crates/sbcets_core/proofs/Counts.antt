@@ -1,5 +1,5 @@
 -- The counts where the line of an outcome was not put.
-use Rattle.std.proofs.Common.{◌≡◌, ◌≤◌, ◌+◌, ◌-◌, ◌^◌, ◌⊎◌, min, ℕ, arith, inl, inr, ⊎_elim, ap}
+use Rattle.std.proofs.Common.{◌≡◌, ◌≤◌, ℕ, arith, inl, inr, ⊎_elim, ap}
 use Rattle.sb_outside.specs.Faults.{Rose}
 use Rattle.sbcets_core.specs.declared.outcome.ReadFault.TheVariants.{Failed, TooLong}
 use Rattle.sbcets_core.specs.declared.outcome.Outcome.{Outcome}

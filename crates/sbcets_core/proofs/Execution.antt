@@ -1,28 +1,26 @@
 -- The code of a program, run by the machine: first the runtime, then a byte for each `putchar`, then the exit.
-use Rattle.std.proofs.Common.{◌≡◌, ◌≤◌, ◌<◌, ◌+◌, ◌-◌, ◌*◌, ◌%◌, ◌^◌, ℕ, zero, suc, Bool, true, false, List, [], ◌∷◌, ◌++◌, Option, Some, None, length, take, drop, refl, sym, ap, ◌∙◌, subst, arith, append_assoc, lit<}
-use Rattle.std.specs.Prelude.{map, nat_lt, slice_get, slice_set, if◌then◌else◌, ◌==◌}
-use Rattle.std.proofs.lemmas.Bool.{lt-ltb, le-ltb, cond-true, cond-false}
+use Rattle.std.proofs.Common.{◌≡◌, ◌≤◌, ◌<◌, ◌+◌, ◌-◌, ◌*◌, ◌%◌, ◌^◌, ℕ, suc, false, List, [], ◌∷◌, ◌++◌, Some, None, length, refl, sym, ap, ◌∙◌, arith, append_assoc, lit<}
+use Rattle.std.specs.Prelude.{map, nat_lt, slice_get, slice_set}
+use Rattle.std.proofs.lemmas.Bool.{le-ltb, cond-false}
 use Rattle.std.proofs.lemmas.List.{append-nil}
-use Rattle.byteorder.specs.Endian.{little_number, little_bytes}
 use Rattle.rv_isa.specs.declared.instruction.Instr.{Instr}
-use Rattle.rv_isa.specs.declared.instruction.Instr.TheVariants.{Lui, Jal, Store, OpImm, Ecall}
-use Rattle.rv_isa.specs.declared.instruction.ImmOp.TheVariants.{Addi}
+use Rattle.rv_isa.specs.declared.instruction.Instr.TheVariants.{Lui, Jal, Store, Ecall}
 use Rattle.rv_isa.specs.declared.instruction.StoreOp.TheVariants.{Sb}
-use Rattle.rv_isa.specs.Table.{word_of, imm_code, store_code, IsOfTable}
+use Rattle.rv_isa.specs.Table.{word_of, imm_code, store_code}
 use Rattle.rv_isa.specs.Word.{sext}
-use Rattle.rv_sim.specs.declared.trap.Action.TheVariants.{Done, Ask}
+use Rattle.rv_sim.specs.declared.trap.Action.TheVariants.{Done}
 use Rattle.rv_sim.specs.declared.stop.Stop.TheVariants.{Exited}
 use Rattle.rv_sim.specs.Word.{wrap, imm_result}
-use Rattle.rv_sim.specs.Memory.{SegmentState, place_of, fetch, store, bytes_at, written_in, bytes_in, ◌>>=◌}
-use Rattle.rv_sim.specs.State.{MachineState, register}
+use Rattle.rv_sim.specs.Memory.{place_of, fetch, store, bytes_at, written_in, bytes_in, ◌>>=◌}
+use Rattle.rv_sim.specs.State.{MachineState}
 use Rattle.rv_sim.specs.Step.{executes, gives, jumps, stores, stored}
-use Rattle.rv_sim.specs.Run.{Configuration, Turn, turn, turned, calls, write_call, sent, exited, runs}
+use Rattle.rv_sim.specs.Run.{Configuration, turn, turned, calls, write_call, sent, runs}
 use Rattle.rv_sim.specs.Behaviour.{begun}
 use Rattle.rv_sim.proofs.Steps.{step-word}
-use Rattle.sbcets_core.specs.Code.{li, code_of, code_bytes, putchar_code, exit_code, runtime_code, row_code}
+use Rattle.sbcets_core.specs.Code.{li, code_of}
 use Rattle.sbcets_core.specs.Meaning.{SourceEnding, written, status}
 use Rattle.sbcets_core.proofs.Words.{StandsAt, stands_next, stands_within}
-use Rattle.sbcets_core.proofs.Machine.{started, memory_with, registers_with, runtime_segment, code_segment, in_runtime, fetched, showing, advances, then_turn}
+use Rattle.sbcets_core.proofs.Machine.{started, memory_with, registers_with, in_runtime, fetched, showing, advances, then_turn}
 
 -- in the compiled code, or on the way there
 abbrev pub inside : List ℕ → ℕ → ℕ → ℕ → ℕ → MachineState

@@ -1,28 +1,28 @@
 -- The machine's memory with compiled code in it, and how one of its instructions moves a run on.
-use Rattle.std.proofs.Common.{◌≡◌, ◌≤◌, ◌<◌, ◌+◌, ◌-◌, ◌*◌, ◌%◌, ◌^◌, ℕ, zero, suc, Bool, true, false, not, List, [], ◌∷◌, ◌++◌, Option, Some, None, length, take, drop, replicate, refl, sym, ap, ◌∙◌, subst, cond, arith}
-use Rattle.std.specs.Prelude.{nat_le, nat_lt, ◌&&◌, if◌then◌else◌, position, slice_get, option_and_then, map}
+use Rattle.std.proofs.Common.{◌≡◌, ◌≤◌, ◌<◌, ◌+◌, ◌-◌, ◌^◌, ℕ, suc, Bool, true, false, not, List, [], ◌∷◌, ◌++◌, Some, None, length, drop, replicate, refl, ap, ◌∙◌, cond, arith}
+use Rattle.std.specs.Prelude.{nat_le, nat_lt, if◌then◌else◌, position, slice_get, map}
 use Rattle.std.specs.List.{position_or_len}
 use Rattle.std.proofs.lemmas.Bool.{lt-ltb, le-ltb, le-leb, and_right, and_from, cond-true, cond-false}
 use Rattle.std.proofs.lemmas.List.{append-nil}
 use Rattle.behaviours.specs.Shown.{Access}
-use Rattle.byteorder.specs.Endian.{little_number, little_bytes}
+use Rattle.byteorder.specs.Endian.{little_number}
 use Rattle.rv_isa.specs.declared.instruction.Instr.{Instr}
 use Rattle.rv_isa.specs.Table.{word_of, imm_code, IsOfTable}
 use Rattle.rv_isa.specs.Decoding.{decoded}
 use Rattle.rv_isa.proofs.RoundTrip.{decoded-word}
-use Rattle.elf_image.specs.Content.{SegmentContent, Content, memory_of}
+use Rattle.elf_image.specs.Content.{memory_of}
 use Rattle.elf_image.specs.Writing.{content}
-use Rattle.rv_sim.specs.declared.trap.Action.TheVariants.{Done, Ask, Refuse}
-use Rattle.rv_sim.specs.Memory.{SegmentState, holds, covers, place_of, segment_at, fetched_in, fetch, ◌>>=◌}
+use Rattle.rv_sim.specs.declared.trap.Action.TheVariants.{Done}
+use Rattle.rv_sim.specs.Memory.{SegmentState, holds, covers, place_of, fetched_in, fetch, ◌>>=◌}
 use Rattle.rv_sim.specs.State.{MachineState}
-use Rattle.rv_sim.specs.Step.{Stepped, step, executes}
+use Rattle.rv_sim.specs.Step.{executes}
 use Rattle.rv_sim.specs.Accesses.{access_of, next_access, is_compiled, objects_only, object_access}
 use Rattle.rv_sim.specs.Run.{Configuration, Turn, turn, turned, runs, onwards}
 use Rattle.rv_sim.specs.Behaviour.{begun}
 use Rattle.rv_sim.specs.Start.{start_of, loaded_segment}
 use Rattle.rv_sim.proofs.Steps.{step-word}
 use Rattle.rv_sim.proofs.Runs.{runs-suc}
-use Rattle.sbcets_core.specs.Code.{code_bytes, pieces_with, rows_bytes, row_code, runtime_code}
+use Rattle.sbcets_core.specs.Code.{code_bytes, pieces_with, rows_bytes}
 use Rattle.sbcets_core.proofs.Words.{StandsAt, stands_within, word_here}
 
 -- the row of main and the runtime as numbers

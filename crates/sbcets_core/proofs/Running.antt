@@ -1,6 +1,6 @@
 -- The run of an image by the machine that loads it.
-use Rattle.std.proofs.Common.{◌≡◌, ℕ, zero, suc, List, [], Option, Some, None, refl, sym, ap, ◌∙◌, subst}
-use Rattle.behaviours.specs.Shown.{End, Fault, Shown}
+use Rattle.std.proofs.Common.{◌≡◌, ℕ, zero, suc, List, Option, Some, None, refl, sym, ap, ◌∙◌, subst}
+use Rattle.behaviours.specs.Shown.{Fault, Shown}
 use Rattle.elf_image.specs.Content.{Content}
 use Rattle.elf_image.specs.Layout.{content_of}
 use Rattle.elf_image.specs.Tests.{image_fault}
@@ -12,8 +12,8 @@ use Rattle.rv_sim.specs.Run.{Configuration, runs}
 use Rattle.rv_sim.specs.Seen.{IsSeen, IsRun}
 use Rattle.rv_sim.specs.Simulation.{Simulation}
 use Rattle.rv_sim.specs.Start.{start_of}
-use Rattle.rv_sim.specs.Behaviour.{begun, behaviour, shown_by, end_of}
-use Rattle.rv_sim.proofs.Told.{gained_nil}
+use Rattle.rv_sim.specs.Behaviour.{begun, behaviour, end_of}
+use Rattle.sb_outside.proofs.Gains.{gained_nil}
 use Rattle.sbcets_core.specs.Source.{SourceProgram}
 use Rattle.sbcets_core.specs.Meaning.{meaning}
 use Rattle.sbcets_core.specs.Faithful.{IsFaithfulImage}

@@ -1,12 +1,11 @@
 -- From left to right: the tokens that were found, and those behind.
-use Rattle.std.proofs.Common.{◌≡◌, ◌≤◌, ◌<◌, ◌+◌, ◌-◌, ℕ, zero, suc, Bool, true, false, List, [], ◌∷◌, ◌++◌, Option, Some, None, Ok, Err, length, take, drop, get_or, refl, sym, ap, ◌∙◌, arith, append_assoc, add-one}
+use Rattle.std.proofs.Common.{◌≡◌, ◌≤◌, ◌<◌, ◌+◌, ◌-◌, ℕ, zero, suc, true, false, List, [], ◌∷◌, ◌++◌, Some, None, Ok, Err, length, take, drop, get_or, refl, sym, ap, ◌∙◌, arith, append_assoc, add-one}
 use Rattle.std.proofs.lemmas.Bool.{cond-true, cond-false}
 use Rattle.std.proofs.lemmas.List.{append-nil, drop-drop, length-drop}
 use Rattle.std.proofs.Math.Seq.{drop-cons, take-length}
 use Rattle.std.proofs.Math.ListN.{drop_of_length-le}
 use Rattle.sbcets_core.specs.Spelling.{SpelledToken}
-use Rattle.sbcets_core.specs.declared.lexer.LexFault.{LexFault}
-use Rattle.sbcets_core.specs.Tokens.{Lexed, is_white_space, token_length, line_after, token_before, before, tokens_behind, tokens}
+use Rattle.sbcets_core.specs.Tokens.{Lexed, is_white_space, token_length, line_after, token_before, before, tokens_behind}
 
 -- the tokens, with some before them
 abbrev pub behind : List SpelledToken → Lexed → Lexed

@@ -1,13 +1,13 @@
 -- Statements one after another.
-use Rattle.std.proofs.Common.{◌≡◌, ◌≤◌, ◌<◌, ◌+◌, ◌-◌, ℕ, zero, suc, Bool, true, false, List, [], ◌∷◌, ◌++◌, Option, Some, None, length, take, drop, get_or, refl, sym, ap, ◌∙◌, arith, append_assoc, add-one, length-drop}
+use Rattle.std.proofs.Common.{◌≡◌, ◌≤◌, ◌+◌, ◌-◌, ℕ, true, List, [], ◌∷◌, ◌++◌, Option, Some, None, length, take, drop, get_or, refl, sym, ap, ◌∙◌, arith, append_assoc, length-drop}
 use Rattle.std.specs.Prelude.{option_map}
-use Rattle.std.proofs.lemmas.Bool.{cond-true, cond-false}
+use Rattle.std.proofs.lemmas.Bool.{cond-true}
 use Rattle.std.proofs.lemmas.List.{append-nil, drop-drop}
 use Rattle.std.proofs.Math.Seq.{take-length}
 use Rattle.sbcets_core.specs.Source.{SourceProgram}
 use Rattle.sbcets_core.specs.Spelling.{SpelledToken}
 use Rattle.sbcets_core.specs.Tokens.{constant_of}
-use Rattle.sbcets_core.specs.Part.{statements, is_putchar, puts_before, puts, returns}
+use Rattle.sbcets_core.specs.Part.{statements, is_putchar, puts_before, returns}
 
 -- the program, with these numbers before its own
 abbrev pub puts_all : List ℕ → SourceProgram → SourceProgram

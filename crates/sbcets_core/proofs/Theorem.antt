@@ -1,21 +1,20 @@
 -- The image of a program is faithful to it.
-use Rattle.std.proofs.Common.{◌≡◌, ◌≤◌, ◌<◌, ◌+◌, ◌*◌, ◌%◌, ◌^◌, ℕ, zero, suc, List, [], ◌∷◌, ◌++◌, Option, Some, None, length, refl, sym, ap, ◌∙◌, subst, arith, lit<, lit≤}
+use Rattle.std.proofs.Common.{◌≡◌, ◌≤◌, ◌<◌, ◌+◌, ◌*◌, ◌^◌, ℕ, zero, suc, List, [], ◌∷◌, None, length, refl, sym, ap, ◌∙◌, subst, arith, lit<, lit≤}
 use Rattle.std.specs.Prelude.{map}
 use Rattle.behaviours.specs.Behaviour.{Meets, Follows, IsSource, Faithful}
 use Rattle.behaviours.proofs.Following.{faithful}
-use Rattle.rv_isa.specs.declared.instruction.Instr.{Instr}
 use Rattle.elf_image.specs.Layout.{content_of}
 use Rattle.elf_image.specs.Tests.{image_fault}
-use Rattle.elf_image.specs.Writing.{content, image_size, page_end, PiecesFit}
+use Rattle.elf_image.specs.Writing.{content, image_size, PiecesFit}
 use Rattle.elf_image.proofs.Ordered.{IsInOrder, in_order_fits}
 use Rattle.rv_sim.specs.Run.{runs}
 use Rattle.rv_sim.specs.Start.{start_of}
-use Rattle.rv_sim.specs.Behaviour.{begun, shown_by, behaviour}
+use Rattle.rv_sim.specs.Behaviour.{shown_by, behaviour}
 use Rattle.rv_sim.proofs.Behaves.{machine_is_machine}
 use Rattle.sbcets_core.specs.Source.{SourceProgram}
-use Rattle.sbcets_core.specs.Meaning.{SourceEnding, ending, status, written, meaning, work}
+use Rattle.sbcets_core.specs.Meaning.{SourceEnding, ending, status, written, meaning}
 use Rattle.sbcets_core.specs.Faithful.{cost, max_image, IsFaithfulImage}
-use Rattle.sbcets_core.specs.Code.{code_of, code_bytes, pieces_of, pieces_with}
+use Rattle.sbcets_core.specs.Code.{code_of, code_bytes, pieces_of}
 use Rattle.sbcets_core.proofs.Words.{length-code_bytes, stands_all}
 use Rattle.sbcets_core.proofs.Machine.{started, starts}
 use Rattle.sbcets_core.proofs.Execution.{Exits, reaches_code, runs_code}

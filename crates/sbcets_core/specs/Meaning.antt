@@ -1,7 +1,7 @@
 -- What a program means (C99 5.1.2.3, 6.8.6.4, 7.19.7.9): its behaviour by turns, for each input.
-use Rattle.std.specs.Prelude.{ℕ, zero, suc, ◌+◌, ◌*◌, ◌%◌, List, [], map, length, Option, Some, None}
+use Rattle.std.specs.Prelude.{ℕ, zero, suc, ◌+◌, ◌*◌, ◌%◌, List, [], map, length, Some}
 use Rattle.behaviours.specs.Shown.{Shown, Status, nothing_shown}
-use Rattle.behaviours.specs.Behaviour.{Moment, Behaviour}
+use Rattle.behaviours.specs.Behaviour.{Behaviour}
 use Rattle.sbcets_core.specs.Source.{SourceProgram}
 
 -- how a source ends, its exit status, and its report

@@ -1,15 +1,12 @@
 -- The exit status of each outcome, and the tool's own line for it.
-use Rattle.std.specs.Prelude.{ℕ, ◌+◌, ◌*◌, ◌/◌, ◌%◌, ◌^◌, nat_lt, ◌==◌, if◌then◌else◌, List, [], ◌∷◌, ◌++◌, take, drop, codes, decimal}
+use Rattle.std.specs.Prelude.{ℕ, ◌+◌, ◌/◌, ◌%◌, nat_lt, ◌==◌, if◌then◌else◌, List, [], ◌∷◌, ◌++◌, take, drop, codes, decimal}
 use Rattle.std.specs.List.{prefix_len}
 use Rattle.rv_sim.specs.declared.trap.TrapKind.{TrapKind}
 use Rattle.rv_sim.specs.declared.trap.TrapKind.TheVariants.{Illegal, Access, Jump, Break, Call}
-use Rattle.sbcets_core.specs.declared.lexer.LexFault.{LexFault}
-use Rattle.sbcets_core.specs.declared.refusal.Counted.{Counted}
 use Rattle.sbcets_core.specs.declared.refusal.Counted.TheVariants.{Source}
 use Rattle.sbcets_core.specs.declared.refusal.SourceRefusal.{SourceRefusal}
 use Rattle.sbcets_core.specs.declared.refusal.SourceRefusal.TheVariants.{Lex, Unsupported, TooLarge}
 use Rattle.sbcets_core.specs.declared.refusal.SourceRefusal.TheVariants as refusals
-use Rattle.sbcets_core.specs.declared.outcome.ReadFault.{ReadFault}
 use Rattle.sbcets_core.specs.declared.outcome.ReadFault.TheVariants.{Failed, TooLong}
 use Rattle.sbcets_core.specs.declared.outcome.Outcome.{Outcome}
 use Rattle.sbcets_core.specs.declared.outcome.Outcome.TheVariants.{Exited, Usage, WriteFault, InputFault, Memory, Limit, Refused, Trap}

@@ -1,6 +1,6 @@
 -- The tokens of a source text (C99 6.4): names and keywords, decimal integer constants without suffix, and the marks
 -- `(`, `)`, `;`, `{`, `}`, with white space between them. At each place the longest token is taken (6.4 paragraph 4).
-use Rattle.std.specs.Prelude.{ℕ, zero, suc, ◌+◌, ◌-◌, ◌*◌, ◌^◌, Bool, true, false, ◌&&◌, ◌||◌, nat_le, nat_lt, List, [], ◌∷◌, ◌++◌, take, Option, Some, None, Result, Ok, Err, if◌then◌else◌, ◌==◌, is_some}
+use Rattle.std.specs.Prelude.{ℕ, zero, suc, ◌+◌, ◌-◌, ◌*◌, ◌^◌, Bool, ◌&&◌, ◌||◌, nat_le, nat_lt, List, [], ◌∷◌, take, Option, Some, None, Result, Ok, Err, if◌then◌else◌, ◌==◌, is_some}
 use Rattle.std.specs.List.{prefix_len}
 use Rattle.sbcets_core.specs.declared.lexer.LexFault.{LexFault}
 use Rattle.sbcets_core.specs.Spelling.{SpelledToken}

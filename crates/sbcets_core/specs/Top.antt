@@ -11,8 +11,6 @@ use Rattle.rv_sim.specs.Seen.{IsRun}
 use Rattle.rv_sim.specs.Start.{start_of}
 use Rattle.rv_sim.specs.Behaviour.{begun}
 use Rattle.sbcets_core.specs.declared.refusal.SourceRefusal.{SourceRefusal}
-use Rattle.sbcets_core.specs.declared.refusal.SourceRefusal.TheVariants as refusals
-use Rattle.sbcets_core.specs.declared.outcome.ReadFault.{ReadFault}
 use Rattle.sbcets_core.specs.declared.outcome.ReadFault.TheVariants.{Failed, TooLong}
 use Rattle.sbcets_core.specs.declared.outcome.Outcome.{Outcome}
 use Rattle.sbcets_core.specs.declared.outcome.Outcome.TheVariants.{Exited, Usage, WriteFault, InputFault, Memory, Limit, Refused, Trap}

@@ -1,4 +1,4 @@
-use Rattle.std.proofs.Common.{◌≡◌, ◌∙◌, ap, sym, subst, length}
+use Rattle.std.proofs.Common.{◌∙◌, ap, sym, subst}
 use Rattle.elf_image.specs.Writing.{content, image_size, PiecesFit}
 use Rattle.sbcets_core.proofs.Theorem.{pieces_fit, faithful_image}
 use Rattle.sbcets_core.proofs.generator.image_of.Goals as goal

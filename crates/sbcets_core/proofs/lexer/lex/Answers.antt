@@ -1,4 +1,4 @@
-use Rattle.std.proofs.Common.{◌≡◌, ◌≤◌, ◌+◌, ◌-◌, ◌++◌, ◌∷◌, [], true, false, length, take, drop, get_or, None, Some, arith, rules, sym, ap, ◌∙◌, subst, length-drop, vec_len, List, ℕ}
+use Rattle.std.proofs.Common.{◌≡◌, ◌+◌, ◌-◌, ◌++◌, ◌∷◌, [], false, length, take, drop, get_or, None, Some, arith, rules, sym, ap, ◌∙◌, subst, length-drop, vec_len, List, ℕ}
 use Rattle.sbcets_core.specs.Spelling.{SpelledToken}
 use Rattle.sbcets_core.specs.Tokens.{is_white_space, token_length, tokens}
 use Rattle.sbcets_core.proofs.Scanning.{IsLexed, rest_is, token_taken, fault_found, no_more_tokens}

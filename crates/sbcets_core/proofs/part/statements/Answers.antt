@@ -1,4 +1,4 @@
-use Rattle.std.proofs.Common.{◌≡◌, ◌+◌, ◌-◌, ◌++◌, ◌∷◌, [], Some, length, take, drop, vec_len, ap, sym, ◌∙◌, arith, rules}
+use Rattle.std.proofs.Common.{◌≡◌, ◌+◌, ◌++◌, ◌∷◌, [], Some, drop, vec_len, ap, sym, ◌∙◌, arith, rules}
 use Rattle.sbcets_core.specs.Part.{statements, puts_before}
 use Rattle.sbcets_core.proofs.Statements.{all_before, put_taken, tokens_rest}
 use Rattle.sbcets_core.proofs.part.statements.Goals as goal

@@ -1,0 +1,8 @@
+//! Tests that cross crates: the top call over the outside in memory.
+#![tactic(auto)]
+
+#[cfg(test)]
+mod first_path;
+
+/// How many bytes the sinks of the tests can take.
+pub const ROOM: u64 = 64;

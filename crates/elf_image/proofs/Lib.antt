@@ -1,4 +1,4 @@
-pub mod Fits
 pub mod Loads
+pub mod Ordered
 pub mod Pages
 pub mod Written

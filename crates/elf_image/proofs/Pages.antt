@@ -1,5 +1,5 @@
 -- Where the bytes of each segment stand in a written file.
-use Rattle.std.proofs.Common.{◌≡◌, ℕ, ◌+◌, ◌-◌, List, [], ◌++◌, length, take, drop, refl, ap, ◌∙◌, append_assoc, arith, length-append}
+use Rattle.std.proofs.Common.{◌≡◌, ℕ, ◌-◌, List, [], ◌++◌, length, take, drop, refl, ap, ◌∙◌, append_assoc, arith, length-append}
 use Rattle.std.proofs.lemmas.List.{take_at, drop_at, length-replicate, append-nil}
 use Rattle.elf_image.specs.Writing.{Piece, Pieces, zeros, page_end, header_bytes, u32_bytes, u64_bytes, load_bytes, padded, code_offset, objects_offset, runtime_offset, image_size, image_bytes}
 

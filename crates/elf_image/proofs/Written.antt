@@ -9,7 +9,7 @@ use Rattle.elf_image.specs.declared.header.FileHeader.{FileHeader}
 use Rattle.elf_image.specs.declared.header.ProgramHeader.{ProgramHeader}
 use Rattle.elf_image.specs.Layout.{file_header, program_header, loads, loads_of, segment_of, content_of}
 use Rattle.elf_image.specs.Tests.{◌then◌, ◌unless◌, header_fault, count_fault, load_fault, loads_fault, memory_size, size_fault, overlap_fault, entry_fault, content_fault, image_fault}
-use Rattle.elf_image.specs.Writing.{Piece, Pieces, zeros, page_end, header_bytes, u32_bytes, u64_bytes, load_bytes, padded, code_offset, objects_offset, runtime_offset, image_size, image_bytes, content, PiecesFit}
+use Rattle.elf_image.specs.Writing.{Piece, Pieces, zeros, header_bytes, u32_bytes, u64_bytes, load_bytes, padded, code_offset, objects_offset, runtime_offset, image_size, image_bytes, content, PiecesFit}
 use Rattle.elf_image.proofs.Pages.{length-header_bytes, length-load_bytes, length-image_bytes, rows_at, code_at, objects_at, runtime_at}
 
 -- the file header that is written

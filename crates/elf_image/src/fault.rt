@@ -1,4 +1,4 @@
-// Why bytes are no image.
+//! Why bytes are no image.
 
 ghost use Rattle.std.specs.Prelude.{◌≡◌};
 ghost use Rattle.elf_image.specs.Tests.{fault_number};

@@ -1,4 +1,4 @@
-// An image that was read: its segments, and the tests of them all together.
+//! An image that was read: its segments, and the tests of them all together.
 
 use crate::fault::{ImageFault, ReadError};
 use crate::header::{

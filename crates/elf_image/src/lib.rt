@@ -1,5 +1,5 @@
-// Executable files of the ELF-64 Object File Format for RISC-V: written from four segments, and read back, borrowed,
-// by tests in a fixed order.
+//! Executable files of the ELF-64 Object File Format for RISC-V: written from four segments, and read back, borrowed,
+//! by tests in a fixed order.
 #![tactic(auto)]
 
 pub mod fault;
@@ -11,3 +11,6 @@ mod writing;
 pub use fault::{ImageFault, ReadError};
 pub use image::{Image, Segment};
 pub use part::{Part, Parts};
+
+#[cfg(test)]
+mod tests;

@@ -1,4 +1,4 @@
-// What an image is written from.
+//! What an image is written from.
 
 use std::marker::Model;
 

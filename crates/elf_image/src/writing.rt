@@ -1,4 +1,4 @@
-// The bytes of an image, appended in the order in which they stand in the file.
+//! The bytes of an image, appended in the order in which they stand in the file.
 
 ghost use Rattle.std.specs.Prelude.{◌≡◌, ◌≤◌, ◌+◌, ◌^◌, ◌++◌, length, None, IfOk, OnOk};
 ghost use Rattle.elf_image.specs.Layout.{content_of};

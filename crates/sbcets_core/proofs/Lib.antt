@@ -1,4 +1,10 @@
+pub mod Complete
+pub mod Counts
+pub mod Execution
 pub mod Machine
+pub mod Pieces
+pub mod Running
 pub mod Scanning
 pub mod Statements
+pub mod Theorem
 pub mod Words

@@ -1,8 +1,12 @@
+pub mod Accepted
 pub mod Code
+pub mod Command
 pub mod Faithful
 pub mod Lexing
 pub mod Meaning
+pub mod Outcomes
 pub mod Part
 pub mod Source
 pub mod Spelling
 pub mod Tokens
+pub mod Top

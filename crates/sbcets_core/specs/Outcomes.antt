@@ -1,0 +1,88 @@
+-- The exit status of each outcome, and the tool's own line for it.
+use Rattle.std.specs.Prelude.{ℕ, ◌+◌, ◌*◌, ◌/◌, ◌%◌, ◌^◌, nat_lt, ◌==◌, if◌then◌else◌, List, [], ◌∷◌, ◌++◌, take, drop, codes, decimal}
+use Rattle.std.specs.List.{prefix_len}
+use Rattle.rv_sim.specs.declared.trap.TrapKind.{TrapKind}
+use Rattle.rv_sim.specs.declared.trap.TrapKind.TheVariants.{Illegal, Access, Jump, Break, Call}
+use Rattle.sbcets_core.specs.declared.lexer.LexFault.{LexFault}
+use Rattle.sbcets_core.specs.declared.refusal.Counted.{Counted}
+use Rattle.sbcets_core.specs.declared.refusal.Counted.TheVariants.{Source}
+use Rattle.sbcets_core.specs.declared.refusal.SourceRefusal.{SourceRefusal}
+use Rattle.sbcets_core.specs.declared.refusal.SourceRefusal.TheVariants.{Lex, Unsupported, TooLarge}
+use Rattle.sbcets_core.specs.declared.refusal.SourceRefusal.TheVariants as refusals
+use Rattle.sbcets_core.specs.declared.outcome.ReadFault.{ReadFault}
+use Rattle.sbcets_core.specs.declared.outcome.ReadFault.TheVariants.{Failed, TooLong}
+use Rattle.sbcets_core.specs.declared.outcome.Outcome.{Outcome}
+use Rattle.sbcets_core.specs.declared.outcome.Outcome.TheVariants.{Exited, Usage, WriteFault, InputFault, Memory, Limit, Refused, Trap}
+use Rattle.sbcets_core.specs.declared.outcome.Outcome.TheVariants as outcomes
+
+abbrev pub status_of : Outcome → ℕ
+status_of (Exited code) = code
+status_of Usage = 101
+status_of (outcomes.ReadFault fault) = 102
+status_of WriteFault = 103
+status_of InputFault = 104
+status_of Memory = 105
+status_of (Limit n) = 106
+status_of (Refused refusal) = 110
+status_of (Trap kind pc) = 112
+
+-- the largest source that is read, in bytes
+abbrev pub max_source : ℕ
+max_source = 1048576
+
+-- A number in lower-case hexadecimal: its sixteen digits without the zeros in front, the last digit apart.
+abbrev pub hexadecimal_digit : ℕ → ℕ
+hexadecimal_digit d = if nat_lt d 10 then 48 + d else 87 + d
+
+abbrev pub digit_at : ℕ → ℕ → ℕ
+digit_at n weight = hexadecimal_digit (n / weight % 16)
+
+unfoldable pub sixteen_digits : ℕ → List ℕ
+sixteen_digits n =
+    digit_at n 0x1000000000000000 ∷ digit_at n 0x100000000000000 ∷ digit_at n 0x10000000000000 ∷ digit_at n 0x1000000000000
+    ∷ digit_at n 0x100000000000 ∷ digit_at n 0x10000000000 ∷ digit_at n 0x1000000000 ∷ digit_at n 0x100000000
+    ∷ digit_at n 0x10000000 ∷ digit_at n 0x1000000 ∷ digit_at n 0x100000 ∷ digit_at n 0x10000
+    ∷ digit_at n 0x1000 ∷ digit_at n 0x100 ∷ digit_at n 0x10 ∷ digit_at n 1 ∷ []
+
+-- how many zeros stand in front of the last digit
+abbrev pub zeros_in_front : List ℕ → ℕ
+zeros_in_front digits = prefix_len (λ d. d == 48) (take 15 digits)
+
+unfoldable pub hexadecimal : ℕ → List ℕ
+hexadecimal n = drop (zeros_in_front (sixteen_digits n)) (sixteen_digits n)
+
+-- a line of the tool's own: a text that stands between `sbcets: error: ` and a newline, in pieces
+unfoldable pub line_of : (a b c d : List ℕ) → List ℕ
+line_of a b c d = codes "sbcets: error: " ++ (a ++ (b ++ (c ++ (d ++ codes "\n"))))
+
+abbrev pub plain_line : List ℕ → List ℕ
+plain_line text = line_of text [] [] []
+
+abbrev pub numbered_line : List ℕ → ℕ → List ℕ → List ℕ
+numbered_line front n behind = line_of front (decimal n) behind []
+
+abbrev pub trap_name : TrapKind → List ℕ
+trap_name Illegal = codes "illegal"
+trap_name Access = codes "access"
+trap_name Jump = codes "jump"
+trap_name Break = codes "break"
+trap_name Call = codes "call"
+
+abbrev pub refusal_line : SourceRefusal → List ℕ
+refusal_line (Lex fault) = numbered_line (codes "lexical fault at line ") fault.line []
+refusal_line Unsupported = plain_line (codes "unsupported")
+refusal_line (TooLarge Source n) = numbered_line (codes "source of ") n (codes " is too large")
+refusal_line refusals.Memory = plain_line (codes "out of memory")
+
+-- the tool's own line for an outcome, empty where there is none
+abbrev pub tool_line : Outcome → List ℕ
+tool_line (Exited code) = []
+tool_line WriteFault = []
+tool_line Usage = plain_line (codes "usage")
+tool_line (outcomes.ReadFault Failed) = plain_line (codes "cannot read")
+tool_line (outcomes.ReadFault (TooLong n)) = numbered_line (codes "file of more than ") max_source (codes " bytes")
+tool_line InputFault = plain_line (codes "cannot read input")
+tool_line Memory = plain_line (codes "out of memory")
+tool_line (Limit n) = numbered_line (codes "limit of ") n (codes " instructions")
+tool_line (Refused refusal) = refusal_line refusal
+tool_line (Trap kind pc) = line_of (codes "trap ") (trap_name kind) (codes " at 0x") (hexadecimal pc)

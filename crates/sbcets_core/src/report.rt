@@ -1,0 +1,181 @@
+//! The tool's own line, put without memory.
+ghost use Rattle.std.specs.Prelude.{◌≡◌, ◌<◌, ◌≤◌, ◌++◌, [], ◌==◌, drop, length, flat_map, decimal, OnOk, OnErr};
+ghost use Rattle.std.specs.List.{prefix_len};
+ghost use Rattle.sb_outside.specs.Content.{gained, GainsPart};
+ghost use Rattle.sb_outside.specs.Faults.{CountsFaults};
+ghost use Rattle.sbcets_core.specs.Outcomes.{tool_line, refusal_line, trap_name, line_of, plain_line, numbered_line, hexadecimal, sixteen_digits, zeros_in_front, digit_at, hexadecimal_digit};
+
+use crate::compiler::MAX_SOURCE;
+use crate::outcome::{Outcome, ReadFault};
+use crate::refusal::{Counted, SourceRefusal};
+use itoa::Buffer;
+use rv_sim::TrapKind;
+use sb_outside::{Failed, Sink};
+
+/// Puts the line of an outcome, where it has one.
+pub fn report<S: Sink>(sink: &mut S, outcome: &Outcome) -> Result<(), Failed>
+    ensures ok { OnOk result (S.taken sink.new ≡ gained (S.taken sink.old) (tool_line outcome.now)) }
+    ensures err { OnErr result (GainsPart (S.taken sink.old) (S.taken sink.new) (tool_line outcome.now)) }
+    ensures cause { CountsFaults (S.faults sink.old) (S.faults sink.new) result }
+{
+    match *outcome {
+        Outcome::Exited(_) | Outcome::WriteFault => Ok(()),
+        Outcome::Usage => put_plain(sink, b"usage"),
+        Outcome::ReadFault(ReadFault::Failed) => put_plain(sink, b"cannot read"),
+        Outcome::ReadFault(ReadFault::TooLong(_)) => {
+            put_numbered(sink, b"file of more than ", MAX_SOURCE, b" bytes")
+        }
+        Outcome::InputFault => put_plain(sink, b"cannot read input"),
+        Outcome::Memory => put_plain(sink, b"out of memory"),
+        Outcome::Limit(n) => put_numbered(sink, b"limit of ", n, b" instructions"),
+        Outcome::Refused(refusal) => report_refusal(sink, refusal),
+        Outcome::Trap { kind, pc } => report_trap(sink, kind, pc),
+    }
+}
+
+fn report_refusal<S: Sink>(sink: &mut S, refusal: SourceRefusal) -> Result<(), Failed>
+    ensures ok { OnOk result (S.taken sink.new ≡ gained (S.taken sink.old) (refusal_line refusal)) }
+    ensures err { OnErr result (GainsPart (S.taken sink.old) (S.taken sink.new) (refusal_line refusal)) }
+    ensures cause { CountsFaults (S.faults sink.old) (S.faults sink.new) result }
+{
+    match refusal {
+        SourceRefusal::Lex(fault) => {
+            let line = u64::from(fault.line.number());
+            put_numbered(sink, b"lexical fault at line ", line, b"")
+        }
+        SourceRefusal::Unsupported => put_plain(sink, b"unsupported"),
+        SourceRefusal::TooLarge {
+            which: Counted::Source,
+            count,
+        } => { put_numbered(sink, b"source of ", count, b" is too large") }
+        SourceRefusal::Memory => put_plain(sink, b"out of memory"),
+    }
+}
+
+#[tactic(auto, unfolding(crate::specs::Outcomes::hexadecimal))]
+fn report_trap<S: Sink>(sink: &mut S, kind: TrapKind, pc: u64) -> Result<(), Failed>
+    ensures ok { OnOk result (S.taken sink.new ≡ gained (S.taken sink.old) (tool_line (Outcome.Trap kind pc))) }
+    ensures err { OnErr result (GainsPart (S.taken sink.old) (S.taken sink.new) (tool_line (Outcome.Trap kind pc))) }
+    ensures cause { CountsFaults (S.faults sink.old) (S.faults sink.new) result }
+{
+    let digits = sixteen_digits(pc);
+    put_line(
+        sink,
+        b"trap ",
+        trap_name(kind),
+        b" at 0x",
+        significant(&digits),
+    )
+}
+
+fn trap_name(kind: TrapKind) -> &'static [u8]
+    ensures { result.now ≡ trap_name kind }
+{
+    match kind {
+        TrapKind::Illegal => b"illegal",
+        TrapKind::Access => b"access",
+        TrapKind::Jump => b"jump",
+        TrapKind::Break => b"break",
+        TrapKind::Call => b"call",
+    }
+}
+
+fn put_plain<S: Sink>(sink: &mut S, text: &[u8]) -> Result<(), Failed>
+    ensures ok { OnOk result (S.taken sink.new ≡ gained (S.taken sink.old) (plain_line text.now)) }
+    ensures err { OnErr result (GainsPart (S.taken sink.old) (S.taken sink.new) (plain_line text.now)) }
+    ensures cause { CountsFaults (S.faults sink.old) (S.faults sink.new) result }
+{
+    put_line(sink, text, b"", b"", b"")
+}
+
+fn put_numbered<S: Sink>(
+    sink: &mut S,
+    front: &[u8],
+    number: u64,
+    behind: &[u8],
+) -> Result<(), Failed>
+    ensures ok { OnOk result (S.taken sink.new ≡ gained (S.taken sink.old) (numbered_line front.now number behind.now)) }
+    ensures err { OnErr result (GainsPart (S.taken sink.old) (S.taken sink.new) (numbered_line front.now number behind.now)) }
+    ensures cause { CountsFaults (S.faults sink.old) (S.faults sink.new) result }
+{
+    let mut buffer = Buffer::new();
+    let digits = buffer.format(number);
+    put_line(sink, front, digits.as_bytes(), behind, b"")
+}
+
+#[tactic(auto, unfolding(crate::specs::Outcomes::line_of))]
+fn put_line<S: Sink>(sink: &mut S, a: &[u8], b: &[u8], c: &[u8], d: &[u8]) -> Result<(), Failed>
+    ensures ok { OnOk result (S.taken sink.new ≡ gained (S.taken sink.old) (line_of a.now b.now c.now d.now)) }
+    ensures err { OnErr result (GainsPart (S.taken sink.old) (S.taken sink.new) (line_of a.now b.now c.now d.now)) }
+    ensures cause { CountsFaults (S.faults sink.old) (S.faults sink.new) result }
+{
+    put_pieces(sink, &[b"sbcets: error: ", a, b, c, d, b"\n"])
+}
+
+// Puts pieces one after another. Where one fails, a part of the whole came in.
+fn put_pieces<S: Sink>(sink: &mut S, pieces: &[&[u8]]) -> Result<(), Failed>
+    ensures ok { OnOk result (S.taken sink.new ≡ gained (S.taken sink.old) (flat_map (λ p. p.now) pieces.now)) }
+    ensures err { OnErr result (GainsPart (S.taken sink.old) (S.taken sink.new) (flat_map (λ p. p.now) pieces.now)) }
+    ensures cause { CountsFaults (S.faults sink.old) (S.faults sink.new) result }
+{
+    for piece in pieces {
+        if let Err(failed) = sink.put(piece) {
+            return Err(failed);
+        }
+    }
+    Ok(())
+}
+
+// The hexadecimal digits of a number, the highest first.
+#[tactic(auto, unfolding(crate::specs::Outcomes::sixteen_digits))]
+fn sixteen_digits(n: u64) -> [u8; 16]
+    ensures { result ≡ sixteen_digits n }
+{
+    [
+        digit_at(n, 0x1000_0000_0000_0000),
+        digit_at(n, 0x100_0000_0000_0000),
+        digit_at(n, 0x10_0000_0000_0000),
+        digit_at(n, 0x1_0000_0000_0000),
+        digit_at(n, 0x1000_0000_0000),
+        digit_at(n, 0x100_0000_0000),
+        digit_at(n, 0x10_0000_0000),
+        digit_at(n, 0x1_0000_0000),
+        digit_at(n, 0x1000_0000),
+        digit_at(n, 0x100_0000),
+        digit_at(n, 0x10_0000),
+        digit_at(n, 0x1_0000),
+        digit_at(n, 0x1000),
+        digit_at(n, 0x100),
+        digit_at(n, 0x10),
+        digit_at(n, 1),
+    ]
+}
+
+fn digit_at(n: u64, weight: u64) -> u8
+    requires { 0 < weight }
+    ensures { result ≡ digit_at n weight }
+{
+    let digit = (n / weight % 16) as u8;
+    if digit < 10 {
+        b'0' + digit
+    } else {
+        b'a' + (digit - 10)
+    }
+}
+
+// Digits without the zeros in front, the last digit apart.
+fn significant(digits: &[u8]) -> &[u8]
+    requires { 15 ≤ length digits.now }
+    ensures { result.now ≡ drop (zeros_in_front digits.now) digits.now }
+{
+    let (_, significant) = digits.split_at(zeros_in_front(&digits[..15]));
+    significant
+}
+
+// How many zeros stand in front.
+fn zeros_in_front(digits: &[u8]) -> usize
+    ensures value { result ≡ prefix_len (λ d. d == 48) digits.now }
+    ensures within { result ≤ length digits.now }
+{
+    digits.iter().take_while(|d| **d == b'0').count()
+}

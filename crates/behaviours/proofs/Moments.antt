@@ -6,6 +6,12 @@ use Rattle.behaviours.specs.Shown.{Shown, IsPrefix, IsEarlier, nothing_shown}
 pub prefix_nil : {A : Type 0} (xs : List A) → IsPrefix [] xs
 prefix_nil xs = record { rest = xs; split = refl }
 
+pub prefix_refl : {A : Type 0} (xs : List A) → IsPrefix xs xs
+prefix_refl xs = record { rest = []; split = sym (append-nil xs) }
+
+pub prefix_append : {A : Type 0} (xs rest : List A) → IsPrefix xs (xs ++ rest)
+prefix_append xs rest = record { rest = rest; split = refl }
+
 pub prefix_same : {A : Type 0} (xs ys : List A) → xs ≡ ys → IsPrefix xs ys
 prefix_same xs ys e = record { rest = []; split = sym e ∙ sym (append-nil xs) }
 

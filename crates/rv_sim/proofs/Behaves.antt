@@ -4,6 +4,7 @@ use Rattle.std.specs.Prelude.{if◌then◌else◌, ◌==◌, ◌||◌}
 use Rattle.std.proofs.lemmas.List.{append-nil}
 use Rattle.behaviours.specs.Shown.{Shown, IsPrefix, IsEarlier}
 use Rattle.behaviours.specs.Behaviour.{IsMachine}
+use Rattle.behaviours.proofs.Moments.{prefix_refl, prefix_append, prefix_trans}
 use Rattle.rv_sim.specs.declared.trap.Action.{Action}
 use Rattle.rv_sim.specs.declared.trap.Action.TheVariants.{Done, Ask, Refuse}
 use Rattle.rv_sim.specs.Accesses.{object_access}
@@ -21,24 +22,12 @@ pub record Grows (c d : Configuration) : Type 0 where
   pub taken : c.taken ≤ d.taken
   pub accesses : IsPrefix c.accesses d.accesses
 
-prefix_same : {A : Type 0} (front : List A) → IsPrefix front front
-prefix_same front = record { rest = []; split = sym (append-nil front) }
-
-prefix_more : {A : Type 0} (front rest : List A) → IsPrefix front (front ++ rest)
-prefix_more front rest = record { rest = rest; split = refl }
-
-prefix_trans : {A : Type 0} (x y z : List A) → IsPrefix x y → IsPrefix y z → IsPrefix x z
-prefix_trans x y z p q = record {
-  rest = p.rest ++ q.rest;
-  split = q.split ∙ (ap (λ front. front ++ q.rest) p.split ∙ append_assoc x p.rest q.rest);
-}
-
 pub grows_same : (c : Configuration) → Grows c c
 grows_same c = record {
-  output = prefix_same c.output;
-  errors = prefix_same c.errors;
+  output = prefix_refl c.output;
+  errors = prefix_refl c.errors;
   taken = omega arith;
-  accesses = prefix_same c.accesses;
+  accesses = prefix_refl c.accesses;
 }
 
 pub grows_trans : (c d e : Configuration) → Grows c d → Grows d e → Grows c e
@@ -56,35 +45,35 @@ grows_if c false t u p q = q
 
 grows_answered : (c : Configuration) (v : ℕ) → Grows c (answered c v).0
 grows_answered c v = record {
-  output = prefix_same c.output;
-  errors = prefix_same c.errors;
+  output = prefix_refl c.output;
+  errors = prefix_refl c.errors;
   taken = omega arith;
-  accesses = prefix_same c.accesses;
+  accesses = prefix_refl c.accesses;
 }
 
 grows_received : (c : Configuration) (byte : Option ℕ) → Grows c (received c byte).0
 grows_received c None = grows_answered c 0
 grows_received c (Some byte) = record {
-  output = prefix_same c.output;
-  errors = prefix_same c.errors;
+  output = prefix_refl c.output;
+  errors = prefix_refl c.errors;
   taken = omega arith;
-  accesses = prefix_same c.accesses;
+  accesses = prefix_refl c.accesses;
 }
 
 grows_output : (c : Configuration) (bytes : List ℕ) (v : ℕ) → Grows c (answered (record c { output = c.output ++ bytes }) v).0
 grows_output c bytes v = record {
-  output = prefix_more c.output bytes;
-  errors = prefix_same c.errors;
+  output = prefix_append c.output bytes;
+  errors = prefix_refl c.errors;
   taken = omega arith;
-  accesses = prefix_same c.accesses;
+  accesses = prefix_refl c.accesses;
 }
 
 grows_errors : (c : Configuration) (bytes : List ℕ) (v : ℕ) → Grows c (answered (record c { errors = c.errors ++ bytes }) v).0
 grows_errors c bytes v = record {
-  output = prefix_same c.output;
-  errors = prefix_more c.errors bytes;
+  output = prefix_refl c.output;
+  errors = prefix_append c.errors bytes;
   taken = omega arith;
-  accesses = prefix_same c.accesses;
+  accesses = prefix_refl c.accesses;
 }
 
 grows_sent : (c : Configuration) (bytes : Option (List ℕ)) → Grows c (sent c bytes).0
@@ -116,10 +105,10 @@ grows_call c =
 
 grows_turned : (c : Configuration) (s : MachineState) (a : Action) → Grows c (turned c (s, a)).0
 grows_turned c s Done = record {
-  output = prefix_same c.output;
-  errors = prefix_same c.errors;
+  output = prefix_refl c.output;
+  errors = prefix_refl c.errors;
   taken = omega arith;
-  accesses = prefix_more c.accesses (object_access c.state);
+  accesses = prefix_append c.accesses (object_access c.state);
 }
 grows_turned c s Ask = grows_call c
 grows_turned c s (Refuse kind) = grows_same c
@@ -134,14 +123,14 @@ earlier_onwards (c, None) =
     let g = grows_turn c in
     record { output = g.output; errors = g.errors; taken = g.taken; accesses = g.accesses; ended = λ e h. cc }
 earlier_onwards (c, Some stop) =
-    record { output = prefix_same c.output; errors = prefix_same c.errors; taken = omega arith; accesses = prefix_same c.accesses; ended = λ e h. refl }
+    record { output = prefix_refl c.output; errors = prefix_refl c.errors; taken = omega arith; accesses = prefix_refl c.accesses; ended = λ e h. refl }
 
 earlier_same : (x : Shown) → IsEarlier x x
 earlier_same x = record {
-  output = prefix_same x.output;
-  errors = prefix_same x.errors;
+  output = prefix_refl x.output;
+  errors = prefix_refl x.errors;
   taken = omega arith;
-  accesses = prefix_same x.accesses;
+  accesses = prefix_refl x.accesses;
   ended = λ e h. refl;
 }
 

@@ -12,7 +12,7 @@ use Rattle.rv_sim.specs.State.{MachineState, register}
 use Rattle.rv_sim.specs.Run.{Configuration, Turn, a0, a1, a2, a7, answered, exited, trapped, turned, turn, calls, read_call, write_call}
 use Rattle.rv_sim.specs.Seen.{KeepsPart, Asks, ByFault}
 use Rattle.rv_sim.specs.Turns.{ReadOrFault, WrittenOrFault, CalledOrFault, TurnedOrFault}
-use Rattle.rv_sim.proofs.Told.{gained_gained}
+use Rattle.sb_outside.proofs.Gains.{gained_gained}
 
 by_fault_map : (r : Option Stop) (I O P I' O' P' : Type 0) → (I → I') → (O → O') → (P → P') → ByFault r I O P → ByFault r I' O' P'
 by_fault_map (Some InputFault) I O P I' O' P' f g h m = f m

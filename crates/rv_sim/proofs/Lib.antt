@@ -4,4 +4,3 @@ pub mod Runs
 mod Sample
 pub mod Steps
 pub mod Stores
-pub mod Told

@@ -114,7 +114,7 @@ fn read<I: Source>(state: &mut State, input: &mut I) -> Option<Stop>
 }
 
 // All of the buffer.
-#[tactic(auto, using(crate::proofs::Told::gained_gained), unfolding(crate::specs::Run::write_call))]
+#[tactic(auto, using(sb_outside::proofs::Gains::gained_gained), unfolding(crate::specs::Run::write_call))]
 fn write<O: Sink, E: Sink>(state: &mut State, output: &mut O, errors: &mut E) -> Option<Stop>
     ensures told { (o e : Option (List ℕ)) (c : Configuration) →
         state.old ≡ c.state → O.taken output.old ≡ gained o c.output → E.taken errors.old ≡ gained e c.errors →

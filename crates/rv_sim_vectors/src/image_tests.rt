@@ -82,7 +82,8 @@ const CHANGES: [Change; 13] = [
 ];
 
 fn sample(alloc: Global) -> Result<Vec<u8>, AllocError> {
-    Image::write(alloc, &parts(alloc, vec![in alloc; 0x6f, 0, 0, 0]?)?)
+    let rows = vec![in alloc; 0x6f, 0, 0, 0]?;
+    Image::write(alloc, &parts(alloc, rows, vec![in alloc; 1, 2, 3]?)?)
 }
 
 // The fault of these bytes.

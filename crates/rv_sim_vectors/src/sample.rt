@@ -1,4 +1,4 @@
-//! The image that the tests change.
+//! The image in which operations and tests run.
 
 ghost use Rattle.std.specs.Prelude.{◌≤◌, length, IfOk};
 ghost use Rattle.elf_image.specs.Writing.{PiecesFit};
@@ -9,8 +9,9 @@ use std::alloc::{AllocError, Global};
 /// Rows at 0x10000, of 32 bytes, and code at 0x100000, of one ECALL, which may be executed alone; objects at 0x10000000,
 /// of 0x2000 bytes, and runtime at 0x40000000, of 0x1000 bytes, which may be read and written. The run begins at the
 /// rows. In the file the program headers stand at 64, 120, 176 and 232.
-pub fn parts(alloc: Global, rows: Vec<u8>) -> Result<Parts, AllocError>
-    requires { length rows.items ≤ 32 }
+pub fn parts(alloc: Global, rows: Vec<u8>, objects: Vec<u8>) -> Result<Parts, AllocError>
+    requires rows { length rows.items ≤ 32 }
+    requires objects { length objects.items ≤ 32 }
     ensures { IfOk result PiecesFit }
 {
     Ok(Parts {
@@ -27,7 +28,7 @@ pub fn parts(alloc: Global, rows: Vec<u8>) -> Result<Parts, AllocError>
         },
         objects: Part {
             address: 0x1000_0000,
-            bytes: vec![in alloc; 1, 2, 3]?,
+            bytes: objects,
             size: 0x2000,
         },
         runtime: Part {

@@ -141,7 +141,7 @@ fn stop_of(alloc: Global, code: &[u32]) -> Result<Stop, Fail> {
         rows.extend_from_slice(&word.to_le_bytes())?;
     }
     rows.truncate(32);
-    let file = Image::write(alloc, &parts(alloc, rows)?)?;
+    let file = Image::write(alloc, &parts(alloc, rows, Vec::new(alloc))?)?;
     let image = Image::read(alloc, &file)?;
     let mut machine = Machine::load(alloc, &image)?;
     let mut input = MemSource::new(alloc, &[], &[])?;

@@ -30,13 +30,17 @@ calls-by : (c : Configuration) (k : ℕ) → register c.state a7 ≡ k → calls
 unfolding calls by_number
 calls-by c k e = ap (by_number c) e
 
-calls-read : (c : Configuration) → register c.state a7 ≡ 63 → calls c ≡ read_call c
+pub calls-read : (c : Configuration) → register c.state a7 ≡ 63 → calls c ≡ read_call c
 unfolding by_number
 calls-read c e = calls-by c 63 e
 
-calls-write : (c : Configuration) → register c.state a7 ≡ 64 → calls c ≡ write_call c
+pub calls-write : (c : Configuration) → register c.state a7 ≡ 64 → calls c ≡ write_call c
 unfolding by_number
 calls-write c e = calls-by c 64 e
+
+pub calls-exit : (c : Configuration) → register c.state a7 ≡ 93 → calls c ≡ exited c
+unfolding by_number
+calls-exit c e = calls-by c 93 e
 
 pub by_read : (o e : Option (List ℕ)) (c : Configuration) (r : Option Stop) (state : MachineState) (rest output errors : Option (List ℕ)) → register c.state a7 ≡ 63 → output ≡ gained o c.output → errors ≡ gained e c.errors → ReadOrFault r c state rest → CalledOrFault o e r c state rest output errors
 by_read o e c r state rest output errors k out err m =
@@ -56,7 +60,7 @@ by_write o e c r state rest output errors k i m =
     (λ p. rw at (p.stop_is, record { state_is = p.state_is; rest_is = i ∙ ap Some (sym p.input_stays); output_is = p.output_is; errors_is = p.errors_is }))
     m
 
-turn-asks : (c : Configuration) → Asks c.state → turn c ≡ calls c
+pub turn-asks : (c : Configuration) → Asks c.state → turn c ≡ calls c
 unfolding turn
 turn-asks c e = ap (turned c) e
 
@@ -90,14 +94,14 @@ pub record Sends (c : Configuration) (bytes : List ℕ) : Type 0 where
   pub count : (register c.state a2 == 0) ≡ false
   pub found : bytes_at c.state.memory (register c.state a1) (register c.state a2) ≡ Some bytes
 
-to_output : (c : Configuration) (bytes : List ℕ) → (register c.state a0 == 1) ≡ true → Sends c bytes → write_call c ≡ answered (record c { output = c.output ++ bytes }) (register c.state a2)
+pub to_output : (c : Configuration) (bytes : List ℕ) → (register c.state a0 == 1) ≡ true → Sends c bytes → write_call c ≡ answered (record c { output = c.output ++ bytes }) (register c.state a2)
 unfolding write_call
 to_output c bytes t s =
     let n = s.count in
     let b = s.found in
     rw (n, b, t) refl
 
-to_errors : (c : Configuration) (bytes : List ℕ) → (register c.state a0 == 1) ≡ false → (register c.state a0 == 2) ≡ true → Sends c bytes → write_call c ≡ answered (record c { errors = c.errors ++ bytes }) (register c.state a2)
+pub to_errors : (c : Configuration) (bytes : List ℕ) → (register c.state a0 == 1) ≡ false → (register c.state a0 == 2) ≡ true → Sends c bytes → write_call c ≡ answered (record c { errors = c.errors ++ bytes }) (register c.state a2)
 unfolding write_call
 to_errors c bytes t u s =
     let n = s.count in

@@ -39,6 +39,17 @@ runs-more (suc k) n c stop e =
 pub runs_stopped : (m n : ℕ) (c : Configuration) (stop : Stop) → n ≤ m → (runs n c).1 ≡ Some stop → runs m c ≡ runs n c
 runs_stopped m n c stop h e = runs_at m (m - n + n) c (omega arith) ∙ runs-more (m - n) n c stop e
 
+going : (t : Turn) → t.1 ≡ None → t ≡ (t.0, None)
+going (c, None) e = refl
+going (c, Some stop) e = cc
+
+-- a run that goes on after m instructions is cut there
+pub runs-plus : (m n : ℕ) (c : Configuration) → (runs m c).1 ≡ None → runs (n + m) c ≡ runs n (runs m c).0
+runs-plus m zero c e = runs_at (zero + m) m c (omega arith) ∙ (going (runs m c) e ∙ sym (runs-zero (runs m c).0))
+runs-plus m (suc n) c e =
+    runs_at (suc n + m) (suc (n + m)) c (omega arith)
+    ∙ (runs-suc (n + m) c ∙ (ap onwards (runs-plus m n c e) ∙ sym (runs-suc n (runs m c).0)))
+
 -- a turn that stops is what the run comes to
 last : (stop : Stop) (n m : ℕ) (c : Configuration) → suc n ≤ m → (runs n c).1 ≡ None → Some stop ≡ (turn (runs n c).0).1 → runs m c ≡ turn (runs n c).0
 last stop n m c h e f =

@@ -13,6 +13,15 @@ use crate::trap::TrapKind;
 use rv_isa::Reg;
 use sb_outside::{Sink, Source};
 
+// The registers a0, a1, a2 and a7.
+const A0: u8 = 10;
+
+const A1: u8 = 11;
+
+const A2: u8 = 12;
+
+const A7: u8 = 17;
+
 const READ: u64 = 63;
 
 const WRITE: u64 = 64;
@@ -40,11 +49,11 @@ pub fn answer_call<I: Source, O: Sink, E: Sink>(
     ensures input_counts { CountsInput result (I.faults input.old) (I.faults input.new) }
     ensures output_counts { CountsOutput result (O.faults output.old) (O.faults output.new) (E.faults errors.old) (E.faults errors.new) }
 {
-    match state.register(Reg::new(17)) {
+    match state.register(Reg::new(A7)) {
         READ => read(state, input),
         WRITE => write(state, output, errors),
         EXIT => {
-            let status = state.register(Reg::new(10));
+            let status = state.register(Reg::new(A0));
             Some(Stop::Exited((status % 256) as u8))
         }
         _ => Some(trap(state, TrapKind::Call)),
@@ -64,7 +73,7 @@ fn trap(state: &State, kind: TrapKind) -> Stop
 fn answer(state: &mut State, value: u64)
     ensures { state.new ≡ (gives state.old 10 value).0 }
 {
-    state.answer(Reg::new(10), value);
+    state.answer(Reg::new(A0), value);
 }
 
 // One byte, or none at the end of the input.
@@ -77,9 +86,9 @@ fn read<I: Source>(state: &mut State, input: &mut I) -> Option<Stop>
     ensures counts { CountsInput result (I.faults input.old) (I.faults input.new) }
     ensures no_output_fault { result ≡ Some Stop.OutputFault → ⊥ }
 {
-    let descriptor = state.register(Reg::new(10));
-    let buffer = state.register(Reg::new(11));
-    let count = state.register(Reg::new(12));
+    let descriptor = state.register(Reg::new(A0));
+    let buffer = state.register(Reg::new(A1));
+    let count = state.register(Reg::new(A2));
     if descriptor != 0 {
         answer(state, BAD_DESCRIPTOR);
         return None;
@@ -115,9 +124,9 @@ fn write<O: Sink, E: Sink>(state: &mut State, output: &mut O, errors: &mut E) ->
     ensures counts { CountsOutput result (O.faults output.old) (O.faults output.new) (E.faults errors.old) (E.faults errors.new) }
     ensures no_input_fault { result ≡ Some Stop.InputFault → ⊥ }
 {
-    let descriptor = state.register(Reg::new(10));
-    let buffer = state.register(Reg::new(11));
-    let count = state.register(Reg::new(12));
+    let descriptor = state.register(Reg::new(A0));
+    let buffer = state.register(Reg::new(A1));
+    let count = state.register(Reg::new(A2));
     if descriptor != 1 && descriptor != 2 {
         answer(state, BAD_DESCRIPTOR);
         return None;
@@ -133,10 +142,8 @@ fn write<O: Sink, E: Sink>(state: &mut State, output: &mut O, errors: &mut E) ->
         if output.put(bytes).is_err() {
             return Some(Stop::OutputFault);
         }
-    } else {
-        if errors.put(bytes).is_err() {
-            return Some(Stop::OutputFault);
-        }
+    } else if errors.put(bytes).is_err() {
+        return Some(Stop::OutputFault);
     }
     answer(state, count);
     None

@@ -12,6 +12,8 @@ pub mod machine;
 pub mod memory;
 pub mod state;
 pub mod stop;
+#[cfg(test)]
+mod tests;
 pub mod trap;
 pub mod width;
 

@@ -1,2 +1,4 @@
+pub mod Machine
 pub mod Scanning
 pub mod Statements
+pub mod Words

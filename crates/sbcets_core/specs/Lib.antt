@@ -1,3 +1,5 @@
+pub mod Code
+pub mod Faithful
 pub mod Lexing
 pub mod Meaning
 pub mod Part

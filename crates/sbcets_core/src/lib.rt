@@ -4,6 +4,7 @@
 //! lines and the meaning are public modules, which become crates of their own as the language grows.
 #![tactic(auto)]
 
+pub mod generator;
 pub mod lexer;
 pub mod line;
 pub mod part;

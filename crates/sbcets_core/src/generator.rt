@@ -1,0 +1,154 @@
+//! From a program to its image.
+ghost use Rattle.std.specs.Prelude.{◌≡◌, ◌++◌, ◌∷◌, [], ◌+◌, ◌*◌, ◌≤◌, ◌<◌, ◌%◌, ◌^◌, length, replicate, IfOk, OnOk};
+ghost use Rattle.elf_image.specs.Writing.{PiecesFit};
+ghost use Rattle.sbcets_core.specs.Code.{code_of, code_bytes, exit_code, pieces_of, rows_bytes, row_code, runtime_code, putchar_code, li};
+ghost use Rattle.sbcets_core.specs.Meaning.{ending};
+ghost use Rattle.sbcets_core.specs.Faithful.{IsFaithfulImage};
+
+use crate::program::Program;
+use elf_image::{Image, Part, Parts};
+use rv_isa::{Imm12, Imm20, ImmOp, Instr, JumpOffset, Reg, StoreOp, encode};
+use std::alloc::{AllocError, Global};
+
+// Registers by their numbers.
+const ZERO: u8 = 0;
+
+const A0: u8 = 10;
+
+const A1: u8 = 11;
+
+const A2: u8 = 12;
+
+const A7: u8 = 17;
+
+// Numbers of environment calls.
+const WRITE: u16 = 64;
+
+const EXIT: u16 = 93;
+
+// Where the parts of an image stand.
+const ROWS: u64 = 0x1_0000;
+
+const RUNTIME: u64 = 0x1_0010;
+
+const CODE: u64 = 0x10_0000;
+
+const OBJECTS: u64 = 0x1000_0000;
+
+const RUNTIME_SPACES: u64 = 0x4000_0000;
+
+/// The image of a program, which does what the program means.
+pub fn image_of(alloc: Global, program: &Program) -> Result<Vec<u8>, AllocError>
+    ensures { IfOk result (λ image. IsFaithfulImage program.now image.items) }
+{
+    let parts = parts_of(alloc, program)?;
+    let image = Image::write(alloc, &parts)?;
+    Ok(image)
+}
+
+#[tactic(auto, unfolding(crate::specs::Code::pieces_of))]
+fn parts_of(alloc: Global, program: &Program) -> Result<Parts, AllocError>
+    ensures value { IfOk result (λ parts. parts ≡ pieces_of program.now) }
+    ensures few { OnOk result (length program.now.numbers ≤ 209715) }
+{
+    let rows = rows(alloc)?;
+    let instrs = code_of(alloc, program)?;
+    let mut code = Vec::new(alloc);
+    put_words(&mut code, &instrs)?;
+    let size = code.len() as u64;
+    Ok(Parts {
+        entry: RUNTIME,
+        rows: part(ROWS, rows, 32),
+        code: part(CODE, code, size),
+        objects: part(OBJECTS, Vec::new(alloc), 0),
+        runtime: part(RUNTIME_SPACES, Vec::new(alloc), 16),
+    })
+}
+
+fn part(address: u64, bytes: Vec<u8>, size: u64) -> Part
+    ensures { result ≡ record { address = address; bytes = bytes.items; size = size } }
+{
+    Part {
+        address,
+        bytes,
+        size,
+    }
+}
+
+// The row of `main`, and the runtime behind it.
+fn rows(alloc: Global) -> Result<Vec<u8>, AllocError>
+    ensures { IfOk result (λ bytes. bytes.items ≡ rows_bytes) }
+{
+    let mut bytes = Vec::new(alloc);
+    put_words(&mut bytes, &[jump(0xf_0000)])?;
+    bytes.extend_from_slice(&[0; 12])?;
+    let runtime = [
+        Instr::Lui {
+            rd: Reg::new(A1),
+            imm: Imm20::new(0x4_0000),
+        },
+        load_immediate(A2, 1),
+        load_immediate(A7, WRITE),
+        jump(0x1f_ffe4),
+    ];
+    put_words(&mut bytes, &runtime)?;
+    Ok(bytes)
+}
+
+#[tactic(auto, unfolding(crate::specs::Code::code_of))]
+fn code_of(alloc: Global, program: &Program) -> Result<Vec<Instr>, AllocError>
+    ensures value { IfOk result (λ instrs. instrs.items ≡ code_of program.now.numbers (ending program.now)) }
+    ensures few { OnOk result (length program.now.numbers ≤ 209715) }
+{
+    let mut instrs = Vec::new(alloc);
+    for number in program.numbers() {
+        instrs.push(load_immediate(A0, (number % 256) as u16))?;
+        instrs.push(Instr::Store {
+            op: StoreOp::Sb,
+            rs1: Reg::new(A1),
+            rs2: Reg::new(A0),
+            imm: Imm12::new(0),
+        })?;
+        instrs.push(load_immediate(A0, 1))?;
+        instrs.push(Instr::Ecall)?;
+    }
+    instrs.push(load_immediate(A0, (program.result_number() % 256) as u16))?;
+    instrs.push(load_immediate(A7, EXIT))?;
+    instrs.push(Instr::Ecall)?;
+    Ok(instrs)
+}
+
+fn load_immediate(rd: u8, number: u16) -> Instr
+    requires rd { rd < 32 }
+    requires number { number < 2048 }
+    ensures { result ≡ li rd number }
+{
+    Instr::OpImm {
+        op: ImmOp::Addi,
+        rd: Reg::new(rd),
+        rs1: Reg::new(ZERO),
+        imm: Imm12::new(number),
+    }
+}
+
+fn jump(offset: u32) -> Instr
+    requires fits { offset < 2 ^ 21 }
+    requires even { offset % 2 ≡ 0 }
+    ensures { result ≡ Instr.Jal 0 offset }
+{
+    Instr::Jal {
+        rd: Reg::new(ZERO),
+        imm: JumpOffset::new(offset),
+    }
+}
+
+// Puts the words of instructions.
+#[tactic(auto, unfolding(crate::specs::Code::code_bytes))]
+fn put_words(bytes: &mut Vec<u8>, instrs: &[Instr]) -> Result<(), AllocError>
+    ensures { OnOk result (bytes.new.items ≡ bytes.old.items ++ code_bytes instrs.now) }
+{
+    for instr in instrs {
+        bytes.extend_from_slice(&encode(*instr).to_le_bytes())?;
+    }
+    Ok(())
+}

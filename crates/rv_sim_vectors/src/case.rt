@@ -1,10 +1,11 @@
 //! One operation on given operands.
 
-ghost use Rattle.std.specs.Prelude.{◌≡◌, [], IfOk};
+ghost use Rattle.std.specs.Prelude.{IfOk};
 ghost use Rattle.elf_image.specs.Writing.{PiecesFit};
 
+use crate::sample::parts;
 use anyhow::{Context, Result, ensure};
-use elf_image::{Image, Part, Parts, ReadError};
+use elf_image::{Image, Parts, ReadError};
 use rv_isa::Reg;
 use rv_sim::{Machine, Stop};
 use sb_outside::{MemSink, MemSource};
@@ -59,32 +60,7 @@ impl Case {
         let mut objects = Vec::new(alloc);
         objects.extend_from_slice(&self.left.to_le_bytes())?;
         objects.extend_from_slice(&self.right.to_le_bytes())?;
-        Ok(Parts {
-            entry: 0x10000,
-            rows: Part {
-                address: 0x10000,
-                bytes: code,
-                size: 16,
-            },
-            code: empty(alloc, 0x10_0000),
-            objects: Part {
-                address: 0x1000_0000,
-                bytes: objects,
-                size: 16,
-            },
-            runtime: empty(alloc, 0x4000_0000),
-        })
-    }
-}
-
-// A segment of no bytes.
-fn empty(alloc: Global, address: u64) -> Part
-    ensures { result ≡ record { address = address; bytes = []; size = 0 } }
-{
-    Part {
-        address,
-        bytes: Vec::new(alloc),
-        size: 0,
+        parts(alloc, code, objects)
     }
 }
 

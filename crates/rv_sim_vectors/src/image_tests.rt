@@ -81,6 +81,11 @@ const CHANGES: [Change; 13] = [
     },
 ];
 
+fn sample(alloc: Global) -> Result<Vec<u8>, AllocError> {
+    let rows = vec![in alloc; 0x6f, 0, 0, 0]?;
+    Image::write(alloc, &parts(alloc, rows, vec![in alloc; 1, 2, 3]?)?)
+}
+
 // The fault of these bytes.
 fn fault_of(alloc: Global, bytes: &[u8]) -> Result<Option<ImageFault>, Fail> {
     match Image::read(alloc, bytes) {
@@ -92,7 +97,7 @@ fn fault_of(alloc: Global, bytes: &[u8]) -> Result<Option<ImageFault>, Fail> {
 
 #[test]
 fn first_fault_is_answered(rt: HostRuntime) -> Result<(), Fail> {
-    let file = Image::write(rt.alloc(), &parts(rt.alloc())?)?;
+    let file = sample(rt.alloc())?;
     for (place, later) in CHANGES.iter().enumerate() {
         let mut changed = file.clone()?;
         later.apply(&mut changed);
@@ -122,7 +127,7 @@ fn first_fault_is_answered(rt: HostRuntime) -> Result<(), Fail> {
 
 #[test]
 fn cut_images_are_truncated(rt: HostRuntime) -> Result<(), Fail> {
-    let file = Image::write(rt.alloc(), &parts(rt.alloc())?)?;
+    let file = sample(rt.alloc())?;
     for count in 0..file.len() {
         let fault = fault_of(rt.alloc(), &file[..count])?;
         assert_eq!(rt; fault, Some(ImageFault::Truncated), "cut at {count}");
@@ -211,7 +216,7 @@ const PAST_TOP: &[(usize, u8)] = &[
 
 #[test]
 fn edges_are_exact(rt: HostRuntime) -> Result<(), Fail> {
-    let file = Image::write(rt.alloc(), &parts(rt.alloc())?)?;
+    let file = sample(rt.alloc())?;
     for (place, edge) in EDGES.iter().enumerate() {
         let mut changed = file.clone()?;
         edge.apply(&mut changed);

@@ -10,7 +10,6 @@
 mod case;
 #[cfg(test)]
 mod image_tests;
-#[cfg(test)]
 mod sample;
 #[cfg(test)]
 mod trap_tests;

@@ -1,34 +1,34 @@
-//! The image that the tests change.
+//! The image in which operations and tests run.
 
-ghost use Rattle.std.specs.Prelude.{IfOk};
+ghost use Rattle.std.specs.Prelude.{◌≤◌, length, IfOk};
 ghost use Rattle.elf_image.specs.Writing.{PiecesFit};
 
 use elf_image::{Part, Parts};
 use std::alloc::{AllocError, Global};
 
-/// Where the program headers of the four segments stand in the file.
-pub const HEADERS: [usize; 4] = [64, 120, 176, 232];
-
-/// Rows at 0x10000 and code at 0x100000, executable; objects at 0x10000000 and runtime at 0x40000000, readable and
-/// writable. The run begins at the fifth word of the rows.
-pub fn parts(alloc: Global) -> Result<Parts, AllocError>
+/// Rows at 0x10000, of 32 bytes, and code at 0x100000, of one ECALL, which may be executed alone; objects at 0x10000000,
+/// of 0x2000 bytes, and runtime at 0x40000000, of 0x1000 bytes, which may be read and written. The run begins at the
+/// rows. In the file the program headers stand at 64, 120, 176 and 232.
+pub fn parts(alloc: Global, rows: Vec<u8>, objects: Vec<u8>) -> Result<Parts, AllocError>
+    requires rows { length rows.items ≤ 32 }
+    requires objects { length objects.items ≤ 32 }
     ensures { IfOk result PiecesFit }
 {
     Ok(Parts {
-        entry: 0x10010,
+        entry: 0x10000,
         rows: Part {
             address: 0x10000,
-            bytes: vec![in alloc; 0x6f, 0, 0, 0]?,
-            size: 0x20,
+            bytes: rows,
+            size: 32,
         },
         code: Part {
-            address: 0x100000,
+            address: 0x10_0000,
             bytes: vec![in alloc; 0x73, 0, 0, 0]?,
             size: 4,
         },
         objects: Part {
             address: 0x1000_0000,
-            bytes: vec![in alloc; 1, 2, 3]?,
+            bytes: objects,
             size: 0x2000,
         },
         runtime: Part {

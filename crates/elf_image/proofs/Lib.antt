@@ -1,4 +1,5 @@
 pub mod Loads
 pub mod Ordered
+pub mod Overlap
 pub mod Pages
 pub mod Written

@@ -5,6 +5,7 @@
 pub mod fault;
 pub mod header;
 pub mod image;
+pub mod laws;
 pub mod part;
 mod writing;
 

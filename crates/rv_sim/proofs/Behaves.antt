@@ -1,7 +1,6 @@
 -- The behaviour of the machine grows with the number of instructions.
-use Rattle.std.proofs.Common.{◌≡◌, ℕ, zero, suc, ◌+◌, ◌-◌, ◌≤◌, Bool, true, false, List, [], ◌++◌, Option, Some, None, refl, sym, ap, ◌∙◌, append_assoc, arith}
+use Rattle.std.proofs.Common.{◌≡◌, ℕ, zero, suc, ◌+◌, ◌-◌, ◌≤◌, Bool, true, false, List, ◌++◌, Option, Some, None, refl, sym, ap, ◌∙◌, arith}
 use Rattle.std.specs.Prelude.{if◌then◌else◌, ◌==◌, ◌||◌}
-use Rattle.std.proofs.lemmas.List.{append-nil}
 use Rattle.behaviours.specs.Shown.{Shown, IsPrefix, IsEarlier}
 use Rattle.behaviours.specs.Behaviour.{IsMachine}
 use Rattle.behaviours.proofs.Moments.{prefix_refl, prefix_append, prefix_trans}

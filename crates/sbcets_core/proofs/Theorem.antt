@@ -5,8 +5,8 @@ use Rattle.behaviours.specs.Behaviour.{Meets, Follows, IsSource, Faithful}
 use Rattle.behaviours.proofs.Following.{faithful}
 use Rattle.elf_image.specs.Layout.{content_of}
 use Rattle.elf_image.specs.Tests.{image_fault}
-use Rattle.elf_image.specs.Writing.{content, image_size, PiecesFit}
-use Rattle.elf_image.proofs.Ordered.{IsInOrder, in_order_fits}
+use Rattle.elf_image.specs.Writing.{content, image_size, PiecesFit, IsInOrder}
+use Rattle.elf_image.proofs.Ordered.{in_order_fits}
 use Rattle.rv_sim.specs.Run.{runs}
 use Rattle.rv_sim.specs.Start.{start_of}
 use Rattle.rv_sim.specs.Behaviour.{shown_by, behaviour}

@@ -41,10 +41,10 @@ pub enum Outcome {
 
 impl Outcome {
     /// The exit status of the program.
-    pub fn status(self) -> u8
-        ensures { result ≡ status_of self }
+    pub fn status(&self) -> u8
+        ensures { result ≡ status_of self.now }
     {
-        match self {
+        match *self {
             Outcome::Exited(code) => code,
             Outcome::Usage => 101,
             Outcome::ReadFault(_) => 102,

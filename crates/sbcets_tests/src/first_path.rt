@@ -10,16 +10,6 @@ use std::test::Fail;
 
 const HI: &[u8] = b"int main(void){putchar(72);putchar(105);return 7;}";
 
-// What is handed to the call: the one file is `hi.c`.
-#[derive(Drop)]
-struct Given<'a> {
-    words: &'a [&'a str],
-    source: &'a [u8],
-    read_fails: &'a [u64],
-    output_fails: &'a [(u64, u64)],
-    error_fails: &'a [(u64, u64)],
-}
-
 // What it came to.
 #[derive(Drop)]
 struct Left {
@@ -29,18 +19,26 @@ struct Left {
     built: bool,
 }
 
-fn call(alloc: Global, given: &Given) -> Result<Left, Fail> {
+// The call of these words, where the one file is `hi.c`, with this text, and these calls of the outside fail.
+fn call(
+    alloc: Global,
+    spoken: &[&str],
+    source: &[u8],
+    read_fails: &[u64],
+    output_fails: &[(u64, u64)],
+    error_fails: &[(u64, u64)],
+) -> Result<Left, Fail> {
     let mut words = Vec::new(alloc);
-    for word in given.words {
+    for word in spoken {
         words.push(String::from_str(alloc, word)?)?;
     }
     let mut pairs = Vec::new(alloc);
     let name = String::from_str(alloc, "hi.c")?;
-    pairs.push((name, Vec::from_slice(alloc, given.source)?))?;
-    let mut files = MemFiles::new(alloc, &pairs, 0, given.read_fails, &[])?;
+    pairs.push((name, Vec::from_slice(alloc, source)?))?;
+    let mut files = MemFiles::new(alloc, &pairs, 0, read_fails, &[])?;
     let mut input = MemSource::new(alloc, b"unread", &[])?;
-    let mut output = MemSink::new(alloc, ROOM, given.output_fails)?;
-    let mut errors = MemSink::new(alloc, ROOM, given.error_fails)?;
+    let mut output = MemSink::new(alloc, ROOM, output_fails)?;
+    let mut errors = MemSink::new(alloc, ROOM, error_fails)?;
     let (outcome, image) = sbcets(
         alloc,
         &words,
@@ -60,13 +58,16 @@ fn call(alloc: Global, given: &Given) -> Result<Left, Fail> {
 // A source, and the outcome, its status, the output and the error output.
 type Row<'a> = (&'a [u8], Outcome, u8, &'a [u8], &'a [u8]);
 
+fn unsupported() -> Outcome {
+    Outcome::Refused(SourceRefusal::Unsupported)
+}
+
 fn lexical_fault(at: u64, line: Line) -> Outcome {
     Outcome::Refused(SourceRefusal::Lex(LexFault { at, line }))
 }
 
 #[test]
 fn sources(rt: HostRuntime) -> Result<(), Fail> {
-    let unsupported = Outcome::Refused(SourceRefusal::Unsupported);
     let rows: [Row; 9] = [
         (HI, Outcome::Exited(7), 7, b"Hi", b""),
         (
@@ -92,12 +93,18 @@ fn sources(rt: HostRuntime) -> Result<(), Fail> {
         ),
         (
             b"int main(void){return x;}",
-            unsupported,
+            unsupported(),
             110,
             b"",
             b"sbcets: error: unsupported\n",
         ),
-        (b"", unsupported, 110, b"", b"sbcets: error: unsupported\n"),
+        (
+            b"",
+            unsupported(),
+            110,
+            b"",
+            b"sbcets: error: unsupported\n",
+        ),
         (
             b"int main(void){return 0;}@",
             lexical_fault(25, Line::first()),
@@ -121,16 +128,7 @@ fn sources(rt: HostRuntime) -> Result<(), Fail> {
         ),
     ];
     for (source, outcome, status, output, errors) in rows {
-        let left = call(
-            rt.alloc(),
-            &Given {
-                words: &["go", "hi.c"],
-                source,
-                read_fails: &[],
-                output_fails: &[],
-                error_fails: &[],
-            },
-        )?;
+        let left = call(rt.alloc(), &["go", "hi.c"], source, &[], &[], &[])?;
         assert_eq!(rt; left.outcome, outcome);
         assert_eq!(rt; left.outcome.status(), status);
         assert_eq!(rt; left.output.as_slice(), output);
@@ -139,12 +137,15 @@ fn sources(rt: HostRuntime) -> Result<(), Fail> {
     Ok(())
 }
 
+fn failed() -> Outcome {
+    Outcome::ReadFault(ReadFault::Failed)
+}
+
 #[test]
 fn words_and_files(rt: HostRuntime) -> Result<(), Fail> {
     let alloc = rt.alloc();
     let usage: &[u8] = b"sbcets: error: usage\n";
     let cannot: &[u8] = b"sbcets: error: cannot read\n";
-    let failed = Outcome::ReadFault(ReadFault::Failed);
     let rows: [(&[&str], &[u64], Outcome, u8, &[u8]); 8] = [
         (
             &["build", "hi.c", "hi.img"],
@@ -157,21 +158,12 @@ fn words_and_files(rt: HostRuntime) -> Result<(), Fail> {
         (&["go"], &[], Outcome::Usage, 101, usage),
         (&["go", "-hi.c"], &[], Outcome::Usage, 101, usage),
         (&["go", "hi.c", "more"], &[], Outcome::Usage, 101, usage),
-        (&["go", "none.c"], &[], failed, 102, cannot),
-        (&["go", ""], &[], failed, 102, cannot),
-        (&["go", "hi.c"], &[0], failed, 102, cannot),
+        (&["go", "none.c"], &[], failed(), 102, cannot),
+        (&["go", ""], &[], failed(), 102, cannot),
+        (&["go", "hi.c"], &[0], failed(), 102, cannot),
     ];
     for (words, read_fails, outcome, status, line) in rows {
-        let left = call(
-            alloc,
-            &Given {
-                words,
-                source: HI,
-                read_fails,
-                output_fails: &[],
-                error_fails: &[],
-            },
-        )?;
+        let left = call(alloc, words, HI, read_fails, &[], &[])?;
         assert_eq!(rt; left.outcome, outcome);
         assert_eq!(rt; left.outcome.status(), status);
         assert_eq!(rt; left.output.as_slice(), b"".as_slice());
@@ -203,16 +195,7 @@ fn largest_sources(rt: HostRuntime) -> Result<(), Fail> {
     ];
     for (count, outcome, line) in rows {
         let source = spaces(alloc, count)?;
-        let left = call(
-            alloc,
-            &Given {
-                words: &["go", "hi.c"],
-                source: &source,
-                read_fails: &[],
-                output_fails: &[],
-                error_fails: &[],
-            },
-        )?;
+        let left = call(alloc, &["go", "hi.c"], &source, &[], &[], &[])?;
         assert_eq!(rt; left.outcome, outcome);
         assert_eq!(rt; left.errors.as_slice(), line);
     }
@@ -220,9 +203,8 @@ fn largest_sources(rt: HostRuntime) -> Result<(), Fail> {
         which: Counted::Source,
         count: 1_048_577,
     };
-    assert!(rt;
-        matches!(compile(alloc, &spaces(alloc, 1_048_577)?), Err(found) if found == too_large)
-    );
+    let refusal = compile(alloc, &spaces(alloc, 1_048_577)?).err();
+    assert_eq!(rt; refusal, Some(too_large));
     assert!(rt; compile(alloc, HI)?.len() > 8192);
     Ok(())
 }
@@ -244,13 +226,11 @@ fn sinks_that_fail(rt: HostRuntime) -> Result<(), Fail> {
     for (source, output_fails, error_fails, output, errors) in rows {
         let left = call(
             alloc,
-            &Given {
-                words: &["go", "hi.c"],
-                source,
-                read_fails: &[],
-                output_fails,
-                error_fails,
-            },
+            &["go", "hi.c"],
+            source,
+            &[],
+            output_fails,
+            error_fails,
         )?;
         assert_eq!(rt; left.outcome, Outcome::WriteFault);
         assert_eq!(rt; left.outcome.status(), 103);

@@ -1,5 +1,4 @@
-pub mod Complete
-pub mod Counts
+pub mod Cases
 pub mod Execution
 pub mod Machine
 pub mod Pieces

@@ -1,6 +1,6 @@
 -- The run of an image by the machine that loads it.
-use Rattle.std.proofs.Common.{◌≡◌, ℕ, zero, suc, List, Option, Some, None, refl, sym, ap, ◌∙◌, subst}
-use Rattle.behaviours.specs.Shown.{Fault, Shown}
+use Rattle.std.proofs.Common.{◌≡◌, ℕ, zero, suc, List, [], Option, Some, None, refl, sym, ap, ◌∙◌, subst}
+use Rattle.behaviours.specs.Shown.{End, Fault, Shown}
 use Rattle.elf_image.specs.Content.{Content}
 use Rattle.elf_image.specs.Layout.{content_of}
 use Rattle.elf_image.specs.Tests.{image_fault}
@@ -12,33 +12,33 @@ use Rattle.rv_sim.specs.Run.{Configuration, runs}
 use Rattle.rv_sim.specs.Seen.{IsSeen, IsRun}
 use Rattle.rv_sim.specs.Simulation.{Simulation}
 use Rattle.rv_sim.specs.Start.{start_of}
-use Rattle.rv_sim.specs.Behaviour.{begun, behaviour, end_of}
+use Rattle.rv_sim.specs.Behaviour.{begun, behaviour, shown_by, end_of}
 use Rattle.sb_outside.proofs.Gains.{gained_nil}
 use Rattle.sbcets_core.specs.Source.{SourceProgram}
 use Rattle.sbcets_core.specs.Meaning.{meaning}
 use Rattle.sbcets_core.specs.Faithful.{IsFaithfulImage}
 use Rattle.sbcets_core.specs.Accepted.{IsBuiltFrom}
-use Rattle.sbcets_core.specs.Top.{Streams, RunsImage, Went, run_limit}
+use Rattle.sbcets_core.specs.Doing.{Streams, RunsImage}
 
 -- what a machine that stands so answers of a run
-abbrev pub Told : Simulation → Stop → MachineState → Streams → Streams → Type 0
-Told machine stop state before after =
-    machine.stopped ≡ None → (o e : Option (List ℕ)) (c : Configuration) → IsSeen o e machine.state before.input before.output before.errors c → IsRun o e stop run_limit c state after.input after.output after.errors
+abbrev pub Told : Simulation → ℕ → Stop → MachineState → Streams → Streams → Type 0
+Told machine limit stop state before after =
+    machine.stopped ≡ None → (o e : Option (List ℕ)) (c : Configuration) → IsSeen o e machine.state before.input before.output before.errors c → IsRun o e stop limit c state after.input after.output after.errors
 
-from_start : (start state : MachineState) (stop : Stop) (before after : Streams) → Told (record { state = start; stopped = None }) stop state before after → (input : List ℕ) → before.input ≡ Some input → IsRun before.output before.errors stop run_limit (begun start input) state after.input after.output after.errors
-from_start start state stop before after told input is =
+from_start : (start state : MachineState) (limit : ℕ) (stop : Stop) (before after : Streams) → Told (record { state = start; stopped = None }) limit stop state before after → (input : List ℕ) → before.input ≡ Some input → IsRun before.output before.errors stop limit (begun start input) state after.input after.output after.errors
+from_start start state limit stop before after told input is =
     told refl before.output before.errors (begun start input)
     (record { state_is = refl; rest_is = is; output_is = sym (gained_nil before.output); errors_is = sym (gained_nil before.errors) })
 
-pub runs_image : (image : List ℕ) (content : Content) (machine : Simulation) (state : MachineState) (stop : Stop) (before after : Streams) → image_fault image ≡ None → content ≡ content_of image → machine ≡ record { state = start_of content; stopped = None } → Told machine stop state before after → RunsImage image stop before after
-runs_image image content machine state stop before after readable same loaded told =
+pub runs_image : (image : List ℕ) (content : Content) (machine : Simulation) (state : MachineState) (limit : ℕ) (stop : Stop) (before after : Streams) → image_fault image ≡ None → content ≡ content_of image → machine ≡ record { state = start_of content; stopped = None } → Told machine limit stop state before after → RunsImage image limit stop before after
+runs_image image content machine state limit stop before after readable same loaded told =
     let at_start : machine ≡ record { state = start_of (content_of image); stopped = None } =
     loaded ∙ ap (λ k. record { state = start_of k; stopped = None }) same in
-    let told_of : Told (record { state = start_of (content_of image); stopped = None }) stop state before after =
-    subst (λ m. Told m stop state before after) at_start told in
+    let told_of : Told (record { state = start_of (content_of image); stopped = None }) limit stop state before after =
+    subst (λ m. Told m limit stop state before after) at_start told in
     record {
       readable = readable;
-      run = λ input is. (state, from_start (start_of (content_of image)) state stop before after told_of input is);
+      run = λ input is. (state, from_start (start_of (content_of image)) state limit stop before after told_of input is);
     }
 
 -- no program of the source ends in a fault
@@ -55,12 +55,9 @@ no_trap program image input n kind pc f e =
     no_fault program input n (ap (λ (x : Shown). x.ending) ((f.faithful input).ends_as_source n Fault ended) ∙ ended)
 
 -- an image that was built never traps, on an input that tells its content
-pub traps_untold : (source image : List ℕ) (kind : TrapKind) (pc : ℕ) (before after : Streams) → IsBuiltFrom source image → RunsImage image (stops.Trap kind pc) before after → before.input ≡ None
-traps_untold source image kind pc before after b r = by_input before.input refl
+pub traps_untold : (source image : List ℕ) (limit : ℕ) (kind : TrapKind) (pc : ℕ) (before after : Streams) → IsBuiltFrom source image → RunsImage image limit (stops.Trap kind pc) before after → before.input ≡ None
+traps_untold source image limit kind pc before after b r = by_input before.input refl
   where
     by_input : (i : Option (List ℕ)) → before.input ≡ i → before.input ≡ None
     by_input None e = e
-    by_input (Some input) e = absurd (no_trap b.program image input run_limit kind pc b.faithful (r.run input e).1.0)
-
-pub trapped : (held : Option (List ℕ → Option (List ℕ))) (name image : List ℕ) (kind : TrapKind) (pc : ℕ) (before after : Streams) → Went held name image (stops.Trap kind pc) before after → (before.input ≡ None) × Went held name image (stops.Trap kind pc) before after
-trapped held name image kind pc before after w = (traps_untold w.source image kind pc before after w.built w.run, w)
+    by_input (Some input) e = absurd (no_trap b.program image input limit kind pc b.faithful (r.run input e).1.0)

@@ -1,6 +1,8 @@
 pub mod Accepted
 pub mod Code
-pub mod Command
+pub mod Commanded
+pub mod Counting
+pub mod Doing
 pub mod Faithful
 pub mod Lexing
 pub mod Meaning
@@ -9,4 +11,3 @@ pub mod Part
 pub mod Source
 pub mod Spelling
 pub mod Tokens
-pub mod Top

@@ -1,6 +1,7 @@
 -- The exit status of each outcome, and the tool's own line for it.
 use Rattle.std.specs.Prelude.{ℕ, ◌+◌, ◌/◌, ◌%◌, nat_lt, ◌==◌, if◌then◌else◌, List, [], ◌∷◌, ◌++◌, take, drop, codes, decimal}
 use Rattle.std.specs.List.{prefix_len}
+use Rattle.elf_image.specs.Tests.{fault_number}
 use Rattle.rv_sim.specs.declared.trap.TrapKind.{TrapKind}
 use Rattle.rv_sim.specs.declared.trap.TrapKind.TheVariants.{Illegal, Access, Jump, Break, Call}
 use Rattle.sbcets_core.specs.declared.refusal.Counted.TheVariants.{Source}
@@ -9,11 +10,12 @@ use Rattle.sbcets_core.specs.declared.refusal.SourceRefusal.TheVariants.{Lex, Un
 use Rattle.sbcets_core.specs.declared.refusal.SourceRefusal.TheVariants as refusals
 use Rattle.sbcets_core.specs.declared.outcome.ReadFault.TheVariants.{Failed, TooLong}
 use Rattle.sbcets_core.specs.declared.outcome.Outcome.{Outcome}
-use Rattle.sbcets_core.specs.declared.outcome.Outcome.TheVariants.{Exited, Usage, WriteFault, InputFault, Memory, Limit, Refused, Trap}
+use Rattle.sbcets_core.specs.declared.outcome.Outcome.TheVariants.{Exited, Built, Usage, WriteFault, InputFault, Memory, Limit, Refused, ImageRefused, Trap}
 use Rattle.sbcets_core.specs.declared.outcome.Outcome.TheVariants as outcomes
 
 abbrev pub status_of : Outcome → ℕ
 status_of (Exited code) = code
+status_of Built = 0
 status_of Usage = 101
 status_of (outcomes.ReadFault fault) = 102
 status_of WriteFault = 103
@@ -21,11 +23,16 @@ status_of InputFault = 104
 status_of Memory = 105
 status_of (Limit n) = 106
 status_of (Refused refusal) = 110
+status_of (ImageRefused fault) = 111
 status_of (Trap kind pc) = 112
 
 -- the largest source that is read, in bytes
 abbrev pub max_source : ℕ
 max_source = 1048576
+
+-- the largest image that is read, in bytes
+abbrev pub max_image_file : ℕ
+max_image_file = 67108864
 
 -- A number in lower-case hexadecimal: its sixteen digits without the zeros in front, the last digit apart.
 abbrev pub hexadecimal_digit : ℕ → ℕ
@@ -74,12 +81,14 @@ refusal_line refusals.Memory = plain_line (codes "out of memory")
 -- the tool's own line for an outcome, empty where there is none
 abbrev pub tool_line : Outcome → List ℕ
 tool_line (Exited code) = []
+tool_line Built = []
 tool_line WriteFault = []
 tool_line Usage = plain_line (codes "usage")
 tool_line (outcomes.ReadFault Failed) = plain_line (codes "cannot read")
-tool_line (outcomes.ReadFault (TooLong n)) = numbered_line (codes "file of more than ") max_source (codes " bytes")
+tool_line (outcomes.ReadFault (TooLong n max)) = numbered_line (codes "file of more than ") max (codes " bytes")
 tool_line InputFault = plain_line (codes "cannot read input")
 tool_line Memory = plain_line (codes "out of memory")
 tool_line (Limit n) = numbered_line (codes "limit of ") n (codes " instructions")
 tool_line (Refused refusal) = refusal_line refusal
+tool_line (ImageRefused fault) = numbered_line (codes "image fault ") (fault_number fault) []
 tool_line (Trap kind pc) = line_of (codes "trap ") (trap_name kind) (codes " at 0x") (hexadecimal pc)

@@ -4,6 +4,7 @@
 //! lines and the meaning are public modules, which become crates of their own as the language grows.
 #![tactic(auto)]
 
+mod commands;
 mod compiler;
 pub mod generator;
 pub mod lexer;
@@ -14,9 +15,7 @@ pub mod program;
 mod refusal;
 mod report;
 pub mod token;
-mod top;
 
 pub use compiler::{MAX_SOURCE, compile};
 pub use outcome::{Outcome, ReadFault};
 pub use refusal::{Counted, SourceRefusal};
-pub use top::sbcets;

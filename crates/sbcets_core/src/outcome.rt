@@ -3,6 +3,7 @@ ghost use Rattle.std.specs.Prelude.{◌≡◌};
 ghost use Rattle.sbcets_core.specs.Outcomes.{status_of};
 
 use crate::refusal::SourceRefusal;
+use elf_image::ImageFault;
 use rv_sim::TrapKind;
 
 /// Why a file was not read.
@@ -10,9 +11,9 @@ use rv_sim::TrapKind;
 pub enum ReadFault {
     /// The outside failed, or there is no file of the name.
     Failed,
-    /// It has so many bytes, more than are read; or more than so many, where the files do not tell
-    /// their content.
-    TooLong(u64),
+    /// It has so many bytes, which is more than `max`, the most that are read. Where the files do not
+    /// tell their content, the number is only above `max`.
+    TooLong { len: u64, max: u64 },
 }
 
 /// What the program comes to.
@@ -20,11 +21,13 @@ pub enum ReadFault {
 pub enum Outcome {
     /// The run ended with this status.
     Exited(u8),
+    /// The image was written, and the line about it.
+    Built,
     /// The words are no command.
     Usage,
-    /// The source was not read.
+    /// The source or the image was not read.
     ReadFault(ReadFault),
-    /// The output or the error output took no more.
+    /// The image file, the output or the error output took no more.
     WriteFault,
     /// The input failed.
     InputFault,
@@ -34,8 +37,10 @@ pub enum Outcome {
     Limit(u64),
     /// The source was refused.
     Refused(SourceRefusal),
-    /// The run met a trap of the machine at this pc. With an input that tells its content it never
-    /// does, since the image is faithful.
+    /// The image was refused: the first of its tests that fails.
+    ImageRefused(ImageFault),
+    /// The run met a trap of the machine at this pc. An image that was built here never does, on an
+    /// input that tells its content.
     Trap { kind: TrapKind, pc: u64 },
 }
 
@@ -46,6 +51,7 @@ impl Outcome {
     {
         match *self {
             Outcome::Exited(code) => code,
+            Outcome::Built => 0,
             Outcome::Usage => 101,
             Outcome::ReadFault(_) => 102,
             Outcome::WriteFault => 103,
@@ -53,6 +59,7 @@ impl Outcome {
             Outcome::Memory => 105,
             Outcome::Limit(_) => 106,
             Outcome::Refused(_) => 110,
+            Outcome::ImageRefused(_) => 111,
             Outcome::Trap { .. } => 112,
         }
     }

@@ -5,7 +5,6 @@ ghost use Rattle.sb_outside.specs.Content.{gained, GainsPart};
 ghost use Rattle.sb_outside.specs.Faults.{CountsFaults};
 ghost use Rattle.sbcets_core.specs.Outcomes.{tool_line, refusal_line, trap_name, line_of, plain_line, numbered_line, hexadecimal, sixteen_digits, zeros_in_front, digit_at, hexadecimal_digit};
 
-use crate::compiler::MAX_SOURCE;
 use crate::outcome::{Outcome, ReadFault};
 use crate::refusal::{Counted, SourceRefusal};
 use itoa::Buffer;
@@ -19,16 +18,19 @@ pub fn report<S: Sink>(sink: &mut S, outcome: &Outcome) -> Result<(), Failed>
     ensures cause { CountsFaults (S.faults sink.old) (S.faults sink.new) result }
 {
     match *outcome {
-        Outcome::Exited(_) | Outcome::WriteFault => Ok(()),
+        Outcome::Exited(_) | Outcome::Built | Outcome::WriteFault => Ok(()),
         Outcome::Usage => put_plain(sink, b"usage"),
         Outcome::ReadFault(ReadFault::Failed) => put_plain(sink, b"cannot read"),
-        Outcome::ReadFault(ReadFault::TooLong(_)) => {
-            put_numbered(sink, b"file of more than ", MAX_SOURCE, b" bytes")
+        Outcome::ReadFault(ReadFault::TooLong { max, .. }) => {
+            put_numbered(sink, b"file of more than ", max, b" bytes")
         }
         Outcome::InputFault => put_plain(sink, b"cannot read input"),
         Outcome::Memory => put_plain(sink, b"out of memory"),
         Outcome::Limit(n) => put_numbered(sink, b"limit of ", n, b" instructions"),
         Outcome::Refused(refusal) => report_refusal(sink, refusal),
+        Outcome::ImageRefused(fault) => {
+            put_numbered(sink, b"image fault ", u64::from(fault.number()), b"")
+        }
         Outcome::Trap { kind, pc } => report_trap(sink, kind, pc),
     }
 }
@@ -112,8 +114,8 @@ fn put_line<S: Sink>(sink: &mut S, a: &[u8], b: &[u8], c: &[u8], d: &[u8]) -> Re
     put_pieces(sink, &[b"sbcets: error: ", a, b, c, d, b"\n"])
 }
 
-// Puts pieces one after another. Where one fails, a part of the whole came in.
-fn put_pieces<S: Sink>(sink: &mut S, pieces: &[&[u8]]) -> Result<(), Failed>
+/// Puts pieces one after another. Where one fails, a part of the whole came in.
+pub(crate) fn put_pieces<S: Sink>(sink: &mut S, pieces: &[&[u8]]) -> Result<(), Failed>
     ensures ok { OnOk result (S.taken sink.new ≡ gained (S.taken sink.old) (flat_map (λ p. p.now) pieces.now)) }
     ensures err { OnErr result (GainsPart (S.taken sink.old) (S.taken sink.new) (flat_map (λ p. p.now) pieces.now)) }
     ensures cause { CountsFaults (S.faults sink.old) (S.faults sink.new) result }

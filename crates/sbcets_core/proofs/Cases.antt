@@ -1,0 +1,138 @@
+-- The outcomes of the commands, case by case.
+use Rattle.std.proofs.Common.{Ok, Err, ◌≡◌, ◌≤◌, ◌⊎◌, ℕ, List, [], Option, Some, None, refl, sym, ap, ◌∙◌, inl, inr, ⊎_elim, subst, arith}
+use Rattle.sb_outside.specs.declared.source.Failed.{Failed}
+use Rattle.sb_outside.specs.Content.{Writes}
+use Rattle.sb_outside.specs.Faults.{Rose}
+use Rattle.rv_sim.specs.declared.stop.Stop.{Stop}
+use Rattle.rv_sim.specs.declared.stop.Stop.TheVariants as stops
+use Rattle.rv_sim.specs.Seen.{Rises, CountsInput, CountsOutput}
+use Rattle.sbcets_core.specs.declared.outcome.ReadFault.TheVariants.{TooLong}
+use Rattle.sbcets_core.specs.declared.outcome.ReadFault.TheVariants as reads
+use Rattle.sbcets_core.specs.declared.outcome.Outcome.{Outcome}
+use Rattle.sbcets_core.specs.declared.outcome.Outcome.TheVariants.{Exited, Built, Usage, WriteFault, InputFault, Memory, Limit, Refused, ImageRefused, Trap}
+use Rattle.sbcets_core.specs.declared.outcome.Outcome.TheVariants as outcomes
+use Rattle.sbcets_core.specs.Outcomes.{max_source, max_image_file}
+use Rattle.sbcets_core.specs.Counting.{Counts, CommandCounts}
+use Rattle.sbcets_core.specs.Doing.{Outside, DoesNothing, Went, RanFile, Goes, Runs, Builds, IsUnread, IsUnbuilt, IsBuiltOf, ReadCounts, RunsImage, outcome_of}
+use Rattle.sbcets_core.proofs.Running.{traps_untold}
+
+-- a command that got nothing does nothing
+pub unbuilt_goes : (name : List ℕ) (limit : ℕ) (outcome : Outcome) (image : List ℕ) (before after : Outside) → DoesNothing image before after → IsUnbuilt name outcome before.files → Goes name limit outcome image before after
+unbuilt_goes name limit (outcomes.ReadFault reads.Failed) image before after d u = d
+unbuilt_goes name limit (outcomes.ReadFault (TooLong n most)) image before after d u = (u, d)
+unbuilt_goes name limit Memory image before after d u = d
+unbuilt_goes name limit (Refused refusal) image before after d u = (u, d)
+unbuilt_goes name limit (Exited code) image before after d u = absurd u
+unbuilt_goes name limit Built image before after d u = absurd u
+unbuilt_goes name limit Usage image before after d u = absurd u
+unbuilt_goes name limit WriteFault image before after d u = absurd u
+unbuilt_goes name limit InputFault image before after d u = absurd u
+unbuilt_goes name limit (Limit n) image before after d u = absurd u
+unbuilt_goes name limit (ImageRefused fault) image before after d u = absurd u
+unbuilt_goes name limit (Trap kind pc) image before after d u = absurd u
+
+pub unbuilt_builds : (name target : List ℕ) (outcome : Outcome) (image : List ℕ) (before after : Outside) → DoesNothing image before after → IsUnbuilt name outcome before.files → Builds name target outcome image before after
+unbuilt_builds name target (outcomes.ReadFault reads.Failed) image before after d u = d
+unbuilt_builds name target (outcomes.ReadFault (TooLong n most)) image before after d u = (u, d)
+unbuilt_builds name target Memory image before after d u = d
+unbuilt_builds name target (Refused refusal) image before after d u = (u, d)
+unbuilt_builds name target (Exited code) image before after d u = absurd u
+unbuilt_builds name target Built image before after d u = absurd u
+unbuilt_builds name target Usage image before after d u = absurd u
+unbuilt_builds name target WriteFault image before after d u = absurd u
+unbuilt_builds name target InputFault image before after d u = absurd u
+unbuilt_builds name target (Limit n) image before after d u = absurd u
+unbuilt_builds name target (ImageRefused fault) image before after d u = absurd u
+unbuilt_builds name target (Trap kind pc) image before after d u = absurd u
+
+pub unwritten_builds : (name target image : List ℕ) (before after : Outside) → IsBuiltOf name image before.files → Writes {T = Unit {0}} before.files after.files target image (Err record {}) → after.streams ≡ before.streams → Builds name target WriteFault [] before after
+unwritten_builds name target image before after b w same =
+    inl (record {
+      into = record {
+        source = b.source;
+        read = b.read;
+        bytes = image;
+        built = b.built;
+        writes = w;
+        input = ap (λ s. s.input) same;
+        errors = ap (λ s. s.errors) same;
+        none = refl;
+      };
+      output = ap (λ s. s.output) same;
+    })
+
+pub unread_runs : (name : List ℕ) (limit : ℕ) (outcome : Outcome) (image : List ℕ) (before after : Outside) → DoesNothing image before after → IsUnread name max_image_file outcome before.files → Runs name limit outcome image before after
+unread_runs name limit (outcomes.ReadFault reads.Failed) image before after d u = d
+unread_runs name limit (outcomes.ReadFault (TooLong n most)) image before after d u = (u, d)
+unread_runs name limit Memory image before after d u = d
+unread_runs name limit (Refused refusal) image before after d u = absurd u
+unread_runs name limit (Exited code) image before after d u = absurd u
+unread_runs name limit Built image before after d u = absurd u
+unread_runs name limit Usage image before after d u = absurd u
+unread_runs name limit WriteFault image before after d u = absurd u
+unread_runs name limit InputFault image before after d u = absurd u
+unread_runs name limit (Limit n) image before after d u = absurd u
+unread_runs name limit (ImageRefused fault) image before after d u = absurd u
+unread_runs name limit (Trap kind pc) image before after d u = absurd u
+
+pub unread_unbuilt : (name : List ℕ) (outcome : Outcome) (held : Option (List ℕ → Option (List ℕ))) → IsUnread name max_source outcome held → IsUnbuilt name outcome held
+unread_unbuilt name (outcomes.ReadFault reads.Failed) held u = u
+unread_unbuilt name (outcomes.ReadFault (TooLong n most)) held u = u
+unread_unbuilt name Memory held u = u
+unread_unbuilt name (Refused refusal) held u = absurd u
+unread_unbuilt name (Exited code) held u = absurd u
+unread_unbuilt name Built held u = absurd u
+unread_unbuilt name Usage held u = absurd u
+unread_unbuilt name WriteFault held u = absurd u
+unread_unbuilt name InputFault held u = absurd u
+unread_unbuilt name (Limit n) held u = absurd u
+unread_unbuilt name (ImageRefused fault) held u = absurd u
+unread_unbuilt name (Trap kind pc) held u = absurd u
+
+-- a run, by how it ended
+went_by : (name : List ℕ) (limit : ℕ) (image : List ℕ) (stop : Stop) (before after : Outside) → Went name limit image stop before after → Goes name limit (outcome_of stop limit) image before after
+went_by name limit image (stops.Exited code) before after w = w
+went_by name limit image (stops.Trap kind pc) before after w = (traps_untold w.source image limit kind pc before.streams after.streams w.built w.run, w)
+went_by name limit image stops.Limit before after w = (refl, w)
+went_by name limit image stops.InputFault before after w = w
+went_by name limit image stops.OutputFault before after w = w
+
+pub went_goes : (name : List ℕ) (limit : ℕ) (image : List ℕ) (stop : Stop) (before after : Outside) → IsBuiltOf name image before.files → RunsImage image limit stop before.streams after.streams → after.files ≡ before.files → Goes name limit (outcome_of stop limit) image before after
+went_goes name limit image stop before after b r files =
+    went_by name limit image stop before after (record { source = b.source; read = b.read; built = b.built; run = r; files = files })
+
+pub ran_runs : (name : List ℕ) (limit : ℕ) (image : List ℕ) (stop : Stop) (before after : Outside) → RanFile name limit stop image before after → Runs name limit (outcome_of stop limit) image before after
+ran_runs name limit image (stops.Exited code) before after r = r
+ran_runs name limit image (stops.Trap kind pc) before after r = r
+ran_runs name limit image stops.Limit before after r = (refl, r)
+ran_runs name limit image stops.InputFault before after r = r
+ran_runs name limit image stops.OutputFault before after r = r
+
+-- the counts of a command that got nothing
+pub unread_counts : (name : List ℕ) (max : ℕ) (outcome : Outcome) (held : Option (List ℕ → Option (List ℕ))) (before after : Counts) → after ≡ record before { reads = after.reads } → IsUnread name max outcome held → ReadCounts outcome before.reads after.reads → CommandCounts outcome before after
+unread_counts name max (outcomes.ReadFault reads.Failed) held before after same u c = (same, c)
+unread_counts name max (outcomes.ReadFault (TooLong n most)) held before after same u c = same ∙ ap (λ r. record before { reads = r }) c
+unread_counts name max Memory held before after same u c = same ∙ ap (λ r. record before { reads = r }) c
+unread_counts name max (Refused refusal) held before after same u c = absurd u
+unread_counts name max (Exited code) held before after same u c = absurd u
+unread_counts name max Built held before after same u c = absurd u
+unread_counts name max Usage held before after same u c = absurd u
+unread_counts name max WriteFault held before after same u c = absurd u
+unread_counts name max InputFault held before after same u c = absurd u
+unread_counts name max (Limit n) held before after same u c = absurd u
+unread_counts name max (ImageRefused fault) held before after same u c = absurd u
+unread_counts name max (Trap kind pc) held before after same u c = absurd u
+
+pub unbuilt_counts : (name : List ℕ) (outcome : Outcome) (held : Option (List ℕ → Option (List ℕ))) (before after : Counts) → after ≡ record before { reads = after.reads } → IsUnbuilt name outcome held → ReadCounts outcome before.reads after.reads → CommandCounts outcome before after
+unbuilt_counts name (outcomes.ReadFault reads.Failed) held before after same u c = (same, c)
+unbuilt_counts name (outcomes.ReadFault (TooLong n most)) held before after same u c = same ∙ ap (λ r. record before { reads = r }) c
+unbuilt_counts name Memory held before after same u c = same ∙ ap (λ r. record before { reads = r }) c
+unbuilt_counts name (Refused refusal) held before after same u c = same ∙ ap (λ r. record before { reads = r }) c
+unbuilt_counts name (Exited code) held before after same u c = absurd u
+unbuilt_counts name Built held before after same u c = absurd u
+unbuilt_counts name Usage held before after same u c = absurd u
+unbuilt_counts name WriteFault held before after same u c = absurd u
+unbuilt_counts name InputFault held before after same u c = absurd u
+unbuilt_counts name (Limit n) held before after same u c = absurd u
+unbuilt_counts name (ImageRefused fault) held before after same u c = absurd u
+unbuilt_counts name (Trap kind pc) held before after same u c = absurd u

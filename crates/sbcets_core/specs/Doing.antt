@@ -1,0 +1,195 @@
+-- What each command comes to, and what it leaves outside, its tool line apart.
+use Rattle.std.specs.Prelude.{◌≡◌, ◌⊎◌, ℕ, ◌<◌, ◌≤◌, List, [], ◌++◌, length, Option, Some, None, Result, Ok, Err, IfSome, codes, decimal}
+use Rattle.sb_outside.specs.declared.source.Failed.{Failed}
+use Rattle.sb_outside.specs.Content.{gained, GainsPart, Writes}
+use Rattle.sb_outside.specs.Faults.{Rose}
+use Rattle.elf_image.specs.declared.fault.ImageFault.{ImageFault}
+use Rattle.elf_image.specs.Tests.{image_fault}
+use Rattle.elf_image.specs.Layout.{content_of}
+use Rattle.rv_sim.specs.declared.stop.Stop.{Stop}
+use Rattle.rv_sim.specs.declared.stop.Stop.TheVariants as stops
+use Rattle.rv_sim.specs.State.{MachineState}
+use Rattle.rv_sim.specs.Seen.{IsRun}
+use Rattle.rv_sim.specs.Start.{start_of}
+use Rattle.rv_sim.specs.Behaviour.{begun}
+use Rattle.sbcets_core.specs.declared.refusal.SourceRefusal.{SourceRefusal}
+use Rattle.sbcets_core.specs.declared.outcome.ReadFault.{ReadFault}
+use Rattle.sbcets_core.specs.declared.outcome.ReadFault.TheVariants.{TooLong}
+use Rattle.sbcets_core.specs.declared.outcome.ReadFault.TheVariants as reads
+use Rattle.sbcets_core.specs.declared.outcome.Outcome.{Outcome}
+use Rattle.sbcets_core.specs.declared.outcome.Outcome.TheVariants.{Exited, Built, Usage, WriteFault, InputFault, Memory, Limit, Refused, ImageRefused, Trap}
+use Rattle.sbcets_core.specs.declared.outcome.Outcome.TheVariants as outcomes
+use Rattle.sbcets_core.specs.Source.{SourceProgram}
+use Rattle.sbcets_core.specs.Outcomes.{max_source, max_image_file}
+use Rattle.sbcets_core.specs.Accepted.{accepted, IsBuiltFrom}
+
+-- what the files hold, by their names, where they tell it
+abbrev pub Held : Type 0
+Held = Option (List ℕ → Option (List ℕ))
+
+-- what the streams tell: the rest of the input, and what the output and the error output have taken
+pub record Streams : Type 0 where
+  pub input : Option (List ℕ)
+  pub output : Option (List ℕ)
+  pub errors : Option (List ℕ)
+
+-- all that is outside
+pub record Outside : Type 0 where
+  pub files : Option (List ℕ → Option (List ℕ))
+  pub streams : Streams
+
+-- the file of this name holds these bytes, where the files tell it
+abbrev pub Holds : Held → List ℕ → List ℕ → Type 0
+Holds held name bytes = IfSome held (λ files. files name ≡ Some bytes)
+
+-- nothing was built to be handed back, and nothing outside changed
+pub record DoesNothing (image : List ℕ) (before after : Outside) : Type 0 where
+  pub none : image ≡ []
+  pub same : after ≡ before
+
+-- The run of the image on the input, at the limit, ended so, and left the streams so. (An input that does not tell its
+-- content claims nothing; a sink that does not stays untold.)
+pub record RunsImage (image : List ℕ) (limit : ℕ) (stop : Stop) (before after : Streams) : Type 0 where
+  pub readable : image_fault image ≡ None
+  pub run : (input : List ℕ) → before.input ≡ Some input →
+    (state : MachineState) × IsRun before.output before.errors stop limit (begun (start_of (content_of image)) input) state after.input after.output after.errors
+
+-- a file of this name was not read, since it has n bytes, more than max
+pub record IsTooLong (name : List ℕ) (max n most : ℕ) (held : Option (List ℕ → Option (List ℕ))) : Type 0 where
+  pub most_is : most ≡ max
+  pub more : max < n
+  pub length_is : IfSome held (λ files. IfSome (files name) (λ bytes. length bytes ≡ n))
+
+-- GO. A source was read, is accepted, and the image that was built from it ran
+pub record Went (name : List ℕ) (limit : ℕ) (image : List ℕ) (stop : Stop) (before after : Outside) : Type 0 where
+  pub source : List ℕ
+  pub read : Holds before.files name source
+  pub built : IsBuiltFrom source image
+  pub run : RunsImage image limit stop before.streams after.streams
+  pub files : after.files ≡ before.files
+
+-- a source was read and refused
+pub record RefusesSource (name : List ℕ) (refusal : SourceRefusal) (held : Option (List ℕ → Option (List ℕ))) : Type 0 where
+  pub source : List ℕ
+  pub read : Holds held name source
+  pub refused : accepted source ≡ Err refusal
+
+abbrev pub Goes : (name : List ℕ) (limit : ℕ) → Outcome → List ℕ → Outside → Outside → Type 0
+Goes name limit (Exited code) image before after = Went name limit image (stops.Exited code) before after
+Goes name limit (Limit n) image before after = (n ≡ limit) × Went name limit image stops.Limit before after
+Goes name limit WriteFault image before after = Went name limit image stops.OutputFault before after
+Goes name limit InputFault image before after = Went name limit image stops.InputFault before after
+Goes name limit (Trap kind pc) image before after = (before.streams.input ≡ None) × Went name limit image (stops.Trap kind pc) before after
+Goes name limit (Refused refusal) image before after = RefusesSource name refusal before.files × DoesNothing image before after
+Goes name limit (outcomes.ReadFault reads.Failed) image before after = DoesNothing image before after
+Goes name limit (outcomes.ReadFault (TooLong n most)) image before after = IsTooLong name max_source n most before.files × DoesNothing image before after
+Goes name limit Memory image before after = DoesNothing image before after
+Goes name limit Usage image before after = ⊥
+Goes name limit Built image before after = ⊥
+Goes name limit (ImageRefused fault) image before after = ⊥
+
+-- RUN. An image was read and ran
+pub record RanFile (name : List ℕ) (limit : ℕ) (stop : Stop) (image : List ℕ) (before after : Outside) : Type 0 where
+  pub bytes : List ℕ
+  pub read : Holds before.files name bytes
+  pub run : RunsImage bytes limit stop before.streams after.streams
+  pub files : after.files ≡ before.files
+  pub none : image ≡ []
+
+-- an image was read and refused: this test is the first that fails
+pub record RefusesImage (name : List ℕ) (fault : ImageFault) (held : Option (List ℕ → Option (List ℕ))) : Type 0 where
+  pub bytes : List ℕ
+  pub read : Holds held name bytes
+  pub refused : image_fault bytes ≡ Some fault
+
+abbrev pub Runs : (name : List ℕ) (limit : ℕ) → Outcome → List ℕ → Outside → Outside → Type 0
+Runs name limit (Exited code) image before after = RanFile name limit (stops.Exited code) image before after
+Runs name limit (Limit n) image before after = (n ≡ limit) × RanFile name limit stops.Limit image before after
+Runs name limit WriteFault image before after = RanFile name limit stops.OutputFault image before after
+Runs name limit InputFault image before after = RanFile name limit stops.InputFault image before after
+Runs name limit (Trap kind pc) image before after = RanFile name limit (stops.Trap kind pc) image before after
+Runs name limit (ImageRefused fault) image before after = RefusesImage name fault before.files × DoesNothing image before after
+Runs name limit (outcomes.ReadFault reads.Failed) image before after = DoesNothing image before after
+Runs name limit (outcomes.ReadFault (TooLong n most)) image before after = IsTooLong name max_image_file n most before.files × DoesNothing image before after
+Runs name limit Memory image before after = DoesNothing image before after
+Runs name limit Usage image before after = ⊥
+Runs name limit Built image before after = ⊥
+Runs name limit (Refused refusal) image before after = ⊥
+
+-- BUILD. The line that is printed for an image with so many checks, of which so many were dropped
+unfoldable pub built_line : (checks dropped : ℕ) → List ℕ
+built_line checks dropped = decimal checks ++ (codes " checks, " ++ (decimal dropped ++ codes " dropped\n"))
+
+-- how a write of a file ended
+abbrev pub Written : Type 0
+Written = Result (Unit {0}) Failed
+
+-- a source was read, is accepted, and the file now holds the image that was built from it, or a part of that
+pub record BuiltInto (name target : List ℕ) (written : Result (Unit {0}) Failed) (image : List ℕ) (before after : Outside) : Type 0 where
+  pub source : List ℕ
+  pub read : Holds before.files name source
+  pub bytes : List ℕ
+  pub built : IsBuiltFrom source bytes
+  pub writes : Writes before.files after.files target bytes written
+  pub input : after.streams.input ≡ before.streams.input
+  pub errors : after.streams.errors ≡ before.streams.errors
+  pub none : image ≡ []
+
+-- the file's write failed, and nothing was printed
+pub record FileFails (name target : List ℕ) (image : List ℕ) (before after : Outside) : Type 0 where
+  pub into : BuiltInto name target (Err record {}) image before after
+  pub output : after.streams.output ≡ before.streams.output
+
+-- the file holds the image, and the line was printed in part
+pub record LineFails (name target : List ℕ) (image : List ℕ) (before after : Outside) : Type 0 where
+  pub into : BuiltInto name target (Ok tt) image before after
+  pub output : GainsPart before.streams.output after.streams.output (built_line 0 0)
+
+abbrev pub Builds : (name target : List ℕ) → Outcome → List ℕ → Outside → Outside → Type 0
+Builds name target Built image before after =
+    BuiltInto name target (Ok tt) image before after × (after.streams.output ≡ gained before.streams.output (built_line 0 0))
+Builds name target WriteFault image before after = FileFails name target image before after ⊎ LineFails name target image before after
+Builds name target (Refused refusal) image before after = RefusesSource name refusal before.files × DoesNothing image before after
+Builds name target (outcomes.ReadFault reads.Failed) image before after = DoesNothing image before after
+Builds name target (outcomes.ReadFault (TooLong n most)) image before after = IsTooLong name max_source n most before.files × DoesNothing image before after
+Builds name target Memory image before after = DoesNothing image before after
+Builds name target Usage image before after = ⊥
+Builds name target (Exited code) image before after = ⊥
+Builds name target (Limit n) image before after = ⊥
+Builds name target InputFault image before after = ⊥
+Builds name target (ImageRefused fault) image before after = ⊥
+Builds name target (Trap kind pc) image before after = ⊥
+
+-- the outcome of a run
+abbrev pub outcome_of : Stop → ℕ → Outcome
+outcome_of (stops.Exited code) limit = Exited code
+outcome_of (stops.Trap kind pc) limit = Trap kind pc
+outcome_of stops.Limit limit = Limit limit
+outcome_of stops.InputFault limit = InputFault
+outcome_of stops.OutputFault limit = WriteFault
+
+-- the outcomes of a command that got no bytes of a file
+abbrev pub IsUnread : (name : List ℕ) (max : ℕ) → Outcome → Held → Type 0
+IsUnread name max (outcomes.ReadFault reads.Failed) held = Unit {0}
+IsUnread name max (outcomes.ReadFault (TooLong n most)) held = IsTooLong name max n most held
+IsUnread name max Memory held = Unit {0}
+IsUnread name max outcome held = ⊥
+
+-- the outcomes of a command that got no image of a source
+abbrev pub IsUnbuilt : (name : List ℕ) → Outcome → Held → Type 0
+IsUnbuilt name (outcomes.ReadFault reads.Failed) held = Unit {0}
+IsUnbuilt name (outcomes.ReadFault (TooLong n most)) held = IsTooLong name max_source n most held
+IsUnbuilt name Memory held = Unit {0}
+IsUnbuilt name (Refused refusal) held = RefusesSource name refusal held
+IsUnbuilt name outcome held = ⊥
+
+-- an image that was built from the source of this name
+pub record IsBuiltOf (name image : List ℕ) (held : Option (List ℕ → Option (List ℕ))) : Type 0 where
+  pub source : List ℕ
+  pub read : Holds held name source
+  pub built : IsBuiltFrom source image
+
+-- the counts of the files beside a command that got nothing: reads rise with their own fault alone
+abbrev pub ReadCounts : Outcome → ℕ → ℕ → Type 0
+ReadCounts (outcomes.ReadFault reads.Failed) before after = Rose before after
+ReadCounts outcome before after = after ≡ before

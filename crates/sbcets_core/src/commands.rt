@@ -1,0 +1,216 @@
+//! What the commands do, the tool's own line apart.
+ghost use Rattle.std.specs.Prelude.{◌≡◌, ◌≤◌, ◌++◌, [], None, Some, length, decimal, IfOk, IfErr, OnErr, OnOk, ℕ, List, Option};
+ghost use Rattle.sb_outside.specs.Content.{gained, GainsPart};
+ghost use Rattle.sb_outside.specs.Faults.{CountsFaults};
+ghost use Rattle.elf_image.specs.Tests.{Fails, image_fault};
+ghost use Rattle.rv_sim.specs.Seen.{CountsInput, CountsOutput};
+ghost use Rattle.sbcets_core.specs.Doing.{Outside, Goes, Runs, Builds, Holds, IsUnread, IsUnbuilt, IsBuiltOf, ReadCounts, RunsImage, outcome_of, built_line};
+ghost use Rattle.sbcets_core.specs.Counting.{CommandCounts};
+
+use crate::compiler::{MAX_SOURCE, compile};
+use crate::outcome::{Outcome, ReadFault};
+use crate::refusal::SourceRefusal;
+use crate::report::put_pieces;
+use elf_image::{Image, ReadError};
+use itoa::Buffer;
+use rv_sim::{Machine, Stop};
+use sb_outside::{Failed, FileFault, Files, Sink, Source};
+use std::alloc::Global;
+
+// The largest image that is read, in bytes.
+const MAX_IMAGE: u64 = 67_108_864;
+
+/// `go`: reads a source, compiles it, and runs the image, at most `limit` instructions of it.
+#[tactic(auto, using(crate::proofs::Cases::unbuilt_goes, crate::proofs::Cases::went_goes, crate::proofs::Cases::unbuilt_counts))]
+pub fn go<F: Files, I: Source, O: Sink, E: Sink>(
+    alloc: Global,
+    name: &str,
+    limit: u64,
+    files: &mut F,
+    input: &mut I,
+    output: &mut O,
+    errors: &mut E,
+) -> (Outcome, Vec<u8>)
+    ensures goes { Goes name.now limit result.0 result.1.items
+        (record { files = F.held files.old; streams = record { input = I.rest input.old; output = O.taken output.old; errors = E.taken errors.old } })
+        (record { files = F.held files.new; streams = record { input = I.rest input.new; output = O.taken output.new; errors = E.taken errors.new } }) }
+    ensures counts { CommandCounts result.0
+        (record { reads = F.read_faults files.old; writes = F.write_faults files.old; input = I.faults input.old; output = O.faults output.old; errors = E.faults errors.old })
+        (record { reads = F.read_faults files.new; writes = F.write_faults files.new; input = I.faults input.new; output = O.faults output.new; errors = E.faults errors.new }) }
+    ensures reads { F.read_faults files.old ≤ F.read_faults files.new }
+    ensures takes { I.faults input.old ≤ I.faults input.new }
+{
+    let image = match built_of(alloc, name, files) {
+        Ok(image) => image,
+        Err(outcome) => return (outcome, Vec::new(alloc)),
+    };
+    match run_image(alloc, &image, limit, input, output, errors) {
+        Ok(stop) => (outcome_of(stop, limit), image),
+        Err(ReadError::Memory) => (Outcome::Memory, Vec::new(alloc)),
+        Err(ReadError::Fault(_)) => unreachable!(),
+    }
+}
+
+/// `run`: reads an image and runs it, at most `limit` instructions of it.
+#[tactic(auto, using(crate::proofs::Cases::unread_runs, crate::proofs::Cases::ran_runs, crate::proofs::Cases::unread_counts))]
+pub fn run<F: Files, I: Source, O: Sink, E: Sink>(
+    alloc: Global,
+    name: &str,
+    limit: u64,
+    files: &mut F,
+    input: &mut I,
+    output: &mut O,
+    errors: &mut E,
+) -> Outcome
+    ensures runs { Runs name.now limit result []
+        (record { files = F.held files.old; streams = record { input = I.rest input.old; output = O.taken output.old; errors = E.taken errors.old } })
+        (record { files = F.held files.new; streams = record { input = I.rest input.new; output = O.taken output.new; errors = E.taken errors.new } }) }
+    ensures counts { CommandCounts result
+        (record { reads = F.read_faults files.old; writes = F.write_faults files.old; input = I.faults input.old; output = O.faults output.old; errors = E.faults errors.old })
+        (record { reads = F.read_faults files.new; writes = F.write_faults files.new; input = I.faults input.new; output = O.faults output.new; errors = E.faults errors.new }) }
+    ensures reads { F.read_faults files.old ≤ F.read_faults files.new }
+    ensures takes { I.faults input.old ≤ I.faults input.new }
+{
+    let image = match read_of(alloc, name, MAX_IMAGE, files) {
+        Ok(image) => image,
+        Err(outcome) => return outcome,
+    };
+    match run_image(alloc, &image, limit, input, output, errors) {
+        Ok(stop) => outcome_of(stop, limit),
+        Err(ReadError::Memory) => Outcome::Memory,
+        Err(ReadError::Fault(fault)) => Outcome::ImageRefused(fault),
+    }
+}
+
+/// `build`: reads a source, compiles it, writes the image into a file, and prints the numbers of
+/// checks, none in this stage.
+#[tactic(auto, using(crate::proofs::Cases::unbuilt_builds, crate::proofs::Cases::unbuilt_counts))]
+pub fn build<F: Files, O: Sink>(
+    alloc: Global,
+    name: &str,
+    target: &str,
+    files: &mut F,
+    output: &mut O,
+) -> Outcome
+    ensures builds { (input errors : Option (List ℕ)) → Builds name.now target.now result []
+        (record { files = F.held files.old; streams = record { input = input; output = O.taken output.old; errors = errors } })
+        (record { files = F.held files.new; streams = record { input = input; output = O.taken output.new; errors = errors } }) }
+    ensures counts { (input errors : ℕ) → CommandCounts result
+        (record { reads = F.read_faults files.old; writes = F.write_faults files.old; input = input; output = O.faults output.old; errors = errors })
+        (record { reads = F.read_faults files.new; writes = F.write_faults files.new; input = input; output = O.faults output.new; errors = errors }) }
+    ensures reads { F.read_faults files.old ≤ F.read_faults files.new }
+{
+    let image = match built_of(alloc, name, files) {
+        Ok(image) => image,
+        Err(outcome) => return outcome,
+    };
+    if let Err(Failed) = files.write(target, &image) {
+        return Outcome::WriteFault;
+    }
+    match put_built_line(output, 0, 0) {
+        Ok(()) => Outcome::Built,
+        Err(_) => Outcome::WriteFault,
+    }
+}
+
+// All the bytes of a file of at most `max`, or the outcome without them.
+fn read_of<F: Files>(
+    alloc: Global,
+    name: &str,
+    max: u64,
+    files: &mut F,
+) -> Result<Vec<u8>, Outcome>
+    ensures read { IfOk result (λ bytes. Holds (F.held files.old) name.now bytes.items) }
+    ensures short { IfOk result (λ bytes. length bytes.items ≤ max) }
+    ensures unread { IfErr result (λ outcome. IsUnread name.now max outcome (F.held files.old)) }
+    ensures files { F.held files.new ≡ F.held files.old }
+    ensures ok_counts { OnOk result (F.read_faults files.new ≡ F.read_faults files.old) }
+    ensures err_counts { IfErr result (λ outcome. ReadCounts outcome (F.read_faults files.old) (F.read_faults files.new)) }
+    ensures writes { F.write_faults files.new ≡ F.write_faults files.old }
+    ensures later { F.read_faults files.old ≤ F.read_faults files.new }
+{
+    match files.read(alloc, name, max) {
+        Ok(bytes) => Ok(bytes),
+        Err(FileFault::Failed) => Err(Outcome::ReadFault(ReadFault::Failed)),
+        Err(FileFault::TooLong(len)) => Err(Outcome::ReadFault(ReadFault::TooLong { len, max })),
+        Err(FileFault::Memory) => Err(Outcome::Memory),
+    }
+}
+
+// The image that is built from the source of a name, or the outcome without it.
+#[tactic(auto, using(crate::proofs::Cases::unread_unbuilt))]
+fn built_of<F: Files>(alloc: Global, name: &str, files: &mut F) -> Result<Vec<u8>, Outcome>
+    ensures built { IfOk result (λ image. IsBuiltOf name.now image.items (F.held files.old)) }
+    ensures unbuilt { IfErr result (λ outcome. IsUnbuilt name.now outcome (F.held files.old)) }
+    ensures files { F.held files.new ≡ F.held files.old }
+    ensures ok_counts { OnOk result (F.read_faults files.new ≡ F.read_faults files.old) }
+    ensures err_counts { IfErr result (λ outcome. ReadCounts outcome (F.read_faults files.old) (F.read_faults files.new)) }
+    ensures writes { F.write_faults files.new ≡ F.write_faults files.old }
+    ensures later { F.read_faults files.old ≤ F.read_faults files.new }
+{
+    let source = match read_of(alloc, name, MAX_SOURCE, files) {
+        Ok(source) => source,
+        Err(outcome) => return Err(outcome),
+    };
+    match compile(alloc, &source) {
+        Ok(image) => Ok(image),
+        Err(SourceRefusal::Memory) => Err(Outcome::Memory),
+        Err(refusal) => Err(Outcome::Refused(refusal)),
+    }
+}
+
+// Runs an image from its start.
+fn run_image<I: Source, O: Sink, E: Sink>(
+    alloc: Global,
+    image: &[u8],
+    limit: u64,
+    input: &mut I,
+    output: &mut O,
+    errors: &mut E,
+) -> Result<Stop, ReadError>
+    ensures ran { IfOk result (λ stop. RunsImage image.now limit stop
+        (record { input = I.rest input.old; output = O.taken output.old; errors = E.taken errors.old })
+        (record { input = I.rest input.new; output = O.taken output.new; errors = E.taken errors.new })) }
+    ensures refused { IfErr result (λ e. Fails e (image_fault image.now)) }
+    ensures input_counts { IfOk result (λ stop. CountsInput (Some stop) (I.faults input.old) (I.faults input.new)) }
+    ensures output_counts { IfOk result (λ stop. CountsOutput (Some stop) (O.faults output.old) (O.faults output.new) (E.faults errors.old) (E.faults errors.new)) }
+    ensures unread { OnErr result (input.new ≡ input.old) }
+    ensures unwritten { OnErr result (output.new ≡ output.old) }
+    ensures silent { OnErr result (errors.new ≡ errors.old) }
+{
+    let image = match Image::read(alloc, image) {
+        Ok(image) => image,
+        Err(error) => return Err(error),
+    };
+    match Machine::load(alloc, &image) {
+        Ok(mut machine) => Ok(machine.run(input, output, errors, limit)),
+        Err(_) => Err(ReadError::Memory),
+    }
+}
+
+// The outcome of a run that ended so, at this limit.
+fn outcome_of(stop: Stop, limit: u64) -> Outcome
+    ensures { result ≡ outcome_of stop limit }
+{
+    match stop {
+        Stop::Exited(code) => Outcome::Exited(code),
+        Stop::Trap { kind, pc } => Outcome::Trap { kind, pc },
+        Stop::Limit => Outcome::Limit(limit),
+        Stop::InputFault => Outcome::InputFault,
+        Stop::OutputFault => Outcome::WriteFault,
+    }
+}
+
+// Prints how many checks an image has, and how many were dropped.
+#[tactic(auto, unfolding(crate::specs::Doing::built_line))]
+fn put_built_line<S: Sink>(sink: &mut S, checks: u64, dropped: u64) -> Result<(), Failed>
+    ensures ok { OnOk result (S.taken sink.new ≡ gained (S.taken sink.old) (built_line checks dropped)) }
+    ensures err { OnErr result (GainsPart (S.taken sink.old) (S.taken sink.new) (built_line checks dropped)) }
+    ensures cause { CountsFaults (S.faults sink.old) (S.faults sink.new) result }
+{
+    let mut first = Buffer::new();
+    let mut second = Buffer::new();
+    let checks = first.format(checks).as_bytes();
+    let dropped = second.format(dropped).as_bytes();
+    put_pieces(sink, &[checks, b" checks, ", dropped, b" dropped\n"])
+}

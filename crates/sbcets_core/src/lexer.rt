@@ -4,8 +4,8 @@ ghost use Rattle.std.specs.List.{prefix_len};
 ghost use Rattle.sbcets_core.specs.Tokens.{is_white_space, is_digit, is_nondigit, is_mark, continues_name, continues_number, decimal_from, constant_of, token_length, tokens, line_after};
 ghost use Rattle.sbcets_core.specs.Lexing.{Lexes};
 
-use crate::line::Line;
 use crate::token::Token;
+use sb_base::Line;
 use std::alloc::Global;
 
 /// The first place of a text where no token stands: its byte, counted from 0, and its line.

@@ -1,14 +1,13 @@
 //! The compiler, and the call that does all that the program does.
 //!
-//! So far it compiles the first path: `int main(void){ putchar(N); .. return N; }`. The lexer, the
-//! lines and the meaning are public modules, which become crates of their own as the language grows.
+//! So far it compiles the first path: `int main(void){ putchar(N); .. return N; }`. The lexer
+//! and the meaning are public modules, which become crates of their own as the language grows.
 #![tactic(auto)]
 
 mod commands;
 mod compiler;
 pub mod generator;
 pub mod lexer;
-pub mod line;
 mod outcome;
 pub mod part;
 pub mod program;

@@ -1,5 +1,5 @@
 //! Tokens (C99 6.4).
-use crate::line::Line;
+use sb_base::Line;
 use std::marker::Model;
 
 /// A token: the bytes of the text that spell it, and the line on which they stand.

@@ -1,9 +1,9 @@
 // The first path through `sbcets`: every outcome, every line of the tool's own, every fault of the outside in turn.
 // Outputs, lines and statuses are those that the documents state (docs/LANGUAGE.md, docs/FORMATS.md).
 use crate::ROOM;
+use sb_base::Line;
 use sb_outside::{MemFiles, MemSink, MemSource};
 use sbcets_core::lexer::LexFault;
-use sbcets_core::line::Line;
 use sbcets_core::{Counted, Outcome, ReadFault, SourceRefusal, compile, sbcets};
 use std::alloc::Global;
 use std::test::Fail;

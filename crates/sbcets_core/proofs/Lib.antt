@@ -1,4 +1,6 @@
 pub mod Cases
+pub mod Complete
+pub mod Counts
 pub mod Execution
 pub mod Machine
 pub mod Pieces

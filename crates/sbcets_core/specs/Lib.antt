@@ -11,3 +11,4 @@ pub mod Part
 pub mod Source
 pub mod Spelling
 pub mod Tokens
+pub mod Top

@@ -14,7 +14,9 @@ pub mod program;
 mod refusal;
 mod report;
 pub mod token;
+mod top;
 
 pub use compiler::{MAX_SOURCE, compile};
 pub use outcome::{Outcome, ReadFault};
 pub use refusal::{Counted, SourceRefusal};
+pub use top::sbcets;

@@ -1,0 +1,89 @@
+-- What the top call answers, and what it leaves outside.
+use Rattle.std.specs.Prelude.{◌≡◌, ◌⊎◌, ℕ, ◌≤◌, List, length, Option, Some, None, Ok}
+use Rattle.sb_outside.specs.Content.{gained, GainsPart}
+use Rattle.elf_image.specs.Tests.{image_fault}
+use Rattle.sbcets_core.specs.declared.outcome.ReadFault.TheVariants.{TooLong}
+use Rattle.sbcets_core.specs.declared.outcome.ReadFault.TheVariants as reads
+use Rattle.sbcets_core.specs.declared.outcome.Outcome.{Outcome}
+use Rattle.sbcets_core.specs.declared.outcome.Outcome.TheVariants.{Exited, Built, Usage, WriteFault, InputFault, Memory, Limit, Refused, ImageRefused, Trap}
+use Rattle.sbcets_core.specs.declared.outcome.Outcome.TheVariants as outcomes
+use Rattle.sbcets_core.specs.Source.{SourceProgram}
+use Rattle.sbcets_core.specs.Outcomes.{max_source, max_image_file, tool_line}
+use Rattle.sbcets_core.specs.Accepted.{accepted}
+use Rattle.command_line.specs.Asked.{Asked, build, run, go}
+use Rattle.sbcets_core.specs.Doing.{Held, Outside, DoesNothing, Goes, Runs, Builds}
+
+-- What the command comes to, its tool line apart. Words that are no command are Usage, and no others; want of memory may
+-- keep them from being read.
+abbrev pub Does : Option Asked → Outcome → List ℕ → Outside → Outside → Type 0
+Does (Some (go name budgets limit)) outcome image before after = Goes name limit outcome image before after
+Does (Some (run name limit)) outcome image before after = Runs name limit outcome image before after
+Does (Some (build name target budgets)) outcome image before after = Builds name target outcome image before after
+Does None outcome image before after = ((outcome ≡ Usage) ⊎ (outcome ≡ Memory)) × DoesNothing image before after
+
+-- the outside, with this told of the error output
+abbrev pub with_errors : Outside → Option (List ℕ) → Outside
+with_errors outside errors = record outside { streams = record outside.streams { errors = errors } }
+
+-- the command came to the outcome, and then its tool line came in
+pub record AnswersInFull (command : Option Asked) (outcome : Outcome) (image : List ℕ) (before after : Outside) : Type 0 where
+  pub between : Option (List ℕ)
+  pub does : Does command outcome image before (with_errors after between)
+  pub line : after.streams.errors ≡ gained between (tool_line outcome)
+
+-- the command came to some outcome, and then a part of its tool line came in
+pub record AnswersInPart (command : Option Asked) (image : List ℕ) (before after : Outside) : Type 0 where
+  pub outcome : Outcome
+  pub between : Option (List ℕ)
+  pub does : Does command outcome image before (with_errors after between)
+  pub line : GainsPart between after.streams.errors (tool_line outcome)
+
+-- THE ANSWER. A line that cannot be written turns any outcome into WriteFault.
+abbrev pub Answers : Option Asked → Outcome → List ℕ → Outside → Outside → Type 0
+Answers command WriteFault image before after =
+    AnswersInFull command WriteFault image before after ⊎ AnswersInPart command image before after
+Answers command outcome image before after = AnswersInFull command outcome image before after
+
+-- what a run can come to, and a build; the counts tell when a fault may come
+abbrev pub IsOfRun : Outcome → Type 0
+IsOfRun (Exited code) = Unit {0}
+IsOfRun (Limit n) = Unit {0}
+IsOfRun Memory = Unit {0}
+IsOfRun WriteFault = Unit {0}
+IsOfRun InputFault = Unit {0}
+IsOfRun (Trap kind pc) = Unit {0}
+IsOfRun (outcomes.ReadFault reads.Failed) = Unit {0}
+IsOfRun outcome = ⊥
+
+abbrev pub IsOfBuild : Outcome → Type 0
+IsOfBuild Built = Unit {0}
+IsOfBuild Memory = Unit {0}
+IsOfBuild WriteFault = Unit {0}
+IsOfBuild (outcomes.ReadFault reads.Failed) = Unit {0}
+IsOfBuild outcome = ⊥
+
+-- a file that is told, is there, not too long, and an accepted source
+pub record IsAcceptedFile (held : Option (List ℕ → Option (List ℕ))) (name : List ℕ) : Type 0 where
+  pub files : List ℕ → Option (List ℕ)
+  pub told : held ≡ Some files
+  pub source : List ℕ
+  pub there : files name ≡ Some source
+  pub short : length source ≤ max_source
+  pub program : SourceProgram
+  pub accepts : accepted source ≡ Ok program
+
+-- a file that is told, is there, not too long, and a readable image
+pub record IsReadableFile (held : Option (List ℕ → Option (List ℕ))) (name : List ℕ) : Type 0 where
+  pub files : List ℕ → Option (List ℕ)
+  pub told : held ≡ Some files
+  pub image : List ℕ
+  pub there : files name ≡ Some image
+  pub short : length image ≤ max_image_file
+  pub readable : image_fault image ≡ None
+
+-- THE ANSWER IS COMPLETE: nothing but a fault or want of memory keeps a command from its end
+abbrev pub IsComplete : Option Asked → Outcome → Held → Type 0
+IsComplete (Some (go name budgets limit)) outcome held = IsAcceptedFile held name → IsOfRun outcome
+IsComplete (Some (run name limit)) outcome held = IsReadableFile held name → IsOfRun outcome
+IsComplete (Some (build name target budgets)) outcome held = IsAcceptedFile held name → IsOfBuild outcome
+IsComplete None outcome held = Unit {0}

@@ -1,0 +1,117 @@
+//! The call that does all that the program does.
+ghost use Rattle.std.specs.Prelude.{◌≡◌, ◌≤◌, [], None, Some, Err, IfOk};
+ghost use Rattle.command_line.specs.Asked.{asked_of};
+ghost use Rattle.sbcets_core.specs.Commanded.{are_budgets, has_budgets, commanded};
+ghost use Rattle.sbcets_core.specs.Counting.{AnswerCounts, CommandCounts};
+ghost use Rattle.sbcets_core.specs.Top.{Answers, Does, IsComplete};
+
+use crate::commands::{build, go, run};
+use crate::outcome::Outcome;
+use crate::report::report;
+use command_line::{BudgetNumbers, Command, WordsFault, command_of};
+use sb_base::Budgets;
+use sb_outside::{Files, Sink, Source};
+use std::alloc::Global;
+
+/// Does all that the program does. `words` are those after the program's name: `build SRC IMAGE`
+/// compiles the file SRC and leaves the image in the file IMAGE; `run IMAGE` runs an image; `go SRC`
+/// compiles and runs. The bytes that are returned are the image that `go` built and ran, else there
+/// are none.
+#[tactic(auto, using(crate::proofs::Counts::line_counts, crate::proofs::Complete::complete))]
+pub fn sbcets<F: Files, I: Source, O: Sink, E: Sink>(
+    alloc: Global,
+    words: &[String],
+    files: &mut F,
+    input: &mut I,
+    output: &mut O,
+    errors: &mut E,
+) -> (Outcome, Vec<u8>)
+    // What was done, and then the line of its outcome, or a part of the line.
+    ensures answer { Answers (commanded words.now) result.0 result.1.items
+        (record { files = F.held files.old; streams = record { input = I.rest input.old; output = O.taken output.old; errors = E.taken errors.old } })
+        (record { files = F.held files.new; streams = record { input = I.rest input.new; output = O.taken output.new; errors = E.taken errors.new } }) }
+
+    // Which counts of faults rose with which outcome.
+    ensures counts { AnswerCounts result.0
+        (record { reads = F.read_faults files.old; writes = F.write_faults files.old; input = I.faults input.old; output = O.faults output.old; errors = E.faults errors.old })
+        (record { reads = F.read_faults files.new; writes = F.write_faults files.new; input = I.faults input.new; output = O.faults output.new; errors = E.faults errors.new }) }
+
+    // An accepted source is built and runs, and a readable image runs, where nothing fails and memory is there.
+    ensures complete { IsComplete (commanded words.now) result.0 (F.held files.old) }
+{
+    let (outcome, image) = do_command(alloc, words, files, input, output, errors);
+    match report(errors, &outcome) {
+        Ok(()) => (outcome, image),
+        Err(_) => (Outcome::WriteFault, image),
+    }
+}
+
+// Does what the words say, and leaves the tool's own line.
+fn do_command<F: Files, I: Source, O: Sink, E: Sink>(
+    alloc: Global,
+    words: &[String],
+    files: &mut F,
+    input: &mut I,
+    output: &mut O,
+    errors: &mut E,
+) -> (Outcome, Vec<u8>)
+    ensures does { Does (commanded words.now) result.0 result.1.items
+        (record { files = F.held files.old; streams = record { input = I.rest input.old; output = O.taken output.old; errors = E.taken errors.old } })
+        (record { files = F.held files.new; streams = record { input = I.rest input.new; output = O.taken output.new; errors = E.taken errors.new } }) }
+    ensures counts { CommandCounts result.0
+        (record { reads = F.read_faults files.old; writes = F.write_faults files.old; input = I.faults input.old; output = O.faults output.old; errors = E.faults errors.old })
+        (record { reads = F.read_faults files.new; writes = F.write_faults files.new; input = I.faults input.new; output = O.faults output.new; errors = E.faults errors.new }) }
+    ensures reads { F.read_faults files.old ≤ F.read_faults files.new }
+    ensures takes { I.faults input.old ≤ I.faults input.new }
+{
+    match command(alloc, words) {
+        Ok(Command::Build { source, image, .. }) => {
+            (build(alloc, source, image, files, output), Vec::new(alloc))
+        }
+        Ok(Command::Run { image, limit }) => {
+            let outcome = run(alloc, image, limit, files, input, output, errors);
+            (outcome, Vec::new(alloc))
+        }
+        Ok(Command::Go { source, limit, .. }) => {
+            go(alloc, source, limit, files, input, output, errors)
+        }
+        Err(WordsFault::Usage) => (Outcome::Usage, Vec::new(alloc)),
+        Err(WordsFault::Memory) => (Outcome::Memory, Vec::new(alloc)),
+    }
+}
+
+// The command that the words ask for, with budgets in their ranges.
+#[tactic(auto, unfolding(crate::specs::Commanded::commanded))]
+fn command<'a>(alloc: Global, words: &'a [String]) -> Result<Command<'a>, WordsFault>
+    ensures ok { IfOk result (λ command. commanded words.entry.now ≡ Some (asked_of command)) }
+    ensures usage { result ≡ Err WordsFault.Usage → commanded words.entry.now ≡ None }
+{
+    let command = command_of(alloc, words)?;
+    if has_budgets(&command) {
+        Ok(command)
+    } else {
+        Err(WordsFault::Usage)
+    }
+}
+
+fn has_budgets(command: &Command) -> bool
+    ensures { result ≡ has_budgets (asked_of command.now) }
+{
+    match command {
+        Command::Build { budgets, .. } | Command::Go { budgets, .. } => are_budgets(*budgets),
+        Command::Run { .. } => true,
+    }
+}
+
+fn are_budgets(numbers: BudgetNumbers) -> bool
+    ensures { result ≡ are_budgets numbers }
+{
+    let BudgetNumbers {
+        heap,
+        stack,
+        calls,
+        blocks,
+        keys,
+    } = numbers;
+    Budgets::new(heap, stack, calls, blocks, keys).is_ok()
+}

@@ -9,24 +9,24 @@ use itoa::Buffer;
 /// The bytes that a report is given to be put in. The longest has 46.
 pub const REPORT_ROOM: usize = 64;
 
-/// How the run of a source ended: by its own exit, or stopped at a line by a check.
+/// How the run of a source ended: by its own exit, or at a line, where it was stopped or called `abort`.
 #[derive(Clone, Copy, Debug, PartialEq, Eq)]
 pub enum Ending {
     /// `main` returned this value, or `exit` was called with it.
     Exit(i32),
-    /// An access out of the bounds of its object, or through a pointer to none.
+    /// An access out of the bounds of its pointer, or through a pointer that has no object.
     Spatial(Line),
-    /// An access to an object that is live no more.
+    /// A use of an object within its bounds, at a time at which it is no longer live.
     Temporal(Line),
-    /// A call of what is no function of the call's type.
+    /// A call through a pointer that is not a function's own address, or is one of another type.
     BadCall(Line),
-    /// `free` of what is not the start of a live block.
+    /// A call of `free` with what is not the start of an object that `malloc` gave.
     BadFree(Line),
-    /// A division by zero, or one whose quotient has no value in its type.
+    /// A division or a remainder by zero.
     Divide(Line),
-    /// A call for which `calls` or `stack` had no room.
+    /// A call for which the budget `calls` or `stack` had no room.
     Stack(Line),
-    /// Every key was made.
+    /// A call, of a function or of `malloc`, that needed a key where the budget `keys` was used up.
     Keys(Line),
     /// A call of `abort`.
     Abort(Line),

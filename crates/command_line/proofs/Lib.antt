@@ -1,0 +1,4 @@
+pub mod Numbers
+pub mod Plain
+pub mod Matches
+pub mod Whole

@@ -1,0 +1,65 @@
+-- From what clap answers to the command that the words ask for.
+use Rattle.std.proofs.Common.{◌≡◌, ◌≢◌, ◌⊎◌, ◌∙◌, ◌==◌, List, [], ◌∷◌, Option, Some, None, Result, Ok, Err, IfOk, true, cond, length, arith, refl, sym, ap, subst, option_map, option_and_then, inl, inr}
+use Rattle.std.specs.Option.{ok_or}
+use Rattle.std.proofs.lemmas.Bool.Decides.{nat_tests}
+use Rattle.clap.specs.Words.{App, HasKind, HasMatchesOf, IsAmong, Kinds, Text, fault_of, is_simple, is_simple_and_free, kind_of, subcommand_of, subcommand_rows_of}
+use Rattle.clap.specs.declared.error.Error.{Error}
+use Rattle.clap.specs.declared.error.kind.ErrorKind.{ErrorKind}
+use Rattle.clap.specs.declared.error.kind.ErrorKind.TheVariants.{OutOfMemory}
+use Rattle.clap.specs.declared.parser.matches.ArgMatches.{ArgMatches}
+use Rattle.clap.proofs.OnLiterals.{clap_on_literals}
+use Rattle.command_line.specs.Asked.{Asked, asked_of, command_at, command_in}
+use Rattle.command_line.specs.Program.{program}
+use Rattle.command_line.specs.declared.command.Command.{Command}
+use Rattle.command_line.specs.declared.command.WordsFault.{WordsFault}
+use Rattle.command_line.specs.declared.command.WordsFault.TheVariants.{Usage}
+
+-- clap's laws on matches and on kinds of errors hold of the program
+program_is_simple : is_simple program ≡ true
+unfolding program clap_on_literals
+program_is_simple = refl
+
+program_is_free : is_simple_and_free program ≡ true
+unfolding program clap_on_literals
+program_is_free = refl
+
+-- what is asked for, where a parse fails by these kinds
+abbrev where_taken : Kinds → Option Asked → Option Asked
+where_taken kinds asked = cond (length kinds == 0) asked None
+
+not_taken : (kinds : Kinds) (kind : ErrorKind) (asked : Option Asked) → IsAmong kind kinds → where_taken kinds asked ≡ None
+not_taken [] kind asked among = absurd among
+not_taken (k ∷ ks) kind asked among = grind (arith, nat_tests)
+
+-- the command of words that clap takes is that of its matches
+pub taken_is : (app : App) (words : List Text) (matches : ArgMatches) → app ≡ program
+    → (is_simple_and_free app ≡ true → fault_of app words ≡ []) → HasMatchesOf app words matches
+    → option_and_then command_at (subcommand_rows_of matches) ≡ command_in words
+unfolding command_in
+taken_is app words matches same passes found =
+    let none = ap (λ (a : App). fault_of a words) (sym same) ∙ passes (ap is_simple_and_free same ∙ program_is_free) in
+    let rows = (found (ap is_simple same ∙ program_is_simple)).1 ∙ ap (λ (a : App). subcommand_of a words) same in
+    ap (option_and_then command_at) rows ∙ sym (ap (λ (kinds : Kinds). where_taken kinds (option_and_then command_at (subcommand_of program words))) none)
+
+-- and words that clap refuses, but for want of memory, are no command
+pub refused_is : (app : App) (words : List Text) (error : Error) → app ≡ program
+    → (is_simple_and_free app ≡ true → HasKind (fault_of app words) error) → kind_of error ≢ OutOfMemory
+    → command_in words ≡ None
+unfolding command_in
+refused_is app words error same fails other =
+    let among = subst (λ (a : App). HasKind (fault_of a words) error) same (fails (ap is_simple_and_free same ∙ program_is_free)) in
+    elim among [
+      | inl memory ↦ absurd (other memory)
+      | inr kind ↦ not_taken (fault_of program words) (kind_of error) (option_and_then command_at (subcommand_of program words)) kind
+    ]
+
+-- what `ok_or` makes of the command
+pub answered_ok : (found : Option Command) (answer : Result Command WordsFault) (asked : Option Asked) → answer ≡ ok_or found Usage
+    → option_map asked_of found ≡ asked → IfOk answer (λ command. asked ≡ Some (asked_of command))
+answered_ok None answer asked is given = subst (λ r. IfOk r (λ command. asked ≡ Some (asked_of command))) (sym is) tt
+answered_ok (Some command) answer asked is given = subst (λ r. IfOk r (λ command. asked ≡ Some (asked_of command))) (sym is) (sym given)
+
+pub answered_usage : (found : Option Command) (answer : Result Command WordsFault) (asked : Option Asked) → answer ≡ ok_or found Usage
+    → option_map asked_of found ≡ asked → answer ≡ Err Usage → asked ≡ None
+answered_usage None answer asked is given usage = sym given
+answered_usage (Some command) answer asked is given usage = cc

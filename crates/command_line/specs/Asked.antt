@@ -1,0 +1,115 @@
+-- The command that words ask for.
+use Rattle.std.specs.Prelude.{ℕ, ◌^◌, ◌==◌, List, Option, Some, None, codes, length}
+use Rattle.std.specs.Prelude.{if◌then◌else◌, nat_le, option_and_then, option_map}
+use Rattle.std.specs.Str.{bytes_eq}
+use Rattle.clap.specs.Words.{Row, Text, fault_of, first_of, found_of, rows_of, subcommand_of}
+use Rattle.clap.specs.declared.parser.matches.ArgMatches.{ArgMatches}
+use Rattle.command_line.specs.Numbers.{number_in}
+use Rattle.command_line.specs.Program.{program}
+use Rattle.command_line.specs.declared.command.BudgetNumbers.{BudgetNumbers}
+use Rattle.command_line.specs.declared.command.Command.{Command}
+use Rattle.command_line.specs.declared.command.Command.TheVariants.{Build, Run, Go}
+
+-- a command, with the texts of its files' names
+pub data Asked : Type 0 where
+  build : (source image : Text) (budgets : BudgetNumbers) → Asked
+  run : (image : Text) (limit : ℕ) → Asked
+  go : (source : Text) (budgets : BudgetNumbers) (limit : ℕ) → Asked
+
+abbrev pub asked_of : Command → Asked
+asked_of (Build source image budgets) = build source.now image.now budgets
+asked_of (Run image limit) = run image.now limit
+asked_of (Go source budgets limit) = go source.now budgets limit
+
+-- what the options that are left out stand for
+abbrev pub default_budgets : BudgetNumbers
+default_budgets = record {
+  heap = 4194304;
+  stack = 1048576;
+  calls = 4194304;
+  blocks = 16384;
+  keys = 2 ^ 62;
+}
+
+abbrev pub default_limit : ℕ
+default_limit = 1000000000
+
+-- ---- what clap's matches give
+
+-- the rows of the matches
+unfoldable pub rows_in : ArgMatches → List Row
+rows_in matches = rows_of (found_of matches)
+
+-- the value of an operand or an option
+unfoldable pub text_at : Text → List Row → Option Text
+text_at name rows = first_of name rows
+
+abbrev pub number_or : ℕ → Option Text → Option ℕ
+number_or default None = Some default
+number_or default (Some text) = number_in text
+
+-- the number of an option, or the default where it is left out; none where it is no number
+unfoldable pub number_at : Text → ℕ → List Row → Option ℕ
+number_at name default rows = number_or default (text_at name rows)
+
+unfoldable pub budgets_at : List Row → Option BudgetNumbers
+budgets_at rows =
+    option_and_then (λ heap.
+    option_and_then (λ stack.
+    option_and_then (λ calls.
+    option_and_then (λ blocks.
+    option_map (λ keys. record {
+      heap = heap;
+      stack = stack;
+      calls = calls;
+      blocks = blocks;
+      keys = keys;
+    })
+    (number_at (codes "keys") default_budgets.keys rows))
+    (number_at (codes "blocks") default_budgets.blocks rows))
+    (number_at (codes "calls") default_budgets.calls rows))
+    (number_at (codes "stack") default_budgets.stack rows))
+    (number_at (codes "heap") default_budgets.heap rows)
+
+-- a limit is at most 2 ^ 62
+abbrev pub limit_in_range : ℕ → Option ℕ
+limit_in_range limit = if nat_le limit (2 ^ 62) then Some limit else None
+
+unfoldable pub limit_at : List Row → Option ℕ
+limit_at rows = option_and_then limit_in_range (number_at (codes "limit") default_limit rows)
+
+unfoldable pub build_at : List Row → Option Asked
+build_at rows =
+    option_and_then (λ source.
+    option_and_then (λ image.
+    option_map (build source image) (budgets_at rows))
+    (text_at (codes "image") rows))
+    (text_at (codes "source") rows)
+
+unfoldable pub run_at : List Row → Option Asked
+run_at rows =
+    option_and_then (λ image. option_map (run image) (limit_at rows)) (text_at (codes "image") rows)
+
+unfoldable pub go_at : List Row → Option Asked
+go_at rows =
+    option_and_then (λ source.
+    option_and_then (λ budgets.
+    option_map (go source budgets) (limit_at rows))
+    (budgets_at rows))
+    (text_at (codes "source") rows)
+
+abbrev pub command_named : Text → List Row → Option Asked
+command_named name rows =
+    if bytes_eq name (codes "build") then build_at rows
+    else (if bytes_eq name (codes "run") then run_at rows
+    else (if bytes_eq name (codes "go") then go_at rows else None))
+
+unfoldable pub command_at : Text × List Row → Option Asked
+command_at p = command_named p.0 p.1
+
+-- ---- the whole
+
+-- the command that the words ask for: what clap's matches give, where no step of clap's parse fails
+unfoldable pub command_in : List Text → Option Asked
+command_in words = if length (fault_of program words) == 0
+    then option_and_then command_at (subcommand_of program words) else None

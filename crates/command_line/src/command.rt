@@ -1,0 +1,71 @@
+//! What the words ask for.
+ghost use Rattle.std.specs.Prelude.{◌≡◌, ◌≢◌};
+ghost use Rattle.clap.specs.Words.{kind_of};
+ghost use Rattle.clap.specs.declared.error.kind.ErrorKind.TheVariants.{OutOfMemory};
+ghost use Rattle.command_line.specs.declared.command.WordsFault.TheVariants.{Memory, Usage};
+
+use clap::error::ErrorKind;
+use std::alloc::AllocError;
+
+/// How much of each resource a compiled program may use, as the words give it. Whether the numbers
+/// suit one another and the machine is judged by what builds the image.
+#[derive(Clone, Copy, Debug, PartialEq, Eq)]
+pub struct BudgetNumbers {
+    /// Bytes of the heap.
+    pub heap: u64,
+    /// Bytes of the stack.
+    pub stack: u64,
+    /// Bytes of the stack of calls.
+    pub calls: u64,
+    /// How many blocks may be live at a time.
+    pub blocks: u64,
+    /// How many keys may be given out in all.
+    pub keys: u64,
+}
+
+/// What the tool is asked to do. The names are those of files, as the words give them.
+#[derive(Clone, Copy, Debug, PartialEq, Eq)]
+pub enum Command<'a> {
+    /// Compile the source to an image.
+    Build {
+        source: &'a str,
+        image: &'a str,
+        budgets: BudgetNumbers,
+    },
+    /// Run an image, for at most `limit` instructions. The limit is at most 2^62.
+    Run { image: &'a str, limit: u64 },
+    /// Compile the source, and run its image for at most `limit` instructions, at most 2^62.
+    Go {
+        source: &'a str,
+        budgets: BudgetNumbers,
+        limit: u64,
+    },
+}
+
+/// Why there is no command.
+#[derive(Clone, Copy, Debug, PartialEq, Eq)]
+pub enum WordsFault {
+    /// The words are no command, or ask for help.
+    Usage,
+    /// Memory ran out.
+    Memory,
+}
+
+impl From<AllocError> for WordsFault {
+    ghost from_gives = { λ _ fault. fault ≡ Memory };
+
+    fn from(_error: AllocError) -> WordsFault {
+        WordsFault::Memory
+    }
+}
+
+impl From<clap::Error> for WordsFault {
+    ghost from_gives = { λ error fault. fault ≡ Usage → kind_of error ≢ OutOfMemory };
+
+    fn from(error: clap::Error) -> WordsFault {
+        match error.kind() {
+            ErrorKind::OutOfMemory => WordsFault::Memory,
+            _ => WordsFault::Usage,
+        }
+    }
+}

@@ -1,0 +1,122 @@
+//! From words to a command.
+ghost use Rattle.std.specs.Prelude.{◌≡◌, Err, IfOk, None, Some, map, option_and_then, option_map};
+ghost use Rattle.clap.specs.Words.{subcommand_rows_of};
+ghost use Rattle.command_line.specs.Asked.{asked_of, budgets_at, build_at, command_at, command_in};
+ghost use Rattle.command_line.specs.Asked.{go_at, limit_at, number_at, rows_in, run_at, text_at};
+
+use crate::command::{BudgetNumbers, Command, WordsFault};
+use crate::number::number_of;
+use crate::program::program;
+use clap::ArgMatches;
+use std::alloc::Global;
+use std::convert::AsStr;
+
+const DEFAULT_BUDGETS: BudgetNumbers = BudgetNumbers {
+    heap: 4_194_304,
+    stack: 1_048_576,
+    calls: 4_194_304,
+    blocks: 16_384,
+    keys: 1 << 62,
+};
+const DEFAULT_LIMIT: u64 = 1_000_000_000;
+const MAX_LIMIT: u64 = 1 << 62;
+
+/// The command that the words ask for; they are those after the program's name. Each option may be
+/// left out, and has its default then: a heap of 4194304 bytes, a stack of 1048576, calls of 4194304,
+/// 16384 blocks, 2^62 keys, and a limit of 1000000000.
+///
+/// `WordsFault::Usage` comes exactly where the words are no command: `clap` refuses them or answers
+/// them with help, an option's value is no number, or the limit is above 2^62. `WordsFault::Memory`
+/// comes where memory runs out, whatever the words are.
+#[tactic(auto, unfolding(crate::specs::Asked::command_in))]
+pub fn command_of<'a, S: AsStr>(alloc: Global, words: &'a [S]) -> Result<Command<'a>, WordsFault>
+    ensures ok { IfOk result (λ command. command_in (map S.text words.entry.now) ≡ Some (asked_of command)) }
+    ensures usage { result ≡ Err WordsFault.Usage → command_in (map S.text words.entry.now) ≡ None }
+{
+    let matches = program(alloc)?.try_get_matches_from(words)?;
+    command_asked(&matches).ok_or(WordsFault::Usage)
+}
+
+// The command of the matches.
+#[tactic(auto, unfolding(crate::specs::Asked::command_at))]
+fn command_asked<'a>(matches: &ArgMatches<'a>) -> Option<Command<'a>>
+    ensures { option_map asked_of result ≡ option_and_then command_at (subcommand_rows_of matches.now) }
+{
+    let (name, matches) = matches.subcommand()?;
+    match name {
+        "build" => build_asked(matches),
+        "run" => run_asked(matches),
+        "go" => go_asked(matches),
+        _ => None,
+    }
+}
+
+#[tactic(auto, unfolding(crate::specs::Asked::build_at))]
+fn build_asked<'a>(matches: &ArgMatches<'a>) -> Option<Command<'a>>
+    ensures { option_map asked_of result ≡ build_at (rows_in matches.now) }
+{
+    Some(Command::Build {
+        source: text_at(matches, "source")?,
+        image: text_at(matches, "image")?,
+        budgets: budgets_at(matches)?,
+    })
+}
+
+#[tactic(auto, unfolding(crate::specs::Asked::run_at))]
+fn run_asked<'a>(matches: &ArgMatches<'a>) -> Option<Command<'a>>
+    ensures { option_map asked_of result ≡ run_at (rows_in matches.now) }
+{
+    Some(Command::Run {
+        image: text_at(matches, "image")?,
+        limit: limit_at(matches)?,
+    })
+}
+
+#[tactic(auto, unfolding(crate::specs::Asked::go_at))]
+fn go_asked<'a>(matches: &ArgMatches<'a>) -> Option<Command<'a>>
+    ensures { option_map asked_of result ≡ go_at (rows_in matches.now) }
+{
+    Some(Command::Go {
+        source: text_at(matches, "source")?,
+        budgets: budgets_at(matches)?,
+        limit: limit_at(matches)?,
+    })
+}
+
+#[tactic(auto, unfolding(crate::specs::Asked::budgets_at))]
+fn budgets_at(matches: &ArgMatches) -> Option<BudgetNumbers>
+    ensures { result ≡ budgets_at (rows_in matches.now) }
+{
+    Some(BudgetNumbers {
+        heap: number_at(matches, "heap", DEFAULT_BUDGETS.heap)?,
+        stack: number_at(matches, "stack", DEFAULT_BUDGETS.stack)?,
+        calls: number_at(matches, "calls", DEFAULT_BUDGETS.calls)?,
+        blocks: number_at(matches, "blocks", DEFAULT_BUDGETS.blocks)?,
+        keys: number_at(matches, "keys", DEFAULT_BUDGETS.keys)?,
+    })
+}
+
+#[tactic(auto, unfolding(crate::specs::Asked::limit_at))]
+fn limit_at(matches: &ArgMatches) -> Option<u64>
+    ensures { result ≡ limit_at (rows_in matches.now) }
+{
+    number_at(matches, "limit", DEFAULT_LIMIT).filter(|limit| *limit <= MAX_LIMIT)
+}
+
+// The number of the option of this name, or the default where it is left out. `None`: it is no number.
+#[tactic(auto, unfolding(crate::specs::Asked::number_at))]
+fn number_at(matches: &ArgMatches, name: &str, default: u64) -> Option<u64>
+    ensures { result ≡ number_at name.now default (rows_in matches.now) }
+{
+    match text_at(matches, name) {
+        Some(text) => number_of(text),
+        None => Some(default),
+    }
+}
+
+// The value of the operand or option of this name.
+fn text_at<'a>(matches: &ArgMatches<'a>, name: &str) -> Option<&'a str>
+    ensures { option_map (λ text. text.now) result ≡ text_at name.now (rows_in matches.now) }
+{
+    matches.get_str(name)
+}

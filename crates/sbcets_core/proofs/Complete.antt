@@ -16,12 +16,12 @@ use Rattle.sbcets_core.specs.Doing.{Outside, Holds, IsTooLong, RefusesSource, Re
 use Rattle.sbcets_core.specs.Top.{Does, IsAcceptedFile, IsReadableFile, IsOfRun, IsOfBuild, IsComplete}
 
 -- what is read is what the file of the name holds
-read_is : (held : Option (List ℕ → Option (List ℕ))) (files : List ℕ → Option (List ℕ)) (name bytes read : List ℕ) → held ≡ Some files → files name ≡ Some bytes → Holds held name read → read ≡ bytes
+pub read_is : (held : Option (List ℕ → Option (List ℕ))) (files : List ℕ → Option (List ℕ)) (name bytes read : List ℕ) → held ≡ Some files → files name ≡ Some bytes → Holds held name read → read ≡ bytes
 read_is held files name bytes read told there holds =
     let at_files : IfSome (Some files) (λ f. f name ≡ Some read) = subst (λ h. IfSome h (λ f. f name ≡ Some read)) told holds in
     cc (at_files, there)
 
-not_too_long : (held : Option (List ℕ → Option (List ℕ))) (files : List ℕ → Option (List ℕ)) (name bytes : List ℕ) (max n most : ℕ) → held ≡ Some files → files name ≡ Some bytes → length bytes ≤ max → IsTooLong name max n most held → ⊥
+pub not_too_long : (held : Option (List ℕ → Option (List ℕ))) (files : List ℕ → Option (List ℕ)) (name bytes : List ℕ) (max n most : ℕ) → held ≡ Some files → files name ≡ Some bytes → length bytes ≤ max → IsTooLong name max n most held → ⊥
 not_too_long held files name bytes max n most told there short t =
     let at_files : IfSome (Some files) (λ f. IfSome (f name) (λ b. length b ≡ n)) = subst (λ h. IfSome h (λ f. IfSome (f name) (λ b. length b ≡ n))) told t.length_is in
     let at_bytes : IfSome (Some bytes) (λ b. length b ≡ n) = subst (λ o. IfSome o (λ b. length b ≡ n)) there at_files in

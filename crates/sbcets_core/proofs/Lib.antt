@@ -1,5 +1,6 @@
 pub mod Cases
 pub mod Complete
+pub mod Composition
 pub mod Counts
 pub mod Execution
 pub mod Machine

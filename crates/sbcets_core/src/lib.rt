@@ -7,6 +7,7 @@
 mod commands;
 mod compiler;
 pub mod generator;
+pub mod laws;
 pub mod lexer;
 mod outcome;
 pub mod part;

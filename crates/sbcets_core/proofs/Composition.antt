@@ -17,7 +17,7 @@ use Rattle.sbcets_core.proofs.Cases.{went_goes}
 use Rattle.sbcets_core.proofs.Complete.{read_is, not_too_long}
 
 -- the file that was written holds the bytes
-written_is : (old new : Option (List ℕ → Option (List ℕ))) (files : List ℕ → Option (List ℕ)) (name bytes : List ℕ) → Writes old new name bytes (Ok tt) → new ≡ Some files → files name ≡ Some bytes
+written_is : (old new : Option (List ℕ → Option (List ℕ))) (files : List ℕ → Option (List ℕ)) (name bytes : List ℕ) → Writes {T = Unit {0}} old new name bytes (Ok tt) → new ≡ Some files → files name ≡ Some bytes
 written_is None new files name bytes w told = absurd (cc (w, told))
 written_is (Some old) None files name bytes w told = absurd w
 written_is (Some old) (Some new) files name bytes w told = subst (λ h. IfSome h (λ f. f name ≡ Some bytes)) told w.written

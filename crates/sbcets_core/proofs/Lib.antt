@@ -4,6 +4,7 @@ pub mod Composition
 pub mod Counts
 pub mod Execution
 pub mod Machine
+pub mod Meant
 pub mod Pieces
 pub mod Running
 pub mod Scanning

@@ -6,6 +6,7 @@ pub mod Doing
 pub mod Faithful
 pub mod Lexing
 pub mod Meaning
+pub mod Meant
 pub mod Outcomes
 pub mod Part
 pub mod Source

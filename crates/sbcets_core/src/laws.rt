@@ -3,7 +3,9 @@
 ghost use Rattle.std.specs.Prelude.{◌≡◌, ℕ, List, [], Option, Some};
 ghost use Rattle.sbcets_core.specs.declared.outcome.Outcome.{Outcome};
 ghost use Rattle.sbcets_core.specs.declared.outcome.Outcome.TheVariants.{Built};
-ghost use Rattle.sbcets_core.specs.Doing.{Outside, Builds, Goes, Runs};
+ghost use Rattle.rv_sim.specs.declared.stop.Stop.TheVariants.{Exited, Limit};
+ghost use Rattle.sbcets_core.specs.Doing.{Outside, Builds, Goes, Runs, Went};
+ghost use Rattle.sbcets_core.specs.Meant.{EndsAsMeant, GoesAsMeant};
 
 /// `build` and then `run` compose: where a source was built into a file, and the files are the same
 /// since, what `run` of that file does is what `go` of the source as it was then would have done,
@@ -11,4 +13,16 @@ ghost use Rattle.sbcets_core.specs.Doing.{Outside, Builds, Goes, Runs};
 pub fn run_of_what_was_built()
     ensures { (name target : List ℕ) (limit : ℕ) (outcome : Outcome) (before between start after : Outside) (files : List ℕ → Option (List ℕ)) → between.files ≡ Some files → start.files ≡ between.files → Builds name target Built [] before between → Runs target limit outcome [] start after →
         (image : List ℕ) × Goes name limit outcome image (record { files = before.files; streams = start.streams }) (record { files = before.files; streams = after.streams }) }
+{}
+
+/// Where the image of a source ran to its exit, the source ends with the same status within as many
+/// turns, and the streams gained just what it shows; the input tells its content.
+pub fn an_exit_is_meant()
+    ensures { (name : List ℕ) (limit code : ℕ) (image : List ℕ) (before after : Outside) (went : Went name limit image (Exited code) before after) (input : List ℕ) → before.streams.input ≡ Some input → EndsAsMeant went.built.program input limit code before.streams after.streams }
+{}
+
+/// Where it was still running at the limit, the streams gained the first of what the source shows
+/// within as many turns.
+pub fn a_run_to_the_limit_is_meant()
+    ensures { (name : List ℕ) (limit : ℕ) (image : List ℕ) (before after : Outside) (went : Went name limit image Limit before after) (input : List ℕ) → before.streams.input ≡ Some input → GoesAsMeant went.built.program input limit before.streams after.streams }
 {}

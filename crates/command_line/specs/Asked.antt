@@ -1,5 +1,5 @@
 -- The command that words ask for.
-use Rattle.std.specs.Prelude.{ℕ, ◌^◌, ◌==◌, List, Option, Some, None, codes, length}
+use Rattle.std.specs.Prelude.{ℕ, ⊤, ◌≤◌, ◌^◌, ◌==◌, List, Option, Some, None, codes, length}
 use Rattle.std.specs.Prelude.{if◌then◌else◌, nat_le, option_and_then, option_map}
 use Rattle.std.specs.Str.{bytes_eq}
 use Rattle.clap.specs.Words.{Row, Text, fault_of, first_of, found_of, rows_of, subcommand_of}
@@ -20,6 +20,12 @@ abbrev pub asked_of : Command → Asked
 asked_of (Build source image budgets) = build source.now image.now budgets
 asked_of (Run image limit) = run image.now limit
 asked_of (Go source budgets limit) = go source.now budgets limit
+
+-- a command that runs an image has a limit of at most 2 ^ 62 instructions
+abbrev pub IsLimited : Command → Type 0
+IsLimited (Build source image budgets) = ⊤
+IsLimited (Run image limit) = limit ≤ 2 ^ 62
+IsLimited (Go source budgets limit) = limit ≤ 2 ^ 62
 
 -- what the options that are left out stand for
 abbrev pub default_budgets : BudgetNumbers

@@ -23,21 +23,32 @@ pub struct BudgetNumbers {
     pub keys: u64,
 }
 
-/// What the tool is asked to do. The names are those of files, as the words give them.
+/// What the tool is asked to do. A source and an image are names of files, as the words give them.
 #[derive(Clone, Copy, Debug, PartialEq, Eq)]
 pub enum Command<'a> {
     /// Compile the source to an image.
     Build {
+        /// The file to compile.
         source: &'a str,
+        /// The file to write.
         image: &'a str,
+        /// What the compiled program may use.
         budgets: BudgetNumbers,
     },
-    /// Run an image, for at most `limit` instructions. The limit is at most 2^62.
-    Run { image: &'a str, limit: u64 },
-    /// Compile the source, and run its image for at most `limit` instructions, at most 2^62.
+    /// Run an image.
+    Run {
+        /// The file to run.
+        image: &'a str,
+        /// How many instructions the run may take, at most 2^62.
+        limit: u64,
+    },
+    /// Compile the source and run its image.
     Go {
+        /// The file to compile.
         source: &'a str,
+        /// What the compiled program may use.
         budgets: BudgetNumbers,
+        /// How many instructions the run may take, at most 2^62.
         limit: u64,
     },
 }

@@ -48,10 +48,7 @@ fn go_words<'a>(alloc: Global) -> Result<Command<'a>, AllocError>
 }
 
 // The command with the five options of the budgets.
-fn with_budget_options<'a>(
-    alloc: Global,
-    command: Command<'a>,
-) -> Result<Command<'a>, AllocError>
+fn with_budget_options<'a>(alloc: Global, command: Command<'a>) -> Result<Command<'a>, AllocError>
     ensures { IfOk result (λ longer. app_of longer ≡ with_budget_options (app_of command.entry)) }
 {
     command
@@ -65,7 +62,7 @@ fn with_budget_options<'a>(
 // An operand, which has to be there.
 fn operand<'a>(alloc: Global, name: &'a str) -> Arg<'a>
     ensures rule { rule_of result ≡ operand name.now }
-    ensures own { result.global ≡ false }
+    ensures local { result.global ≡ false }
 {
     Arg::new(alloc, name).required(true)
 }
@@ -73,7 +70,7 @@ fn operand<'a>(alloc: Global, name: &'a str) -> Arg<'a>
 // An option with one value.
 fn option<'a>(alloc: Global, name: &'a str) -> Arg<'a>
     ensures rule { rule_of result ≡ option name.now }
-    ensures own { result.global ≡ false }
+    ensures local { result.global ≡ false }
 {
     Arg::new(alloc, name).long(name)
 }

@@ -1,6 +1,8 @@
 use crate::{BudgetNumbers, Command, WordsFault, command_of};
 use std::test::Fail;
 
+type Answer = Result<Command<'static>, WordsFault>;
+
 const PLAIN: BudgetNumbers = BudgetNumbers {
     heap: 4_194_304,
     stack: 1_048_576,
@@ -8,6 +10,7 @@ const PLAIN: BudgetNumbers = BudgetNumbers {
     blocks: 16_384,
     keys: 4_611_686_018_427_387_904,
 };
+
 const EACH: BudgetNumbers = BudgetNumbers {
     heap: 1,
     stack: 2,
@@ -15,26 +18,31 @@ const EACH: BudgetNumbers = BudgetNumbers {
     blocks: 4,
     keys: 18_446_744_073_709_551_615,
 };
+
 const ONE_HEAP: BudgetNumbers = BudgetNumbers { heap: 5, ..PLAIN };
 
 const fn build(source: &'static str, image: &'static str, budgets: BudgetNumbers) -> Answer {
-    Ok(Command::Build { source, image, budgets })
+    Ok(Command::Build {
+        source,
+        image,
+        budgets,
+    })
 }
-
-type Answer = Result<Command<'static>, WordsFault>;
 
 const fn run(image: &'static str, limit: u64) -> Answer {
     Ok(Command::Run { image, limit })
 }
 
 const fn go(source: &'static str, budgets: BudgetNumbers, limit: u64) -> Answer {
-    Ok(Command::Go { source, budgets, limit })
+    Ok(Command::Go {
+        source,
+        budgets,
+        limit,
+    })
 }
 
-const REFUSED: Answer = Err(WordsFault::Usage);
-
-// What a real clap answers to each line was tried with the Rust crate's rules: a value that begins
-// with a hyphen is taken for an option, an option may stand anywhere before `--`, and once.
+// As clap's documents say: an option stands anywhere before `--`, and once; a value that begins with
+// a hyphen is taken for an option, unless it is written after `=`.
 #[test]
 fn reads_each_line(rt: HostRuntime) -> Result<(), Fail> {
     let rows = [
@@ -49,7 +57,10 @@ fn reads_each_line(rt: HostRuntime) -> Result<(), Fail> {
         ("run a.elf --limit 5", run("a.elf", 5)),
         ("run --limit=5 a.elf", run("a.elf", 5)),
         ("run a.elf --limit 0", run("a.elf", 0)),
-        ("run a.elf --limit 4611686018427387904", run("a.elf", 1 << 62)),
+        (
+            "run a.elf --limit 4611686018427387904",
+            run("a.elf", 1 << 62),
+        ),
         ("run -- -a.elf", run("-a.elf", 1_000_000_000)),
         ("run -", run("-", 1_000_000_000)),
         ("run run", run("run", 1_000_000_000)),
@@ -59,7 +70,10 @@ fn reads_each_line(rt: HostRuntime) -> Result<(), Fail> {
     ];
     for (line, answer) in rows {
         let words: Vec<&str> = line.split(' ').collect(rt.alloc())?;
-        assert!(rt; command_of(rt.alloc(), words.as_slice()) == answer, "at {line}");
+        assert!(rt;
+            command_of(rt.alloc(), words.as_slice()) == answer,
+            "at {line}"
+        );
     }
     Ok(())
 }

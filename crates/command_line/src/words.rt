@@ -1,7 +1,7 @@
 //! From words to a command.
-ghost use Rattle.std.specs.Prelude.{◌≡◌, Err, IfOk, None, Some, map, option_and_then, option_map};
+ghost use Rattle.std.specs.Prelude.{◌≡◌, ◌≤◌, ◌^◌, Err, IfOk, IfSome, None, Some, map, option_and_then, option_map};
 ghost use Rattle.clap.specs.Words.{subcommand_rows_of};
-ghost use Rattle.command_line.specs.Asked.{asked_of, budgets_at, build_at, command_at, command_in};
+ghost use Rattle.command_line.specs.Asked.{IsLimited, asked_of, budgets_at, build_at, command_at, command_in};
 ghost use Rattle.command_line.specs.Asked.{go_at, limit_at, number_at, rows_in, run_at, text_at};
 
 use crate::command::{BudgetNumbers, Command, WordsFault};
@@ -18,29 +18,34 @@ const DEFAULT_BUDGETS: BudgetNumbers = BudgetNumbers {
     blocks: 16_384,
     keys: 1 << 62,
 };
+
 const DEFAULT_LIMIT: u64 = 1_000_000_000;
+
 const MAX_LIMIT: u64 = 1 << 62;
 
 /// The command that the words ask for; they are those after the program's name. Each option may be
 /// left out, and has its default then: a heap of 4194304 bytes, a stack of 1048576, calls of 4194304,
 /// 16384 blocks, 2^62 keys, and a limit of 1000000000.
 ///
-/// `WordsFault::Usage` comes exactly where the words are no command: `clap` refuses them or answers
-/// them with help, an option's value is no number, or the limit is above 2^62. `WordsFault::Memory`
-/// comes where memory runs out, whatever the words are.
+/// `WordsFault::Usage` comes exactly where the words are no command, as long as there is memory: where
+/// `clap` refuses them or answers them with help, an option's value is no number, or the limit is
+/// above 2^62. A number is decimal digits with no sign and no leading zero, below 2^64.
+/// `WordsFault::Memory` comes where memory runs out, whatever the words are.
 #[tactic(auto, unfolding(crate::specs::Asked::command_in))]
 pub fn command_of<'a, S: AsStr>(alloc: Global, words: &'a [S]) -> Result<Command<'a>, WordsFault>
     ensures ok { IfOk result (λ command. command_in (map S.text words.entry.now) ≡ Some (asked_of command)) }
     ensures usage { result ≡ Err WordsFault.Usage → command_in (map S.text words.entry.now) ≡ None }
+    ensures limited { IfOk result IsLimited }
 {
     let matches = program(alloc)?.try_get_matches_from(words)?;
     command_asked(&matches).ok_or(WordsFault::Usage)
 }
 
-// The command of the matches.
+// The command of the matches: `None` where a number is none, or the limit is too high.
 #[tactic(auto, unfolding(crate::specs::Asked::command_at))]
 fn command_asked<'a>(matches: &ArgMatches<'a>) -> Option<Command<'a>>
-    ensures { option_map asked_of result ≡ option_and_then command_at (subcommand_rows_of matches.now) }
+    ensures asked { option_map asked_of result ≡ option_and_then command_at (subcommand_rows_of matches.now) }
+    ensures limited { IfSome result IsLimited }
 {
     let (name, matches) = matches.subcommand()?;
     match name {
@@ -51,9 +56,11 @@ fn command_asked<'a>(matches: &ArgMatches<'a>) -> Option<Command<'a>>
     }
 }
 
+// The command of the matches of `build`, and below of `run` and `go`.
 #[tactic(auto, unfolding(crate::specs::Asked::build_at))]
 fn build_asked<'a>(matches: &ArgMatches<'a>) -> Option<Command<'a>>
-    ensures { option_map asked_of result ≡ build_at (rows_in matches.now) }
+    ensures asked { option_map asked_of result ≡ build_at (rows_in matches.now) }
+    ensures limited { IfSome result IsLimited }
 {
     Some(Command::Build {
         source: text_at(matches, "source")?,
@@ -64,7 +71,8 @@ fn build_asked<'a>(matches: &ArgMatches<'a>) -> Option<Command<'a>>
 
 #[tactic(auto, unfolding(crate::specs::Asked::run_at))]
 fn run_asked<'a>(matches: &ArgMatches<'a>) -> Option<Command<'a>>
-    ensures { option_map asked_of result ≡ run_at (rows_in matches.now) }
+    ensures asked { option_map asked_of result ≡ run_at (rows_in matches.now) }
+    ensures limited { IfSome result IsLimited }
 {
     Some(Command::Run {
         image: text_at(matches, "image")?,
@@ -74,7 +82,8 @@ fn run_asked<'a>(matches: &ArgMatches<'a>) -> Option<Command<'a>>
 
 #[tactic(auto, unfolding(crate::specs::Asked::go_at))]
 fn go_asked<'a>(matches: &ArgMatches<'a>) -> Option<Command<'a>>
-    ensures { option_map asked_of result ≡ go_at (rows_in matches.now) }
+    ensures asked { option_map asked_of result ≡ go_at (rows_in matches.now) }
+    ensures limited { IfSome result IsLimited }
 {
     Some(Command::Go {
         source: text_at(matches, "source")?,
@@ -83,6 +92,7 @@ fn go_asked<'a>(matches: &ArgMatches<'a>) -> Option<Command<'a>>
     })
 }
 
+// The numbers of the five options, or their defaults.
 #[tactic(auto, unfolding(crate::specs::Asked::budgets_at))]
 fn budgets_at(matches: &ArgMatches) -> Option<BudgetNumbers>
     ensures { result ≡ budgets_at (rows_in matches.now) }
@@ -96,9 +106,11 @@ fn budgets_at(matches: &ArgMatches) -> Option<BudgetNumbers>
     })
 }
 
+// The number of `--limit`, or the default.
 #[tactic(auto, unfolding(crate::specs::Asked::limit_at))]
 fn limit_at(matches: &ArgMatches) -> Option<u64>
-    ensures { result ≡ limit_at (rows_in matches.now) }
+    ensures asked { result ≡ limit_at (rows_in matches.now) }
+    ensures limited { IfSome result (λ limit. limit ≤ 2 ^ 62) }
 {
     number_at(matches, "limit", DEFAULT_LIMIT).filter(|limit| *limit <= MAX_LIMIT)
 }

@@ -1,4 +1,4 @@
-use Rattle.std.proofs.Common.{rules, ◌≡◌, ◌∙◌, ◌==◌, true, false, slice_index, sym, arith}
+use Rattle.std.proofs.Common.{rules, ◌∙◌, sym, arith}
 use Rattle.command_line.proofs.Numbers.{parse_is_number, plus_is_none, zero_is_none}
 use Rattle.command_line.proofs.number.number_of.Goals.{then-starts_with-via-then-starts_with, then-starts_with-via-else-starts_with+then-has_leading_zero}
 use Rattle.command_line.proofs.number.number_of.Goals as goal

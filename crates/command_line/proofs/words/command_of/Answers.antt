@@ -1,10 +1,10 @@
-use Rattle.std.proofs.Common.{◌≡◌, ◌≢◌, ◌∙◌, Err, List, Result, map, refl, subst}
+use Rattle.std.proofs.Common.{◌≡◌, ◌≢◌, ◌∙◌, Result, map, refl, subst}
 use Rattle.std.specs.Result.{IsErrAnd}
 use Rattle.clap.specs.declared.error.kind.ErrorKind.TheVariants.{OutOfMemory}
 use Rattle.command_line.specs.declared.command.Command.{Command}
 use Rattle.command_line.specs.declared.command.WordsFault.{WordsFault}
 use Rattle.command_line.specs.declared.command.WordsFault.TheVariants.{Usage}
-use Rattle.clap.specs.Words.{Text, app_of, kind_of}
+use Rattle.clap.specs.Words.{app_of, kind_of}
 use Rattle.command_line.specs.Asked.{command_in}
 use Rattle.command_line.proofs.Whole.{answered_ok, answered_usage, refused_is, taken_is}
 use Rattle.command_line.proofs.words.command_of.Goals as goal
@@ -20,10 +20,10 @@ pub returns-clause-ok : goal.returns-clause-ok
 returns-clause-ok g c =
     let taken = taken_is (app_of c.in_ok-program.field-0) (map g.S.AsStr.text c.args.words.now) c.in_ok-matches.matches c.in_ok-program.ensures
     c.in_ok-matches.ensures.kinds c.in_ok-matches.ensures.matches in
-    answered_ok c.command_asked.result c.ok_or.result (command_in (map g.S.AsStr.text c.args.words.now)) c.ok_or.ensures.value (c.command_asked.ensures ∙ taken)
+    answered_ok c.command_asked.result c.ok_or.result (command_in (map g.S.AsStr.text c.args.words.now)) c.ok_or.ensures.value (c.command_asked.ensures.asked ∙ taken)
 
 pub returns-clause-usage : goal.returns-clause-usage
 returns-clause-usage g c =
     let taken = taken_is (app_of c.in_ok-program.field-0) (map g.S.AsStr.text c.args.words.now) c.in_ok-matches.matches c.in_ok-program.ensures
     c.in_ok-matches.ensures.kinds c.in_ok-matches.ensures.matches in
-    answered_usage c.command_asked.result c.ok_or.result (command_in (map g.S.AsStr.text c.args.words.now)) c.ok_or.ensures.value (c.command_asked.ensures ∙ taken)
+    answered_usage c.command_asked.result c.ok_or.result (command_in (map g.S.AsStr.text c.args.words.now)) c.ok_or.ensures.value (c.command_asked.ensures.asked ∙ taken)

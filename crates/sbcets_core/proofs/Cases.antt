@@ -1,11 +1,8 @@
 -- The outcomes of the commands, case by case.
-use Rattle.std.proofs.Common.{Ok, Err, ◌≡◌, ◌≤◌, ◌⊎◌, ℕ, List, [], Option, Some, None, refl, sym, ap, ◌∙◌, inl, inr, ⊎_elim, subst, arith}
-use Rattle.sb_outside.specs.declared.source.Failed.{Failed}
+use Rattle.std.proofs.Common.{Err, ◌≡◌, ℕ, List, [], Option, refl, ap, ◌∙◌, inl}
 use Rattle.sb_outside.specs.Content.{Writes}
-use Rattle.sb_outside.specs.Faults.{Rose}
 use Rattle.rv_sim.specs.declared.stop.Stop.{Stop}
 use Rattle.rv_sim.specs.declared.stop.Stop.TheVariants as stops
-use Rattle.rv_sim.specs.Seen.{Rises, CountsInput, CountsOutput}
 use Rattle.sbcets_core.specs.declared.outcome.ReadFault.TheVariants.{TooLong}
 use Rattle.sbcets_core.specs.declared.outcome.ReadFault.TheVariants as reads
 use Rattle.sbcets_core.specs.declared.outcome.Outcome.{Outcome}
@@ -13,7 +10,7 @@ use Rattle.sbcets_core.specs.declared.outcome.Outcome.TheVariants.{Exited, Built
 use Rattle.sbcets_core.specs.declared.outcome.Outcome.TheVariants as outcomes
 use Rattle.sbcets_core.specs.Outcomes.{max_source, max_image_file}
 use Rattle.sbcets_core.specs.Counting.{Counts, CommandCounts}
-use Rattle.sbcets_core.specs.Doing.{Outside, DoesNothing, Went, RanFile, Goes, Runs, Builds, IsUnread, IsUnbuilt, IsBuiltOf, ReadCounts, RunsImage, outcome_of}
+use Rattle.sbcets_core.specs.Commands.{Outside, DoesNothing, Went, RanFile, Goes, Runs, Builds, IsUnread, IsUnbuilt, IsBuiltOf, ReadCounts, RunsImage, outcome_of}
 use Rattle.sbcets_core.proofs.Running.{traps_untold}
 
 -- a command that got nothing does nothing

@@ -1,18 +1,16 @@
 -- What keeps a command from its end, where its file is there and is what it has to be.
-use Rattle.std.proofs.Common.{◌≡◌, ◌<◌, ◌≤◌, ℕ, List, length, Option, Some, None, Ok, Err, sym, subst, arith}
+use Rattle.std.proofs.Common.{◌≡◌, ◌≤◌, ℕ, List, length, Option, Some, None, subst, arith}
 use Rattle.std.specs.Prelude.{IfSome}
-use Rattle.elf_image.specs.Tests.{image_fault}
 use Rattle.sbcets_core.specs.declared.outcome.ReadFault.TheVariants.{TooLong}
 use Rattle.sbcets_core.specs.declared.outcome.ReadFault.TheVariants as reads
 use Rattle.sbcets_core.specs.declared.outcome.Outcome.{Outcome}
 use Rattle.sbcets_core.specs.declared.outcome.Outcome.TheVariants.{Exited, Built, Usage, WriteFault, InputFault, Memory, Limit, Refused, ImageRefused, Trap}
 use Rattle.sbcets_core.specs.declared.outcome.Outcome.TheVariants as outcomes
 use Rattle.command_line.specs.Asked.{Asked, build, run, go}
-use Rattle.sbcets_core.specs.Accepted.{accepted}
 use Rattle.sbcets_core.specs.Outcomes.{max_source, max_image_file}
 use Rattle.sbcets_core.specs.declared.refusal.SourceRefusal.{SourceRefusal}
 use Rattle.elf_image.specs.declared.fault.ImageFault.{ImageFault}
-use Rattle.sbcets_core.specs.Doing.{Outside, Holds, IsTooLong, RefusesSource, RefusesImage, Goes, Runs, Builds}
+use Rattle.sbcets_core.specs.Commands.{Outside, Holds, IsTooLong, RefusesSource, RefusesImage, Goes, Runs, Builds}
 use Rattle.sbcets_core.specs.Top.{Does, IsAcceptedFile, IsReadableFile, IsOfRun, IsOfBuild, IsComplete}
 
 -- what is read is what the file of the name holds
@@ -42,7 +40,7 @@ not_image_refused held name fault f r =
     let refused = r.refused in
     cc (same, readable, refused)
 
-go_ends : (name : List ℕ) (limit : ℕ) ( outcome : Outcome) (image : List ℕ) (before after : Outside) → IsAcceptedFile before.files name → Goes name limit outcome image before after → IsOfRun outcome
+go_ends : (name : List ℕ) (limit : ℕ) (outcome : Outcome) (image : List ℕ) (before after : Outside) → IsAcceptedFile before.files name → Goes name limit outcome image before after → IsOfRun outcome
 go_ends name limit (Exited code) image before after f d = tt
 go_ends name limit (Limit n) image before after f d = tt
 go_ends name limit Memory image before after f d = tt
@@ -56,7 +54,7 @@ go_ends name limit (ImageRefused fault) image before after f d = absurd d
 go_ends name limit Built image before after f d = absurd d
 go_ends name limit Usage image before after f d = absurd d
 
-run_ends : (name : List ℕ) (limit : ℕ) ( outcome : Outcome) (image : List ℕ) (before after : Outside) → IsReadableFile before.files name → Runs name limit outcome image before after → IsOfRun outcome
+run_ends : (name : List ℕ) (limit : ℕ) (outcome : Outcome) (image : List ℕ) (before after : Outside) → IsReadableFile before.files name → Runs name limit outcome image before after → IsOfRun outcome
 run_ends name limit (Exited code) image before after f d = tt
 run_ends name limit (Limit n) image before after f d = tt
 run_ends name limit Memory image before after f d = tt
@@ -70,7 +68,7 @@ run_ends name limit (ImageRefused fault) image before after f d = absurd (not_im
 run_ends name limit Built image before after f d = absurd d
 run_ends name limit Usage image before after f d = absurd d
 
-build_ends : (name target : List ℕ) ( outcome : Outcome) (image : List ℕ) (before after : Outside) → IsAcceptedFile before.files name → Builds name target outcome image before after → IsOfBuild outcome
+build_ends : (name target : List ℕ) (outcome : Outcome) (image : List ℕ) (before after : Outside) → IsAcceptedFile before.files name → Builds name target outcome image before after → IsOfBuild outcome
 build_ends name target (Exited code) image before after f d = absurd d
 build_ends name target (Limit n) image before after f d = absurd d
 build_ends name target Memory image before after f d = tt

@@ -1,5 +1,5 @@
 -- `run` of the file that `build` left.
-use Rattle.std.proofs.Common.{◌≡◌, ◌<◌, ◌≤◌, ℕ, List, [], length, Option, Some, None, Ok, Err, refl, sym, ap, ◌∙◌, subst, arith}
+use Rattle.std.proofs.Common.{◌≡◌, ℕ, List, [], Option, Some, None, Ok, refl, sym, ap, ◌∙◌, subst}
 use Rattle.std.specs.Prelude.{IfSome}
 use Rattle.elf_image.specs.Tests.{image_fault}
 use Rattle.sb_outside.specs.Content.{Writes}
@@ -12,7 +12,7 @@ use Rattle.sbcets_core.specs.declared.outcome.Outcome.TheVariants.{Exited, Built
 use Rattle.sbcets_core.specs.declared.outcome.Outcome.TheVariants as outcomes
 use Rattle.sbcets_core.specs.Outcomes.{max_image_file}
 use Rattle.sbcets_core.specs.Accepted.{IsBuiltFrom}
-use Rattle.sbcets_core.specs.Doing.{Outside, Streams, DoesNothing, Holds, BuiltInto, IsBuiltOf, RunsImage, RanFile, Builds, Goes, Runs, outcome_of}
+use Rattle.sbcets_core.specs.Commands.{Outside, Streams, DoesNothing, Holds, RunsImage, RanFile, Builds, Goes, Runs, outcome_of}
 use Rattle.sbcets_core.proofs.Cases.{went_goes}
 use Rattle.sbcets_core.proofs.Complete.{read_is, not_too_long}
 

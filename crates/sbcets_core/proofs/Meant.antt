@@ -1,15 +1,12 @@
 -- What a run left in the streams is what the source means.
-use Rattle.std.proofs.Common.{◌≡◌, ℕ, List, Option, Some, None, refl, sym, ap, ◌∙◌}
+use Rattle.std.proofs.Common.{◌≡◌, ℕ, List, Some, sym, ap, ◌∙◌}
 use Rattle.behaviours.specs.Shown.{Shown, Status}
 use Rattle.sb_outside.specs.Content.{gained}
 use Rattle.elf_image.specs.Layout.{content_of}
-use Rattle.rv_sim.specs.declared.stop.Stop.{Stop}
 use Rattle.rv_sim.specs.declared.stop.Stop.TheVariants as stops
-use Rattle.rv_sim.specs.Run.{runs}
 use Rattle.rv_sim.specs.Start.{start_of}
-use Rattle.rv_sim.specs.Behaviour.{begun, behaviour, end_of}
-use Rattle.sbcets_core.specs.Meaning.{meaning}
-use Rattle.sbcets_core.specs.Doing.{Outside, Went}
+use Rattle.rv_sim.specs.Behaviour.{behaviour, end_of}
+use Rattle.sbcets_core.specs.Commands.{Outside, Went}
 use Rattle.sbcets_core.specs.Meant.{EndsAsMeant, GoesAsMeant}
 
 pub exit_meant : (name : List ℕ) (limit code : ℕ) (image : List ℕ) (before after : Outside) (went : Went name limit image (stops.Exited code) before after) (input : List ℕ) → before.streams.input ≡ Some input → EndsAsMeant went.built.program input limit code before.streams after.streams

@@ -1,6 +1,6 @@
 -- The run of an image by the machine that loads it.
-use Rattle.std.proofs.Common.{◌≡◌, ℕ, zero, suc, List, [], Option, Some, None, refl, sym, ap, ◌∙◌, subst}
-use Rattle.behaviours.specs.Shown.{End, Fault, Shown}
+use Rattle.std.proofs.Common.{◌≡◌, ℕ, zero, suc, List, Option, Some, None, refl, sym, ap, ◌∙◌, subst}
+use Rattle.behaviours.specs.Shown.{Fault, Shown}
 use Rattle.elf_image.specs.Content.{Content}
 use Rattle.elf_image.specs.Layout.{content_of}
 use Rattle.elf_image.specs.Tests.{image_fault}
@@ -12,13 +12,13 @@ use Rattle.rv_sim.specs.Run.{Configuration, runs}
 use Rattle.rv_sim.specs.Seen.{IsSeen, IsRun}
 use Rattle.rv_sim.specs.Simulation.{Simulation}
 use Rattle.rv_sim.specs.Start.{start_of}
-use Rattle.rv_sim.specs.Behaviour.{begun, behaviour, shown_by, end_of}
+use Rattle.rv_sim.specs.Behaviour.{begun, behaviour, end_of}
 use Rattle.sb_outside.proofs.Gains.{gained_nil}
 use Rattle.sbcets_core.specs.Source.{SourceProgram}
 use Rattle.sbcets_core.specs.Meaning.{meaning}
 use Rattle.sbcets_core.specs.Faithful.{IsFaithfulImage}
 use Rattle.sbcets_core.specs.Accepted.{IsBuiltFrom}
-use Rattle.sbcets_core.specs.Doing.{Streams, RunsImage}
+use Rattle.sbcets_core.specs.Commands.{Streams, RunsImage}
 
 -- what a machine that stands so answers of a run
 abbrev pub Told : Simulation → ℕ → Stop → MachineState → Streams → Streams → Type 0

@@ -1,6 +1,6 @@
 -- The command that the words ask for. The budgets have no effect on programs without calls and objects, and are only
 -- tested.
-use Rattle.std.specs.Prelude.{ℕ, Bool, true, List, Option, Some, None, is_none, if◌then◌else◌, option_and_then, map, String, string_bytes}
+use Rattle.std.specs.Prelude.{Bool, true, List, Option, Some, None, is_none, if◌then◌else◌, option_and_then, map, String, string_bytes}
 use Rattle.std.specs.declared.alloc.Global.{Global}
 use Rattle.sb_base.specs.Budgets.{BudgetSizes, budget_fault}
 use Rattle.command_line.specs.declared.command.BudgetNumbers.{BudgetNumbers}

@@ -1,8 +1,8 @@
 pub mod Accepted
 pub mod Code
 pub mod Commanded
+pub mod Commands
 pub mod Counting
-pub mod Doing
 pub mod Faithful
 pub mod Lexing
 pub mod Meaning

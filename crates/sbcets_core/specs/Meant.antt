@@ -1,10 +1,10 @@
 -- What the streams gained in a run, beside what the source means.
-use Rattle.std.specs.Prelude.{◌≡◌, ℕ, List, Some, None}
-use Rattle.behaviours.specs.Shown.{Shown, Status, IsPrefix}
+use Rattle.std.specs.Prelude.{◌≡◌, ℕ, List, Some}
+use Rattle.behaviours.specs.Shown.{Status, IsPrefix}
 use Rattle.sb_outside.specs.Content.{gained}
 use Rattle.sbcets_core.specs.Source.{SourceProgram}
 use Rattle.sbcets_core.specs.Meaning.{meaning}
-use Rattle.sbcets_core.specs.Doing.{Streams}
+use Rattle.sbcets_core.specs.Commands.{Streams}
 
 -- the program ends with this status within so many turns, and the output and the error output gained just what it shows
 pub record EndsAsMeant (program : SourceProgram) (input : List ℕ) (limit code : ℕ) (before after : Streams) : Type 0 where

@@ -11,7 +11,7 @@ use Rattle.sbcets_core.specs.Source.{SourceProgram}
 use Rattle.sbcets_core.specs.Outcomes.{max_source, max_image_file, tool_line}
 use Rattle.sbcets_core.specs.Accepted.{accepted}
 use Rattle.command_line.specs.Asked.{Asked, build, run, go}
-use Rattle.sbcets_core.specs.Doing.{Held, Outside, DoesNothing, Goes, Runs, Builds}
+use Rattle.sbcets_core.specs.Commands.{Held, Outside, DoesNothing, Goes, Runs, Builds}
 
 -- What the command comes to, its tool line apart. Words that are no command are Usage, and no others; want of memory may
 -- keep them from being read.

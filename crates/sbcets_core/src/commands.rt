@@ -4,7 +4,7 @@ ghost use Rattle.sb_outside.specs.Content.{gained, GainsPart};
 ghost use Rattle.sb_outside.specs.Faults.{CountsFaults};
 ghost use Rattle.elf_image.specs.Tests.{Fails, image_fault};
 ghost use Rattle.rv_sim.specs.Seen.{CountsInput, CountsOutput};
-ghost use Rattle.sbcets_core.specs.Doing.{Outside, Goes, Runs, Builds, Holds, IsUnread, IsUnbuilt, IsBuiltOf, ReadCounts, RunsImage, outcome_of, built_line};
+ghost use Rattle.sbcets_core.specs.Commands.{Outside, Goes, Runs, Builds, Holds, IsUnread, IsUnbuilt, IsBuiltOf, ReadCounts, RunsImage, outcome_of, built_line};
 ghost use Rattle.sbcets_core.specs.Counting.{CommandCounts};
 
 use crate::compiler::{MAX_SOURCE, compile};
@@ -114,12 +114,7 @@ pub fn build<F: Files, O: Sink>(
 }
 
 // All the bytes of a file of at most `max`, or the outcome without them.
-fn read_of<F: Files>(
-    alloc: Global,
-    name: &str,
-    max: u64,
-    files: &mut F,
-) -> Result<Vec<u8>, Outcome>
+fn read_of<F: Files>(alloc: Global, name: &str, max: u64, files: &mut F) -> Result<Vec<u8>, Outcome>
     ensures read { IfOk result (λ bytes. Holds (F.held files.old) name.now bytes.items) }
     ensures short { IfOk result (λ bytes. length bytes.items ≤ max) }
     ensures unread { IfErr result (λ outcome. IsUnread name.now max outcome (F.held files.old)) }
@@ -202,7 +197,7 @@ fn outcome_of(stop: Stop, limit: u64) -> Outcome
 }
 
 // Prints how many checks an image has, and how many were dropped.
-#[tactic(auto, unfolding(crate::specs::Doing::built_line))]
+#[tactic(auto, unfolding(crate::specs::Commands::built_line))]
 fn put_built_line<S: Sink>(sink: &mut S, checks: u64, dropped: u64) -> Result<(), Failed>
     ensures ok { OnOk result (S.taken sink.new ≡ gained (S.taken sink.old) (built_line checks dropped)) }
     ensures err { OnErr result (GainsPart (S.taken sink.old) (S.taken sink.new) (built_line checks dropped)) }

@@ -4,7 +4,7 @@ ghost use Rattle.std.specs.Prelude.{◌≡◌, ℕ, List, [], Option, Some};
 ghost use Rattle.sbcets_core.specs.declared.outcome.Outcome.{Outcome};
 ghost use Rattle.sbcets_core.specs.declared.outcome.Outcome.TheVariants.{Built};
 ghost use Rattle.rv_sim.specs.declared.stop.Stop.TheVariants.{Exited, Limit};
-ghost use Rattle.sbcets_core.specs.Doing.{Outside, Builds, Goes, Runs, Went};
+ghost use Rattle.sbcets_core.specs.Commands.{Outside, Builds, Goes, Runs, Went};
 ghost use Rattle.sbcets_core.specs.Meant.{EndsAsMeant, GoesAsMeant};
 
 /// `build` and then `run` compose: where a source was built into a file, and the files are the same

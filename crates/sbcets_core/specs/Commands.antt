@@ -1,5 +1,5 @@
 -- What each command comes to, and what it leaves outside, its tool line apart.
-use Rattle.std.specs.Prelude.{◌≡◌, ◌⊎◌, ℕ, ◌<◌, ◌≤◌, List, [], ◌++◌, length, Option, Some, None, Result, Ok, Err, IfSome, codes, decimal}
+use Rattle.std.specs.Prelude.{◌≡◌, ◌⊎◌, ℕ, ◌<◌, List, [], ◌++◌, length, Option, Some, None, Result, Ok, Err, IfSome, codes, decimal}
 use Rattle.sb_outside.specs.declared.source.Failed.{Failed}
 use Rattle.sb_outside.specs.Content.{gained, GainsPart, Writes}
 use Rattle.sb_outside.specs.Faults.{Rose}
@@ -13,13 +13,11 @@ use Rattle.rv_sim.specs.Seen.{IsRun}
 use Rattle.rv_sim.specs.Start.{start_of}
 use Rattle.rv_sim.specs.Behaviour.{begun}
 use Rattle.sbcets_core.specs.declared.refusal.SourceRefusal.{SourceRefusal}
-use Rattle.sbcets_core.specs.declared.outcome.ReadFault.{ReadFault}
 use Rattle.sbcets_core.specs.declared.outcome.ReadFault.TheVariants.{TooLong}
 use Rattle.sbcets_core.specs.declared.outcome.ReadFault.TheVariants as reads
 use Rattle.sbcets_core.specs.declared.outcome.Outcome.{Outcome}
 use Rattle.sbcets_core.specs.declared.outcome.Outcome.TheVariants.{Exited, Built, Usage, WriteFault, InputFault, Memory, Limit, Refused, ImageRefused, Trap}
 use Rattle.sbcets_core.specs.declared.outcome.Outcome.TheVariants as outcomes
-use Rattle.sbcets_core.specs.Source.{SourceProgram}
 use Rattle.sbcets_core.specs.Outcomes.{max_source, max_image_file}
 use Rattle.sbcets_core.specs.Accepted.{accepted, IsBuiltFrom}
 
@@ -52,7 +50,7 @@ pub record DoesNothing (image : List ℕ) (before after : Outside) : Type 0 wher
 pub record RunsImage (image : List ℕ) (limit : ℕ) (stop : Stop) (before after : Streams) : Type 0 where
   pub readable : image_fault image ≡ None
   pub run : (input : List ℕ) → before.input ≡ Some input →
-    (state : MachineState) × IsRun before.output before.errors stop limit (begun (start_of (content_of image)) input) state after.input after.output after.errors
+      (state : MachineState) × IsRun before.output before.errors stop limit (begun (start_of (content_of image)) input) state after.input after.output after.errors
 
 -- a file of this name was not read, since it has n bytes, more than max
 pub record IsTooLong (name : List ℕ) (max n most : ℕ) (held : Option (List ℕ → Option (List ℕ))) : Type 0 where
@@ -119,10 +117,6 @@ Runs name limit (Refused refusal) image before after = ⊥
 -- BUILD. The line that is printed for an image with so many checks, of which so many were dropped
 unfoldable pub built_line : (checks dropped : ℕ) → List ℕ
 built_line checks dropped = decimal checks ++ (codes " checks, " ++ (decimal dropped ++ codes " dropped\n"))
-
--- how a write of a file ended
-abbrev pub Written : Type 0
-Written = Result (Unit {0}) Failed
 
 -- a source was read, is accepted, and the file now holds the image that was built from it, or a part of that
 pub record BuiltInto (name target : List ℕ) (written : Result (Unit {0}) Failed) (image : List ℕ) (before after : Outside) : Type 0 where

@@ -284,6 +284,26 @@ fn load_immediate(rd: u8, number: u16) -> Instr
     }
 }
 
+// Loads into a0 from the address in a register.
+fn load(op: LoadOp, base: u8) -> Instr
+    requires { base < 32 }
+{
+    Instr::Load {
+        op,
+        rd: Reg::new(10),
+        rs1: Reg::new(base),
+        imm: Imm12::new(0),
+    }
+}
+
+// Jumps by two bytes, where no instruction may begin.
+fn jump_into_a_word() -> Instr {
+    Instr::Jal {
+        rd: Reg::new(0),
+        imm: JumpOffset::new(2),
+    }
+}
+
 // What `run` leaves of an image.
 fn run(alloc: Global, image: &[u8], streams: &Streams) -> Result<Left, Fail> {
     let mut files = sound_files(alloc, image)?;
@@ -292,16 +312,7 @@ fn run(alloc: Global, image: &[u8], streams: &Streams) -> Result<Left, Fail> {
 
 #[test]
 fn images_that_trap(rt: HostRuntime) -> Result<(), Fail> {
-    let load = Instr::Load {
-        op: LoadOp::Ld,
-        rd: Reg::new(10),
-        rs1: Reg::new(0),
-        imm: Imm12::new(0),
-    };
-    let jump = Instr::Jal {
-        rd: Reg::new(0),
-        imm: JumpOffset::new(2),
-    };
+    let access = load(LoadOp::Ld, 0);
     let rows: [(&[Instr], TrapKind, u64, &[u8]); 5] = [
         (
             &[],
@@ -310,13 +321,13 @@ fn images_that_trap(rt: HostRuntime) -> Result<(), Fail> {
             b"sbcets: error: trap illegal at 0x10000\n",
         ),
         (
-            &[load],
+            &[access],
             TrapKind::Access,
             0x1_0000,
             b"sbcets: error: trap access at 0x10000\n",
         ),
         (
-            &[jump],
+            &[jump_into_a_word()],
             TrapKind::Jump,
             0x1_0000,
             b"sbcets: error: trap jump at 0x10000\n",
@@ -373,12 +384,6 @@ fn reading_image(alloc: Global) -> Result<Vec<u8>, Fail> {
         rd: Reg::new(11),
         imm: Imm20::new(0x1_0000),
     };
-    let byte = Instr::Load {
-        op: LoadOp::Lbu,
-        rd: Reg::new(10),
-        rs1: Reg::new(11),
-        imm: Imm12::new(0),
-    };
     image_of(
         alloc,
         &[
@@ -386,7 +391,7 @@ fn reading_image(alloc: Global) -> Result<Vec<u8>, Fail> {
             load_immediate(12, 1),
             load_immediate(17, 63),
             Instr::Ecall,
-            byte,
+            load(LoadOp::Lbu, 11),
             load_immediate(17, 93),
             Instr::Ecall,
         ],

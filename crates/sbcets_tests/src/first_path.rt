@@ -19,9 +19,6 @@ fn call_on(
     call(alloc, spoken, &mut files, streams)
 }
 
-// A source, and the outcome, its status, the output and the error output.
-type Row<'a> = (&'a [u8], Outcome, u8, &'a [u8], &'a [u8]);
-
 fn unsupported() -> Outcome {
     Outcome::Refused(SourceRefusal::Unsupported)
 }
@@ -30,72 +27,57 @@ fn lexical_fault(at: u64, line: Line) -> Outcome {
     Outcome::Refused(SourceRefusal::Lex(LexFault { at, line }))
 }
 
+// A source, its status and its output.
+const ACCEPTED: [(&[u8], u8, &[u8]); 4] = [
+    (HI, 7, b"Hi"),
+    (b"int main(void){putchar(321);return 300;}", 44, b"A"),
+    (b"\tint\nmain ( void )\r\n{ return\x0b0 ; }\x0c", 0, b""),
+    (b"int main(void){return 9223372036854775807;}", 255, b""),
+];
+
 #[test]
-fn sources(rt: HostRuntime) -> Result<(), Fail> {
-    let rows: [Row; 9] = [
-        (HI, Outcome::Exited(7), 7, b"Hi", b""),
-        (
-            b"int main(void){putchar(321);return 300;}",
-            Outcome::Exited(44),
-            44,
-            b"A",
-            b"",
-        ),
-        (
-            b"\tint\nmain ( void )\r\n{ return\x0b0 ; }\x0c",
-            Outcome::Exited(0),
-            0,
-            b"",
-            b"",
-        ),
-        (
-            b"int main(void){return 9223372036854775807;}",
-            Outcome::Exited(255),
-            255,
-            b"",
-            b"",
-        ),
+fn accepted_sources(rt: HostRuntime) -> Result<(), Fail> {
+    for (source, status, output) in ACCEPTED.iter() {
+        let left = call_on(rt.alloc(), &["go", "hi.c"], source, &[], &SOUND)?;
+        assert_eq!(rt; left.shown().outcome, Outcome::Exited(*status));
+        assert_eq!(rt; left.shown().status, *status);
+        assert_eq!(rt; left.shown().output, *output);
+        assert_eq!(rt; left.shown().errors, b"".as_slice());
+    }
+    Ok(())
+}
+
+#[test]
+fn refused_sources(rt: HostRuntime) -> Result<(), Fail> {
+    let first = Line::first();
+    let rows: [(&[u8], Outcome, &[u8]); 5] = [
         (
             b"int main(void){return x;}",
             unsupported(),
-            110,
-            b"",
             b"sbcets: error: unsupported\n",
         ),
-        (
-            b"",
-            unsupported(),
-            110,
-            b"",
-            b"sbcets: error: unsupported\n",
-        ),
+        (b"", unsupported(), b"sbcets: error: unsupported\n"),
         (
             b"int main(void){return 0;}@",
-            lexical_fault(25, Line::first()),
-            110,
-            b"",
+            lexical_fault(25, first),
             b"sbcets: error: lexical fault at line 1\n",
         ),
         (
             b"int main(void){\n\nreturn 9223372036854775808;}",
-            lexical_fault(24, Line::first().next().next()),
-            110,
-            b"",
+            lexical_fault(24, first.next().next()),
             b"sbcets: error: lexical fault at line 3\n",
         ),
         (
             b"int main(void){return 00;}",
-            lexical_fault(22, Line::first()),
-            110,
-            b"",
+            lexical_fault(22, first),
             b"sbcets: error: lexical fault at line 1\n",
         ),
     ];
-    for (source, outcome, status, output, errors) in rows {
+    for (source, outcome, errors) in rows {
         let left = call_on(rt.alloc(), &["go", "hi.c"], source, &[], &SOUND)?;
         assert_eq!(rt; left.shown().outcome, outcome);
-        assert_eq!(rt; left.shown().status, status);
-        assert_eq!(rt; left.shown().output, output);
+        assert_eq!(rt; left.shown().status, 110);
+        assert_eq!(rt; left.shown().output, b"".as_slice());
         assert_eq!(rt; left.shown().errors, errors);
     }
     Ok(())

@@ -1,62 +1,23 @@
 // The first path through `sbcets`: every outcome, every line of the tool's own, every fault of the outside in turn.
 // Outputs, lines and statuses are those that the documents state (docs/LANGUAGE.md, docs/FORMATS.md).
-use crate::ROOM;
+use crate::outside::{HI, Left, SOUND, Streams, call, files_of};
 use sb_base::Line;
-use sb_outside::{MemFiles, MemSink, MemSource};
 use sbcets_core::lexer::LexFault;
-use sbcets_core::{Counted, Outcome, ReadFault, SourceRefusal, compile, sbcets};
+use sbcets_core::{Counted, Outcome, ReadFault, SourceRefusal, compile};
 use std::alloc::Global;
 use std::test::Fail;
 
-const HI: &[u8] = b"int main(void){putchar(72);putchar(105);return 7;}";
-
-// What it came to.
-#[derive(Drop)]
-struct Left {
-    outcome: Outcome,
-    output: Vec<u8>,
-    errors: Vec<u8>,
-    built: bool,
-}
-
-// The call of these words, where the one file is `hi.c`, with this text, and these calls of the outside fail.
-fn call(
+// What a call of these words shows, where `hi.c` has this text.
+fn call_on(
     alloc: Global,
     spoken: &[&str],
     source: &[u8],
     read_fails: &[u64],
-    output_fails: &[(u64, u64)],
-    error_fails: &[(u64, u64)],
+    streams: &Streams,
 ) -> Result<Left, Fail> {
-    let mut words = Vec::new(alloc);
-    for word in spoken {
-        words.push(String::from_str(alloc, word)?)?;
-    }
-    let mut pairs = Vec::new(alloc);
-    let name = String::from_str(alloc, "hi.c")?;
-    pairs.push((name, Vec::from_slice(alloc, source)?))?;
-    let mut files = MemFiles::new(alloc, &pairs, 0, read_fails, &[])?;
-    let mut input = MemSource::new(alloc, b"unread", &[])?;
-    let mut output = MemSink::new(alloc, ROOM, output_fails)?;
-    let mut errors = MemSink::new(alloc, ROOM, error_fails)?;
-    let (outcome, image) = sbcets(
-        alloc,
-        &words,
-        &mut files,
-        &mut input,
-        &mut output,
-        &mut errors,
-    );
-    Ok(Left {
-        outcome,
-        output: Vec::from_slice(alloc, output.bytes())?,
-        errors: Vec::from_slice(alloc, errors.bytes())?,
-        built: !image.is_empty(),
-    })
+    let mut files = files_of(alloc, &[("hi.c", source)], read_fails, &[])?;
+    call(alloc, spoken, &mut files, streams)
 }
-
-// A source, and the outcome, its status, the output and the error output.
-type Row<'a> = (&'a [u8], Outcome, u8, &'a [u8], &'a [u8]);
 
 fn unsupported() -> Outcome {
     Outcome::Refused(SourceRefusal::Unsupported)
@@ -66,73 +27,58 @@ fn lexical_fault(at: u64, line: Line) -> Outcome {
     Outcome::Refused(SourceRefusal::Lex(LexFault { at, line }))
 }
 
+// A source, its status and its output.
+const ACCEPTED: [(&[u8], u8, &[u8]); 4] = [
+    (HI, 7, b"Hi"),
+    (b"int main(void){putchar(321);return 300;}", 44, b"A"),
+    (b"\tint\nmain ( void )\r\n{ return\x0b0 ; }\x0c", 0, b""),
+    (b"int main(void){return 9223372036854775807;}", 255, b""),
+];
+
 #[test]
-fn sources(rt: HostRuntime) -> Result<(), Fail> {
-    let rows: [Row; 9] = [
-        (HI, Outcome::Exited(7), 7, b"Hi", b""),
-        (
-            b"int main(void){putchar(321);return 300;}",
-            Outcome::Exited(44),
-            44,
-            b"A",
-            b"",
-        ),
-        (
-            b"\tint\nmain ( void )\r\n{ return\x0b0 ; }\x0c",
-            Outcome::Exited(0),
-            0,
-            b"",
-            b"",
-        ),
-        (
-            b"int main(void){return 9223372036854775807;}",
-            Outcome::Exited(255),
-            255,
-            b"",
-            b"",
-        ),
+fn accepted_sources(rt: HostRuntime) -> Result<(), Fail> {
+    for (source, status, output) in ACCEPTED.iter() {
+        let left = call_on(rt.alloc(), &["go", "hi.c"], source, &[], &SOUND)?;
+        assert_eq!(rt; left.shown().outcome, Outcome::Exited(*status));
+        assert_eq!(rt; left.shown().status, *status);
+        assert_eq!(rt; left.shown().output, *output);
+        assert_eq!(rt; left.shown().errors, b"".as_slice());
+    }
+    Ok(())
+}
+
+#[test]
+fn refused_sources(rt: HostRuntime) -> Result<(), Fail> {
+    let first = Line::first();
+    let rows: [(&[u8], Outcome, &[u8]); 5] = [
         (
             b"int main(void){return x;}",
             unsupported(),
-            110,
-            b"",
             b"sbcets: error: unsupported\n",
         ),
-        (
-            b"",
-            unsupported(),
-            110,
-            b"",
-            b"sbcets: error: unsupported\n",
-        ),
+        (b"", unsupported(), b"sbcets: error: unsupported\n"),
         (
             b"int main(void){return 0;}@",
-            lexical_fault(25, Line::first()),
-            110,
-            b"",
+            lexical_fault(25, first),
             b"sbcets: error: lexical fault at line 1\n",
         ),
         (
             b"int main(void){\n\nreturn 9223372036854775808;}",
-            lexical_fault(24, Line::first().next().next()),
-            110,
-            b"",
+            lexical_fault(24, first.next().next()),
             b"sbcets: error: lexical fault at line 3\n",
         ),
         (
             b"int main(void){return 00;}",
-            lexical_fault(22, Line::first()),
-            110,
-            b"",
+            lexical_fault(22, first),
             b"sbcets: error: lexical fault at line 1\n",
         ),
     ];
-    for (source, outcome, status, output, errors) in rows {
-        let left = call(rt.alloc(), &["go", "hi.c"], source, &[], &[], &[])?;
-        assert_eq!(rt; left.outcome, outcome);
-        assert_eq!(rt; left.outcome.status(), status);
-        assert_eq!(rt; left.output.as_slice(), output);
-        assert_eq!(rt; left.errors.as_slice(), errors);
+    for (source, outcome, errors) in rows {
+        let left = call_on(rt.alloc(), &["go", "hi.c"], source, &[], &SOUND)?;
+        assert_eq!(rt; left.shown().outcome, outcome);
+        assert_eq!(rt; left.shown().status, 110);
+        assert_eq!(rt; left.shown().output, b"".as_slice());
+        assert_eq!(rt; left.shown().errors, errors);
     }
     Ok(())
 }
@@ -146,14 +92,7 @@ fn words_and_files(rt: HostRuntime) -> Result<(), Fail> {
     let alloc = rt.alloc();
     let usage: &[u8] = b"sbcets: error: usage\n";
     let cannot: &[u8] = b"sbcets: error: cannot read\n";
-    let rows: [(&[&str], &[u64], Outcome, u8, &[u8]); 8] = [
-        (
-            &["build", "hi.c", "hi.img"],
-            &[],
-            Outcome::Usage,
-            101,
-            usage,
-        ),
+    let rows: [(&[&str], &[u64], Outcome, u8, &[u8]); 7] = [
         (&[], &[], Outcome::Usage, 101, usage),
         (&["go"], &[], Outcome::Usage, 101, usage),
         (&["go", "-hi.c"], &[], Outcome::Usage, 101, usage),
@@ -163,12 +102,12 @@ fn words_and_files(rt: HostRuntime) -> Result<(), Fail> {
         (&["go", "hi.c"], &[0], failed(), 102, cannot),
     ];
     for (words, read_fails, outcome, status, line) in rows {
-        let left = call(alloc, words, HI, read_fails, &[], &[])?;
-        assert_eq!(rt; left.outcome, outcome);
-        assert_eq!(rt; left.outcome.status(), status);
-        assert_eq!(rt; left.output.as_slice(), b"".as_slice());
-        assert_eq!(rt; left.errors.as_slice(), line);
-        assert!(rt; !left.built);
+        let left = call_on(alloc, words, HI, read_fails, &SOUND)?;
+        assert_eq!(rt; left.shown().outcome, outcome);
+        assert_eq!(rt; left.shown().status, status);
+        assert_eq!(rt; left.shown().output, b"".as_slice());
+        assert_eq!(rt; left.shown().errors, line);
+        assert!(rt; left.image().is_empty());
     }
     Ok(())
 }
@@ -189,15 +128,18 @@ fn largest_sources(rt: HostRuntime) -> Result<(), Fail> {
         ),
         (
             1_048_577,
-            Outcome::ReadFault(ReadFault::TooLong(1_048_577)),
+            Outcome::ReadFault(ReadFault::TooLong {
+                len: 1_048_577,
+                max: 1_048_576,
+            }),
             b"sbcets: error: file of more than 1048576 bytes\n",
         ),
     ];
     for (count, outcome, line) in rows {
         let source = spaces(alloc, count)?;
-        let left = call(alloc, &["go", "hi.c"], &source, &[], &[], &[])?;
-        assert_eq!(rt; left.outcome, outcome);
-        assert_eq!(rt; left.errors.as_slice(), line);
+        let left = call_on(alloc, &["go", "hi.c"], &source, &[], &SOUND)?;
+        assert_eq!(rt; left.shown().outcome, outcome);
+        assert_eq!(rt; left.shown().errors, line);
     }
     let too_large = SourceRefusal::TooLarge {
         which: Counted::Source,
@@ -224,18 +166,16 @@ fn sinks_that_fail(rt: HostRuntime) -> Result<(), Fail> {
         (refused, none, &[(1, 9)], b"", b"sbcets: error: unsupport"),
     ];
     for (source, output_fails, error_fails, output, errors) in rows {
-        let left = call(
-            alloc,
-            &["go", "hi.c"],
-            source,
-            &[],
+        let streams = Streams {
             output_fails,
             error_fails,
-        )?;
-        assert_eq!(rt; left.outcome, Outcome::WriteFault);
-        assert_eq!(rt; left.outcome.status(), 103);
-        assert_eq!(rt; left.output.as_slice(), output);
-        assert_eq!(rt; left.errors.as_slice(), errors);
+            ..SOUND
+        };
+        let left = call_on(alloc, &["go", "hi.c"], source, &[], &streams)?;
+        assert_eq!(rt; left.shown().outcome, Outcome::WriteFault);
+        assert_eq!(rt; left.shown().status, 103);
+        assert_eq!(rt; left.shown().output, output);
+        assert_eq!(rt; left.shown().errors, errors);
     }
     Ok(())
 }

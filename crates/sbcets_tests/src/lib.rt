@@ -2,7 +2,11 @@
 #![tactic(auto)]
 
 #[cfg(test)]
+mod commands;
+#[cfg(test)]
 mod first_path;
+#[cfg(test)]
+mod outside;
 
 /// How many bytes the sinks of the tests can take.
 pub const ROOM: u64 = 64;

@@ -1,7 +1,9 @@
-//! The outside of the process: its standard streams and the files of the system. What they give or
-//! take is not told: these adapters are trusted to hand on what the system says.
-ghost use Rattle.std.specs.Prelude.{◌≡◌, ◌≤◌, ◌^◌, ◌<◌, None};
-ghost use Rattle.sb_outside.specs.Content.{ReadsUntold};
+//! The outside of the process: its standard streams and the files of the system. What the system
+//! gives or takes is not told; the adapters hand on what a reader or a writer that tells it does.
+ghost use Rattle.std.specs.Prelude.{◌≡◌, ◌≤◌, ◌^◌, ◌<◌, None, Some, IfSome, IfOk, OnOk, OnErr};
+ghost use Rattle.std.specs.Io.KnownBytes.{Appends};
+ghost use Rattle.sb_outside.specs.Content.{ReadsUntold, Takes, GainsPart, gained};
+ghost use Rattle.sb_outside.specs.Faults.{CountsFaults};
 
 use crate::files::{FileFault, Files};
 use crate::sink::Sink;
@@ -31,7 +33,12 @@ impl<R: Read> Source for StdSource<R> {
 
     ghost faults = { λ s. s.faults };
 
-    fn take(&mut self) -> Result<Option<u8>, Failed> {
+    /// Where the reader tells what is left, the byte is its next, and the end its end.
+    fn take(&mut self) -> Result<Option<u8>, Failed>
+        ensures content { Takes None None result }
+        ensures cause { CountsFaults self.old.faults self.new.faults result }
+        ensures told { IfSome (R.remaining self.old.reader) (λ bytes. Takes (Some bytes) (R.remaining self.new.reader) result) }
+    {
         let mut byte = [0; 1];
         match self.reader.read(&mut byte) {
             Ok(0) => Ok(None),
@@ -63,8 +70,14 @@ impl<W: Write> Sink for StdSink<W> {
 
     ghost faults = { λ s. s.faults };
 
-    fn put(&mut self, bytes: &[u8]) -> Result<(), Failed> {
-        if write_whole(&mut self.writer, bytes) {
+    /// Where the writer tells its content, that has gained all the bytes.
+    fn put(&mut self, bytes: &[u8]) -> Result<(), Failed>
+        ensures ok { OnOk result (None ≡ gained None bytes.now) }
+        ensures err { OnErr result (GainsPart None None bytes.now) }
+        ensures cause { CountsFaults self.old.faults self.new.faults result }
+        ensures told { OnOk result (Appends (W.contents self.old.writer) (W.contents self.new.writer) bytes.now) }
+    {
+        if self.writer.write_all(bytes).is_ok() {
             return Ok(());
         }
         self.faults = self.faults.saturating_add(1);
@@ -112,7 +125,7 @@ impl<'a, R: rt::Files> Files for HostFiles<'a, R> {
 
     fn write(&mut self, name: &str, bytes: &[u8]) -> Result<(), Failed> {
         let written = match fs::create(self.runtime, name) {
-            Ok(mut file) => write_whole(&mut file, bytes),
+            Ok(mut file) => file.write_all(bytes).is_ok(),
             Err(_) => false,
         };
         if written {
@@ -123,21 +136,10 @@ impl<'a, R: rt::Files> Files for HostFiles<'a, R> {
     }
 }
 
-// Writes all the bytes, piece by piece. It is false where the writer failed or took nothing.
-fn write_whole<W: Write>(writer: &mut W, bytes: &[u8]) -> bool {
-    let mut at = 0;
-    while at < bytes.len() {
-        match writer.write(&bytes[at..]) {
-            Ok(0) | Err(_) => return false,
-            Ok(count) => at += count,
-        }
-    }
-    true
-}
-
 // All that a reader gives, where it is at most `max` bytes. At most one more is read.
 fn read_whole<R: Read>(alloc: Global, reader: &mut R, max: u64) -> Result<Vec<u8>, FileFault>
-    ensures { ReadsUntold max result }
+    ensures length { ReadsUntold max result }
+    ensures told { IfOk result (λ bytes. IfSome (R.remaining reader.old) (λ all. bytes.items ≡ all)) }
 {
     let mut bytes = Vec::new(alloc);
     let mut chunk = [0; CHUNK];

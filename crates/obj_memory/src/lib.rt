@@ -1,0 +1,14 @@
+//! Objects, pointer tags, the judgement of accesses, and the arithmetic of integer types.
+#![tactic(auto)]
+
+pub mod int_type;
+pub mod judgement;
+pub mod object;
+pub mod operator;
+pub mod value;
+
+pub use int_type::IntType;
+pub use judgement::Verdict;
+pub use object::{Object, Storage};
+pub use operator::{BinaryOperator, UnaryOperator};
+pub use value::{Bounds, Place, Scalar, Tag, Value};

@@ -1,0 +1,51 @@
+//! Values: words with tags.
+
+use crate::int_type::IntType;
+
+/// The addresses that a pointer may reach: from `base` to before `bound` (SoftBound, "base and bound"). There are none
+/// where `bound` is not above `base`.
+#[derive(Clone, Copy, Debug, PartialEq, Eq)]
+pub struct Bounds {
+    /// The first address.
+    pub base: u64,
+    /// One past the last address.
+    pub bound: u64,
+}
+
+/// What a pointer was made from.
+#[derive(Clone, Copy, Debug, PartialEq, Eq)]
+pub enum Tag {
+    /// Nothing that may be reached: an integer, or a null pointer.
+    Untagged,
+    /// A function, by its number.
+    OfFunction(usize),
+    /// Some addresses of an object, which goes by its number.
+    OfObject(usize, Bounds),
+}
+
+/// A value of a scalar type (C99 6.2.5): a word, and a tag, which only a pointer has.
+#[derive(Clone, Copy, Debug, PartialEq, Eq)]
+pub struct Value {
+    /// An integer modulo 2^64, or an address.
+    pub word: u64,
+    /// What a pointer was made from.
+    pub tag: Tag,
+}
+
+/// A scalar type (C99 6.2.5), as reads and writes know it.
+#[derive(Clone, Copy, Debug, PartialEq, Eq)]
+pub enum Scalar {
+    /// An integer type.
+    Integer(IntType),
+    /// A pointer type, 8 bytes.
+    Pointer,
+}
+
+/// A byte of an object.
+#[derive(Clone, Copy, Debug, PartialEq, Eq)]
+pub struct Place {
+    /// The number of the object.
+    pub object: usize,
+    /// The number of bytes before it in the object.
+    pub offset: u64,
+}

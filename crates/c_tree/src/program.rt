@@ -1,0 +1,54 @@
+//! Typed programs (C99 6.9).
+
+use crate::expression::Kind;
+use crate::statement::{Part, Statement};
+use sb_base::Line;
+use std::alloc::Global;
+
+/// A parameter or automatic variable of a function.
+#[derive(Clone, Copy, Debug, PartialEq, Eq)]
+pub struct Variable {
+    /// What it holds.
+    pub kind: Kind,
+    /// Whether it is an object: its address is taken, or it is an array, a structure or a union.
+    pub is_object: bool,
+}
+
+/// A function that the source defines.
+#[derive(Drop)]
+pub struct Function {
+    /// The line of its name in its definition.
+    pub line: Line,
+    /// The number of its type among the function types of the program.
+    pub type_number: usize,
+    /// Its parameters, which have the first numbers of its variables.
+    pub parameters: Vec<Variable>,
+    /// Its automatic variables in order of declaration, which have the next numbers.
+    pub variables: Vec<Variable>,
+    /// The statements and declarations of its block.
+    pub body: Vec<Statement>,
+    /// The bytes of the budget `calls` that a call of it takes.
+    pub room: u64,
+}
+
+/// A static object: a variable at file scope, a static one in a block, or a string literal.
+#[derive(Drop)]
+pub struct StaticObject {
+    /// What it holds.
+    pub kind: Kind,
+    /// Whether it is a string literal, which has no name.
+    pub is_literal: bool,
+    /// Its initializer.
+    pub parts: Vec<Part>,
+}
+
+/// A program.
+#[derive(Drop)]
+pub struct Program {
+    /// The static objects in the order in which their names or their tokens stand.
+    pub statics: Vec<StaticObject>,
+    /// The functions in the order of their definitions.
+    pub functions: Vec<Function>,
+    /// The number of `main`.
+    pub main: usize,
+}

@@ -1,13 +1,17 @@
 //! C types and their layout, and the typed tree of a program.
 #![tactic(auto)]
 
+pub mod c_type;
 pub mod expression;
+pub mod layout;
 pub mod program;
 pub mod statement;
 
+pub use crate::c_type::{CType, Extent, MAX_SIZE, TypeWord};
 pub use crate::expression::{
     Expression, Fixity, Kind, Lvalue, LvalueNode, Node, OffsetForm, PlainName, Routine, Update,
 };
+pub use crate::layout::{array_size, member_offsets, structure_of, union_of};
 pub use crate::program::{Function, Program, StaticObject, Variable};
 pub use crate::statement::{
     CaseLabel, Content, First, Initialization, Part, Statement, SwitchItem,

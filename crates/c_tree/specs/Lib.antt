@@ -1,2 +1,4 @@
 pub mod Types
 pub mod Layout
+pub mod Room
+pub mod Format

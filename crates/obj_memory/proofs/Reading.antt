@@ -2,6 +2,8 @@
 use Rattle.std.proofs.Common.{◌≡◌, ◌≢◌, ℕ, zero, suc, ◌+◌, ◌-◌, ◌*◌, ◌/◌, ◌%◌, ◌^◌, ◌<◌, ◌≤◌, Bool, true, false, ◌==◌, if◌then◌else◌, ◌⊎◌, inl, inr, List, [], ◌∷◌, length, take, drop, get_or, set, refl, ap, sym, ◌∙◌, subst, arith, length-set}
 use Rattle.std.proofs.lemmas.Bool.{eqb-true}
 use Rattle.std.proofs.lemmas.List.{get_or-set_same, get_or-set_other}
+use Rattle.std.proofs.Math.Nat.{mod-eq_of_lt}
+use Rattle.obj_memory.specs.declared.int_type.IntType.{IntType}
 use Rattle.obj_memory.specs.declared.value.Tag.{Tag}
 use Rattle.obj_memory.specs.declared.value.Tag.TheVariants.{Untagged}
 use Rattle.obj_memory.specs.declared.value.Value.{Value}
@@ -11,12 +13,13 @@ use Rattle.obj_memory.specs.declared.value.Scalar.TheVariants.{Integer, Pointer}
 use Rattle.obj_memory.specs.Integers.{size_of, fit}
 use Rattle.obj_memory.specs.Objects.{ObjectState, Objects, no_object, object_at}
 use Rattle.obj_memory.specs.Access.{is_aligned, bytes_at, tag_at, little_bytes, little_number, overwrite, scalar_size, read_value, write_bytes, write_tag, write_value, kept_value}
-use Rattle.obj_memory.specs.Sound.{IsSound, IsPlace, AreApart, IsSoundTag}
+use Rattle.obj_memory.specs.Sound.{KeepsObjects, IsSound, IsPlace, AreApart, IsSoundTag}
 use Rattle.obj_memory.specs.Sound.AreApart.{InOthers, Before, Behind}
 use Rattle.obj_memory.proofs.Listed.{at_set, overwrite-read, overwrite-other}
-use Rattle.obj_memory.proofs.Bytes.{length-little_bytes, little_number-bytes, little_number_below}
+use Rattle.obj_memory.proofs.Bytes.{little_bytes_below, length-little_bytes, little_number-bytes, little_number_below}
 use Rattle.obj_memory.proofs.Words.{fit_bytes, fit_below}
-use Rattle.obj_memory.proofs.Soundness.{bytes_at_below}
+use Rattle.obj_memory.proofs.Soundness.{bytes_at_below, length-bytes_at, sound_bytes}
+use Rattle.obj_memory.proofs.Keeping.{keeps_bytes}
 
 -- the object of a write, and the others
 pub object_set : (objects : Objects) (n : ℕ) (x : ObjectState) → n < length objects → object_at (set objects n x) n ≡ x
@@ -128,3 +131,85 @@ tag_apart t p q objects apart = go (is_aligned p.offset) (is_aligned q.offset) r
         let w : p.offset % 8 ≡ 0 = eqb-true _ _ e in
         let v : q.offset % 8 ≡ 0 = eqb-true _ _ f in
         word_apart t p q objects (omega (arith, w, v, le))
+
+-- a place stays one
+pub place_kept : (old new : Objects) (p : Place) (size : ℕ) → KeepsObjects old new → IsPlace old p size → IsPlace new p size
+place_kept old new p size k place = record {
+  made = omega (arith, k.count, place.made);
+  room = omega (arith, (k.at p.object).size, place.room);
+}
+
+-- the bytes beside a write
+integer_apart : (t : IntType) (v : Value) (p q : Place) (n : ℕ) (objects : Objects) → IsSound objects → IsPlace objects p (size_of t) → AreApart p (size_of t) q n
+    → bytes_at n q (write_bytes (little_bytes (size_of t) v.word) p objects) ≡ bytes_at n q objects
+integer_apart t v p q n objects h place apart =
+    let new = little_bytes (size_of t) v.word in
+    let long : length new ≡ size_of t = length-little_bytes (size_of t) v.word in
+    bytes_apart new p q n objects h (subst (λ k. IsPlace objects p k) (sym long) place) (subst (λ k. AreApart p k q n) (sym long) apart)
+
+pointer_apart : (v : Value) (p q : Place) (n : ℕ) (objects : Objects) → IsSound objects → IsPlace objects p 8 → AreApart p 8 q n
+    → bytes_at n q (write_tag v.tag p (write_bytes (little_bytes 8 v.word) p objects)) ≡ bytes_at n q objects
+pointer_apart v p q n objects h place apart =
+    let new = little_bytes 8 v.word in
+    let long : length new ≡ 8 = length-little_bytes 8 v.word in
+    bytes_after_tag v.tag p q n (write_bytes new p objects)
+    ∙ bytes_apart new p q n objects h (subst (λ k. IsPlace objects p k) (sym long) place) (subst (λ k. AreApart p k q n) (sym long) apart)
+
+-- values
+pub read_written : (s : Scalar) (v : Value) (p : Place) (objects : Objects) → IsSound objects → IsPlace objects p (scalar_size s) → v.word < 2 ^ 64
+    → read_value s p (write_value s v p objects) ≡ kept_value s v p
+unfolding read_value write_value kept_value
+read_written (Integer t) v p objects h place small =
+    let new = little_bytes (size_of t) v.word in
+    let long : length new ≡ size_of t = length-little_bytes (size_of t) v.word in
+    let same : bytes_at (size_of t) p (write_bytes new p objects) ≡ new =
+    subst (λ n. bytes_at n p (write_bytes new p objects) ≡ new) long
+    (bytes_written new p objects h (subst (λ n. IsPlace objects p n) (sym long) place)) in
+    ap (λ n. record { word = fit t n; tag = Untagged }) (ap little_number same ∙ little_number-bytes (size_of t) v.word)
+    ∙ ap (λ n. record { word = n; tag = Untagged }) (fit_bytes t v.word)
+read_written Pointer v p objects h place small =
+    let new = little_bytes 8 v.word in
+    let after = write_bytes new p objects in
+    let long : length new ≡ 8 = length-little_bytes 8 v.word in
+    let same : bytes_at 8 p after ≡ new =
+    subst (λ n. bytes_at n p after ≡ new) long (bytes_written new p objects h (subst (λ n. IsPlace objects p n) (sym long) place)) in
+    let bytes : bytes_at 8 p (write_tag v.tag p after) ≡ new = bytes_after_tag v.tag p p 8 after ∙ same in
+    let number : little_number (bytes_at 8 p (write_tag v.tag p after)) ≡ v.word =
+    ap little_number bytes ∙ little_number-bytes 8 v.word ∙ mod-eq_of_lt small in
+    let sound : IsSound after = sound_bytes new p objects h (subst (λ n. IsPlace objects p n) (sym long) place) (little_bytes_below 8 v.word) in
+    let there : IsPlace after p 8 = place_kept objects after p 8 (keeps_bytes new p objects) place in
+    ap (λ n. record { word = n; tag = tag_at p (write_tag v.tag p after) }) number
+    ∙ ap (λ t. record { word = v.word; tag = t }) (tag_written v.tag p after sound there)
+
+pub read_apart : (s : Scalar) (v : Value) (p : Place) (r : Scalar) (q : Place) (objects : Objects) → IsSound objects → IsPlace objects p (scalar_size s)
+    → AreApart p (scalar_size s) q (scalar_size r) → read_value r q (write_value s v p objects) ≡ read_value r q objects
+unfolding read_value write_value
+read_apart (Integer t) v p (Integer u) q objects h place apart =
+    ap (λ bs. record { word = fit u (little_number bs); tag = Untagged }) (integer_apart t v p q (size_of u) objects h place apart)
+read_apart (Integer t) v p Pointer q objects h place apart =
+    ap (λ bs. record { word = little_number bs; tag = tag_at q (write_bytes (little_bytes (size_of t) v.word) p objects) }) (integer_apart t v p q 8 objects h place apart)
+    ∙ ap (λ x. record { word = little_number (bytes_at 8 q objects); tag = x }) (tags_after_bytes (little_bytes (size_of t) v.word) p q objects)
+read_apart Pointer v p (Integer u) q objects h place apart =
+    ap (λ bs. record { word = fit u (little_number bs); tag = Untagged }) (pointer_apart v p q (size_of u) objects h place apart)
+read_apart Pointer v p Pointer q objects h place apart =
+    let after = write_bytes (little_bytes 8 v.word) p objects in
+    ap (λ bs. record { word = little_number bs; tag = tag_at q (write_tag v.tag p after) }) (pointer_apart v p q 8 objects h place apart)
+    ∙ ap (λ x. record { word = little_number (bytes_at 8 q objects); tag = x })
+    (tag_apart v.tag p q after apart ∙ tags_after_bytes (little_bytes 8 v.word) p q objects)
+
+-- a value that is read
+pub read_below : (s : Scalar) (p : Place) (objects : Objects) → IsSound objects → IsPlace objects p (scalar_size s) → (read_value s p objects).word < 2 ^ 64
+unfolding read_value
+read_below (Integer t) p objects h place = fit_below t _
+read_below Pointer p objects h place =
+    let long : 8 * length (bytes_at 8 p objects) ≡ 64 = ap (λ n. 8 * n) (length-bytes_at 8 p objects h place) in
+    subst (λ n. little_number (bytes_at 8 p objects) < 2 ^ n) long (little_number_below (bytes_at 8 p objects) (bytes_at_below 8 p objects h))
+
+pub sound_read : (s : Scalar) (p : Place) (objects : Objects) → IsSound objects → IsSoundTag objects (read_value s p objects).tag
+unfolding read_value
+sound_read (Integer t) p objects h = tt
+sound_read Pointer p objects h =
+    elim (is_aligned p.offset) as (λ b. IsSoundTag objects (if b then get_or (object_at objects p.object).tags (p.offset / 8) Untagged else Untagged)) [
+      | true ↦ (h.at p.object).tag (p.offset / 8)
+      | false ↦ tt
+    ]

@@ -1,11 +1,12 @@
 -- What always holds of the objects of a run.
-use Rattle.std.specs.Prelude.{◌≡◌, ℕ, ◌+◌, ◌/◌, ◌%◌, ◌<◌, ◌≤◌, ◌≢◌, true, false, length, get_or}
+use Rattle.std.specs.Prelude.{◌≡◌, ℕ, ◌+◌, ◌*◌, ◌/◌, ◌%◌, ◌⊎◌, ◌<◌, ◌≤◌, ◌≢◌, true, false, length, get_or}
 use Rattle.obj_memory.specs.declared.value.Bounds.{Bounds}
 use Rattle.obj_memory.specs.declared.value.Tag.{Tag}
 use Rattle.obj_memory.specs.declared.value.Tag.TheVariants.{Untagged, OfFunction, OfObject}
 use Rattle.obj_memory.specs.declared.value.Value.{Value}
 use Rattle.obj_memory.specs.declared.value.Place.{Place}
 use Rattle.obj_memory.specs.Objects.{ObjectState, Objects, object_at}
+use Rattle.obj_memory.specs.Heap.{block_room, is_live_block, has_room}
 
 -- a tag names an object of the list, and its bounds, where there is anything between them, lie in that object
 pub record IsTagOf (objects : Objects) (object : ℕ) (b : Bounds) : Type 0 where
@@ -65,3 +66,15 @@ pub data AreApart (p : Place) (size : ℕ) (q : Place) (count : ℕ) : Type 0 wh
   InOthers : q.object ≢ p.object → AreApart p size q count
   Before : q.offset + count ≤ p.offset → AreApart p size q count
   Behind : p.offset + size ≤ q.offset → AreApart p size q count
+
+-- a range of addresses ends before a block, or begins behind it
+abbrev pub IsClearOf : (start room : ℕ) → ObjectState → Type 0
+IsClearOf start room o = (start + room ≤ o.address) ⊎ (o.address + block_room o.size ≤ start)
+
+-- the place of a block in a heap: it lies in the heap, clear of every live block, and no multiple of 16 below it would do
+pub record IsBlockPlace (first last size : ℕ) (objects : Objects) (place : ℕ) : Type 0 where
+  pub step : ℕ
+  pub is_step : place ≡ first + 16 * step
+  pub in_heap : place + block_room size ≤ last + 1
+  pub clear : (n : ℕ) → is_live_block (object_at objects n) ≡ true → IsClearOf place (block_room size) (object_at objects n)
+  pub least : (i : ℕ) → i < step → has_room last (block_room size) objects (first + 16 * i) ≡ false

@@ -58,6 +58,11 @@ unfoldable pub write_value : Scalar → Value → Place → Objects → Objects
 write_value (Integer t) v p objects = write_bytes (little_bytes (size_of t) v.word) p objects
 write_value Pointer v p objects = write_tag v.tag p (write_bytes (little_bytes 8 v.word) p objects)
 
+-- what a scalar at a place keeps of a value that is written to it
+unfoldable pub kept_value : Scalar → Value → Place → Value
+kept_value (Integer t) v p = record { word = fit t v.word; tag = Untagged }
+kept_value Pointer v p = record { word = v.word; tag = if is_aligned p.offset then v.tag else Untagged }
+
 -- whether the word of a number lies in a range
 abbrev pub is_word_in : (start size word : ℕ) → Bool
 is_word_in start size word = nat_le start (8 * word) && nat_le (8 * word + 8) (start + size)

@@ -8,7 +8,7 @@ pub mod operator;
 pub mod value;
 
 pub use int_type::IntType;
-pub use judgement::Verdict;
+pub use judgement::{Verdict, judge, named};
 pub use object::{Object, Storage};
 pub use operator::{BinaryOperator, UnaryOperator};
 pub use value::{Bounds, Place, Scalar, Tag, Value};

@@ -1,4 +1,7 @@
 pub mod Types
 pub mod Layout
+pub mod Kinds
 pub mod Room
+pub mod Valid
 pub mod Format
+pub mod ValidProgram

@@ -1,4 +1,4 @@
-pub mod Types
+pub mod Extents
 pub mod Layout
 pub mod Kinds
 pub mod Room

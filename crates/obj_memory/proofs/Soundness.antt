@@ -45,7 +45,7 @@ sound_set objects n x h l s = record {
 pub sound_added : (objects : Objects) (x : ObjectState) → IsSound objects → IsSoundObject objects x → IsSound (objects ++ (x ∷ []))
 sound_added objects x h s = record {
   at = λ m. sound_object_continues objects (objects ++ (x ∷ [])) (continues_added objects x) _
-      (at_added (λ o. IsSoundObject objects o) no_object objects m x s (h.at m));
+      (at_added (λ o. IsSoundObject objects o) no_object objects m x (λ e. s) (h.at m));
 }
 
 pub sound_none : IsSound []

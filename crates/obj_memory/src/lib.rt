@@ -3,6 +3,7 @@
 
 pub mod int_type;
 pub mod judgement;
+pub mod laws;
 pub mod object;
 pub mod operator;
 pub mod value;

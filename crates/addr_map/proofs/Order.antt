@@ -1,9 +1,9 @@
 -- The regions stand in order, in whole pages.
-use Rattle.std.proofs.Common.{◌≡◌, ℕ, zero, suc, ◌+◌, ◌-◌, ◌*◌, ◌/◌, ◌%◌, ◌^◌, ◌<◌, ◌≤◌, ◌⊎◌, inl, inr, refl, ap, sym, ◌∙◌, subst, arith}
+use Rattle.std.proofs.Common.{◌≡◌, ℕ, zero, suc, ◌+◌, ◌%◌, ◌<◌, ◌≤◌, ◌⊎◌, inl, inr, refl, ap, sym, ◌∙◌, subst, arith}
 use Rattle.std.proofs.Math.Nat.{eq-or-lt_of_le}
 use Rattle.addr_map.specs.declared.region.Region.{Region}
 use Rattle.addr_map.specs.declared.region.Region.TheVariants.{Rows, Code, Globals, Stack, Heap, Shadow, Locks, FreeLocks, Blocks, Calls, Cells}
-use Rattle.addr_map.specs.Places.{MapSizes, AreMapped, whole_pages, object_space, lock_count, order_of, region_size, region_start, region_end}
+use Rattle.addr_map.specs.Places.{MapSizes, AreMapped, whole_pages, order_of, region_size, region_start, region_end}
 
 pages_below : (n bound : ℕ) → n + 4095 ≤ bound → whole_pages n ≤ bound
 pages_below n bound h = omega (arith, h)

@@ -1,5 +1,5 @@
 -- Where the regions of a compiled program's memory stand.
-use Rattle.std.specs.Prelude.{◌≡◌, ℕ, ◌+◌, ◌-◌, ◌*◌, ◌/◌, ◌≤◌, nat_le, if◌then◌else◌, Result, Ok, Err}
+use Rattle.std.specs.Prelude.{ℕ, ◌+◌, ◌-◌, ◌*◌, ◌/◌, ◌≤◌, nat_le, if◌then◌else◌, Result, Ok, Err}
 use Rattle.sb_base.specs.Budgets.{BudgetSizes, AreInRange}
 use Rattle.addr_map.specs.declared.region.Region.{Region}
 use Rattle.addr_map.specs.declared.region.Region.TheVariants.{Rows, Code, Globals, Stack, Heap, Shadow, Locks, FreeLocks, Blocks, Calls, Cells}

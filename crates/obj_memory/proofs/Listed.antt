@@ -1,5 +1,5 @@
 -- Lists with other elements from a place on.
-use Rattle.std.proofs.Common.{◌≡◌, ℕ, zero, suc, ◌+◌, ◌-◌, ◌*◌, ◌%◌, ◌^◌, ◌<◌, ◌≤◌, List, [], ◌∷◌, ◌++◌, length, take, drop, get_or, arith, ◌⊎◌, inl, inr, sym, ap, subst, refl, ◌∙◌, set, replicate, length-take, length-drop}
+use Rattle.std.proofs.Common.{◌≡◌, ℕ, zero, suc, ◌+◌, ◌<◌, ◌≤◌, List, [], ◌∷◌, ◌++◌, length, take, drop, get_or, arith, ◌⊎◌, inl, inr, sym, ap, subst, refl, ◌∙◌, set, replicate, length-take, length-drop}
 use Rattle.std.proofs.lemmas.List.{ext_get_or, get_or-take, get_or-drop}
 use Rattle.std.proofs.lemmas.Grind.{common_steps}
 use Rattle.obj_memory.specs.Access.{overwrite}
@@ -85,8 +85,8 @@ module _ {A : Type 0} (P : A → Type 0) (d : A) where
   at_set (y ∷ ys) (suc n) (suc m) x p q = at_set ys n m x (λ e. p (ap suc e)) q
 
   -- an element of a list to which one was added
-  pub at_added : (xs : List A) (m : ℕ) (x : A) → P x → P (get_or xs m d) → P (get_or (xs ++ (x ∷ [])) m d)
-  at_added [] zero x p q = p
+  pub at_added : (xs : List A) (m : ℕ) (x : A) → (m ≡ length xs → P x) → P (get_or xs m d) → P (get_or (xs ++ (x ∷ [])) m d)
+  at_added [] zero x p q = p refl
   at_added [] (suc m) x p q = q
   at_added (y ∷ ys) zero x p q = q
-  at_added (y ∷ ys) (suc m) x p q = at_added ys m x p q
+  at_added (y ∷ ys) (suc m) x p q = at_added ys m x (λ e. p (ap suc e)) q

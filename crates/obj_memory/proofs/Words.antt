@@ -1,5 +1,5 @@
 -- Laws of conversions and operators on words.
-use Rattle.std.proofs.Common.{◌≡◌, ℕ, ◌+◌, ◌-◌, ◌*◌, ◌%◌, ◌^◌, ◌<◌, ◌≤◌, Bool, true, false, ◌==◌, if◌then◌else◌, Some, None, arith}
+use Rattle.std.proofs.Common.{◌≡◌, ℕ, ◌*◌, ◌%◌, ◌^◌, ◌<◌, Bool, true, false, ◌==◌, if◌then◌else◌, Some, None, refl, arith}
 use Rattle.std.specs.Prelude.{IfSome}
 use Rattle.std.specs.Int.Bits.{and_lt, or_lt, xor_lt}
 use Rattle.obj_memory.specs.declared.int_type.IntType.{IntType}
@@ -100,3 +100,17 @@ binary_below LessOrEqual t x y p q = one_if_below _
 binary_below GreaterOrEqual t x y p q = one_if_below _
 binary_below Equal t x y p q = one_if_below _
 binary_below NotEqual t x y p q = one_if_below _
+
+pub fit_zero : (t : IntType) → fit t 0 ≡ 0
+unfolding fit
+fit_zero Char = refl
+fit_zero SignedChar = refl
+fit_zero UnsignedChar = refl
+fit_zero Short = refl
+fit_zero UnsignedShort = refl
+fit_zero Int = refl
+fit_zero UnsignedInt = refl
+fit_zero Long = refl
+fit_zero UnsignedLong = refl
+fit_zero LongLong = refl
+fit_zero UnsignedLongLong = refl

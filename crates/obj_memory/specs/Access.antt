@@ -29,9 +29,13 @@ bytes_at size p objects = take size (drop p.offset (object_at objects p.object).
 abbrev pub is_aligned : (offset : ℕ) → Bool
 is_aligned offset = offset % 8 == 0
 
+-- the tag of a word of an object
+abbrev pub tag_of : (object word : ℕ) → Objects → Tag
+tag_of object word objects = get_or (object_at objects object).tags word Untagged
+
+-- the tag of the word at a place, none where none begins there
 abbrev pub tag_at : Place → Objects → Tag
-tag_at p objects =
-    if is_aligned p.offset then get_or (object_at objects p.object).tags (p.offset / 8) Untagged else Untagged
+tag_at p objects = if is_aligned p.offset then tag_of p.object (p.offset / 8) objects else Untagged
 
 -- the number of bytes of a scalar
 abbrev pub scalar_size : Scalar → ℕ

@@ -78,3 +78,19 @@ pub record IsBlockPlace (first last size : ℕ) (objects : Objects) (place : ℕ
   pub in_heap : place + block_room size ≤ last + 1
   pub clear : (n : ℕ) → is_live_block (object_at objects n) ≡ true → IsClearOf place (block_room size) (object_at objects n)
   pub least : (i : ℕ) → i < step → has_room last (block_room size) objects (first + 16 * i) ≡ false
+
+-- a tag that reaches no more than another: the same object or function, and bounds within the other's
+abbrev pub IsPartOf : (part whole : Tag) → Type 0
+IsPartOf Untagged Untagged = Unit {0}
+IsPartOf (OfFunction f) (OfFunction g) = f ≡ g
+IsPartOf (OfObject o b) (OfObject n c) = (o ≡ n) × (c.base ≤ b.base) × (b.bound ≤ c.bound)
+IsPartOf _ _ = ⊥
+
+-- two ranges of addresses that do not meet
+abbrev pub DoNotMeet : (start size other count : ℕ) → Type 0
+DoNotMeet start size other count = (start + size ≤ other) ⊎ (other + count ≤ start)
+
+-- no two live objects share an address
+pub record AreDisjoint (objects : Objects) : Type 0 where
+  pub apart : (m n : ℕ) → m ≢ n → (object_at objects m).is_live ≡ true → (object_at objects n).is_live ≡ true
+      → DoNotMeet (object_at objects m).address (object_at objects m).size (object_at objects n).address (object_at objects n).size

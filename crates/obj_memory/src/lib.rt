@@ -3,6 +3,7 @@
 
 pub mod int_type;
 pub mod judgement;
+pub mod laws;
 pub mod object;
 pub mod operator;
 pub mod value;
@@ -12,3 +13,6 @@ pub use judgement::{Verdict, judge, named};
 pub use object::{Object, Storage};
 pub use operator::{BinaryOperator, UnaryOperator};
 pub use value::{Bounds, Place, Scalar, Tag, Value};
+
+#[cfg(test)]
+mod tests;

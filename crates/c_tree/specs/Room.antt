@@ -1,10 +1,9 @@
 -- The bytes of the budget `calls` that a call of a function takes: a home for each variable, for the values that are needed while
 -- the highest of its expressions is evaluated, and for the tags of its arguments and its result.
-use Rattle.std.specs.Prelude.{ℕ, zero, suc, ◌+◌, ◌*◌, max, List, [], ◌∷◌, ◌++◌, map, length, Option, Some, None}
+use Rattle.std.specs.Prelude.{ℕ, suc, ◌+◌, ◌*◌, max, List, [], ◌∷◌, map, length, Option, Some, None}
 use Rattle.c_tree.specs.declared.expression.Expression.{Expression}
 use Rattle.c_tree.specs.declared.expression.Node.{Node, Constant, Function, Plain, Read', Decay', Address', Parenthesized', FunctionDesignator', Cast', Convert', Unary', Binary', Offset', Difference', And', Or', Comma', Conditional', Assign', SetPlain', Compound', ChangePlain', Step', StepPlain, Call', CallThrough', Library', Printf', Row_of-Expression, end_of-Expression, more_of-Expression}
 use Rattle.c_tree.specs.declared.expression.LvalueNode as lvalue
-use Rattle.c_tree.specs.declared.statement.Part.{Part}
 use Rattle.c_tree.specs.declared.statement.Content.{Content}
 use Rattle.c_tree.specs.declared.statement.Content.TheVariants.{Value, Literal}
 use Rattle.c_tree.specs.declared.statement.Initialization.{Initialization}

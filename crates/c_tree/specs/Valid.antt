@@ -1,17 +1,15 @@
 -- What makes a program valid: each node has the kind that C99 6.5 gives it, each name stands for something of that kind, and each
 -- statement stands where it may (6.8).
-use Rattle.std.specs.Prelude.{ℕ, zero, suc, ◌+◌, Bool, true, false, not, ◌&&◌, ◌||◌, ◌==◌, nat_eq, nat_lt, nat_le, if◌then◌else◌, List, [], ◌∷◌, ◌++◌, map, length, Option, Some, None, get_or}
-use Rattle.std.specs.List.{list_all}
+use Rattle.std.specs.Prelude.{ℕ, Bool, true, false, not, ◌&&◌, ◌==◌, nat_lt, List, [], ◌∷◌, length, Option, Some, None, get_or}
 use Rattle.obj_memory.specs.declared.int_type.IntType.{IntType}
 use Rattle.obj_memory.specs.declared.int_type.IntType.TheVariants.{Int, Long}
 use Rattle.obj_memory.specs.declared.operator.UnaryOperator.{UnaryOperator}
 use Rattle.obj_memory.specs.declared.operator.UnaryOperator.TheVariants.{Plus, Negate, Complement, Not}
-use Rattle.obj_memory.specs.declared.value.Scalar.TheVariants.{Integer, Pointer}
+use Rattle.obj_memory.specs.declared.value.Scalar.TheVariants.{Integer}
 use Rattle.obj_memory.specs.Integers.{fit}
 use Rattle.c_tree.specs.declared.expression.Expression.{Expression}
 use Rattle.c_tree.specs.declared.expression.Kind.{Kind}
 use Rattle.c_tree.specs.declared.expression.Kind.TheVariants as kind
-use Rattle.c_tree.specs.declared.expression.PlainName.{PlainName}
 use Rattle.c_tree.specs.declared.expression.Update.{Update}
 use Rattle.c_tree.specs.declared.expression.Update.TheVariants as update
 use Rattle.c_tree.specs.declared.expression.Node.{Node, Constant, Function, Plain, Read', Decay', Address', Parenthesized', FunctionDesignator', Cast', Convert', Unary', Binary', Offset', Difference', And', Or', Comma', Conditional', Assign', SetPlain', Compound', ChangePlain', Step', StepPlain, Call', CallThrough', Library', Printf', Row_of-Expression, end_of-Expression, more_of-Expression}

@@ -1,5 +1,5 @@
 -- Valid statements, functions and programs (C99 6.7.8, 6.8, 6.9).
-use Rattle.std.specs.Prelude.{ℕ, zero, suc, ◌+◌, Bool, true, false, not, ◌&&◌, ◌||◌, ◌==◌, nat_lt, nat_le, List, [], ◌∷◌, ◌++◌, map, length, Option, Some, None}
+use Rattle.std.specs.Prelude.{ℕ, zero, suc, ◌+◌, Bool, true, false, not, ◌&&◌, ◌||◌, ◌==◌, nat_le, List, [], ◌∷◌, ◌++◌, map, length, Option, Some, None}
 use Rattle.std.specs.List.{list_all, list_any}
 use Rattle.obj_memory.specs.declared.int_type.IntType.TheVariants.{Int}
 use Rattle.c_tree.specs.declared.expression.Expression.{Expression}
@@ -23,7 +23,7 @@ use Rattle.c_tree.specs.declared.statement.Statement as statement
 use Rattle.c_tree.specs.declared.statement.Statement.{Statement, Row_of-Statement, end_of-Statement, more_of-Statement, Row_of-SwitchItem, end_of-SwitchItem, more_of-SwitchItem}
 use Rattle.c_tree.specs.Kinds.{integer, is_kind, size_of_kind, is_promoted, is_value, is_scalar, Signature}
 use Rattle.c_tree.specs.Room.{room}
-use Rattle.c_tree.specs.Valid.{Scope, is_constant, is_plain, is_automatic, variable_at, is_valid_expression, is_condition, has_number, no_signature}
+use Rattle.c_tree.specs.Valid.{Scope, is_constant, is_plain, variable_at, is_valid_expression, is_condition, has_number, no_signature}
 
 -- what a part of an initializer stores lies in the object (6.7.8)
 abbrev pub content_size : Content → ℕ

@@ -1,1 +1,9 @@
+pub mod Characters
+pub mod Constants
+pub mod Literals
+pub mod Longest
+pub mod Separators
 pub mod Spelled
+pub mod Spellings
+pub mod Text
+pub mod Words

@@ -10,17 +10,17 @@ use Rattle.c_lexer.specs.Characters.{is_octal_digit, is_hexadecimal_digit, digit
 -- the value of a simple escape sequence, by the byte behind its backslash
 unfoldable pub simple_escape : ℕ → Option ℕ
 simple_escape b =
-    if b == 39 then Some 39            -- \'
-    else (if b == 34 then Some 34      -- \"
-    else (if b == 63 then Some 63      -- \?
-    else (if b == 92 then Some 92      -- \\
-    else (if b == 97 then Some 7       -- \a
-    else (if b == 98 then Some 8       -- \b
-    else (if b == 102 then Some 12     -- \f
-    else (if b == 110 then Some 10     -- \n
-    else (if b == 114 then Some 13     -- \r
-    else (if b == 116 then Some 9      -- \t
-    else (if b == 118 then Some 11     -- \v
+    if b == 39 then Some 39  -- \'
+    else (if b == 34 then Some 34  -- \"
+    else (if b == 63 then Some 63  -- \?
+    else (if b == 92 then Some 92  -- \\
+    else (if b == 97 then Some 7  -- \a
+    else (if b == 98 then Some 8  -- \b
+    else (if b == 102 then Some 12  -- \f
+    else (if b == 110 then Some 10  -- \n
+    else (if b == 114 then Some 13  -- \r
+    else (if b == 116 then Some 9  -- \t
+    else (if b == 118 then Some 11  -- \v
     else None))))))))))
 
 -- where a character may begin
@@ -70,6 +70,10 @@ ended Escape = []
 ended (Octal digits v) = v ∷ []
 ended HexadecimalStart = []
 ended (Hexadecimal v) = v ∷ []
+
+abbrev pub listed : Option ℕ → List ℕ
+listed None = []
+listed (Some v) = v ∷ []
 
 abbrev pub behind : List ℕ → Option (List ℕ) → Option (List ℕ)
 behind front None = None

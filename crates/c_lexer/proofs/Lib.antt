@@ -2,3 +2,4 @@ pub mod Digits
 pub mod Ends
 pub mod Gaps
 pub mod LiteralBytes
+pub mod Scanned

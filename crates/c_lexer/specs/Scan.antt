@@ -64,19 +64,23 @@ unfoldable pub scan_punctuator : List ℕ → Option (Word × ℕ)
 scan_punctuator z = punctuator_found (find (λ p. starts_with nat_eq z (punctuator_spelling p)) PUNCTUATORS)
 
 -- of a text that begins with a nondigit
-unfoldable pub scan_name : List ℕ → Option (Word × ℕ)
-scan_name z =
+unfoldable pub scan_identifier : List ℕ → Word × ℕ
+scan_identifier z =
     let n = prefix_len continues_identifier z in
-    Some (named (take n z) (keyword_of (take n z)), n)
+    (named (take n z) (keyword_of (take n z)), n)
 
-abbrev pub wide_or : List ℕ → Option ℕ → Option (Word × ℕ)
-wide_or z None = scan_name z
-wide_or z (Some n) = Some (word.Wide (take (suc n) z), suc n)
+abbrev pub wide_or_identifier : List ℕ → Option ℕ → Word × ℕ
+wide_or_identifier z None = scan_identifier z
+wide_or_identifier z (Some n) = (word.Wide (take (suc n) z), suc n)
+
+unfoldable pub scan_name : List ℕ → Word × ℕ
+scan_name [] = scan_identifier []
+scan_name (b ∷ z) = if b == 76 then wide_or_identifier (b ∷ z) (literal_length z) else scan_identifier (b ∷ z)
 
 unfoldable pub scan : List ℕ → Option (Word × ℕ)
 scan [] = None
 scan (b ∷ z) =
-    if is_nondigit b then (if b == 76 then wide_or (b ∷ z) (literal_length z) else scan_name (b ∷ z))
+    if is_nondigit b then Some (scan_name (b ∷ z))
     else (if is_digit b || (b == 46 && begins_digit z) then cut word.Integer (b ∷ z) (Some (suc (number_length b z)))
     else (if b == 34 then cut word.StringLiteral (b ∷ z) (literal_length (b ∷ z))
     else (if b == 39 then cut word.Character (b ∷ z) (literal_length (b ∷ z))

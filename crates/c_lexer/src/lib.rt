@@ -7,6 +7,7 @@ pub mod keyword;
 pub mod lexer;
 pub mod literal;
 pub mod punctuator;
+pub mod scan;
 pub mod separator;
 pub mod token;
 

@@ -10,10 +10,10 @@ use Rattle.c_lexer.specs.declared.literal.LiteralState.{LiteralState}
 use Rattle.c_lexer.specs.declared.literal.LiteralState.TheVariants.{Start}
 use Rattle.c_lexer.specs.declared.literal.LiteralStep.{LiteralStep}
 use Rattle.c_lexer.specs.declared.literal.LiteralStep.TheVariants.{Refused, Closes, Begins, Continues}
-use Rattle.c_lexer.specs.Characters.{is_digit, is_nondigit, continues_identifier}
+use Rattle.c_lexer.specs.Characters.{is_nondigit, continues_identifier}
 use Rattle.c_lexer.specs.Literals.{literal_step}
 use Rattle.c_lexer.specs.Spellings.{keyword_of, punctuator_spelling}
-use Rattle.c_lexer.specs.Words.{continues_number, begins_digit, is_character, named}
+use Rattle.c_lexer.specs.Words.{continues_number, begins_number, is_character, named}
 
 -- how many bytes go on with a number
 abbrev pub number_length : ℕ → List ℕ → ℕ
@@ -77,11 +77,17 @@ unfoldable pub scan_name : List ℕ → Word × ℕ
 scan_name [] = scan_identifier []
 scan_name (b ∷ z) = if b == 76 then wide_or_identifier (b ∷ z) (literal_length z) else scan_identifier (b ∷ z)
 
+-- of a text that begins with a number
+unfoldable pub scan_number : ℕ → List ℕ → Word × ℕ
+scan_number b z =
+    let n = suc (number_length b z) in
+    (word.Integer (take n (b ∷ z)), n)
+
 unfoldable pub scan : List ℕ → Option (Word × ℕ)
 scan [] = None
 scan (b ∷ z) =
     if is_nondigit b then Some (scan_name (b ∷ z))
-    else (if is_digit b || (b == 46 && begins_digit z) then cut word.Integer (b ∷ z) (Some (suc (number_length b z)))
+    else (if begins_number b z then Some (scan_number b z)
     else (if b == 34 then cut word.StringLiteral (b ∷ z) (literal_length (b ∷ z))
     else (if b == 39 then cut word.Character (b ∷ z) (literal_length (b ∷ z))
     else scan_punctuator (b ∷ z))))

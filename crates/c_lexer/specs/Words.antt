@@ -29,10 +29,14 @@ abbrev pub begins_digit : List ℕ → Bool
 begins_digit [] = false
 begins_digit (b ∷ z) = is_digit b
 
+-- a digit, or `.` and a digit
+abbrev pub begins_number : ℕ → List ℕ → Bool
+begins_number b z = is_digit b || (b == 46 && begins_digit z)
+
 -- a preprocessing number (C99 6.4.8)
 abbrev pub is_number : List ℕ → Bool
 is_number [] = false
-is_number (b ∷ z) = (is_digit b || (b == 46 && begins_digit z)) && all_continue_number b z
+is_number (b ∷ z) = begins_number b z && all_continue_number b z
 
 -- a character constant of one character
 abbrev pub is_character : List ℕ → Bool
@@ -41,10 +45,13 @@ is_character z = is_some (character_value z)
 abbrev pub is_string : List ℕ → Bool
 is_string z = is_some (bytes_of_literal z)
 
+abbrev pub is_literal : List ℕ → Bool
+is_literal z = is_character z || is_string z
+
 -- an `L` directly before a character constant or a string literal
 abbrev pub is_wide : List ℕ → Bool
 is_wide [] = false
-is_wide (b ∷ z) = b == 76 && (is_character z || is_string z)
+is_wide (b ∷ z) = b == 76 && is_literal z
 
 abbrev pub named : List ℕ → Option Keyword → Word
 named z None = word.Identifier z

@@ -1,6 +1,6 @@
 //! The token at the front of a text, found from left to right.
 
-ghost use Rattle.std.specs.Prelude.{◌≡◌, ◌<◌, ◌≤◌, ◌^◌, length, Some, IfSome, take, bytes_eq, nat_eq, IsTrue};
+ghost use Rattle.std.specs.Prelude.{◌≡◌, ◌<◌, ◌≤◌, ◌^◌, length, Some, IfSome, take, bytes_eq, nat_eq, ◌∷◌};
 ghost use Rattle.std.specs.List.{prefix_len, find, starts_with};
 ghost use Rattle.c_lexer.specs.Characters.{continues_identifier};
 ghost use Rattle.c_lexer.specs.Longest.{front_token, longest, valid, begins_comment};
@@ -160,6 +160,23 @@ fn begins_digit(text: &[u8]) -> bool
     }
 }
 
+fn begins_number(first: u8, rest: &[u8]) -> bool
+    ensures { result ≡ words.begins_number first rest.now }
+{
+    is_digit(first) || (first == b'.' && begins_digit(rest))
+}
+
+// Of a text that begins with a number.
+#[tactic(auto, unfolding(crate::specs::Scan::scan_number))]
+fn scan_number<'a>(first: u8, text: &'a [u8], rest: &[u8]) -> (Word<'a>, usize)
+    requires small { length text.now < 2 ^ 63 }
+    requires front { text.now ≡ first ∷ rest.now }
+    ensures { result ≡ spec.scan_number first rest.now }
+{
+    let length = number_length(first, rest) + 1;
+    (Word::Integer(Spelling::new(&text[..length])), length)
+}
+
 // The token at the front, from left to right.
 #[tactic(auto, unfolding(crate::specs::Scan::scan))]
 fn scan(text: &[u8]) -> Option<(Word<'_>, usize)>
@@ -172,9 +189,8 @@ fn scan(text: &[u8]) -> Option<(Word<'_>, usize)>
     if is_nondigit(*first) {
         return Some(scan_name(text));
     }
-    if is_digit(*first) || (*first == b'.' && begins_digit(rest)) {
-        let length = number_length(*first, rest) + 1;
-        return Some((Word::Integer(Spelling::new(&text[..length])), length));
+    if begins_number(*first, rest) {
+        return Some(scan_number(*first, text, rest));
     }
     if *first == b'"' {
         let length = literal_length(text)?;

@@ -203,14 +203,10 @@ fn scan(text: &[u8]) -> Option<(Word<'_>, usize)>
     scan_punctuator(text)
 }
 
-/// The longest token at the front of a text that begins with no white space and no whole comment, and its length. `None`
-/// where none stands: at the end, at a comment that is never closed, and at a number that is no integer constant with a
-/// type.
-#[tactic(auto, using(crate::proofs::Scanned::scan_longest, crate::proofs::Scanned::front_within), unfolding(crate::specs::Longest::front_token))]
-pub fn front_token(text: &[u8]) -> Option<(Word<'_>, usize)>
+#[tactic(auto, using(crate::proofs::Scanned::scan_longest), unfolding(crate::specs::Longest::front_token))]
+fn scan_valid(text: &[u8]) -> Option<(Word<'_>, usize)>
     requires { length text.now < 2 ^ 63 }
-    ensures value { result ≡ front_token text.now }
-    ensures within { IfSome result (λ t. (1 ≤ t.1) × (t.1 ≤ length text.now)) }
+    ensures { result ≡ front_token text.now }
 {
     if let [b'/', b'*', ..] = text {
         return None;
@@ -222,4 +218,15 @@ pub fn front_token(text: &[u8]) -> Option<(Word<'_>, usize)>
         return None;
     }
     Some((word, length))
+}
+
+/// The longest token at the front of a text that begins with no white space and no whole comment, and its length. `None`
+/// where none stands: at the end, at a comment that is never closed, and at a number that is no integer constant with a
+/// type.
+pub fn front_token(text: &[u8]) -> Option<(Word<'_>, usize)>
+    requires { length text.now < 2 ^ 63 }
+    ensures value { result ≡ front_token text.now }
+    ensures within { IfSome result (λ t. (1 ≤ t.1) × (t.1 ≤ length text.now)) }
+{
+    scan_valid(text)
 }

@@ -7,7 +7,6 @@ pub mod Machine
 pub mod Meant
 pub mod Pieces
 pub mod Running
-pub mod Scanning
-pub mod Statements
+pub mod Steps
 pub mod Theorem
 pub mod Words

@@ -9,6 +9,8 @@ pub mod literal;
 pub mod punctuator;
 pub mod scan;
 pub mod separator;
+#[cfg(test)]
+mod tests;
 pub mod token;
 
 pub use crate::integer::{IntegerConstant, IntegerType, constant_of};

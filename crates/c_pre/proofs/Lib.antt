@@ -1,0 +1,4 @@
+pub mod Stacks
+pub mod Traces
+pub mod Giving
+pub mod Tables

@@ -1,0 +1,53 @@
+//! A whole text.
+
+ghost use Rattle.std.specs.Prelude.{◌≡◌, ◌≤◌, length};
+ghost use Rattle.c_pre.specs.Reading as spec;
+ghost use Rattle.c_pre.specs.Outcomes.{Gives, line_rest};
+
+use crate::fault::PreError;
+use crate::preprocessor::Preprocessor;
+use c_lexer::{Token, Tokens};
+use std::alloc::Global;
+
+/// How many of these tokens still belong to the line before them.
+fn line_rest(tokens: &[Token<'_>]) -> usize
+    ensures value { result ≡ line_rest tokens.now }
+    ensures within { result ≤ length tokens.now }
+{
+    let mut n = 0;
+    let mut rest = tokens;
+    while let [token, more @ ..] = rest {
+        if token.begins_line {
+            return n;
+        }
+        n += 1;
+        rest = more;
+    }
+    n
+}
+
+/// The expanded tokens of a text, or its first fault.
+fn expand_tokens<'a>(alloc: Global, tokens: &[Token<'a>]) -> Result<Vec<Token<'a>>, PreError>
+    ensures { Gives (λ v. v.items) result (spec.expanded_tokens tokens.now) }
+{
+    let mut preprocessor = Preprocessor::new(alloc);
+    let mut out = Vec::new(alloc);
+    let mut rest = tokens;
+    while let [_, more @ ..] = rest {
+        let len = line_rest(more) + 1;
+        preprocessor.read_line(&rest[..len], &mut out)?;
+        rest = &rest[len..];
+    }
+    preprocessor.finish()?;
+    Ok(out)
+}
+
+/// Obeys the directives of a text and expands its macros: exactly the expanded tokens, or the first fault in the order
+/// of the text. A token that a macro puts in has the line of the macro's use in the text, and otherwise stays as it
+/// stands in the definition. The line on which the text ends stays.
+pub fn expand<'a>(alloc: Global, tokens: Tokens<'a>) -> Result<Tokens<'a>, PreError>
+    ensures { Gives (λ list. list) result (spec.expanded tokens.entry) }
+{
+    let expanded = expand_tokens(alloc, tokens.as_slice())?;
+    Ok(Tokens::new(expanded, tokens.end()))
+}

@@ -1,5 +1,5 @@
 -- All lines of a text.
-use Rattle.std.proofs.Common.{◌≡◌, ℕ, ◌≤◌, true, [], ◌∷◌, length, Ok, nat_le, refl, sym, ap, subst, ◌∙◌, append-nil, arith}
+use Rattle.std.proofs.Common.{◌≡◌, ℕ, ◌≤◌, true, [], ◌∷◌, length, drop, length-drop, Ok, nat_le, refl, sym, ap, subst, ◌∙◌, append-nil, arith}
 use Rattle.std.proofs.lemmas.Bool.{le-leb}
 use Rattle.c_pre.specs.declared.fault.PreError.{PreError}
 use Rattle.c_pre.specs.declared.fault.PreError.TheVariants.{Memory, Fault}
@@ -31,9 +31,9 @@ nil : (rest : Tokens) → length rest ≡ 0 → rest ≡ []
 nil [] e = refl
 nil (t ∷ rest) e = absurd (omega arith)
 
-module _ (tokens rest : Tokens) (s : State) (a : Tokens) (same : read_lines start (lines tokens) ≡ after a (read_lines s (lines rest))) (none : length rest ≡ 0) (few : length a ≤ MAX_EXPANDED_TOKENS) where
+module _ (tokens : Tokens) (at : ℕ) (s : State) (a : Tokens) (same : read_lines start (lines tokens) ≡ after a (read_lines s (lines (drop at tokens)))) (none : length tokens ≤ at) (few : length a ≤ MAX_EXPANDED_TOKENS) where
   at_end : read_lines start (lines tokens) ≡ after a (finished s.sections)
-  at_end = same ∙ ap (λ r. after a (read_lines s (lines r))) (nil rest none)
+  at_end = same ∙ ap (λ r. after a (read_lines s (lines r))) (nil (drop at tokens) (omega (arith, length-drop at tokens)))
 
   pub end_failed : (error : PreError) → Stops (finished s.sections) error → Refuses error (expanded_tokens tokens)
   end_failed error h = refuses tokens error (subst (λ t. Fails t error) (sym at_end) (stopped (finished s.sections) a error few h))

@@ -69,3 +69,8 @@ line_of_kind k.UnknownDirective = d.unknown_directive
 abbrev pub line_rest : Tokens → ℕ
 line_rest [] = 0
 line_rest (token ∷ more) = if token.begins_line then 0 else suc (line_rest more)
+
+-- for the code: how many tokens the first line has
+abbrev pub line_len : Tokens → ℕ
+line_len [] = 0
+line_len (token ∷ more) = suc (line_rest more)

@@ -2,7 +2,7 @@
 
 ghost use Rattle.std.specs.Prelude.{◌≡◌, ◌≤◌, length};
 ghost use Rattle.c_pre.specs.Reading as spec;
-ghost use Rattle.c_pre.specs.Outcomes.{Gives, line_rest};
+ghost use Rattle.c_pre.specs.Outcomes.{Gives, line_len, line_rest};
 
 use crate::fault::PreError;
 use crate::preprocessor::Preprocessor;
@@ -26,17 +26,29 @@ fn line_rest(tokens: &[Token<'_>]) -> usize
     n
 }
 
+/// How many tokens the first line has, at least one where there are tokens.
+fn line_len(tokens: &[Token<'_>]) -> usize
+    ensures value { result ≡ line_len tokens.now }
+    ensures within { result ≤ length tokens.now }
+{
+    match tokens {
+        [] => 0,
+        [_, more @ ..] => line_rest(more) + 1,
+    }
+}
+
 /// The expanded tokens of a text, or its first fault.
 fn expand_tokens<'a>(alloc: Global, tokens: &[Token<'a>]) -> Result<Vec<Token<'a>>, PreError>
     ensures { Gives (λ v. v.items) result (spec.expanded_tokens tokens.now) }
 {
     let mut preprocessor = Preprocessor::new(alloc);
     let mut out = Vec::new(alloc);
-    let mut rest = tokens;
-    while let [_, more @ ..] = rest {
-        let len = line_rest(more) + 1;
+    let mut at = 0;
+    while at < tokens.len() {
+        let rest = &tokens[at..];
+        let len = line_len(rest);
         preprocessor.read_line(&rest[..len], &mut out)?;
-        rest = &rest[len..];
+        at += len;
     }
     preprocessor.finish()?;
     Ok(out)

@@ -1,4 +1,4 @@
-use Rattle.std.proofs.Common.{◌≡◌, ◌≤◌, length}
+use Rattle.std.proofs.Common.{◌≡◌, ◌≤◌, ◌-◌, length, drop}
 use Rattle.c_pre.specs.declared.TheConstants.{MAX_EXPANDED_TOKENS}
 use Rattle.c_pre.specs.Lines.{lines}
 use Rattle.c_pre.specs.Trace.{after}
@@ -6,11 +6,12 @@ use Rattle.c_pre.specs.Reading.{read_lines, start}
 use Rattle.c_pre.specs.Outcomes.{state_of}
 use Rattle.c_pre.proofs.text.expand_tokens.Given as goal
 
-abbrev pub invariant-loop-rest : goal.invariant-loop-rest
-invariant-loop-rest l = record {
-  same : read_lines start (lines l.tokens) ≡ after l.out.items (read_lines (state_of l.preprocessor) (lines l.rest));
+abbrev pub invariant-loop-at : goal.invariant-loop-at
+invariant-loop-at l = record {
+  same : read_lines start (lines l.tokens) ≡ after l.out.items (read_lines (state_of l.preprocessor) (lines (drop l.at l.tokens)));
   few : length l.out.items ≤ MAX_EXPANDED_TOKENS;
+  within : l.at ≤ length l.tokens;
 }
 
-abbrev pub decreases-loop-rest : goal.decreases-loop-rest
-decreases-loop-rest l = length l.rest
+abbrev pub decreases-loop-at : goal.decreases-loop-at
+decreases-loop-at l = length l.tokens - l.at

@@ -63,7 +63,9 @@ pub fn expand_line<'t, 'a>(
     let mut room = room;
     while let Some(token) = reader.next()? {
         match macro_for(macros, &reader, &token) {
-            None => give(out, token)?,
+            None => {
+                give(out, token)?;
+            }
             Some(definition) => {
                 if definition.list.len() > room {
                     return Err(PreError::Fault(PreFault::new(PreFaultKind::TooMany, token.line)));

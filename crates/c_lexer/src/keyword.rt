@@ -1,7 +1,7 @@
 //! Keywords (C99 6.4.1).
 
 ghost use Rattle.std.specs.Prelude.{◌≡◌};
-ghost use Rattle.c_lexer.specs.Spelling.{keyword_spelling};
+ghost use Rattle.c_lexer.specs.Spellings.{keyword_spelling};
 
 /// A keyword.
 #[derive(Clone, Copy, Debug, PartialEq, Eq)]
@@ -45,9 +45,50 @@ pub enum Keyword {
     Imaginary,
 }
 
+/// The keywords, each once.
+pub static KEYWORDS: [Keyword; 37] = [
+    Keyword::Auto,
+    Keyword::Break,
+    Keyword::Case,
+    Keyword::Char,
+    Keyword::Const,
+    Keyword::Continue,
+    Keyword::Default,
+    Keyword::Do,
+    Keyword::Double,
+    Keyword::Else,
+    Keyword::Enum,
+    Keyword::Extern,
+    Keyword::Float,
+    Keyword::For,
+    Keyword::Goto,
+    Keyword::If,
+    Keyword::Inline,
+    Keyword::Int,
+    Keyword::Long,
+    Keyword::Register,
+    Keyword::Restrict,
+    Keyword::Return,
+    Keyword::Short,
+    Keyword::Signed,
+    Keyword::Sizeof,
+    Keyword::Static,
+    Keyword::Struct,
+    Keyword::Switch,
+    Keyword::Typedef,
+    Keyword::Union,
+    Keyword::Unsigned,
+    Keyword::Void,
+    Keyword::Volatile,
+    Keyword::While,
+    Keyword::Bool,
+    Keyword::Complex,
+    Keyword::Imaginary,
+];
+
 impl Keyword {
-    /// The bytes that spell it.
-    #[tactic(auto, unfolding(crate::specs::Spelling::keyword_spelling))]
+    /// How it is spelled.
+    #[tactic(auto, unfolding(crate::specs::Spellings::keyword_spelling))]
     pub fn spelling(self) -> &'static [u8]
         ensures { result.now ≡ keyword_spelling self }
     {

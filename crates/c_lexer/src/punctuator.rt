@@ -1,7 +1,7 @@
 //! Punctuators (C99 6.4.6), without `##` and digraphs.
 
 ghost use Rattle.std.specs.Prelude.{◌≡◌};
-ghost use Rattle.c_lexer.specs.Spelling.{punctuator_spelling};
+ghost use Rattle.c_lexer.specs.Spellings.{punctuator_spelling};
 
 /// A punctuator.
 #[derive(Clone, Copy, Debug, PartialEq, Eq)]
@@ -102,9 +102,60 @@ pub enum Punctuator {
     Hash,
 }
 
+/// The punctuators, each once, the longer ones first.
+pub static PUNCTUATORS: [Punctuator; 47] = [
+    Punctuator::Ellipsis,
+    Punctuator::ShiftLeftAssign,
+    Punctuator::ShiftRightAssign,
+    Punctuator::Arrow,
+    Punctuator::Increment,
+    Punctuator::Decrement,
+    Punctuator::ShiftLeft,
+    Punctuator::ShiftRight,
+    Punctuator::LessOrEqual,
+    Punctuator::GreaterOrEqual,
+    Punctuator::Equal,
+    Punctuator::NotEqual,
+    Punctuator::And,
+    Punctuator::Or,
+    Punctuator::MultiplyAssign,
+    Punctuator::DivideAssign,
+    Punctuator::RemainderAssign,
+    Punctuator::AddAssign,
+    Punctuator::SubtractAssign,
+    Punctuator::AndAssign,
+    Punctuator::XorAssign,
+    Punctuator::OrAssign,
+    Punctuator::LeftBracket,
+    Punctuator::RightBracket,
+    Punctuator::LeftParenthesis,
+    Punctuator::RightParenthesis,
+    Punctuator::LeftBrace,
+    Punctuator::RightBrace,
+    Punctuator::Dot,
+    Punctuator::Ampersand,
+    Punctuator::Star,
+    Punctuator::Plus,
+    Punctuator::Minus,
+    Punctuator::Tilde,
+    Punctuator::Exclamation,
+    Punctuator::Slash,
+    Punctuator::Percent,
+    Punctuator::Less,
+    Punctuator::Greater,
+    Punctuator::Caret,
+    Punctuator::Bar,
+    Punctuator::Question,
+    Punctuator::Colon,
+    Punctuator::Semicolon,
+    Punctuator::Assign,
+    Punctuator::Comma,
+    Punctuator::Hash,
+];
+
 impl Punctuator {
-    /// The bytes that spell it.
-    #[tactic(auto, unfolding(crate::specs::Spelling::punctuator_spelling))]
+    /// How it is spelled.
+    #[tactic(auto, unfolding(crate::specs::Spellings::punctuator_spelling))]
     pub fn spelling(self) -> &'static [u8]
         ensures { result.now ≡ punctuator_spelling self }
     {

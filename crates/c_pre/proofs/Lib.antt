@@ -6,3 +6,4 @@ pub mod Turns
 pub mod LineReading
 pub mod Cutting
 pub mod Wholes
+pub mod Including

@@ -1,5 +1,6 @@
 pub mod Faults
 pub mod Lines
+pub mod Headers
 pub mod Names
 pub mod Trace
 pub mod Expansion

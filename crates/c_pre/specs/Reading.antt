@@ -5,6 +5,7 @@ use Rattle.c_pre.specs.declared.fault.PreFault.{PreFault}
 use Rattle.c_pre.specs.declared.fault.PreFaultKind.TheVariants.{UnknownInclude, UnknownDirective, MacroRedefined}
 use Rattle.c_pre.specs.declared.TheConstants.{MAX_REPLACEMENT_TOKENS}
 use Rattle.c_pre.specs.Lines.{Tokens, lines}
+use Rattle.c_pre.specs.Headers.{header_tokens}
 use Rattle.c_pre.specs.Names.{Name, Macros, same_list}
 use Rattle.c_pre.specs.Trace.{Trace, quiet, fails, ◌>>=◌, line_of, answer}
 use Rattle.c_pre.specs.Expansion.{expansion, of_text}
@@ -27,6 +28,16 @@ may_be (Some old) list = same_list old list
 abbrev pub defined : State → ℕ → Name → Tokens → Trace State
 defined s at name list = if may_be (s.macros name) list then quiet (with_macro name (Some list) s) else fails at MacroRedefined
 
+-- a line of a header, which counts as one at the line of the `#include`
+abbrev pub define_line : State → ℕ → Line → Trace State
+define_line s at (define name list) = defined s at name list
+define_line s at _ = quiet s
+
+-- `#include` of a header with these lines (6.10.2)
+abbrev pub define_lines : ℕ → List Tokens → State → Trace State
+define_lines at [] s = quiet s
+define_lines at (line ∷ more) s = define_line s at (line_kind line) >>= define_lines at more
+
 -- whether `#ifdef` (true) or `#ifndef` (false) holds of a name with this meaning
 abbrev pub holds : Bool → Option Tokens → Bool
 holds true list = is_some list
@@ -41,7 +52,7 @@ obeyed s at (else_group well_formed) = else_at at well_formed s s.sections
 obeyed s at (endif_line well_formed) = endif_at at well_formed s s.sections
 obeyed s at (define name list) = defined s at name list
 obeyed s at (undef name) = quiet (with_macro name None s)
-obeyed s at (include header) = quiet s
+obeyed s at (include header) = define_lines at (lines (header_tokens header)) s
 obeyed s at null_directive = quiet s
 obeyed s at unknown_include = fails at UnknownInclude
 obeyed s at unknown_directive = fails at UnknownDirective

@@ -8,6 +8,8 @@ pub mod directive;
 pub mod expansion;
 pub mod fault;
 pub mod header;
+pub mod headers;
+pub mod lines;
 pub mod name;
 pub mod preprocessor;
 pub mod reader;

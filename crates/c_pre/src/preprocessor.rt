@@ -1,6 +1,9 @@
 //! The state while a text is read, and the directives.
 
 ghost use Rattle.std.specs.Prelude.{◌≡◌, ◌≤◌, length, None};
+ghost use Rattle.c_pre.specs.Lines.{lines};
+ghost use Rattle.c_pre.specs.Directives.{line_kind};
+ghost use Rattle.c_pre.specs.Headers.{header_tokens};
 ghost use Rattle.c_pre.specs.Names as names;
 ghost use Rattle.c_pre.specs.Trace.{quiet, line_of};
 ghost use Rattle.c_pre.specs.Sections as sections;
@@ -12,6 +15,9 @@ use crate::definition::Definition;
 use crate::directive::LineKind;
 use crate::expansion::{MacroTable, expand_line};
 use crate::fault::{PreError, PreFault, PreFaultKind};
+use crate::header::Header;
+use crate::headers::Headers;
+use crate::lines::line_len;
 use crate::name::MacroName;
 use crate::section::IfSection;
 use crate::{MAX_EXPANDED_TOKENS, MAX_REPLACEMENT_TOKENS};
@@ -25,6 +31,8 @@ use std::alloc::Global;
 pub struct Preprocessor<'t, 'a> {
     /// Where memory comes from.
     pub alloc: Global,
+    /// The headers, which lend their replacement lists.
+    pub headers: &'t Headers<'a>,
     /// The macros that are defined.
     pub macros: MacroTable<'t, 'a>,
     /// The if-sections that are open, the innermost last.
@@ -61,11 +69,12 @@ fn same_list(a: &[Token<'_>], b: &[Token<'_>]) -> bool
 
 impl<'t, 'a> Preprocessor<'t, 'a> {
     /// Begins a text: no name is defined.
-    pub fn new(alloc: Global) -> Self
+    pub fn new(alloc: Global, headers: &'t Headers<'a>) -> Self
         ensures { state_of result ≡ spec.start }
     {
         Preprocessor {
             alloc,
+            headers,
             macros: IndexMap::new(alloc),
             sections: Vec::new(alloc),
             room: MAX_REPLACEMENT_TOKENS,
@@ -152,12 +161,38 @@ impl<'t, 'a> Preprocessor<'t, 'a> {
         self.macros.swap_remove(name);
     }
 
+    /// `#include`: defines the macros of the header, as at this line.
+    fn include(&mut self, at: Line, header: Header) -> Result<(), PreError>
+        ensures { Steps (spec.define_lines at (lines (header_tokens header)) (state_of self.old)) (λ _. state_of self.new) result }
+    {
+        let tokens = self.headers.tokens(header);
+        let mut from = 0;
+        while from < tokens.len() {
+            let rest = &tokens[from..];
+            let len = line_len(rest);
+            self.define_line(at, &rest[..len])?;
+            from += len;
+        }
+        Ok(())
+    }
+
+    /// A line of a header.
+    fn define_line(&mut self, at: Line, line: &'t [Token<'a>]) -> Result<(), PreError>
+        ensures { Steps (spec.define_line (state_of self.old) at (line_kind line.now)) (λ _. state_of self.new) result }
+    {
+        match LineKind::of(line) {
+            LineKind::Define(definition) => self.define(at, definition),
+            _ => Ok(()),
+        }
+    }
+
     /// A directive in text that is read.
     fn obey(&mut self, at: Line, kind: LineKind<'t, 'a>) -> Result<(), PreError>
         ensures { Steps (spec.obeyed (state_of self.old) at (line_of_kind kind.entry)) (λ _. state_of self.new) result }
     {
         match kind {
-            LineKind::Text | LineKind::Null | LineKind::Include(_) => Ok(()),
+            LineKind::Text | LineKind::Null => Ok(()),
+            LineKind::Include(header) => self.include(at, header),
             LineKind::IfDefined(name, wanted) => {
                 let holds = self.macros.contains_key(&name) == wanted;
                 self.open(IfSection::opened(at, holds))

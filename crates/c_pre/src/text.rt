@@ -2,46 +2,21 @@
 
 ghost use Rattle.std.specs.Prelude.{◌≡◌, ◌≤◌, length};
 ghost use Rattle.c_pre.specs.Reading as spec;
-ghost use Rattle.c_pre.specs.Outcomes.{Gives, line_len, line_rest};
+ghost use Rattle.c_pre.specs.Outcomes.{Gives};
 
 use crate::fault::PreError;
+use crate::headers::Headers;
+use crate::lines::line_len;
 use crate::preprocessor::Preprocessor;
 use c_lexer::{Token, Tokens};
 use std::alloc::Global;
-
-/// How many of these tokens still belong to the line before them.
-fn line_rest(tokens: &[Token<'_>]) -> usize
-    ensures value { result ≡ line_rest tokens.now }
-    ensures within { result ≤ length tokens.now }
-{
-    let mut n = 0;
-    let mut rest = tokens;
-    while let [token, more @ ..] = rest {
-        if token.begins_line {
-            return n;
-        }
-        n += 1;
-        rest = more;
-    }
-    n
-}
-
-/// How many tokens the first line has, at least one where there are tokens.
-fn line_len(tokens: &[Token<'_>]) -> usize
-    ensures value { result ≡ line_len tokens.now }
-    ensures within { result ≤ length tokens.now }
-{
-    match tokens {
-        [] => 0,
-        [_, more @ ..] => line_rest(more) + 1,
-    }
-}
 
 /// The expanded tokens of a text, or its first fault.
 fn expand_tokens<'a>(alloc: Global, tokens: &[Token<'a>]) -> Result<Vec<Token<'a>>, PreError>
     ensures { Gives (λ v. v.items) result (spec.expanded_tokens tokens.now) }
 {
-    let mut preprocessor = Preprocessor::new(alloc);
+    let headers = Headers::new(alloc)?;
+    let mut preprocessor = Preprocessor::new(alloc, &headers);
     let mut out = Vec::new(alloc);
     let mut at = 0;
     while at < tokens.len() {

@@ -11,7 +11,7 @@ returns-in_err-read_line c =
     let tokens = c.args.tokens.now in
     let at = c.loop-at.at in
     let len = c.line_len-len.result in
-    let error = err_from_is_err_and c.from_residual.result c.from_residual.ensures.1 in
+    let error = err_from_is_err_and c.from_residual-in_err-read_line.result c.from_residual-in_err-read_line.ensures.1 in
     rw (error.1, error.2)
     (line_failed tokens (drop at tokens) (take len (take (length tokens - at) (drop at tokens))) (drop (at + len) tokens) (state_of c.loop-at.preprocessor) c.loop-at.out.items
     c.loop-at.invariant.same (first_line tokens at len c.loop-at-test.true c.line_len-len.ensures.value) c.in_err-read_line.field-0.0 c.in_err-read_line.ensures)

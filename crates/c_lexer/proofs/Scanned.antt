@@ -1,6 +1,6 @@
 -- The token that is found from left to right is the longest one.
 use Rattle.std.proofs.Common.{◌≡◌, ℕ, zero, suc, ◌+◌, ◌<◌, ◌≤◌, Bool, true, false, not, cond, ◌&&◌, ◌||◌, ◌==◌, leb, eqb, ⊎_elim, List, [], ◌∷◌, take, length, Option, Some, None, refl, sym, ap, subst, ◌∙◌, arith}
-use Rattle.std.specs.Prelude.{is_some}
+use Rattle.std.specs.Prelude.{is_some, IfSome}
 use Rattle.std.specs.List.{prefix_len, list_all, find}
 use Rattle.std.proofs.lemmas.Bool.{false≢true, false_from_ne_true, leb-true, lt-leb, eqb-true, ne_eqb, and_parts, and_left, and_right, or_cases, both_ways}
 use Rattle.c_lexer.specs.declared.keyword.Keyword.{Keyword}
@@ -299,3 +299,7 @@ front_within z w n h =
     split (begins_comment z)
     (λ e. let g : None ≡ Some (w, n) = rw e at h in absurd cc)
     (λ e. longest_within (length z) z w n (valid_same (longest_to (length z) z) (w, n) (rw e at h)))
+
+pub front_fits : (z : List ℕ) (o : Option (Word × ℕ)) → o ≡ front_token z → IfSome o (λ t. (1 ≤ t.1) × (t.1 ≤ length z))
+front_fits z None h = tt
+front_fits z (Some t) h = front_within z t.0 t.1 (sym h)

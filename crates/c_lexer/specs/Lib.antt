@@ -9,4 +9,3 @@ pub mod Spellings
 pub mod Text
 pub mod View
 pub mod Words
-pub mod Spelling

@@ -3,7 +3,9 @@
 ghost use Rattle.std.specs.Prelude.{◌≡◌, ◌≤◌, ◌<◌, ◌^◌, length};
 ghost use Rattle.c_lexer.specs.Text.{Lexes, newlines};
 
-use crate::token::Tokens;
+use crate::scan::front_token;
+use crate::separator::skip_gap;
+use crate::token::{Token, Tokens};
 use sb_base::Line;
 use std::alloc::Global;
 
@@ -25,6 +27,13 @@ pub enum LexError {
     Memory,
 }
 
+fn newlines(text: &[u8]) -> usize
+    ensures value { result ≡ newlines text.now }
+    ensures few { result ≤ length text.now }
+{
+    text.iter().filter(|b| **b == b'\n').count()
+}
+
 /// The tokens of a text, the longest one at each place, or the first place where none stands. Each token borrows its
 /// bytes of the text. Between tokens stand white space, comments of both kinds, and backslashes that a newline follows,
 /// which join lines (C99 5.1.1.2); inside a token such a backslash joins nothing.
@@ -36,5 +45,34 @@ pub fn lex(alloc: Global, text: &[u8]) -> Result<Tokens<'_>, LexError>
     requires { length text.now ≤ 1048576 }
     ensures { Lexes text.now result }
 {
-    Err(LexError::Memory)
+    let mut items = Vec::new(alloc);
+    let mut first = true;
+    let mut line = 1;
+    let mut rest = text;
+    loop {
+        let gap = skip_gap(first, rest);
+        line += newlines(&rest[..rest.len() - gap.rest.len()]) as u32;
+        let here = Line::new(line);
+        if gap.rest.is_empty() {
+            return Ok(Tokens::new(items, here));
+        }
+        let Some((word, length)) = front_token(gap.rest) else {
+            return Err(LexError::Fault(LexFault {
+                at: (text.len() - gap.rest.len()) as u64,
+                line: here,
+            }));
+        };
+        let token = Token {
+            word,
+            line: here,
+            begins_line: gap.has_newline,
+            is_spaced: gap.rest.len() < rest.len(),
+        };
+        if items.push(token).is_err() {
+            return Err(LexError::Memory);
+        }
+        line += newlines(&gap.rest[..length]) as u32;
+        rest = &gap.rest[length..];
+        first = false;
+    }
 }

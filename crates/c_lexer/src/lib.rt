@@ -9,11 +9,13 @@ pub mod literal;
 pub mod punctuator;
 pub mod scan;
 pub mod separator;
+#[cfg(test)]
+mod tests;
 pub mod token;
 
 pub use crate::integer::{IntegerConstant, IntegerType, constant_of};
 pub use crate::keyword::Keyword;
 pub use crate::lexer::{LexError, LexFault, lex};
-pub use crate::literal::character_value;
+pub use crate::literal::{bytes_of_literal, character_value};
 pub use crate::punctuator::Punctuator;
 pub use crate::token::{Spelling, Token, Tokens, Word};

@@ -1,10 +1,11 @@
 //! Character constants and string literals (C99 6.4.4.4, 6.4.5), whose bytes are read one by one.
 
-ghost use Rattle.std.specs.Prelude.{◌≡◌, ◌≤◌, ◌<◌, ◌^◌, ◌++◌, length, IfSome};
+ghost use Rattle.std.specs.Prelude.{◌≡◌, ◌≤◌, ◌<◌, ◌^◌, ◌++◌, length, option_map, IfSome, IfOk};
 ghost use Rattle.c_lexer.specs.Literals as spec;
 ghost use Rattle.c_lexer.specs.Scan.{closing_length};
 
 use crate::character::{digit_value, is_hexadecimal_digit, is_octal_digit};
+use std::alloc::{AllocError, Global};
 
 /// What the bytes of a literal before a place, its opening quote apart, are.
 #[derive(Clone, Copy, Debug, PartialEq, Eq)]
@@ -221,4 +222,50 @@ fn only_of(first: Option<u8>, last: Option<u8>) -> Option<u8>
         Some(_) if last.is_some() => None,
         Some(_) => first,
     }
+}
+
+/// The bytes that a string literal spells, without the final 0, where all of these bytes are one, with its quotes
+/// (C99 6.4.5). `None` where they are none.
+#[tactic(auto, unfolding(crate::specs::Literals::bytes_of_literal, crate::specs::Literals::characters_of))]
+pub fn bytes_of_literal(alloc: Global, spelling: &[u8]) -> Result<Option<Vec<u8>>, AllocError>
+    ensures { IfOk result (λ bytes. option_map (λ b. b.items) bytes ≡ spec.bytes_of_literal spelling.now) }
+{
+    let [b'"', text @ ..] = spelling else {
+        return Ok(None);
+    };
+    string_bytes(alloc, text)
+}
+
+// The same, the opening quote apart.
+fn string_bytes(alloc: Global, text: &[u8]) -> Result<Option<Vec<u8>>, AllocError>
+    ensures { IfOk result (λ bytes. option_map (λ b. b.items) bytes ≡ spec.characters_from 34 LiteralState.Start text.now) }
+{
+    let mut bytes = Vec::new(alloc);
+    let mut state = LiteralState::Start;
+    let mut rest = text;
+    while let [b, more @ ..] = rest {
+        rest = more;
+        match literal_step(b'"', state, *b) {
+            LiteralStep::Refused => return Ok(None),
+            LiteralStep::Closes => {
+                push_ended(&mut bytes, state)?;
+                return Ok(if more.is_empty() { Some(bytes) } else { None });
+            }
+            LiteralStep::Continues(next) => state = next,
+            LiteralStep::Begins(next) => {
+                push_ended(&mut bytes, state)?;
+                state = next;
+            }
+        }
+    }
+    Ok(None)
+}
+
+fn push_ended(bytes: &mut Vec<u8>, state: LiteralState) -> Result<(), AllocError>
+    ensures { IfOk result (λ _. bytes.new.items ≡ bytes.old.items ++ spec.ended state) }
+{
+    if let Some(value) = ended(state) {
+        bytes.push(value)?;
+    }
+    Ok(())
 }

@@ -202,3 +202,31 @@ fn scan(text: &[u8]) -> Option<(Word<'_>, usize)>
     }
     scan_punctuator(text)
 }
+
+#[tactic(auto, using(crate::proofs::Scanned::scan_longest), unfolding(crate::specs::Longest::front_token))]
+fn scan_valid(text: &[u8]) -> Option<(Word<'_>, usize)>
+    requires { length text.now < 2 ^ 63 }
+    ensures { result ≡ front_token text.now }
+{
+    if let [b'/', b'*', ..] = text {
+        return None;
+    }
+    let (word, length) = scan(text)?;
+    if let Word::Integer(spelling) = &word
+        && constant_of(spelling.bytes()).is_none()
+    {
+        return None;
+    }
+    Some((word, length))
+}
+
+/// The longest token at the front of a text that begins with no white space and no whole comment, and its length. `None`
+/// where none stands: at the end, at a comment that is never closed, and at a number that is no integer constant with a
+/// type.
+pub fn front_token(text: &[u8]) -> Option<(Word<'_>, usize)>
+    requires { length text.now < 2 ^ 63 }
+    ensures value { result ≡ front_token text.now }
+    ensures within { IfSome result (λ t. (1 ≤ t.1) × (t.1 ≤ length text.now)) }
+{
+    scan_valid(text)
+}

@@ -75,23 +75,6 @@ pub enum Word<'a> {
 }
 
 impl<'a> Word<'a> {
-    ghost use Rattle.c_lexer.specs.Spelling.{spelling_of};
-
-    /// The bytes that spell it.
-    pub fn spelling(&self) -> &'a [u8]
-        ensures { result.now ≡ spelling_of self.now }
-    {
-        match self {
-            Word::Identifier(s)
-            | Word::Integer(s)
-            | Word::Character(s)
-            | Word::StringLiteral(s)
-            | Word::Wide(s) => s.bytes(),
-            Word::Keyword(k) => k.spelling(),
-            Word::Punctuator(p) => p.spelling(),
-        }
-    }
-
     /// The same word once more.
     pub fn again(&self) -> Self
         ensures { result ≡ self.now }

@@ -4,7 +4,7 @@ use Rattle.c_lexer.specs.declared.token.Word.{Word}
 use Rattle.c_lexer.specs.declared.token.Word.TheVariants.{Punctuator}
 use Rattle.c_lexer.specs.declared.token.Token.{Token}
 use Rattle.c_lexer.specs.declared.punctuator.Punctuator.TheVariants.{Hash, LeftParenthesis}
-use Rattle.c_lexer.specs.Spelling.{spelling_of}
+use Rattle.c_lexer.specs.Words.{spelling_of}
 use Rattle.c_pre.specs.declared.header.Header.{Header}
 use Rattle.c_pre.specs.declared.header.Header.TheVariants as h
 use Rattle.c_pre.specs.declared.directive.DirectiveName.{DirectiveName}

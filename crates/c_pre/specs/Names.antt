@@ -3,7 +3,7 @@ use Rattle.std.specs.Prelude.{ℕ, Bool, false, true, ◌||◌, ◌&&◌, List, 
 use Rattle.c_lexer.specs.declared.token.Word.{Word}
 use Rattle.c_lexer.specs.declared.token.Word.TheVariants.{Identifier, Keyword}
 use Rattle.c_lexer.specs.Spellings.{keyword_spelling}
-use Rattle.c_lexer.specs.Spelling.{spelling_of}
+use Rattle.c_lexer.specs.Words.{spelling_of}
 use Rattle.c_pre.specs.Lines.{Tokens}
 
 -- a name is the bytes that spell it

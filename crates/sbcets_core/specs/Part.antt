@@ -1,6 +1,6 @@
 -- The part of C that is compiled: `int main(void){ putchar(N); .. return N; }`, where each N is an integer constant. It is read
 -- word by word: from each place some words go on to a text of the part, and every other word does not.
-use Rattle.std.specs.Prelude.{ℕ, Bool, true, false, List, [], ◌∷◌, Option, Some, None, Result, Ok, Err, if◌then◌else◌, bytes_eq, codes, option_map}
+use Rattle.std.specs.Prelude.{ℕ, Bool, true, false, List, [], ◌∷◌, ◌++◌, Option, Some, None, Result, Ok, Err, if◌then◌else◌, bytes_eq, codes, option_map}
 use Rattle.c_lexer.specs.declared.keyword.Keyword.TheVariants as keyword
 use Rattle.c_lexer.specs.declared.punctuator.Punctuator.TheVariants as punctuator
 use Rattle.c_lexer.specs.declared.integer.IntegerConstant.{IntegerConstant}
@@ -68,22 +68,31 @@ statement_step w =
     if is_return w then Some (Goes place.ReturnNumber) else step_if (is_name (codes "putchar") w) (Goes place.PutOpen)
 
 -- where a word leads to from a place, if the part goes on with it there
-unfoldable pub step : Place → Word → Option Step
-step place.Int w = step_if (is_int w) (Goes place.Main)
-step place.Main w = step_if (is_name (codes "main") w) (Goes place.Open)
-step place.Open w = step_if (is_open w) (Goes place.Void)
-step place.Void w = step_if (is_void w) (Goes place.Close)
-step place.Close w = step_if (is_close w) (Goes place.Body)
-step place.Body w = step_if (is_begin w) (Goes place.Statement)
-step place.Statement w = statement_step w
-step place.PutOpen w = step_if (is_open w) (Goes place.PutNumber)
-step place.PutNumber w = number_step place.PutClose w
-step (place.PutClose n) w = step_if (is_close w) (Goes (place.PutSemicolon n))
-step (place.PutSemicolon n) w = step_if (is_semicolon w) (Puts n)
-step place.ReturnNumber w = number_step place.ReturnSemicolon w
-step (place.ReturnSemicolon n) w = step_if (is_semicolon w) (Goes (place.BodyEnd n))
-step (place.BodyEnd n) w = step_if (is_end w) (Goes (place.End n))
-step (place.End n) w = None
+unfoldable pub after_word : Place → Word → Option Step
+after_word place.Int w = step_if (is_int w) (Goes place.Main)
+after_word place.Main w = step_if (is_name (codes "main") w) (Goes place.Open)
+after_word place.Open w = step_if (is_open w) (Goes place.Void)
+after_word place.Void w = step_if (is_void w) (Goes place.Close)
+after_word place.Close w = step_if (is_close w) (Goes place.Body)
+after_word place.Body w = step_if (is_begin w) (Goes place.Statement)
+after_word place.Statement w = statement_step w
+after_word place.PutOpen w = step_if (is_open w) (Goes place.PutNumber)
+after_word place.PutNumber w = number_step place.PutClose w
+after_word (place.PutClose n) w = step_if (is_close w) (Goes (place.PutSemicolon n))
+after_word (place.PutSemicolon n) w = step_if (is_semicolon w) (Puts n)
+after_word place.ReturnNumber w = number_step place.ReturnSemicolon w
+after_word (place.ReturnSemicolon n) w = step_if (is_semicolon w) (Goes (place.BodyEnd n))
+after_word (place.BodyEnd n) w = step_if (is_end w) (Goes (place.End n))
+after_word (place.End n) w = None
+
+-- the number that a step puts, and the place to which it leads
+abbrev pub put_by : Step → List ℕ
+put_by (Goes p) = []
+put_by (Puts n) = n ∷ []
+
+abbrev pub place_after : Step → Place
+place_after (Goes p) = p
+place_after (Puts n) = place.Statement
 
 -- a program, or the tokens from the first on with which the tokens so far begin no text of the part; none where the text ends
 -- too early
@@ -93,12 +102,10 @@ Parted = Result SourceProgram (List Token)
 abbrev pub returns : ℕ → SourceProgram
 returns n = record { numbers = []; result_number = n }
 
-abbrev pub puts : ℕ → SourceProgram → SourceProgram
-puts n program = record { numbers = n ∷ program.numbers; result_number = program.result_number }
-
-abbrev pub puts_before : ℕ → Parted → Parted
-puts_before n (Ok program) = Ok (puts n program)
-puts_before n (Err unfit) = Err unfit
+-- the program with some numbers before its own
+abbrev pub puts_before : List ℕ → Parted → Parted
+puts_before ns (Ok program) = Ok (record { numbers = ns ++ program.numbers; result_number = program.result_number })
+puts_before ns (Err unfit) = Err unfit
 
 abbrev pub ended : Place → Parted
 ended (place.End n) = Ok (returns n)
@@ -106,13 +113,12 @@ ended p = Err []
 
 abbrev pub stepped : Option Step → List Token → (Place → Parted) → Parted
 stepped None tokens others = Err tokens
-stepped (Some (Goes p)) tokens others = others p
-stepped (Some (Puts n)) tokens others = puts_before n (others place.Statement)
+stepped (Some s) tokens others = puts_before (put_by s) (others (place_after s))
 
 -- the tokens from a place on
 abbrev pub program_from : Place → List Token → Parted
 program_from p [] = ended p
-program_from p (t ∷ ts) = stepped (step p t.word) (t ∷ ts) (λ q. program_from q ts)
+program_from p (t ∷ ts) = stepped (after_word p t.word) (t ∷ ts) (λ q. program_from q ts)
 
 unfoldable pub program_of : List Token → Parted
 program_of tokens = program_from place.Int tokens

@@ -1,11 +1,11 @@
 //! From tokens to a program: the part of C that is compiled so far, `int main(void){ putchar(N); .. return N; }`.
-ghost use Rattle.std.specs.Prelude.{◌≡◌, ◌≤◌, length};
-ghost use Rattle.sbcets_core.specs.Part.{step, statement_step, is_name, number_of, is_int, is_void, is_return, is_open, is_close, is_begin, is_end, is_semicolon};
+ghost use Rattle.std.specs.Prelude.{◌≡◌, ◌≤◌, ◌++◌, length, OnOk, IfOk};
+ghost use Rattle.sbcets_core.specs.Part.{after_word, statement_step, is_name, number_of, is_int, is_void, is_return, is_open, is_close, is_begin, is_end, is_semicolon, put_by, place_after};
 ghost use Rattle.sbcets_core.specs.Parting.{Parts};
 
 use crate::program::Program;
 use c_lexer::{Keyword, Punctuator, Token, Word, constant_of};
-use std::alloc::Global;
+use std::alloc::{AllocFailed, Global};
 
 /// A place in a text of the part: what is wanted there.
 #[derive(Clone, Copy, Debug, PartialEq, Eq)]
@@ -62,7 +62,7 @@ pub enum PartError {
 }
 
 /// The program that tokens are a text of; or the first token with which the tokens so far begin no text of the part.
-#[tactic(auto, using(crate::proofs::Steps::step_taken, crate::proofs::Steps::put_taken, crate::proofs::Steps::unfit_found, crate::proofs::Steps::text_ended))]
+#[tactic(auto, using(crate::proofs::Steps::begun, crate::proofs::Steps::step_on))]
 pub fn program_of(alloc: Global, tokens: &[Token]) -> Result<Program, PartError>
     requires { length tokens.now ≤ 1048576 }
     ensures { Parts tokens.now result }
@@ -71,16 +71,13 @@ pub fn program_of(alloc: Global, tokens: &[Token]) -> Result<Program, PartError>
     let mut place = Place::Int;
     let mut at = 0;
     while at < tokens.len() {
-        match step(place, &tokens[at].word) {
-            None => return Err(PartError::Unfit(at)),
-            Some(Step::Goes(next)) => place = next,
-            Some(Step::Puts(number)) => {
-                if numbers.push(number).is_err() {
-                    return Err(PartError::Memory);
-                }
-                place = Place::Statement;
-            }
-        }
+        let Some(step) = after_word(place, &tokens[at].word) else {
+            return Err(PartError::Unfit(at));
+        };
+        let Ok(next) = take_step(step, &mut numbers) else {
+            return Err(PartError::Memory);
+        };
+        place = next;
         at += 1;
     }
     match place {
@@ -89,10 +86,24 @@ pub fn program_of(alloc: Global, tokens: &[Token]) -> Result<Program, PartError>
     }
 }
 
+// Takes a step: puts its number, if it has one, and gives the place to which it leads.
+fn take_step(step: Step, numbers: &mut Vec<u64>) -> Result<Place, AllocFailed<u64>>
+    ensures put { OnOk result (numbers.new.items ≡ numbers.old.items ++ put_by step) }
+    ensures place { IfOk result (λ place. place ≡ place_after step) }
+{
+    match step {
+        Step::Goes(next) => Ok(next),
+        Step::Puts(number) => {
+            numbers.push(number)?;
+            Ok(Place::Statement)
+        }
+    }
+}
+
 // Where a word leads to from a place, if the part goes on with it there.
-#[tactic(auto, unfolding(crate::specs::Part::step))]
-fn step(place: Place, word: &Word) -> Option<Step>
-    ensures { result ≡ step place word.now }
+#[tactic(auto, unfolding(crate::specs::Part::after_word))]
+fn after_word(place: Place, word: &Word) -> Option<Step>
+    ensures { result ≡ after_word place word.now }
 {
     let (fits, next) = match place {
         Place::Int => (is_int(word), Step::Goes(Place::Main)),

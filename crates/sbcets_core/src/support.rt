@@ -51,6 +51,7 @@ fn is_listed(word: &Word) -> bool
     }
 }
 
+#[tactic(auto, unfolding(crate::specs::Listed::is_listed))]
 fn is_listed_keyword(keyword: Keyword) -> bool
     ensures { result ≡ is_listed (Word.Keyword keyword) }
 {

@@ -1,8 +1,10 @@
 -- The place of a block.
-use Rattle.std.proofs.Common.{◌≡◌, ℕ, zero, suc, ◌+◌, ◌-◌, ◌*◌, ◌/◌, ◌<◌, ◌≤◌, Bool, true, false, not, ◌&&◌, ◌||◌, nat_le, if◌then◌else◌, inl, inr, [], ◌∷◌, Some, None, refl, ap, sym, subst, arith}
+use Rattle.std.proofs.Common.{◌++◌, ◌%◌, ◌∙◌, set, ◌≡◌, ℕ, zero, suc, ◌+◌, ◌-◌, ◌*◌, ◌/◌, ◌<◌, ◌≤◌, Bool, true, false, not, ◌&&◌, ◌||◌, nat_le, if◌then◌else◌, inl, inr, [], ◌∷◌, Some, None, refl, ap, sym, subst, arith}
 use Rattle.std.proofs.lemmas.Bool.{leb-true, leb-false, lt-leb}
-use Rattle.obj_memory.specs.Objects.{ObjectState, Objects, object_at}
-use Rattle.obj_memory.specs.Heap.{block_room, is_live_block, is_clear, is_clear_of, has_room, least_from, least_place}
+use Rattle.obj_memory.specs.declared.object.Storage.{Storage}
+use Rattle.obj_memory.specs.declared.object.Storage.TheVariants.{Allocated}
+use Rattle.obj_memory.specs.Objects.{new_object, with_new, with_dead, ObjectState, Objects, object_at}
+use Rattle.obj_memory.specs.Heap.{is_allocated, block_count, block_room, is_live_block, is_clear, is_clear_of, has_room, least_from, least_place}
 use Rattle.obj_memory.specs.Sound.{IsBlockPlace, IsClearOf}
 
 clear_of : (start room : ℕ) (o : ObjectState) → is_clear_of start room o ≡ true → is_live_block o ≡ true → IsClearOf start room o
@@ -73,8 +75,14 @@ module _ (last room : ℕ) (objects : Objects) where
       go false c h later zero lt = let z : start ≡ start + 16 * 0 = omega arith in subst (λ p. has_room last room objects p ≡ false) z c
       go false c h later (suc i) lt = let z : start + 16 + 16 * i ≡ start + 16 * suc i = omega arith in subst (λ p. has_room last room objects p ≡ false) z (later h i (omega arith))
 
-room_most : (size : ℕ) → 16 ≤ block_room size
+pub room_holds : (size : ℕ) → size ≤ block_room size
+room_holds size = omega arith
+
+pub room_most : (size : ℕ) → 16 ≤ block_room size
 room_most size = omega arith
+
+pub room_whole : (size : ℕ) → block_room size % 16 ≡ 0
+room_whole size = omega arith
 
 pub least_place_found : (first last size : ℕ) (objects : Objects) (p : ℕ) → least_place first last size objects ≡ Some p → IsBlockPlace first last size objects p
 unfolding least_place
@@ -101,3 +109,42 @@ least_place_none first last size objects e i = go (nat_le (suc i) ((last + 1 - f
         let most : 16 ≤ block_room size = room_most size in
         let test : nat_le (first + 16 * i + block_room size) (last + 1) ≡ false = lt-leb _ _ (omega (arith, past, most)) in
         ap (λ b. b && is_clear (first + 16 * i) (block_room size) objects) test
+
+-- the count of live blocks
+count_added : (objects : Objects) (x : ObjectState) → block_count (objects ++ (x ∷ [])) ≡ block_count objects + (if is_live_block x then 1 else 0)
+unfolding block_count
+count_added [] x = omega arith
+count_added (o ∷ os) x = let rest = count_added os x in omega (arith, rest)
+
+pub block_count_made : (address size : ℕ) (objects : Objects) → block_count (with_new Allocated address size objects) ≡ block_count objects + 1
+unfolding with_new new_object
+block_count_made address size objects = count_added objects (new_object Allocated address size)
+
+pub block_count_other : (storage : Storage) (address size : ℕ) (objects : Objects) → is_allocated storage ≡ false
+    → block_count (with_new storage address size objects) ≡ block_count objects
+unfolding with_new new_object
+block_count_other storage address size objects e =
+    count_added objects (new_object storage address size) ∙ ap (λ b. block_count objects + (if b && true then 1 else 0)) e ∙ omega arith
+
+-- an object that died is no live block
+dead_block : (o : ObjectState) → is_live_block (record o { is_live = false }) ≡ false
+dead_block o = elim (is_allocated o.storage) as (λ b. (b && false) ≡ false) [ true ↦ refl | false ↦ refl ]
+
+count_set : (objects : Objects) (n : ℕ) → block_count (set objects n (record (object_at objects n) { is_live = false })) + (if is_live_block (object_at objects n) then 1 else 0) ≡ block_count objects
+unfolding block_count
+count_set [] n = refl
+count_set (o ∷ os) zero =
+    ap (λ b. (if b then 1 else 0) + block_count os + (if is_live_block o then 1 else 0)) (dead_block o) ∙ omega arith
+count_set (o ∷ os) (suc n) = let rest = count_set os n in omega (arith, rest)
+
+pub block_count_dead : (n : ℕ) (objects : Objects) → is_live_block (object_at objects n) ≡ true → block_count (with_dead n objects) + 1 ≡ block_count objects
+unfolding with_dead
+block_count_dead n objects e =
+    ap (λ b. block_count (set objects n (record (object_at objects n) { is_live = false })) + (if b then 1 else 0)) (sym e) ∙ count_set objects n
+
+pub block_count_dead_other : (n : ℕ) (objects : Objects) → is_live_block (object_at objects n) ≡ false → block_count (with_dead n objects) ≡ block_count objects
+unfolding with_dead
+block_count_dead_other n objects e =
+    let all : block_count (set objects n (record (object_at objects n) { is_live = false })) + 0 ≡ block_count objects =
+    ap (λ b. block_count (set objects n (record (object_at objects n) { is_live = false })) + (if b then 1 else 0)) (sym e) ∙ count_set objects n in
+    omega (arith, all)

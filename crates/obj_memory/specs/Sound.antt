@@ -73,6 +73,11 @@ pub data AreApart (p : Place) (size : ℕ) (q : Place) (count : ℕ) : Type 0 wh
 abbrev pub IsClearOf : (start room : ℕ) → ObjectState → Type 0
 IsClearOf start room o = (start + room ≤ o.address) ⊎ (o.address + block_room o.size ≤ start)
 
+-- a range of addresses lies in a heap, clear of every live block
+pub record HasRoom (last room : ℕ) (objects : Objects) (start : ℕ) : Type 0 where
+  pub in_heap : start + room ≤ last + 1
+  pub clear : (n : ℕ) → is_live_block (object_at objects n) ≡ true → IsClearOf start room (object_at objects n)
+
 -- the place of a block in a heap: it lies in the heap, clear of every live block, and no multiple of 16 below it would do
 pub record IsBlockPlace (first last size : ℕ) (objects : Objects) (place : ℕ) : Type 0 where
   pub step : ℕ

@@ -19,7 +19,7 @@ ghost use Rattle.obj_memory.specs.Objects.{Objects, object_at, new_object, with_
 ghost use Rattle.obj_memory.specs.Judgement.{judge, named, moved, narrowed};
 ghost use Rattle.obj_memory.specs.Access.{scalar_size, overwrite, little_bytes, read_value, write_value, kept_value, write_bytes, bytes_at, tag_at, tag_of, move_range};
 ghost use Rattle.obj_memory.specs.Heap.{is_allocated, is_live_block, block_count, block_room, has_room, least_place};
-ghost use Rattle.obj_memory.specs.Sound.{IsSound, IsSoundTag, IsPlace, IsAllowed, IsPartOf, KeepsObjects, Continues, AreApart, AreDisjoint, DoNotMeet, IsBlockPlace};
+ghost use Rattle.obj_memory.specs.Sound.{IsSound, IsSoundTag, IsPlace, IsAllowed, IsPartOf, KeepsObjects, Continues, AreApart, AreDisjoint, DoNotMeet, HasRoom, IsBlockPlace};
 
 /// A conversion reads no more than the bytes of its type and gives a word, and a second one changes
 /// nothing.
@@ -208,10 +208,16 @@ pub fn derived_pointers_are_sound()
 {}
 
 /// The place of a block lies in the heap, clear of every live block, and no multiple of 16 below it
-/// would do; where there is none, none would.
+/// would do; just such a place is found, and where there is none, none would do.
 pub fn block_place_is_the_least()
     ensures found { (first last size : ℕ) (objects : Objects) (place : ℕ)
         → least_place first last size objects ≡ Some place → IsBlockPlace first last size objects place }
+    ensures least { (first last size : ℕ) (objects : Objects) (place : ℕ) → IsBlockPlace first last size objects place
+        → least_place first last size objects ≡ Some place }
+    ensures room { (last room : ℕ) (objects : Objects) (start : ℕ) → has_room last room objects start ≡ true
+        → HasRoom last room objects start }
+    ensures has_room { (last room : ℕ) (objects : Objects) (start : ℕ) → HasRoom last room objects start
+        → has_room last room objects start ≡ true }
     ensures none { (first last size : ℕ) (objects : Objects) → least_place first last size objects ≡ None → (i : ℕ)
         → has_room last (block_room size) objects (first + 16 * i) ≡ false }
 {}

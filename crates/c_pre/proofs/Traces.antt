@@ -8,7 +8,7 @@ use Rattle.c_pre.specs.declared.fault.PreError.{PreError}
 use Rattle.c_pre.specs.declared.fault.PreError.TheVariants.{Memory, Fault}
 use Rattle.c_pre.specs.declared.TheConstants.{MAX_EXPANDED_TOKENS}
 use Rattle.c_pre.specs.Lines.{Tokens}
-use Rattle.c_pre.specs.Trace.{Trace, after, goes_on, ◌>>=◌, ended, answer, line_of, fault_at, fails, quiet}
+use Rattle.c_pre.specs.Trace.{Trace, after, goes_on, ◌>>=◌, ended, answer, line_of, fault_at, fails}
 use Rattle.c_pre.specs.Outcomes.{Fails, Stops, Steps, Follows}
 
 -- what was given before two parts stands before both

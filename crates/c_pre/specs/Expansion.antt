@@ -1,5 +1,5 @@
 -- Macro replacement (C99 6.10.3.4), by hide sets: each token has the names that it is not replaced by.
-use Rattle.std.specs.Prelude.{ℕ, zero, suc, ◌+◌, ◌-◌, Bool, true, false, List, [], ◌∷◌, ◌++◌, length, Option, Some, None, if◌then◌else◌, nat_le}
+use Rattle.std.specs.Prelude.{ℕ, zero, suc, ◌+◌, ◌-◌, List, [], ◌∷◌, ◌++◌, length, Option, Some, None, if◌then◌else◌, nat_le}
 use Rattle.c_lexer.specs.declared.token.Token.{Token}
 use Rattle.c_lexer.specs.Spelled.{on_line}
 use Rattle.c_pre.specs.declared.fault.PreFaultKind.TheVariants.{TooMany}

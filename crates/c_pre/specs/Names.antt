@@ -1,5 +1,6 @@
 -- Names of macros (C99 6.10.3). While directives are obeyed there are no keywords: each is an identifier (6.4.1 paragraph 2).
-use Rattle.std.specs.Prelude.{ℕ, Bool, false, true, ◌||◌, ◌&&◌, List, [], ◌∷◌, Option, Some, None, bytes_eq}
+use Rattle.std.specs.Prelude.{ℕ, Bool, false, true, ◌&&◌, List, [], ◌∷◌, Option, Some, None, bytes_eq}
+use Rattle.std.specs.List.{list_any}
 use Rattle.c_lexer.specs.declared.token.Word.{Word}
 use Rattle.c_lexer.specs.declared.token.Word.TheVariants.{Identifier, Keyword}
 use Rattle.c_lexer.specs.Spellings.{keyword_spelling}
@@ -19,8 +20,7 @@ name_of (Keyword keyword) = Some (keyword_spelling keyword)
 name_of _ = None
 
 abbrev pub member : Name → Names → Bool
-member name [] = false
-member name (other ∷ names) = bytes_eq name other || member name names
+member name names = list_any (bytes_eq name) names
 
 -- what each name is defined as: its replacement list (6.10.3 paragraph 9)
 abbrev pub Macros : Type 0

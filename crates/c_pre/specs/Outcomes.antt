@@ -2,7 +2,6 @@
 use Rattle.std.specs.Prelude.{◌≡◌, ℕ, suc, ◌≤◌, [], ◌∷◌, length, Result, Ok, Err, option_map, bytes_eq, ⊤, if◌then◌else◌}
 use denote.Ref.{Bor}
 use Rattle.indexmap.specs.IndexMap.{IndexMap, get}
-use Rattle.c_lexer.specs.Spelled.{TokenList}
 use Rattle.c_pre.specs.declared.fault.PreFault.{PreFault}
 use Rattle.c_pre.specs.declared.fault.PreError.{PreError}
 use Rattle.c_pre.specs.declared.fault.PreError.TheVariants.{Memory, Fault}

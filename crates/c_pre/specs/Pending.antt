@@ -1,9 +1,10 @@
 -- What the code keeps in place of hide sets: the replacement lists that are being read, each with its macro's name, and the text.
-use Rattle.std.specs.Prelude.{◌≡◌, Bool, false, ◌||◌, List, [], ◌∷◌, ◌++◌, Option, Some, None, bytes_eq}
+use Rattle.std.specs.Prelude.{◌≡◌, List, [], ◌∷◌, ◌++◌, Option, Some, None}
 use Rattle.c_lexer.specs.declared.token.Token.{Token}
 use Rattle.c_pre.specs.declared.reader.OpenList.{OpenList}
+use Rattle.c_pre.specs.declared.reader.Reader.{Reader}
 use Rattle.c_pre.specs.Lines.{Tokens}
-use Rattle.c_pre.specs.Names.{Name, Names}
+use Rattle.c_pre.specs.Names.{Names}
 use Rattle.c_pre.specs.Expansion.{HidingToken, put_in, of_text}
 
 abbrev pub onto : {A : Type 0} → List A → List A → List A
@@ -28,7 +29,6 @@ abbrev pub Takes : Option Token → List HidingToken → List OpenList → Token
 Takes None old lists text = old ≡ []
 Takes (Some token) old lists text = old ≡ record { token = token; hidden = names_of lists } ∷ pending lists text
 
--- for the code: whether one of the lists is of this macro
-abbrev pub is_among : Name → List OpenList → Bool
-is_among name [] = false
-is_among name (list ∷ lists) = bytes_eq name list.name || is_among name lists
+-- the set of names has the names of the lists, in the same order
+abbrev pub HasNames : Reader → Type 0
+HasNames reader = reader.names.keys ≡ names_of reader.lists.items

@@ -1,6 +1,7 @@
 //! Macro replacement (C99 6.10.3).
 
-ghost use Rattle.std.specs.Prelude.{◌≡◌, ◌≤◌, length, option_map};
+ghost use Rattle.std.specs.Prelude.{◌≡◌, ◌≤◌, false, length, option_map, IfSome};
+ghost use Rattle.c_pre.specs.Names as names;
 ghost use Rattle.c_pre.specs.Pending as spec;
 ghost use Rattle.c_pre.specs.Expansion as expansion;
 ghost use Rattle.c_pre.specs.Outcomes.{Follows, macros_of};
@@ -37,7 +38,9 @@ fn macro_for<'t, 'a>(
     reader: &Reader<'t, 'a>,
     token: &Token<'a>,
 ) -> Option<Definition<'t, 'a>>
-    ensures { option_map (λ m. (m.name, m.list.now)) result ≡ expansion.replacement (macros_of macros.now)
+    requires { spec.HasNames reader.now }
+    ensures fresh { IfSome result (λ m. names.member m.name (spec.names_of (spec.inner_first reader.now.lists.items)) ≡ false) }
+    ensures value { option_map (λ m. (m.name, m.list.now)) result ≡ expansion.replacement (macros_of macros.now)
         (record { token = token.now; hidden = spec.names_of (spec.inner_first reader.now.lists.items) }) }
 {
     let name = MacroName::of(&token.word)?;

@@ -1,6 +1,6 @@
 //! The tokens that are still to be expanded.
 
-ghost use Rattle.std.specs.Prelude.{◌≡◌, ◌++◌, ◌∷◌, IfOk, OnOk};
+ghost use Rattle.std.specs.Prelude.{◌≡◌, ◌++◌, ◌∷◌, false, IfOk, OnOk};
 ghost use Rattle.c_pre.specs.Names as names;
 ghost use Rattle.c_pre.specs.Pending as spec;
 ghost use Rattle.c_pre.specs.Expansion as expansion;
@@ -8,8 +8,9 @@ ghost use Rattle.c_pre.specs.Expansion as expansion;
 use crate::definition::Definition;
 use crate::name::MacroName;
 use c_lexer::Token;
+use indexmap::IndexSet;
 use sb_base::Line;
-use std::alloc::{AllocFailed, Global};
+use std::alloc::{AllocError, AllocFailed, Global};
 
 /// A replacement list that is being read.
 #[derive(Drop)]
@@ -27,6 +28,8 @@ pub struct OpenList<'t, 'a> {
 pub struct Reader<'t, 'a> {
     /// The lists. A list at its end stays until the next token is taken: its name is hidden from the last token.
     pub lists: Vec<OpenList<'t, 'a>>,
+    /// The names of the lists, in the same order, to find whether one of them is hidden.
+    pub names: IndexSet<MacroName<'a>>,
     /// The rest of the text.
     pub text: &'t [Token<'a>],
 }
@@ -34,18 +37,23 @@ pub struct Reader<'t, 'a> {
 impl<'t, 'a> Reader<'t, 'a> {
     /// Begins with a text.
     pub fn new(alloc: Global, text: &'t [Token<'a>]) -> Self
-        ensures { spec.pending (spec.inner_first result.lists.items) result.text.now ≡ expansion.of_text text.now }
+        ensures tokens { spec.pending (spec.inner_first result.lists.items) result.text.now ≡ expansion.of_text text.now }
+        ensures names { spec.HasNames result }
     {
         Reader {
             lists: Vec::new(alloc),
+            names: IndexSet::new(alloc),
             text,
         }
     }
 
     /// Takes the next token, on the line where it counts.
+    #[tactic(auto, using(crate::proofs::Stacks::last_is_inner, crate::proofs::Stacks::last_name))]
     pub fn next(&mut self) -> Result<Option<Token<'a>>, AllocFailed<OpenList<'t, 'a>>>
-        ensures { IfOk result (λ token. spec.Takes token (spec.pending (spec.inner_first self.old.lists.items) self.old.text.now)
+        requires { spec.HasNames self.old }
+        ensures token { IfOk result (λ token. spec.Takes token (spec.pending (spec.inner_first self.old.lists.items) self.old.text.now)
             (spec.inner_first self.new.lists.items) self.new.text.now) }
+        ensures names { OnOk result (spec.HasNames self.new) }
     {
         while let Some(list) = self.lists.pop() {
             let tokens = list.rest;
@@ -58,6 +66,7 @@ impl<'t, 'a> Reader<'t, 'a> {
                 })?;
                 return Ok(Some(token.on_line(line)));
             }
+            self.names.pop();
         }
         let [token, rest @ ..] = self.text else {
             return Ok(None);
@@ -67,23 +76,25 @@ impl<'t, 'a> Reader<'t, 'a> {
     }
 
     /// Whether a list of this macro is being read.
-    #[tactic(auto, using(crate::proofs::Stacks::member_among))]
+    #[tactic(auto, using(crate::proofs::Stacks::member_inner))]
     pub fn is_hidden(&self, name: &MacroName<'a>) -> bool
+        requires { spec.HasNames self.now }
         ensures { result ≡ names.member name.now (spec.names_of (spec.inner_first self.now.lists.items)) }
     {
-        is_among(&self.lists, name)
+        self.names.contains(name)
     }
 
-    /// Reads the replacement list of a macro that is used on this line, before all else.
-    pub fn put_in(
-        &mut self,
-        definition: Definition<'t, 'a>,
-        line: Line,
-    ) -> Result<(), AllocFailed<OpenList<'t, 'a>>>
-        ensures { OnOk result (spec.pending (spec.inner_first self.new.lists.items) self.new.text.now
+    /// Reads the replacement list of a macro that is used on this line, before all else. None of its name is being read.
+    #[tactic(auto, using(crate::proofs::Stacks::last_is_inner, crate::proofs::Stacks::last_name, crate::proofs::Stacks::name_added))]
+    pub fn put_in(&mut self, definition: Definition<'t, 'a>, line: Line) -> Result<(), AllocError>
+        requires kept { spec.HasNames self.old }
+        requires fresh { names.member definition.name (spec.names_of (spec.inner_first self.old.lists.items)) ≡ false }
+        ensures tokens { OnOk result (spec.pending (spec.inner_first self.new.lists.items) self.new.text.now
             ≡ expansion.put_in line (definition.entry.name ∷ spec.names_of (spec.inner_first self.old.lists.items)) definition.entry.list.now
             ++ spec.pending (spec.inner_first self.old.lists.items) self.old.text.now) }
+        ensures names { OnOk result (spec.HasNames self.new) }
     {
+        self.names.insert(definition.name.again())?;
         self.lists.push(OpenList {
             name: definition.name,
             line,
@@ -91,18 +102,4 @@ impl<'t, 'a> Reader<'t, 'a> {
         })?;
         Ok(())
     }
-}
-
-/// Whether one of the lists is of this macro.
-fn is_among(lists: &[OpenList<'_, '_>], name: &MacroName<'_>) -> bool
-    ensures { result ≡ spec.is_among name.now lists.now }
-{
-    let mut rest = lists;
-    while let [list, more @ ..] = rest {
-        if *name == list.name {
-            return true;
-        }
-        rest = more;
-    }
-    false
 }

@@ -3,6 +3,7 @@ pub mod Complete
 pub mod Composition
 pub mod Counts
 pub mod Execution
+pub mod Listed
 pub mod Machine
 pub mod Meant
 pub mod Pieces

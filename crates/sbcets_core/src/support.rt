@@ -12,7 +12,7 @@ use std::alloc::Global;
 
 /// The program of the expanded tokens. Unsupported is the first listed word, wherever it stands; else the first token with
 /// which the tokens so far begin no text of the part.
-#[tactic(auto, unfolding(crate::specs::Accepted::supported))]
+#[tactic(auto, using(crate::proofs::Listed::refused_at), unfolding(crate::specs::Accepted::supported))]
 pub fn supported(alloc: Global, tokens: &Tokens) -> Result<Program, SourceRefusal>
     requires { length tokens.now.tokens ≤ 1048576 }
     ensures { Supports tokens.now result }

@@ -6,8 +6,8 @@ use Rattle.c_pre.proofs.Cutting.{first_line}
 use Rattle.c_pre.proofs.Wholes.{line_read, line_failed, end_read, end_failed}
 use Rattle.c_pre.proofs.text.expand_tokens.Goals as goal
 
-pub returns-in_err-read_line : goal.returns-in_err-read_line
-returns-in_err-read_line c =
+pub returns-in_err-read_line-clause-value : goal.returns-in_err-read_line-clause-value
+returns-in_err-read_line-clause-value c =
     let tokens = c.args.tokens.now in
     let at = c.loop-at.at in
     let len = c.line_len-len.result in
@@ -28,13 +28,13 @@ loop-at-preserved c =
       within = omega (arith, c.line_len-len.ensures.within, length-drop at tokens, length-take-le (length tokens - at) (drop at tokens) (omega (arith, length-drop at tokens)));
     }
 
-pub returns-in_err-finish : goal.returns-in_err-finish
-returns-in_err-finish c =
+pub returns-in_err-finish-clause-value : goal.returns-in_err-finish-clause-value
+returns-in_err-finish-clause-value c =
     let error = err_from_is_err_and c.from_residual-in_err-finish.result c.from_residual-in_err-finish.ensures.1 in
     rw (error.1, error.2)
     (end_failed c.args.tokens.now c.loop-at.at (state_of c.loop-at.preprocessor) c.loop-at.out.items c.loop-at.invariant.same c.loop-at-test.false c.loop-at.invariant.few
     c.in_err-finish.field-0.0 c.in_err-finish.ensures)
 
-pub returns : goal.returns
-returns c =
+pub returns-clause-value : goal.returns-clause-value
+returns-clause-value c =
     end_read c.args.tokens.now c.loop-at.at (state_of c.loop-at.preprocessor) c.loop-at.out.items c.loop-at.invariant.same c.loop-at-test.false c.loop-at.invariant.few c.in_ok-finish.ensures

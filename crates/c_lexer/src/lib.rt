@@ -4,6 +4,7 @@
 pub mod character;
 pub mod integer;
 pub mod keyword;
+pub mod laws;
 pub mod lexer;
 pub mod literal;
 pub mod punctuator;

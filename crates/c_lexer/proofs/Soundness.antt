@@ -1,5 +1,5 @@
 -- Each token is the word that its bytes spell.
-use Rattle.std.proofs.Common.{◌≡◌, ℕ, zero, suc, ◌+◌, ◌-◌, ◌<◌, ◌≤◌, Bool, true, false, cond, List, [], ◌∷◌, ◌++◌, take, drop, length, Option, Some, None, Ok, Err, refl, sym, ap, subst, ◌∙◌, arith}
+use Rattle.std.proofs.Common.{◌≡◌, ℕ, zero, suc, ◌-◌, ◌<◌, ◌≤◌, Bool, true, false, List, [], ◌∷◌, take, drop, length, Option, Some, None, Ok, Err, refl, ap, subst, ◌∙◌, arith}
 use Rattle.std.specs.Prelude.{nat_le, ◌==◌}
 use Rattle.std.specs.List.{All, find, prefix_len}
 use Rattle.std.proofs.lemmas.Bool.{cond_both, leb-true}
@@ -14,19 +14,18 @@ use Rattle.c_lexer.specs.declared.punctuator.Punctuator.{Punctuator}
 use Rattle.c_lexer.specs.declared.token.Token.{Token}
 use Rattle.c_lexer.specs.declared.token.Word.{Word}
 use Rattle.c_lexer.specs.declared.token.Word.TheVariants as word
-use Rattle.c_lexer.specs.Constants.{constant_of, constant_in, with_suffix, suffix_of, types_of, typed, of_type, greatest_of, is_hexadecimal, number_from, base_of, is_digit_of}
+use Rattle.c_lexer.specs.Constants.{constant_of, constant_in, with_suffix, suffix_of, types_of, typed, of_type, greatest_of, is_hexadecimal, is_digit_of}
 use Rattle.c_lexer.specs.Characters.{begins}
 use Rattle.c_lexer.specs.Longest.{longest, longest_to, or_shorter, is_valid, valid, begins_comment, front_token}
 use Rattle.c_lexer.specs.Separators.{Gap, gap}
 use Rattle.c_lexer.specs.Sound.{IsWord, IsTokenOf}
 use Rattle.c_lexer.specs.Spelled.{TokenList}
 use Rattle.c_lexer.specs.Spellings.{keyword_of, punctuator_of}
-use Rattle.c_lexer.specs.Text.{newlines, line_of, Lexed, behind_tokens, at_end, token_behind, tokens_by, unless_empty, tokens_behind, tokens_to, tokens}
+use Rattle.c_lexer.specs.Text.{newlines, line_of, Lexed, behind_tokens, at_end, token_behind, tokens_by, unless_empty, tokens_to, tokens}
 use Rattle.c_lexer.specs.Words.{word_of, spelling_of, named, punctuated, is_identifier, is_number, is_character, is_string, is_wide}
 use Rattle.c_lexer.proofs.Ends.{ends_shorter}
 use Rattle.c_lexer.proofs.Gaps.{gap_ends}
 use Rattle.c_lexer.proofs.LongestWord.{split}
-use Rattle.c_lexer.proofs.Scanned.{front_within}
 use Rattle.c_lexer.proofs.Tables.{found_true, keyword_spelled, punctuator_spelled}
 use Rattle.c_lexer.proofs.Turns.{shorter_behind}
 

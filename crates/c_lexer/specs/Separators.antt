@@ -1,5 +1,5 @@
 -- White space and comments between tokens (C99 5.1.1.2, 6.4.9).
-use Rattle.std.specs.Prelude.{ℕ, zero, suc, Bool, true, false, not, ◌&&◌, ◌||◌, if◌then◌else◌, ◌==◌, List, [], ◌∷◌, drop, length, Option, Some, None}
+use Rattle.std.specs.Prelude.{ℕ, zero, suc, Bool, false, not, ◌&&◌, ◌||◌, if◌then◌else◌, ◌==◌, List, [], ◌∷◌, drop, length, Option, Some, None}
 use Rattle.c_lexer.specs.Characters.{is_between, begins}
 
 -- white space or a comment at the front of a text: what stands behind it, and whether it is a newline

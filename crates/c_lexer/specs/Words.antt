@@ -5,7 +5,7 @@ use Rattle.c_lexer.specs.declared.keyword.Keyword.{Keyword}
 use Rattle.c_lexer.specs.declared.punctuator.Punctuator.{Punctuator}
 use Rattle.c_lexer.specs.declared.token.Word.{Word}
 use Rattle.c_lexer.specs.declared.token.Word.TheVariants as word
-use Rattle.c_lexer.specs.Characters.{is_digit, is_nondigit, continues_identifier, begins}
+use Rattle.c_lexer.specs.Characters.{is_digit, is_nondigit, continues_identifier}
 use Rattle.c_lexer.specs.Literals.{character_value, bytes_of_literal}
 use Rattle.c_lexer.specs.Spellings.{keyword_spelling, keyword_of, punctuator_spelling, punctuator_of}
 

@@ -1,8 +1,8 @@
 -- Each token is the word that its bytes spell.
-use Rattle.std.proofs.Common.{◌≡◌, ℕ, zero, suc, ◌-◌, ◌<◌, ◌≤◌, Bool, true, false, List, [], ◌∷◌, take, drop, length, Option, Some, None, Ok, Err, refl, ap, subst, ◌∙◌, arith}
-use Rattle.std.specs.Prelude.{nat_le, ◌==◌}
+use Rattle.std.proofs.Common.{rules, ◌≡◌, ℕ, zero, suc, ◌-◌, ◌<◌, ◌≤◌, Bool, true, false, List, [], ◌∷◌, take, drop, length, Option, Some, None, Ok, Err, refl, ap, subst, ◌∙◌, arith}
+use Rattle.std.specs.Prelude.{nat_le, ◌==◌, is_some, IsSome}
 use Rattle.std.specs.List.{All, find, prefix_len}
-use Rattle.std.proofs.lemmas.Bool.{cond_both, leb-true}
+use Rattle.std.proofs.lemmas.Bool.{cond_both, false≢true, leb-true}
 use Rattle.std.proofs.lemmas.List.Elements.{All-cons}
 use Rattle.c_lexer.specs.declared.integer.IntegerConstant.{IntegerConstant}
 use Rattle.c_lexer.specs.declared.integer.IntegerType.{IntegerType}
@@ -16,9 +16,10 @@ use Rattle.c_lexer.specs.declared.token.Word.{Word}
 use Rattle.c_lexer.specs.declared.token.Word.TheVariants as word
 use Rattle.c_lexer.specs.Constants.{constant_of, constant_in, with_suffix, suffix_of, types_of, typed, of_type, greatest_of, is_hexadecimal, is_digit_of}
 use Rattle.c_lexer.specs.Characters.{begins}
+use Rattle.c_lexer.specs.Literals.{character_value, bytes_of_literal}
 use Rattle.c_lexer.specs.Longest.{longest, longest_to, or_shorter, is_valid, valid, begins_comment, front_token}
 use Rattle.c_lexer.specs.Separators.{Gap, gap}
-use Rattle.c_lexer.specs.Sound.{IsWord, IsTokenOf}
+use Rattle.c_lexer.specs.Sound.{HasMeaning, IsWord, IsTokenOf}
 use Rattle.c_lexer.specs.Spelled.{TokenList}
 use Rattle.c_lexer.specs.Spellings.{keyword_of, punctuator_of}
 use Rattle.c_lexer.specs.Text.{newlines, line_of, Lexed, behind_tokens, at_end, token_behind, tokens_by, unless_empty, tokens_to, tokens}
@@ -41,9 +42,9 @@ name_spelled : (z : List ℕ) (o : Option Keyword) → keyword_of z ≡ o → sp
 name_spelled z None h = refl
 name_spelled z (Some k) h = keyword_spelled z k h
 
-mark_spelled : (z : List ℕ) (o : Option Punctuator) → punctuator_of z ≡ o → IfSpelled z (punctuated o)
-mark_spelled z None h w e = absurd cc
-mark_spelled z (Some p) h w e = this_spelled z (word.Punctuator p) (punctuator_spelled z p h) w e
+punctuated_spelled : (z : List ℕ) (o : Option Punctuator) → punctuator_of z ≡ o → IfSpelled z (punctuated o)
+punctuated_spelled z None h w e = absurd cc
+punctuated_spelled z (Some p) h w e = this_spelled z (word.Punctuator p) (punctuator_spelled z p h) w e
 
 pub word_spelled : (z : List ℕ) (w : Word) → word_of z ≡ Some w → spelling_of w ≡ z
 unfolding word_of
@@ -53,7 +54,57 @@ word_spelled z =
     (λ e. cond_both (is_character z) _ _ (IfSpelled z) (λ e. this_spelled z (word.Character z) refl)
     (λ e. cond_both (is_string z) _ _ (IfSpelled z) (λ e. this_spelled z (word.StringLiteral z) refl)
     (λ e. cond_both (is_wide z) _ _ (IfSpelled z) (λ e. this_spelled z (word.Wide z) refl)
-    (λ e. mark_spelled z (punctuator_of z) refl)))))
+    (λ e. punctuated_spelled z (punctuator_of z) refl)))))
+
+-- ---- meanings
+
+-- of a word that spells z
+abbrev Spells : Word → Type 0
+Spells (word.Character z) = is_character z ≡ true
+Spells (word.StringLiteral z) = is_string z ≡ true
+Spells _ = Unit {0}
+
+abbrev IfSpells : Option Word → Type 0
+IfSpells o = (w : Word) → o ≡ Some w → Spells w
+
+this_spells : (v : Word) → Spells v → IfSpells (Some v)
+this_spells v m w h = let same : v ≡ w = cc in subst Spells same m
+
+name_spells : (z : List ℕ) (o : Option Keyword) → Spells (named z o)
+name_spells z None = tt
+name_spells z (Some k) = tt
+
+punctuated_spells : (o : Option Punctuator) → IfSpells (punctuated o)
+punctuated_spells None w h = absurd cc
+punctuated_spells (Some p) w h = this_spells (word.Punctuator p) tt w h
+
+word_spells : (z : List ℕ) → IfSpells (word_of z)
+unfolding word_of
+word_spells z =
+    cond_both (is_identifier z) _ _ IfSpells (λ e. this_spells (named z (keyword_of z)) (name_spells z (keyword_of z)))
+    (λ e. cond_both (is_number z) _ _ IfSpells (λ e. this_spells (word.Integer z) tt)
+    (λ e. cond_both (is_character z) _ _ IfSpells (λ e. this_spells (word.Character z) e)
+    (λ e. cond_both (is_string z) _ _ IfSpells (λ e. this_spells (word.StringLiteral z) e)
+    (λ e. cond_both (is_wide z) _ _ IfSpells (λ e. this_spells (word.Wide z) tt)
+    (λ e. punctuated_spells (punctuator_of z))))))
+
+some_is : {A : Type 0} (o : Option A) → is_some o ≡ true → IsSome o
+some_is None h = absurd (false≢true h)
+some_is (Some x) h = search rules
+
+meaning_of : (w : Word) → Spells w → is_valid w ≡ true → HasMeaning w
+meaning_of (word.Integer z) s v = some_is (constant_of z) v
+meaning_of (word.Character z) s v = some_is (character_value z) s
+meaning_of (word.StringLiteral z) s v = some_is (bytes_of_literal z) s
+meaning_of (word.Identifier z) s v = tt
+meaning_of (word.Keyword k) s v = tt
+meaning_of (word.Wide z) s v = tt
+meaning_of (word.Punctuator p) s v = tt
+
+pub word_meaning : (w : Word) → IsWord w → HasMeaning w
+word_meaning w h = meaning_of w (word_spells (spelling_of w) w h.spelled) h.valid
+
+-- ---- the token at the front
 
 longest_is : (k : ℕ) (z : List ℕ) (w : Word) (n : ℕ) → longest_to k z ≡ Some (w, n) → word_of (take n z) ≡ Some w
 longest_is zero z w n h = absurd cc

@@ -4,7 +4,7 @@ ghost use Rattle.std.specs.Prelude.{◌≡◌, ◌≤◌, ℕ, suc, List, length
 ghost use Rattle.std.specs.List.{All};
 ghost use Rattle.c_lexer.specs.Constants.{constant_of, greatest_of};
 ghost use Rattle.c_lexer.specs.Longest.{front_token};
-ghost use Rattle.c_lexer.specs.Sound.{IsTokenOf};
+ghost use Rattle.c_lexer.specs.Sound.{HasMeaning, IsTokenOf, IsWord};
 ghost use Rattle.c_lexer.specs.Spelled.{TokenList};
 ghost use Rattle.c_lexer.specs.Spellings.{keyword_of, keyword_spelling, punctuator_of, punctuator_spelling};
 ghost use Rattle.c_lexer.specs.Text.{newlines, tokens};
@@ -33,6 +33,11 @@ pub fn front_tokens_have_their_bytes()
 /// The value of an integer constant fits its type.
 pub fn constants_fit()
     ensures { (z : List ℕ) (c : IntegerConstant) → constant_of z ≡ Some c → c.value ≤ greatest_of c.integer_type }
+{}
+
+/// An integer constant among tokens has a type and a value, a character constant a value, a string literal its bytes.
+pub fn literals_have_meanings()
+    ensures { (w : Word) → IsWord w → HasMeaning w }
 {}
 
 /// Each token of a text is the word that its bytes spell, and has a line of the text. There are at most as many tokens as

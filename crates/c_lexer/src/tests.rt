@@ -65,6 +65,11 @@ fn types_constants(rt: HostRuntime) {
         };
         assert_eq!(rt; constant_of(spelling), Some(constant));
     }
+}
+
+// What is no integer constant, or has a value that no type of its list holds.
+#[test]
+fn refuses_constants(rt: HostRuntime) {
     let none: [&[u8]; 14] = [
         b"",
         b"08",

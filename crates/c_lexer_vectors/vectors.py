@@ -16,9 +16,8 @@ import sys
 import tempfile
 
 END = "%%\n"
-CLANG = ["clang", "-std=c99", "--target=riscv64-linux-gnu", "-pedantic-errors", "-Werror", "-Wno-unused-value",
-         "-Wno-everything"]
-STRICT = ["clang", "-std=c99", "--target=riscv64-linux-gnu", "-pedantic-errors", "-Werror", "-Wno-unused-value"]
+CLANG = ["clang", "-std=c99", "--target=riscv64-linux-gnu"]
+STRICT = CLANG + ["-pedantic-errors", "-Werror", "-Wno-unused-value"]
 
 TEXTS = [
     "int main(void) { return 0; }\n",

@@ -7,6 +7,7 @@ pub mod Listed
 pub mod Machine
 pub mod Meant
 pub mod Pieces
+pub mod Prefixes
 pub mod Running
 pub mod Steps
 pub mod Theorem

@@ -1,5 +1,5 @@
 -- What the reader of the part answers.
-use Rattle.std.specs.Prelude.{◌≡◌, ℕ, ◌≤◌, List, drop, length, Result, Ok, Err}
+use Rattle.std.specs.Prelude.{◌≡◌, ℕ, ◌≤◌, List, [], ◌∷◌, ◌++◌, drop, length, Result, Ok, Err}
 use Rattle.c_lexer.specs.declared.token.Token.{Token}
 use Rattle.sbcets_core.specs.declared.part.PartError.{PartError}
 use Rattle.sbcets_core.specs.declared.part.PartError.TheVariants.{Unfit, Memory}
@@ -15,3 +15,16 @@ abbrev pub Parts : List Token → Result SourceProgram PartError → Type 0
 Parts tokens (Ok program) = program_of tokens ≡ Ok program
 Parts tokens (Err (Unfit at)) = IsUnfit tokens at
 Parts tokens (Err Memory) = Unit {0}
+
+-- some tokens begin a text of the part
+pub record Begins (front : List Token) : Type 0 where
+  pub rest : List Token
+  pub program : SourceProgram
+  pub whole : program_of (front ++ rest) ≡ Ok program
+
+-- the tokens before these begin a text of the part, and together with the first of these they begin none
+pub record IsFirstUnfit (tokens unfit : List Token) : Type 0 where
+  pub front : List Token
+  pub split : tokens ≡ front ++ unfit
+  pub begins : Begins front
+  pub ends : (t : Token) (more : List Token) → unfit ≡ t ∷ more → Begins (front ++ (t ∷ [])) → ⊥

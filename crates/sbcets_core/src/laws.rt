@@ -1,11 +1,14 @@
 //! Laws of the definitions that the top call's clauses cite, each as the contract of a function that
 //! does nothing.
-ghost use Rattle.std.specs.Prelude.{◌≡◌, ℕ, List, [], Option, Some};
+ghost use Rattle.std.specs.Prelude.{◌≡◌, ℕ, List, [], Option, Some, Err};
 ghost use Rattle.sbcets_core.specs.declared.outcome.Outcome.{Outcome};
 ghost use Rattle.sbcets_core.specs.declared.outcome.Outcome.TheVariants.{Built};
 ghost use Rattle.rv_sim.specs.declared.stop.Stop.TheVariants.{Exited, Limit};
 ghost use Rattle.sbcets_core.specs.Commands.{Outside, Builds, Goes, Runs, Went};
+ghost use Rattle.c_lexer.specs.declared.token.Token.{Token};
 ghost use Rattle.sbcets_core.specs.Meant.{EndsAsMeant, GoesAsMeant};
+ghost use Rattle.sbcets_core.specs.Part.{program_of};
+ghost use Rattle.sbcets_core.specs.Parting.{IsFirstUnfit};
 
 /// `build` and then `run` compose: where a source was built into a file, and the files are the same
 /// since, what `run` of that file does is what `go` of the source as it was then would have done,
@@ -25,4 +28,10 @@ pub fn an_exit_is_meant()
 /// within as many turns.
 pub fn a_run_to_the_limit_is_meant()
     ensures { (name : List ℕ) (limit : ℕ) (image : List ℕ) (before after : Outside) (went : Went name limit image Limit before after) (input : List ℕ) → before.streams.input ≡ Some input → GoesAsMeant went.built.program input limit before.streams after.streams }
+{}
+
+/// Where the tokens are no text of the part, the one that is refused is the first with which the tokens so far begin none:
+/// those before it begin one, and with it they do not. None is refused where the text ends too early.
+pub fn the_first_unfit_token_is_refused()
+    ensures { (tokens unfit : List Token) → program_of tokens ≡ Err unfit → IsFirstUnfit tokens unfit }
 {}

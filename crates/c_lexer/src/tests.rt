@@ -1,8 +1,11 @@
 //! Tokens of texts, constants and literals, with what C99 says of them.
 
+ghost use Rattle.std.specs.Prelude.{◌≤◌, length};
+
 use crate::{
     IntegerConstant, IntegerType, LexError, bytes_of_literal, character_value, constant_of, lex,
 };
+use std::alloc::Global;
 use std::test::Fail;
 
 // The type and the value of each constant by C99 6.4.4.1 paragraph 5, `long` having 64 bits.
@@ -62,6 +65,11 @@ fn types_constants(rt: HostRuntime) {
         };
         assert_eq!(rt; constant_of(spelling), Some(constant));
     }
+}
+
+// What is no integer constant, or has a value that no type of its list holds.
+#[test]
+fn refuses_constants(rt: HostRuntime) {
     let none: [&[u8]; 14] = [
         b"",
         b"08",
@@ -146,11 +154,16 @@ fn finds_faults(rt: HostRuntime) {
         (b"L\"\\400\"", 1, 1),
     ];
     for (text, at, line) in rows.iter() {
-        let fault = match lex(rt.alloc(), text) {
-            Err(LexError::Fault(fault)) => Some((fault.at, fault.line.number())),
-            _ => None,
-        };
-        assert_eq!(rt; fault, Some((*at, *line)));
+        assert_eq!(rt; fault_of(rt.alloc(), text), Some((*at, *line)));
+    }
+}
+
+fn fault_of(alloc: Global, text: &[u8]) -> Option<(u64, u32)>
+    requires { length text.now ≤ 1048576 }
+{
+    match lex(alloc, text).err()? {
+        LexError::Memory => None,
+        LexError::Fault(fault) => Some((fault.at, fault.line.number())),
     }
 }
 
@@ -167,8 +180,10 @@ fn tells_lines(rt: HostRuntime) -> Result<(), Fail> {
         (b"e", 5, false, true),
         (b"f", 6, false, true),
     ];
-    assert_eq!(rt; tokens.as_slice().len(), 5);
-    for (token, row) in tokens.as_slice().iter().zip(rows.iter()) {
+    let found = tokens.as_slice();
+    assert_eq!(rt; found.len(), 5);
+    for (i, row) in rows.iter().enumerate() {
+        let token = &found[i];
         assert_eq!(rt; token.word.spelling(), row.0);
         assert_eq!(rt; token.line.number(), row.1);
         assert_eq!(rt; token.begins_line, row.2);

@@ -8,9 +8,9 @@
 // Then comes the line of the end, or the byte and the line of a fault, and a line `%%`.
 //
 // `stdin` and `stdout` are made by Debian clang 14.0.6 (Debian 12), as `vectors.py` beside them says. Left out are texts in
-// which the subset of C differs: `##`, digraphs, trigraphs, universal character names, `$`, a newline behind a backslash
-// inside a token other than a comment, a lone carriage return, and a wide literal that is not one character or holds an
-// escape sequence above 255. A token behind a newline counts as first on its line and nothing else.
+// which the subset of C differs: `##`, digraphs, trigraphs, universal character names, `$` and letters outside ASCII in
+// identifiers, a newline behind a backslash inside a token or behind a backslash and a space, a lone carriage return, and
+// a wide literal that is not one character or holds an escape sequence above 255.
 #![tactic(auto)]
 
 use anyhow::{Result, bail};

@@ -1,5 +1,5 @@
 -- Which tokens begin a text of the part.
-use Rattle.std.proofs.Common.{◌≡◌, ℕ, List, [], ◌∷◌, ◌++◌, Option, Some, None, Result, Ok, Err, false, codes, refl, sym, ap, ◌∙◌, subst}
+use Rattle.std.proofs.Common.{◌≡◌, ℕ, List, [], ◌∷◌, ◌++◌, Option, Some, None, Ok, Err, false, codes, refl, sym, ap, ◌∙◌, subst}
 use Rattle.c_lexer.specs.declared.keyword.Keyword.TheVariants as keyword
 use Rattle.c_lexer.specs.declared.punctuator.Punctuator.TheVariants as punctuator
 use Rattle.c_lexer.specs.declared.token.Word.{Word}

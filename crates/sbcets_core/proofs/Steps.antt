@@ -1,14 +1,13 @@
 -- The reading of the part, word by word.
-use Rattle.std.proofs.Common.{◌≡◌, ◌≤◌, ◌<◌, ◌+◌, ◌*◌, ℕ, zero, suc, List, [], ◌∷◌, ◌++◌, Option, Some, None, Result, Ok, Err, Bool, true, false, if◌then◌else◌, option_map, length, drop, get_or, refl, sym, ap, ◌∙◌, arith, append_assoc, length-append}
-use Rattle.std.proofs.lemmas.List.{append-nil, drop_more}
+use Rattle.std.proofs.Common.{◌≡◌, ◌≤◌, ◌<◌, ◌+◌, ◌*◌, ℕ, List, [], ◌∷◌, ◌++◌, Option, Some, None, Ok, Err, Bool, true, false, if◌then◌else◌, option_map, length, drop, get_or, refl, sym, ap, ◌∙◌, arith, append_assoc, length-append}
+use Rattle.std.proofs.lemmas.List.{drop_more}
 use Rattle.c_lexer.specs.declared.token.Token.{Token}
 use Rattle.c_lexer.specs.declared.token.Word.{Word}
 use Rattle.sbcets_core.specs.declared.part.Place.{Place}
 use Rattle.sbcets_core.specs.declared.part.Place.TheVariants as place
 use Rattle.sbcets_core.specs.declared.part.Step.{Step}
 use Rattle.sbcets_core.specs.declared.part.Step.TheVariants.{Goes, Puts}
-use Rattle.sbcets_core.specs.Source.{SourceProgram}
-use Rattle.sbcets_core.specs.Part.{Parted, after_word, step_if, number_of, number_step, statement_step, program_from, program_of, ended, stepped, put_by, place_after, puts_before, is_return, is_semicolon}
+use Rattle.sbcets_core.specs.Part.{Parted, after_word, step_if, number_of, program_from, program_of, stepped, put_by, place_after, puts_before, is_return, is_semicolon}
 
 -- how many tokens of a `putchar(N);` stand before a place
 abbrev pub progress : Place → ℕ

@@ -1,7 +1,6 @@
 -- Words of C99 that are in no part of the subset (6.4.1, 6.4.4.4, 6.4.5, 6.4.6), and how a word is told in a refusal.
 use Rattle.std.specs.Prelude.{ℕ, Bool, true, false, not, List, drop, codes}
 use Rattle.std.specs.List.{prefix_len}
-use Rattle.c_lexer.specs.declared.keyword.Keyword.{Keyword}
 use Rattle.c_lexer.specs.declared.keyword.Keyword.TheVariants as keyword
 use Rattle.c_lexer.specs.declared.punctuator.Punctuator.TheVariants.{Ellipsis}
 use Rattle.c_lexer.specs.declared.token.Word.{Word}

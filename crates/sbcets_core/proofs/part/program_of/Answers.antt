@@ -1,5 +1,4 @@
 use Rattle.std.proofs.Common.{rules, ◌≡◌, Some, get_or}
-use Rattle.sbcets_core.specs.declared.part.Step.{Step}
 use Rattle.sbcets_core.specs.Part.{after_word}
 use Rattle.sbcets_core.proofs.Steps.{step_on}
 use Rattle.sbcets_core.proofs.part.program_of.Goals as goal

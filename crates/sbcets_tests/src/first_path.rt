@@ -58,7 +58,7 @@ fn accepted_sources(rt: HostRuntime) -> Result<(), Fail> {
 }
 
 // A source that is refused, and its line.
-const REFUSED: [(&[u8], &[u8]); 15] = [
+const REFUSED: [(&[u8], &[u8]); 16] = [
     (b"int main(void){return x;}", b"unsupported x at line 1"),
     // The text ends too early, on the line behind its last newline.
     (b"", b"unsupported  at line 1"),
@@ -83,6 +83,8 @@ const REFUSED: [(&[u8], &[u8]); 15] = [
         b"#define N 1\n#define N 2\n",
         b"directive fault 5 at line 2",
     ),
+    // A group that is skipped must have tokens too.
+    (b"#ifdef A\n@\n#endif\n", b"lexical fault at line 2"),
     // Lexical faults come first, then those of directives, then listed words.
     (b"float f;\n#endif\n", b"directive fault 4 at line 2"),
 ];

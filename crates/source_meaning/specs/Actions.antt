@@ -1,5 +1,6 @@
 -- The actions that expressions and statements are made of. Three-address code has the same actions.
-use Rattle.std.specs.Prelude.{ℕ, ◌+◌, ◌-◌, ◌*◌, ◌%◌, ◌^◌, Bool, true, false, ◌==◌, nat_lt, List, [], ◌∷◌, ◌++◌, Option, Some, None, get_or, set, length}
+use Rattle.std.specs.Prelude.{ℕ, ◌+◌, ◌-◌, ◌*◌, ◌%◌, ◌^◌, ℤ, pos, Bool, true, false, ◌==◌, nat_lt, List, [], ◌∷◌, ◌++◌, Option, Some, None, get_or, set, length}
+use Rattle.std.specs.Int.{w32, int_wrap}
 use Rattle.behaviours.specs.Shown.{AccessKind, Read, Write}
 use Rattle.sb_base.specs.declared.ending.Ending.TheVariants.{Spatial, Temporal, Divide, Keys}
 use Rattle.obj_memory.specs.declared.int_type.IntType.{IntType}
@@ -38,6 +39,10 @@ integer w = record { word = w; tag = Untagged }
 
 abbrev pub is_zero : Value → Bool
 is_zero v = v.word == 0
+
+-- the low 32 bits of a word, as an int
+abbrev pub int_of : (word : ℕ) → ℤ
+int_of w = int_wrap w32 (pos w)
 
 -- the number of bytes of what has a kind
 abbrev pub kind_size : Kind → ℕ

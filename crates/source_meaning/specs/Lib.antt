@@ -1,4 +1,10 @@
 pub mod State
 pub mod Places
 pub mod Actions
+pub mod Printing
 pub mod Library
+pub mod Expressions
+pub mod Initializers
+pub mod Statements
+pub mod Calls
+pub mod Meaning

@@ -229,6 +229,12 @@ make_object storage address size = do
   change (λ s. record s { objects = with_new storage address size s.objects })
   done number
 
+-- bytes put out, each of which is work
+abbrev pub put_bytes : List ℕ → Run (Unit {0})
+put_bytes bytes = do
+  tally (length bytes)
+  change (λ s. record s { output = s.output ++ bytes })
+
 -- the pointer to the object of a variable
 abbrev pub home_value : Home → Objects → Value
 home_value PlainValue objects = integer 0

@@ -1,6 +1,9 @@
 pub mod State
 pub mod Places
 pub mod Actions
+pub mod Heap
+pub mod Memory
+pub mod Strings
 pub mod Printing
 pub mod Library
 pub mod Expressions

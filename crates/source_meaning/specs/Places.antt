@@ -1,5 +1,5 @@
 -- Where functions, static objects, automatic objects and allocated objects stand.
-use Rattle.std.specs.Prelude.{ℕ, ◌+◌, ◌*◌}
+use Rattle.std.specs.Prelude.{ℕ, ◌+◌, ◌-◌, ◌*◌}
 use Rattle.obj_memory.specs.Heap.{rounded_up}
 use Rattle.source_meaning.specs.State.{Setting}
 
@@ -19,3 +19,6 @@ stack_end g = stack_first g.statics_size + g.budgets.stack
 
 abbrev pub heap_first : Setting → ℕ
 heap_first g = stack_end g
+
+abbrev pub heap_last : Setting → ℕ
+heap_last g = heap_first g + g.budgets.heap - 1

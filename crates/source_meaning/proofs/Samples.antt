@@ -1,0 +1,82 @@
+-- Small words in which the typed trees of the worked rows are written.
+use Rattle.std.proofs.Common.{◌≡◌, ℕ, ◌<◌, ◌^◌, List, [], ◌∷◌, length, refl, arith, Option, Some, None, true, false, lit<}
+use Rattle.std.specs.Prelude.{Vec, Box}
+use Rattle.std.specs.declared.alloc.Global.{Global}
+use denote.RawPtr.{null_ptr}
+use Rattle.obj_memory.specs.declared.int_type.IntType.TheVariants.{Int}
+use Rattle.obj_memory.specs.declared.value.Scalar.TheVariants.{Integer, Pointer}
+use Rattle.c_tree.specs.declared.expression.Kind.{Kind}
+use Rattle.c_tree.specs.declared.expression.Kind.TheVariants.{Scalar as OfScalar}
+use Rattle.c_tree.specs.declared.expression.Expression.{Expression}
+use Rattle.c_tree.specs.declared.expression.Lvalue.{Lvalue}
+use Rattle.c_tree.specs.declared.expression.Node.{Node, Constant, Read, Convert}
+use Rattle.c_tree.specs.declared.expression.LvalueNode.{LvalueNode}
+use Rattle.c_tree.specs.declared.program.Variable.{Variable}
+use Rattle.c_tree.specs.declared.program.Function.{Function}
+use Rattle.c_tree.specs.declared.program.StaticObject.{StaticObject}
+use Rattle.c_tree.specs.declared.program.Program.{Program}
+use Rattle.c_tree.specs.declared.statement.Statement.{Statement}
+
+abbrev pub vec_of : {A : Type 0} → (xs : List A) → length xs < 2 ^ 63 → Vec A Global
+vec_of xs h = record { ptr = null_ptr; len = length xs; cap = length xs; alloc = record { memory = _ }; items = xs; ok = (refl, omega arith); small = h }
+
+abbrev pub box : {A : Type 0} → A → Box A Global
+box x = record { ptr = null_ptr; alloc = record { memory = _ }; value = x }
+
+abbrev pub none : {A : Type 0} → Vec A Global
+none {A = A} = vec_of {A = A} [] (lit< tt)
+
+abbrev pub one : {A : Type 0} → A → Vec A Global
+one a = vec_of (a ∷ []) (lit< tt)
+
+abbrev pub two : {A : Type 0} → A → A → Vec A Global
+two a b = vec_of (a ∷ b ∷ []) (lit< tt)
+
+abbrev pub three : {A : Type 0} → A → A → A → Vec A Global
+three a b c = vec_of (a ∷ b ∷ c ∷ []) (lit< tt)
+
+abbrev pub four : {A : Type 0} → A → A → A → A → Vec A Global
+four a b c d = vec_of (a ∷ b ∷ c ∷ d ∷ []) (lit< tt)
+
+abbrev pub five : {A : Type 0} → A → A → A → A → A → Vec A Global
+five a b c d e = vec_of (a ∷ b ∷ c ∷ d ∷ e ∷ []) (lit< tt)
+
+abbrev pub six : {A : Type 0} → A → A → A → A → A → A → Vec A Global
+six a b c d e f = vec_of (a ∷ b ∷ c ∷ d ∷ e ∷ f ∷ []) (lit< tt)
+
+abbrev pub int : Kind
+int = OfScalar (Integer Int)
+
+abbrev pub pointer : Kind
+pointer = OfScalar Pointer
+
+-- an expression, and an lvalue, at a line
+abbrev pub at : (line : ℕ) → Kind → Node → Expression
+at line kind node = record { kind = kind; line = line; node = node }
+
+abbrev pub lvalue : (line : ℕ) → Kind → LvalueNode → Lvalue
+lvalue line kind node = record { kind = kind; line = line; node = node }
+
+abbrev pub number : (line : ℕ) → ℕ → Expression
+number line n = at line int (Constant n)
+
+-- what an lvalue holds
+abbrev pub read : Lvalue → Expression
+read p = at p.line p.kind (Read (box p))
+
+abbrev pub convert : Kind → Expression → Expression
+convert kind e = at e.line kind (Convert (box e))
+
+abbrev pub plain_variable : Kind → Variable
+plain_variable kind = record { kind = kind; is_object = false }
+
+abbrev pub object_variable : Kind → Variable
+object_variable kind = record { kind = kind; is_object = true }
+
+-- a program of `main` alone, at line 1, of function type 0
+abbrev pub main_alone : Vec StaticObject Global → (variables : Vec Variable Global) → (room : ℕ) → Vec Statement Global → Program
+main_alone statics variables room body = record {
+  statics = statics;
+  functions = one (record { line = 1; type_number = 0; parameters = none; variables = variables; body = body; room = room });
+  main = 0;
+}

@@ -1,2 +1,4 @@
 mod Samples
 mod RowFirst
+mod RowGlobal
+mod RowEndless

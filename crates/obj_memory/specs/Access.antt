@@ -29,9 +29,13 @@ bytes_at size p objects = take size (drop p.offset (object_at objects p.object).
 abbrev pub is_aligned : (offset : ℕ) → Bool
 is_aligned offset = offset % 8 == 0
 
+-- the tag of a word of an object
+abbrev pub tag_of : (object word : ℕ) → Objects → Tag
+tag_of object word objects = get_or (object_at objects object).tags word Untagged
+
+-- the tag of the word at a place, none where none begins there
 abbrev pub tag_at : Place → Objects → Tag
-tag_at p objects =
-    if is_aligned p.offset then get_or (object_at objects p.object).tags (p.offset / 8) Untagged else Untagged
+tag_at p objects = if is_aligned p.offset then tag_of p.object (p.offset / 8) objects else Untagged
 
 -- the number of bytes of a scalar
 abbrev pub scalar_size : Scalar → ℕ
@@ -57,6 +61,11 @@ write_tag t p objects =
 unfoldable pub write_value : Scalar → Value → Place → Objects → Objects
 write_value (Integer t) v p objects = write_bytes (little_bytes (size_of t) v.word) p objects
 write_value Pointer v p objects = write_tag v.tag p (write_bytes (little_bytes 8 v.word) p objects)
+
+-- what a scalar at a place keeps of a value that is written to it
+unfoldable pub kept_value : Scalar → Value → Place → Value
+kept_value (Integer t) v p = record { word = fit t v.word; tag = Untagged }
+kept_value Pointer v p = record { word = v.word; tag = if is_aligned p.offset then v.tag else Untagged }
 
 -- whether the word of a number lies in a range
 abbrev pub is_word_in : (start size word : ℕ) → Bool

@@ -1,10 +1,12 @@
 -- What always holds of the objects of a run.
-use Rattle.std.specs.Prelude.{◌≡◌, ℕ, ◌+◌, ◌/◌, ◌%◌, ◌<◌, ◌≤◌, false, length, get_or}
+use Rattle.std.specs.Prelude.{◌≡◌, ℕ, ◌+◌, ◌*◌, ◌/◌, ◌%◌, ◌⊎◌, ◌<◌, ◌≤◌, ◌≢◌, true, false, length, get_or}
 use Rattle.obj_memory.specs.declared.value.Bounds.{Bounds}
 use Rattle.obj_memory.specs.declared.value.Tag.{Tag}
 use Rattle.obj_memory.specs.declared.value.Tag.TheVariants.{Untagged, OfFunction, OfObject}
+use Rattle.obj_memory.specs.declared.value.Value.{Value}
 use Rattle.obj_memory.specs.declared.value.Place.{Place}
 use Rattle.obj_memory.specs.Objects.{ObjectState, Objects, object_at}
+use Rattle.obj_memory.specs.Heap.{block_room, is_live_block, has_room}
 
 -- a tag names an object of the list, and its bounds, where there is anything between them, lie in that object
 pub record IsTagOf (objects : Objects) (object : ℕ) (b : Bounds) : Type 0 where
@@ -40,3 +42,55 @@ pub record Continues (old new : Objects) : Type 0 where
   pub address : (n : ℕ) → n < length old → (object_at new n).address ≡ (object_at old n).address
   pub size : (n : ℕ) → n < length old → (object_at new n).size ≡ (object_at old n).size
   pub dead : (n : ℕ) → n < length old → (object_at old n).is_live ≡ false → (object_at new n).is_live ≡ false
+
+-- an access through a pointer that is allowed at a place: some bytes of a live object, at the pointer's address
+pub record IsAllowed (objects : Objects) (v : Value) (size : ℕ) (p : Place) : Type 0 where
+  pub place : IsPlace objects p size
+  pub live : (object_at objects p.object).is_live ≡ true
+  pub address : (object_at objects p.object).address + p.offset ≡ v.word
+
+-- two objects that differ in bytes and tags alone
+pub record IsSameBut (old new : ObjectState) : Type 0 where
+  pub storage : new.storage ≡ old.storage
+  pub address : new.address ≡ old.address
+  pub size : new.size ≡ old.size
+  pub live : new.is_live ≡ old.is_live
+
+-- what every write leaves: the same objects, with other bytes and tags
+pub record KeepsObjects (old new : Objects) : Type 0 where
+  pub count : length new ≡ length old
+  pub at : (n : ℕ) → IsSameBut (object_at old n) (object_at new n)
+
+-- some bytes at one place and some at another are in two objects, or one lies before the other
+pub data AreApart (p : Place) (size : ℕ) (q : Place) (count : ℕ) : Type 0 where
+  InOthers : q.object ≢ p.object → AreApart p size q count
+  Before : q.offset + count ≤ p.offset → AreApart p size q count
+  Behind : p.offset + size ≤ q.offset → AreApart p size q count
+
+-- a range of addresses ends before a block, or begins behind it
+abbrev pub IsClearOf : (start room : ℕ) → ObjectState → Type 0
+IsClearOf start room o = (start + room ≤ o.address) ⊎ (o.address + block_room o.size ≤ start)
+
+-- the place of a block in a heap: it lies in the heap, clear of every live block, and no multiple of 16 below it would do
+pub record IsBlockPlace (first last size : ℕ) (objects : Objects) (place : ℕ) : Type 0 where
+  pub step : ℕ
+  pub is_step : place ≡ first + 16 * step
+  pub in_heap : place + block_room size ≤ last + 1
+  pub clear : (n : ℕ) → is_live_block (object_at objects n) ≡ true → IsClearOf place (block_room size) (object_at objects n)
+  pub least : (i : ℕ) → i < step → has_room last (block_room size) objects (first + 16 * i) ≡ false
+
+-- a tag that reaches no more than another: the same object or function, and bounds within the other's
+abbrev pub IsPartOf : (part whole : Tag) → Type 0
+IsPartOf Untagged Untagged = Unit {0}
+IsPartOf (OfFunction f) (OfFunction g) = f ≡ g
+IsPartOf (OfObject o b) (OfObject n c) = (o ≡ n) × (c.base ≤ b.base) × (b.bound ≤ c.bound)
+IsPartOf _ _ = ⊥
+
+-- two ranges of addresses that do not meet
+abbrev pub DoNotMeet : (start size other count : ℕ) → Type 0
+DoNotMeet start size other count = (start + size ≤ other) ⊎ (other + count ≤ start)
+
+-- no two live objects share an address
+pub record AreDisjoint (objects : Objects) : Type 0 where
+  pub apart : (m n : ℕ) → m ≢ n → (object_at objects m).is_live ≡ true → (object_at objects n).is_live ≡ true
+      → DoNotMeet (object_at objects m).address (object_at objects m).size (object_at objects n).address (object_at objects n).size

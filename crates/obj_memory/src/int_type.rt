@@ -44,10 +44,8 @@ impl IntType {
             IntType::Char | IntType::SignedChar | IntType::UnsignedChar => 1,
             IntType::Short | IntType::UnsignedShort => 2,
             IntType::Int | IntType::UnsignedInt => 4,
-            IntType::Long
-            | IntType::UnsignedLong
-            | IntType::LongLong
-            | IntType::UnsignedLongLong => 8,
+            IntType::Long | IntType::UnsignedLong | IntType::LongLong | IntType::UnsignedLongLong =>
+                8,
         }
     }
 
@@ -163,10 +161,8 @@ impl IntType {
             IntType::UnsignedShort => word % 0x1_0000,
             IntType::Int => signed32(word),
             IntType::UnsignedInt => word % 0x1_0000_0000,
-            IntType::Long
-            | IntType::UnsignedLong
-            | IntType::LongLong
-            | IntType::UnsignedLongLong => word,
+            IntType::Long | IntType::UnsignedLong | IntType::LongLong | IntType::UnsignedLongLong =>
+                word,
         }
     }
 }

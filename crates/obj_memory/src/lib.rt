@@ -3,12 +3,13 @@
 
 pub mod int_type;
 pub mod judgement;
+pub mod laws;
 pub mod object;
 pub mod operator;
 pub mod value;
 
 pub use int_type::IntType;
-pub use judgement::Verdict;
+pub use judgement::{Verdict, judge, named};
 pub use object::{Object, Storage};
 pub use operator::{BinaryOperator, UnaryOperator};
 pub use value::{Bounds, Place, Scalar, Tag, Value};

@@ -1,5 +1,7 @@
 //! Values: words with tags.
 
+ghost use Rattle.std.specs.Prelude.{◌≡◌, ℕ, ◌+◌, ◌≤◌};
+
 use crate::int_type::IntType;
 
 /// The addresses that a pointer may reach: from `base` to before `bound` (SoftBound, "base and bound"). There are none
@@ -48,4 +50,39 @@ pub struct Place {
     pub object: usize,
     /// The number of bytes before it in the object.
     pub offset: u64,
+}
+
+impl Value {
+    ghost use Rattle.obj_memory.specs.Judgement.{moved, narrowed};
+
+    /// A pointer so many bytes further on. The address wraps, and the tag stays.
+    #[tactic(auto, unfolding(crate::specs::Judgement::moved))]
+    pub fn moved(self, offset: u64) -> Value
+        ensures { result ≡ moved offset self }
+    {
+        Value {
+            word: self.word.wrapping_add(offset),
+            tag: self.tag,
+        }
+    }
+
+    /// A pointer to a member of the structure or union that this one points to, by the member's
+    /// offset and size. Its bounds are where the old bounds meet the member's bytes.
+    #[tactic(auto, unfolding(crate::specs::Judgement::narrowed))]
+    pub fn narrowed(self, offset: u64, size: u64) -> Value
+        ensures { result ≡ narrowed offset size self }
+    {
+        let word = self.word.wrapping_add(offset);
+        let tag = match self.tag {
+            Tag::OfObject(object, bounds) => Tag::OfObject(
+                object,
+                Bounds {
+                    base: bounds.base.max(word),
+                    bound: bounds.bound.min(word.saturating_add(size)),
+                },
+            ),
+            tag => tag,
+        };
+        Value { word, tag }
+    }
 }

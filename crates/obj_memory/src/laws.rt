@@ -1,0 +1,204 @@
+//! Laws of the definitions, each as the contract of a function that does nothing: layers above rest on
+//! them.
+ghost use Rattle.std.specs.Prelude.{◌≡◌, ◌≢◌, ℕ, ◌+◌, ◌-◌, ◌*◌, ◌/◌, ◌%◌, ◌^◌, ◌<◌, ◌≤◌, ◌⊎◌, List, [], length, take, drop, get_or, true, false, IfSome, Some, None};
+ghost use Rattle.obj_memory.specs.declared.int_type.IntType.{IntType};
+ghost use Rattle.obj_memory.specs.declared.operator.UnaryOperator.{UnaryOperator};
+ghost use Rattle.obj_memory.specs.declared.operator.BinaryOperator.{BinaryOperator};
+ghost use Rattle.obj_memory.specs.declared.object.Storage.{Storage};
+ghost use Rattle.obj_memory.specs.declared.value.Tag.{Tag};
+ghost use Rattle.obj_memory.specs.declared.value.Value.{Value};
+ghost use Rattle.obj_memory.specs.declared.value.Scalar.{Scalar};
+ghost use Rattle.obj_memory.specs.declared.value.Place.{Place};
+ghost use Rattle.obj_memory.specs.declared.value.Tag.TheVariants.{Untagged};
+ghost use Rattle.obj_memory.specs.declared.judgement.Verdict.TheVariants.{Inside};
+ghost use Rattle.obj_memory.specs.Integers.{fit, size_of};
+ghost use Rattle.obj_memory.specs.Operators.{unary_value, binary_value};
+ghost use Rattle.obj_memory.specs.Objects.{Objects, object_at, new_object, with_new, with_dead, with_zeroed, pointer_to};
+ghost use Rattle.obj_memory.specs.Judgement.{judge, named, moved, narrowed};
+ghost use Rattle.obj_memory.specs.Access.{scalar_size, read_value, write_value, kept_value, write_bytes, bytes_at, tag_at, tag_of, move_range};
+ghost use Rattle.obj_memory.specs.Heap.{block_count, block_room, has_room, least_place};
+ghost use Rattle.obj_memory.specs.Sound.{IsSound, IsSoundTag, IsPlace, IsAllowed, IsPartOf, KeepsObjects, Continues, AreApart, AreDisjoint, DoNotMeet, IsBlockPlace};
+
+/// A conversion reads no more than the bytes of its type and gives a word, and a second one changes
+/// nothing.
+pub fn conversions_give_words()
+    ensures word { (t : IntType) (x : ℕ) → fit t (x % 2 ^ 64) ≡ fit t x }
+    ensures bytes { (t : IntType) (x : ℕ) → fit t (x % 2 ^ (8 * size_of t)) ≡ fit t x }
+    ensures twice { (t : IntType) (x : ℕ) → fit t (fit t x) ≡ fit t x }
+    ensures below { (t : IntType) (x : ℕ) → fit t x < 2 ^ 64 }
+{}
+
+/// Operators give words at words.
+pub fn operators_give_words()
+    ensures unary { (op : UnaryOperator) (t : IntType) (x : ℕ) → unary_value op t x < 2 ^ 64 }
+    ensures binary { (op : BinaryOperator) (t : IntType) (x y : ℕ) → x < 2 ^ 64 → y < 2 ^ 64
+        → IfSome (binary_value op t x y) (λ z. z < 2 ^ 64) }
+{}
+
+/// At the place of a write its value is read, as the scalar there keeps it, and what was read at a
+/// place apart from it still is.
+pub fn what_was_written_is_read()
+    ensures there { (s : Scalar) (v : Value) (p : Place) (objects : Objects) → IsSound objects
+        → IsPlace objects p (scalar_size s) → v.word < 2 ^ 64
+        → read_value s p (write_value s v p objects) ≡ kept_value s v p }
+    ensures apart { (s : Scalar) (v : Value) (p : Place) (r : Scalar) (q : Place) (objects : Objects)
+        → IsSound objects → IsPlace objects p (scalar_size s) → AreApart p (scalar_size s) q (scalar_size r)
+        → read_value r q (write_value s v p objects) ≡ read_value r q objects }
+{}
+
+/// The same of bytes, which leave every tag.
+pub fn written_bytes_are_read()
+    ensures there { (new : List ℕ) (p : Place) (objects : Objects) → IsSound objects → IsPlace objects p (length new)
+        → bytes_at (length new) p (write_bytes new p objects) ≡ new }
+    ensures apart { (new : List ℕ) (p q : Place) (count : ℕ) (objects : Objects) → IsSound objects
+        → IsPlace objects p (length new) → AreApart p (length new) q count
+        → bytes_at count q (write_bytes new p objects) ≡ bytes_at count q objects }
+    ensures tags { (new : List ℕ) (p q : Place) (objects : Objects)
+        → tag_at q (write_bytes new p objects) ≡ tag_at q objects }
+{}
+
+/// What is read is a word, with a tag that names an object and reaches nothing outside it.
+pub fn what_is_read_is_sound()
+    ensures word { (s : Scalar) (p : Place) (objects : Objects) → IsSound objects → IsPlace objects p (scalar_size s)
+        → (read_value s p objects).word < 2 ^ 64 }
+    ensures tag { (s : Scalar) (p : Place) (objects : Objects) → IsSound objects
+        → IsSoundTag objects (read_value s p objects).tag }
+{}
+
+/// A moved range has the bytes of its source as they were before, and those beside it stay.
+pub fn moved_bytes_are_read()
+    ensures there { (size : ℕ) (d s : Place) (objects : Objects) → IsSound objects → IsPlace objects d size
+        → IsPlace objects s size → bytes_at size d (move_range size d s objects) ≡ bytes_at size s objects }
+    ensures beside { (size : ℕ) (d s : Place) (objects : Objects) (start count : ℕ) → IsSound objects
+        → IsPlace objects d size → IsPlace objects s size → DoNotMeet start count d.offset size
+        → take count (drop start (object_at (move_range size d s objects) d.object).bytes) ≡ take count (drop start (object_at objects d.object).bytes) }
+    ensures other { (size : ℕ) (d s : Place) (n : ℕ) (objects : Objects) → n ≢ d.object
+        → object_at (move_range size d s objects) n ≡ object_at objects n }
+{}
+
+/// A word that lies in a moved range has the tag of its source, where both ranges begin at offsets
+/// that are equal modulo 8, and every other tag stays.
+pub fn moved_words_have_their_tags()
+    ensures moved { (size : ℕ) (d s : Place) (word : ℕ) (objects : Objects) → IsSound objects → IsPlace objects d size
+        → d.offset % 8 ≡ s.offset % 8 → d.offset ≤ 8 * word → 8 * word + 8 ≤ d.offset + size
+        → tag_of d.object word (move_range size d s objects) ≡ tag_of s.object ((8 * word - d.offset + s.offset) / 8) objects }
+    ensures kept { (size : ℕ) (d s : Place) (word : ℕ) (objects : Objects) → d.object < length objects
+        → (d.offset % 8 ≢ s.offset % 8) ⊎ ((8 * word < d.offset) ⊎ (d.offset + size < 8 * word + 8))
+        → tag_of d.object word (move_range size d s objects) ≡ tag_of d.object word objects }
+{}
+
+/// A new object has the next number and reads as zero, and the others stay.
+pub fn new_object_stands_last()
+    ensures last { (storage : Storage) (address size : ℕ) (objects : Objects)
+        → object_at (with_new storage address size objects) (length objects) ≡ new_object storage address size }
+    ensures zero { (storage : Storage) (address size : ℕ) (s : Scalar) (p : Place) (objects : Objects)
+        → p.object ≡ length objects
+        → read_value s p (with_new storage address size objects) ≡ record { word = 0; tag = Untagged } }
+    ensures other { (storage : Storage) (address size n : ℕ) (objects : Objects) → n < length objects
+        → object_at (with_new storage address size objects) n ≡ object_at objects n }
+{}
+
+/// An object that was set to zero reads as zero, and the others stay.
+pub fn zeroed_object_reads_zero()
+    ensures zero { (s : Scalar) (p : Place) (objects : Objects) → p.object < length objects
+        → read_value s p (with_zeroed p.object objects) ≡ record { word = 0; tag = Untagged } }
+    ensures other { (n m : ℕ) (objects : Objects) → m ≢ n → object_at (with_zeroed n objects) m ≡ object_at objects m }
+{}
+
+/// An object that died is dead, and the others stay.
+pub fn dead_object_is_dead()
+    ensures dead { (n : ℕ) (objects : Objects) → (object_at (with_dead n objects) n).is_live ≡ false }
+    ensures other { (n m : ℕ) (objects : Objects) → m ≢ n → object_at (with_dead n objects) m ≡ object_at objects m }
+{}
+
+/// A write leaves the objects, but for bytes and tags.
+pub fn writes_keep_objects()
+    ensures bytes { (new : List ℕ) (p : Place) (objects : Objects) → KeepsObjects objects (write_bytes new p objects) }
+    ensures value { (s : Scalar) (v : Value) (p : Place) (objects : Objects)
+        → KeepsObjects objects (write_value s v p objects) }
+    ensures moved { (size : ℕ) (d s : Place) (objects : Objects) → KeepsObjects objects (move_range size d s objects) }
+    ensures zeroed { (n : ℕ) (objects : Objects) → KeepsObjects objects (with_zeroed n objects) }
+{}
+
+/// Objects that differ in bytes and tags alone are judged alike, and leave the same room for
+/// blocks.
+pub fn kept_objects_are_judged_alike()
+    ensures judge { (old new : Objects) → KeepsObjects old new → (size : ℕ) (v : Value)
+        → judge size v new ≡ judge size v old }
+    ensures named { (old new : Objects) → KeepsObjects old new → (v : Value) → named v new ≡ named v old }
+    ensures count { (old new : Objects) → KeepsObjects old new → block_count new ≡ block_count old }
+    ensures place { (first last size : ℕ) (old new : Objects) → KeepsObjects old new
+        → least_place first last size new ≡ least_place first last size old }
+    ensures disjoint { (old new : Objects) → KeepsObjects old new → AreDisjoint old → AreDisjoint new }
+{}
+
+/// Every action leaves each object where it is, and dead if it was.
+pub fn the_dead_stay_dead()
+    ensures new { (storage : Storage) (address size : ℕ) (objects : Objects)
+        → Continues objects (with_new storage address size objects) }
+    ensures dead { (n : ℕ) (objects : Objects) → Continues objects (with_dead n objects) }
+    ensures zeroed { (n : ℕ) (objects : Objects) → Continues objects (with_zeroed n objects) }
+    ensures bytes { (new : List ℕ) (p : Place) (objects : Objects) → Continues objects (write_bytes new p objects) }
+    ensures value { (s : Scalar) (v : Value) (p : Place) (objects : Objects)
+        → Continues objects (write_value s v p objects) }
+    ensures moved { (size : ℕ) (d s : Place) (objects : Objects) → Continues objects (move_range size d s objects) }
+{}
+
+/// So does one action after another, and a tag that was sound stays so.
+pub fn actions_in_turn_continue()
+    ensures none { (objects : Objects) → Continues objects objects }
+    ensures more { (a b c : Objects) → Continues a b → Continues b c → Continues a c }
+    ensures tag { (old new : Objects) → Continues old new → (t : Tag) → IsSoundTag old t → IsSoundTag new t }
+{}
+
+/// Objects stay sound under every action.
+pub fn actions_keep_objects_sound()
+    ensures none { IsSound [] }
+    ensures new { (storage : Storage) (address size : ℕ) (objects : Objects) → IsSound objects → address % 16 ≡ 0
+        → IsSound (with_new storage address size objects) }
+    ensures dead { (n : ℕ) (objects : Objects) → IsSound objects → IsSound (with_dead n objects) }
+    ensures zeroed { (n : ℕ) (objects : Objects) → IsSound objects → IsSound (with_zeroed n objects) }
+    ensures bytes { (new : List ℕ) (p : Place) (objects : Objects) → IsSound objects → IsPlace objects p (length new)
+        → ((k : ℕ) → get_or new k 0 < 256) → IsSound (write_bytes new p objects) }
+    ensures value { (s : Scalar) (v : Value) (p : Place) (objects : Objects) → IsSound objects
+        → IsPlace objects p (scalar_size s) → IsSoundTag objects v.tag → IsSound (write_value s v p objects) }
+    ensures moved { (size : ℕ) (d s : Place) (objects : Objects) → IsSound objects → IsPlace objects d size
+        → IsPlace objects s size → IsSound (move_range size d s objects) }
+{}
+
+/// An access that is judged to be inside is of bytes of a live object, those at the pointer's
+/// address.
+pub fn judged_access_is_of_a_live_object()
+    ensures { (objects : Objects) (size : ℕ) (v : Value) (p : Place) → IsSoundTag objects v.tag
+        → judge size v objects ≡ Inside p → IsAllowed objects v size p }
+{}
+
+/// A pointer to an object, to a member and to another byte reaches nothing outside its object, and
+/// a pointer to a member no more than the one it was made from.
+pub fn derived_pointers_are_sound()
+    ensures whole { (n : ℕ) (objects : Objects) → n < length objects → IsSoundTag objects (pointer_to n objects).tag }
+    ensures moved { (objects : Objects) (offset : ℕ) (v : Value) → IsSoundTag objects v.tag
+        → IsSoundTag objects (moved offset v).tag }
+    ensures narrowed { (objects : Objects) (offset size : ℕ) (v : Value) → IsSoundTag objects v.tag
+        → IsSoundTag objects (narrowed offset size v).tag }
+    ensures part { (offset size : ℕ) (v : Value) → IsPartOf (narrowed offset size v).tag v.tag }
+{}
+
+/// The place of a block lies in the heap, clear of every live block, and no multiple of 16 below it
+/// would do; where there is none, none would.
+pub fn block_place_is_the_least()
+    ensures found { (first last size : ℕ) (objects : Objects) (place : ℕ)
+        → least_place first last size objects ≡ Some place → IsBlockPlace first last size objects place }
+    ensures none { (first last size : ℕ) (objects : Objects) → least_place first last size objects ≡ None → (i : ℕ)
+        → has_room last (block_room size) objects (first + 16 * i) ≡ false }
+{}
+
+/// Live objects that share no address stay so when one dies, and when one is made that meets none
+/// of them.
+pub fn live_objects_stay_disjoint()
+    ensures dead { (n : ℕ) (objects : Objects) → AreDisjoint objects → AreDisjoint (with_dead n objects) }
+    ensures new { (storage : Storage) (address size : ℕ) (objects : Objects) → AreDisjoint objects → ((n : ℕ)
+        → (object_at objects n).is_live ≡ true
+        → DoNotMeet address size (object_at objects n).address (object_at objects n).size)
+        → AreDisjoint (with_new storage address size objects) }
+{}

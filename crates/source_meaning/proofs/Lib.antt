@@ -1,3 +1,7 @@
+pub mod Acting
+pub mod ActionsAct
+pub mod LibraryActs
+pub mod Related
 mod Samples
 mod RowFirst
 mod RowGlobal

@@ -11,3 +11,4 @@ pub mod Initializers
 pub mod Statements
 pub mod Calls
 pub mod Meaning
+pub mod Acting

@@ -1,0 +1,230 @@
+-- The actions of expressions, initializers and calls are actions.
+use Rattle.std.proofs.Common.{◌≡◌, ℕ, zero, suc, ◌+◌, ◌*◌, ◌≤◌, List, [], ◌∷◌, ◌++◌, Option, Some, None, Bool, true, false, refl, sym, ap, ◌∙◌, arith, length}
+use Rattle.behaviours.specs.Shown.{AccessKind}
+use Rattle.behaviours.proofs.Moments.{prefix_refl, prefix_append}
+use Rattle.sb_base.specs.declared.ending.Ending.{Ending}
+use Rattle.obj_memory.specs.declared.int_type.IntType.{IntType}
+use Rattle.obj_memory.specs.declared.int_type.IntType.TheVariants.{Char}
+use Rattle.obj_memory.specs.declared.operator.BinaryOperator.{BinaryOperator}
+use Rattle.obj_memory.specs.declared.value.Tag.{Tag}
+use Rattle.obj_memory.specs.declared.value.Tag.TheVariants.{Untagged, OfFunction, OfObject}
+use Rattle.obj_memory.specs.declared.value.Value.{Value}
+use Rattle.obj_memory.specs.declared.value.Scalar.{Scalar}
+use Rattle.obj_memory.specs.declared.value.Scalar.TheVariants.{Integer, Pointer}
+use Rattle.obj_memory.specs.declared.value.Place.{Place}
+use Rattle.obj_memory.specs.declared.object.Storage.{Storage}
+use Rattle.obj_memory.specs.declared.object.Storage.TheVariants.{Automatic}
+use Rattle.obj_memory.specs.declared.judgement.Verdict.{Verdict}
+use Rattle.obj_memory.specs.declared.judgement.Verdict.TheVariants.{Outside, Dead, Inside}
+use Rattle.obj_memory.specs.Integers.{fit}
+use Rattle.obj_memory.specs.Operators.{binary_value}
+use Rattle.obj_memory.specs.Objects.{Objects, object_at, with_new, with_zeroed, with_dead}
+use Rattle.obj_memory.specs.Judgement.{narrowed}
+use Rattle.obj_memory.specs.Access.{scalar_size, write_value, move_range}
+use Rattle.obj_memory.specs.Sound.{Continues}
+use Rattle.obj_memory.proofs.Continuing.{continues_same, continues_then, continues_new, continues_dead, continues_zeroed, continues_value, continues_moved}
+use Rattle.c_tree.specs.declared.expression.Kind.{Kind}
+use Rattle.c_tree.specs.declared.expression.Kind.TheVariants.{Void, Scalar as OfScalar, Structure, Array}
+use Rattle.c_tree.specs.declared.expression.Update.{Update}
+use Rattle.c_tree.specs.declared.expression.Update.TheVariants.{Arithmetic, Forward, Back}
+use Rattle.c_tree.specs.declared.expression.Fixity.{Fixity}
+use Rattle.c_tree.specs.declared.program.Variable.{Variable}
+use Rattle.source_meaning.specs.declared.home.Home.{Home}
+use Rattle.source_meaning.specs.declared.home.Home.TheVariants.{PlainValue, InObject}
+use Rattle.source_meaning.specs.State.{State, Outcome, Gives, Ended, Paused, Run, ◌>>=◌, ◌>>◌, done, stop, choose, read_state, change, skip, tally, Header, Setting}
+use Rattle.source_meaning.specs.Actions.{integer, kind_size, value_or_divide, operate, converted_to, updated, given, plain_value, set_plain, update_plain, verdict_on, place_or_stop, located, note, read_scalar, write_scalar, move_bytes, load, store, update, load_structure, copy_structure, read_lvalue, write_lvalue, make_object, put_bytes, home_value, home_pointer, take_key}
+use Rattle.source_meaning.specs.Expressions.{callee_by, callee}
+use Rattle.source_meaning.specs.Initializers.{zero_object, zero_home, zero_variable, store_bytes}
+use Rattle.source_meaning.specs.Calls.{variables_of, pass_or_stop, test_charge, test_stack, test_keys, call_tests, objects_end, has_objects, first_of, rest_of, plain_values, set_plain_values, place_object, place_variable, place_variables, write_parameter, write_parameters, lay_out, set_up, Caller, without_homes, back_to}
+use Rattle.source_meaning.specs.Acting.{at_work, Later, Advances, IsAction}
+use Rattle.source_meaning.proofs.Acting.{later_same, acts_on, acts_then, acts_done, acts_skip, acts_stop, acts_choose, acts_read, acts_tally, acts_change, acts_objects, acts_private, changes, basic}
+
+-- accesses
+
+pub acts_place_or_stop : (v : Verdict) (line : ℕ) → IsAction (place_or_stop v line)
+acts_place_or_stop Outside line = acts_stop
+acts_place_or_stop Dead line = acts_stop
+acts_place_or_stop (Inside p) line = acts_done
+
+pub acts_located : (j : Bool) (size : ℕ) (v : Value) (line : ℕ) → IsAction (located j size v line)
+acts_located j size v line = search (basic, acts_place_or_stop)
+
+pub acts_note : (kind : AccessKind) (address size : ℕ) → IsAction (note kind address size)
+acts_note kind address size = record { acts = λ s k. (k, refl, record {
+  work = refl;
+  turns = refl;
+  later = record {
+    output = prefix_refl s.output;
+    accesses = prefix_append s.accesses _;
+    taken = omega arith;
+    work = omega arith;
+    turns = omega arith;
+    keys = omega arith;
+    objects = continues_same s.objects;
+  };
+}) }
+
+pub acts_read_scalar : (k : Scalar) (address : ℕ) (p : Place) → IsAction (read_scalar k address p)
+acts_read_scalar k address p = search (basic, acts_note)
+
+pub acts_write_scalar : (k : Scalar) (address : ℕ) (p : Place) (v : Value) → IsAction (write_scalar k address p v)
+acts_write_scalar k address p v = search (basic, acts_note, changes)
+
+pub acts_move_bytes : (size : ℕ) (d s : Place) → IsAction (move_bytes size d s)
+acts_move_bytes size d s = search (basic, changes)
+
+pub acts_load : (k : Scalar) (j : Bool) (p : Value) (line : ℕ) → IsAction (load k j p line)
+acts_load k j p line = acts_on (acts_located j _ p line) (λ place. acts_read_scalar k p.word place)
+
+pub acts_store : (k : Scalar) (j : Bool) (p : Value) (line : ℕ) (v : Value) → IsAction (store k j p line v)
+acts_store k j p line v = acts_on (acts_located j _ p line) (λ place. acts_write_scalar k p.word place v)
+
+pub acts_update : (k : Scalar) (j : Bool) (p : Value) (line : ℕ) (f : Value → Run Value) (fixity : Fixity) → ((v : Value) → IsAction (f v)) → IsAction (update k j p line f fixity)
+acts_update k j p line f fixity h =
+    acts_on (acts_located j _ p line) (λ place. acts_on (acts_read_scalar k p.word place) (λ old. acts_on (h old) (λ new. acts_then (acts_write_scalar k p.word place new) (acts_done {a = given fixity old new}))))
+
+pub acts_load_structure : (size : ℕ) (j : Bool) (p : Value) (line : ℕ) → IsAction (load_structure size j p line)
+acts_load_structure size j p line = acts_then (acts_located j size p line) acts_done
+
+pub acts_copy_structure : (size : ℕ) (j : Bool) (p : Value) (line : ℕ) (v : Value) → IsAction (copy_structure size j p line v)
+acts_copy_structure size j p line v = acts_on (acts_located j size p line) (λ d. acts_on (acts_located false size v line) (λ s. acts_move_bytes size d s))
+
+pub acts_read_lvalue : (kind : Kind) (j : Bool) (p : Value) (line : ℕ) → IsAction (read_lvalue kind j p line)
+acts_read_lvalue Void j p line = acts_done
+acts_read_lvalue (OfScalar k) j p line = acts_load k j p line
+acts_read_lvalue (Structure n) j p line = acts_load_structure n j p line
+acts_read_lvalue (Array n) j p line = acts_done
+
+pub acts_write_lvalue : (kind : Kind) (j : Bool) (p : Value) (line : ℕ) (v : Value) → IsAction (write_lvalue kind j p line v)
+acts_write_lvalue Void j p line v = acts_done
+acts_write_lvalue (OfScalar k) j p line v = acts_then (acts_store k j p line v) acts_done
+acts_write_lvalue (Structure n) j p line v = acts_then (acts_copy_structure n j p line v) acts_done
+acts_write_lvalue (Array n) j p line v = acts_done
+
+-- values
+
+acts_value_or_divide : (o : Option ℕ) (line : ℕ) → IsAction (value_or_divide o line)
+acts_value_or_divide None line = acts_stop
+acts_value_or_divide (Some w) line = acts_done
+
+pub acts_operate : (op : BinaryOperator) (t : IntType) (x y : Value) (line : ℕ) → IsAction (operate op t x y line)
+acts_operate op t x y line = acts_value_or_divide (binary_value op t x.word y.word) line
+
+pub acts_updated : (u : Update) (k : Scalar) (right : Value) (line : ℕ) (old : Value) → IsAction (updated u k right line old)
+acts_updated (Arithmetic op t) k right line old = acts_on (acts_operate op t (integer (fit t old.word)) right line) (λ new. acts_done)
+acts_updated (Forward size) k right line old = acts_done
+acts_updated (Back size) k right line old = acts_done
+
+pub acts_set_plain : (x : ℕ) (v : Value) → IsAction (set_plain x v)
+acts_set_plain x v = acts_private (λ k s. refl) (λ s. refl) (λ s. refl) (λ s. refl) (λ s. refl) (λ s. refl) (λ s. refl) (λ s. refl)
+
+pub acts_update_plain : (x : ℕ) (f : Value → Run Value) (fixity : Fixity) → ((v : Value) → IsAction (f v)) → IsAction (update_plain x f fixity)
+acts_update_plain x f fixity h = search (basic, acts_set_plain, h)
+
+pub acts_callee : (functions : List Header) (type_number : ℕ) (v : Value) (line : ℕ) → IsAction (callee functions type_number v line)
+acts_callee functions type_number v line = by v.tag
+  where
+    by : (t : Tag) → IsAction (callee_by functions type_number v.word t line)
+    by Untagged = acts_stop
+    by (OfFunction f) = acts_choose _ acts_done acts_stop
+    by (OfObject o b) = acts_stop
+
+-- objects
+
+pub acts_make_object : (storage : Storage) (address size : ℕ) → IsAction (make_object storage address size)
+acts_make_object storage address size = search (basic, changes) depth 9
+
+acts_output : (bytes : List ℕ) → IsAction (change (λ s. record s { output = s.output ++ bytes }))
+acts_output bytes = record { acts = λ s k. (k, refl, record {
+  work = refl;
+  turns = refl;
+  later = record {
+    output = prefix_append s.output bytes;
+    accesses = prefix_refl s.accesses;
+    taken = omega arith;
+    work = omega arith;
+    turns = omega arith;
+    keys = omega arith;
+    objects = continues_same s.objects;
+  };
+}) }
+
+pub acts_put_bytes : (bytes : List ℕ) → IsAction (put_bytes bytes)
+acts_put_bytes bytes = acts_then (acts_tally (length bytes)) (acts_output bytes)
+
+one_more : (n : ℕ) → n ≤ n + 1
+one_more n = omega arith
+
+pub acts_take_key : (g : Setting) (line : ℕ) → IsAction (take_key g line)
+acts_take_key g line = search (basic, changes, one_more) depth 9
+
+-- initializers
+
+acts_zero_object : (o : ℕ) → IsAction (zero_object o)
+acts_zero_object o = search (basic, changes) depth 9
+
+acts_zero_home : (home : Home) → IsAction (zero_home home)
+acts_zero_home PlainValue = acts_skip
+acts_zero_home (InObject o) = acts_zero_object o
+
+pub acts_zero_variable : (x : ℕ) → IsAction (zero_variable x)
+acts_zero_variable x = search (basic, acts_zero_home)
+
+pub acts_store_bytes : (p : Value) (offset : ℕ) (bytes : List ℕ) → IsAction (store_bytes p offset bytes)
+acts_store_bytes p offset [] = acts_skip
+acts_store_bytes p offset (b ∷ bs) = acts_then (acts_store (Integer Char) false (narrowed offset 1 p) 0 (integer b)) (acts_store_bytes p (offset + 1) bs)
+
+-- calls
+
+acts_pass_or_stop : (b : Bool) (e : Ending) → IsAction (pass_or_stop b e)
+acts_pass_or_stop true e = acts_skip
+acts_pass_or_stop false e = acts_stop
+
+module _ (g : Setting) (f : Header) (line : ℕ) where
+  acts_test_charge : IsAction (test_charge g f line)
+  acts_test_charge = search (basic, acts_pass_or_stop)
+
+  acts_test_stack : IsAction (test_stack g f line)
+  acts_test_stack = search (basic, acts_pass_or_stop)
+
+  acts_test_keys : IsAction (test_keys g f line)
+  acts_test_keys = acts_choose _ (acts_take_key g line) acts_skip
+
+  pub acts_call_tests : IsAction (call_tests g f line)
+  acts_call_tests = acts_then acts_test_charge (acts_then acts_test_stack acts_test_keys)
+
+acts_place_object : (size : ℕ) → IsAction (place_object size)
+acts_place_object size = search (basic, changes, acts_make_object) depth 9
+
+acts_place_variables : (vs : List Variable) → IsAction (place_variables vs)
+acts_place_variables [] = acts_done
+acts_place_variables (v ∷ vs) =
+    acts_on (acts_choose v.is_object (acts_place_object (kind_size v.kind)) acts_done) (λ home. acts_on (acts_place_variables vs) (λ homes. acts_done))
+
+acts_write_parameter : (kind : Kind) (home : Home) (line : ℕ) (v : Value) → IsAction (write_parameter kind home line v)
+acts_write_parameter kind PlainValue line v = acts_skip
+acts_write_parameter kind (InObject o) line v = search (basic, acts_write_lvalue)
+
+acts_write_parameters : (ps : List Variable) (homes : List Home) (line : ℕ) (vs : List Value) → IsAction (write_parameters ps homes line vs)
+acts_write_parameters [] homes line vs = acts_skip
+acts_write_parameters (p ∷ ps) [] line vs = acts_skip
+acts_write_parameters (p ∷ ps) (home ∷ homes) line vs =
+    acts_then (acts_write_parameter p.kind home line (first_of vs)) (acts_write_parameters ps homes line (rest_of vs))
+
+acts_set_plain_values : (f : Header) (vs : List Value) → IsAction (set_plain_values f vs)
+acts_set_plain_values f vs = search (basic, changes)
+
+pub acts_lay_out : (f : Header) (vs : List Value) (line : ℕ) → IsAction (lay_out f vs line)
+acts_lay_out f vs line = search (basic, changes, acts_set_plain_values, acts_place_variables, acts_write_parameters) depth 12
+
+pub acts_set_up : (g : Setting) (f : Header) (vs : List Value) (line : ℕ) → IsAction (set_up g f vs line)
+acts_set_up g f vs line = acts_then (acts_tally 1) (acts_then (acts_call_tests g f line) (acts_lay_out f vs line))
+
+pub continues_without : (homes : List Home) (objects : Objects) → Continues objects (without_homes homes objects)
+continues_without [] objects = continues_same objects
+continues_without (PlainValue ∷ homes) objects = continues_without homes objects
+continues_without (InObject o ∷ homes) objects =
+    continues_then objects (with_dead o objects) (without_homes homes (with_dead o objects)) (continues_dead o objects) (continues_without homes (with_dead o objects))
+
+pub acts_back_to : (c : Caller) → IsAction (change (back_to c))
+acts_back_to c = acts_change (λ k s. refl) (λ s. refl) (λ s. refl) (λ s. refl) (λ s. refl) (λ s. refl) (λ s. omega arith) (λ s. continues_without s.frame s.objects)

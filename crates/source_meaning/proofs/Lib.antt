@@ -3,6 +3,8 @@ pub mod ActionsAct
 pub mod LibraryActs
 pub mod Related
 pub mod RelatedFlow
+pub mod Growing
+pub mod TurnLaws
 mod Samples
 mod RowFirst
 mod RowGlobal

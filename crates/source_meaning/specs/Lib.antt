@@ -12,3 +12,4 @@ pub mod Statements
 pub mod Calls
 pub mod Meaning
 pub mod Acting
+pub mod Turns

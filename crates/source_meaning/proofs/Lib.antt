@@ -5,6 +5,7 @@ pub mod Related
 pub mod RelatedFlow
 pub mod Growing
 pub mod TurnLaws
+pub mod LimitLaw
 mod Samples
 mod RowFirst
 mod RowGlobal

@@ -29,10 +29,10 @@ use Rattle.source_meaning.proofs.RelatedFlow.{begun_related, found_related}
 
 -- a turn
 
-abbrev one_turn : Bool → Run (Unit {0})
+abbrev pub one_turn : Bool → Run (Unit {0})
 one_turn is_left = choose is_left (change (λ s. record s { turns = s.turns + 1 })) pause
 
-later_begin : (limit : ℕ) → GoesLater (begin_turn limit)
+pub later_begin : (limit : ℕ) → GoesLater (begin_turn limit)
 later_begin limit = record { later = λ s. by s (nat_lt s.turns limit) }
   where
     by : (s : State) (b : Bool) → Later s (state_of (one_turn b s))
@@ -53,7 +53,7 @@ leads_begin limit limit' le = record {
 
 -- loops
 
-later_after : (completion : Completion) (rest : Run Completion) → GoesLater rest → GoesLater (after_body completion rest)
+pub later_after : (completion : Completion) (rest : Run Completion) → GoesLater rest → GoesLater (after_body completion rest)
 later_after Normal rest g = g
 later_after Broken rest g = later_done Normal
 later_after Continued rest g = g
@@ -66,12 +66,12 @@ leads_after Continued g = g
 leads_after (Returned v) g = leads_action acts_done
 
 module _ (limit : ℕ) (condition : Run Bool) (body : Run Completion) (step : Run (Unit {0})) (c : GoesLater condition) (b : GoesLater body) (p : GoesLater step) where
-  later_turns : (n : ℕ) → GoesLater (turns n limit condition body step)
+  pub later_turns : (n : ℕ) → GoesLater (turns n limit condition body step)
   later_turns zero = later_pause
   later_turns (suc n) =
       later_on c (λ again. later_choose again (later_on (later_begin limit) (λ _. later_on b (λ x. later_after x _ (later_on p (λ _. later_turns n))))) (later_done Normal))
 
-  later_turns_before : (n : ℕ) → GoesLater (turns_before n limit condition body)
+  pub later_turns_before : (n : ℕ) → GoesLater (turns_before n limit condition body)
   later_turns_before zero = later_pause
   later_turns_before (suc n) =
       later_on (later_begin limit) (λ _. later_on b (λ x. later_after x _ (later_on c (λ again. later_choose again (later_turns_before n) (later_done Normal)))))
@@ -90,7 +90,7 @@ module _ (limit limit' : ℕ) (le : limit ≤ limit') {condition condition' : Ru
   leads_turns_before (suc n) (suc m) le' =
       leads_on (leads_begin limit limit' le) (λ _. leads_on b (λ x. leads_after x (leads_on c (λ again. leads_choose again (leads_turns_before n m (omega arith)) (leads_action acts_done)))))
 
-leads_related : (g : Setting) (limit limit' depth depth' : ℕ) (call call' : ℕ → List Value → ℕ → Run Value) → limit ≤ limit' → depth ≤ depth'
+pub leads_related : (g : Setting) (limit limit' depth depth' : ℕ) (call call' : ℕ → List Value → ℕ → Run Value) → limit ≤ limit' → depth ≤ depth'
     → ((f : ℕ) (vs : List Value) (line : ℕ) → LeadsTo (call f vs line) (call' f vs line))
     → Related (record { setting = g; limit = limit; depth = depth; call = call }) (record { setting = g; limit = limit'; depth = depth'; call = call' }) (λ A r r'. LeadsTo r r')
 leads_related g limit limit' depth depth' call call' le deeper leads = record {
@@ -111,7 +111,7 @@ module _ (functions : List Function) (g : Setting) where
   leads_found limit limit' depth depth' call call' le deeper leads =
       found_related g limit limit' depth depth' call call' (λ A r r'. LeadsTo r r') (leads_related g limit limit' depth depth' call call' le deeper leads)
 
-  leads_itself : (limit n f : ℕ) (vs : List Value) (line : ℕ) → LeadsTo (calls functions g limit n f vs line) (calls functions g limit n f vs line)
+  pub leads_itself : (limit n f : ℕ) (vs : List Value) (line : ℕ) → LeadsTo (calls functions g limit n f vs line) (calls functions g limit n f vs line)
   leads_itself limit zero f vs line = leads_pause later_pause
   leads_itself limit (suc n) f vs line =
       leads_found limit limit (suc n) (suc n) (calls functions g limit n) (calls functions g limit n) (omega arith) (omega arith) (leads_itself limit n) (function_at functions f) vs line

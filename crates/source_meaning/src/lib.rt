@@ -6,6 +6,7 @@
 
 pub mod completion;
 pub mod home;
+pub mod laws;
 
 pub use completion::Completion;
 pub use home::Home;

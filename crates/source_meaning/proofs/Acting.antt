@@ -1,7 +1,6 @@
 -- What is made of actions is an action.
-use Rattle.std.proofs.Common.{◌≡◌, ℕ, zero, suc, ◌+◌, ◌*◌, ◌≤◌, List, [], ◌∷◌, ◌++◌, Option, Some, None, Bool, true, false, refl, sym, ap, ◌∙◌, arith}
-use Rattle.behaviours.specs.Shown.{IsPrefix}
-use Rattle.behaviours.proofs.Moments.{prefix_refl, prefix_append, prefix_trans, prefix_same}
+use Rattle.std.proofs.Common.{◌≡◌, ℕ, ◌+◌, ◌≤◌, Bool, true, false, refl, sym, ap, ◌∙◌, arith}
+use Rattle.behaviours.proofs.Moments.{prefix_refl, prefix_trans, prefix_same}
 use Rattle.sb_base.specs.declared.ending.Ending.{Ending}
 use Rattle.obj_memory.specs.Objects.{Objects}
 use Rattle.obj_memory.specs.Sound.{Continues}
@@ -77,37 +76,49 @@ pub acts_read : {A : Type 0} {f : State → A} → ((k : ℕ) (s : State) → f 
 acts_read {f = f} e = record { acts = λ s k. (k, ap (λ a. Gives a (at_work k s)) (e k s), advances_same k s) }
 
 pub acts_tally : (n : ℕ) → IsAction (tally n)
-acts_tally n = record { acts = λ s k. (k + n, refl, record {
-  work = omega arith;
-  turns = refl;
-  later = record {
-    output = prefix_refl s.output;
-    accesses = prefix_refl s.accesses;
-    taken = omega arith;
-    work = omega arith;
-    turns = omega arith;
-    keys = omega arith;
-    objects = continues_same s.objects;
-  };
-}) }
+acts_tally n = record {
+  acts = λ s k. (
+    k + n,
+    refl,
+    record {
+      work = omega arith;
+      turns = refl;
+      later = record {
+        output = prefix_refl s.output;
+        accesses = prefix_refl s.accesses;
+        taken = omega arith;
+        work = omega arith;
+        turns = omega arith;
+        keys = omega arith;
+        objects = continues_same s.objects;
+      };
+    },
+  );
+}
 
 -- a change that is not to the count of work or of turns, and not to what is shown
 pub acts_change : {f : State → State} → ((k : ℕ) (s : State) → f (at_work k s) ≡ at_work k (f s)) → ((s : State) → (f s).work ≡ s.work) → ((s : State) → (f s).turns ≡ s.turns)
     → ((s : State) → (f s).output ≡ s.output) → ((s : State) → (f s).accesses ≡ s.accesses) → ((s : State) → (f s).taken ≡ s.taken) → ((s : State) → s.keys ≤ (f s).keys) → ((s : State) → Continues s.objects (f s).objects)
     → IsAction (change f)
-acts_change {f = f} e w t o a n y c = record { acts = λ s k. (k, ap (Gives tt) (e k s), record {
-  work = ap (λ n. k + n) (sym (w s));
-  turns = t s;
-  later = record {
-    output = prefix_same s.output (f s).output (sym (o s));
-    accesses = prefix_same s.accesses (f s).accesses (sym (a s));
-    taken = omega (arith, n s);
-    work = omega (arith, w s);
-    turns = omega (arith, t s);
-    keys = y s;
-    objects = c s;
-  };
-}) }
+acts_change {f = f} e w t o a n y c = record {
+  acts = λ s k. (
+    k,
+    ap (Gives tt) (e k s),
+    record {
+      work = ap (λ n. k + n) (sym (w s));
+      turns = t s;
+      later = record {
+        output = prefix_same s.output (f s).output (sym (o s));
+        accesses = prefix_same s.accesses (f s).accesses (sym (a s));
+        taken = omega (arith, n s);
+        work = omega (arith, w s);
+        turns = omega (arith, t s);
+        keys = y s;
+        objects = c s;
+      };
+    },
+  );
+}
 
 -- a change of the objects alone
 pub acts_objects : (f : Objects → Objects) → ((objects : Objects) → Continues objects (f objects)) → IsAction (change (λ s. record s { objects = f s.objects }))

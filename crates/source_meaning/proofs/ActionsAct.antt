@@ -1,5 +1,5 @@
 -- The actions of expressions, initializers and calls are actions.
-use Rattle.std.proofs.Common.{◌≡◌, ℕ, zero, suc, ◌+◌, ◌*◌, ◌≤◌, List, [], ◌∷◌, ◌++◌, Option, Some, None, Bool, true, false, refl, sym, ap, ◌∙◌, arith, length}
+use Rattle.std.proofs.Common.{ℕ, ◌+◌, ◌≤◌, List, [], ◌∷◌, ◌++◌, Option, Some, None, Bool, true, false, refl, arith, length}
 use Rattle.behaviours.specs.Shown.{AccessKind}
 use Rattle.behaviours.proofs.Moments.{prefix_refl, prefix_append}
 use Rattle.sb_base.specs.declared.ending.Ending.{Ending}
@@ -10,19 +10,17 @@ use Rattle.obj_memory.specs.declared.value.Tag.{Tag}
 use Rattle.obj_memory.specs.declared.value.Tag.TheVariants.{Untagged, OfFunction, OfObject}
 use Rattle.obj_memory.specs.declared.value.Value.{Value}
 use Rattle.obj_memory.specs.declared.value.Scalar.{Scalar}
-use Rattle.obj_memory.specs.declared.value.Scalar.TheVariants.{Integer, Pointer}
+use Rattle.obj_memory.specs.declared.value.Scalar.TheVariants.{Integer}
 use Rattle.obj_memory.specs.declared.value.Place.{Place}
 use Rattle.obj_memory.specs.declared.object.Storage.{Storage}
-use Rattle.obj_memory.specs.declared.object.Storage.TheVariants.{Automatic}
 use Rattle.obj_memory.specs.declared.judgement.Verdict.{Verdict}
 use Rattle.obj_memory.specs.declared.judgement.Verdict.TheVariants.{Outside, Dead, Inside}
 use Rattle.obj_memory.specs.Integers.{fit}
 use Rattle.obj_memory.specs.Operators.{binary_value}
-use Rattle.obj_memory.specs.Objects.{Objects, object_at, with_new, with_zeroed, with_dead}
+use Rattle.obj_memory.specs.Objects.{Objects, with_dead}
 use Rattle.obj_memory.specs.Judgement.{narrowed}
-use Rattle.obj_memory.specs.Access.{scalar_size, write_value, move_range}
 use Rattle.obj_memory.specs.Sound.{Continues}
-use Rattle.obj_memory.proofs.Continuing.{continues_same, continues_then, continues_new, continues_dead, continues_zeroed, continues_value, continues_moved}
+use Rattle.obj_memory.proofs.Continuing.{continues_same, continues_then, continues_dead}
 use Rattle.c_tree.specs.declared.expression.Kind.{Kind}
 use Rattle.c_tree.specs.declared.expression.Kind.TheVariants.{Void, Scalar as OfScalar, Structure, Array}
 use Rattle.c_tree.specs.declared.expression.Update.{Update}
@@ -31,13 +29,13 @@ use Rattle.c_tree.specs.declared.expression.Fixity.{Fixity}
 use Rattle.c_tree.specs.declared.program.Variable.{Variable}
 use Rattle.source_meaning.specs.declared.home.Home.{Home}
 use Rattle.source_meaning.specs.declared.home.Home.TheVariants.{PlainValue, InObject}
-use Rattle.source_meaning.specs.State.{State, Outcome, Gives, Ended, Paused, Run, ◌>>=◌, ◌>>◌, done, stop, choose, read_state, change, skip, tally, Header, Setting}
-use Rattle.source_meaning.specs.Actions.{integer, kind_size, value_or_divide, operate, converted_to, updated, given, plain_value, set_plain, update_plain, verdict_on, place_or_stop, located, note, read_scalar, write_scalar, move_bytes, load, store, update, load_structure, copy_structure, read_lvalue, write_lvalue, make_object, put_bytes, home_value, home_pointer, take_key}
+use Rattle.source_meaning.specs.State.{Run, change, Header, Setting}
+use Rattle.source_meaning.specs.Actions.{integer, kind_size, value_or_divide, operate, updated, given, set_plain, update_plain, place_or_stop, located, note, read_scalar, write_scalar, move_bytes, load, store, update, load_structure, copy_structure, read_lvalue, write_lvalue, make_object, put_bytes, take_key}
 use Rattle.source_meaning.specs.Expressions.{callee_by, callee}
 use Rattle.source_meaning.specs.Initializers.{zero_object, zero_home, zero_variable, store_bytes}
-use Rattle.source_meaning.specs.Calls.{variables_of, pass_or_stop, test_charge, test_stack, test_keys, call_tests, objects_end, has_objects, first_of, rest_of, plain_values, set_plain_values, place_object, place_variable, place_variables, write_parameter, write_parameters, lay_out, set_up, Caller, without_homes, back_to}
-use Rattle.source_meaning.specs.Acting.{at_work, Later, Advances, IsAction}
-use Rattle.source_meaning.proofs.Acting.{later_same, acts_on, acts_then, acts_done, acts_skip, acts_stop, acts_choose, acts_read, acts_tally, acts_change, acts_objects, acts_private, changes, basic}
+use Rattle.source_meaning.specs.Calls.{pass_or_stop, test_charge, test_stack, test_keys, call_tests, first_of, rest_of, set_plain_values, place_object, place_variables, write_parameter, write_parameters, lay_out, set_up, Caller, without_homes, back_to}
+use Rattle.source_meaning.specs.Acting.{IsAction}
+use Rattle.source_meaning.proofs.Acting.{acts_on, acts_then, acts_done, acts_skip, acts_stop, acts_choose, acts_tally, acts_change, acts_private, changes, basic}
 
 -- accesses
 
@@ -50,19 +48,25 @@ pub acts_located : (j : Bool) (size : ℕ) (v : Value) (line : ℕ) → IsAction
 acts_located j size v line = search (basic, acts_place_or_stop)
 
 pub acts_note : (kind : AccessKind) (address size : ℕ) → IsAction (note kind address size)
-acts_note kind address size = record { acts = λ s k. (k, refl, record {
-  work = refl;
-  turns = refl;
-  later = record {
-    output = prefix_refl s.output;
-    accesses = prefix_append s.accesses _;
-    taken = omega arith;
-    work = omega arith;
-    turns = omega arith;
-    keys = omega arith;
-    objects = continues_same s.objects;
-  };
-}) }
+acts_note kind address size = record {
+  acts = λ s k. (
+    k,
+    refl,
+    record {
+      work = refl;
+      turns = refl;
+      later = record {
+        output = prefix_refl s.output;
+        accesses = prefix_append s.accesses _;
+        taken = omega arith;
+        work = omega arith;
+        turns = omega arith;
+        keys = omega arith;
+        objects = continues_same s.objects;
+      };
+    },
+  );
+}
 
 pub acts_read_scalar : (k : Scalar) (address : ℕ) (p : Place) → IsAction (read_scalar k address p)
 acts_read_scalar k address p = search (basic, acts_note)
@@ -135,19 +139,25 @@ pub acts_make_object : (storage : Storage) (address size : ℕ) → IsAction (ma
 acts_make_object storage address size = search (basic, changes) depth 9
 
 acts_output : (bytes : List ℕ) → IsAction (change (λ s. record s { output = s.output ++ bytes }))
-acts_output bytes = record { acts = λ s k. (k, refl, record {
-  work = refl;
-  turns = refl;
-  later = record {
-    output = prefix_append s.output bytes;
-    accesses = prefix_refl s.accesses;
-    taken = omega arith;
-    work = omega arith;
-    turns = omega arith;
-    keys = omega arith;
-    objects = continues_same s.objects;
-  };
-}) }
+acts_output bytes = record {
+  acts = λ s k. (
+    k,
+    refl,
+    record {
+      work = refl;
+      turns = refl;
+      later = record {
+        output = prefix_append s.output bytes;
+        accesses = prefix_refl s.accesses;
+        taken = omega arith;
+        work = omega arith;
+        turns = omega arith;
+        keys = omega arith;
+        objects = continues_same s.objects;
+      };
+    },
+  );
+}
 
 pub acts_put_bytes : (bytes : List ℕ) → IsAction (put_bytes bytes)
 acts_put_bytes bytes = acts_then (acts_tally (length bytes)) (acts_output bytes)

@@ -1,8 +1,8 @@
 -- Runs that come to later states, that lead to one another, and that pause at a limit.
-use Rattle.std.proofs.Common.{◌≡◌, ℕ, zero, suc, ◌+◌, ◌≤◌, ◌<◌, List, [], ◌∷◌, Bool, true, false, Option, Some, None, refl, sym, ap, ◌∙◌, subst, arith}
+use Rattle.std.proofs.Common.{ℕ, ◌+◌, ◌≤◌, Bool, true, false, refl, subst, arith}
 use Rattle.behaviours.proofs.Moments.{prefix_refl}
 use Rattle.obj_memory.proofs.Continuing.{continues_same}
-use Rattle.source_meaning.specs.State.{State, Outcome, Gives, Ended, Paused, Run, on, ◌>>=◌, done, pause, choose, change}
+use Rattle.source_meaning.specs.State.{State, Outcome, Gives, Ended, Paused, Run, on, ◌>>=◌, done, pause, choose}
 use Rattle.source_meaning.specs.Acting.{Later, ActsBy, IsAction, state_of}
 use Rattle.source_meaning.specs.Turns.{GoesLater, IsBelow, LeadsTo, IsWithin, PausesAt}
 use Rattle.source_meaning.proofs.Acting.{later_same, later_then, acts_done}

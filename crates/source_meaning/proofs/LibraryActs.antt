@@ -1,5 +1,5 @@
 -- Every routine of the library is an action.
-use Rattle.std.proofs.Common.{◌≡◌, ℕ, zero, suc, ◌+◌, ◌≤◌, List, [], ◌∷◌, Option, Some, None, Bool, true, false, refl, arith}
+use Rattle.std.proofs.Common.{ℕ, List, [], ◌∷◌, Option, Some, None, refl, arith}
 use Rattle.behaviours.proofs.Moments.{prefix_refl}
 use Rattle.obj_memory.specs.declared.value.Tag.{Tag}
 use Rattle.obj_memory.specs.declared.value.Tag.TheVariants.{Untagged, OfFunction, OfObject}
@@ -8,12 +8,12 @@ use Rattle.obj_memory.specs.Objects.{ObjectState}
 use Rattle.obj_memory.proofs.Continuing.{continues_same}
 use Rattle.c_tree.specs.declared.expression.Routine.{Routine}
 use Rattle.c_tree.specs.declared.expression.Routine.TheVariants.{Malloc, Calloc, Free, Realloc, Memcpy, Memmove, Memset, Memcmp, Strlen, Strcmp, Strcpy, Strncpy, Strcat, Strchr, Putchar, Getchar, Puts, Exit, Abort}
-use Rattle.source_meaning.specs.State.{State, Outcome, Gives, Ended, Paused, Run, ◌>>=◌, ◌>>◌, done, stop, choose, read_state, change, skip, tally, Setting}
-use Rattle.source_meaning.specs.Heap.{tally_blocks, make_block, allocate, bad_free, freed_object, freed_by, freed, release, free}
+use Rattle.source_meaning.specs.State.{State, Setting}
+use Rattle.source_meaning.specs.Heap.{tally_blocks, make_block, allocate, bad_free, freed_object, freed_by, release, free}
 use Rattle.source_meaning.specs.Printing.{print_formatted}
-use Rattle.source_meaning.specs.Library.{putchar, next_byte, getchar, argument, routine}
+use Rattle.source_meaning.specs.Library.{next_byte, argument, routine}
 use Rattle.source_meaning.specs.Acting.{at_work, ActsBy, IsAction}
-use Rattle.source_meaning.proofs.Acting.{later_same, acts_on, acts_then, acts_done, acts_skip, acts_stop, acts_choose, acts_read, acts_tally, changes, basic}
+use Rattle.source_meaning.proofs.Acting.{later_same, acts_done, acts_stop, changes, basic}
 use Rattle.source_meaning.proofs.ActionsAct.{acts_make_object, acts_put_bytes, acts_take_key}
 
 acts_tally_blocks : IsAction tally_blocks
@@ -45,19 +45,23 @@ acts_free p line = search (basic, acts_freed_by, acts_release)
 
 acts_next_byte : (bytes : List ℕ) (s : State) (k : ℕ) → ActsBy k s (next_byte bytes s) (next_byte bytes (at_work k s))
 acts_next_byte [] s k = (k, refl, record { work = refl; turns = refl; later = later_same s })
-acts_next_byte (b ∷ bs) s k = (k, refl, record {
-  work = refl;
-  turns = refl;
-  later = record {
-    output = prefix_refl s.output;
-    accesses = prefix_refl s.accesses;
-    taken = omega arith;
-    work = omega arith;
-    turns = omega arith;
-    keys = omega arith;
-    objects = continues_same s.objects;
-  };
-})
+acts_next_byte (b ∷ bs) s k = (
+  k,
+  refl,
+  record {
+    work = refl;
+    turns = refl;
+    later = record {
+      output = prefix_refl s.output;
+      accesses = prefix_refl s.accesses;
+      taken = omega arith;
+      work = omega arith;
+      turns = omega arith;
+      keys = omega arith;
+      objects = continues_same s.objects;
+    };
+  },
+)
 
 pub acts_routine : (g : Setting) (r : Routine) (vs : List Value) (line : ℕ) → IsAction (routine g r vs line)
 acts_routine g Malloc vs line = acts_allocate g (argument 0 vs).word line

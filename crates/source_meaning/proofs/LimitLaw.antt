@@ -1,5 +1,5 @@
 -- A run that is still running has begun all its turns: the fuel of loops and calls is never used up before the turns are.
-use Rattle.std.proofs.Common.{◌≡◌, ℕ, zero, suc, ◌+◌, ◌≤◌, ◌<◌, List, [], ◌∷◌, Bool, true, false, Option, Some, None, refl, sym, ap, ◌∙◌, subst, arith, nat_lt}
+use Rattle.std.proofs.Common.{◌≡◌, ℕ, zero, suc, ◌+◌, ◌≤◌, ◌<◌, List, [], Bool, true, false, Option, Some, None, refl, sym, subst, arith, nat_lt}
 use Rattle.std.proofs.lemmas.Bool.{ltb-true, ltb-false}
 use Rattle.behaviours.specs.Behaviour.{IsSource}
 use Rattle.sb_base.specs.Budgets.{BudgetSizes}
@@ -8,7 +8,7 @@ use Rattle.c_tree.specs.declared.program.Program.{Program}
 use Rattle.c_tree.specs.declared.program.Function.{Function}
 use Rattle.source_meaning.specs.declared.completion.Completion.{Completion}
 use Rattle.source_meaning.specs.declared.completion.Completion.TheVariants.{Normal, Broken, Continued, Returned}
-use Rattle.source_meaning.specs.State.{State, Outcome, Gives, Ended, Paused, Run, on, ◌>>=◌, done, pause, choose, change, Setting, Env}
+use Rattle.source_meaning.specs.State.{State, Outcome, Gives, Ended, Paused, Run, on, ◌>>=◌, done, Setting}
 use Rattle.source_meaning.specs.Actions.{begin_turn}
 use Rattle.source_meaning.specs.Statements.{after_body, turns, turns_before}
 use Rattle.source_meaning.specs.Calls.{enter_begun, enter_found, function_at, calls}
@@ -111,8 +111,10 @@ begun_all limit (Ended x s) w e = absurd (cc)
 begun_all limit (Paused s) w e = omega (arith, w)
 
 pub is_source : (p : Program) (budgets : BudgetSizes) (input : List ℕ) → IsSource (meaning p budgets input)
-is_source p budgets input = record { begun = λ t e.
-  let g = setting_of p budgets in
-  let deep : t + 1 ≡ suc t = omega arith in
-  begun_all t _ (subst (λ n. IsWithin t (calls p.functions.items g t n p.main [] (line_of (function_at p.functions.items p.main)) (start p g input))) (sym deep)
-  ((pauses_calls p.functions.items g t t p.main [] (line_of (function_at p.functions.items p.main))).within (start p g input) (omega arith) (omega arith))) e }
+is_source p budgets input = record {
+  begun = λ t e.
+      let g = setting_of p budgets in
+      let deep : t + 1 ≡ suc t = omega arith in
+      begun_all t _ (subst (λ n. IsWithin t (calls p.functions.items g t n p.main [] (line_of (function_at p.functions.items p.main)) (start p g input))) (sym deep)
+      ((pauses_calls p.functions.items g t t p.main [] (line_of (function_at p.functions.items p.main))).within (start p g input) (omega arith) (omega arith))) e;
+}

@@ -1,6 +1,6 @@
 -- A relation between the runs of two environments that holds of their actions, turns, loops and calls holds of expressions,
 -- lvalues and initializers.
-use Rattle.std.proofs.Common.{◌≡◌, ℕ, zero, suc, ◌+◌, List, [], ◌∷◌, Bool, true, false, Option, Some, None, refl}
+use Rattle.std.proofs.Common.{◌≡◌, ℕ, List, [], ◌∷◌, Bool, true, false, refl}
 use Rattle.std.specs.Prelude.{not}
 use Rattle.obj_memory.specs.declared.value.Value.{Value}
 use Rattle.obj_memory.specs.Objects.{pointer_to}
@@ -17,13 +17,13 @@ use Rattle.c_tree.specs.declared.statement.Content.TheVariants.{Value as ValueOf
 use Rattle.c_tree.specs.declared.statement.Initialization.{Initialization}
 use Rattle.c_tree.specs.declared.statement.Initialization.TheVariants.{Plain as PlainInitialization, Object}
 use Rattle.source_meaning.specs.declared.completion.Completion.{Completion}
-use Rattle.source_meaning.specs.State.{State, Run, ◌>>=◌, ◌>>◌, done, stop, choose, read_state, skip, tally, Setting, Env}
+use Rattle.source_meaning.specs.State.{State, Run, ◌>>=◌, done, choose, read_state, Setting, Env}
 use Rattle.source_meaning.specs.Actions.{integer, is_zero, kind_size, scalar_of, integer_type, converted, offset_value, difference_value, updated, plain_value, home_pointer, each_value, begin_turn}
 use Rattle.source_meaning.specs.Expressions.{counted_as, counted, nodes_of, function_pointer, is_judged, value, place, values, evaluate}
 use Rattle.source_meaning.specs.Initializers.{store_content, store_parts, initialize, initialize_all}
 use Rattle.source_meaning.specs.Statements.{turns, turns_before}
 use Rattle.source_meaning.specs.Acting.{at_work, IsAction}
-use Rattle.source_meaning.proofs.Acting.{acts_on, acts_then, acts_done, acts_skip, acts_read, acts_tally}
+use Rattle.source_meaning.proofs.Acting.{acts_done, acts_skip, acts_read, acts_tally}
 use Rattle.source_meaning.proofs.ActionsAct.{acts_operate, acts_updated, acts_set_plain, acts_update_plain, acts_update, acts_read_lvalue, acts_write_lvalue, acts_callee, acts_zero_variable, acts_store_bytes}
 use Rattle.source_meaning.proofs.LibraryActs.{acts_routine, acts_print}
 

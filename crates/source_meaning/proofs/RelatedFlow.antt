@@ -1,5 +1,5 @@
 -- The same relations hold of statements and of calls.
-use Rattle.std.proofs.Common.{◌≡◌, ℕ, zero, suc, ◌+◌, List, [], ◌∷◌, ◌++◌, map, Bool, true, false, Option, Some, None, refl, ap, ◌∙◌, subst}
+use Rattle.std.proofs.Common.{◌≡◌, ℕ, List, [], ◌∷◌, ◌++◌, map, Bool, true, false, Option, Some, None, refl, ap, ◌∙◌, subst}
 use Rattle.std.specs.Prelude.{not, length}
 use Rattle.obj_memory.specs.declared.value.Value.{Value}
 use Rattle.c_tree.specs.declared.expression.Expression.{Expression}
@@ -10,11 +10,11 @@ use Rattle.c_tree.specs.declared.statement.CaseLabel.{CaseLabel}
 use Rattle.c_tree.specs.declared.statement.Statement.{Statement, Expression as ExpressionStatement, Empty, Declaration, Block', If', While', DoWhile', For', Switch', Break, Continue, Return, Row_of-Statement, end_of-Statement, more_of-Statement, Held-Statement-If-2, None', Some', Row_of-SwitchItem, end_of-SwitchItem, more_of-SwitchItem}
 use Rattle.source_meaning.specs.declared.completion.Completion.{Completion}
 use Rattle.source_meaning.specs.declared.completion.Completion.TheVariants.{Normal, Broken, Continued, Returned}
-use Rattle.source_meaning.specs.State.{State, Run, ◌>>=◌, ◌>>◌, done, stop, choose, read_state, change, skip, tally, Setting, Env}
+use Rattle.source_meaning.specs.State.{Run, done, choose, tally, Setting, Env}
 use Rattle.source_meaning.specs.Actions.{integer, is_zero}
 use Rattle.source_meaning.specs.Expressions.{counted, evaluate}
 use Rattle.source_meaning.specs.Statements.{next_after, in_order, holds, perform, perform_first, LabeledRun, run_labeled, is_case_of, is_default, labels_from, items_at, items_from, labels_of, compared, or_default, run_items, after_switch, switch, execute, otherwise, each_of, items_of}
-use Rattle.source_meaning.specs.Calls.{header_of, set_up, caller, back_to, returned_by, enter_begun, enter, enter_found}
+use Rattle.source_meaning.specs.Calls.{header_of, returned_by, enter_begun, enter_found}
 use Rattle.source_meaning.proofs.Acting.{acts_done, acts_skip, acts_stop, acts_tally, acts_read}
 use Rattle.source_meaning.proofs.ActionsAct.{acts_set_up, acts_back_to}
 use Rattle.source_meaning.proofs.Related.{Related, evaluate_related, initialize_all_related}

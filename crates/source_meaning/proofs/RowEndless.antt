@@ -1,12 +1,12 @@
 -- `int main(void){for(;;)putchar(65);}` in 11 turns: the call of `main` and 10 of the loop. Work: 3 for the body, the loop
 -- and the call, and 5 in each turn, for a statement, 2 nodes, a call and a byte.
-use Rattle.std.proofs.Common.{◌≡◌, ℕ, List, [], ◌∷◌, length, refl, Option, Some, None}
+use Rattle.std.proofs.Common.{◌≡◌, [], length, refl, None}
 use Rattle.sb_base.specs.Budgets.{default_sizes}
 use Rattle.c_tree.specs.declared.expression.Routine.TheVariants.{Putchar}
 use Rattle.c_tree.specs.declared.expression.Node.{Library}
 use Rattle.c_tree.specs.declared.program.Program.{Program}
 use Rattle.c_tree.specs.declared.statement.First.TheVariants.{Nothing}
-use Rattle.c_tree.specs.declared.statement.Statement.{Statement, Expression, For}
+use Rattle.c_tree.specs.declared.statement.Statement.{Expression, For}
 use Rattle.source_meaning.specs.Meaning.{meaning}
 use Rattle.source_meaning.proofs.Samples.{computing, none, one, box, at, int, number, main_alone}
 

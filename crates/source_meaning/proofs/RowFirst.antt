@@ -1,6 +1,6 @@
 -- `int main(void){putchar(72);putchar(105);return 7;}`: hi and status 7. Work: 4 statements (the body is one), 5 nodes, 3
 -- calls, 2 bytes.
-use Rattle.std.proofs.Common.{◌≡◌, ℕ, List, [], ◌∷◌, refl, Option, Some, None}
+use Rattle.std.proofs.Common.{◌≡◌, ℕ, [], ◌∷◌, refl, Some, None}
 use Rattle.behaviours.specs.Shown.{Status}
 use Rattle.sb_base.specs.Budgets.{default_sizes}
 use Rattle.c_tree.specs.declared.expression.Routine.TheVariants.{Putchar}

@@ -1,12 +1,12 @@
 -- `int x;int main(void){x=2;return x;}`. Work: 3 statements (the body is one), 4 nodes, 1 call.
-use Rattle.std.proofs.Common.{◌≡◌, ℕ, List, [], ◌∷◌, refl, Option, Some, None, false}
+use Rattle.std.proofs.Common.{◌≡◌, [], ◌∷◌, refl, Some, false}
 use Rattle.behaviours.specs.Shown.{Status, Read as ReadAccess, Write}
 use Rattle.sb_base.specs.Budgets.{default_sizes}
 use Rattle.c_tree.specs.declared.expression.Lvalue.{Lvalue}
 use Rattle.c_tree.specs.declared.expression.Node.{Assign}
 use Rattle.c_tree.specs.declared.expression.LvalueNode.{Static}
 use Rattle.c_tree.specs.declared.program.Program.{Program}
-use Rattle.c_tree.specs.declared.statement.Statement.{Statement, Expression, Return}
+use Rattle.c_tree.specs.declared.statement.Statement.{Expression, Return}
 use Rattle.source_meaning.specs.Meaning.{meaning}
 use Rattle.source_meaning.proofs.Samples.{computing, none, one, two, box, at, int, number, lvalue, read, main_alone}
 

@@ -1,31 +1,28 @@
 -- More turns show more of the same, and a run that is still running has begun all its turns.
-use Rattle.std.proofs.Common.{◌≡◌, ℕ, zero, suc, ◌+◌, ◌≤◌, ◌<◌, List, [], ◌∷◌, ◌++◌, Bool, true, false, Option, Some, None, refl, sym, ap, ◌∙◌, subst, arith, map, nat_lt}
-use Rattle.std.proofs.lemmas.Bool.{ltb-true, lt-ltb, ltb-false}
-use Rattle.std.specs.Prelude.{length}
-use Rattle.behaviours.specs.Shown.{End, Shown, IsPrefix, IsEarlier, Status}
-use Rattle.behaviours.specs.Behaviour.{Moment, IsSource}
+use Rattle.std.proofs.Common.{◌≡◌, ℕ, zero, suc, ◌+◌, ◌≤◌, List, [], Bool, true, false, Option, None, refl, subst, arith, nat_lt}
+use Rattle.std.proofs.lemmas.Bool.{ltb-true, lt-ltb}
+use Rattle.behaviours.specs.Shown.{End}
 use Rattle.behaviours.proofs.Moments.{prefix_nil, same_is_earlier}
 use Rattle.sb_base.specs.declared.ending.Ending.{Ending}
 use Rattle.sb_base.specs.declared.ending.Ending.TheVariants.{Exit}
 use Rattle.sb_base.specs.Budgets.{BudgetSizes}
-use Rattle.sb_base.specs.Endings.{code_of, report_of}
 use Rattle.obj_memory.specs.declared.value.Value.{Value}
 use Rattle.obj_memory.specs.Sound.{Continues}
 use Rattle.c_tree.specs.declared.program.Program.{Program}
 use Rattle.c_tree.specs.declared.program.Function.{Function}
 use Rattle.source_meaning.specs.declared.completion.Completion.{Completion}
 use Rattle.source_meaning.specs.declared.completion.Completion.TheVariants.{Normal, Broken, Continued, Returned}
-use Rattle.source_meaning.specs.State.{State, Outcome, Gives, Ended, Paused, Run, on, ◌>>=◌, ◌>>◌, done, stop, pause, choose, read_state, change, skip, tally, Setting, Env}
+use Rattle.source_meaning.specs.State.{State, Outcome, Gives, Ended, Paused, Run, pause, choose, change, Setting}
 use Rattle.source_meaning.specs.Actions.{begin_turn, int_of}
 use Rattle.source_meaning.specs.Statements.{after_body, turns, turns_before}
-use Rattle.source_meaning.specs.Calls.{enter_begun, enter, enter_found, function_at, calls}
+use Rattle.source_meaning.specs.Calls.{enter_found, function_at, calls}
 use Rattle.source_meaning.specs.Meaning.{setting_of, initial_objects, start, line_of, outcome, moment_at, ended_at, moment_of, meaning}
 use Rattle.source_meaning.specs.Acting.{Later, state_of}
-use Rattle.source_meaning.specs.Turns.{GoesOn, Grows, GoesLater, IsBelow, LeadsTo, IsWithin, PausesAt}
-use Rattle.source_meaning.proofs.Acting.{later_same, acts_done, acts_skip, acts_stop}
-use Rattle.source_meaning.proofs.Growing.{later_action, below_same, later_on, leads_on, pauses_on, later_done, later_pause, later_choose, leads_action, leads_pause, leads_choose, pauses_action, pauses_less, pauses_choose, later_turn}
+use Rattle.source_meaning.specs.Turns.{GoesOn, Grows, GoesLater, IsBelow, LeadsTo}
+use Rattle.source_meaning.proofs.Acting.{later_same, acts_done, acts_skip}
+use Rattle.source_meaning.proofs.Growing.{later_on, leads_on, later_done, later_pause, later_choose, leads_action, leads_pause, leads_choose, later_turn}
 use Rattle.source_meaning.proofs.Related.{Related}
-use Rattle.source_meaning.proofs.RelatedFlow.{begun_related, found_related}
+use Rattle.source_meaning.proofs.RelatedFlow.{found_related}
 
 -- a turn
 
@@ -150,9 +147,11 @@ on_below (Ended e s) o' h = subst (λ x. GoesOn (moment_of (Ended e s)) (moment_
 on_below (Paused s) o' h = on_paused s o' h
 
 pub more_turns : (p : Program) (budgets : BudgetSizes) (input : List ℕ) → Grows (meaning p budgets input)
-more_turns p budgets input = record { at = λ t u le.
-  let g = setting_of p budgets in
-  on_below _ _ ((leads_calls p.functions.items g t u le (t + 1) (u + 1) (omega arith) p.main [] (line_of (function_at p.functions.items p.main))).below (start p g input)) }
+more_turns p budgets input = record {
+  at = λ t u le.
+      let g = setting_of p budgets in
+      on_below _ _ ((leads_calls p.functions.items g t u le (t + 1) (u + 1) (omega arith) p.main [] (line_of (function_at p.functions.items p.main))).below (start p g input));
+}
 
 pub objects_continue : (p : Program) (budgets : BudgetSizes) (input : List ℕ) (t : ℕ)
     → Continues (initial_objects p (setting_of p budgets)) (state_of (outcome p budgets input t)).objects

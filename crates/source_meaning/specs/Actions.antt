@@ -4,7 +4,7 @@ use Rattle.std.specs.Int.{w32, int_wrap}
 use Rattle.behaviours.specs.Shown.{AccessKind, Read, Write}
 use Rattle.sb_base.specs.declared.ending.Ending.TheVariants.{Spatial, Temporal, Divide, Keys}
 use Rattle.obj_memory.specs.declared.int_type.IntType.{IntType}
-use Rattle.obj_memory.specs.declared.int_type.IntType.TheVariants.{Int, Long, UnsignedLong}
+use Rattle.obj_memory.specs.declared.int_type.IntType.TheVariants.{Long, UnsignedLong}
 use Rattle.obj_memory.specs.declared.operator.BinaryOperator.{BinaryOperator}
 use Rattle.obj_memory.specs.declared.value.Tag.TheVariants.{Untagged}
 use Rattle.obj_memory.specs.declared.value.Value.{Value}
@@ -29,7 +29,7 @@ use Rattle.c_tree.specs.declared.expression.Fixity.{Fixity}
 use Rattle.c_tree.specs.declared.expression.Fixity.TheVariants.{Prefix, Postfix}
 use Rattle.source_meaning.specs.declared.home.Home.{Home}
 use Rattle.source_meaning.specs.declared.home.Home.TheVariants.{PlainValue, InObject}
-use Rattle.source_meaning.specs.State.{State, Run, ◌>>=◌, ◌>>◌, done, stop, pause, choose, read_state, change, skip, tally, Setting}
+use Rattle.source_meaning.specs.State.{State, Run, ◌>>=◌, ◌>>◌, done, stop, pause, choose, read_state, change, tally, Setting}
 
 -- values
 

@@ -17,7 +17,7 @@ use Rattle.source_meaning.specs.State.{State, Run, ◌>>=◌, ◌>>◌, done, st
 use Rattle.source_meaning.specs.Places.{stack_end}
 use Rattle.source_meaning.specs.Actions.{integer, kind_size, begin_turn, take_key, make_object, home_value, write_lvalue}
 use Rattle.source_meaning.specs.Expressions.{counted}
-use Rattle.source_meaning.specs.Statements.{in_order, each_of, execute}
+use Rattle.source_meaning.specs.Statements.{in_order, execute}
 
 abbrev pub header_of : Function → Header
 header_of f = record {

@@ -1,5 +1,5 @@
 -- `malloc`, `calloc`, `free` and `realloc` (C99 7.20.3).
-use Rattle.std.specs.Prelude.{ℕ, ◌+◌, ◌-◌, ◌*◌, ◌^◌, Bool, ◌&&◌, ◌==◌, nat_lt, if◌then◌else◌, Option, Some, None}
+use Rattle.std.specs.Prelude.{ℕ, ◌+◌, Bool, ◌&&◌, ◌==◌, nat_lt, if◌then◌else◌, Option, Some, None}
 use Rattle.sb_base.specs.declared.ending.Ending.TheVariants.{Temporal, BadFree}
 use Rattle.obj_memory.specs.declared.object.Storage.TheVariants.{Allocated}
 use Rattle.obj_memory.specs.declared.value.Tag.{Tag}
@@ -7,7 +7,7 @@ use Rattle.obj_memory.specs.declared.value.Tag.TheVariants.{Untagged, OfFunction
 use Rattle.obj_memory.specs.declared.value.Value.{Value}
 use Rattle.obj_memory.specs.Objects.{ObjectState, Objects, object_at, with_dead, pointer_to}
 use Rattle.obj_memory.specs.Heap.{is_allocated, block_count, least_place}
-use Rattle.source_meaning.specs.State.{State, Run, ◌>>=◌, ◌>>◌, done, stop, choose, read_state, change, tally, Setting}
+use Rattle.source_meaning.specs.State.{Run, ◌>>=◌, ◌>>◌, done, stop, choose, read_state, change, tally, Setting}
 use Rattle.source_meaning.specs.Places.{heap_first, heap_last}
 use Rattle.source_meaning.specs.Actions.{integer, is_zero, take_key, make_object}
 

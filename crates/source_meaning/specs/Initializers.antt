@@ -5,7 +5,6 @@ use Rattle.obj_memory.specs.declared.value.Value.{Value}
 use Rattle.obj_memory.specs.declared.value.Scalar.TheVariants.{Integer}
 use Rattle.obj_memory.specs.Objects.{object_at, with_zeroed}
 use Rattle.obj_memory.specs.Judgement.{narrowed}
-use Rattle.c_tree.specs.declared.expression.Expression.{Expression}
 use Rattle.c_tree.specs.declared.statement.Part.{Part}
 use Rattle.c_tree.specs.declared.statement.Content.{Content}
 use Rattle.c_tree.specs.declared.statement.Content.TheVariants.{Value as ValueOf, Literal}
@@ -13,7 +12,7 @@ use Rattle.c_tree.specs.declared.statement.Initialization.{Initialization}
 use Rattle.c_tree.specs.declared.statement.Initialization.TheVariants.{Plain, Object}
 use Rattle.source_meaning.specs.declared.home.Home.{Home}
 use Rattle.source_meaning.specs.declared.home.Home.TheVariants.{PlainValue, InObject}
-use Rattle.source_meaning.specs.State.{State, Run, ◌>>=◌, ◌>>◌, done, read_state, change, skip, tally, Env}
+use Rattle.source_meaning.specs.State.{Run, ◌>>=◌, ◌>>◌, read_state, change, skip, tally, Env}
 use Rattle.source_meaning.specs.Actions.{integer, kind_size, store, write_lvalue, set_plain, home_pointer}
 use Rattle.source_meaning.specs.Expressions.{evaluate}
 

@@ -1,10 +1,10 @@
 -- The library (C99 7.19, 7.20.3, 7.20.4, 7.21). A routine judges all that it looks at before its first write.
-use Rattle.std.specs.Prelude.{ℕ, ◌+◌, ◌-◌, ◌%◌, ◌^◌, List, [], ◌∷◌, ◌++◌, get_or}
+use Rattle.std.specs.Prelude.{ℕ, ◌+◌, ◌-◌, ◌%◌, ◌^◌, List, [], ◌∷◌, get_or}
 use Rattle.sb_base.specs.declared.ending.Ending.TheVariants.{Exit as ExitWith, Abort as AbortAt}
 use Rattle.obj_memory.specs.declared.value.Value.{Value}
 use Rattle.c_tree.specs.declared.expression.Routine.{Routine}
 use Rattle.c_tree.specs.declared.expression.Routine.TheVariants.{Malloc, Calloc, Free, Realloc, Memcpy, Memmove, Memset, Memcmp, Strlen, Strcmp, Strcpy, Strncpy, Strcat, Strchr, Putchar, Getchar, Puts, Exit, Abort}
-use Rattle.source_meaning.specs.State.{State, Outcome, Gives, Run, ◌>>=◌, ◌>>◌, done, stop, read_state, change, tally, Setting}
+use Rattle.source_meaning.specs.State.{State, Outcome, Gives, Run, ◌>>◌, done, stop, Setting}
 use Rattle.source_meaning.specs.Actions.{integer, int_of, put_bytes}
 use Rattle.source_meaning.specs.Heap.{malloc, calloc, free, realloc}
 use Rattle.source_meaning.specs.Memory.{memcpy, memmove, memset, memcmp}

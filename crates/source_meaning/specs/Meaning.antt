@@ -1,6 +1,6 @@
 -- The meaning of a program: for each number of turns, what its run has shown and how much work it has done.
-use Rattle.std.specs.Prelude.{ℕ, ◌+◌, ◌%◌, ◌^◌, ℤ, List, [], ◌∷◌, ◌++◌, map, length, Option, Some, None}
-use Rattle.behaviours.specs.Shown.{Shown, End, Status}
+use Rattle.std.specs.Prelude.{ℕ, ◌+◌, List, [], ◌∷◌, map, length, Option, Some, None}
+use Rattle.behaviours.specs.Shown.{End, Status}
 use Rattle.behaviours.specs.Behaviour.{Moment, Behaviour}
 use Rattle.sb_base.specs.declared.ending.Ending.{Ending}
 use Rattle.sb_base.specs.declared.ending.Ending.TheVariants.{Exit}
@@ -13,7 +13,7 @@ use Rattle.obj_memory.specs.Heap.{rounded_up}
 use Rattle.c_tree.specs.declared.program.Function.{Function}
 use Rattle.c_tree.specs.declared.program.StaticObject.{StaticObject}
 use Rattle.c_tree.specs.declared.program.Program.{Program}
-use Rattle.source_meaning.specs.State.{State, Outcome, Gives, Ended, Paused, Run, ◌>>=◌, ◌>>◌, done, pause, read_state, skip, Setting, Env}
+use Rattle.source_meaning.specs.State.{State, Outcome, Gives, Ended, Paused, Run, ◌>>=◌, ◌>>◌, pause, read_state, skip, Setting, Env}
 use Rattle.source_meaning.specs.Places.{object_space, stack_first}
 use Rattle.source_meaning.specs.Actions.{kind_size, int_of}
 use Rattle.source_meaning.specs.Initializers.{store_parts}

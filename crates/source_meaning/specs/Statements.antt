@@ -8,7 +8,7 @@ use Rattle.c_tree.specs.declared.statement.CaseLabel.TheVariants.{Case, Default}
 use Rattle.c_tree.specs.declared.statement.Statement.{Statement, Expression as ExpressionStatement, Empty, Declaration, Block', If', While', DoWhile', For', Switch', Break, Continue, Return, Row_of-Statement, end_of-Statement, more_of-Statement, Held-Statement-If-2, None', Some', Row_of-SwitchItem, end_of-SwitchItem, more_of-SwitchItem}
 use Rattle.source_meaning.specs.declared.completion.Completion.{Completion}
 use Rattle.source_meaning.specs.declared.completion.Completion.TheVariants.{Normal, Broken, Continued, Returned}
-use Rattle.source_meaning.specs.State.{State, Run, ◌>>=◌, ◌>>◌, done, pause, choose, skip, tally, Env}
+use Rattle.source_meaning.specs.State.{Run, ◌>>=◌, ◌>>◌, done, pause, choose, skip, tally, Env}
 use Rattle.source_meaning.specs.Actions.{begin_turn, integer, is_zero}
 use Rattle.source_meaning.specs.Expressions.{counted, evaluate}
 use Rattle.source_meaning.specs.Initializers.{initialize_all}

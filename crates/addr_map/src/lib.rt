@@ -1,13 +1,26 @@
-// A library with one function.
+//! Where everything of a compiled program stands: the regions of its memory.
+//!
+//! | Region | First address | Bytes |
+//! |---|---|---|
+//! | `Rows` | 0x10000 | 983040: a jump row of 16 bytes for each function, then the runtime |
+//! | `Code` | 0x100000 | 8388608: compiled code |
+//! | `Globals` | 0x10000000 | the objects of static storage duration, in whole pages of 4096 bytes |
+//! | `Stack` | behind `Globals` | the budget `stack`: automatic objects |
+//! | `Heap` | behind `Stack` | the budget `heap`: allocated objects |
+//! | `Shadow` | 0x40000000 | the entries of the words of `Globals`, `Stack` and `Heap`: of 32 bytes each (four for each byte of object space), 8 bytes of a first level for each page of object space, and a cell of 8 bytes |
+//! | `Locks` | behind `Shadow` | a lock word for `Globals`, for each 16 bytes of `Stack` and for each of the budget `blocks` |
+//! | `FreeLocks` | behind `Locks` | a word for each lock word, and a cell |
+//! | `Blocks` | behind `FreeLocks` | for each of the budget `blocks` an address, a size, a key and a lock word's address, and a cell |
+//! | `Calls` | behind `Blocks` | the budget `calls`: frames |
+//! | `Cells` | behind `Calls` | 4096: single words of the runtime |
+//!
+//! The room of `Shadow` serves entries that stand directly (four bytes for each byte) as well as two
+//! levels with a table in reserve for each page. Each region is in whole pages. Words have 8 bytes.
 #![tactic(auto)]
 
-ghost use Rattle.std.specs.Prelude.{◌≡◌};
-ghost use Rattle.addr_map.specs.Echo.{echo_of};
+pub mod laws;
+pub mod map;
+pub mod region;
 
-// The `ensures` clause is the contract: what `echo` returns is `echo_of` of its argument, a definition
-// in `specs/Echo.antt`, which a caller's clause can cite too.
-pub fn echo(x: usize) -> usize
-    ensures { result ≡ echo_of x }
-{
-    x
-}
+pub use map::{AddrMap, TooLarge, function_address};
+pub use region::Region;

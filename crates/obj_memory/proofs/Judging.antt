@@ -1,16 +1,15 @@
 -- What a judgement tells of an access.
-use Rattle.std.proofs.Common.{◌≡◌, ℕ, ◌+◌, ◌-◌, ◌<◌, ◌≤◌, ◌%◌, ◌^◌, min, max, Bool, true, false, ◌&&◌, nat_le, if◌then◌else◌, length, refl, ap, sym, ◌∙◌, subst, arith}
+use Rattle.std.proofs.Common.{◌≡◌, ℕ, ◌+◌, ◌<◌, ◌≤◌, ◌%◌, ◌^◌, Bool, true, false, ◌&&◌, nat_le, if◌then◌else◌, length, refl, subst, arith}
 use Rattle.std.proofs.lemmas.Bool.{leb-true}
 use Rattle.obj_memory.specs.declared.value.Bounds.{Bounds}
 use Rattle.obj_memory.specs.declared.value.Tag.{Tag}
 use Rattle.obj_memory.specs.declared.value.Tag.TheVariants.{Untagged, OfFunction, OfObject}
 use Rattle.obj_memory.specs.declared.value.Value.{Value}
 use Rattle.obj_memory.specs.declared.value.Place.{Place}
-use Rattle.obj_memory.specs.declared.judgement.Verdict.{Verdict}
 use Rattle.obj_memory.specs.declared.judgement.Verdict.TheVariants.{Outside, Dead, Inside}
 use Rattle.obj_memory.specs.Objects.{Objects, object_at, pointer_to}
 use Rattle.obj_memory.specs.Judgement.{are_within, place_in, judged, judge, moved, narrowed, narrowed_tag}
-use Rattle.obj_memory.specs.Sound.{IsPartOf, IsTagOf, IsSoundTag, IsPlace, IsAllowed}
+use Rattle.obj_memory.specs.Sound.{IsPartOf, IsSoundTag, IsAllowed}
 
 record IsGranted (b : Bounds) (a size : ℕ) (live : Bool) (q p : Place) : Type 0 where
   base : b.base ≤ a

@@ -1,5 +1,5 @@
 -- What a write leaves: the same objects, so the same judgement and the same places for blocks.
-use Rattle.std.proofs.Common.{◌≡◌, ℕ, zero, suc, ◌+◌, ◌-◌, ◌*◌, ◌/◌, ◌<◌, ◌≤◌, Bool, true, false, ◌==◌, if◌then◌else◌, List, [], ◌∷◌, length, get_or, set, replicate, refl, ap, sym, ◌∙◌, subst, arith, length-set}
+use Rattle.std.proofs.Common.{◌≡◌, ℕ, zero, suc, ◌+◌, ◌-◌, ◌/◌, true, false, if◌then◌else◌, List, [], ◌∷◌, set, refl, sym, ◌∙◌, subst, arith, length-set}
 use Rattle.obj_memory.specs.declared.value.Tag.{Tag}
 use Rattle.obj_memory.specs.declared.value.Tag.TheVariants.{Untagged, OfFunction, OfObject}
 use Rattle.obj_memory.specs.declared.value.Value.{Value}
@@ -9,8 +9,8 @@ use Rattle.obj_memory.specs.declared.value.Scalar.TheVariants.{Integer, Pointer}
 use Rattle.obj_memory.specs.Objects.{ObjectState, Objects, no_object, object_at, with_zeroed}
 use Rattle.obj_memory.specs.Judgement.{judge, judged, named, named_in}
 use Rattle.obj_memory.specs.Access.{is_aligned, write_bytes, write_tag, write_value, move_range}
-use Rattle.obj_memory.specs.Heap.{block_count, is_clear, is_clear_of, is_live_block, has_room, least_from, least_place, block_room}
-use Rattle.obj_memory.specs.Sound.{KeepsObjects, IsSameBut, Continues}
+use Rattle.obj_memory.specs.Heap.{block_count, is_clear, is_clear_of, is_live_block, least_from, least_place, block_room}
+use Rattle.obj_memory.specs.Sound.{KeepsObjects, IsSameBut}
 use Rattle.obj_memory.proofs.Listed.{at_set}
 
 same_object : (o : ObjectState) → IsSameBut o o

@@ -1,18 +1,15 @@
 -- Objects that are made, set to zero and dead.
-use Rattle.std.proofs.Common.{◌≡◌, ◌≢◌, ℕ, zero, suc, ◌+◌, ◌-◌, ◌*◌, ◌/◌, ◌%◌, ◌<◌, ◌≤◌, Bool, true, false, ◌==◌, if◌then◌else◌, ◌⊎◌, inl, inr, List, [], ◌∷◌, ◌++◌, length, take, drop, get_or, set, replicate, refl, ap, sym, ◌∙◌, subst, arith}
+use Rattle.std.proofs.Common.{◌≡◌, ◌≢◌, ℕ, zero, suc, ◌/◌, ◌<◌, true, false, if◌then◌else◌, inl, inr, List, [], ◌∷◌, ◌++◌, length, drop, get_or, set, replicate, refl, ap, sym, ◌∙◌, subst, arith}
 use Rattle.std.proofs.lemmas.List.{get_or_append_left}
 use Rattle.obj_memory.specs.declared.object.Storage.{Storage}
-use Rattle.obj_memory.specs.declared.int_type.IntType.{IntType}
-use Rattle.obj_memory.specs.declared.value.Tag.{Tag}
 use Rattle.obj_memory.specs.declared.value.Tag.TheVariants.{Untagged}
-use Rattle.obj_memory.specs.declared.value.Value.{Value}
 use Rattle.obj_memory.specs.declared.value.Place.{Place}
 use Rattle.obj_memory.specs.declared.value.Scalar.{Scalar}
 use Rattle.obj_memory.specs.declared.value.Scalar.TheVariants.{Integer, Pointer}
 use Rattle.obj_memory.specs.Integers.{size_of, fit}
 use Rattle.obj_memory.specs.Objects.{ObjectState, Objects, no_object, object_at, new_object, with_new, with_dead, with_zeroed}
-use Rattle.obj_memory.specs.Access.{is_aligned, bytes_at, tag_at, little_number, scalar_size, read_value}
-use Rattle.obj_memory.specs.Sound.{IsPlace, KeepsObjects, AreDisjoint, DoNotMeet}
+use Rattle.obj_memory.specs.Access.{is_aligned, bytes_at, tag_at, little_number, read_value}
+use Rattle.obj_memory.specs.Sound.{KeepsObjects, AreDisjoint, DoNotMeet}
 use Rattle.obj_memory.proofs.Listed.{at_set, at_added, every_replicate, every_take, every_drop}
 use Rattle.obj_memory.proofs.Reading.{object_set, object_set_other}
 use Rattle.obj_memory.proofs.Words.{fit_zero}

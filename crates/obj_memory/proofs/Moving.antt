@@ -1,15 +1,14 @@
 -- What a moved range leaves in its destination and beside it.
-use Rattle.std.proofs.Common.{◌≡◌, ◌≢◌, ℕ, zero, suc, ◌+◌, ◌-◌, ◌*◌, ◌/◌, ◌%◌, ◌<◌, ◌≤◌, Bool, true, false, ◌==◌, ◌&&◌, nat_le, if◌then◌else◌, ◌⊎◌, inl, inr, List, [], ◌∷◌, length, take, drop, get_or, set, refl, ap, sym, ◌∙◌, subst, arith}
+use Rattle.std.proofs.Common.{◌≡◌, ◌≢◌, ℕ, zero, suc, ◌+◌, ◌-◌, ◌*◌, ◌/◌, ◌%◌, ◌<◌, ◌≤◌, true, false, ◌==◌, ◌&&◌, nat_le, if◌then◌else◌, ◌⊎◌, inl, inr, List, [], ◌∷◌, length, take, drop, get_or, refl, ap, sym, ◌∙◌, subst, arith}
 use Rattle.std.proofs.lemmas.Bool.{eq-eqb, le-leb}
 use Rattle.std.proofs.lemmas.Bool.Decides.{nat_tests}
 use Rattle.obj_memory.specs.declared.value.Tag.{Tag}
 use Rattle.obj_memory.specs.declared.value.Tag.TheVariants.{Untagged}
 use Rattle.obj_memory.specs.declared.value.Place.{Place}
-use Rattle.obj_memory.specs.Objects.{ObjectState, Objects, no_object, object_at}
-use Rattle.obj_memory.specs.Access.{is_aligned, is_word_in, bytes_at, tag_at, overwrite, moved_tags, move_range}
-use Rattle.obj_memory.specs.Sound.{IsSound, IsPlace, AreApart}
-use Rattle.obj_memory.specs.Sound.AreApart.{InOthers, Before, Behind}
-use Rattle.obj_memory.proofs.Listed.{at_set, overwrite-read, overwrite-other}
+use Rattle.obj_memory.specs.Objects.{ObjectState, Objects, object_at}
+use Rattle.obj_memory.specs.Access.{is_word_in, bytes_at, overwrite, moved_tags, move_range}
+use Rattle.obj_memory.specs.Sound.{IsSound, IsPlace}
+use Rattle.obj_memory.proofs.Listed.{overwrite-read, overwrite-other}
 use Rattle.obj_memory.proofs.Soundness.{length-bytes_at}
 use Rattle.obj_memory.proofs.Reading.{object_set, object_set_other}
 

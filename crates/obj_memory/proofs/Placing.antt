@@ -1,9 +1,8 @@
 -- The place of a block.
-use Rattle.std.proofs.Common.{◌≡◌, ℕ, zero, suc, ◌+◌, ◌-◌, ◌*◌, ◌/◌, ◌%◌, ◌<◌, ◌≤◌, max, Bool, true, false, not, ◌&&◌, ◌||◌, nat_le, if◌then◌else◌, ◌⊎◌, inl, inr, List, [], ◌∷◌, length, get_or, Option, Some, None, refl, ap, sym, ◌∙◌, subst, arith}
+use Rattle.std.proofs.Common.{◌≡◌, ℕ, zero, suc, ◌+◌, ◌-◌, ◌*◌, ◌/◌, ◌<◌, ◌≤◌, Bool, true, false, not, ◌&&◌, ◌||◌, nat_le, if◌then◌else◌, inl, inr, [], ◌∷◌, Some, None, refl, ap, sym, subst, arith}
 use Rattle.std.proofs.lemmas.Bool.{leb-true, leb-false, lt-leb}
-use Rattle.std.proofs.lemmas.Bool.Decides.{nat_tests}
-use Rattle.obj_memory.specs.Objects.{ObjectState, Objects, no_object, object_at}
-use Rattle.obj_memory.specs.Heap.{rounded_up, block_room, is_live_block, is_clear, is_clear_of, has_room, least_from, least_place}
+use Rattle.obj_memory.specs.Objects.{ObjectState, Objects, object_at}
+use Rattle.obj_memory.specs.Heap.{block_room, is_live_block, is_clear, is_clear_of, has_room, least_from, least_place}
 use Rattle.obj_memory.specs.Sound.{IsBlockPlace, IsClearOf}
 
 clear_of : (start room : ℕ) (o : ObjectState) → is_clear_of start room o ≡ true → is_live_block o ≡ true → IsClearOf start room o

@@ -1,8 +1,7 @@
 -- What always holds of objects: every action keeps it.
-use Rattle.std.proofs.Common.{◌≡◌, ℕ, zero, suc, ◌+◌, ◌-◌, ◌*◌, ◌/◌, ◌%◌, ◌^◌, ◌<◌, ◌≤◌, Bool, true, false, ◌==◌, if◌then◌else◌, List, [], ◌∷◌, ◌++◌, length, take, drop, get_or, set, replicate, refl, ap, sym, ◌∙◌, subst, arith, length-set, length-take, length-drop}
+use Rattle.std.proofs.Common.{◌≡◌, ℕ, zero, suc, ◌+◌, ◌-◌, ◌*◌, ◌/◌, ◌%◌, ◌<◌, ◌≤◌, true, false, ◌==◌, if◌then◌else◌, List, [], ◌∷◌, ◌++◌, length, drop, get_or, set, replicate, refl, ap, sym, ◌∙◌, subst, arith, length-set, length-take, length-drop}
 use Rattle.std.proofs.lemmas.List.{length-replicate}
 use Rattle.obj_memory.specs.declared.object.Storage.{Storage}
-use Rattle.obj_memory.specs.declared.value.Bounds.{Bounds}
 use Rattle.obj_memory.specs.declared.value.Tag.{Tag}
 use Rattle.obj_memory.specs.declared.value.Tag.TheVariants.{Untagged, OfFunction, OfObject}
 use Rattle.obj_memory.specs.declared.value.Value.{Value}
@@ -12,7 +11,7 @@ use Rattle.obj_memory.specs.declared.value.Scalar.TheVariants.{Integer, Pointer}
 use Rattle.obj_memory.specs.Integers.{size_of}
 use Rattle.obj_memory.specs.Objects.{ObjectState, Objects, no_object, object_at, new_object, with_new, with_dead, with_zeroed}
 use Rattle.obj_memory.specs.Access.{is_aligned, is_word_in, bytes_at, little_bytes, scalar_size, overwrite, moved_tags, write_bytes, write_tag, write_value, move_range}
-use Rattle.obj_memory.specs.Sound.{Continues, IsTagOf, IsSoundTag, IsSoundObject, IsSound, IsPlace}
+use Rattle.obj_memory.specs.Sound.{Continues, IsSoundTag, IsSoundObject, IsSound, IsPlace}
 use Rattle.obj_memory.proofs.Bytes.{length-little_bytes, little_bytes_below}
 use Rattle.obj_memory.proofs.Listed.{at_set, at_added, every_overwrite, every_replicate, every_take, every_drop, length-overwrite}
 use Rattle.obj_memory.proofs.Continuing.{IsLater, continues_set, continues_added, continues_bytes}

@@ -1,0 +1,228 @@
+-- The regions stand in order, in whole pages.
+use Rattle.std.proofs.Common.{◌≡◌, ℕ, zero, suc, ◌+◌, ◌%◌, ◌<◌, ◌≤◌, ◌⊎◌, inl, inr, refl, ap, sym, ◌∙◌, subst, arith}
+use Rattle.std.proofs.Math.Nat.{eq-or-lt_of_le}
+use Rattle.addr_map.specs.declared.region.Region.{Region}
+use Rattle.addr_map.specs.declared.region.Region.TheVariants.{Rows, Code, Globals, Stack, Heap, Shadow, Locks, FreeLocks, Blocks, Calls, Cells}
+use Rattle.addr_map.specs.Places.{MapSizes, AreMapped, whole_pages, order_of, region_size, region_start, region_end}
+
+pages_below : (n bound : ℕ) → n + 4095 ≤ bound → whole_pages n ≤ bound
+pages_below n bound h = omega (arith, h)
+
+pages_whole : (n : ℕ) → whole_pages n % 4096 ≡ 0
+pages_whole n = omega arith
+
+globals_small : (m : MapSizes) → AreMapped m → region_size m Globals ≤ 4194304
+unfolding region_size
+globals_small m h = omega (arith, h.globals)
+
+shadow_small : (m : MapSizes) → AreMapped m → region_size m Shadow ≤ 134217728
+unfolding region_size
+shadow_small m h = omega (arith, h.globals, h.budgets.stack.greatest, h.budgets.heap.greatest)
+
+locks_small : (m : MapSizes) → AreMapped m → region_size m Locks ≤ 4194304
+unfolding region_size
+locks_small m h = omega (arith, h.budgets.stack.greatest, h.budgets.blocks)
+
+free_locks_small : (m : MapSizes) → AreMapped m → region_size m FreeLocks ≤ 4194304
+unfolding region_size
+free_locks_small m h = omega (arith, h.budgets.stack.greatest, h.budgets.blocks)
+
+blocks_small : (m : MapSizes) → AreMapped m → region_size m Blocks ≤ 4194304
+unfolding region_size
+blocks_small m h = omega (arith, h.budgets.blocks)
+
+size_whole : (m : MapSizes) → AreMapped m → (r : Region) → region_size m r % 4096 ≡ 0
+unfolding region_size
+size_whole m h Rows = refl
+size_whole m h Code = refl
+size_whole m h Globals = pages_whole _
+size_whole m h Stack = h.budgets.stack.whole
+size_whole m h Heap = h.budgets.heap.whole
+size_whole m h Shadow = pages_whole _
+size_whole m h Locks = pages_whole _
+size_whole m h FreeLocks = pages_whole _
+size_whole m h Blocks = pages_whole _
+size_whole m h Calls = h.budgets.calls.whole
+size_whole m h Cells = refl
+
+-- the region of a place in the order
+region_at : ℕ → Region
+region_at zero = Rows
+region_at (suc zero) = Code
+region_at (suc (suc zero)) = Globals
+region_at (suc (suc (suc zero))) = Stack
+region_at (suc (suc (suc (suc zero)))) = Heap
+region_at (suc (suc (suc (suc (suc zero))))) = Shadow
+region_at (suc (suc (suc (suc (suc (suc zero)))))) = Locks
+region_at (suc (suc (suc (suc (suc (suc (suc zero))))))) = FreeLocks
+region_at (suc (suc (suc (suc (suc (suc (suc (suc zero)))))))) = Blocks
+region_at (suc (suc (suc (suc (suc (suc (suc (suc (suc zero))))))))) = Calls
+region_at _ = Cells
+
+region_of_order : (r : Region) → region_at (order_of r) ≡ r
+unfolding region_at
+region_of_order Rows = refl
+region_of_order Code = refl
+region_of_order Globals = refl
+region_of_order Stack = refl
+region_of_order Heap = refl
+region_of_order Shadow = refl
+region_of_order Locks = refl
+region_of_order FreeLocks = refl
+region_of_order Blocks = refl
+region_of_order Calls = refl
+region_of_order Cells = refl
+
+order_small : (r : Region) → order_of r ≤ 10
+order_small Rows = omega arith
+order_small Code = omega arith
+order_small Globals = omega arith
+order_small Stack = omega arith
+order_small Heap = omega arith
+order_small Shadow = omega arith
+order_small Locks = omega arith
+order_small FreeLocks = omega arith
+order_small Blocks = omega arith
+order_small Calls = omega arith
+order_small Cells = omega arith
+
+-- the region after another
+next : Region → Region
+next Rows = Code
+next Code = Globals
+next Globals = Stack
+next Stack = Heap
+next Heap = Shadow
+next Shadow = Locks
+next Locks = FreeLocks
+next FreeLocks = Blocks
+next Blocks = Calls
+next Calls = Cells
+next Cells = Cells
+
+next_at : (k : ℕ) → k < 10 → next (region_at k) ≡ region_at (suc k)
+unfolding next region_at
+next_at zero h = refl
+next_at (suc zero) h = refl
+next_at (suc (suc zero)) h = refl
+next_at (suc (suc (suc zero))) h = refl
+next_at (suc (suc (suc (suc zero)))) h = refl
+next_at (suc (suc (suc (suc (suc zero))))) h = refl
+next_at (suc (suc (suc (suc (suc (suc zero)))))) h = refl
+next_at (suc (suc (suc (suc (suc (suc (suc zero))))))) h = refl
+next_at (suc (suc (suc (suc (suc (suc (suc (suc zero)))))))) h = refl
+next_at (suc (suc (suc (suc (suc (suc (suc (suc (suc zero))))))))) h = refl
+next_at (suc (suc (suc (suc (suc (suc (suc (suc (suc (suc k)))))))))) h = absurd (omega arith)
+
+size_of_rows : (m : MapSizes) → region_size m Rows ≡ 983040
+unfolding region_size
+size_of_rows m = refl
+
+size_of_code : (m : MapSizes) → region_size m Code ≡ 8388608
+unfolding region_size
+size_of_code m = refl
+
+size_of_stack : (m : MapSizes) → region_size m Stack ≡ m.budgets.stack
+unfolding region_size
+size_of_stack m = refl
+
+size_of_heap : (m : MapSizes) → region_size m Heap ≡ m.budgets.heap
+unfolding region_size
+size_of_heap m = refl
+
+size_of_calls : (m : MapSizes) → region_size m Calls ≡ m.budgets.calls
+unfolding region_size
+size_of_calls m = refl
+
+size_of_cells : (m : MapSizes) → region_size m Cells ≡ 4096
+unfolding region_size
+size_of_cells m = refl
+
+order_at : (k : ℕ) → k < 10 → order_of (region_at k) ≡ k
+unfolding region_at
+order_at zero h = refl
+order_at (suc zero) h = refl
+order_at (suc (suc zero)) h = refl
+order_at (suc (suc (suc zero))) h = refl
+order_at (suc (suc (suc (suc zero)))) h = refl
+order_at (suc (suc (suc (suc (suc zero))))) h = refl
+order_at (suc (suc (suc (suc (suc (suc zero)))))) h = refl
+order_at (suc (suc (suc (suc (suc (suc (suc zero))))))) h = refl
+order_at (suc (suc (suc (suc (suc (suc (suc (suc zero)))))))) h = refl
+order_at (suc (suc (suc (suc (suc (suc (suc (suc (suc zero))))))))) h = refl
+order_at (suc (suc (suc (suc (suc (suc (suc (suc (suc (suc k)))))))))) h = absurd (omega arith)
+
+before_next : (m : MapSizes) → AreMapped m → (r : Region) → order_of r < 10 → region_end m r ≤ region_start m (next r)
+unfolding next region_start
+before_next m h Rows lt = let s : region_size m Rows ≡ 983040 = size_of_rows m in omega (arith, s)
+before_next m h Code lt = let s : region_size m Code ≡ 8388608 = size_of_code m in omega (arith, s)
+before_next m h Globals lt = omega arith
+before_next m h Stack lt = omega arith
+before_next m h Heap lt =
+    let s : region_size m Stack ≡ m.budgets.stack = size_of_stack m in
+    let t : region_size m Heap ≡ m.budgets.heap = size_of_heap m in
+    omega (arith, globals_small m h, s, t, h.budgets.stack.greatest, h.budgets.heap.greatest)
+before_next m h Shadow lt = omega arith
+before_next m h Locks lt = omega arith
+before_next m h FreeLocks lt = omega arith
+before_next m h Blocks lt = omega arith
+before_next m h Calls lt = omega arith
+before_next m h Cells lt = absurd (omega arith)
+
+at_in_order : (m : MapSizes) → AreMapped m → (i j : ℕ) → i < j → j ≤ 10 → region_end m (region_at i) ≤ region_start m (region_at j)
+at_in_order m h i zero lt le = absurd (omega arith)
+at_in_order m h i (suc j) lt le = go (eq-or-lt_of_le ij) (λ below. at_in_order m h i j below (omega arith))
+  where
+    ij : i ≤ j
+    ij = omega arith
+
+    step : region_end m (region_at j) ≤ region_start m (region_at (suc j))
+    step =
+        let small : j < 10 = omega arith in
+        subst (λ r. region_end m (region_at j) ≤ region_start m r) (next_at j small)
+        (before_next m h (region_at j) (omega (arith, order_at j small, small)))
+
+    go : (i ≡ j) ⊎ (i < j) → (i < j → region_end m (region_at i) ≤ region_start m (region_at j)) → region_end m (region_at i) ≤ region_start m (region_at (suc j))
+    go (inl same) earlier = subst (λ k. region_end m (region_at k) ≤ region_start m (region_at (suc j))) (sym same) step
+    go (inr below) earlier = omega (arith, earlier below, step)
+
+pub in_order : (m : MapSizes) → AreMapped m → (r s : Region) → order_of r < order_of s → region_end m r ≤ region_start m s
+in_order m h r s lt =
+    let at = at_in_order m h (order_of r) (order_of s) lt (order_small s) in
+    subst (λ q. region_end m q ≤ region_start m s) (region_of_order r)
+    (subst (λ q. region_end m (region_at (order_of r)) ≤ region_start m q) (region_of_order s) at)
+
+start_whole : (m : MapSizes) → AreMapped m → (r : Region) → region_start m r % 4096 ≡ 0
+unfolding region_start
+start_whole m h Rows = refl
+start_whole m h Code = refl
+start_whole m h Globals = refl
+start_whole m h Stack = omega (arith, size_whole m h Globals)
+start_whole m h Heap = omega (arith, size_whole m h Globals, size_whole m h Stack)
+start_whole m h Shadow = refl
+start_whole m h Locks = omega (arith, size_whole m h Shadow)
+start_whole m h FreeLocks = omega (arith, size_whole m h Shadow, size_whole m h Locks)
+start_whole m h Blocks = omega (arith, size_whole m h Shadow, size_whole m h Locks, size_whole m h FreeLocks)
+start_whole m h Calls = omega (arith, size_whole m h Shadow, size_whole m h Locks, size_whole m h FreeLocks, size_whole m h Blocks)
+start_whole m h Cells = omega (arith, size_whole m h Shadow, size_whole m h Locks, size_whole m h FreeLocks, size_whole m h Blocks, size_whole m h Calls)
+
+pub starts_whole : (m : MapSizes) → AreMapped m → (r : Region) → region_start m r % 4096 ≡ 0
+starts_whole = start_whole
+
+pub ends_whole : (m : MapSizes) → AreMapped m → (r : Region) → region_end m r % 4096 ≡ 0
+ends_whole m h r = omega (arith, start_whole m h r, size_whole m h r)
+
+cells_low : (m : MapSizes) → AreMapped m → region_end m Cells < 1610612736
+unfolding region_start
+cells_low m h =
+    let s : region_size m Calls ≡ m.budgets.calls = size_of_calls m in
+    let t : region_size m Cells ≡ 4096 = size_of_cells m in
+    omega (arith, shadow_small m h, locks_small m h, free_locks_small m h, blocks_small m h, s, t, h.budgets.calls.greatest)
+
+pub ends_low : (m : MapSizes) → AreMapped m → (r : Region) → region_end m r < 1610612736
+unfolding region_at
+ends_low m h r = go (eq-or-lt_of_le (order_small r))
+  where
+    go : (order_of r ≡ 10) ⊎ (order_of r < 10) → region_end m r < 1610612736
+    go (inl last) = subst (λ q. region_end m q < 1610612736) (sym (ap region_at last) ∙ region_of_order r) (cells_low m h)
+    go (inr before) = let first = in_order m h r Cells before in omega (arith, first, cells_low m h)

@@ -1,0 +1,90 @@
+-- Where the regions of a compiled program's memory stand.
+use Rattle.std.specs.Prelude.{ℕ, ◌+◌, ◌-◌, ◌*◌, ◌/◌, ◌≤◌, nat_le, if◌then◌else◌, Result, Ok, Err}
+use Rattle.sb_base.specs.Budgets.{BudgetSizes, AreInRange}
+use Rattle.addr_map.specs.declared.region.Region.{Region}
+use Rattle.addr_map.specs.declared.region.Region.TheVariants.{Rows, Code, Globals, Stack, Heap, Shadow, Locks, FreeLocks, Blocks, Calls, Cells}
+use Rattle.addr_map.specs.declared.map.TooLarge.{TooLarge}
+
+-- what a map depends on: the budgets, and the bytes of the objects of static storage duration
+pub record MapSizes : Type 0 where
+  pub budgets : BudgetSizes
+  pub global_bytes : ℕ
+
+-- the map of these sizes, unless the static objects take more than 4194304 bytes
+unfoldable pub mapped : BudgetSizes → ℕ → Result MapSizes TooLarge
+mapped budgets global_bytes =
+    if nat_le global_bytes 4194304
+    then Ok (record { budgets = budgets; global_bytes = global_bytes })
+    else Err (record { 0 = global_bytes })
+
+-- so many bytes in whole pages of 4096
+abbrev pub whole_pages : ℕ → ℕ
+whole_pages n = (n + 4095) / 4096 * 4096
+
+-- the bytes of all objects together
+abbrev pub object_space : MapSizes → ℕ
+object_space m = whole_pages m.global_bytes + m.budgets.stack + m.budgets.heap
+
+-- one lock word for all static objects, one for each 16 bytes of automatic objects, and one for each block
+abbrev pub lock_count : MapSizes → ℕ
+lock_count m = 1 + m.budgets.stack / 16 + m.budgets.blocks
+
+-- the bytes of a region. Shadow has an entry of 32 bytes for each word of 8, a word for each page, and one more
+unfoldable pub region_size : MapSizes → Region → ℕ
+region_size m Rows = 983040
+region_size m Code = 8388608
+region_size m Globals = whole_pages m.global_bytes
+region_size m Stack = m.budgets.stack
+region_size m Heap = m.budgets.heap
+region_size m Shadow = whole_pages (32 * (object_space m / 8) + 8 * (object_space m / 4096) + 8)
+region_size m Locks = whole_pages (8 * lock_count m)
+region_size m FreeLocks = whole_pages (8 * lock_count m + 8)
+region_size m Blocks = whole_pages (32 * m.budgets.blocks + 8)
+region_size m Calls = m.budgets.calls
+region_size m Cells = 4096
+
+-- the first address of a region
+unfoldable pub region_start : MapSizes → Region → ℕ
+region_start m Rows = 65536
+region_start m Code = 1048576
+region_start m Globals = 268435456
+region_start m Stack = 268435456 + region_size m Globals
+region_start m Heap = 268435456 + region_size m Globals + region_size m Stack
+region_start m Shadow = 1073741824
+region_start m Locks = 1073741824 + region_size m Shadow
+region_start m FreeLocks = 1073741824 + region_size m Shadow + region_size m Locks
+region_start m Blocks = 1073741824 + region_size m Shadow + region_size m Locks + region_size m FreeLocks
+region_start m Calls = 1073741824 + region_size m Shadow + region_size m Locks + region_size m FreeLocks + region_size m Blocks
+region_start m Cells =
+    1073741824 + region_size m Shadow + region_size m Locks + region_size m FreeLocks + region_size m Blocks + region_size m Calls
+
+-- its last address, one below the first where it is empty
+abbrev pub region_last : MapSizes → Region → ℕ
+region_last m r = region_start m r + region_size m r - 1
+
+-- one past its last address
+abbrev pub region_end : MapSizes → Region → ℕ
+region_end m r = region_start m r + region_size m r
+
+-- the address of a function by its number: that of its jump row
+unfoldable pub function_address : ℕ → ℕ
+function_address number = 65536 + 16 * number
+
+-- the place of a region in the order of addresses
+abbrev pub order_of : Region → ℕ
+order_of Rows = 0
+order_of Code = 1
+order_of Globals = 2
+order_of Stack = 3
+order_of Heap = 4
+order_of Shadow = 5
+order_of Locks = 6
+order_of FreeLocks = 7
+order_of Blocks = 8
+order_of Calls = 9
+order_of Cells = 10
+
+-- the sizes of a map
+pub record AreMapped (m : MapSizes) : Type 0 where
+  pub budgets : AreInRange m.budgets
+  pub globals : m.global_bytes ≤ 4194304

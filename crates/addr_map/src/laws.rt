@@ -1,0 +1,28 @@
+//! Laws of the map, each as the contract of a function that does nothing: layers above rest on them.
+ghost use Rattle.std.specs.Prelude.{◌≡◌, ◌<◌, ◌≤◌, ◌%◌, ◌^◌, ℕ};
+ghost use Rattle.addr_map.specs.declared.region.Region.{Region};
+ghost use Rattle.addr_map.specs.Places.{MapSizes, AreMapped, order_of, region_start, region_end};
+
+use crate::map::AddrMap;
+
+/// Regions do not overlap: each ends where a later one begins, or before. All are in whole pages and end
+/// below 0x60000000.
+pub fn regions_stand_in_order()
+    ensures apart { (m : MapSizes) → AreMapped m → (r s : Region) → order_of r < order_of s → region_end m r ≤ region_start m s }
+    ensures low { (m : MapSizes) → AreMapped m → (r : Region) → region_end m r < 1610612736 }
+    ensures pages { (m : MapSizes) → AreMapped m → (r : Region) → region_start m r % 4096 ≡ 0 }
+    ensures whole { (m : MapSizes) → AreMapped m → (r : Region) → region_end m r % 4096 ≡ 0 }
+{}
+
+/// The sizes of a map are in their ranges, as the other laws want them.
+pub fn sizes_are_in_range(map: &AddrMap)
+    ensures { AreMapped map.now }
+{
+    let budgets = map.budgets();
+    let _ = map.global_bytes();
+    let _ = budgets.heap();
+    let _ = budgets.stack();
+    let _ = budgets.calls();
+    let _ = budgets.blocks();
+    let _ = budgets.keys();
+}

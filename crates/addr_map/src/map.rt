@@ -1,0 +1,177 @@
+//! The map from regions to addresses.
+
+ghost use Rattle.std.specs.Prelude.{◌≡◌, ℕ, ◌+◌, ◌*◌, ◌/◌, ◌-◌, ◌≤◌, ◌<◌, ◌^◌};
+ghost use Rattle.addr_map.specs.Places.{whole_pages, function_address};
+
+use crate::region::Region;
+use sb_base::Budgets;
+use std::marker::Model;
+
+/// The largest number of bytes of `Globals`.
+pub const MAX_GLOBAL_BYTES: u64 = 4_194_304;
+
+const PAGE: u64 = 4096;
+
+// Where the jump rows, the objects and the runtime's spaces begin.
+const FUNCTIONS: u64 = 0x1_0000;
+
+const OBJECTS: u64 = 0x1000_0000;
+
+const SPACES: u64 = 0x4000_0000;
+
+/// Why there is no map: the objects of static storage duration take more than 4194304 bytes, this many.
+#[derive(Clone, Copy, Debug, PartialEq, Eq)]
+pub struct TooLarge(pub u64);
+
+/// The regions of a program with some budgets and so many bytes of static objects.
+#[derive(Clone, Copy, Debug, PartialEq, Eq)]
+pub struct AddrMap {
+    budgets: Budgets,
+    global_bytes: u64,
+}
+
+impl Model for AddrMap {
+    ghost use Rattle.addr_map.specs.Places.{MapSizes};
+    ghost use Rattle.std.specs.Prelude.{◌≤◌};
+
+    ghost Value = { MapSizes };
+
+    ghost view = { λ m. record { budgets = m.budgets; global_bytes = m.global_bytes } };
+
+    ghost invariant = { λ m. m.global_bytes ≤ 4194304 };
+
+    ghost inverse = { λ s. record { budgets = s.budgets; global_bytes = s.global_bytes } };
+}
+
+impl AddrMap {
+    ghost use Rattle.addr_map.specs.Places.{mapped, region_size, region_start, region_last, lock_count};
+
+    /// The map for these budgets and so many bytes of static objects, which need not be whole pages.
+    /// `TooLarge` exactly above 4194304 bytes.
+    #[tactic(auto, unfolding(crate::specs::Places::mapped))]
+    pub fn new(budgets: &Budgets, global_bytes: u64) -> Result<AddrMap, TooLarge>
+        ensures { result ≡ mapped budgets.now global_bytes }
+    {
+        if global_bytes > MAX_GLOBAL_BYTES {
+            return Err(TooLarge(global_bytes));
+        }
+        Ok(AddrMap {
+            budgets: *budgets,
+            global_bytes,
+        })
+    }
+
+    /// The budgets.
+    pub fn budgets(&self) -> Budgets
+        ensures { result ≡ self.now.budgets }
+    {
+        self.budgets
+    }
+
+    /// The bytes of the static objects, as given.
+    pub fn global_bytes(&self) -> u64
+        ensures value { result ≡ self.now.global_bytes }
+        ensures small { result ≤ 4194304 }
+    {
+        self.global_bytes
+    }
+
+    /// The first and the last address of a region. The last of an empty region is one below its first.
+    pub fn region(&self, which: Region) -> (u64, u64)
+        ensures { result ≡ (region_start self.now which, region_last self.now which) }
+    {
+        let start = self.start(which);
+        (start, start + self.size(which) - 1)
+    }
+
+    // The first address of a region.
+    #[tactic(auto, unfolding(crate::specs::Places::region_start))]
+    fn start(&self, which: Region) -> u64
+        ensures value { result ≡ region_start self.now which }
+        ensures some { 0 < result }
+        ensures small { result < 2 ^ 31 }
+    {
+        match which {
+            Region::Rows => FUNCTIONS,
+            Region::Code => 0x10_0000,
+            Region::Globals => OBJECTS,
+            Region::Stack => OBJECTS + self.size(Region::Globals),
+            Region::Heap => OBJECTS + self.size(Region::Globals) + self.size(Region::Stack),
+            Region::Shadow => SPACES,
+            Region::Locks => SPACES + self.size(Region::Shadow),
+            Region::FreeLocks => SPACES + self.size(Region::Shadow) + self.size(Region::Locks),
+            Region::Blocks => self.behind_locks(),
+            Region::Calls => self.behind_locks() + self.size(Region::Blocks),
+            Region::Cells => {
+                self.behind_locks() + self.size(Region::Blocks) + self.size(Region::Calls)
+            }
+        }
+    }
+
+    // The first address behind the lock words.
+    fn behind_locks(&self) -> u64
+        ensures value { result
+            ≡ 1073741824 + region_size self.now Region.Shadow + region_size self.now Region.Locks + region_size self.now Region.FreeLocks }
+        ensures some { 0 < result }
+        ensures small { result ≤ 1073741824 + 3 * 2 ^ 27 }
+    {
+        SPACES + self.size(Region::Shadow) + self.size(Region::Locks) + self.size(Region::FreeLocks)
+    }
+
+    // The bytes of a region.
+    #[tactic(auto, unfolding(crate::specs::Places::region_size))]
+    fn size(&self, which: Region) -> u64
+        ensures value { result ≡ region_size self.now which }
+        ensures small { result ≤ 2 ^ 27 }
+    {
+        match which {
+            Region::Rows => 983_040,
+            Region::Code => 8_388_608,
+            Region::Globals => whole_pages(self.global_bytes),
+            Region::Stack => self.budgets.stack(),
+            Region::Heap => self.budgets.heap(),
+            Region::Shadow => self.shadow_size(),
+            Region::Locks => whole_pages(8 * self.lock_count()),
+            Region::FreeLocks => whole_pages(8 * self.lock_count() + 8),
+            Region::Blocks => whole_pages(32 * self.budgets.blocks() + 8),
+            Region::Calls => self.budgets.calls(),
+            Region::Cells => PAGE,
+        }
+    }
+
+    // The bytes of the entries, of the first level and of its cell.
+    #[tactic(auto, unfolding(crate::specs::Places::region_size))]
+    fn shadow_size(&self) -> u64
+        ensures value { result ≡ region_size self.now Region.Shadow }
+        ensures small { result ≤ 2 ^ 27 }
+    {
+        let objects = whole_pages(self.global_bytes) + self.budgets.stack() + self.budgets.heap();
+        whole_pages(32 * (objects / 8) + 8 * (objects / PAGE) + 8)
+    }
+
+    fn lock_count(&self) -> u64
+        ensures value { result ≡ lock_count self.now }
+        ensures small { result ≤ 2 ^ 19 }
+    {
+        1 + self.budgets.stack() / 16 + self.budgets.blocks()
+    }
+}
+
+// So many bytes in whole pages.
+fn whole_pages(bytes: u64) -> u64
+    requires { bytes ≤ 2 ^ 32 }
+    ensures value { result ≡ whole_pages bytes }
+    ensures near { result ≤ bytes + 4095 }
+{
+    bytes.div_ceil(PAGE) * PAGE
+}
+
+/// The address of a function by its number, that of its jump row. It serves as the number of functions
+/// too, and then is the address of the runtime. A program has at most 4096 functions.
+#[tactic(auto, unfolding(crate::specs::Places::function_address))]
+pub fn function_address(number: usize) -> u64
+    requires { number ≤ 4096 }
+    ensures { result ≡ function_address number }
+{
+    FUNCTIONS + 16 * number as u64
+}

@@ -254,7 +254,7 @@ begin_turn limit = do
 -- one key more, where the budget allows it
 abbrev pub take_key : Setting → (line : ℕ) → Run (Unit {0})
 take_key g line = do
-  is_left ← read_state (λ s. nat_lt s.keys g.budgets.keys)
+  is_left ← read_state (λ s. nat_lt s.keys g.sizes.budgets.keys)
   choose is_left (change (λ s. record s { keys = s.keys + 1 })) (stop (Keys line))
 
 -- the values of several runs, from left to right

@@ -42,7 +42,7 @@ pass_or_stop false e = stop e
 abbrev pub test_charge : Setting → Header → (line : ℕ) → Run (Unit {0})
 test_charge g f line = do
   charged ← read_state (λ s. s.charged)
-  pass_or_stop (nat_le (charged + f.room) g.budgets.calls) (Stack line)
+  pass_or_stop (nat_le (charged + f.room) g.sizes.budgets.calls) (Stack line)
 
 -- where the objects of some variables end that are placed from an address on, each at a multiple of 16
 abbrev pub objects_end : List Variable → (top : ℕ) → ℕ

@@ -15,7 +15,7 @@ use Rattle.c_tree.specs.declared.expression.Expression.{Expression}
 use Rattle.c_tree.specs.declared.expression.Node.{Node, Constant, Function, Plain, Read', Decay', Address', Parenthesized', FunctionDesignator', Cast', Convert', Unary', Binary', Offset', Difference', And', Or', Comma', Conditional', Assign', SetPlain', Compound', ChangePlain', Step', StepPlain, Call', CallThrough', Library', Printf', Row_of-Expression, end_of-Expression, more_of-Expression}
 use Rattle.c_tree.specs.declared.expression.LvalueNode.{LvalueNode, Automatic, Static, Deref', Index', Member', Arrow', MemberOfValue', Parenthesized' as ParenthesizedLvalue'}
 use Rattle.source_meaning.specs.State.{Run, ◌>>=◌, ◌>>◌, done, stop, choose, read_state, tally, Header, Env}
-use Rattle.source_meaning.specs.Places.{function_address}
+use Rattle.addr_map.specs.Places.{function_address}
 use Rattle.source_meaning.specs.Actions.{integer, is_zero, scalar_of, integer_type, converted, offset_value, difference_value, operate, updated, plain_value, set_plain, update_plain, update, read_lvalue, write_lvalue, home_pointer, each_value}
 use Rattle.source_meaning.specs.Library.{routine}
 use Rattle.source_meaning.specs.Printing.{print_formatted}

@@ -14,7 +14,7 @@ use Rattle.c_tree.specs.declared.program.Function.{Function}
 use Rattle.c_tree.specs.declared.program.StaticObject.{StaticObject}
 use Rattle.c_tree.specs.declared.program.Program.{Program}
 use Rattle.source_meaning.specs.State.{State, Outcome, Gives, Ended, Paused, Run, ◌>>=◌, ◌>>◌, pause, read_state, skip, Setting, Env}
-use Rattle.source_meaning.specs.Places.{object_space, stack_first}
+use Rattle.source_meaning.specs.Places.{statics_first, stack_first}
 use Rattle.source_meaning.specs.Actions.{kind_size, int_of}
 use Rattle.source_meaning.specs.Initializers.{store_parts}
 use Rattle.source_meaning.specs.Calls.{header_of, function_at, calls}
@@ -34,8 +34,7 @@ statics_end (o ∷ os) top = statics_end os (rounded_up 16 top + kind_size o.kin
 abbrev pub setting_of : Program → BudgetSizes → Setting
 setting_of p budgets = record {
   functions = map header_of p.functions.items;
-  statics_size = statics_end p.statics.items 0;
-  budgets = budgets;
+  sizes = record { budgets = budgets; global_bytes = statics_end p.statics.items 0 };
 }
 
 -- a state at which nothing has been done
@@ -51,7 +50,7 @@ fresh g objects input = record {
   work = 0;
   turns = 0;
   charged = 0;
-  stacked = stack_first g.statics_size;
+  stacked = stack_first g;
   keys = 0;
 }
 
@@ -75,7 +74,7 @@ objects_after (Paused s) = s.objects
 -- the static objects as they are before the run: what their initializers do is not shown and no work
 abbrev pub initial_objects : Program → Setting → Objects
 initial_objects p g =
-    objects_after (store_statics (static_env g) 0 p.statics.items (fresh g (placed_statics p.statics.items object_space) []))
+    objects_after (store_statics (static_env g) 0 p.statics.items (fresh g (placed_statics p.statics.items (statics_first g)) []))
 
 abbrev pub start : Program → Setting → (input : List ℕ) → State
 start p g input = fresh g (initial_objects p g) input

@@ -1,24 +1,23 @@
--- Where functions, static objects, automatic objects and allocated objects stand.
-use Rattle.std.specs.Prelude.{ℕ, ◌+◌, ◌-◌, ◌*◌}
-use Rattle.obj_memory.specs.Heap.{rounded_up}
+-- Where static, automatic and allocated objects stand.
+use Rattle.std.specs.Prelude.{ℕ}
+use Rattle.addr_map.specs.declared.region.Region.TheVariants.{Globals, Stack, Heap}
+use Rattle.addr_map.specs.Places.{region_start, region_end, region_last}
 use Rattle.source_meaning.specs.State.{Setting}
 
-abbrev pub function_address : ℕ → ℕ
-function_address f = 0x10000 + 16 * f
+-- the first address of static objects
+abbrev pub statics_first : Setting → ℕ
+statics_first g = region_start g.sizes Globals
 
-abbrev pub object_space : ℕ
-object_space = 0x10000000
+-- the first address of automatic objects, and the first behind them
+abbrev pub stack_first : Setting → ℕ
+stack_first g = region_start g.sizes Stack
 
--- the object stack begins behind the static objects, rounded up to 4096 bytes
-abbrev pub stack_first : (statics_size : ℕ) → ℕ
-stack_first statics_size = object_space + rounded_up 4096 statics_size
-
--- the first address behind the object stack, and the first of the heap
 abbrev pub stack_end : Setting → ℕ
-stack_end g = stack_first g.statics_size + g.budgets.stack
+stack_end g = region_end g.sizes Stack
 
+-- the first and the last address of allocated objects
 abbrev pub heap_first : Setting → ℕ
-heap_first g = stack_end g
+heap_first g = region_start g.sizes Heap
 
 abbrev pub heap_last : Setting → ℕ
-heap_last g = heap_first g + g.budgets.heap - 1
+heap_last g = region_last g.sizes Heap

@@ -2,7 +2,7 @@
 use Rattle.std.specs.Prelude.{ℕ, ◌+◌, Bool, true, false, List}
 use Rattle.behaviours.specs.Shown.{Access}
 use Rattle.sb_base.specs.declared.ending.Ending.{Ending}
-use Rattle.sb_base.specs.Budgets.{BudgetSizes}
+use Rattle.addr_map.specs.Places.{MapSizes}
 use Rattle.obj_memory.specs.declared.value.Value.{Value}
 use Rattle.obj_memory.specs.Objects.{Objects}
 use Rattle.c_tree.specs.declared.program.Variable.{Variable}
@@ -86,11 +86,10 @@ pub record Header : Type 0 where
   pub variables : List Variable
   pub room : ℕ
 
--- what a run stands on: the functions of its program, the bytes that the static objects take, and the budgets
+-- what a run stands on: the functions of its program, and the sizes of its memory, with the budgets
 pub record Setting : Type 0 where
   pub functions : List Header
-  pub statics_size : ℕ
-  pub budgets : BudgetSizes
+  pub sizes : MapSizes
 
 -- what every part of a run may look at: its setting, the limit of turns, how many turns of a loop may follow one another,
 -- and what a call of a function does with its arguments at a line

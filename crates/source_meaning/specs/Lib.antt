@@ -13,3 +13,4 @@ pub mod Calls
 pub mod Meaning
 pub mod Acting
 pub mod Turns
+pub mod Naming

@@ -6,6 +6,8 @@ pub mod RelatedFlow
 pub mod Growing
 pub mod TurnLaws
 pub mod LimitLaw
+pub mod Holding
+pub mod Sure
 mod Samples
 mod RowFirst
 mod RowGlobal

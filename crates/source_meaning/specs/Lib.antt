@@ -14,3 +14,4 @@ pub mod Meaning
 pub mod Acting
 pub mod Turns
 pub mod Naming
+pub mod Keeping

@@ -1,19 +1,21 @@
 -- Objects that live on, and pointers to bytes of live objects.
-use Rattle.std.proofs.Common.{◌≡◌, ◌≢◌, ℕ, zero, suc, ◌+◌, ◌%◌, ◌^◌, ◌<◌, ◌≤◌, Bool, true, false, List, [], ◌∷◌, ◌++◌, length, refl, sym, ap, ◌∙◌, subst, arith, nat_eq}
+use Rattle.std.proofs.Common.{◌≡◌, ◌≢◌, ℕ, zero, suc, ◌+◌, ◌%◌, ◌^◌, ◌<◌, ◌≤◌, Bool, true, false, List, [], ◌∷◌, ◌++◌, length, refl, sym, ap, ◌∙◌, subst, arith, nat_eq, if◌then◌else◌}
 use Rattle.std.proofs.lemmas.Bool.{eqb-true, eqb-false}
 use Rattle.std.proofs.Math.Nat.{mod-eq_of_lt}
 use Rattle.behaviours.specs.Shown.{Access}
 use Rattle.obj_memory.specs.declared.value.Bounds.{Bounds}
 use Rattle.obj_memory.specs.declared.value.Tag.{Tag}
-use Rattle.obj_memory.specs.declared.value.Tag.TheVariants.{OfObject}
+use Rattle.obj_memory.specs.declared.value.Tag.TheVariants.{Untagged, OfFunction, OfObject}
 use Rattle.obj_memory.specs.declared.value.Value.{Value}
+use Rattle.obj_memory.specs.declared.value.Place.{Place}
 use Rattle.obj_memory.specs.declared.object.Storage.{Storage}
-use Rattle.obj_memory.specs.declared.judgement.Verdict.TheVariants.{Inside}
+use Rattle.obj_memory.specs.declared.judgement.Verdict.TheVariants.{Outside, Dead, Inside}
 use Rattle.obj_memory.specs.Objects.{Objects, object_at, with_new, with_dead, pointer_to}
-use Rattle.obj_memory.specs.Judgement.{place_in, named_in, named, narrowed_tag, narrowed}
+use Rattle.obj_memory.specs.Judgement.{are_within, place_in, judged, judge, named_in, named, narrowed_tag, narrowed}
 use Rattle.obj_memory.specs.Heap.{is_allocated}
-use Rattle.obj_memory.specs.Sound.{Continues, KeepsObjects, IsAllowed, IsPlace}
+use Rattle.obj_memory.specs.Sound.{Continues, KeepsObjects, IsSoundTag, IsAllowed, IsPlace}
 use Rattle.obj_memory.proofs.Continuing.{continues_same, continues_then, continues_new, continues_dead}
+use Rattle.obj_memory.proofs.Judging.{judge_inside}
 use Rattle.obj_memory.proofs.Making.{new_other, dead_other}
 use Rattle.c_tree.specs.declared.expression.Kind.{Kind}
 use Rattle.source_meaning.specs.Actions.{kind_size}
@@ -96,6 +98,46 @@ direct_less objects v n m le d = record {
   start = d.start;
   end = omega (arith, le, d.end);
 }
+
+pub direct_kept : (old new : Objects) (v : Value) (size : ℕ) → KeepsObjects old new → IsDirect old v size → IsDirect new v size
+direct_kept old new v size k d =
+    let a = (k.at d.object).address in
+    let z = (k.at d.object).size in
+    let c = k.count in
+    record {
+      object = d.object;
+      bounds = d.bounds;
+      tag = d.tag;
+      made = omega (arith, d.made, c);
+      live = (k.at d.object).live ∙ d.live;
+      start = omega (arith, a, d.start);
+      end = omega (arith, a, z, d.end);
+    }
+
+-- an access that is judged to be inside is through a pointer to these bytes
+inside_of : (x l : Bool) (q p : Place) → (if x then (if l then Inside q else Dead) else Outside) ≡ Inside p → q ≡ p
+inside_of true true q p e = cc
+inside_of true false q p e = absurd cc
+inside_of false l q p e = absurd cc
+
+judged_by : (objects : Objects) (size : ℕ) (v : Value) (p : Place) → IsAllowed objects v size p → (t : Tag) → v.tag ≡ t → judged size t v.word objects ≡ Inside p → IsDirect objects v size
+judged_by objects size v p a Untagged e h = absurd cc
+judged_by objects size v p a (OfFunction f) e h = absurd cc
+judged_by objects size v p a (OfObject n b) e h =
+    let same : n ≡ p.object = ap (λ (q : Place). q.object) (inside_of (are_within b v.word size) (object_at objects n).is_live (place_in objects n v.word) p h) in
+    record {
+      object = p.object;
+      bounds = b;
+      tag = e ∙ ap (λ k. OfObject k b) same;
+      made = a.place.made;
+      live = a.live;
+      start = omega (arith, a.address);
+      end = omega (arith, a.address, a.place.room);
+    }
+
+pub judged_direct : (objects : Objects) (size : ℕ) (v : Value) (p : Place) → IsSoundTag objects v.tag → judge size v objects ≡ Inside p → IsDirect objects v size
+unfolding judge
+judged_direct objects size v p t e = judged_by objects size v p (judge_inside objects size v p t e) v.tag refl e
 
 -- a member of what a pointer points to; addresses do not wrap
 narrowed_word : (objects : Objects) (v : Value) (whole offset size : ℕ) (d : IsDirect objects v whole) → (object_at objects d.object).address + (object_at objects d.object).size ≤ 1610612736 → offset + size ≤ whole

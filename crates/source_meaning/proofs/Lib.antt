@@ -8,6 +8,7 @@ pub mod TurnLaws
 pub mod LimitLaw
 pub mod Holding
 pub mod Sure
+pub mod SureActions
 mod Samples
 mod RowFirst
 mod RowGlobal

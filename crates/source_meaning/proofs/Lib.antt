@@ -9,6 +9,7 @@ pub mod LimitLaw
 pub mod Holding
 pub mod Sure
 pub mod SureActions
+pub mod SureTree
 mod Samples
 mod RowFirst
 mod RowGlobal

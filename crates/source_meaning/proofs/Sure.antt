@@ -111,6 +111,10 @@ sure_beside st h = sure_weak (λ o p. (p, tt)) (sure_frame st h)
 pub sure_done : {A : Type 0} {sc : Scope} {P : Objects → Type 0} {Q : A → Objects → Type 0} {a : A} → ((o : Objects) → P o → Q a o) → Sure sc P (done a) Q
 sure_done {sc = sc} w = record { by = λ s good p. (leaves_same sc s good, w s.objects p) }
 
+-- the same, where it matters that the state is good
+pub sure_value : {A : Type 0} {sc : Scope} {P : Objects → Type 0} {Q : A → Objects → Type 0} {a : A} → ((s : State) → IsGood sc s → P s.objects → Q a s.objects) → Sure sc P (done a) Q
+sure_value {sc = sc} w = record { by = λ s good p. (leaves_same sc s good, w s good p) }
+
 pub sure_skip : {sc : Scope} {P : Objects → Type 0} → Sure sc P skip (λ _. P)
 sure_skip {sc = sc} = record { by = λ s good p. (leaves_same sc s good, p) }
 
@@ -207,3 +211,6 @@ plainly {kind = kind} n h = sure_post (λ v o t. value_is kind v o n t) h
 
 pub of_kind : {sc : Scope} {P : Objects → Type 0} {r : Run Value} {kind other : Kind} → kind ≡ other → Sure sc P r (ValueIs other) → Sure sc P r (ValueIs kind)
 of_kind {sc = sc} {P = P} {r = r} e h = subst (λ k. Sure sc P r (ValueIs k)) (sym e) h
+
+pub stable_tagged : (vs : List Value) → IsStable (AreTagged vs)
+stable_tagged vs old new l h = λ x. sound_tag_continues old new l.continues _ (h x)

@@ -94,7 +94,7 @@ sure_callee {sc = sc} {P = P} functions type_number v line = by v.tag
 
 -- accesses
 
-abbrev on_pointer : Basis → Bool
+abbrev pub on_pointer : Basis → Bool
 on_pointer OnName = false
 on_pointer OnPointer = true
 on_pointer OnValue = false

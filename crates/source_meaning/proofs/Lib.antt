@@ -10,6 +10,7 @@ pub mod Holding
 pub mod Sure
 pub mod SureActions
 pub mod SureTree
+pub mod SureFlow
 mod Samples
 mod RowFirst
 mod RowGlobal

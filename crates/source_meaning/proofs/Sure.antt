@@ -85,6 +85,10 @@ sure_on {sc = sc} {Q = Q} {Q' = Q'} {r = r} {k = k} h g = record { by = λ s goo
 pub sure_weak : {A : Type 0} {sc : Scope} {P P' : Objects → Type 0} {Q : A → Objects → Type 0} {r : Run A} → ((o : Objects) → P' o → P o) → Sure sc P r Q → Sure sc P' r Q
 sure_weak w h = record { by = λ s good p. h.by s good (w s.objects p) }
 
+-- the same, where it matters that the state is good
+pub sure_if_good : {A : Type 0} {sc : Scope} {P P' : Objects → Type 0} {Q : A → Objects → Type 0} {r : Run A} → ((s : State) → IsGood sc s → P' s.objects → P s.objects) → Sure sc P r Q → Sure sc P' r Q
+sure_if_good w h = record { by = λ s good p. h.by s good (w s good p) }
+
 pub sure_any : {A : Type 0} {sc : Scope} {P : Objects → Type 0} {Q : A → Objects → Type 0} {r : Run A} → Sure sc Any r Q → Sure sc P r Q
 sure_any h = record { by = λ s good p. h.by s good tt }
 

@@ -7,6 +7,7 @@ use Rattle.obj_memory.specs.declared.value.Value.{Value}
 use Rattle.obj_memory.specs.declared.value.Scalar.{Scalar}
 use Rattle.obj_memory.specs.declared.value.Scalar.TheVariants.{Integer, Pointer}
 use Rattle.obj_memory.specs.Objects.{Objects, object_at, pointer_to}
+use Rattle.obj_memory.specs.Integers.{size_of}
 use Rattle.obj_memory.specs.Judgement.{narrowed}
 use Rattle.obj_memory.specs.Operators.{one_if, unary_value}
 use Rattle.obj_memory.specs.Access.{scalar_size}
@@ -37,7 +38,7 @@ use Rattle.source_meaning.specs.Printing.{print_formatted}
 use Rattle.source_meaning.specs.Naming.{Scope, Basis, OnName, OnPointer, OnValue, basis_of, IsWritable, IsNoStructure, IsScalar, IsStructureWith, ValueNames, LvalueNames, RowNames, Names, ContentNames, PartsName, InitializationNames, InitializationsName, static_kind, object_kind}
 use Rattle.source_meaning.specs.Keeping.{IsDirect, IsNamed}
 use Rattle.source_meaning.proofs.Holding.{direct_less, direct_narrowed, named_less, named_narrowed, named_on, held_named}
-use Rattle.source_meaning.proofs.Sure.{IsGood, AreTagged, Sure, Any, IsStable, sure_on, sure_weak, sure_any, sure_post, sure_frame, sure_beside, sure_done, sure_value, sure_skip, sure_read, sure_tally, sure_counted_as, sure_counted, sure_choose, IsTagged, DirectIf, ValueIs, ReachBy, LvalueIs, stable_tag, stable_tagged, stable_lvalue, value_is, plainly, of_kind}
+use Rattle.source_meaning.proofs.Sure.{IsGood, AreTagged, Sure, Any, IsStable, sure_on, sure_weak, sure_if_good, sure_any, sure_post, sure_frame, sure_beside, sure_done, sure_value, sure_skip, sure_read, sure_tally, sure_counted_as, sure_counted, sure_choose, IsTagged, DirectIf, ValueIs, ReachBy, LvalueIs, stable_tag, stable_tagged, stable_lvalue, value_is, plainly, of_kind}
 use Rattle.source_meaning.proofs.SureActions.{converted_tagged, offset_tagged, sure_operate, sure_callee, on_pointer, sure_store, sure_read_lvalue, sure_write_lvalue, sure_update, sure_set_plain, sure_update_plain, sure_zero_variable}
 
 -- what the calls of an environment do
@@ -188,3 +189,46 @@ module _ {sc : Scope} {env : Env} (c : Calling sc env) where
 
   pub evaluate_sure : (e : Expression) → Names sc e → Sure sc Any (evaluate env e) (ValueIs e.kind)
   evaluate_sure e h = value_sure e.node e.kind e.line h
+
+  -- initializers
+
+  -- a pointer to all bytes of an object that lives on
+  abbrev IsBase : Value → (size : ℕ) → Objects → Type 0
+  IsBase p size o = IsTagged p o × IsNamed o p size
+
+  stable_base : (p : Value) (size : ℕ) → IsStable (IsBase p size)
+  stable_base p size old new l h = (stable_tag p old new l h.0, named_on old new l p size h.1)
+
+  base_part : (p : Value) (whole offset size : ℕ) → offset + size ≤ whole → (s : State) → IsGood sc s → IsBase p whole s.objects → IsBase (narrowed offset size p) size s.objects
+  base_part p whole offset size le s good h = (sound_narrowed s.objects offset size p h.0, named_narrowed s.objects p whole offset size h.1 (good.low h.1.direct.object) le)
+
+  bytes_sure : (p : Value) (whole offset : ℕ) (bytes : List ℕ) → offset + length bytes ≤ whole → Sure sc (IsBase p whole) (store_bytes p offset bytes) (λ _. IsBase p whole)
+  unfolding size_of
+  bytes_sure p whole offset [] le = sure_skip
+  bytes_sure p whole offset (b ∷ bs) le =
+      sure_on (sure_post (λ _ o x. x.0) (sure_if_good (λ s good h. (h, (tt, base_part p whole offset 1 (omega (arith, le)) s good h)))
+      (sure_frame (stable_base p whole) (sure_store OnName (Integer Char) (narrowed offset 1 p) 0 (integer b))))) (λ _.
+      bytes_sure p whole (offset + 1) bs (omega (arith, le)))
+
+  content_sure : (p : Value) (whole offset : ℕ) (content : Content) → ContentNames sc whole offset content → Sure sc (IsBase p whole) (store_content env p offset content) (λ _. IsBase p whole)
+  content_sure p whole offset (ValueOf e) h =
+      sure_on (sure_beside (stable_base p whole) (evaluate_sure e h.0)) (λ v.
+      sure_on (sure_post (λ _ o x. x.0) (sure_if_good (λ s good x. (x.0, (
+        record { tag = (base_part p whole offset (kind_size e.kind) h.1 s good x.0).0; reach = (base_part p whole offset (kind_size e.kind) h.1 s good x.0).1 }, x.1)))
+      (sure_frame (stable_base p whole) (sure_write_lvalue OnName e.kind (narrowed offset (kind_size e.kind) p) e.line v)))) (λ _. sure_skip))
+  content_sure p whole offset (Literal bytes) h = sure_on (sure_tally 1) (λ _. bytes_sure p whole offset bytes.items h)
+
+  pub parts_sure : (p : Value) (whole : ℕ) (parts : List Part) → PartsName sc whole parts → Sure sc (IsBase p whole) (store_parts env p parts) (λ _. Any)
+  parts_sure p whole [] h = sure_done (λ o x. tt)
+  parts_sure p whole (q ∷ qs) h = sure_on (content_sure p whole q.offset q.content h.0) (λ _. parts_sure p whole qs h.1)
+
+  initialize_sure : (i : Initialization) → InitializationNames sc i → Sure sc Any (initialize env i) (λ _. Any)
+  initialize_sure (PlainInitialization x e) h =
+      sure_on (evaluate_sure e h) (λ v. sure_post (λ _ o y. tt) (sure_weak (λ o y. y.tag) (sure_set_plain x v)))
+  initialize_sure (Object x parts) h =
+      sure_on (sure_zero_variable x) (λ _.
+      sure_on (sure_read {Q = λ v. IsBase v (kind_size h.0)} {f = home_pointer x} (λ s good y. let l = home_sure x h.0 h.1 s good in (l.tag, l.reach))) (λ p. parts_sure p (kind_size h.0) parts.items h.2))
+
+  pub initialize_all_sure : (is : List Initialization) → InitializationsName sc is → Sure sc Any (initialize_all env is) (λ _. Any)
+  initialize_all_sure [] h = sure_skip
+  initialize_all_sure (i ∷ is) h = sure_on (initialize_sure i h.0) (λ _. initialize_all_sure is h.1)

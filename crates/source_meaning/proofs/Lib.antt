@@ -11,6 +11,7 @@ pub mod Sure
 pub mod SureActions
 pub mod SureTree
 pub mod SureFlow
+pub mod Laying
 mod Samples
 mod RowFirst
 mod RowGlobal

@@ -21,15 +21,16 @@ use Rattle.source_meaning.specs.Calls.{header_of, function_at, calls}
 
 -- the start
 
--- the static objects from an address on, each at a multiple of 16
-abbrev pub placed_statics : List StaticObject → (top : ℕ) → Objects
-placed_statics [] top = []
-placed_statics (o ∷ os) top =
-    new_object Static (rounded_up 16 top) (kind_size o.kind) ∷ placed_statics os (rounded_up 16 top + kind_size o.kind)
+-- the static objects, each at a multiple of 16 from an address on
+abbrev pub placed_statics : (first : ℕ) → List StaticObject → (offset : ℕ) → Objects
+placed_statics first [] offset = []
+placed_statics first (o ∷ os) offset =
+    new_object Static (first + rounded_up 16 offset) (kind_size o.kind) ∷ placed_statics first os (rounded_up 16 offset + kind_size o.kind)
 
-abbrev pub statics_end : List StaticObject → (top : ℕ) → ℕ
-statics_end [] top = top
-statics_end (o ∷ os) top = statics_end os (rounded_up 16 top + kind_size o.kind)
+-- where they end
+abbrev pub statics_end : List StaticObject → (offset : ℕ) → ℕ
+statics_end [] offset = offset
+statics_end (o ∷ os) offset = statics_end os (rounded_up 16 offset + kind_size o.kind)
 
 abbrev pub setting_of : Program → BudgetSizes → Setting
 setting_of p budgets = record {
@@ -74,7 +75,7 @@ objects_after (Paused s) = s.objects
 -- the static objects as they are before the run: what their initializers do is not shown and no work
 abbrev pub initial_objects : Program → Setting → Objects
 initial_objects p g =
-    objects_after (store_statics (static_env g) 0 p.statics.items (fresh g (placed_statics p.statics.items (statics_first g)) []))
+    objects_after (store_statics (static_env g) 0 p.statics.items (fresh g (placed_statics (statics_first g) p.statics.items 0) []))
 
 abbrev pub start : Program → Setting → (input : List ℕ) → State
 start p g input = fresh g (initial_objects p g) input

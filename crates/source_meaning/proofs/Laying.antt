@@ -1,0 +1,204 @@
+-- What a call lays out: the objects of its variables, which are new, and which die at its return.
+use Rattle.std.proofs.Common.{◌≡◌, ◌≢◌, ℕ, zero, suc, ◌+◌, ◌-◌, ◌*◌, ◌/◌, ◌%◌, ◌≤◌, ◌<◌, ◌⊎◌, inl, inr, List, [], ◌∷◌, ◌++◌, Bool, true, false, Option, Some, None, length, get_or, set, if◌then◌else◌, refl, sym, ap, ◌∙◌, subst, arith, length-set, length-append}
+use Rattle.std.proofs.lemmas.Bool.{cases_lt}
+use Rattle.obj_memory.specs.declared.object.Storage.{Storage}
+use Rattle.obj_memory.specs.declared.object.Storage.TheVariants.{Static, Automatic, Allocated}
+use Rattle.obj_memory.specs.Objects.{ObjectState, Objects, no_object, object_at, new_object, with_new, with_dead}
+use Rattle.obj_memory.specs.Heap.{is_allocated, rounded_up}
+use Rattle.obj_memory.specs.Sound.{IsSound, Continues}
+use Rattle.obj_memory.proofs.Soundness.{sound_new, sound_dead}
+use Rattle.obj_memory.proofs.Continuing.{continues_same, continues_then, continues_new, continues_dead}
+use Rattle.obj_memory.proofs.Making.{new_last, new_other, dead_other}
+use Rattle.c_tree.specs.declared.expression.Kind.{Kind}
+use Rattle.c_tree.specs.declared.program.Variable.{Variable}
+use Rattle.source_meaning.specs.declared.home.Home.{Home}
+use Rattle.source_meaning.specs.declared.home.Home.TheVariants.{PlainValue, InObject}
+use Rattle.source_meaning.specs.State.{State, Outcome, Gives, Ended, Paused, Run, on, done, choose}
+use Rattle.source_meaning.specs.Actions.{kind_size}
+use Rattle.source_meaning.specs.Calls.{objects_end, place_object, place_variable, place_variables, without_homes}
+use Rattle.source_meaning.specs.Naming.{object_kind}
+use Rattle.source_meaning.specs.Keeping.{AllLie, IsKept, LivesOn}
+use Rattle.source_meaning.proofs.Holding.{all_lie_on, lives_same, lives_then, lives_new, IsHeld, held_on}
+use Rattle.source_meaning.proofs.Sure.{HasHome, AreLow}
+
+-- objects that are low
+
+beyond : (objects : Objects) (n : ℕ) → length objects ≤ n → object_at objects n ≡ no_object
+beyond [] n h = refl
+beyond (o ∷ os) zero h = absurd (omega arith)
+beyond (o ∷ os) (suc n) h = beyond os n (omega arith)
+
+beyond_low : (objects : Objects) (n : ℕ) → length objects ≤ n → (object_at objects n).address + (object_at objects n).size ≤ 1610612736
+beyond_low objects n h = subst (λ (o : ObjectState). o.address + o.size ≤ 1610612736) (sym (beyond objects n h)) (omega arith)
+
+length-dead : (n : ℕ) (objects : Objects) → length (with_dead n objects) ≡ length objects
+unfolding with_dead
+length-dead n objects = length-set objects n _
+
+length-new : (storage : Storage) (address size : ℕ) (objects : Objects) → length (with_new storage address size objects) ≡ length objects + 1
+unfolding with_new
+length-new storage address size objects = length-append objects (new_object storage address size ∷ [])
+
+-- one of two, by their order
+abbrev OrderCase : (n m : ℕ) → Type 0
+OrderCase n m = (n < m) ⊎ (m ≤ n)
+
+pub low_dead : (m : ℕ) (objects : Objects) → AreLow objects → AreLow (with_dead m objects)
+low_dead m objects h = λ n. by n (cases_lt n (length objects))
+  where
+    by : (n : ℕ) → OrderCase n (length objects) → (object_at (with_dead m objects) n).address + (object_at (with_dead m objects) n).size ≤ 1610612736
+    by n (inl lt) = let c = continues_dead m objects in let a = c.address n lt in let z = c.size n lt in omega (arith, a, z, h n)
+    by n (inr le) = beyond_low (with_dead m objects) n (omega (arith, length-dead m objects, le))
+
+fresh_low : (storage : Storage) (address size : ℕ) → address + size ≤ 1610612736 → (new_object storage address size).address + (new_object storage address size).size ≤ 1610612736
+unfolding new_object
+fresh_low storage address size h = h
+
+pub low_new : (storage : Storage) (address size : ℕ) (objects : Objects) → address + size ≤ 1610612736 → AreLow objects → AreLow (with_new storage address size objects)
+low_new storage address size objects fits h = λ n. by n (cases_lt n (length objects))
+  where
+    last : (n : ℕ) → OrderCase n (length objects + 1) → length objects ≤ n → (object_at (with_new storage address size objects) n).address + (object_at (with_new storage address size objects) n).size ≤ 1610612736
+    last n (inl lt) le =
+        let same : length objects ≡ n = omega arith in
+        subst (λ k. (object_at (with_new storage address size objects) k).address + (object_at (with_new storage address size objects) k).size ≤ 1610612736) same
+        (subst (λ (o : ObjectState). o.address + o.size ≤ 1610612736) (sym (new_last storage address size objects)) (fresh_low storage address size fits))
+    last n (inr gt) le = beyond_low (with_new storage address size objects) n (omega (arith, length-new storage address size objects, gt))
+
+    by : (n : ℕ) → OrderCase n (length objects) → (object_at (with_new storage address size objects) n).address + (object_at (with_new storage address size objects) n).size ≤ 1610612736
+    by n (inl lt) = let c = continues_new storage address size objects in let a = c.address n lt in let z = c.size n lt in omega (arith, a, z, h n)
+    by n (inr le) = last n (cases_lt n (length objects + 1)) le
+
+-- what is known of a new object
+
+fresh_live : (storage : Storage) (address size : ℕ) → (new_object storage address size).is_live ≡ true
+unfolding new_object
+fresh_live storage address size = refl
+
+fresh_size : (storage : Storage) (address size : ℕ) → (new_object storage address size).size ≡ size
+unfolding new_object
+fresh_size storage address size = refl
+
+fresh_storage : (storage : Storage) (address size : ℕ) → is_allocated storage ≡ false → is_allocated (new_object storage address size).storage ≡ false
+unfolding new_object
+fresh_storage storage address size h = h
+
+-- a new object is held
+
+pub held_new : (storage : Storage) (address : ℕ) (kind : Kind) (objects : Objects) → is_allocated storage ≡ false → IsHeld (with_new storage address (kind_size kind) objects) (length objects) kind
+held_new storage address kind objects held =
+    let last = new_last storage address (kind_size kind) objects in
+    record {
+      made = omega (arith, length-new storage address (kind_size kind) objects);
+      live = ap (λ o. o.is_live) last ∙ fresh_live storage address (kind_size kind);
+      held = ap (λ o. is_allocated o.storage) last ∙ fresh_storage storage address (kind_size kind) held;
+      size = ap (λ o. o.size) last ∙ fresh_size storage address (kind_size kind);
+    }
+
+-- the homes of some variables: each that is an object is in an object of its own with a number from n on
+
+abbrev pub PlacedHome : (n : ℕ) → (is_object : Bool) → Kind → Home → Objects → Type 0
+PlacedHome n true kind PlainValue o = ⊥
+PlacedHome n true kind (InObject k) o = (n ≤ k) × IsHeld o k kind
+PlacedHome n false kind PlainValue o = Unit {0}
+PlacedHome n false kind (InObject k) o = ⊥
+
+abbrev pub Placed : (n : ℕ) → List Variable → List Home → Objects → Type 0
+Placed n [] [] o = Unit {0}
+Placed n [] (h ∷ hs) o = ⊥
+Placed n (v ∷ vs) [] o = ⊥
+Placed n (v ∷ vs) (h ∷ hs) o = PlacedHome n v.is_object v.kind h o × Placed n vs hs o
+
+some_only : (a b : Kind) → Some a ≡ Some b → a ≡ b
+some_only a b e = cc
+
+placed_home : (n : ℕ) (b : Bool) (v : Variable) → v.is_object ≡ b → (h : Home) (hs : List Home) (o : Objects) → PlacedHome n b v.kind h o → (kind : Kind) → (if b then Some v.kind else None) ≡ Some kind → HasHome (h ∷ hs) o 0 kind
+placed_home n true v e PlainValue hs o p kind k = absurd p
+placed_home n true v e (InObject i) hs o p kind k = record { object = i; home = refl; held = subst (λ x. IsHeld o i x) (some_only v.kind kind k) p.1 }
+placed_home n false v e h hs o p kind k = absurd (cc)
+
+pub placed_homes : (n : ℕ) (vs : List Variable) (homes : List Home) (o : Objects) → Placed n vs homes o → (x : ℕ) (kind : Kind) → object_kind vs x ≡ Some kind → HasHome homes o x kind
+placed_homes n [] homes o p x kind e = absurd (cc)
+placed_homes n (v ∷ vs) [] o p x kind e = absurd p
+placed_homes n (v ∷ vs) (h ∷ hs) o p zero kind e = placed_home n v.is_object v refl h hs o p.0 kind e
+placed_homes n (v ∷ vs) (h ∷ hs) o p (suc x) kind e =
+    let home = placed_homes n vs hs o p.1 x kind e in
+    record { object = home.object; home = home.home; held = home.held }
+
+placed_home_on : (n : ℕ) (b : Bool) (kind : Kind) (h : Home) (old new : Objects) → LivesOn old new → PlacedHome n b kind h old → PlacedHome n b kind h new
+placed_home_on n true kind PlainValue old new l p = p
+placed_home_on n true kind (InObject k) old new l p = (p.0, held_on old new l k kind p.1)
+placed_home_on n false kind PlainValue old new l p = tt
+placed_home_on n false kind (InObject k) old new l p = p
+
+pub placed_on : (n : ℕ) (vs : List Variable) (homes : List Home) (old new : Objects) → LivesOn old new → Placed n vs homes old → Placed n vs homes new
+placed_on n [] [] old new l p = tt
+placed_on n [] (h ∷ hs) old new l p = p
+placed_on n (v ∷ vs) [] old new l p = p
+placed_on n (v ∷ vs) (h ∷ hs) old new l p = (placed_home_on n v.is_object v.kind h old new l p.0, placed_on n vs hs old new l p.1)
+
+placed_home_less : (n m : ℕ) → m ≤ n → (b : Bool) (kind : Kind) (h : Home) (o : Objects) → PlacedHome n b kind h o → PlacedHome m b kind h o
+placed_home_less n m le true kind PlainValue o p = p
+placed_home_less n m le true kind (InObject k) o p = (omega (arith, le, p.0), p.1)
+placed_home_less n m le false kind PlainValue o p = tt
+placed_home_less n m le false kind (InObject k) o p = p
+
+placed_less : (n m : ℕ) → m ≤ n → (vs : List Variable) (homes : List Home) (o : Objects) → Placed n vs homes o → Placed m vs homes o
+placed_less n m le [] [] o p = tt
+placed_less n m le [] (h ∷ hs) o p = p
+placed_less n m le (v ∷ vs) [] o p = p
+placed_less n m le (v ∷ vs) (h ∷ hs) o p = (placed_home_less n m le v.is_object v.kind h o p.0, placed_less n m le vs hs o p.1)
+
+-- the death of these objects leaves all with lower numbers
+
+abbrev pub AllFrom : (n : ℕ) → List Home → Type 0
+AllFrom n [] = Unit {0}
+AllFrom n (PlainValue ∷ hs) = AllFrom n hs
+AllFrom n (InObject k ∷ hs) = (n ≤ k) × AllFrom n hs
+
+placed_home_from : (n : ℕ) (b : Bool) (kind : Kind) (h : Home) (hs : List Home) (o : Objects) → PlacedHome n b kind h o → AllFrom n hs → AllFrom n (h ∷ hs)
+placed_home_from n true kind PlainValue hs o p q = absurd p
+placed_home_from n true kind (InObject k) hs o p q = (p.0, q)
+placed_home_from n false kind PlainValue hs o p q = q
+placed_home_from n false kind (InObject k) hs o p q = absurd p
+
+pub placed_from : (n : ℕ) (vs : List Variable) (homes : List Home) (o : Objects) → Placed n vs homes o → AllFrom n homes
+placed_from n [] [] o p = tt
+placed_from n [] (h ∷ hs) o p = absurd p
+placed_from n (v ∷ vs) [] o p = absurd p
+placed_from n (v ∷ vs) (h ∷ hs) o p = placed_home_from n v.is_object v.kind h hs o p.0 (placed_from n vs hs o p.1)
+
+pub without_other : (n : ℕ) (homes : List Home) (objects : Objects) → AllFrom n homes → (m : ℕ) → m < n → object_at (without_homes homes objects) m ≡ object_at objects m
+without_other n [] objects h m lt = refl
+without_other n (PlainValue ∷ hs) objects h m lt = without_other n hs objects h m lt
+without_other n (InObject k ∷ hs) objects h m lt =
+    without_other n hs (with_dead k objects) h.1 m lt ∙ dead_other k m objects (λ e. let le = h.0 in absurd (omega (arith, e, le, lt)))
+
+pub without_sound : (homes : List Home) (objects : Objects) → IsSound objects → IsSound (without_homes homes objects)
+without_sound [] objects h = h
+without_sound (PlainValue ∷ hs) objects h = without_sound hs objects h
+without_sound (InObject k ∷ hs) objects h = without_sound hs (with_dead k objects) (sound_dead k objects h)
+
+pub without_low : (homes : List Home) (objects : Objects) → AreLow objects → AreLow (without_homes homes objects)
+without_low [] objects h = h
+without_low (PlainValue ∷ hs) objects h = without_low hs objects h
+without_low (InObject k ∷ hs) objects h = without_low hs (with_dead k objects) (low_dead k objects h)
+
+-- objects of the caller live on, since only those that are made in the call die
+pub without_lives : (old objects : Objects) (homes : List Home) → LivesOn old objects → AllFrom (length old) homes → Continues objects (without_homes homes objects) → LivesOn old (without_homes homes objects)
+without_lives old objects homes l from c = record {
+  continues = continues_then old objects (without_homes homes objects) l.continues c;
+  live = λ n lt held live. ap (λ o. o.is_live) (without_other (length old) homes objects from n lt) ∙ l.live n lt held live;
+}
+
+-- placing
+
+pub record HasPlaced (old : Objects) (n : ℕ) (vs : List Variable) (homes : List Home) (s : State) : Type 0 where
+  pub sound : IsSound s.objects
+  pub low : AreLow s.objects
+  pub lives : LivesOn old s.objects
+  pub placed : Placed n vs homes s.objects
+
+abbrev pub PlacesBy : State → (n : ℕ) → List Variable → Outcome (List Home) → Type 0
+PlacesBy s n vs (Gives homes s') = HasPlaced s.objects n vs homes s' × (s'.accesses ≡ s.accesses) × (s'.plain ≡ s.plain)
+PlacesBy s n vs (Ended e s') = ⊥
+PlacesBy s n vs (Paused s') = ⊥

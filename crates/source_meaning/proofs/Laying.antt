@@ -202,3 +202,54 @@ abbrev pub PlacesBy : State → (n : ℕ) → List Variable → Outcome (List Ho
 PlacesBy s n vs (Gives homes s') = HasPlaced s.objects n vs homes s' × (s'.accesses ≡ s.accesses) × (s'.plain ≡ s.plain)
 PlacesBy s n vs (Ended e s') = ⊥
 PlacesBy s n vs (Paused s') = ⊥
+
+end_grows_by : (b : Bool) (size top end after : ℕ) → (if b then rounded_up 16 top + size else top) ≡ after → after ≤ end → top ≤ end
+end_grows_by true size top end after e h = omega (arith, e, h)
+end_grows_by false size top end after e h = omega (arith, e, h)
+
+end_grows : (vs : List Variable) (top : ℕ) → top ≤ objects_end vs top
+end_grows [] top = omega arith
+end_grows (v ∷ vs) top = end_grows_by v.is_object (kind_size v.kind) top _ _ refl (end_grows vs (if v.is_object then rounded_up 16 top + kind_size v.kind else top))
+
+pub rounded_whole : (n : ℕ) → rounded_up 16 n % 16 ≡ 0
+rounded_whole n = omega arith
+
+-- the variables behind one that was placed, or that is no object
+abbrev PlacesRest : (bound : ℕ) → List Variable → Type 0
+PlacesRest bound vs = (s : State) → IsSound s.objects → AreLow s.objects → objects_end vs s.stacked ≤ bound → PlacesBy s (length s.objects) vs (place_variables vs s)
+
+behind_object : (kind : Kind) (vs : List Variable) (s s1 : State) → s1.objects ≡ with_new Automatic (rounded_up 16 s.stacked) (kind_size kind) s.objects → s1.accesses ≡ s.accesses → s1.plain ≡ s.plain
+    → (o : Outcome (List Home)) → PlacesBy s1 (length s1.objects) vs o → PlacesBy s (length s.objects) (record { kind = kind; is_object = true } ∷ vs) (on o (λ homes. done (InObject (length s.objects) ∷ homes)))
+behind_object kind vs s s1 e a w (Gives homes s2) h =
+    let made = length-new Automatic (rounded_up 16 s.stacked) (kind_size kind) s.objects in
+    let lives = subst (LivesOn s.objects) (sym e) (lives_new Automatic (rounded_up 16 s.stacked) (kind_size kind) s.objects) in
+    let held = subst (λ o. IsHeld o (length s.objects) kind) (sym e) (held_new Automatic (rounded_up 16 s.stacked) kind s.objects refl) in
+    let longer : length s1.objects ≡ length s.objects + 1 = ap length e ∙ made in
+    (record {
+      sound = h.0.sound;
+      low = h.0.low;
+      lives = lives_then s.objects s1.objects s2.objects lives h.0.lives;
+      placed = ((omega arith, held_on s1.objects s2.objects h.0.lives (length s.objects) kind held), placed_less (length s1.objects) (length s.objects) (omega (arith, longer)) vs homes s2.objects h.0.placed);
+    }, h.1 ∙ a, h.2 ∙ w)
+behind_object kind vs s s1 e a w (Ended x s2) h = h
+behind_object kind vs s s1 e a w (Paused s2) h = h
+
+behind_plain : (kind : Kind) (vs : List Variable) (s : State) → (o : Outcome (List Home)) → PlacesBy s (length s.objects) vs o
+    → PlacesBy s (length s.objects) (record { kind = kind; is_object = false } ∷ vs) (on o (λ homes. done (PlainValue ∷ homes)))
+behind_plain kind vs s (Gives homes s2) h = (record { sound = h.0.sound; low = h.0.low; lives = h.0.lives; placed = (tt, h.0.placed) }, h.1, h.2)
+behind_plain kind vs s (Ended x s2) h = h
+behind_plain kind vs s (Paused s2) h = h
+
+places_one : (bound : ℕ) → bound ≤ 1610612736 → (kind : Kind) (b : Bool) (vs : List Variable) → PlacesRest bound vs → (s : State) → IsSound s.objects → AreLow s.objects
+    → objects_end vs (if b then rounded_up 16 s.stacked + kind_size kind else s.stacked) ≤ bound
+    → PlacesBy s (length s.objects) (record { kind = kind; is_object = b } ∷ vs) (on (choose b (place_object (kind_size kind)) (done PlainValue) s) (λ home s1. on (place_variables vs s1) (λ homes. done (home ∷ homes))))
+places_one bound least kind true vs rest s sound low fits =
+    let top = rounded_up 16 s.stacked in
+    let s1 : State = record s { stacked = top + kind_size kind; work = s.work + (1 + kind_size kind); objects = with_new Automatic top (kind_size kind) s.objects } in
+    behind_object kind vs s s1 refl refl refl (place_variables vs s1)
+    (rest s1 (sound_new Automatic top (kind_size kind) s.objects sound (rounded_whole s.stacked)) (low_new Automatic top (kind_size kind) s.objects (omega (arith, end_grows vs (top + kind_size kind), fits, least)) low) fits)
+places_one bound least kind false vs rest s sound low fits = behind_plain kind vs s (place_variables vs s) (rest s sound low fits)
+
+pub places : (bound : ℕ) → bound ≤ 1610612736 → (vs : List Variable) → PlacesRest bound vs
+places bound least [] s sound low fits = (record { sound = sound; low = low; lives = lives_same s.objects; placed = tt }, refl, refl)
+places bound least (v ∷ vs) s sound low fits = places_one bound least v.kind v.is_object vs (places bound least vs) s sound low fits

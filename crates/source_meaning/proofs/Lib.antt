@@ -12,6 +12,7 @@ pub mod SureActions
 pub mod SureTree
 pub mod SureFlow
 pub mod Laying
+pub mod SureCalls
 mod Samples
 mod RowFirst
 mod RowGlobal

@@ -23,6 +23,8 @@ use Rattle.c_tree.specs.declared.expression.Expression.{Expression}
 use Rattle.c_tree.specs.declared.expression.Lvalue.{Lvalue}
 use Rattle.c_tree.specs.declared.expression.Node.{Node, Constant, Read, Convert}
 use Rattle.c_tree.specs.declared.expression.LvalueNode.{LvalueNode}
+use Rattle.c_tree.specs.declared.c_type.TypeWord.TheVariants.{Gives, Integer as IntegerWord}
+use Rattle.c_tree.specs.declared.program.FunctionType.{FunctionType}
 use Rattle.c_tree.specs.declared.program.Variable.{Variable}
 use Rattle.c_tree.specs.declared.program.StaticObject.{StaticObject}
 use Rattle.c_tree.specs.declared.program.Program.{Program}
@@ -89,10 +91,15 @@ plain_variable kind = record { kind = kind; is_object = false }
 abbrev pub object_variable : Kind → Variable
 object_variable kind = record { kind = kind; is_object = true }
 
+-- `int(void)`, the type of `main`
+abbrev pub main_type : FunctionType
+main_type = record { c_type = Gives ∷ IntegerWord Int ∷ []; parameters = none; result = int }
+
 -- a program of `main` alone, at line 1, of function type 0
 abbrev pub main_alone : Vec StaticObject Global → (variables : Vec Variable Global) → (room : ℕ) → Vec Statement Global → Program
 main_alone statics variables room body = record {
   statics = statics;
+  function_types = one main_type;
   functions = one (record { line = 1; type_number = 0; parameters = none; variables = variables; body = body; room = room });
   main = 0;
 }

@@ -15,6 +15,7 @@ pub mod Laying
 pub mod SureCalls
 pub mod SureLibrary
 pub mod SureMeaning
+pub mod ValidNames
 mod Samples
 mod RowFirst
 mod RowGlobal

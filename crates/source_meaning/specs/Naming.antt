@@ -17,6 +17,7 @@ use Rattle.c_tree.specs.declared.statement.First.TheVariants.{Nothing, Expressio
 use Rattle.c_tree.specs.declared.statement.Statement.{Statement, Expression as ExpressionStatement, Empty, Declaration, Block', If', While', DoWhile', For', Switch', Break, Continue, Return, Row_of-Statement, end_of-Statement, more_of-Statement, Held-Statement-If-2, None', Some', Row_of-SwitchItem, end_of-SwitchItem, more_of-SwitchItem}
 use Rattle.c_tree.specs.declared.program.Variable.{Variable}
 use Rattle.c_tree.specs.declared.program.Function.{Function}
+use Rattle.c_tree.specs.declared.program.FunctionType.{FunctionType}
 use Rattle.c_tree.specs.declared.program.StaticObject.{StaticObject}
 use Rattle.c_tree.specs.declared.program.Program.{Program}
 use Rattle.c_tree.specs.Kinds.{size_of_kind}
@@ -211,6 +212,15 @@ FunctionsName statics (f ∷ fs) = FunctionNames statics f × FunctionsName stat
 abbrev pub StaticsName : Scope → List StaticObject → Type 0
 StaticsName sc [] = Unit {0}
 StaticsName sc (o ∷ os) = PartsName sc (size_of_kind o.kind) o.parts.items × StaticsName sc os
+
+-- no function takes or gives a structure or union
+abbrev pub AreNoStructures : List Kind → Type 0
+AreNoStructures [] = Unit {0}
+AreNoStructures (k ∷ ks) = IsNoStructure k × AreNoStructures ks
+
+abbrev pub PassNoStructures : List FunctionType → Type 0
+PassNoStructures [] = Unit {0}
+PassNoStructures (t ∷ ts) = IsNoStructure t.result × AreNoStructures t.parameters.items × PassNoStructures ts
 
 -- a program names what is there
 pub record NamesObjects (p : Program) : Type 0 where

@@ -16,6 +16,7 @@ pub mod SureCalls
 pub mod SureLibrary
 pub mod SureMeaning
 pub mod ValidNames
+pub mod ValidProgramNames
 mod Samples
 mod RowFirst
 mod RowGlobal

@@ -24,23 +24,23 @@ use Rattle.source_meaning.specs.Naming.{Scope, static_kind, object_kind, basis_o
 
 -- tests that hold
 
-both : (a b : Bool) → (a && b) ≡ true → (a ≡ true) × (b ≡ true)
+pub both : (a b : Bool) → (a && b) ≡ true → (a ≡ true) × (b ≡ true)
 both true b e = (refl, e)
 both false b e = absurd (cc)
 
-three : (a b c : Bool) → (a && b && c) ≡ true → (a ≡ true) × (b ≡ true) × (c ≡ true)
+pub three : (a b c : Bool) → (a && b && c) ≡ true → (a ≡ true) × (b ≡ true) × (c ≡ true)
 three a b c e = let p = both (a && b) c e in let q = both a b p.0 in (q.0, q.1, p.1)
 
-four : (a b c d : Bool) → (a && b && c && d) ≡ true → (a ≡ true) × (b ≡ true) × (c ≡ true) × (d ≡ true)
+pub four : (a b c d : Bool) → (a && b && c && d) ≡ true → (a ≡ true) × (b ≡ true) × (c ≡ true) × (d ≡ true)
 four a b c d e = let p = both (a && b && c) d e in let q = three a b c p.0 in (q.0, q.1, q.2, p.1)
 
-five : (a b c d f : Bool) → (a && b && c && d && f) ≡ true → (a ≡ true) × (b ≡ true) × (c ≡ true) × (d ≡ true) × (f ≡ true)
+pub five : (a b c d f : Bool) → (a && b && c && d && f) ≡ true → (a ≡ true) × (b ≡ true) × (c ≡ true) × (d ≡ true) × (f ≡ true)
 five a b c d f e = let p = both (a && b && c && d) f e in let q = four a b c d p.0 in (q.0, q.1, q.2, q.3, p.1)
 
 six : (a b c d f g : Bool) → (a && b && c && d && f && g) ≡ true → (a ≡ true) × (b ≡ true) × (c ≡ true) × (d ≡ true) × (f ≡ true) × (g ≡ true)
 six a b c d f g e = let p = both (a && b && c && d && f) g e in let q = five a b c d f p.0 in (q.0, q.1, q.2, q.3, q.4, p.1)
 
-never : {A : Type 0} → false ≡ true → A
+pub never : {A : Type 0} → false ≡ true → A
 never e = absurd (cc)
 
 -- kinds that a test finds equal
@@ -65,7 +65,7 @@ type_of_number UnsignedLongLong = refl
 same_type : (s t : IntType) → is_int_type s t ≡ true → s ≡ t
 same_type s t e = sym (type_of_number s) ∙ ap type_of (eqb-true (int_number s) (int_number t) e) ∙ type_of_number t
 
-same_kind : (k t : Kind) → is_kind k t ≡ true → k ≡ t
+pub same_kind : (k t : Kind) → is_kind k t ≡ true → k ≡ t
 same_kind Void Void e = refl
 same_kind Void (OfScalar (Integer s)) e = never e
 same_kind Void (OfScalar Pointer) e = never e
@@ -94,7 +94,7 @@ same_kind (Array m) (Array n) e = ap Array (eqb-true m n e)
 
 -- kinds that are no structures
 
-none_like : (k t : Kind) → is_kind k t ≡ true → IsNoStructure t → IsNoStructure k
+pub none_like : (k t : Kind) → is_kind k t ≡ true → IsNoStructure t → IsNoStructure k
 none_like k t e h = subst IsNoStructure (sym (same_kind k t e)) h
 
 none_scalar : (k : Kind) → is_scalar k ≡ true → IsNoStructure k
@@ -216,7 +216,7 @@ writable (ParenthesizedLvalue' _ pk pl p) e = writable p e
 -- what a scope of validity and one of names have in common
 pub record Agree (scope : valid.Scope) (sc : Scope) : Type 0 where
   pub static : (n : ℕ) (k : Kind) → valid.is_static scope n k ≡ true → static_kind sc.statics n ≡ Some k
-  pub automatic : (x : ℕ) (k : Kind) → valid.is_automatic scope x k ≡ true → object_kind sc.variables x ≡ Some k
+  pub object : (x : ℕ) → (valid.variable_at scope x).is_object ≡ true → object_kind sc.variables x ≡ Some (valid.variable_at scope x).kind
   pub function : (f : ℕ) → IsNoStructure (get_or scope.functions f no_signature).result
   pub type : (n : ℕ) → IsNoStructure (get_or scope.types n no_signature).result
 
@@ -283,7 +283,10 @@ module _ {scope : valid.Scope} {sc : Scope} (g : Agree scope sc) where
     row_names (more_of-Expression k line a rest) e = let h = both (is_valid scope a k) (are_valid scope rest) e in (value_names a k h.0, row_names rest h.1)
 
     pub lvalue_names : (p : LvalueNode) (k : Kind) → is_valid_lvalue scope p k ≡ true → LvalueNames sc p k
-    lvalue_names (Automatic x) k e = g.automatic x k e
+    lvalue_names (Automatic x) k e =
+        let v = valid.variable_at scope x in
+        let h = both v.is_object (is_kind v.kind k) e in
+        g.object x h.0 ∙ ap Some (same_kind v.kind k h.1)
     lvalue_names (Static n) k e = g.static n k e
     lvalue_names (Deref' _ t line a) k e = value_names a t (three (is_valid scope a t) _ _ e).0
     lvalue_names (Index' form size _ t line a _ t' line' b) k e =

@@ -17,6 +17,7 @@ pub mod SureLibrary
 pub mod SureMeaning
 pub mod ValidNames
 pub mod ValidProgramNames
+pub mod RunsAlike
 mod Samples
 mod RowFirst
 mod RowGlobal

@@ -12,6 +12,7 @@ ghost use Rattle.c_tree.specs.declared.expression.Kind.{Kind};
 ghost use Rattle.c_tree.specs.declared.expression.Update.{Update};
 ghost use Rattle.c_tree.specs.declared.expression.Fixity.{Fixity};
 ghost use Rattle.c_tree.specs.declared.expression.Routine.{Routine};
+ghost use Rattle.c_tree.specs.declared.program.Function.{Function};
 ghost use Rattle.c_tree.specs.declared.program.Program.{Program};
 ghost use Rattle.c_tree.specs.ValidProgram.{is_valid_program};
 ghost use Rattle.source_meaning.specs.State.{Run, Header, Setting, change};
@@ -20,9 +21,9 @@ ghost use Rattle.source_meaning.specs.Expressions.{callee};
 ghost use Rattle.source_meaning.specs.Initializers.{zero_variable, store_bytes};
 ghost use Rattle.source_meaning.specs.Library.{routine};
 ghost use Rattle.source_meaning.specs.Printing.{print_formatted};
-ghost use Rattle.source_meaning.specs.Calls.{Caller, back_to, set_up};
+ghost use Rattle.source_meaning.specs.Calls.{Caller, back_to, calls, set_up};
 ghost use Rattle.source_meaning.specs.Meaning.{meaning, outcome, initial_objects, setting_of};
-ghost use Rattle.source_meaning.specs.Acting.{IsAction, state_of};
+ghost use Rattle.source_meaning.specs.Acting.{IsAction, RunsAlike, state_of};
 ghost use Rattle.source_meaning.specs.Turns.{Grows};
 ghost use Rattle.source_meaning.specs.Naming.{PassNoStructures};
 ghost use Rattle.source_meaning.specs.Keeping.{IsKept};
@@ -80,4 +81,10 @@ pub fn routines_and_calls_are_actions()
         → IsAction (callee functions type_number v line) }
     ensures set_up { (g : Setting) (f : Header) (vs : List Value) (line : ℕ) → IsAction (set_up g f vs line) }
     ensures back { (c : Caller) → IsAction (change (back_to c)) }
+{}
+
+/// And so does every call, with all that it leads to: the work that was done before plays no part.
+pub fn calls_do_the_same_at_any_work()
+    ensures { (functions : List Function) (g : Setting) (limit n f : ℕ) (vs : List Value) (line : ℕ)
+        → RunsAlike (calls functions g limit n f vs line) }
 {}

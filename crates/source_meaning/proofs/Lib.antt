@@ -12,6 +12,7 @@ pub mod SureActions
 pub mod SureTree
 pub mod SureFlow
 pub mod Laying
+pub mod Separating
 pub mod SureCalls
 pub mod SureLibrary
 pub mod SureMeaning

@@ -1,1 +1,11 @@
+pub mod Characters
+pub mod Constants
+pub mod Literals
+pub mod Longest
+pub mod Scan
+pub mod Separators
 pub mod Spelled
+pub mod Spellings
+pub mod Text
+pub mod View
+pub mod Words

@@ -1,5 +1,8 @@
 //! Keywords (C99 6.4.1).
 
+ghost use Rattle.std.specs.Prelude.{◌≡◌};
+ghost use Rattle.c_lexer.specs.Spellings.{keyword_spelling};
+
 /// A keyword.
 #[derive(Clone, Copy, Debug, PartialEq, Eq)]
 pub enum Keyword {
@@ -40,4 +43,93 @@ pub enum Keyword {
     Bool,
     Complex,
     Imaginary,
+}
+
+/// The keywords, each once.
+pub static KEYWORDS: [Keyword; 37] = [
+    Keyword::Auto,
+    Keyword::Break,
+    Keyword::Case,
+    Keyword::Char,
+    Keyword::Const,
+    Keyword::Continue,
+    Keyword::Default,
+    Keyword::Do,
+    Keyword::Double,
+    Keyword::Else,
+    Keyword::Enum,
+    Keyword::Extern,
+    Keyword::Float,
+    Keyword::For,
+    Keyword::Goto,
+    Keyword::If,
+    Keyword::Inline,
+    Keyword::Int,
+    Keyword::Long,
+    Keyword::Register,
+    Keyword::Restrict,
+    Keyword::Return,
+    Keyword::Short,
+    Keyword::Signed,
+    Keyword::Sizeof,
+    Keyword::Static,
+    Keyword::Struct,
+    Keyword::Switch,
+    Keyword::Typedef,
+    Keyword::Union,
+    Keyword::Unsigned,
+    Keyword::Void,
+    Keyword::Volatile,
+    Keyword::While,
+    Keyword::Bool,
+    Keyword::Complex,
+    Keyword::Imaginary,
+];
+
+impl Keyword {
+    /// How it is spelled.
+    #[tactic(auto, unfolding(crate::specs::Spellings::keyword_spelling))]
+    pub fn spelling(self) -> &'static [u8]
+        ensures { result.now ≡ keyword_spelling self }
+    {
+        match self {
+            Keyword::Auto => b"auto",
+            Keyword::Break => b"break",
+            Keyword::Case => b"case",
+            Keyword::Char => b"char",
+            Keyword::Const => b"const",
+            Keyword::Continue => b"continue",
+            Keyword::Default => b"default",
+            Keyword::Do => b"do",
+            Keyword::Double => b"double",
+            Keyword::Else => b"else",
+            Keyword::Enum => b"enum",
+            Keyword::Extern => b"extern",
+            Keyword::Float => b"float",
+            Keyword::For => b"for",
+            Keyword::Goto => b"goto",
+            Keyword::If => b"if",
+            Keyword::Inline => b"inline",
+            Keyword::Int => b"int",
+            Keyword::Long => b"long",
+            Keyword::Register => b"register",
+            Keyword::Restrict => b"restrict",
+            Keyword::Return => b"return",
+            Keyword::Short => b"short",
+            Keyword::Signed => b"signed",
+            Keyword::Sizeof => b"sizeof",
+            Keyword::Static => b"static",
+            Keyword::Struct => b"struct",
+            Keyword::Switch => b"switch",
+            Keyword::Typedef => b"typedef",
+            Keyword::Union => b"union",
+            Keyword::Unsigned => b"unsigned",
+            Keyword::Void => b"void",
+            Keyword::Volatile => b"volatile",
+            Keyword::While => b"while",
+            Keyword::Bool => b"_Bool",
+            Keyword::Complex => b"_Complex",
+            Keyword::Imaginary => b"_Imaginary",
+        }
+    }
 }

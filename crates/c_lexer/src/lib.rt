@@ -1,10 +1,19 @@
-//! Tokens of a C source text (C99 6.4).
+//! Tokens of a C source text (C99 6.4): the longest token at each place, between white space and comments.
 #![tactic(auto)]
 
+pub mod character;
+pub mod integer;
 pub mod keyword;
+pub mod lexer;
+pub mod literal;
 pub mod punctuator;
+pub mod scan;
+pub mod separator;
 pub mod token;
 
+pub use crate::integer::{IntegerConstant, IntegerType, constant_of};
 pub use crate::keyword::Keyword;
+pub use crate::lexer::{LexError, LexFault, lex};
+pub use crate::literal::{bytes_of_literal, character_value};
 pub use crate::punctuator::Punctuator;
 pub use crate::token::{Spelling, Token, Tokens, Word};

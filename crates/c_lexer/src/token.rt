@@ -2,6 +2,7 @@
 
 ghost use Rattle.std.specs.Prelude.{◌≡◌, IsTrue, ◌↔◌};
 ghost use Rattle.c_lexer.specs.Spelled.{on_line};
+ghost use Rattle.c_lexer.specs.Words.{spelling_of};
 
 use crate::keyword::Keyword;
 use crate::punctuator::Punctuator;
@@ -86,6 +87,21 @@ impl<'a> Word<'a> {
             Word::StringLiteral(s) => Word::StringLiteral(s.again()),
             Word::Wide(s) => Word::Wide(s.again()),
             Word::Punctuator(p) => Word::Punctuator(*p),
+        }
+    }
+
+    /// The bytes that spell it. Of a wide literal they begin with its `L`.
+    pub fn spelling(&self) -> &'a [u8]
+        ensures { result.now ≡ spelling_of self.now }
+    {
+        match self {
+            Word::Identifier(s)
+            | Word::Integer(s)
+            | Word::Character(s)
+            | Word::StringLiteral(s)
+            | Word::Wide(s) => s.bytes(),
+            Word::Keyword(k) => k.spelling(),
+            Word::Punctuator(p) => p.spelling(),
         }
     }
 

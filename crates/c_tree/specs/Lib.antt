@@ -1,0 +1,7 @@
+pub mod Extents
+pub mod Layout
+pub mod Kinds
+pub mod Room
+pub mod Valid
+pub mod Format
+pub mod ValidProgram

@@ -1,14 +1,22 @@
 //! C types and their layout, and the typed tree of a program.
 #![tactic(auto)]
 
+pub mod c_type;
 pub mod expression;
+pub mod format;
+pub mod layout;
 pub mod program;
 pub mod statement;
+#[cfg(test)]
+mod tests;
 
+pub use crate::c_type::{CType, TypeWord};
 pub use crate::expression::{
     Expression, Fixity, Kind, Lvalue, LvalueNode, Node, OffsetForm, PlainName, Routine, Update,
 };
-pub use crate::program::{Function, Program, StaticObject, Variable};
+pub use crate::format::{Directive, Piece};
+pub use crate::layout::{Extent, MAX_SIZE, array_size, member_offsets, structure_of, union_of};
+pub use crate::program::{Function, FunctionType, Program, StaticObject, Variable};
 pub use crate::statement::{
     CaseLabel, Content, First, Initialization, Part, Statement, SwitchItem,
 };

@@ -1,5 +1,6 @@
 //! Typed programs (C99 6.9).
 
+use crate::c_type::CType;
 use crate::expression::Kind;
 use crate::statement::{Part, Statement};
 use sb_base::Line;
@@ -12,6 +13,17 @@ pub struct Variable {
     pub kind: Kind,
     /// Whether it is an object: its address is taken, or it is an array, a structure or a union.
     pub is_object: bool,
+}
+
+/// A type of functions (C99 6.7.5.3).
+#[derive(Drop)]
+pub struct FunctionType {
+    /// The type itself.
+    pub c_type: CType,
+    /// What its parameters hold, arrays and functions adjusted to pointers.
+    pub parameters: Vec<Kind>,
+    /// What its functions give.
+    pub result: Kind,
 }
 
 /// A function that the source defines.
@@ -47,6 +59,8 @@ pub struct StaticObject {
 pub struct Program {
     /// The static objects in the order in which their names or their tokens stand.
     pub statics: Vec<StaticObject>,
+    /// The types of functions, all different.
+    pub function_types: Vec<FunctionType>,
     /// The functions in the order of their definitions.
     pub functions: Vec<Function>,
     /// The number of `main`.

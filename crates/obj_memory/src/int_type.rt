@@ -39,6 +39,7 @@ impl IntType {
     pub fn size(self) -> u64
         ensures value { result ≡ size_of self }
         ensures small { result ≤ 8 }
+        ensures positive { 1 ≤ result }
     {
         match self {
             IntType::Char | IntType::SignedChar | IntType::UnsignedChar => 1,

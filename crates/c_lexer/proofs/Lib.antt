@@ -1,0 +1,10 @@
+pub mod Digits
+pub mod Ends
+pub mod Gaps
+pub mod LiteralBytes
+pub mod Runs
+pub mod Closing
+pub mod TableFound
+pub mod LongestWord
+pub mod Scanned
+pub mod Turns

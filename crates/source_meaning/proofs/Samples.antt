@@ -93,6 +93,7 @@ object_variable kind = record { kind = kind; is_object = true }
 abbrev pub main_alone : Vec StaticObject Global → (variables : Vec Variable Global) → (room : ℕ) → Vec Statement Global → Program
 main_alone statics variables room body = record {
   statics = statics;
+  function_types = none;
   functions = one (record { line = 1; type_number = 0; parameters = none; variables = variables; body = body; room = room });
   main = 0;
 }

@@ -213,8 +213,13 @@ module _ {sc : Scope} {env : Env} (c : Calling sc env) where
   content_sure : (p : Value) (whole offset : ℕ) (content : Content) → ContentNames sc whole offset content → Sure sc (IsBase p whole) (store_content env p offset content) (λ _. IsBase p whole)
   content_sure p whole offset (ValueOf e) h =
       sure_on (sure_beside (stable_base p whole) (evaluate_sure e h.0)) (λ v.
-      sure_on (sure_post (λ _ o x. x.0) (sure_if_good (λ s good x. (x.0, (
-        record { tag = (base_part p whole offset (kind_size e.kind) h.1 s good x.0).0; reach = (base_part p whole offset (kind_size e.kind) h.1 s good x.0).1 }, x.1)))
+      sure_on (sure_post (λ _ o x. x.0) (sure_if_good (λ s good x. (
+        x.0,
+        (
+          record { tag = (base_part p whole offset (kind_size e.kind) h.1 s good x.0).0; reach = (base_part p whole offset (kind_size e.kind) h.1 s good x.0).1 },
+          x.1,
+        ),
+      ))
       (sure_frame (stable_base p whole) (sure_write_lvalue OnName e.kind (narrowed offset (kind_size e.kind) p) e.line v)))) (λ _. sure_skip))
   content_sure p whole offset (Literal bytes) h = sure_on (sure_tally 1) (λ _. bytes_sure p whole offset bytes.items h)
 

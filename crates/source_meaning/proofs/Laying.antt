@@ -35,7 +35,7 @@ length-dead : (n : ℕ) (objects : Objects) → length (with_dead n objects) ≡
 unfolding with_dead
 length-dead n objects = length-set objects n _
 
-length-new : (storage : Storage) (address size : ℕ) (objects : Objects) → length (with_new storage address size objects) ≡ length objects + 1
+pub length-new : (storage : Storage) (address size : ℕ) (objects : Objects) → length (with_new storage address size objects) ≡ length objects + 1
 unfolding with_new
 length-new storage address size objects = length-append objects (new_object storage address size ∷ [])
 

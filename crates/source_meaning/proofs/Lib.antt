@@ -13,6 +13,8 @@ pub mod SureTree
 pub mod SureFlow
 pub mod Laying
 pub mod SureCalls
+pub mod SureLibrary
+pub mod SureMeaning
 mod Samples
 mod RowFirst
 mod RowGlobal

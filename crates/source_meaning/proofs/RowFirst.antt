@@ -1,12 +1,13 @@
 -- `int main(void){putchar(72);putchar(105);return 7;}`: hi and status 7. Work: 4 statements (the body is one), 5 nodes, 3
 -- calls, 2 bytes.
-use Rattle.std.proofs.Common.{◌≡◌, ℕ, [], ◌∷◌, refl, Some, None}
+use Rattle.std.proofs.Common.{◌≡◌, ℕ, [], ◌∷◌, refl, true, Some, None}
 use Rattle.behaviours.specs.Shown.{Status}
 use Rattle.sb_base.specs.Budgets.{default_sizes}
 use Rattle.c_tree.specs.declared.expression.Routine.TheVariants.{Putchar}
 use Rattle.c_tree.specs.declared.expression.Node.{Library}
 use Rattle.c_tree.specs.declared.program.Program.{Program}
 use Rattle.c_tree.specs.declared.statement.Statement.{Statement, Expression, Return}
+use Rattle.c_tree.specs.ValidProgram.{is_valid_program}
 use Rattle.source_meaning.specs.Meaning.{meaning}
 use Rattle.source_meaning.proofs.Samples.{computing, none, one, three, at, int, number, main_alone}
 
@@ -39,3 +40,7 @@ accesses = refl
 no_turn : (meaning program default_sizes [] 0).shown.ending ≡ None
 unfolding program put computing
 no_turn = refl
+
+valid : is_valid_program program ≡ true
+unfolding program put computing
+valid = refl

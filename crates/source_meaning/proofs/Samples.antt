@@ -5,7 +5,7 @@ use Rattle.std.specs.declared.alloc.Global.{Global}
 use Rattle.std.specs.Int.{int_wrap}
 use denote.RawPtr.{null_ptr}
 use denote.Hole.Carrier.{hidden}
-use Rattle.obj_memory.specs.Integers.{size_of, is_signed, fit}
+use Rattle.obj_memory.specs.Integers.{size_of, is_signed, rank, fit}
 use Rattle.obj_memory.specs.Operators.{shift_amount, unary_value, binary_value}
 use Rattle.obj_memory.specs.Objects.{new_object, with_new, with_dead, with_zeroed, pointer_to}
 use Rattle.obj_memory.specs.Judgement.{judge, named, moved, narrowed}
@@ -13,6 +13,8 @@ use Rattle.obj_memory.specs.Access.{read_value, write_bytes, write_tag, write_va
 use Rattle.obj_memory.specs.Heap.{block_count, is_clear, least_place}
 use Rattle.sb_base.specs.Endings.{report_at}
 use Rattle.addr_map.specs.Places.{region_size, region_start, function_address}
+use Rattle.c_tree.specs.ValidProgram.{is_valid_program}
+use Rattle.c_tree.specs.Room.{room}
 use Rattle.c_tree.specs.declared.expression.LvalueNode.TheBlock.{hidden-the_row-Expression-0}
 use Rattle.c_tree.specs.declared.statement.Statement.TheBlock.{hidden-the_row-Statement-0, hidden-the_row-SwitchItem-1}
 use Rattle.obj_memory.specs.declared.int_type.IntType.TheVariants.{Int}
@@ -23,6 +25,8 @@ use Rattle.c_tree.specs.declared.expression.Expression.{Expression}
 use Rattle.c_tree.specs.declared.expression.Lvalue.{Lvalue}
 use Rattle.c_tree.specs.declared.expression.Node.{Node, Constant, Read, Convert}
 use Rattle.c_tree.specs.declared.expression.LvalueNode.{LvalueNode}
+use Rattle.c_tree.specs.declared.c_type.TypeWord.TheVariants.{Gives, Integer as IntegerWord}
+use Rattle.c_tree.specs.declared.program.FunctionType.{FunctionType}
 use Rattle.c_tree.specs.declared.program.Variable.{Variable}
 use Rattle.c_tree.specs.declared.program.StaticObject.{StaticObject}
 use Rattle.c_tree.specs.declared.program.Program.{Program}
@@ -30,7 +34,7 @@ use Rattle.c_tree.specs.declared.statement.Statement.{Statement}
 
 -- what the meaning computes by: a row names it in its `unfolding` line
 unfoldable pub computing : Unit {0}
-unfolding int_wrap hidden size_of is_signed fit shift_amount unary_value binary_value new_object with_new with_dead with_zeroed pointer_to judge named moved narrowed read_value write_bytes write_tag write_value move_range block_count is_clear least_place report_at region_size region_start function_address hidden-the_row-Expression-0 hidden-the_row-Statement-0 hidden-the_row-SwitchItem-1
+unfolding int_wrap hidden size_of is_signed rank fit shift_amount unary_value binary_value new_object with_new with_dead with_zeroed pointer_to judge named moved narrowed read_value write_bytes write_tag write_value move_range block_count is_clear least_place report_at region_size region_start function_address is_valid_program room hidden-the_row-Expression-0 hidden-the_row-Statement-0 hidden-the_row-SwitchItem-1
 computing = tt
 
 abbrev pub vec_of : {A : Type 0} → (xs : List A) → length xs < 2 ^ 63 → Vec A Global
@@ -89,11 +93,15 @@ plain_variable kind = record { kind = kind; is_object = false }
 abbrev pub object_variable : Kind → Variable
 object_variable kind = record { kind = kind; is_object = true }
 
+-- `int(void)`, the type of `main`
+abbrev pub main_type : FunctionType
+main_type = record { c_type = Gives ∷ IntegerWord Int ∷ []; parameters = none; result = int }
+
 -- a program of `main` alone, at line 1, of function type 0
 abbrev pub main_alone : Vec StaticObject Global → (variables : Vec Variable Global) → (room : ℕ) → Vec Statement Global → Program
 main_alone statics variables room body = record {
   statics = statics;
-  function_types = none;
+  function_types = one main_type;
   functions = one (record { line = 1; type_number = 0; parameters = none; variables = variables; body = body; room = room });
   main = 0;
 }

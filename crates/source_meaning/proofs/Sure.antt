@@ -46,10 +46,16 @@ pub record Leaves (sc : Scope) (s s' : State) : Type 0 where
   pub lives : LivesOn s.objects s'.objects
   pub frame : s'.frame ≡ s.frame
 
+-- where a run ends or pauses, objects and accesses are kept
+pub record Stops (old : Objects) (s' : State) : Type 0 where
+  pub kept : IsKept s'.objects s'.accesses
+  pub low : AreLow s'.objects
+  pub lives : LivesOn old s'.objects
+
 abbrev pub After : {A : Type 0} → Scope → State → (A → Objects → Type 0) → Outcome A → Type 0
 After sc s Q (Gives a s') = Leaves sc s s' × Q a s'.objects
-After sc s Q (Ended e s') = IsKept s'.objects s'.accesses
-After sc s Q (Paused s') = IsKept s'.objects s'.accesses
+After sc s Q (Ended e s') = Stops s.objects s'
+After sc s Q (Paused s') = Stops s.objects s'
 
 pub record Sure {A : Type 0} (sc : Scope) (P : Objects → Type 0) (r : Run A) (Q : A → Objects → Type 0) : Type 0 where
   pub by : (s : State) → IsGood sc s → P s.objects → After sc s Q (r s)
@@ -67,10 +73,16 @@ leaves_same sc s h = record { good = h; lives = lives_same s.objects; frame = re
 leaves_then : (sc : Scope) (s s1 s2 : State) → Leaves sc s s1 → Leaves sc s1 s2 → Leaves sc s s2
 leaves_then sc s s1 s2 p q = record { good = q.good; lives = lives_then s.objects s1.objects s2.objects p.lives q.lives; frame = q.frame ∙ p.frame }
 
+pub stops_same : (sc : Scope) (s : State) → IsGood sc s → Stops s.objects s
+stops_same sc s h = record { kept = h.kept; low = h.low; lives = lives_same s.objects }
+
+pub stops_then : (old new : Objects) (s : State) → LivesOn old new → Stops new s → Stops old s
+stops_then old new s l h = record { kept = h.kept; low = h.low; lives = lives_then old new s.objects l h.lives }
+
 after_then : {A : Type 0} (sc : Scope) (s s1 : State) (Q : A → Objects → Type 0) (o : Outcome A) → Leaves sc s s1 → After sc s1 Q o → After sc s Q o
 after_then sc s s1 Q (Gives a s') p h = (leaves_then sc s s1 s' p h.0, h.1)
-after_then sc s s1 Q (Ended e s') p h = h
-after_then sc s s1 Q (Paused s') p h = h
+after_then sc s s1 Q (Ended e s') p h = stops_then s.objects s1.objects s' p.lives h
+after_then sc s s1 Q (Paused s') p h = stops_then s.objects s1.objects s' p.lives h
 
 after_on : {A B : Type 0} (sc : Scope) (s : State) (o : Outcome A) (k : A → Run B) (Q : A → Objects → Type 0) (Q' : B → Objects → Type 0)
     → After sc s Q o → ((a : A) → Sure sc (Q a) (k a) Q') → After sc s Q' (on o k)
@@ -123,10 +135,10 @@ pub sure_skip : {sc : Scope} {P : Objects → Type 0} → Sure sc P skip (λ _. 
 sure_skip {sc = sc} = record { by = λ s good p. (leaves_same sc s good, p) }
 
 pub sure_stop : {A : Type 0} {sc : Scope} {P : Objects → Type 0} {Q : A → Objects → Type 0} {e : Ending} → Sure sc P (stop e) Q
-sure_stop = record { by = λ s good p. good.kept }
+sure_stop {sc = sc} = record { by = λ s good p. stops_same sc s good }
 
 pub sure_pause : {A : Type 0} {sc : Scope} {P : Objects → Type 0} {Q : A → Objects → Type 0} → Sure sc P pause Q
-sure_pause = record { by = λ s good p. good.kept }
+sure_pause {sc = sc} = record { by = λ s good p. stops_same sc s good }
 
 pub sure_read : {A : Type 0} {sc : Scope} {P : Objects → Type 0} {Q : A → Objects → Type 0} {f : State → A} → ((s : State) → IsGood sc s → P s.objects → Q (f s) s.objects) → Sure sc P (read_state f) Q
 sure_read {sc = sc} w = record { by = λ s good p. (leaves_same sc s good, w s good p) }

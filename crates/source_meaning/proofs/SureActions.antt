@@ -41,7 +41,7 @@ use Rattle.source_meaning.specs.Initializers.{zero_object, zero_home, zero_varia
 use Rattle.source_meaning.specs.Naming.{Scope, Basis, OnName, OnPointer, OnValue, IsWritable, IsNoStructure, IsScalar}
 use Rattle.source_meaning.specs.Keeping.{LiesInObject, AllLie, IsKept, LivesOn, IsDirect, IsNamed}
 use Rattle.source_meaning.proofs.Holding.{all_lie_more, lives_same, direct_named, direct_allowed, allowed_lies, judged_direct, direct_kept}
-use Rattle.source_meaning.proofs.Sure.{IsGood, AreTagged, Leaves, After, Sure, Any, IsStable, sure_on, sure_weak, sure_any, sure_post, sure_frame, sure_beside, sure_done, sure_skip, sure_stop, sure_read, sure_tally, sure_choose, sure_objects, IsTagged, DirectIf, ValueIs, ReachBy, LvalueIs, stable_tag, value_is}
+use Rattle.source_meaning.proofs.Sure.{IsGood, AreTagged, stops_same, Leaves, After, Sure, Any, IsStable, sure_on, sure_weak, sure_any, sure_post, sure_frame, sure_beside, sure_done, sure_skip, sure_stop, sure_read, sure_tally, sure_choose, sure_objects, IsTagged, DirectIf, ValueIs, ReachBy, LvalueIs, stable_tag, value_is}
 
 -- values
 
@@ -105,8 +105,8 @@ IsFound q size p o = IsAllowed o q size p × IsDirect o q size
 
 located_by : {sc : Scope} (P : Objects → Type 0) (s : State) → IsGood sc s → P s.objects → (size : ℕ) (q : Value) (line : ℕ) (v : Verdict) → ((p : Place) → v ≡ Inside p → IsFound q size p s.objects)
     → After sc s (λ p o. P o × IsFound q size p o) (place_or_stop v line s)
-located_by P s good h size q line Outside w = good.kept
-located_by P s good h size q line Dead w = good.kept
+located_by {sc = sc} P s good h size q line Outside w = stops_same sc s good
+located_by {sc = sc} P s good h size q line Dead w = stops_same sc s good
 located_by P s good h size q line (Inside p) w = (record { good = good; lives = lives_same s.objects; frame = refl }, (h, w p refl))
 
 inside_only : (p q : Place) → Inside p ≡ Inside q → p ≡ q

@@ -29,7 +29,7 @@ use Rattle.source_meaning.specs.Naming.{Scope, static_kind, OnName, IsNoStructur
 use Rattle.source_meaning.specs.Keeping.{AllLie, IsKept, LivesOn}
 use Rattle.source_meaning.proofs.ActionsAct.{continues_without}
 use Rattle.source_meaning.proofs.Holding.{all_lie_on, lives_same, lives_then, IsHeld, held_on, held_named}
-use Rattle.source_meaning.proofs.Sure.{IsGood, IsGoodBy, AreTagged, AreLow, Leaves, After, Sure, Any, IsStable, sure_on, sure_weak, sure_any, sure_post, sure_frame, sure_beside, sure_done, sure_skip, sure_stop, sure_pause, sure_read, sure_counted, IsTagged, LvalueIs, stable_tagged, value_is}
+use Rattle.source_meaning.proofs.Sure.{IsGood, IsGoodBy, AreTagged, AreLow, Leaves, Stops, stops_then, After, Sure, Any, IsStable, sure_on, sure_weak, sure_any, sure_post, sure_frame, sure_beside, sure_done, sure_skip, sure_stop, sure_pause, sure_read, sure_counted, IsTagged, LvalueIs, stable_tagged, value_is}
 use Rattle.source_meaning.proofs.SureActions.{sure_write_lvalue}
 use Rattle.source_meaning.proofs.SureTree.{Calling}
 use Rattle.source_meaning.proofs.SureFlow.{CompletionIs, sure_begin_turn, body_sure}
@@ -131,8 +131,8 @@ pub record IsSetUp (sc : Scope) (old : Objects) (s' : State) : Type 0 where
 
 abbrev SetsUpBy : Scope → Objects → Outcome (Unit {0}) → Type 0
 SetsUpBy sc old (Gives a s') = IsSetUp sc old s'
-SetsUpBy sc old (Ended e s') = IsKept s'.objects s'.accesses
-SetsUpBy sc old (Paused s') = IsKept s'.objects s'.accesses
+SetsUpBy sc old (Ended e s') = Stops old s'
+SetsUpBy sc old (Paused s') = Stops old s'
 
 module _ (statics : List StaticObject) (f : Function) (names : FunctionNames statics f) (g : Setting) (mapped : AreMapped g.sizes) where
   abbrev inner : Scope
@@ -147,8 +147,8 @@ module _ (statics : List StaticObject) (f : Function) (names : FunctionNames sta
     lives = lives_then s.objects s1.objects s2.objects l h.0.lives;
     new = subst (λ x. AllFrom (length s.objects) x) (sym h.0.frame) new;
   }
-  written s s1 l new (Ended e s2) h = h
-  written s s1 l new (Paused s2) h = h
+  written s s1 l new (Ended e s2) h = stops_then s.objects s1.objects s2 l h
+  written s s1 l new (Paused s2) h = stops_then s.objects s1.objects s2 l h
 
   module _ (outer : Scope) (same : outer.statics ≡ statics) (vs : List Value) (line : ℕ) where
     laid : (s : State) → IsGood outer s → AreTagged vs s.objects → (s1 : State) → s1.objects ≡ s.objects → s1.accesses ≡ s.accesses → s1.plain ≡ plain_values head vs
@@ -176,7 +176,11 @@ module _ (statics : List StaticObject) (f : Function) (names : FunctionNames sta
         let s2 : State = record s1 { charged = s1.charged + head.room; work = s1.work + (parameter_count head.parameters + plain_count head.variables); plain = plain_values head vs } in
         laid s good tagged s2 h.0.0 h.0.1 refl (place_variables (variables_of head) s2)
         (places (stack_end g) (let low = ends_low g.sizes mapped StackRegion in omega arith) (variables_of head) s2 (subst IsSound (sym h.0.0) good.kept.sound) (subst AreLow (sym h.0.0) good.low) h.1)
-    tested s good tagged (Ended x s1) h = subst (λ o. IsKept o s1.accesses) (sym h.0) (subst (λ a. IsKept s.objects a) (sym h.1) good.kept)
+    tested s good tagged (Ended x s1) h = record {
+      kept = subst (λ o. IsKept o s1.accesses) (sym h.0) (subst (λ a. IsKept s.objects a) (sym h.1) good.kept);
+      low = subst AreLow (sym h.0) good.low;
+      lives = subst (LivesOn s.objects) (sym h.0) (lives_same s.objects);
+    }
     tested s good tagged (Paused s1) h = absurd h
 
     set_up_by : (s : State) → IsGood outer s → AreTagged vs s.objects → SetsUpBy inner s.objects (set_up g head vs line s)
@@ -212,12 +216,11 @@ module _ (statics : List StaticObject) (f : Function) (names : FunctionNames sta
 
     returns_by : (s : State) → IsGood outer s → (s1 : State) → IsSetUp inner s.objects s1 → (o : Outcome Completion) → After inner s1 CompletionIs o
         → After outer s IsTagged (on o (λ completion. change (back_to (caller s)) >> done (returned_by completion)))
-    returns_by s good s1 up (Gives completion s2) h = (
-      back_good s good s2 h.0.good.kept h.0.good.low (lives_then s.objects s1.objects s2.objects up.lives h.0.lives) (subst (λ x. AllFrom (length s.objects) x) (sym h.0.frame) up.new),
-      returned_tagged completion s2.objects (without_homes s2.frame s2.objects) (continues_without s2.frame s2.objects) h.1,
-    )
-    returns_by s good s1 up (Ended e s2) h = h
-    returns_by s good s1 up (Paused s2) h = h
+    returns_by s good s1 up (Gives completion s2) h =
+        (back_good s good s2 h.0.good.kept h.0.good.low (lives_then s.objects s1.objects s2.objects up.lives h.0.lives) (subst (λ x. AllFrom (length s.objects) x) (sym h.0.frame) up.new),
+        returned_tagged completion s2.objects (without_homes s2.frame s2.objects) (continues_without s2.frame s2.objects) h.1)
+    returns_by s good s1 up (Ended e s2) h = stops_then s.objects s1.objects s2 up.lives h
+    returns_by s good s1 up (Paused s2) h = stops_then s.objects s1.objects s2 up.lives h
 
     module _ (env : Env) (c : Calling inner env) where
       runs_by : (s : State) → IsGood outer s → (o : Outcome (Unit {0})) → SetsUpBy inner s.objects o
@@ -229,10 +232,8 @@ module _ (statics : List StaticObject) (f : Function) (names : FunctionNames sta
 
 module _ (statics : List StaticObject) (f : Function) (names : FunctionNames statics f) (env : Env) (mapped : AreMapped env.setting.sizes) (c : Calling (scope_of statics f) env) (outer : Scope) (same : outer.statics ≡ statics) where
   pub begun_sure : (vs : List Value) (line : ℕ) → Sure outer (AreTagged vs) (enter_begun env f vs line) IsTagged
-  begun_sure vs line = record {
-    by = λ s good tagged.
-        runs_by statics f names env.setting mapped outer same vs line env c s good (set_up env.setting (header_of f) vs line s) (set_up_by statics f names env.setting mapped outer same vs line s good tagged);
-  }
+  begun_sure vs line = record { by = λ s good tagged.
+    runs_by statics f names env.setting mapped outer same vs line env c s good (set_up env.setting (header_of f) vs line s) (set_up_by statics f names env.setting mapped outer same vs line s good tagged) }
 
   pub enter_sure : (vs : List Value) (line : ℕ) → Sure outer (AreTagged vs) (enter env f vs line) IsTagged
   enter_sure vs line = sure_on (sure_begin_turn env.limit) (λ _. begun_sure vs line)

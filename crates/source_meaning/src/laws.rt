@@ -3,6 +3,7 @@
 ghost use Rattle.std.specs.Prelude.{ℕ, List, Bool};
 ghost use Rattle.behaviours.specs.Behaviour.{IsSource};
 ghost use Rattle.sb_base.specs.Budgets.{BudgetSizes};
+ghost use Rattle.addr_map.specs.Places.{AreMapped};
 ghost use Rattle.obj_memory.specs.declared.value.Value.{Value};
 ghost use Rattle.obj_memory.specs.declared.value.Scalar.{Scalar};
 ghost use Rattle.obj_memory.specs.declared.value.Place.{Place};
@@ -22,6 +23,8 @@ ghost use Rattle.source_meaning.specs.Calls.{Caller, back_to, set_up};
 ghost use Rattle.source_meaning.specs.Meaning.{meaning, outcome, initial_objects, setting_of};
 ghost use Rattle.source_meaning.specs.Acting.{IsAction, state_of};
 ghost use Rattle.source_meaning.specs.Turns.{Grows};
+ghost use Rattle.source_meaning.specs.Naming.{NamesObjects};
+ghost use Rattle.source_meaning.specs.Keeping.{IsKept};
 
 /// More turns show more of the same: what is shown never shrinks, no work and no turn is taken back, and
 /// a run that ended stays as it is.
@@ -38,6 +41,14 @@ pub fn running_has_begun_all_turns()
 pub fn objects_continue_along_a_run()
     ensures { (p : Program) (budgets : BudgetSizes) (input : List ℕ) (t : ℕ)
         → Continues (initial_objects p (setting_of p budgets)) (state_of (outcome p budgets input t)).objects }
+{}
+
+/// Where a program names what is there, every tag that is stored names an object and reaches nothing
+/// outside it, each object has its bytes and tags, and each access of the run was of bytes of an object.
+pub fn runs_keep_objects_sound()
+    ensures { (p : Program) (budgets : BudgetSizes) → AreMapped (setting_of p budgets).sizes → NamesObjects p
+        → (input : List ℕ) (t : ℕ)
+        → IsKept (state_of (outcome p budgets input t)).objects (state_of (outcome p budgets input t)).accesses }
 {}
 
 /// Accesses and changes of variables begin no turn, do the same at any count of work, and add to it.

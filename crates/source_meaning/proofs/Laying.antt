@@ -23,7 +23,7 @@ use Rattle.source_meaning.proofs.Sure.{HasHome, AreLow}
 
 -- objects that are low
 
-beyond : (objects : Objects) (n : ℕ) → length objects ≤ n → object_at objects n ≡ no_object
+pub beyond : (objects : Objects) (n : ℕ) → length objects ≤ n → object_at objects n ≡ no_object
 beyond [] n h = refl
 beyond (o ∷ os) zero h = absurd (omega arith)
 beyond (o ∷ os) (suc n) h = beyond os n (omega arith)
@@ -70,11 +70,11 @@ low_new storage address size objects fits h = λ n. by n (cases_lt n (length obj
 
 -- what is known of a new object
 
-fresh_live : (storage : Storage) (address size : ℕ) → (new_object storage address size).is_live ≡ true
+pub fresh_live : (storage : Storage) (address size : ℕ) → (new_object storage address size).is_live ≡ true
 unfolding new_object
 fresh_live storage address size = refl
 
-fresh_size : (storage : Storage) (address size : ℕ) → (new_object storage address size).size ≡ size
+pub fresh_size : (storage : Storage) (address size : ℕ) → (new_object storage address size).size ≡ size
 unfolding new_object
 fresh_size storage address size = refl
 

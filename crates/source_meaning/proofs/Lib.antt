@@ -13,6 +13,7 @@ pub mod SureTree
 pub mod SureFlow
 pub mod Laying
 pub mod SureCalls
+pub mod SureBytes
 pub mod SureLibrary
 pub mod SureMeaning
 mod Samples

@@ -30,7 +30,8 @@ use Rattle.c_tree.specs.declared.program.Variable.{Variable}
 use Rattle.source_meaning.specs.declared.home.Home.{Home}
 use Rattle.source_meaning.specs.declared.home.Home.TheVariants.{PlainValue, InObject}
 use Rattle.source_meaning.specs.State.{Run, change, Header, Setting}
-use Rattle.source_meaning.specs.Actions.{integer, kind_size, value_or_divide, operate, updated, given, set_plain, update_plain, place_or_stop, located, note, read_scalar, write_scalar, move_bytes, load, store, update, load_structure, copy_structure, read_lvalue, write_lvalue, make_object, put_bytes, take_key}
+use Rattle.c_tree.specs.Kinds.{size_of_kind}
+use Rattle.source_meaning.specs.Actions.{integer, value_or_divide, operate, updated, given, set_plain, update_plain, place_or_stop, located, note, read_scalar, write_scalar, move_bytes, load, store, update, load_structure, copy_structure, read_lvalue, write_lvalue, make_object, put_bytes, take_key}
 use Rattle.source_meaning.specs.Expressions.{callee_by, callee}
 use Rattle.source_meaning.specs.Initializers.{zero_object, zero_home, zero_variable, store_bytes}
 use Rattle.source_meaning.specs.Calls.{pass_or_stop, test_charge, test_stack, test_keys, call_tests, first_of, rest_of, set_plain_values, place_object, place_variables, write_parameter, write_parameters, lay_out, set_up, Caller, without_homes, back_to}
@@ -209,7 +210,7 @@ acts_place_object size = search (basic, changes, acts_make_object) depth 9
 acts_place_variables : (vs : List Variable) → IsAction (place_variables vs)
 acts_place_variables [] = acts_done
 acts_place_variables (v ∷ vs) =
-    acts_on (acts_choose v.is_object (acts_place_object (kind_size v.kind)) acts_done) (λ home. acts_on (acts_place_variables vs) (λ homes. acts_done))
+    acts_on (acts_choose v.is_object (acts_place_object (size_of_kind v.kind)) acts_done) (λ home. acts_on (acts_place_variables vs) (λ homes. acts_done))
 
 acts_write_parameter : (kind : Kind) (home : Home) (line : ℕ) (v : Value) → IsAction (write_parameter kind home line v)
 acts_write_parameter kind PlainValue line v = acts_skip

@@ -18,7 +18,7 @@ use Rattle.obj_memory.proofs.Continuing.{continues_same, continues_then, continu
 use Rattle.obj_memory.proofs.Judging.{judge_inside}
 use Rattle.obj_memory.proofs.Making.{new_other, dead_other}
 use Rattle.c_tree.specs.declared.expression.Kind.{Kind}
-use Rattle.source_meaning.specs.Actions.{kind_size}
+use Rattle.c_tree.specs.Kinds.{size_of_kind}
 use Rattle.source_meaning.specs.Keeping.{LiesInObject, AllLie, LivesOn, IsDirect, IsNamed}
 
 -- accesses
@@ -191,7 +191,7 @@ pub record IsHeld (objects : Objects) (n : ℕ) (kind : Kind) : Type 0 where
   pub made : n < length objects
   pub live : (object_at objects n).is_live ≡ true
   pub held : is_allocated (object_at objects n).storage ≡ false
-  pub size : (object_at objects n).size ≡ kind_size kind
+  pub size : (object_at objects n).size ≡ size_of_kind kind
 
 pub held_on : (old new : Objects) → LivesOn old new → (n : ℕ) (kind : Kind) → IsHeld old n kind → IsHeld new n kind
 held_on old new l n kind h = record {
@@ -201,7 +201,7 @@ held_on old new l n kind h = record {
   size = l.continues.size n h.made ∙ h.size;
 }
 
-pub held_named : (objects : Objects) (n : ℕ) (kind : Kind) → IsHeld objects n kind → IsNamed objects (pointer_to n objects) (kind_size kind)
+pub held_named : (objects : Objects) (n : ℕ) (kind : Kind) → IsHeld objects n kind → IsNamed objects (pointer_to n objects) (size_of_kind kind)
 unfolding pointer_to
 held_named objects n kind h = record {
   direct = record {

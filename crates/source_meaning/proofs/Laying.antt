@@ -14,7 +14,7 @@ use Rattle.c_tree.specs.declared.program.Variable.{Variable}
 use Rattle.source_meaning.specs.declared.home.Home.{Home}
 use Rattle.source_meaning.specs.declared.home.Home.TheVariants.{PlainValue, InObject}
 use Rattle.source_meaning.specs.State.{State, Outcome, Gives, Ended, Paused, Run, on, done, choose}
-use Rattle.source_meaning.specs.Actions.{kind_size}
+use Rattle.c_tree.specs.Kinds.{size_of_kind}
 use Rattle.source_meaning.specs.Calls.{objects_end, place_object, place_variable, place_variables, without_homes}
 use Rattle.source_meaning.specs.Naming.{object_kind}
 use Rattle.source_meaning.specs.Keeping.{AllLie, IsKept, LivesOn}
@@ -84,14 +84,14 @@ fresh_storage storage address size h = h
 
 -- a new object is held
 
-pub held_new : (storage : Storage) (address : ℕ) (kind : Kind) (objects : Objects) → is_allocated storage ≡ false → IsHeld (with_new storage address (kind_size kind) objects) (length objects) kind
+pub held_new : (storage : Storage) (address : ℕ) (kind : Kind) (objects : Objects) → is_allocated storage ≡ false → IsHeld (with_new storage address (size_of_kind kind) objects) (length objects) kind
 held_new storage address kind objects held =
-    let last = new_last storage address (kind_size kind) objects in
+    let last = new_last storage address (size_of_kind kind) objects in
     record {
-      made = omega (arith, length-new storage address (kind_size kind) objects);
-      live = ap (λ o. o.is_live) last ∙ fresh_live storage address (kind_size kind);
-      held = ap (λ o. is_allocated o.storage) last ∙ fresh_storage storage address (kind_size kind) held;
-      size = ap (λ o. o.size) last ∙ fresh_size storage address (kind_size kind);
+      made = omega (arith, length-new storage address (size_of_kind kind) objects);
+      live = ap (λ o. o.is_live) last ∙ fresh_live storage address (size_of_kind kind);
+      held = ap (λ o. is_allocated o.storage) last ∙ fresh_storage storage address (size_of_kind kind) held;
+      size = ap (λ o. o.size) last ∙ fresh_size storage address (size_of_kind kind);
     }
 
 -- the homes of some variables: each that is an object is in an object of its own with a number from n on
@@ -209,7 +209,7 @@ end_grows_by false size top end after e h = omega (arith, e, h)
 
 end_grows : (vs : List Variable) (top : ℕ) → top ≤ objects_end vs top
 end_grows [] top = omega arith
-end_grows (v ∷ vs) top = end_grows_by v.is_object (kind_size v.kind) top _ _ refl (end_grows vs (if v.is_object then rounded_up 16 top + kind_size v.kind else top))
+end_grows (v ∷ vs) top = end_grows_by v.is_object (size_of_kind v.kind) top _ _ refl (end_grows vs (if v.is_object then rounded_up 16 top + size_of_kind v.kind else top))
 
 pub rounded_whole : (n : ℕ) → rounded_up 16 n % 16 ≡ 0
 rounded_whole n = omega arith
@@ -218,11 +218,11 @@ rounded_whole n = omega arith
 abbrev PlacesRest : (bound : ℕ) → List Variable → Type 0
 PlacesRest bound vs = (s : State) → IsSound s.objects → AreLow s.objects → objects_end vs s.stacked ≤ bound → PlacesBy s (length s.objects) vs (place_variables vs s)
 
-behind_object : (kind : Kind) (vs : List Variable) (s s1 : State) → s1.objects ≡ with_new Automatic (rounded_up 16 s.stacked) (kind_size kind) s.objects → s1.accesses ≡ s.accesses → s1.plain ≡ s.plain
+behind_object : (kind : Kind) (vs : List Variable) (s s1 : State) → s1.objects ≡ with_new Automatic (rounded_up 16 s.stacked) (size_of_kind kind) s.objects → s1.accesses ≡ s.accesses → s1.plain ≡ s.plain
     → (o : Outcome (List Home)) → PlacesBy s1 (length s1.objects) vs o → PlacesBy s (length s.objects) (record { kind = kind; is_object = true } ∷ vs) (on o (λ homes. done (InObject (length s.objects) ∷ homes)))
 behind_object kind vs s s1 e a w (Gives homes s2) h =
-    let made = length-new Automatic (rounded_up 16 s.stacked) (kind_size kind) s.objects in
-    let lives = subst (LivesOn s.objects) (sym e) (lives_new Automatic (rounded_up 16 s.stacked) (kind_size kind) s.objects) in
+    let made = length-new Automatic (rounded_up 16 s.stacked) (size_of_kind kind) s.objects in
+    let lives = subst (LivesOn s.objects) (sym e) (lives_new Automatic (rounded_up 16 s.stacked) (size_of_kind kind) s.objects) in
     let held = subst (λ o. IsHeld o (length s.objects) kind) (sym e) (held_new Automatic (rounded_up 16 s.stacked) kind s.objects refl) in
     let longer : length s1.objects ≡ length s.objects + 1 = ap length e ∙ made in (
       record {
@@ -244,13 +244,13 @@ behind_plain kind vs s (Ended x s2) h = h
 behind_plain kind vs s (Paused s2) h = h
 
 places_one : (bound : ℕ) → bound ≤ 1610612736 → (kind : Kind) (b : Bool) (vs : List Variable) → PlacesRest bound vs → (s : State) → IsSound s.objects → AreLow s.objects
-    → objects_end vs (if b then rounded_up 16 s.stacked + kind_size kind else s.stacked) ≤ bound
-    → PlacesBy s (length s.objects) (record { kind = kind; is_object = b } ∷ vs) (on (choose b (place_object (kind_size kind)) (done PlainValue) s) (λ home s1. on (place_variables vs s1) (λ homes. done (home ∷ homes))))
+    → objects_end vs (if b then rounded_up 16 s.stacked + size_of_kind kind else s.stacked) ≤ bound
+    → PlacesBy s (length s.objects) (record { kind = kind; is_object = b } ∷ vs) (on (choose b (place_object (size_of_kind kind)) (done PlainValue) s) (λ home s1. on (place_variables vs s1) (λ homes. done (home ∷ homes))))
 places_one bound least kind true vs rest s sound low fits =
     let top = rounded_up 16 s.stacked in
-    let s1 : State = record s { stacked = top + kind_size kind; work = s.work + (1 + kind_size kind); objects = with_new Automatic top (kind_size kind) s.objects } in
+    let s1 : State = record s { stacked = top + size_of_kind kind; work = s.work + (1 + size_of_kind kind); objects = with_new Automatic top (size_of_kind kind) s.objects } in
     behind_object kind vs s s1 refl refl refl (place_variables vs s1)
-    (rest s1 (sound_new Automatic top (kind_size kind) s.objects sound (rounded_whole s.stacked)) (low_new Automatic top (kind_size kind) s.objects (omega (arith, end_grows vs (top + kind_size kind), fits, least)) low) fits)
+    (rest s1 (sound_new Automatic top (size_of_kind kind) s.objects sound (rounded_whole s.stacked)) (low_new Automatic top (size_of_kind kind) s.objects (omega (arith, end_grows vs (top + size_of_kind kind), fits, least)) low) fits)
 places_one bound least kind false vs rest s sound low fits = behind_plain kind vs s (place_variables vs s) (rest s sound low fits)
 
 pub places : (bound : ℕ) → bound ≤ 1610612736 → (vs : List Variable) → PlacesRest bound vs

@@ -16,7 +16,11 @@ pub mod SureCalls
 pub mod SureBytes
 pub mod SureLibrary
 pub mod SureMeaning
+pub mod ValidNames
+pub mod ValidProgramNames
 mod Samples
+mod LibrarySamples
+mod RowBounds
 mod RowFirst
 mod RowGlobal
 mod RowEndless

@@ -18,7 +18,8 @@ use Rattle.c_tree.specs.declared.statement.Initialization.{Initialization}
 use Rattle.c_tree.specs.declared.statement.Initialization.TheVariants.{Plain as PlainInitialization, Object}
 use Rattle.source_meaning.specs.declared.completion.Completion.{Completion}
 use Rattle.source_meaning.specs.State.{State, Run, ◌>>=◌, done, choose, read_state, Setting, Env}
-use Rattle.source_meaning.specs.Actions.{integer, is_zero, kind_size, scalar_of, integer_type, converted, offset_value, difference_value, updated, plain_value, home_pointer, each_value, begin_turn}
+use Rattle.c_tree.specs.Kinds.{size_of_kind}
+use Rattle.source_meaning.specs.Actions.{integer, is_zero, scalar_of, integer_type, converted, offset_value, difference_value, updated, plain_value, home_pointer, each_value, begin_turn}
 use Rattle.source_meaning.specs.Expressions.{counted_as, counted, nodes_of, function_pointer, is_judged, value, place, values, evaluate}
 use Rattle.source_meaning.specs.Initializers.{store_content, store_parts, initialize, initialize_all}
 use Rattle.source_meaning.specs.Statements.{turns, turns_before}
@@ -134,7 +135,7 @@ module _ (g : Setting) (limit limit' depth depth' : ℕ) (call call' : ℕ → L
 
   content_related : (p : Value) (offset : ℕ) (content : Content) → R _ (store_content env p offset content) (store_content env' p offset content)
   content_related p offset (ValueOf e) =
-      h.on (evaluate_related e) (λ v. h.on (h.action (acts_write_lvalue e.kind false (narrowed offset (kind_size e.kind) p) e.line v)) (λ _. h.action acts_skip))
+      h.on (evaluate_related e) (λ v. h.on (h.action (acts_write_lvalue e.kind false (narrowed offset (size_of_kind e.kind) p) e.line v)) (λ _. h.action acts_skip))
   content_related p offset (Literal bytes) = h.on (h.action (acts_tally 1)) (λ _. h.action (acts_store_bytes p offset bytes.items))
 
   pub parts_related : (p : Value) (parts : List Part) → R _ (store_parts env p parts) (store_parts env' p parts)

@@ -12,7 +12,8 @@ use Rattle.c_tree.specs.declared.expression.Kind.TheVariants.{Void, Scalar as Of
 use Rattle.source_meaning.specs.declared.home.Home.{Home}
 use Rattle.source_meaning.specs.declared.home.Home.TheVariants.{PlainValue, InObject}
 use Rattle.source_meaning.specs.State.{State, Outcome, Gives, Ended, Paused, Run, on, ◌>>=◌, ◌>>◌, done, stop, pause, choose, read_state, change, skip, tally}
-use Rattle.source_meaning.specs.Actions.{integer, kind_size}
+use Rattle.c_tree.specs.Kinds.{size_of_kind}
+use Rattle.source_meaning.specs.Actions.{integer}
 use Rattle.source_meaning.specs.Expressions.{counted_as, counted}
 use Rattle.source_meaning.specs.Naming.{Scope, static_kind, object_kind, Basis, OnName, OnPointer, OnValue, IsWritable, IsNoStructure}
 use Rattle.source_meaning.specs.Keeping.{AllLie, IsKept, LivesOn, IsDirect, IsNamed}
@@ -209,13 +210,13 @@ ReachBy OnValue size v objects = IsDirect objects v size
 
 pub record LvalueIs (b : Basis) (kind : Kind) (v : Value) (objects : Objects) : Type 0 where
   pub tag : IsSoundTag objects v.tag
-  pub reach : ReachBy b (kind_size kind) v objects
+  pub reach : ReachBy b (size_of_kind kind) v objects
 
 pub stable_tag : (v : Value) → IsStable (IsTagged v)
 stable_tag v old new l h = sound_tag_continues old new l.continues v.tag h
 
 pub stable_lvalue : (b : Basis) → IsWritable b → (kind : Kind) (v : Value) → IsStable (LvalueIs b kind v)
-stable_lvalue OnName w kind v old new l h = record { tag = stable_tag v old new l h.tag; reach = named_on old new l v (kind_size kind) h.reach }
+stable_lvalue OnName w kind v old new l h = record { tag = stable_tag v old new l h.tag; reach = named_on old new l v (size_of_kind kind) h.reach }
 stable_lvalue OnPointer w kind v old new l h = record { tag = stable_tag v old new l h.tag; reach = tt }
 stable_lvalue OnValue w kind v old new l h = absurd w
 

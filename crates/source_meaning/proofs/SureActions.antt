@@ -35,7 +35,8 @@ use Rattle.c_tree.specs.declared.expression.OffsetForm.TheVariants.{PointerPlusI
 use Rattle.source_meaning.specs.declared.home.Home.{Home}
 use Rattle.source_meaning.specs.declared.home.Home.TheVariants.{PlainValue, InObject}
 use Rattle.source_meaning.specs.State.{State, Outcome, Gives, Ended, Paused, Run, on, ◌>>=◌, ◌>>◌, done, stop, pause, choose, read_state, change, skip, tally, Header, Setting}
-use Rattle.source_meaning.specs.Actions.{integer, kind_size, scalar_of, converted_to, converted, moved_back, offset_value, value_or_divide, operate, updated, given, plain_value, set_plain, update_plain, verdict_on, place_or_stop, located, note, read_scalar, write_scalar, move_bytes, load, store, update, load_structure, copy_structure, read_lvalue, write_lvalue, put_bytes, take_key}
+use Rattle.c_tree.specs.Kinds.{size_of_kind}
+use Rattle.source_meaning.specs.Actions.{integer, scalar_of, converted_to, converted, moved_back, offset_value, value_or_divide, operate, updated, given, plain_value, set_plain, update_plain, verdict_on, place_or_stop, located, note, read_scalar, write_scalar, move_bytes, load, store, update, load_structure, copy_structure, read_lvalue, write_lvalue, put_bytes, take_key}
 use Rattle.source_meaning.specs.Expressions.{callee_by, callee}
 use Rattle.source_meaning.specs.Initializers.{zero_object, zero_home, zero_variable, store_bytes}
 use Rattle.source_meaning.specs.Naming.{Scope, Basis, OnName, OnPointer, OnValue, IsWritable, IsNoStructure, IsScalar}

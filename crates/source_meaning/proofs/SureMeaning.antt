@@ -19,7 +19,8 @@ use Rattle.c_tree.specs.declared.program.StaticObject.{StaticObject}
 use Rattle.c_tree.specs.declared.program.Program.{Program}
 use Rattle.source_meaning.specs.State.{State, Outcome, Gives, Ended, Paused, Run, Setting, Env}
 use Rattle.source_meaning.specs.Places.{statics_first}
-use Rattle.source_meaning.specs.Actions.{integer, kind_size}
+use Rattle.c_tree.specs.Kinds.{size_of_kind}
+use Rattle.source_meaning.specs.Actions.{integer}
 use Rattle.source_meaning.specs.Calls.{enter_found, function_at, calls}
 use Rattle.source_meaning.specs.Meaning.{placed_statics, statics_end, setting_of, fresh, static_env, store_statics, objects_after, initial_objects, start, line_of, outcome}
 use Rattle.source_meaning.specs.Acting.{state_of}
@@ -82,28 +83,28 @@ fresh_none first bound = record { aligned = refl; bytes = refl; tags = refl; end
 
 end_after : (os : List StaticObject) (offset : ℕ) → offset ≤ statics_end os offset
 end_after [] offset = omega arith
-end_after (o ∷ os) offset = let rest = end_after os (rounded_up 16 offset + kind_size o.kind) in omega (arith, rest)
+end_after (o ∷ os) offset = let rest = end_after os (rounded_up 16 offset + size_of_kind o.kind) in omega (arith, rest)
 
 placed_fresh : (first bound : ℕ) → first % 16 ≡ 0 → (os : List StaticObject) (offset : ℕ) → first + statics_end os offset ≤ bound → (n : ℕ) → IsFresh first bound (object_at (placed_statics first os offset) n)
 placed_fresh first bound whole [] offset fits n = fresh_none first bound
 placed_fresh first bound whole (o ∷ os) offset fits zero =
-    fresh_new first bound (first + rounded_up 16 offset) (kind_size o.kind) (omega (arith, whole)) (let rest = end_after os (rounded_up 16 offset + kind_size o.kind) in omega (arith, rest, fits))
-placed_fresh first bound whole (o ∷ os) offset fits (suc n) = placed_fresh first bound whole os (rounded_up 16 offset + kind_size o.kind) fits n
+    fresh_new first bound (first + rounded_up 16 offset) (size_of_kind o.kind) (omega (arith, whole)) (let rest = end_after os (rounded_up 16 offset + size_of_kind o.kind) in omega (arith, rest, fits))
+placed_fresh first bound whole (o ∷ os) offset fits (suc n) = placed_fresh first bound whole os (rounded_up 16 offset + size_of_kind o.kind) fits n
 
 some_kind : (a b : Kind) → Some a ≡ Some b → a ≡ b
 some_kind a b e = cc
 
-held_first : (address : ℕ) (kind other : Kind) (rest : Objects) → Some kind ≡ Some other → IsHeld (new_object Static address (kind_size kind) ∷ rest) 0 other
+held_first : (address : ℕ) (kind other : Kind) (rest : Objects) → Some kind ≡ Some other → IsHeld (new_object Static address (size_of_kind kind) ∷ rest) 0 other
 unfolding new_object
 held_first address kind other rest e =
     let same : kind ≡ other = some_kind kind other e in
-    record { made = omega arith; live = refl; held = refl; size = ap kind_size same }
+    record { made = omega arith; live = refl; held = refl; size = ap size_of_kind same }
 
 placed_held : (first : ℕ) (os : List StaticObject) (offset n : ℕ) (kind : Kind) → static_kind os n ≡ Some kind → IsHeld (placed_statics first os offset) n kind
 placed_held first [] offset n kind e = absurd (cc)
 placed_held first (o ∷ os) offset zero kind e = held_first (first + rounded_up 16 offset) o.kind kind _ e
 placed_held first (o ∷ os) offset (suc n) kind e =
-    let h = placed_held first os (rounded_up 16 offset + kind_size o.kind) n kind e in
+    let h = placed_held first os (rounded_up 16 offset + size_of_kind o.kind) n kind e in
     record { made = omega (arith, h.made); live = h.live; held = h.held; size = h.size }
 
 -- their initializers
@@ -128,9 +129,9 @@ module _ (g : Setting) (mapped : AreMapped g.sizes) (statics : List StaticObject
   store_sure : (n : ℕ) (os : List StaticObject) → AreFrom n os → StaticsName (static_scope statics) os → Sure (static_scope statics) Any (store_statics (static_env g) n os) (λ _. Any)
   store_sure n [] from names = sure_skip
   store_sure n (o ∷ os) from names =
-      sure_on (sure_read {Q = λ p objects. IsSoundTag objects p.tag × IsNamed objects p (kind_size o.kind)} {f = λ s. pointer_to n s.objects} (λ s good p.
+      sure_on (sure_read {Q = λ p objects. IsSoundTag objects p.tag × IsNamed objects p (size_of_kind o.kind)} {f = λ s. pointer_to n s.objects} (λ s good p.
       let h = good.statics n o.kind (first_kind n o os from) in (sound_pointer n s.objects h.made, held_named s.objects n o.kind h))) (λ p.
-      sure_on (parts_sure (pause_calls g mapped (static_scope statics)) p (kind_size o.kind) o.parts.items names.0) (λ _.
+      sure_on (parts_sure (pause_calls g mapped (static_scope statics)) p (size_of_kind o.kind) o.parts.items names.0) (λ _.
       store_sure (n + 1) os (rest_kinds n o os from) names.1))
 
 abbrev GoodStart : List StaticObject → Setting → (input : List ℕ) → Objects → Type 0

@@ -30,7 +30,8 @@ use Rattle.c_tree.specs.declared.statement.Initialization.TheVariants.{Plain as 
 use Rattle.source_meaning.specs.declared.home.Home.{Home}
 use Rattle.source_meaning.specs.declared.home.Home.TheVariants.{PlainValue, InObject}
 use Rattle.source_meaning.specs.State.{State, Run, ◌>>=◌, ◌>>◌, done, stop, choose, read_state, skip, tally, Setting, Env}
-use Rattle.source_meaning.specs.Actions.{integer, is_zero, kind_size, scalar_of, integer_type, converted, offset_value, difference_value, updated, plain_value, home_value, home_pointer, each_value, read_lvalue, write_lvalue, update}
+use Rattle.c_tree.specs.Kinds.{size_of_kind}
+use Rattle.source_meaning.specs.Actions.{integer, is_zero, scalar_of, integer_type, converted, offset_value, difference_value, updated, plain_value, home_value, home_pointer, each_value, read_lvalue, write_lvalue, update}
 use Rattle.source_meaning.specs.Expressions.{counted, nodes_of, function_pointer, is_judged, value, place, values, evaluate}
 use Rattle.source_meaning.specs.Initializers.{store_bytes, store_content, store_parts, initialize, initialize_all}
 use Rattle.source_meaning.specs.Library.{routine}
@@ -66,7 +67,7 @@ write_sure : {sc : Scope} (p : LvalueNode) (kind : Kind) (q : Value) (line : ℕ
 write_sure {sc = sc} p kind q line v =
     subst (λ j. Sure sc (λ o. LvalueIs (basis_of p) kind q o × ValueIs kind v o) (write_lvalue kind j q line v) (ValueIs kind)) (sym (judged_is p)) (sure_write_lvalue (basis_of p) kind q line v)
 
-scalar_reach : (kind : Kind) → IsScalar kind → kind_size kind ≡ scalar_size (scalar_of kind)
+scalar_reach : (kind : Kind) → IsScalar kind → size_of_kind kind ≡ scalar_size (scalar_of kind)
 scalar_reach Void h = absurd h
 scalar_reach (OfScalar k) h = refl
 scalar_reach (Structure n) h = absurd h
@@ -170,14 +171,14 @@ module _ {sc : Scope} {env : Env} (c : Calling sc env) where
     place_sure (Member' _ pk pl p offset size) kind h =
         sure_counted (sure_on (place_sure p pk h.0) (λ q. sure_value {a = narrowed offset size q} (λ s good x. record {
           tag = sound_narrowed s.objects offset size q x.tag;
-          reach = reach_narrowed (basis_of p) (kind_size pk) offset size (kind_size kind) q h.1 h.2 s good x.reach;
+          reach = reach_narrowed (basis_of p) (size_of_kind pk) offset size (size_of_kind kind) q h.1 h.2 s good x.reach;
         })))
     place_sure (Arrow' _ ak al a offset size) kind h =
         sure_counted (sure_on (value_sure a ak al h) (λ v. sure_done {a = narrowed offset size v} (λ o x. record { tag = sound_narrowed o offset size v x.tag; reach = tt })))
     place_sure (MemberOfValue' _ ak al a offset size) kind h =
         sure_counted (sure_on (value_sure a ak al h.0) (λ v. sure_value {a = narrowed offset size v} (λ s good x. record {
           tag = sound_narrowed s.objects offset size v x.tag;
-          reach = structure_reach ak (offset + size) v h.1 (λ n le direct. reach_narrowed OnValue n offset size (kind_size kind) v le h.2 s good (direct s.objects x.structure));
+          reach = structure_reach ak (offset + size) v h.1 (λ n le direct. reach_narrowed OnValue n offset size (size_of_kind kind) v le h.2 s good (direct s.objects x.structure));
         })))
     place_sure (ParenthesizedLvalue' _ pk pl p) kind h =
         subst (λ k. Sure sc Any (counted (place env p)) (LvalueIs (basis_of p) k)) (sym h.1) (sure_counted (place_sure p pk h.0))
@@ -213,14 +214,9 @@ module _ {sc : Scope} {env : Env} (c : Calling sc env) where
   content_sure : (p : Value) (whole offset : ℕ) (content : Content) → ContentNames sc whole offset content → Sure sc (IsBase p whole) (store_content env p offset content) (λ _. IsBase p whole)
   content_sure p whole offset (ValueOf e) h =
       sure_on (sure_beside (stable_base p whole) (evaluate_sure e h.0)) (λ v.
-      sure_on (sure_post (λ _ o x. x.0) (sure_if_good (λ s good x. (
-        x.0,
-        (
-          record { tag = (base_part p whole offset (kind_size e.kind) h.1 s good x.0).0; reach = (base_part p whole offset (kind_size e.kind) h.1 s good x.0).1 },
-          x.1,
-        ),
-      ))
-      (sure_frame (stable_base p whole) (sure_write_lvalue OnName e.kind (narrowed offset (kind_size e.kind) p) e.line v)))) (λ _. sure_skip))
+      sure_on (sure_post (λ _ o x. x.0) (sure_if_good (λ s good x. (x.0, (
+        record { tag = (base_part p whole offset (size_of_kind e.kind) h.1 s good x.0).0; reach = (base_part p whole offset (size_of_kind e.kind) h.1 s good x.0).1 }, x.1)))
+      (sure_frame (stable_base p whole) (sure_write_lvalue OnName e.kind (narrowed offset (size_of_kind e.kind) p) e.line v)))) (λ _. sure_skip))
   content_sure p whole offset (Literal bytes) h = sure_on (sure_tally 1) (λ _. bytes_sure p whole offset bytes.items h)
 
   pub parts_sure : (p : Value) (whole : ℕ) (parts : List Part) → PartsName sc whole parts → Sure sc (IsBase p whole) (store_parts env p parts) (λ _. Any)
@@ -232,7 +228,7 @@ module _ {sc : Scope} {env : Env} (c : Calling sc env) where
       sure_on (evaluate_sure e h) (λ v. sure_post (λ _ o y. tt) (sure_weak (λ o y. y.tag) (sure_set_plain x v)))
   initialize_sure (Object x parts) h =
       sure_on (sure_zero_variable x) (λ _.
-      sure_on (sure_read {Q = λ v. IsBase v (kind_size h.0)} {f = home_pointer x} (λ s good y. let l = home_sure x h.0 h.1 s good in (l.tag, l.reach))) (λ p. parts_sure p (kind_size h.0) parts.items h.2))
+      sure_on (sure_read {Q = λ v. IsBase v (size_of_kind h.0)} {f = home_pointer x} (λ s good y. let l = home_sure x h.0 h.1 s good in (l.tag, l.reach))) (λ p. parts_sure p (size_of_kind h.0) parts.items h.2))
 
   pub initialize_all_sure : (is : List Initialization) → InitializationsName sc is → Sure sc Any (initialize_all env is) (λ _. Any)
   initialize_all_sure [] h = sure_skip

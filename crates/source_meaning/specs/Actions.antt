@@ -44,13 +44,6 @@ is_zero v = v.word == 0
 abbrev pub int_of : (word : ℕ) → ℤ
 int_of w = int_wrap w32 (pos w)
 
--- the number of bytes of what has a kind
-abbrev pub kind_size : Kind → ℕ
-kind_size Void = 0
-kind_size (OfScalar k) = scalar_size k
-kind_size (Structure n) = n
-kind_size (Array n) = n
-
 -- the scalar of a kind
 abbrev pub scalar_of : Kind → Scalar
 scalar_of Void = Pointer

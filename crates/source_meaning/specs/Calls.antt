@@ -15,7 +15,8 @@ use Rattle.source_meaning.specs.declared.completion.Completion.{Completion}
 use Rattle.source_meaning.specs.declared.completion.Completion.TheVariants.{Normal, Broken, Continued, Returned}
 use Rattle.source_meaning.specs.State.{State, Run, ◌>>=◌, ◌>>◌, done, stop, pause, choose, read_state, change, skip, tally, Header, Setting, Env}
 use Rattle.source_meaning.specs.Places.{stack_end}
-use Rattle.source_meaning.specs.Actions.{integer, kind_size, begin_turn, take_key, make_object, home_value, write_lvalue}
+use Rattle.c_tree.specs.Kinds.{size_of_kind}
+use Rattle.source_meaning.specs.Actions.{integer, begin_turn, take_key, make_object, home_value, write_lvalue}
 use Rattle.source_meaning.specs.Expressions.{counted}
 use Rattle.source_meaning.specs.Statements.{in_order, execute}
 
@@ -47,7 +48,7 @@ test_charge g f line = do
 -- where the objects of some variables end that are placed from an address on, each at a multiple of 16
 abbrev pub objects_end : List Variable → (top : ℕ) → ℕ
 objects_end [] top = top
-objects_end (v ∷ vs) top = objects_end vs (if v.is_object then rounded_up 16 top + kind_size v.kind else top)
+objects_end (v ∷ vs) top = objects_end vs (if v.is_object then rounded_up 16 top + size_of_kind v.kind else top)
 
 -- the objects of the call are within the object stack
 abbrev pub test_stack : Setting → Header → (line : ℕ) → Run (Unit {0})
@@ -111,7 +112,7 @@ place_object size = do
   done (InObject o)
 
 abbrev pub place_variable : Variable → Run Home
-place_variable v = choose v.is_object (place_object (kind_size v.kind)) (done PlainValue)
+place_variable v = choose v.is_object (place_object (size_of_kind v.kind)) (done PlainValue)
 
 -- the homes of some variables
 abbrev pub place_variables : List Variable → Run (List Home)

@@ -13,7 +13,8 @@ use Rattle.c_tree.specs.declared.statement.Initialization.TheVariants.{Plain, Ob
 use Rattle.source_meaning.specs.declared.home.Home.{Home}
 use Rattle.source_meaning.specs.declared.home.Home.TheVariants.{PlainValue, InObject}
 use Rattle.source_meaning.specs.State.{Run, ◌>>=◌, ◌>>◌, read_state, change, skip, tally, Env}
-use Rattle.source_meaning.specs.Actions.{integer, kind_size, store, write_lvalue, set_plain, home_pointer}
+use Rattle.c_tree.specs.Kinds.{size_of_kind}
+use Rattle.source_meaning.specs.Actions.{integer, store, write_lvalue, set_plain, home_pointer}
 use Rattle.source_meaning.specs.Expressions.{evaluate}
 
 -- all bytes of an object become zero, and its words lose their tags
@@ -43,7 +44,7 @@ store_bytes p offset (b ∷ bs) = do
 abbrev pub store_content : Env → (object : Value) → (offset : ℕ) → Content → Run (Unit {0})
 store_content env p offset (ValueOf e) = do
   v ← evaluate env e
-  write_lvalue e.kind false (narrowed offset (kind_size e.kind) p) e.line v
+  write_lvalue e.kind false (narrowed offset (size_of_kind e.kind) p) e.line v
   skip
 store_content env p offset (Literal bytes) = do
   tally 1

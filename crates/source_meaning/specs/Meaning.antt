@@ -15,7 +15,8 @@ use Rattle.c_tree.specs.declared.program.StaticObject.{StaticObject}
 use Rattle.c_tree.specs.declared.program.Program.{Program}
 use Rattle.source_meaning.specs.State.{State, Outcome, Gives, Ended, Paused, Run, ◌>>=◌, ◌>>◌, pause, read_state, skip, Setting, Env}
 use Rattle.source_meaning.specs.Places.{statics_first, stack_first}
-use Rattle.source_meaning.specs.Actions.{kind_size, int_of}
+use Rattle.c_tree.specs.Kinds.{size_of_kind}
+use Rattle.source_meaning.specs.Actions.{int_of}
 use Rattle.source_meaning.specs.Initializers.{store_parts}
 use Rattle.source_meaning.specs.Calls.{header_of, function_at, calls}
 
@@ -25,12 +26,12 @@ use Rattle.source_meaning.specs.Calls.{header_of, function_at, calls}
 abbrev pub placed_statics : (first : ℕ) → List StaticObject → (offset : ℕ) → Objects
 placed_statics first [] offset = []
 placed_statics first (o ∷ os) offset =
-    new_object Static (first + rounded_up 16 offset) (kind_size o.kind) ∷ placed_statics first os (rounded_up 16 offset + kind_size o.kind)
+    new_object Static (first + rounded_up 16 offset) (size_of_kind o.kind) ∷ placed_statics first os (rounded_up 16 offset + size_of_kind o.kind)
 
 -- where they end
 abbrev pub statics_end : List StaticObject → (offset : ℕ) → ℕ
 statics_end [] offset = offset
-statics_end (o ∷ os) offset = statics_end os (rounded_up 16 offset + kind_size o.kind)
+statics_end (o ∷ os) offset = statics_end os (rounded_up 16 offset + size_of_kind o.kind)
 
 abbrev pub setting_of : Program → BudgetSizes → Setting
 setting_of p budgets = record {

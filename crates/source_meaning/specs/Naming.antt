@@ -17,9 +17,10 @@ use Rattle.c_tree.specs.declared.statement.First.TheVariants.{Nothing, Expressio
 use Rattle.c_tree.specs.declared.statement.Statement.{Statement, Expression as ExpressionStatement, Empty, Declaration, Block', If', While', DoWhile', For', Switch', Break, Continue, Return, Row_of-Statement, end_of-Statement, more_of-Statement, Held-Statement-If-2, None', Some', Row_of-SwitchItem, end_of-SwitchItem, more_of-SwitchItem}
 use Rattle.c_tree.specs.declared.program.Variable.{Variable}
 use Rattle.c_tree.specs.declared.program.Function.{Function}
+use Rattle.c_tree.specs.declared.program.FunctionType.{FunctionType}
 use Rattle.c_tree.specs.declared.program.StaticObject.{StaticObject}
 use Rattle.c_tree.specs.declared.program.Program.{Program}
-use Rattle.source_meaning.specs.Actions.{kind_size}
+use Rattle.c_tree.specs.Kinds.{size_of_kind}
 use Rattle.source_meaning.specs.Calls.{header_of, variables_of}
 
 -- what names can be of: the static objects, and the variables of a function
@@ -117,9 +118,9 @@ abbrev mutual
   LvalueNames sc (Static n) kind = static_kind sc.statics n ≡ Some kind
   LvalueNames sc (Deref' _ ak al a) kind = ValueNames sc a ak
   LvalueNames sc (Index' form size _ ak al a _ bk bl b) kind = ValueNames sc a ak × ValueNames sc b bk
-  LvalueNames sc (Member' _ pk pl p offset size) kind = LvalueNames sc p pk × (offset + size ≤ kind_size pk) × (kind_size kind ≤ size)
+  LvalueNames sc (Member' _ pk pl p offset size) kind = LvalueNames sc p pk × (offset + size ≤ size_of_kind pk) × (size_of_kind kind ≤ size)
   LvalueNames sc (Arrow' _ ak al a offset size) kind = ValueNames sc a ak
-  LvalueNames sc (MemberOfValue' _ ak al a offset size) kind = ValueNames sc a ak × IsStructureWith ak (offset + size) × (kind_size kind ≤ size)
+  LvalueNames sc (MemberOfValue' _ ak al a offset size) kind = ValueNames sc a ak × IsStructureWith ak (offset + size) × (size_of_kind kind ≤ size)
   LvalueNames sc (ParenthesizedLvalue' _ pk pl p) kind = LvalueNames sc p pk × (kind ≡ pk)
 
   pub RowNames : {n : _} → Scope → Row_of-Expression n → Type 0
@@ -137,7 +138,7 @@ NamesIfAny sc (Some e) = Names sc e
 
 -- a part lies in an object of some bytes
 abbrev pub ContentNames : Scope → (bytes offset : ℕ) → Content → Type 0
-ContentNames sc bytes offset (ValueOf e) = Names sc e × (offset + kind_size e.kind ≤ bytes)
+ContentNames sc bytes offset (ValueOf e) = Names sc e × (offset + size_of_kind e.kind ≤ bytes)
 ContentNames sc bytes offset (Literal text) = offset + length text.items ≤ bytes
 
 abbrev pub PartsName : Scope → (bytes : ℕ) → List Part → Type 0
@@ -146,7 +147,7 @@ PartsName sc bytes (q ∷ qs) = ContentNames sc bytes q.offset q.content × Part
 
 abbrev pub InitializationNames : Scope → Initialization → Type 0
 InitializationNames sc (PlainInitialization x e) = Names sc e
-InitializationNames sc (Object x parts) = (kind : Kind) × (object_kind sc.variables x ≡ Some kind) × PartsName sc (kind_size kind) parts.items
+InitializationNames sc (Object x parts) = (kind : Kind) × (object_kind sc.variables x ≡ Some kind) × PartsName sc (size_of_kind kind) parts.items
 
 abbrev pub InitializationsName : Scope → List Initialization → Type 0
 InitializationsName sc [] = Unit {0}
@@ -210,7 +211,16 @@ FunctionsName statics (f ∷ fs) = FunctionNames statics f × FunctionsName stat
 
 abbrev pub StaticsName : Scope → List StaticObject → Type 0
 StaticsName sc [] = Unit {0}
-StaticsName sc (o ∷ os) = PartsName sc (kind_size o.kind) o.parts.items × StaticsName sc os
+StaticsName sc (o ∷ os) = PartsName sc (size_of_kind o.kind) o.parts.items × StaticsName sc os
+
+-- no function takes or gives a structure or union
+abbrev pub AreNoStructures : List Kind → Type 0
+AreNoStructures [] = Unit {0}
+AreNoStructures (k ∷ ks) = IsNoStructure k × AreNoStructures ks
+
+abbrev pub PassNoStructures : List FunctionType → Type 0
+PassNoStructures [] = Unit {0}
+PassNoStructures (t ∷ ts) = IsNoStructure t.result × AreNoStructures t.parameters.items × PassNoStructures ts
 
 -- a program names what is there
 pub record NamesObjects (p : Program) : Type 0 where

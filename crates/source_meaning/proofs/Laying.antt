@@ -70,11 +70,11 @@ low_new storage address size objects fits h = λ n. by n (cases_lt n (length obj
 
 -- what is known of a new object
 
-fresh_live : (storage : Storage) (address size : ℕ) → (new_object storage address size).is_live ≡ true
+pub fresh_live : (storage : Storage) (address size : ℕ) → (new_object storage address size).is_live ≡ true
 unfolding new_object
 fresh_live storage address size = refl
 
-fresh_size : (storage : Storage) (address size : ℕ) → (new_object storage address size).size ≡ size
+pub fresh_size : (storage : Storage) (address size : ℕ) → (new_object storage address size).size ≡ size
 unfolding new_object
 fresh_size storage address size = refl
 
@@ -224,13 +224,16 @@ behind_object kind vs s s1 e a w (Gives homes s2) h =
     let made = length-new Automatic (rounded_up 16 s.stacked) (size_of_kind kind) s.objects in
     let lives = subst (LivesOn s.objects) (sym e) (lives_new Automatic (rounded_up 16 s.stacked) (size_of_kind kind) s.objects) in
     let held = subst (λ o. IsHeld o (length s.objects) kind) (sym e) (held_new Automatic (rounded_up 16 s.stacked) kind s.objects refl) in
-    let longer : length s1.objects ≡ length s.objects + 1 = ap length e ∙ made in
-    (record {
-      sound = h.0.sound;
-      low = h.0.low;
-      lives = lives_then s.objects s1.objects s2.objects lives h.0.lives;
-      placed = ((omega arith, held_on s1.objects s2.objects h.0.lives (length s.objects) kind held), placed_less (length s1.objects) (length s.objects) (omega (arith, longer)) vs homes s2.objects h.0.placed);
-    }, h.1 ∙ a, h.2 ∙ w)
+    let longer : length s1.objects ≡ length s.objects + 1 = ap length e ∙ made in (
+      record {
+        sound = h.0.sound;
+        low = h.0.low;
+        lives = lives_then s.objects s1.objects s2.objects lives h.0.lives;
+        placed = ((omega arith, held_on s1.objects s2.objects h.0.lives (length s.objects) kind held), placed_less (length s1.objects) (length s.objects) (omega (arith, longer)) vs homes s2.objects h.0.placed);
+      },
+      h.1 ∙ a,
+      h.2 ∙ w,
+    )
 behind_object kind vs s s1 e a w (Ended x s2) h = h
 behind_object kind vs s s1 e a w (Paused s2) h = h
 

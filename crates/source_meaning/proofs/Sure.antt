@@ -175,13 +175,17 @@ low_kept old new k h = λ n. let a = (k.at n).address in let z = (k.at n).size i
 -- a change of the objects that leaves them where they are
 pub sure_objects : {sc : Scope} {P Q : Objects → Type 0} (f : Objects → Objects) → ((o : Objects) → KeepsObjects o (f o)) → ((o : Objects) → Continues o (f o)) → ((o : Objects) → P o → IsSound o → IsSound (f o)) → ((o : Objects) → P o → Q (f o))
     → Sure sc P (change (λ s. record s { objects = f s.objects })) (λ _. Q)
-sure_objects {sc = sc} f k c sound q = record { by = λ s good p.
-  let lives = lives_kept s.objects (f s.objects) (c s.objects) (k s.objects) in
-  (record {
-    good = good_on sc s (f s.objects) good lives (sound s.objects p good.kept.sound) (low_kept s.objects (f s.objects) (k s.objects) good.low);
-    lives = lives;
-    frame = refl;
-  }, q s.objects p) }
+sure_objects {sc = sc} f k c sound q = record {
+  by = λ s good p.
+      let lives = lives_kept s.objects (f s.objects) (c s.objects) (k s.objects) in (
+        record {
+          good = good_on sc s (f s.objects) good lives (sound s.objects p good.kept.sound) (low_kept s.objects (f s.objects) (k s.objects) good.low);
+          lives = lives;
+          frame = refl;
+        },
+        q s.objects p,
+      );
+}
 
 -- values
 

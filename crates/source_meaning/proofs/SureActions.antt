@@ -123,17 +123,22 @@ sure_located {P = P} OnName size q line = record { by = λ s good h. located_by 
 sure_located {P = P} OnValue size q line = record { by = λ s good h. located_by P s good h.0 size q line (named q s.objects) (λ p e. direct_by s.objects q size h.1.1 p e) }
 
 pub sure_note : {sc : Scope} {P : Objects → Type 0} (kind : AccessKind) (address size : ℕ) → ((o : Objects) → P o → LiesInObject o (record { address = address; size = size; kind = kind })) → Sure sc P (note kind address size) (λ _. P)
-sure_note kind address size w = record { by = λ s good p. (record {
-  good = record {
-    kept = record { sound = good.kept.sound; lie = all_lie_more s.objects s.accesses _ good.kept.lie (w s.objects p) };
-    low = good.low;
-    statics = good.statics;
-    homes = good.homes;
-    plain = good.plain;
-  };
-  lives = lives_same s.objects;
-  frame = refl;
-}, p) }
+sure_note kind address size w = record {
+  by = λ s good p. (
+    record {
+      good = record {
+        kept = record { sound = good.kept.sound; lie = all_lie_more s.objects s.accesses _ good.kept.lie (w s.objects p) };
+        low = good.low;
+        statics = good.statics;
+        homes = good.homes;
+        plain = good.plain;
+      };
+      lives = lives_same s.objects;
+      frame = refl;
+    },
+    p,
+  );
+}
 
 pub sure_read_scalar : {sc : Scope} (k : Scalar) (q : Value) (p : Place) → Sure sc (λ o. IsAllowed o q (scalar_size k) p) (read_scalar k q.word p) (λ v o. IsAllowed o q (scalar_size k) p × IsTagged v o)
 sure_read_scalar k q p =
@@ -210,17 +215,22 @@ tagged_set o v t (w ∷ ws) (suc x) h zero = h zero
 tagged_set o v t (w ∷ ws) (suc x) h (suc y) = tagged_set o v t ws x (λ z. h (suc z)) y
 
 pub sure_set_plain : {sc : Scope} (x : ℕ) (v : Value) → Sure sc (IsTagged v) (set_plain x v) (λ _ o. IsTagged v o)
-sure_set_plain x v = record { by = λ s good h. (record {
-  good = record {
-    kept = good.kept;
-    low = good.low;
-    statics = good.statics;
-    homes = good.homes;
-    plain = tagged_set s.objects v h s.plain x good.plain;
-  };
-  lives = lives_same s.objects;
-  frame = refl;
-}, h) }
+sure_set_plain x v = record {
+  by = λ s good h. (
+    record {
+      good = record {
+        kept = good.kept;
+        low = good.low;
+        statics = good.statics;
+        homes = good.homes;
+        plain = tagged_set s.objects v h s.plain x good.plain;
+      };
+      lives = lives_same s.objects;
+      frame = refl;
+    },
+    h,
+  );
+}
 
 pub sure_update_plain : {sc : Scope} {P : Objects → Type 0} (x : ℕ) (u : Update) (k : Scalar) (right : Value) (at : ℕ) (f : Fixity) → Sure sc P (update_plain x (updated u k right at) f) IsTagged
 sure_update_plain x u k right at f =
@@ -232,18 +242,28 @@ sure_update_plain x u k right at f =
 -- output and keys
 
 pub sure_put_bytes : {sc : Scope} {P : Objects → Type 0} (bytes : List ℕ) → Sure sc P (put_bytes bytes) (λ _. P)
-sure_put_bytes bytes = record { by = λ s good p. (record {
-  good = record { kept = good.kept; low = good.low; statics = good.statics; homes = good.homes; plain = good.plain };
-  lives = lives_same s.objects;
-  frame = refl;
-}, p) }
+sure_put_bytes bytes = record {
+  by = λ s good p. (
+    record {
+      good = record { kept = good.kept; low = good.low; statics = good.statics; homes = good.homes; plain = good.plain };
+      lives = lives_same s.objects;
+      frame = refl;
+    },
+    p,
+  );
+}
 
 key_by : {sc : Scope} {P : Objects → Type 0} (line : ℕ) (b : Bool) → Sure sc P (choose b (change (λ s. record s { keys = s.keys + 1 })) (stop (Keys line))) (λ _. P)
-key_by line true = record { by = λ s good p. (record {
-  good = record { kept = good.kept; low = good.low; statics = good.statics; homes = good.homes; plain = good.plain };
-  lives = lives_same s.objects;
-  frame = refl;
-}, p) }
+key_by line true = record {
+  by = λ s good p. (
+    record {
+      good = record { kept = good.kept; low = good.low; statics = good.statics; homes = good.homes; plain = good.plain };
+      lives = lives_same s.objects;
+      frame = refl;
+    },
+    p,
+  );
+}
 key_by line false = sure_stop
 
 pub sure_take_key : {sc : Scope} {P : Objects → Type 0} (g : Setting) (line : ℕ) → Sure sc P (take_key g line) (λ _. P)

@@ -216,9 +216,10 @@ module _ (statics : List StaticObject) (f : Function) (names : FunctionNames sta
 
     returns_by : (s : State) → IsGood outer s → (s1 : State) → IsSetUp inner s.objects s1 → (o : Outcome Completion) → After inner s1 CompletionIs o
         → After outer s IsTagged (on o (λ completion. change (back_to (caller s)) >> done (returned_by completion)))
-    returns_by s good s1 up (Gives completion s2) h =
-        (back_good s good s2 h.0.good.kept h.0.good.low (lives_then s.objects s1.objects s2.objects up.lives h.0.lives) (subst (λ x. AllFrom (length s.objects) x) (sym h.0.frame) up.new),
-        returned_tagged completion s2.objects (without_homes s2.frame s2.objects) (continues_without s2.frame s2.objects) h.1)
+    returns_by s good s1 up (Gives completion s2) h = (
+      back_good s good s2 h.0.good.kept h.0.good.low (lives_then s.objects s1.objects s2.objects up.lives h.0.lives) (subst (λ x. AllFrom (length s.objects) x) (sym h.0.frame) up.new),
+      returned_tagged completion s2.objects (without_homes s2.frame s2.objects) (continues_without s2.frame s2.objects) h.1,
+    )
     returns_by s good s1 up (Ended e s2) h = stops_then s.objects s1.objects s2 up.lives h
     returns_by s good s1 up (Paused s2) h = stops_then s.objects s1.objects s2 up.lives h
 
@@ -232,8 +233,10 @@ module _ (statics : List StaticObject) (f : Function) (names : FunctionNames sta
 
 module _ (statics : List StaticObject) (f : Function) (names : FunctionNames statics f) (env : Env) (mapped : AreMapped env.setting.sizes) (c : Calling (scope_of statics f) env) (outer : Scope) (same : outer.statics ≡ statics) where
   pub begun_sure : (vs : List Value) (line : ℕ) → Sure outer (AreTagged vs) (enter_begun env f vs line) IsTagged
-  begun_sure vs line = record { by = λ s good tagged.
-    runs_by statics f names env.setting mapped outer same vs line env c s good (set_up env.setting (header_of f) vs line s) (set_up_by statics f names env.setting mapped outer same vs line s good tagged) }
+  begun_sure vs line = record {
+    by = λ s good tagged.
+        runs_by statics f names env.setting mapped outer same vs line env c s good (set_up env.setting (header_of f) vs line s) (set_up_by statics f names env.setting mapped outer same vs line s good tagged);
+  }
 
   pub enter_sure : (vs : List Value) (line : ℕ) → Sure outer (AreTagged vs) (enter env f vs line) IsTagged
   enter_sure vs line = sure_on (sure_begin_turn env.limit) (λ _. begun_sure vs line)

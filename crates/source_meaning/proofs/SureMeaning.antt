@@ -30,7 +30,8 @@ use Rattle.source_meaning.proofs.Holding.{IsHeld, held_on, held_named}
 use Rattle.source_meaning.proofs.Sure.{IsGood, IsGoodBy, AreLow, AreTagged, Leaves, After, Sure, Any, sure_on, sure_weak, sure_any, sure_post, sure_done, sure_skip, sure_stop, sure_pause, sure_read, IsTagged}
 use Rattle.source_meaning.proofs.SureTree.{Calling, parts_sure}
 use Rattle.source_meaning.proofs.SureCalls.{enter_sure}
-use Rattle.source_meaning.proofs.SureLibrary.{sure_routine, sure_print}
+use Rattle.source_meaning.proofs.SureLibrary.{sure_routine}
+use Rattle.source_meaning.proofs.SureBytes.{sure_print}
 
 -- calls
 
@@ -50,7 +51,7 @@ module _ (statics : List StaticObject) (functions : List Function) (names : Func
   found_sure n deeper sc same None h vs line = sure_stop
   found_sure n deeper sc same (Some f) h vs line =
       enter_sure statics f h (record { setting = g; limit = limit; depth = suc n; call = calls functions g limit n }) mapped
-      (record { call = deeper (scope_of statics f) refl; library = sure_routine g mapped; print = sure_print g mapped }) sc same vs line
+      (record { call = deeper (scope_of statics f) refl; library = sure_routine g mapped; print = sure_print }) sc same vs line
 
   pub calls_sure : (n : ℕ) (sc : Scope) → sc.statics ≡ statics → (f : ℕ) (vs : List Value) (line : ℕ) → Sure sc (AreTagged vs) (calls functions g limit n f vs line) IsTagged
   calls_sure zero sc same f vs line = sure_pause
@@ -112,7 +113,7 @@ abbrev static_scope : List StaticObject → Scope
 static_scope statics = record { statics = statics; variables = [] }
 
 pause_calls : (g : Setting) → AreMapped g.sizes → (sc : Scope) → Calling sc (static_env g)
-pause_calls g mapped sc = record { call = λ f vs line. sure_pause; library = sure_routine g mapped; print = sure_print g mapped }
+pause_calls g mapped sc = record { call = λ f vs line. sure_pause; library = sure_routine g mapped; print = sure_print }
 
 module _ (g : Setting) (mapped : AreMapped g.sizes) (statics : List StaticObject) where
   -- the static objects from a number on

@@ -29,7 +29,7 @@ use Rattle.source_meaning.specs.Naming.{Scope, static_kind, OnName, IsNoStructur
 use Rattle.source_meaning.specs.Keeping.{AllLie, IsKept, LivesOn}
 use Rattle.source_meaning.proofs.ActionsAct.{continues_without}
 use Rattle.source_meaning.proofs.Holding.{all_lie_on, lives_same, lives_then, IsHeld, held_on, held_named}
-use Rattle.source_meaning.proofs.Sure.{IsGood, IsGoodBy, AreTagged, AreLow, Leaves, Stops, stops_then, After, Sure, Any, IsStable, sure_on, sure_weak, sure_any, sure_post, sure_frame, sure_beside, sure_done, sure_skip, sure_stop, sure_pause, sure_read, sure_counted, IsTagged, LvalueIs, stable_tagged, value_is}
+use Rattle.source_meaning.proofs.Sure.{Context, IsGood, IsGoodBy, AreTagged, AreLow, Leaves, Stops, stops_then, After, Sure, Any, IsStable, sure_on, sure_weak, sure_any, sure_post, sure_frame, sure_beside, sure_done, sure_skip, sure_stop, sure_pause, sure_read, sure_counted, IsTagged, LvalueIs, stable_tagged, value_is}
 use Rattle.source_meaning.proofs.SureActions.{sure_write_lvalue}
 use Rattle.source_meaning.proofs.SureTree.{Calling}
 use Rattle.source_meaning.proofs.SureFlow.{CompletionIs, sure_begin_turn, body_sure}
@@ -107,7 +107,7 @@ held_lvalue k kind o h = record { tag = sound_pointer k o h.made; reach = held_n
 stable_rest : (n : ℕ) (rest ps : List Variable) (homes : List Home) (vs : List Value) → IsStable (λ o. Placed n (ps ++ rest) homes o × AreTagged vs o)
 stable_rest n rest ps homes vs old new l p = (placed_on n (ps ++ rest) homes old new l p.0, stable_tagged vs old new l p.1)
 
-module _ {sc : Scope} (n : ℕ) (rest : List Variable) where
+module _ {sc : Context} (n : ℕ) (rest : List Variable) where
   parameter_sure : (b : Bool) (kind : Kind) → IsNoStructure kind → (home : Home) (line : ℕ) (v : Value) → Sure sc (λ o. PlacedHome n b kind home o × IsTagged v o) (write_parameter kind home line v) (λ _. Any)
   parameter_sure b kind none PlainValue line v = sure_done (λ o p. tt)
   parameter_sure b kind none (InObject k) line v =
@@ -124,7 +124,7 @@ module _ {sc : Scope} (n : ℕ) (rest : List Variable) where
 
 -- what is set up
 
-pub record IsSetUp (sc : Scope) (old : Objects) (s' : State) : Type 0 where
+pub record IsSetUp (sc : Context) (old : Objects) (s' : State) : Type 0 where
   pub good : IsGood sc s'
   pub lives : LivesOn old s'.objects
   pub new : AllFrom (length old) s'.frame

@@ -21,6 +21,11 @@ pub mod ValidProgramNames
 mod Samples
 mod LibrarySamples
 mod RowBounds
+mod RowMove
+mod RowStrings
+mod RowFormats
+mod RowBlocks
+mod RowTags
 mod RowFirst
 mod RowGlobal
 mod RowEndless

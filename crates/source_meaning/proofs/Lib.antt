@@ -21,6 +21,12 @@ pub mod ValidProgramNames
 mod Samples
 mod LibrarySamples
 mod RowBounds
+mod RowDead
+mod RowFreed
+mod RowReplaced
+mod RowLibraryWork
+mod RowOrder
+mod RowOverlap
 mod RowMove
 mod RowStrings
 mod RowFormats

@@ -3,26 +3,21 @@
 -- printf("%d %d %d\n",memcmp(p,z,6),realloc(0,1)==0,calloc(9223372036854775808UL,2)==0);return 0;}`: a block that grows keeps its
 -- bytes, and one that shrinks those that it has room for; an array has zero bytes, and one of 2^64 bytes is null. The output is
 -- that of gcc (Debian 12.2.0) with `-std=c99 -fwrapv -funsigned-char`. The heap has 4096 bytes, so that its places are few.
-use Rattle.std.proofs.Common.{◌≡◌, ℕ, ◌+◌, ◌*◌, ◌-◌, ◌^◌, List, [], ◌∷◌, ◌++◌, refl, true, false, lit<, length, Option, Some, None}
+use Rattle.std.proofs.Common.{◌≡◌, [], ◌∷◌, refl, true, lit<, Some}
 use Rattle.std.specs.Prelude.{codes}
-use Rattle.behaviours.specs.Shown.{End, Status}
-use Rattle.sb_base.specs.Budgets.{BudgetSizes, default_sizes}
-use Rattle.obj_memory.specs.declared.operator.BinaryOperator.TheVariants.{Less, Greater, Equal, Subtract}
-use Rattle.obj_memory.specs.declared.operator.UnaryOperator.TheVariants.{Negate}
-use Rattle.obj_memory.specs.declared.int_type.IntType.TheVariants.{Char, Int, UnsignedLong, Long}
-use Rattle.obj_memory.specs.declared.value.Scalar.TheVariants.{Integer, Pointer}
-use Rattle.c_tree.specs.declared.expression.Kind.{Kind}
-use Rattle.c_tree.specs.declared.expression.Kind.TheVariants.{Scalar as OfScalar, Array}
+use Rattle.behaviours.specs.Shown.{Status}
+use Rattle.obj_memory.specs.declared.operator.BinaryOperator.TheVariants.{Equal}
+use Rattle.obj_memory.specs.declared.int_type.IntType.TheVariants.{UnsignedLong}
+use Rattle.obj_memory.specs.declared.value.Scalar.TheVariants.{Integer}
+use Rattle.c_tree.specs.declared.expression.Kind.TheVariants.{Scalar as OfScalar}
 use Rattle.c_tree.specs.declared.expression.Expression.{Expression}
-use Rattle.c_tree.specs.declared.expression.Lvalue.{Lvalue}
-use Rattle.c_tree.specs.declared.expression.Node.{Constant, Read, Address, Assign, Unary, Binary, Difference, Cast, Function}
-use Rattle.c_tree.specs.declared.expression.LvalueNode.{Static, Deref}
+use Rattle.c_tree.specs.declared.expression.Node.{Constant}
 use Rattle.c_tree.specs.declared.program.Program.{Program}
-use Rattle.c_tree.specs.declared.statement.Statement.{Statement, Return}
+use Rattle.c_tree.specs.declared.statement.Statement.{Return}
 use Rattle.c_tree.specs.ValidProgram.{is_valid_program}
 use Rattle.source_meaning.specs.Meaning.{meaning}
-use Rattle.source_meaning.proofs.Samples.{computing, vec_of, box, none, one, two, three, four, five, six, at, lvalue, read, convert, number, int, pointer, plain_variable}
-use Rattle.source_meaning.proofs.LibrarySamples.{zero_chars, chars, array, ahead, size, null, call, memcpy, memmove, memset, memcmp, strlen, strcmp, strcpy, strncpy, strcat, strchr, puts, malloc, calloc, realloc, free, printf, compare, plain, set, perform, program_of, small_heap}
+use Rattle.source_meaning.proofs.Samples.{computing, vec_of, one, two, three, at, number, pointer, plain_variable}
+use Rattle.source_meaning.proofs.LibrarySamples.{zero_chars, chars, array, ahead, size, null, memset, memcmp, strcpy, strcat, malloc, calloc, realloc, free, printf, compare, plain, set, perform, program_of, small_heap}
 
 a : Expression
 a = array 0 4
@@ -47,7 +42,7 @@ program = program_of
     ∷ perform (free q)
     ∷ set 0 (calloc (size 3) (size 2))
     ∷ perform (printf (vec_of (codes "%d %d %d\n") (lit< tt)) (three (memcmp p (array 1 6) 6) (compare Equal (realloc null 1) null)
-      (compare Equal (calloc (at 1 (OfScalar (Integer UnsignedLong)) (Constant 9223372036854775808)) (size 2)) null)))
+    (compare Equal (calloc (at 1 (OfScalar (Integer UnsignedLong)) (Constant 9223372036854775808)) (size 2)) null)))
     ∷ Return (Some (number 1 0))
     ∷ []) (lit< tt))
 

@@ -1,6 +1,6 @@
 -- `char a[4];char b[8]="bcd";char c[2]="xy";int main(void){E;return 0;}` for each E that is named: every routine inside its
 -- ranges, one byte outside, and at no bytes. A violation ends with 120.
-use Rattle.std.proofs.Common.{◌≡◌, ℕ, ◌+◌, List, [], ◌∷◌, refl, lit<, Option, Some}
+use Rattle.std.proofs.Common.{◌≡◌, [], refl, lit<, Option, Some}
 use Rattle.std.specs.Prelude.{codes}
 use Rattle.behaviours.specs.Shown.{End, Status}
 use Rattle.sb_base.specs.Budgets.{default_sizes}

@@ -1,26 +1,14 @@
 -- `char a[4];char b[8]="bcd";char c[2]="xy";int main(void){E;return 0;}` for each E that is named: the work. Without E's nodes it
 -- is 5: the call of `main`, its body, two statements and a node; 3 where E ends the run. E's nodes and its call come next, then
 -- what the routine does. The heap has 4096 bytes.
-use Rattle.std.proofs.Common.{◌≡◌, ℕ, ◌+◌, ◌*◌, ◌-◌, ◌^◌, List, [], ◌∷◌, ◌++◌, refl, true, false, lit<, length, Option, Some, None}
+use Rattle.std.proofs.Common.{◌≡◌, ℕ, ◌+◌, ◌*◌, [], refl, lit<, length, Some}
 use Rattle.std.specs.Prelude.{codes}
-use Rattle.behaviours.specs.Shown.{End, Status}
-use Rattle.sb_base.specs.Budgets.{BudgetSizes, default_sizes}
-use Rattle.obj_memory.specs.declared.operator.BinaryOperator.TheVariants.{Less, Greater, Equal, Subtract}
-use Rattle.obj_memory.specs.declared.operator.UnaryOperator.TheVariants.{Negate}
-use Rattle.obj_memory.specs.declared.int_type.IntType.TheVariants.{Char, Int, UnsignedLong, Long}
-use Rattle.obj_memory.specs.declared.value.Scalar.TheVariants.{Integer, Pointer}
-use Rattle.c_tree.specs.declared.expression.Kind.{Kind}
-use Rattle.c_tree.specs.declared.expression.Kind.TheVariants.{Scalar as OfScalar, Array}
 use Rattle.c_tree.specs.declared.expression.Expression.{Expression}
-use Rattle.c_tree.specs.declared.expression.Lvalue.{Lvalue}
-use Rattle.c_tree.specs.declared.expression.Node.{Constant, Read, Address, Assign, Unary, Binary, Difference, Cast, Function}
-use Rattle.c_tree.specs.declared.expression.LvalueNode.{Static, Deref}
 use Rattle.c_tree.specs.declared.program.Program.{Program}
-use Rattle.c_tree.specs.declared.statement.Statement.{Statement, Return}
-use Rattle.c_tree.specs.ValidProgram.{is_valid_program}
+use Rattle.c_tree.specs.declared.statement.Statement.{Return}
 use Rattle.source_meaning.specs.Meaning.{meaning}
-use Rattle.source_meaning.proofs.Samples.{computing, vec_of, box, none, one, two, three, four, five, six, at, lvalue, read, convert, number, int, pointer, plain_variable}
-use Rattle.source_meaning.proofs.LibrarySamples.{zero_chars, chars, array, ahead, size, null, call, small_heap, memcpy, memmove, memset, memcmp, strlen, strcmp, strcpy, strncpy, strcat, strchr, puts, malloc, calloc, realloc, free, printf, compare, plain, set, perform, program_of}
+use Rattle.source_meaning.proofs.Samples.{computing, vec_of, none, one, two, three, number}
+use Rattle.source_meaning.proofs.LibrarySamples.{zero_chars, chars, array, ahead, size, small_heap, memcpy, memmove, memset, memcmp, strlen, strcmp, strcpy, strncpy, strcat, strchr, puts, malloc, calloc, realloc, free, printf, perform, program_of}
 
 a : Expression
 a = array 0 4

@@ -1,26 +1,18 @@
 -- `char a[9]="abcdefgh";char b[9]="ABCDEFGH";char c[6];int main(void){memmove(a+2,a,5);memmove(b,b+2,5);memcpy(c,b,4);
 -- memset(c,354,1);printf("%s %s %s %d %d %d\n",a,b,c,memcmp(a,b,9)>0,memcmp(a,a,9),memcmp(b,a,1)<0);return 0;}`: ranges that
 -- overlap both ways. The output is that of gcc (Debian 12.2.0) with `-std=c99 -fwrapv -funsigned-char`.
-use Rattle.std.proofs.Common.{◌≡◌, ℕ, ◌+◌, ◌*◌, ◌-◌, ◌^◌, List, [], ◌∷◌, ◌++◌, refl, true, false, lit<, length, Option, Some, None}
+use Rattle.std.proofs.Common.{◌≡◌, [], refl, true, lit<, Some}
 use Rattle.std.specs.Prelude.{codes}
-use Rattle.behaviours.specs.Shown.{End, Status}
-use Rattle.sb_base.specs.Budgets.{BudgetSizes, default_sizes}
-use Rattle.obj_memory.specs.declared.operator.BinaryOperator.TheVariants.{Less, Greater, Equal, Subtract}
-use Rattle.obj_memory.specs.declared.operator.UnaryOperator.TheVariants.{Negate}
-use Rattle.obj_memory.specs.declared.int_type.IntType.TheVariants.{Char, Int, UnsignedLong, Long}
-use Rattle.obj_memory.specs.declared.value.Scalar.TheVariants.{Integer, Pointer}
-use Rattle.c_tree.specs.declared.expression.Kind.{Kind}
-use Rattle.c_tree.specs.declared.expression.Kind.TheVariants.{Scalar as OfScalar, Array}
+use Rattle.behaviours.specs.Shown.{Status}
+use Rattle.sb_base.specs.Budgets.{default_sizes}
+use Rattle.obj_memory.specs.declared.operator.BinaryOperator.TheVariants.{Less, Greater}
 use Rattle.c_tree.specs.declared.expression.Expression.{Expression}
-use Rattle.c_tree.specs.declared.expression.Lvalue.{Lvalue}
-use Rattle.c_tree.specs.declared.expression.Node.{Constant, Read, Address, Assign, Unary, Binary, Difference, Cast, Function}
-use Rattle.c_tree.specs.declared.expression.LvalueNode.{Static, Deref}
 use Rattle.c_tree.specs.declared.program.Program.{Program}
-use Rattle.c_tree.specs.declared.statement.Statement.{Statement, Return}
+use Rattle.c_tree.specs.declared.statement.Statement.{Return}
 use Rattle.c_tree.specs.ValidProgram.{is_valid_program}
 use Rattle.source_meaning.specs.Meaning.{meaning}
-use Rattle.source_meaning.proofs.Samples.{computing, vec_of, box, none, one, two, three, four, five, six, at, lvalue, read, convert, number, int, pointer, plain_variable}
-use Rattle.source_meaning.proofs.LibrarySamples.{zero_chars, chars, array, ahead, size, null, call, memcpy, memmove, memset, memcmp, strlen, strcmp, strcpy, strncpy, strcat, strchr, puts, malloc, calloc, realloc, free, printf, compare, plain, set, perform, program_of, small_heap}
+use Rattle.source_meaning.proofs.Samples.{computing, vec_of, none, three, six, number}
+use Rattle.source_meaning.proofs.LibrarySamples.{zero_chars, chars, array, ahead, memcpy, memmove, memset, memcmp, printf, compare, perform, program_of}
 
 a : Expression
 a = array 0 9

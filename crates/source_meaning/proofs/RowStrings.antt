@@ -3,26 +3,22 @@
 -- strncpy(c,a+5,4);printf("%s %lu %s %d\n",c,strlen(c+3),strchr(a,356),strchr(a,122)==0);return strchr(b,0)-b;}`: 356 is the
 -- character 100, `d`, and the 0 byte is sought too. Output and status are those of gcc (Debian 12.2.0) with
 -- `-std=c99 -fwrapv -funsigned-char`.
-use Rattle.std.proofs.Common.{◌≡◌, ℕ, ◌+◌, ◌*◌, ◌-◌, ◌^◌, List, [], ◌∷◌, ◌++◌, refl, true, false, lit<, length, Option, Some, None}
+use Rattle.std.proofs.Common.{◌≡◌, [], ◌∷◌, refl, true, lit<, Some}
 use Rattle.std.specs.Prelude.{codes}
-use Rattle.behaviours.specs.Shown.{End, Status}
-use Rattle.sb_base.specs.Budgets.{BudgetSizes, default_sizes}
-use Rattle.obj_memory.specs.declared.operator.BinaryOperator.TheVariants.{Less, Greater, Equal, Subtract}
-use Rattle.obj_memory.specs.declared.operator.UnaryOperator.TheVariants.{Negate}
-use Rattle.obj_memory.specs.declared.int_type.IntType.TheVariants.{Char, Int, UnsignedLong, Long}
-use Rattle.obj_memory.specs.declared.value.Scalar.TheVariants.{Integer, Pointer}
-use Rattle.c_tree.specs.declared.expression.Kind.{Kind}
-use Rattle.c_tree.specs.declared.expression.Kind.TheVariants.{Scalar as OfScalar, Array}
+use Rattle.behaviours.specs.Shown.{Status}
+use Rattle.sb_base.specs.Budgets.{default_sizes}
+use Rattle.obj_memory.specs.declared.operator.BinaryOperator.TheVariants.{Less, Greater, Equal}
+use Rattle.obj_memory.specs.declared.int_type.IntType.TheVariants.{Long}
+use Rattle.obj_memory.specs.declared.value.Scalar.TheVariants.{Integer}
+use Rattle.c_tree.specs.declared.expression.Kind.TheVariants.{Scalar as OfScalar}
 use Rattle.c_tree.specs.declared.expression.Expression.{Expression}
-use Rattle.c_tree.specs.declared.expression.Lvalue.{Lvalue}
-use Rattle.c_tree.specs.declared.expression.Node.{Constant, Read, Address, Assign, Unary, Binary, Difference, Cast, Function}
-use Rattle.c_tree.specs.declared.expression.LvalueNode.{Static, Deref}
+use Rattle.c_tree.specs.declared.expression.Node.{Difference}
 use Rattle.c_tree.specs.declared.program.Program.{Program}
-use Rattle.c_tree.specs.declared.statement.Statement.{Statement, Return}
+use Rattle.c_tree.specs.declared.statement.Statement.{Return}
 use Rattle.c_tree.specs.ValidProgram.{is_valid_program}
 use Rattle.source_meaning.specs.Meaning.{meaning}
-use Rattle.source_meaning.proofs.Samples.{computing, vec_of, box, none, one, two, three, four, five, six, at, lvalue, read, convert, number, int, pointer, plain_variable}
-use Rattle.source_meaning.proofs.LibrarySamples.{zero_chars, chars, array, ahead, size, null, call, memcpy, memmove, memset, memcmp, strlen, strcmp, strcpy, strncpy, strcat, strchr, puts, malloc, calloc, realloc, free, printf, compare, plain, set, perform, program_of, small_heap}
+use Rattle.source_meaning.proofs.Samples.{computing, vec_of, box, none, three, four, six, at, convert, number, int}
+use Rattle.source_meaning.proofs.LibrarySamples.{zero_chars, chars, array, ahead, null, strlen, strcmp, strcpy, strncpy, strcat, strchr, puts, printf, compare, perform, program_of}
 
 a : Expression
 a = array 0 12
@@ -39,12 +35,12 @@ program = program_of
     (vec_of (perform (strcat a b)
     ∷ perform (strcpy c b)
     ∷ perform (printf (vec_of (codes "%s %s %lu %d %d %d\n") (lit< tt))
-      (six a c (strlen a) (strcmp c b) (compare Less (strcmp a b) (number 1 0)) (compare Greater (strcmp b a) (number 1 0))))
+    (six a c (strlen a) (strcmp c b) (compare Less (strcmp a b) (number 1 0)) (compare Greater (strcmp b a) (number 1 0))))
     ∷ perform (strncpy c a 2)
     ∷ perform (puts c)
     ∷ perform (strncpy c (ahead 5 a) 4)
     ∷ perform (printf (vec_of (codes "%s %lu %s %d\n") (lit< tt))
-      (four c (strlen (ahead 3 c)) (strchr a 356) (compare Equal (strchr a 122) null)))
+    (four c (strlen (ahead 3 c)) (strchr a 356) (compare Equal (strchr a 122) null)))
     ∷ Return (Some (convert int (at 1 (OfScalar (Integer Long)) (Difference 1 (box (strchr b 0)) (box b)))))
     ∷ []) (lit< tt))
 

@@ -1,26 +1,19 @@
 -- `int x=66;int main(void){int**p;p=malloc(8);*p=&x;p=realloc(p,16);return **p;}`: the tag of a pointer moves with its bytes.
 -- The status is that of gcc (Debian 12.2.0) with `-std=c99 -fwrapv -funsigned-char`. The heap has 4096 bytes.
-use Rattle.std.proofs.Common.{◌≡◌, ℕ, ◌+◌, ◌*◌, ◌-◌, ◌^◌, List, [], ◌∷◌, ◌++◌, refl, true, false, lit<, length, Option, Some, None}
-use Rattle.std.specs.Prelude.{codes}
-use Rattle.behaviours.specs.Shown.{End, Status}
-use Rattle.sb_base.specs.Budgets.{BudgetSizes, default_sizes}
-use Rattle.obj_memory.specs.declared.operator.BinaryOperator.TheVariants.{Less, Greater, Equal, Subtract}
-use Rattle.obj_memory.specs.declared.operator.UnaryOperator.TheVariants.{Negate}
-use Rattle.obj_memory.specs.declared.int_type.IntType.TheVariants.{Char, Int, UnsignedLong, Long}
-use Rattle.obj_memory.specs.declared.value.Scalar.TheVariants.{Integer, Pointer}
+use Rattle.std.proofs.Common.{◌≡◌, [], refl, true, false, Some}
+use Rattle.behaviours.specs.Shown.{Status}
 use Rattle.c_tree.specs.declared.expression.Kind.{Kind}
-use Rattle.c_tree.specs.declared.expression.Kind.TheVariants.{Scalar as OfScalar, Array}
 use Rattle.c_tree.specs.declared.expression.Expression.{Expression}
 use Rattle.c_tree.specs.declared.expression.Lvalue.{Lvalue}
-use Rattle.c_tree.specs.declared.expression.Node.{Constant, Read, Address, Assign, Unary, Binary, Difference, Cast, Function}
+use Rattle.c_tree.specs.declared.expression.Node.{Address, Assign}
 use Rattle.c_tree.specs.declared.expression.LvalueNode.{Static, Deref}
 use Rattle.c_tree.specs.declared.statement.Content.TheVariants.{Value}
 use Rattle.c_tree.specs.declared.program.Program.{Program}
-use Rattle.c_tree.specs.declared.statement.Statement.{Statement, Return}
+use Rattle.c_tree.specs.declared.statement.Statement.{Return}
 use Rattle.c_tree.specs.ValidProgram.{is_valid_program}
 use Rattle.source_meaning.specs.Meaning.{meaning}
-use Rattle.source_meaning.proofs.Samples.{computing, vec_of, box, none, one, two, three, four, five, six, at, lvalue, read, convert, number, int, pointer, plain_variable}
-use Rattle.source_meaning.proofs.LibrarySamples.{zero_chars, chars, array, ahead, size, null, call, memcpy, memmove, memset, memcmp, strlen, strcmp, strcpy, strncpy, strcat, strchr, puts, malloc, calloc, realloc, free, printf, compare, plain, set, perform, program_of, small_heap}
+use Rattle.source_meaning.proofs.Samples.{computing, box, one, four, at, lvalue, read, number, int, pointer, plain_variable}
+use Rattle.source_meaning.proofs.LibrarySamples.{malloc, realloc, plain, set, perform, program_of, small_heap}
 
 p : Expression
 p = plain 0

@@ -1,7 +1,7 @@
 -- The routines of the library keep objects sound.
-use Rattle.std.proofs.Common.{◌≡◌, ℕ, zero, suc, ◌+◌, ◌-◌, ◌*◌, ◌%◌, ◌≤◌, ◌<◌, List, [], ◌∷◌, ◌++◌, Bool, true, false, ◌&&◌, Option, Some, None, length, min, if◌then◌else◌, refl, sym, ap, ◌∙◌, subst, arith, nat_lt}
+use Rattle.std.proofs.Common.{◌≡◌, ℕ, ◌+◌, ◌*◌, ◌%◌, ◌≤◌, ◌<◌, List, [], ◌∷◌, Bool, true, false, ◌&&◌, Option, Some, None, length, min, if◌then◌else◌, refl, sym, ap, ◌∙◌, arith, nat_lt}
 use Rattle.std.proofs.lemmas.Bool.{ltb-true, ltb-false}
-use Rattle.addr_map.specs.Places.{AreMapped, region_start, region_end, region_last}
+use Rattle.addr_map.specs.Places.{AreMapped}
 use Rattle.addr_map.specs.declared.region.Region.TheVariants.{Heap as HeapRegion}
 use Rattle.addr_map.proofs.Order.{ends_low, starts_whole}
 use Rattle.sb_base.specs.declared.ending.Ending.TheVariants.{BadFree}
@@ -15,8 +15,8 @@ use Rattle.obj_memory.specs.declared.object.Storage.TheVariants.{Allocated}
 use Rattle.obj_memory.specs.Objects.{ObjectState, Objects, object_at, with_new, with_dead, pointer_to}
 use Rattle.obj_memory.specs.Integers.{fit}
 use Rattle.obj_memory.specs.Access.{move_range}
-use Rattle.obj_memory.specs.Heap.{is_allocated, block_room, rounded_up, block_count, least_place}
-use Rattle.obj_memory.specs.Sound.{IsSound, IsPlace, IsBlockPlace}
+use Rattle.obj_memory.specs.Heap.{is_allocated, block_room, block_count, least_place}
+use Rattle.obj_memory.specs.Sound.{IsPlace, IsBlockPlace}
 use Rattle.obj_memory.proofs.Soundness.{sound_new, sound_dead, sound_moved}
 use Rattle.obj_memory.proofs.Keeping.{keeps_moved}
 use Rattle.obj_memory.proofs.Continuing.{continues_moved}
@@ -25,19 +25,19 @@ use Rattle.obj_memory.proofs.Placing.{least_place_found}
 use Rattle.obj_memory.proofs.Judging.{sound_pointer}
 use Rattle.c_tree.specs.declared.expression.Routine.{Routine}
 use Rattle.c_tree.specs.declared.expression.Routine.TheVariants.{Malloc, Calloc, Free, Realloc, Memcpy, Memmove, Memset, Memcmp, Strlen, Strcmp, Strcpy, Strncpy, Strcat, Strchr, Putchar, Getchar, Puts, Exit, Abort}
-use Rattle.source_meaning.specs.State.{State, Outcome, Gives, Ended, Paused, Run, on, ◌>>=◌, ◌>>◌, done, stop, choose, read_state, change, skip, tally, Setting}
+use Rattle.source_meaning.specs.State.{State, Run, ◌>>=◌, ◌>>◌, done, choose, read_state, change, Setting}
 use Rattle.source_meaning.specs.Places.{heap_first, heap_last}
 use Rattle.source_meaning.specs.Actions.{integer, is_zero, make_object}
 use Rattle.source_meaning.specs.Heap.{tally_blocks, block_place, make_block, allocate, bad_free, is_block_start, freed_object, freed_by, freed, release, free, calloc, move_block, replace_block, realloc}
-use Rattle.source_meaning.specs.Library.{putchar, next_byte, getchar, argument, routine}
+use Rattle.source_meaning.specs.Library.{putchar, next_byte, argument, routine}
 use Rattle.source_meaning.specs.Strings.{reach}
 use Rattle.source_meaning.specs.Naming.{Scope, OnValue}
-use Rattle.source_meaning.specs.Keeping.{LivesOn, IsDirect}
+use Rattle.source_meaning.specs.Keeping.{IsDirect}
 use Rattle.source_meaning.proofs.Holding.{lives_same, lives_kept, lives_new, lives_dead_block}
-use Rattle.source_meaning.proofs.Sure.{IsGood, AreTagged, Leaves, After, Sure, Any, IsStable, sure_frame, sure_beside, sure_objects, stable_tag, stable_tagged, sure_on, sure_weak, sure_any, sure_post, sure_done, sure_skip, sure_stop, sure_read, sure_tally, sure_choose, good_on, IsTagged}
+use Rattle.source_meaning.proofs.Sure.{IsGood, AreTagged, Leaves, After, Sure, Any, IsStable, sure_frame, sure_beside, sure_objects, stable_tag, stable_tagged, sure_on, sure_weak, sure_any, sure_post, sure_done, sure_stop, sure_read, sure_tally, sure_choose, good_on, IsTagged}
 use Rattle.source_meaning.proofs.SureActions.{sure_located, sure_put_bytes, sure_take_key}
 use Rattle.source_meaning.proofs.SureBytes.{sure_memmove, sure_memset, sure_memcmp, sure_strlen, sure_compare_within, sure_strcpy, sure_strncpy, sure_strcat, sure_seek_within, sure_puts}
-use Rattle.source_meaning.proofs.Laying.{beyond, fresh_live, fresh_size, length-new, low_new, low_dead, rounded_whole}
+use Rattle.source_meaning.proofs.Laying.{beyond, fresh_live, fresh_size, length-new, low_new, low_dead}
 
 -- objects that are made and that die
 

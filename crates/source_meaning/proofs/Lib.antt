@@ -32,6 +32,8 @@ mod RowStrings
 mod RowFormats
 mod RowBlocks
 mod RowTags
+mod RowInput
+mod RowExit
 mod RowFirst
 mod RowGlobal
 mod RowEndless

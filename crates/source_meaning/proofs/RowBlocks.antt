@@ -2,10 +2,11 @@
 -- q=realloc(q,2);memset(q+1,0,1);printf("%s ",q);free(q);p=calloc(3,2);
 -- printf("%d %d %d\n",memcmp(p,z,6),realloc(0,1)==0,calloc(9223372036854775808UL,2)==0);return 0;}`: a block that grows keeps its
 -- bytes, and one that shrinks those that it has room for; an array has zero bytes, and one of 2^64 bytes is null. The output is
--- that of gcc (Debian 12.2.0) with `-std=c99 -fwrapv -funsigned-char`. The heap has 4096 bytes, so that its places are few.
+-- that of gcc (Debian 12.2.0) with `-std=c99 -fwrapv -funsigned-char`.
 use Rattle.std.proofs.Common.{◌≡◌, [], ◌∷◌, refl, true, lit<, Some}
 use Rattle.std.specs.Prelude.{codes}
 use Rattle.behaviours.specs.Shown.{Status}
+use Rattle.sb_base.specs.Budgets.{default_sizes}
 use Rattle.obj_memory.specs.declared.operator.BinaryOperator.TheVariants.{Equal}
 use Rattle.obj_memory.specs.declared.int_type.IntType.TheVariants.{UnsignedLong}
 use Rattle.obj_memory.specs.declared.value.Scalar.TheVariants.{Integer}
@@ -17,7 +18,7 @@ use Rattle.c_tree.specs.declared.statement.Statement.{Return}
 use Rattle.c_tree.specs.ValidProgram.{is_valid_program}
 use Rattle.source_meaning.specs.Meaning.{meaning}
 use Rattle.source_meaning.proofs.Samples.{computing, vec_of, one, two, three, at, number, pointer, plain_variable}
-use Rattle.source_meaning.proofs.LibrarySamples.{zero_chars, chars, array, ahead, size, null, memset, memcmp, strcpy, strcat, malloc, calloc, realloc, free, printf, compare, plain, set, perform, program_of, small_heap}
+use Rattle.source_meaning.proofs.LibrarySamples.{zero_chars, chars, array, ahead, size, null, memset, memcmp, strcpy, strcat, malloc, calloc, realloc, free, printf, compare, plain, set, perform, program_of}
 
 a : Expression
 a = array 0 4
@@ -46,11 +47,11 @@ program = program_of
     ∷ Return (Some (number 1 0))
     ∷ []) (lit< tt))
 
-output : (meaning program small_heap [] 1).shown.output ≡ codes "abcabc a 0 0 1\n"
+output : (meaning program default_sizes [] 1).shown.output ≡ codes "abcabc a 0 0 1\n"
 unfolding program a p q computing
 output = refl
 
-ending : (meaning program small_heap [] 1).shown.ending ≡ Some (Status 0)
+ending : (meaning program default_sizes [] 1).shown.ending ≡ Some (Status 0)
 unfolding program a p q computing
 ending = refl
 

@@ -1,11 +1,13 @@
 -- `char b[8];int main(void){char*p;p=malloc(4);E;return 0;}` for each E that is named: what can be freed and replaced, and what
 -- ends with 123. The heap has 4096 bytes.
-use Rattle.std.proofs.Common.{◌≡◌, [], refl, Option, Some}
+use Rattle.std.proofs.Common.{◌≡◌, [], ◌∷◌, refl, true, Option, Some}
+use Rattle.std.specs.List.{list_all}
 use Rattle.behaviours.specs.Shown.{End, Status}
 use Rattle.c_tree.specs.declared.expression.Expression.{Expression}
 use Rattle.c_tree.specs.declared.expression.Node.{Cast, Function}
 use Rattle.c_tree.specs.declared.program.Program.{Program}
 use Rattle.c_tree.specs.declared.statement.Statement.{Return}
+use Rattle.c_tree.specs.ValidProgram.{is_valid_program}
 use Rattle.source_meaning.specs.Meaning.{meaning}
 use Rattle.source_meaning.proofs.Samples.{computing, box, one, three, at, number, pointer, plain_variable}
 use Rattle.source_meaning.proofs.LibrarySamples.{zero_chars, array, ahead, null, small_heap, malloc, realloc, free, plain, set, perform, program_of}
@@ -87,3 +89,8 @@ realloc_static = refl
 realloc_untagged : ending (realloc (at 1 pointer (Cast (box (number 1 1)))) 8) ≡ Some (Status 123)
 unfolding ending program p b computing
 realloc_untagged = refl
+
+valid : list_all (λ e. is_valid_program (program e))
+    (free p ∷ free null ∷ free (at 1 pointer (Cast (box (number 1 1)))) ∷ free (at 1 pointer (Cast (box (at 1 pointer (Function 0))))) ∷ realloc p 8 ∷ []) ≡ true
+unfolding program p b computing
+valid = refl

@@ -1,11 +1,13 @@
 -- `char a[4];char b[8]="bcd";char c[2]="xy";int main(void){E;return 0;}` for each E that is named: the work. Without E's nodes it
 -- is 5: the call of `main`, its body, two statements and a node; 3 where E ends the run. E's nodes and its call come next, then
 -- what the routine does. The heap has 4096 bytes.
-use Rattle.std.proofs.Common.{◌≡◌, ℕ, ◌+◌, ◌*◌, [], refl, lit<, length, Some}
+use Rattle.std.proofs.Common.{◌≡◌, ℕ, ◌+◌, ◌*◌, [], ◌∷◌, refl, true, lit<, length, Some}
 use Rattle.std.specs.Prelude.{codes}
+use Rattle.std.specs.List.{list_all}
 use Rattle.c_tree.specs.declared.expression.Expression.{Expression}
 use Rattle.c_tree.specs.declared.program.Program.{Program}
 use Rattle.c_tree.specs.declared.statement.Statement.{Return}
+use Rattle.c_tree.specs.ValidProgram.{is_valid_program}
 use Rattle.source_meaning.specs.Meaning.{meaning}
 use Rattle.source_meaning.proofs.Samples.{computing, vec_of, none, one, two, three, number}
 use Rattle.source_meaning.proofs.LibrarySamples.{zero_chars, chars, array, ahead, size, small_heap, memcpy, memmove, memset, memcmp, strlen, strcmp, strcpy, strncpy, strcat, strchr, puts, malloc, calloc, realloc, free, printf, perform, program_of}
@@ -139,3 +141,7 @@ memcpy_refused = refl
 strcpy_refused : work (strcpy (ahead 1 a) b) ≡ 3 + 6 + 4 + length (codes "sbcets: spatial violation at line 1\n")
 unfolding work program a b c computing
 strcpy_refused = refl
+
+valid : list_all (λ e. is_valid_program (program e)) (free (malloc 4) ∷ realloc (malloc 4) 6 ∷ calloc (size 2) (size 2) ∷ []) ≡ true
+unfolding program a b c computing
+valid = refl

@@ -1,7 +1,8 @@
 -- `int x=66;int main(void){int**p;p=malloc(8);*p=&x;p=realloc(p,16);return **p;}`: the tag of a pointer moves with its bytes.
--- The status is that of gcc (Debian 12.2.0) with `-std=c99 -fwrapv -funsigned-char`. The heap has 4096 bytes.
+-- The status is that of gcc (Debian 12.2.0) with `-std=c99 -fwrapv -funsigned-char`.
 use Rattle.std.proofs.Common.{◌≡◌, [], refl, true, false, Some}
 use Rattle.behaviours.specs.Shown.{Status}
+use Rattle.sb_base.specs.Budgets.{default_sizes}
 use Rattle.c_tree.specs.declared.expression.Kind.{Kind}
 use Rattle.c_tree.specs.declared.expression.Expression.{Expression}
 use Rattle.c_tree.specs.declared.expression.Lvalue.{Lvalue}
@@ -13,7 +14,7 @@ use Rattle.c_tree.specs.declared.statement.Statement.{Return}
 use Rattle.c_tree.specs.ValidProgram.{is_valid_program}
 use Rattle.source_meaning.specs.Meaning.{meaning}
 use Rattle.source_meaning.proofs.Samples.{computing, box, one, four, at, lvalue, read, number, int, pointer, plain_variable}
-use Rattle.source_meaning.proofs.LibrarySamples.{malloc, realloc, plain, set, perform, program_of, small_heap}
+use Rattle.source_meaning.proofs.LibrarySamples.{malloc, realloc, plain, set, perform, program_of}
 
 p : Expression
 p = plain 0
@@ -32,7 +33,7 @@ program = program_of
     (set 0 (realloc p 16))
     (Return (Some (read (target int (read (target pointer p)))))))
 
-ending : (meaning program small_heap [] 1).shown.ending ≡ Some (Status 66)
+ending : (meaning program default_sizes [] 1).shown.ending ≡ Some (Status 66)
 unfolding program target p computing
 ending = refl
 

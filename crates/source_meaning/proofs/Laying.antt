@@ -31,7 +31,7 @@ beyond (o ∷ os) (suc n) h = beyond os n (omega arith)
 beyond_low : (objects : Objects) (n : ℕ) → length objects ≤ n → (object_at objects n).address + (object_at objects n).size ≤ 1610612736
 beyond_low objects n h = subst (λ (o : ObjectState). o.address + o.size ≤ 1610612736) (sym (beyond objects n h)) (omega arith)
 
-length-dead : (n : ℕ) (objects : Objects) → length (with_dead n objects) ≡ length objects
+pub length-dead : (n : ℕ) (objects : Objects) → length (with_dead n objects) ≡ length objects
 unfolding with_dead
 length-dead n objects = length-set objects n _
 

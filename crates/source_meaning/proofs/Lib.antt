@@ -12,12 +12,14 @@ pub mod SureActions
 pub mod SureTree
 pub mod SureFlow
 pub mod Laying
+pub mod Separating
 pub mod SureCalls
 pub mod SureBytes
 pub mod SureLibrary
 pub mod SureMeaning
 pub mod ValidNames
 pub mod ValidProgramNames
+pub mod RunsAlike
 mod Samples
 mod LibrarySamples
 mod RowBounds

@@ -2,6 +2,7 @@
 use Rattle.std.proofs.Common.{ℕ, false}
 use Rattle.std.specs.Prelude.{Vec}
 use Rattle.std.specs.declared.alloc.Global.{Global}
+use Rattle.sb_base.specs.Budgets.{BudgetSizes, default_sizes}
 use Rattle.obj_memory.specs.declared.int_type.IntType.TheVariants.{UnsignedLong}
 use Rattle.obj_memory.specs.declared.value.Scalar.TheVariants.{Integer}
 use Rattle.c_tree.specs.declared.expression.Kind.{Kind}
@@ -116,3 +117,7 @@ abbrev pub program_of : Vec StaticObject Global → Vec Variable Global → Vec 
 program_of statics variables body =
     let f : Function = record { line = 1; type_number = 0; parameters = none; variables = variables; body = body; room = 0 } in
     record { statics = statics; function_types = one main_type; functions = one (record f { room = room f }); main = 0 }
+
+-- the default budgets with a heap of one page, so that its places are few
+abbrev pub small_heap : BudgetSizes
+small_heap = record default_sizes { heap = 4096 }

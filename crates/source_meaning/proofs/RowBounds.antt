@@ -1,12 +1,14 @@
 -- `char a[4];char b[8]="bcd";char c[2]="xy";int main(void){E;return 0;}` for each E that is named: every routine inside its
 -- ranges, one byte outside, and at no bytes. A violation ends with 120.
-use Rattle.std.proofs.Common.{◌≡◌, ℕ, ◌+◌, List, [], ◌∷◌, refl, lit<, Option, Some}
+use Rattle.std.proofs.Common.{◌≡◌, [], ◌∷◌, refl, true, lit<, Option, Some}
 use Rattle.std.specs.Prelude.{codes}
+use Rattle.std.specs.List.{list_all}
 use Rattle.behaviours.specs.Shown.{End, Status}
 use Rattle.sb_base.specs.Budgets.{default_sizes}
 use Rattle.c_tree.specs.declared.expression.Expression.{Expression}
 use Rattle.c_tree.specs.declared.program.Program.{Program}
 use Rattle.c_tree.specs.declared.statement.Statement.{Return}
+use Rattle.c_tree.specs.ValidProgram.{is_valid_program}
 use Rattle.source_meaning.specs.Meaning.{meaning}
 use Rattle.source_meaning.proofs.Samples.{computing, none, one, two, three, vec_of, number}
 use Rattle.source_meaning.proofs.LibrarySamples.{zero_chars, chars, array, ahead, null, memcpy, memmove, memset, memcmp, strlen, strcmp, strcpy, strncpy, strcat, strchr, puts, printf, perform, program_of}
@@ -236,3 +238,14 @@ printf_outside = refl
 nothing_put : (meaning (program (printf (vec_of (codes "%s%s") (lit< tt)) (two b c))) default_sizes [] 1).shown.output ≡ []
 unfolding program a b c computing
 nothing_put = refl
+
+-- routines make no accesses
+no_access : (meaning (program (strcpy a b)) default_sizes [] 1).shown.accesses ≡ []
+unfolding program a b c computing
+no_access = refl
+
+valid : list_all (λ e. is_valid_program (program e))
+    (memcpy a b 4 ∷ memmove a b 4 ∷ memset a 7 4 ∷ memcmp a b 4 ∷ strlen b ∷ strcmp b c ∷ strcpy a b ∷ strncpy a b 4 ∷ strcat a b ∷ strchr b 0 ∷ puts b
+    ∷ memcpy null (ahead 1 a) 0 ∷ printf (vec_of (codes "%s%s") (lit< tt)) (two b c) ∷ []) ≡ true
+unfolding program a b c computing
+valid = refl

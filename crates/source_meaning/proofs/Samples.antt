@@ -3,6 +3,7 @@ use Rattle.std.proofs.Common.{ℕ, ◌<◌, ◌^◌, List, [], ◌∷◌, length
 use Rattle.std.specs.Prelude.{Vec, Box}
 use Rattle.std.specs.declared.alloc.Global.{Global}
 use Rattle.std.specs.Int.{int_wrap}
+use Rattle.std.specs.Fmt.{digits}
 use denote.RawPtr.{null_ptr}
 use denote.Hole.Carrier.{hidden}
 use Rattle.obj_memory.specs.Integers.{size_of, is_signed, rank, fit}
@@ -34,7 +35,7 @@ use Rattle.c_tree.specs.declared.statement.Statement.{Statement}
 
 -- what the meaning computes by: a row names it in its `unfolding` line
 unfoldable pub computing : Unit {0}
-unfolding int_wrap hidden size_of is_signed rank fit shift_amount unary_value binary_value new_object with_new with_dead with_zeroed pointer_to judge named moved narrowed read_value write_bytes write_tag write_value move_range block_count is_clear least_place report_at region_size region_start function_address is_valid_program room hidden-the_row-Expression-0 hidden-the_row-Statement-0 hidden-the_row-SwitchItem-1
+unfolding int_wrap digits hidden size_of is_signed rank fit shift_amount unary_value binary_value new_object with_new with_dead with_zeroed pointer_to judge named moved narrowed read_value write_bytes write_tag write_value move_range block_count is_clear least_place report_at region_size region_start function_address is_valid_program room hidden-the_row-Expression-0 hidden-the_row-Statement-0 hidden-the_row-SwitchItem-1
 computing = tt
 
 abbrev pub vec_of : {A : Type 0} → (xs : List A) → length xs < 2 ^ 63 → Vec A Global

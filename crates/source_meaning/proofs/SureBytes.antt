@@ -1,5 +1,5 @@
 -- The routines of the library that look at bytes and set them keep objects sound.
-use Rattle.std.proofs.Common.{◌≡◌, ℕ, zero, suc, ◌+◌, ◌-◌, ◌*◌, ◌%◌, ◌≤◌, ◌<◌, List, [], ◌∷◌, ◌++◌, Bool, true, false, ◌==◌, Option, Some, None, length, get_or, drop, replicate, if◌then◌else◌, refl, sym, ap, ◌∙◌, subst, arith, length-append}
+use Rattle.std.proofs.Common.{◌≡◌, ℕ, zero, suc, ◌+◌, ◌-◌, ◌*◌, ◌≤◌, ◌<◌, List, [], ◌∷◌, ◌++◌, true, false, ◌==◌, length, get_or, drop, replicate, if◌then◌else◌, sym, subst, arith, length-append}
 use Rattle.std.proofs.lemmas.List.{length-replicate}
 use Rattle.sb_base.specs.declared.ending.Ending.TheVariants.{Spatial}
 use Rattle.obj_memory.specs.declared.int_type.IntType.TheVariants.{Int, UnsignedChar}
@@ -21,11 +21,11 @@ use Rattle.c_tree.specs.declared.format.Directive.TheVariants as directive
 use Rattle.c_tree.specs.declared.format.Piece.{Piece}
 use Rattle.c_tree.specs.declared.format.Piece.TheVariants as piece
 use Rattle.c_tree.specs.Format.{pieces}
-use Rattle.source_meaning.specs.State.{Run, ◌>>=◌, ◌>>◌, done, stop, choose, read_state, change, tally}
-use Rattle.source_meaning.specs.Actions.{integer, is_zero, located, put_bytes}
+use Rattle.source_meaning.specs.State.{Run, ◌>>=◌, ◌>>◌, done, stop}
+use Rattle.source_meaning.specs.Actions.{integer, is_zero, located}
 use Rattle.source_meaning.specs.Bytes.{look, set_bytes, order}
 use Rattle.source_meaning.specs.Memory.{memmove, memset, pairs_compared, order_of, memcmp}
-use Rattle.source_meaning.specs.Strings.{reach, scan_within, scan, strlen, go_on, compare_within, strcmp, write_string, strcpy, strncpy, strcat, seek_within, strchr}
+use Rattle.source_meaning.specs.Strings.{reach, scan_within, scan, strlen, go_on, compare_within, write_string, strcpy, strncpy, strcat, seek_within}
 use Rattle.source_meaning.specs.Printing.{puts, argument_bytes, formatted, pieces_or_none, print_formatted}
 use Rattle.source_meaning.specs.Naming.{Scope, OnPointer}
 use Rattle.source_meaning.proofs.Holding.{lives_kept}

@@ -1,7 +1,7 @@
 -- The routines of the library keep objects sound.
 use Rattle.std.proofs.Common.{◌≡◌, ℕ, zero, suc, ◌+◌, ◌-◌, ◌*◌, ◌%◌, ◌≤◌, ◌<◌, List, [], ◌∷◌, ◌++◌, Bool, true, false, ◌&&◌, Option, Some, None, length, min, if◌then◌else◌, refl, sym, ap, ◌∙◌, subst, arith, nat_lt, inl, inr, ◌⊎◌}
 use Rattle.std.proofs.lemmas.Bool.{ltb-true, ltb-false}
-use Rattle.addr_map.specs.Places.{AreMapped, region_start, region_end, region_last}
+use Rattle.addr_map.specs.Places.{AreMapped}
 use Rattle.addr_map.specs.declared.region.Region.TheVariants.{Heap as HeapRegion}
 use Rattle.addr_map.proofs.Order.{ends_low, starts_whole}
 use Rattle.sb_base.specs.declared.ending.Ending.TheVariants.{BadFree}
@@ -25,11 +25,11 @@ use Rattle.obj_memory.proofs.Placing.{least_place_found}
 use Rattle.obj_memory.proofs.Judging.{sound_pointer}
 use Rattle.c_tree.specs.declared.expression.Routine.{Routine}
 use Rattle.c_tree.specs.declared.expression.Routine.TheVariants.{Malloc, Calloc, Free, Realloc, Memcpy, Memmove, Memset, Memcmp, Strlen, Strcmp, Strcpy, Strncpy, Strcat, Strchr, Putchar, Getchar, Puts, Exit, Abort}
-use Rattle.source_meaning.specs.State.{State, Outcome, Gives, Ended, Paused, Run, on, ◌>>=◌, ◌>>◌, done, stop, choose, read_state, change, skip, tally, Setting}
+use Rattle.source_meaning.specs.State.{State, Run, ◌>>=◌, ◌>>◌, done, choose, read_state, change, Setting}
 use Rattle.source_meaning.specs.Places.{heap_first, heap_last}
 use Rattle.source_meaning.specs.Actions.{integer, is_zero, make_object}
 use Rattle.source_meaning.specs.Heap.{tally_blocks, block_place, make_block, allocate, bad_free, is_block_start, freed_object, freed_by, freed, release, free, calloc, move_block, replace_block, realloc}
-use Rattle.source_meaning.specs.Library.{putchar, next_byte, getchar, argument, routine}
+use Rattle.source_meaning.specs.Library.{putchar, next_byte, argument, routine}
 use Rattle.source_meaning.specs.Strings.{reach}
 use Rattle.source_meaning.specs.Naming.{Scope, OnValue}
 use Rattle.source_meaning.specs.Keeping.{LivesOn, IsDirect}

@@ -1,9 +1,8 @@
 -- Objects that live on, and pointers to bytes of live objects.
-use Rattle.std.proofs.Common.{◌≡◌, ◌≢◌, ℕ, zero, suc, ◌+◌, ◌%◌, ◌^◌, ◌<◌, ◌≤◌, Bool, true, false, List, [], ◌∷◌, ◌++◌, length, refl, sym, ap, ◌∙◌, subst, arith, nat_eq, if◌then◌else◌, ◌⊎◌, inl, inr, length-set, length-append}
+use Rattle.std.proofs.Common.{◌≡◌, ℕ, zero, suc, ◌+◌, ◌%◌, ◌^◌, ◌<◌, ◌≤◌, Bool, true, false, List, [], ◌∷◌, ◌++◌, length, refl, sym, ap, ◌∙◌, arith, nat_eq, if◌then◌else◌, ◌⊎◌, inl, inr, length-set, length-append}
 use Rattle.std.proofs.lemmas.Bool.{eqb-true, eqb-false, cases_lt}
 use Rattle.std.proofs.Math.Nat.{mod-eq_of_lt}
 use Rattle.behaviours.specs.Shown.{Access}
-use Rattle.obj_memory.specs.declared.value.Bounds.{Bounds}
 use Rattle.obj_memory.specs.declared.value.Tag.{Tag}
 use Rattle.obj_memory.specs.declared.value.Tag.TheVariants.{Untagged, OfFunction, OfObject}
 use Rattle.obj_memory.specs.declared.value.Value.{Value}
@@ -13,7 +12,7 @@ use Rattle.obj_memory.specs.declared.judgement.Verdict.TheVariants.{Outside, Dea
 use Rattle.obj_memory.specs.Objects.{ObjectState, Objects, no_object, object_at, new_object, with_new, with_dead, pointer_to}
 use Rattle.obj_memory.specs.Judgement.{are_within, place_in, judged, judge, named_in, named, narrowed_tag, narrowed}
 use Rattle.obj_memory.specs.Heap.{is_allocated}
-use Rattle.obj_memory.specs.Sound.{Continues, KeepsObjects, IsSoundTag, IsAllowed, IsPlace}
+use Rattle.obj_memory.specs.Sound.{Continues, KeepsObjects, IsSoundTag, IsAllowed}
 use Rattle.obj_memory.proofs.Continuing.{continues_same, continues_then, continues_new, continues_dead}
 use Rattle.obj_memory.proofs.Judging.{judge_inside}
 use Rattle.obj_memory.proofs.Making.{new_other, dead_other}

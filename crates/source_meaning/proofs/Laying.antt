@@ -1,25 +1,25 @@
 -- What a call lays out: the objects of its variables, which are new, and which die at its return.
-use Rattle.std.proofs.Common.{◌≡◌, ◌≢◌, ℕ, zero, suc, ◌+◌, ◌-◌, ◌*◌, ◌/◌, ◌%◌, ◌≤◌, ◌<◌, ◌⊎◌, inl, inr, List, [], ◌∷◌, ◌++◌, Bool, true, false, Option, Some, None, length, get_or, set, if◌then◌else◌, refl, sym, ap, ◌∙◌, subst, arith, length-set, length-append, nat_eq}
+use Rattle.std.proofs.Common.{◌≡◌, ℕ, zero, suc, ◌+◌, ◌%◌, ◌≤◌, ◌<◌, ◌⊎◌, inl, inr, List, [], ◌∷◌, Bool, true, false, Some, None, length, if◌then◌else◌, refl, sym, ap, ◌∙◌, subst, arith, nat_eq}
 use Rattle.std.proofs.lemmas.Bool.{cases_lt, eqb-true, eqb-false}
 use Rattle.obj_memory.specs.declared.object.Storage.{Storage}
-use Rattle.obj_memory.specs.declared.object.Storage.TheVariants.{Static, Automatic, Allocated}
-use Rattle.obj_memory.specs.Objects.{ObjectState, Objects, no_object, object_at, new_object, with_new, with_dead}
+use Rattle.obj_memory.specs.declared.object.Storage.TheVariants.{Automatic}
+use Rattle.obj_memory.specs.Objects.{ObjectState, Objects, object_at, new_object, with_new, with_dead}
 use Rattle.obj_memory.specs.Heap.{is_allocated, rounded_up}
 use Rattle.obj_memory.specs.Sound.{IsSound, Continues}
 use Rattle.obj_memory.proofs.Soundness.{sound_new, sound_dead}
-use Rattle.obj_memory.proofs.Continuing.{continues_same, continues_then, continues_new, continues_dead}
-use Rattle.obj_memory.proofs.Making.{new_last, new_other, dead_other, dead_is_dead}
+use Rattle.obj_memory.proofs.Continuing.{continues_then, continues_new, continues_dead}
+use Rattle.obj_memory.proofs.Making.{new_last, dead_other, dead_is_dead}
 use Rattle.c_tree.specs.declared.expression.Kind.{Kind}
 use Rattle.c_tree.specs.declared.program.Variable.{Variable}
 use Rattle.source_meaning.specs.declared.home.Home.{Home}
 use Rattle.source_meaning.specs.declared.home.Home.TheVariants.{PlainValue, InObject}
-use Rattle.source_meaning.specs.State.{State, Outcome, Gives, Ended, Paused, Run, on, done, choose}
+use Rattle.source_meaning.specs.State.{State, Outcome, Gives, Ended, Paused, on, done, choose}
 use Rattle.c_tree.specs.Kinds.{size_of_kind}
-use Rattle.source_meaning.specs.Calls.{objects_end, place_object, place_variable, place_variables, without_homes}
+use Rattle.source_meaning.specs.Calls.{objects_end, place_object, place_variables, without_homes}
 use Rattle.source_meaning.specs.Naming.{object_kind}
-use Rattle.source_meaning.specs.Keeping.{AllLie, IsKept, LivesOn, AreSeparate}
+use Rattle.source_meaning.specs.Keeping.{LivesOn, AreSeparate}
 use Rattle.source_meaning.proofs.Separating.{separate_automatic, EndsMade, ends_same, live_before}
-use Rattle.source_meaning.proofs.Holding.{live_made, beyond, length-dead, length-new, all_lie_on, lives_same, lives_then, lives_new, IsHeld, held_on}
+use Rattle.source_meaning.proofs.Holding.{live_made, beyond, length-dead, length-new, lives_same, lives_then, lives_new, IsHeld, held_on}
 use Rattle.source_meaning.proofs.Sure.{HasHome, AreLow}
 
 -- objects that are low
@@ -283,15 +283,18 @@ behind_object boundary kind vs s s1 e a w (Gives homes s2) h =
     let made = length-new Automatic (rounded_up 16 s.stacked) (size_of_kind kind) s.objects in
     let lives = subst (LivesOn s.objects) (sym e) (lives_new Automatic (rounded_up 16 s.stacked) (size_of_kind kind) s.objects) in
     let held = subst (λ o. IsHeld o (length s.objects) kind) (sym e) (held_new Automatic (rounded_up 16 s.stacked) kind s.objects refl) in
-    let longer : length s1.objects ≡ length s.objects + 1 = ap length e ∙ made in
-    (record {
-      sound = h.0.sound;
-      low = h.0.low;
-      lives = lives_then s.objects s1.objects s2.objects lives h.0.lives;
-      placed = ((omega arith, held_on s1.objects s2.objects h.0.lives (length s.objects) kind held), placed_less (length s1.objects) (length s.objects) (omega (arith, longer)) vs homes s2.objects h.0.placed);
-      separate = h.0.separate;
-      ends = ends_one_more s.objects s1.objects s2.objects homes longer h.0.ends;
-    }, h.1 ∙ a, h.2 ∙ w)
+    let longer : length s1.objects ≡ length s.objects + 1 = ap length e ∙ made in (
+      record {
+        sound = h.0.sound;
+        low = h.0.low;
+        lives = lives_then s.objects s1.objects s2.objects lives h.0.lives;
+        placed = ((omega arith, held_on s1.objects s2.objects h.0.lives (length s.objects) kind held), placed_less (length s1.objects) (length s.objects) (omega (arith, longer)) vs homes s2.objects h.0.placed);
+        separate = h.0.separate;
+        ends = ends_one_more s.objects s1.objects s2.objects homes longer h.0.ends;
+      },
+      h.1 ∙ a,
+      h.2 ∙ w,
+    )
 behind_object boundary kind vs s s1 e a w (Ended x s2) h = h
 behind_object boundary kind vs s s1 e a w (Paused s2) h = h
 

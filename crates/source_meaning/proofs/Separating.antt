@@ -1,18 +1,18 @@
 -- Live objects that share no address: automatic and static ones end at the top of the object stack or below, allocated ones
 -- begin behind the object stack.
-use Rattle.std.proofs.Common.{◌≡◌, ◌≢◌, ℕ, zero, suc, ◌+◌, ◌-◌, ◌*◌, ◌/◌, ◌%◌, ◌≤◌, ◌<◌, ◌⊎◌, inl, inr, List, [], ◌∷◌, Bool, true, false, ◌&&◌, length, refl, sym, ap, ◌∙◌, subst, arith, nat_eq}
+use Rattle.std.proofs.Common.{◌≡◌, ℕ, ◌+◌, ◌≤◌, ◌<◌, ◌⊎◌, inl, inr, List, [], ◌∷◌, Bool, true, false, length, refl, sym, ap, ◌∙◌, subst, arith, nat_eq}
 use Rattle.std.proofs.lemmas.Bool.{eqb-true, eqb-false, cases_lt}
 use Rattle.obj_memory.specs.declared.object.Storage.{Storage}
-use Rattle.obj_memory.specs.declared.object.Storage.TheVariants.{Static, Automatic, Allocated}
-use Rattle.obj_memory.specs.Objects.{ObjectState, Objects, no_object, object_at, new_object, with_new, with_dead}
-use Rattle.obj_memory.specs.Heap.{is_allocated, is_live_block, block_room, rounded_up}
-use Rattle.obj_memory.specs.Sound.{KeepsObjects, AreDisjoint, DoNotMeet, IsClearOf, IsBlockPlace, Continues}
+use Rattle.obj_memory.specs.declared.object.Storage.TheVariants.{Automatic, Allocated}
+use Rattle.obj_memory.specs.Objects.{ObjectState, Objects, object_at, new_object, with_new, with_dead}
+use Rattle.obj_memory.specs.Heap.{is_allocated}
+use Rattle.obj_memory.specs.Sound.{KeepsObjects, DoNotMeet, Continues}
 use Rattle.obj_memory.proofs.Making.{new_last, new_other, dead_is_dead, dead_other, disjoint_kept, disjoint_dead, disjoint_new}
 use Rattle.source_meaning.specs.declared.home.Home.{Home}
 use Rattle.source_meaning.specs.declared.home.Home.TheVariants.{PlainValue, InObject}
 use Rattle.source_meaning.specs.Calls.{without_homes}
-use Rattle.source_meaning.specs.Keeping.{AreSeparate, LivesOn}
-use Rattle.source_meaning.proofs.Holding.{length-new, length-dead, live_made}
+use Rattle.source_meaning.specs.Keeping.{AreSeparate}
+use Rattle.source_meaning.proofs.Holding.{length-new, live_made}
 
 pub separate_kept : (boundary top : ℕ) (old new : Objects) → KeepsObjects old new → AreSeparate boundary top old → AreSeparate boundary top new
 separate_kept boundary top old new k h = record {

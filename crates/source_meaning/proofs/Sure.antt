@@ -1,6 +1,6 @@
 -- Runs that keep objects sound: from a good state they come to a good one, with what is known of the value that they give;
 -- where they end or pause, objects and accesses are kept.
-use Rattle.std.proofs.Common.{◌≡◌, ℕ, zero, suc, ◌+◌, ◌≤◌, ◌<◌, List, [], ◌∷◌, Bool, true, false, Option, Some, None, length, get_or, set, refl, sym, ap, ◌∙◌, subst, arith}
+use Rattle.std.proofs.Common.{◌≡◌, ℕ, ◌+◌, ◌≤◌, List, Bool, true, false, Some, get_or, refl, sym, ◌∙◌, subst, arith}
 use Rattle.behaviours.specs.Shown.{Access}
 use Rattle.sb_base.specs.declared.ending.Ending.{Ending}
 use Rattle.obj_memory.specs.declared.value.Value.{Value}
@@ -11,12 +11,12 @@ use Rattle.c_tree.specs.declared.expression.Kind.{Kind}
 use Rattle.c_tree.specs.declared.expression.Kind.TheVariants.{Void, Scalar as OfScalar, Structure, Array}
 use Rattle.source_meaning.specs.declared.home.Home.{Home}
 use Rattle.source_meaning.specs.declared.home.Home.TheVariants.{PlainValue, InObject}
-use Rattle.source_meaning.specs.State.{State, Outcome, Gives, Ended, Paused, Run, on, ◌>>=◌, ◌>>◌, done, stop, pause, choose, read_state, change, skip, tally}
+use Rattle.source_meaning.specs.State.{State, Outcome, Gives, Ended, Paused, Run, on, ◌>>=◌, done, stop, pause, choose, read_state, change, skip, tally}
 use Rattle.c_tree.specs.Kinds.{size_of_kind}
 use Rattle.source_meaning.specs.Actions.{integer}
 use Rattle.source_meaning.specs.Expressions.{counted_as, counted}
 use Rattle.source_meaning.specs.Naming.{Scope, static_kind, object_kind, Basis, OnName, OnPointer, OnValue, IsWritable, IsNoStructure}
-use Rattle.source_meaning.specs.Keeping.{AllLie, IsKept, LivesOn, IsDirect, IsNamed, AreSeparate}
+use Rattle.source_meaning.specs.Keeping.{IsKept, LivesOn, IsDirect, IsNamed, AreSeparate}
 use Rattle.source_meaning.proofs.Separating.{separate_kept, EndsMade, ends_as_many, ends_same, ends_then}
 use Rattle.source_meaning.proofs.Holding.{all_lie_on, lives_same, lives_then, lives_kept, named_on, IsHeld, held_on}
 

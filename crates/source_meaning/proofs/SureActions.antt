@@ -1,9 +1,8 @@
 -- The actions keep objects sound.
-use Rattle.std.proofs.Common.{◌≡◌, ℕ, zero, suc, ◌+◌, ◌-◌, ◌*◌, ◌%◌, ◌^◌, ◌≤◌, ◌<◌, List, [], ◌∷◌, ◌++◌, Bool, true, false, Option, Some, None, length, get_or, set, refl, sym, ap, ◌∙◌, subst, arith, nat_lt}
+use Rattle.std.proofs.Common.{◌≡◌, ℕ, zero, suc, ◌+◌, ◌-◌, ◌*◌, ◌%◌, ◌^◌, List, [], ◌∷◌, Bool, true, false, Option, Some, None, get_or, set, refl, sym, ◌∙◌, subst, arith, nat_lt}
 use Rattle.behaviours.specs.Shown.{AccessKind, Read, Write}
 use Rattle.sb_base.specs.declared.ending.Ending.TheVariants.{Keys}
 use Rattle.obj_memory.specs.declared.int_type.IntType.{IntType}
-use Rattle.obj_memory.specs.declared.int_type.IntType.TheVariants.{Char}
 use Rattle.obj_memory.specs.declared.operator.BinaryOperator.{BinaryOperator}
 use Rattle.obj_memory.specs.declared.value.Tag.{Tag}
 use Rattle.obj_memory.specs.declared.value.Tag.TheVariants.{Untagged, OfFunction, OfObject}
@@ -16,13 +15,13 @@ use Rattle.obj_memory.specs.declared.judgement.Verdict.TheVariants.{Outside, Dea
 use Rattle.obj_memory.specs.Integers.{fit}
 use Rattle.obj_memory.specs.Operators.{binary_value}
 use Rattle.obj_memory.specs.Objects.{Objects, object_at, with_zeroed}
-use Rattle.obj_memory.specs.Judgement.{judge, named, moved, narrowed, place_in}
+use Rattle.obj_memory.specs.Judgement.{judge, named, place_in}
 use Rattle.obj_memory.specs.Access.{scalar_size, read_value, write_value, move_range}
-use Rattle.obj_memory.specs.Sound.{IsSound, IsSoundTag, IsAllowed, IsPlace, KeepsObjects}
+use Rattle.obj_memory.specs.Sound.{IsSoundTag, IsAllowed, KeepsObjects}
 use Rattle.obj_memory.proofs.Soundness.{sound_value, sound_moved, sound_zeroed}
 use Rattle.obj_memory.proofs.Keeping.{keeps_value, keeps_moved, keeps_zeroed}
 use Rattle.obj_memory.proofs.Continuing.{continues_value, continues_moved, continues_zeroed}
-use Rattle.obj_memory.proofs.Judging.{judge_inside, sound_narrowed, sound_offset}
+use Rattle.obj_memory.proofs.Judging.{judge_inside, sound_offset}
 use Rattle.obj_memory.proofs.Reading.{sound_read, place_kept}
 use Rattle.c_tree.specs.declared.expression.Kind.{Kind}
 use Rattle.c_tree.specs.declared.expression.Kind.TheVariants.{Void, Scalar as OfScalar, Structure, Array}
@@ -34,16 +33,15 @@ use Rattle.c_tree.specs.declared.expression.OffsetForm.{OffsetForm}
 use Rattle.c_tree.specs.declared.expression.OffsetForm.TheVariants.{PointerPlusIndex, IndexPlusPointer, PointerMinusIndex}
 use Rattle.source_meaning.specs.declared.home.Home.{Home}
 use Rattle.source_meaning.specs.declared.home.Home.TheVariants.{PlainValue, InObject}
-use Rattle.source_meaning.specs.State.{State, Outcome, Gives, Ended, Paused, Run, on, ◌>>=◌, ◌>>◌, done, stop, pause, choose, read_state, change, skip, tally, Header, Setting}
-use Rattle.c_tree.specs.Kinds.{size_of_kind}
-use Rattle.source_meaning.specs.Actions.{integer, scalar_of, converted_to, converted, moved_back, offset_value, value_or_divide, operate, updated, given, plain_value, set_plain, update_plain, verdict_on, place_or_stop, located, note, read_scalar, write_scalar, move_bytes, load, store, update, load_structure, copy_structure, read_lvalue, write_lvalue, put_bytes, take_key}
+use Rattle.source_meaning.specs.State.{State, stop, choose, change, Header, Setting}
+use Rattle.source_meaning.specs.Actions.{integer, converted_to, converted, offset_value, value_or_divide, operate, updated, given, plain_value, set_plain, update_plain, place_or_stop, located, note, read_scalar, write_scalar, move_bytes, load, store, update, copy_structure, read_lvalue, write_lvalue, put_bytes, take_key}
 use Rattle.source_meaning.specs.Expressions.{callee_by, callee}
-use Rattle.source_meaning.specs.Initializers.{zero_object, zero_home, zero_variable, store_bytes}
-use Rattle.source_meaning.specs.Naming.{Scope, Basis, OnName, OnPointer, OnValue, IsWritable, IsNoStructure, IsScalar}
-use Rattle.source_meaning.specs.Keeping.{LiesInObject, AllLie, IsKept, LivesOn, IsDirect, IsNamed}
+use Rattle.source_meaning.specs.Initializers.{zero_object, zero_home, zero_variable}
+use Rattle.source_meaning.specs.Naming.{Basis, OnName, OnPointer, OnValue}
+use Rattle.source_meaning.specs.Keeping.{LiesInObject, IsDirect}
 use Rattle.source_meaning.proofs.Separating.{ends_same}
 use Rattle.source_meaning.proofs.Holding.{all_lie_more, lives_same, direct_named, direct_allowed, allowed_lies, judged_direct, direct_kept}
-use Rattle.source_meaning.proofs.Sure.{Context, IsGood, AreTagged, stops_same, Leaves, After, Sure, Any, IsStable, sure_on, sure_weak, sure_any, sure_post, sure_frame, sure_beside, sure_done, sure_skip, sure_stop, sure_read, sure_tally, sure_choose, sure_objects, IsTagged, DirectIf, ValueIs, ReachBy, LvalueIs, stable_tag, value_is}
+use Rattle.source_meaning.proofs.Sure.{Context, IsGood, AreTagged, stops_same, After, Sure, Any, sure_on, sure_weak, sure_post, sure_frame, sure_done, sure_skip, sure_stop, sure_read, sure_tally, sure_choose, sure_objects, IsTagged, ValueIs, ReachBy, LvalueIs, stable_tag}
 
 -- values
 

@@ -1,11 +1,10 @@
 -- Calls keep objects sound: those of the callee are new, and die at its return, and the caller's names are good again.
-use Rattle.std.proofs.Common.{◌≡◌, ℕ, zero, suc, ◌+◌, ◌≤◌, ◌<◌, List, [], ◌∷◌, ◌++◌, map, Bool, true, false, Option, Some, None, length, get_or, if◌then◌else◌, refl, sym, ap, ◌∙◌, subst, arith, nat_le, nat_lt}
+use Rattle.std.proofs.Common.{◌≡◌, ℕ, zero, suc, ◌+◌, ◌≤◌, List, [], ◌∷◌, ◌++◌, map, Bool, true, false, Some, length, if◌then◌else◌, refl, sym, ap, ◌∙◌, subst, arith, nat_le, nat_lt}
 use Rattle.std.proofs.lemmas.Bool.{leb-true}
-use Rattle.sb_base.specs.declared.ending.Ending.{Ending}
 use Rattle.sb_base.specs.declared.ending.Ending.TheVariants.{Stack, Keys}
 use Rattle.obj_memory.specs.declared.value.Value.{Value}
 use Rattle.obj_memory.specs.Objects.{Objects, pointer_to}
-use Rattle.obj_memory.specs.Sound.{IsSound, IsSoundTag, Continues, AreDisjoint}
+use Rattle.obj_memory.specs.Sound.{IsSound, Continues, AreDisjoint}
 use Rattle.obj_memory.proofs.Soundness.{sound_tag_continues}
 use Rattle.obj_memory.proofs.Judging.{sound_pointer}
 use Rattle.c_tree.specs.declared.expression.Kind.{Kind}
@@ -16,22 +15,22 @@ use Rattle.source_meaning.specs.declared.home.Home.{Home}
 use Rattle.source_meaning.specs.declared.home.Home.TheVariants.{PlainValue, InObject}
 use Rattle.source_meaning.specs.declared.completion.Completion.{Completion}
 use Rattle.source_meaning.specs.declared.completion.Completion.TheVariants.{Normal, Broken, Continued, Returned}
-use Rattle.source_meaning.specs.State.{State, Outcome, Gives, Ended, Paused, Run, on, ◌>>=◌, ◌>>◌, done, stop, pause, choose, read_state, change, skip, tally, Header, Setting, Env}
+use Rattle.source_meaning.specs.State.{State, Outcome, Gives, Ended, Paused, on, ◌>>=◌, ◌>>◌, done, stop, choose, change, skip, Header, Setting, Env}
 use Rattle.source_meaning.specs.Places.{stack_end}
-use Rattle.source_meaning.specs.Actions.{integer, begin_turn, home_value, take_key}
+use Rattle.source_meaning.specs.Actions.{integer, home_value, take_key}
 use Rattle.source_meaning.specs.Expressions.{counted}
 use Rattle.source_meaning.specs.Statements.{in_order, execute}
-use Rattle.source_meaning.specs.Calls.{header_of, variables_of, pass_or_stop, test_stack, test_keys, call_tests, objects_end, has_objects, first_of, rest_of, parameter_values, plain_values, plain_count, parameter_count, place_variables, write_parameter, write_parameters, lay_out, set_up, caller, without_homes, back_to, returned_by, enter_begun, enter, enter_found, function_at, calls}
-use Rattle.source_meaning.specs.Naming.{Scope, static_kind, OnName, IsNoStructure, TakeNoStructure, FunctionNames, FunctionsName, scope_of, AllName}
+use Rattle.source_meaning.specs.Calls.{header_of, variables_of, pass_or_stop, test_stack, test_keys, call_tests, objects_end, has_objects, first_of, rest_of, parameter_values, plain_values, plain_count, parameter_count, place_variables, write_parameter, write_parameters, lay_out, set_up, caller, without_homes, back_to, returned_by, enter_begun, enter}
+use Rattle.source_meaning.specs.Naming.{static_kind, OnName, IsNoStructure, TakeNoStructure, FunctionNames, scope_of}
 use Rattle.source_meaning.specs.Keeping.{AllLie, IsKept, LivesOn, AreSeparate}
 use Rattle.source_meaning.proofs.ActionsAct.{continues_without}
 use Rattle.source_meaning.proofs.Separating.{separate_without, separate_back}
 use Rattle.source_meaning.proofs.Holding.{all_lie_on, lives_same, lives_then, IsHeld, held_on, held_named}
-use Rattle.source_meaning.proofs.Sure.{Context, IsGood, IsGoodBy, AreTagged, AreLow, Leaves, Stops, stops_then, After, Sure, Any, IsStable, sure_on, sure_weak, sure_any, sure_post, sure_frame, sure_beside, sure_done, sure_skip, sure_stop, sure_pause, sure_read, sure_counted, IsTagged, LvalueIs, stable_tagged, value_is}
+use Rattle.source_meaning.proofs.Sure.{Context, IsGood, AreTagged, AreLow, Leaves, Stops, stops_then, After, Sure, Any, IsStable, sure_on, sure_weak, sure_any, sure_post, sure_frame, sure_done, sure_skip, sure_read, sure_counted, IsTagged, LvalueIs, stable_tagged, value_is}
 use Rattle.source_meaning.proofs.SureActions.{sure_write_lvalue}
 use Rattle.source_meaning.proofs.SureTree.{Calling}
 use Rattle.source_meaning.proofs.SureFlow.{CompletionIs, sure_begin_turn, body_sure}
-use Rattle.source_meaning.proofs.Laying.{PlacedHome, Placed, placed_homes, placed_on, AllFrom, placed_from, without_sound, without_low, without_lives, EndsBut, ends_but_then, ends_without, HasPlaced, PlacesBy, places}
+use Rattle.source_meaning.proofs.Laying.{PlacedHome, Placed, placed_homes, placed_on, AllFrom, placed_from, without_sound, without_low, without_lives, EndsBut, ends_but_then, ends_without, PlacesBy, places}
 
 -- plain values at entry
 
@@ -227,7 +226,7 @@ module _ (statics : List StaticObject) (f : Function) (names : FunctionNames sta
         → After outer s IsTagged (on o (λ completion. change (back_to (caller s)) >> done (returned_by completion)))
     returns_by s good s1 up (Gives completion s2) h = (
       back_good s good s2 h.0.good (lives_then s.objects s1.objects s2.objects up.lives h.0.lives) (subst (λ x. AllFrom (length s.objects) x) (sym h.0.frame) up.new)
-        (subst (λ x. EndsBut s.objects s2.objects x) (sym h.0.frame) (ends_but_then s.objects s1.objects s2.objects s1.frame up.ends h.0.lives.continues h.0.ended)),
+          (subst (λ x. EndsBut s.objects s2.objects x) (sym h.0.frame) (ends_but_then s.objects s1.objects s2.objects s1.frame up.ends h.0.lives.continues h.0.ended)),
       returned_tagged completion s2.objects (without_homes s2.frame s2.objects) (continues_without s2.frame s2.objects) h.1,
     )
     returns_by s good s1 up (Ended e s2) h = stops_then s.objects s1.objects s2 up.lives h

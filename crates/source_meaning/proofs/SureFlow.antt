@@ -1,7 +1,6 @@
 -- Statements keep objects sound.
-use Rattle.std.proofs.Common.{◌≡◌, ℕ, zero, suc, ◌+◌, List, [], ◌∷◌, ◌++◌, map, Bool, true, false, Option, Some, None, refl, ap, sym, ◌∙◌, subst, nat_lt}
-use Rattle.std.specs.Prelude.{not, length}
-use Rattle.obj_memory.specs.declared.value.Value.{Value}
+use Rattle.std.proofs.Common.{ℕ, zero, suc, ◌+◌, List, [], ◌∷◌, map, Bool, true, false, Option, Some, None, refl, nat_lt}
+use Rattle.std.specs.Prelude.{length}
 use Rattle.obj_memory.specs.Objects.{Objects}
 use Rattle.c_tree.specs.declared.expression.Expression.{Expression}
 use Rattle.c_tree.specs.declared.statement.First.{First}
@@ -10,14 +9,13 @@ use Rattle.c_tree.specs.declared.statement.CaseLabel.{CaseLabel}
 use Rattle.c_tree.specs.declared.statement.Statement.{Statement, Expression as ExpressionStatement, Empty, Declaration, Block', If', While', DoWhile', For', Switch', Break, Continue, Return, Row_of-Statement, end_of-Statement, more_of-Statement, Held-Statement-If-2, None', Some', Row_of-SwitchItem, end_of-SwitchItem, more_of-SwitchItem}
 use Rattle.source_meaning.specs.declared.completion.Completion.{Completion}
 use Rattle.source_meaning.specs.declared.completion.Completion.TheVariants.{Normal, Broken, Continued, Returned}
-use Rattle.source_meaning.specs.State.{State, Run, ◌>>=◌, ◌>>◌, done, stop, pause, choose, read_state, change, skip, tally, Setting, Env}
-use Rattle.source_meaning.specs.Actions.{begin_turn, integer, is_zero}
-use Rattle.source_meaning.specs.Expressions.{counted, evaluate}
+use Rattle.source_meaning.specs.State.{Run, done, pause, choose, change, Env}
+use Rattle.source_meaning.specs.Actions.{begin_turn}
 use Rattle.source_meaning.specs.Statements.{next_after, in_order, holds, perform, perform_first, after_body, turns, turns_before, LabeledRun, run_labeled, is_case_of, is_default, labels_from, items_at, items_from, labels_of, compared, or_default, run_items, after_switch, switch, execute, otherwise, each_of, items_of}
-use Rattle.source_meaning.specs.Naming.{Scope, Names, NamesIfAny, FirstNames, InitializationsName, StatementNames, OtherwiseNames, StatementsName, ItemsName, AllName}
+use Rattle.source_meaning.specs.Naming.{NamesIfAny, FirstNames, StatementNames, OtherwiseNames, StatementsName, ItemsName, AllName}
 use Rattle.source_meaning.proofs.Separating.{ends_same}
 use Rattle.source_meaning.proofs.Holding.{lives_same}
-use Rattle.source_meaning.proofs.Sure.{Context, IsGood, Sure, Any, sure_on, sure_weak, sure_any, sure_post, sure_done, sure_skip, sure_pause, sure_tally, sure_counted, sure_choose, IsTagged, ValueIs}
+use Rattle.source_meaning.proofs.Sure.{Context, Sure, Any, sure_on, sure_any, sure_done, sure_skip, sure_pause, sure_tally, sure_counted, sure_choose, IsTagged}
 use Rattle.source_meaning.proofs.SureTree.{Calling, evaluate_sure, initialize_all_sure}
 
 -- the value of a return has a sound tag

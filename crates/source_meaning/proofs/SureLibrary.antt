@@ -1,5 +1,5 @@
 -- The routines of the library keep objects sound.
-use Rattle.std.proofs.Common.{◌≡◌, ℕ, zero, suc, ◌+◌, ◌-◌, ◌*◌, ◌%◌, ◌≤◌, ◌<◌, List, [], ◌∷◌, ◌++◌, Bool, true, false, ◌&&◌, Option, Some, None, length, min, if◌then◌else◌, refl, sym, ap, ◌∙◌, subst, arith, nat_lt, inl, inr, ◌⊎◌}
+use Rattle.std.proofs.Common.{◌≡◌, ℕ, ◌+◌, ◌*◌, ◌%◌, ◌≤◌, ◌<◌, List, [], ◌∷◌, Bool, true, false, ◌&&◌, Option, Some, None, length, min, if◌then◌else◌, refl, sym, ap, ◌∙◌, arith, nat_lt, inl, inr}
 use Rattle.std.proofs.lemmas.Bool.{ltb-true, ltb-false}
 use Rattle.addr_map.specs.Places.{AreMapped}
 use Rattle.addr_map.specs.declared.region.Region.TheVariants.{Heap as HeapRegion}
@@ -15,8 +15,8 @@ use Rattle.obj_memory.specs.declared.object.Storage.TheVariants.{Allocated}
 use Rattle.obj_memory.specs.Objects.{ObjectState, Objects, object_at, with_new, with_dead, pointer_to}
 use Rattle.obj_memory.specs.Integers.{fit}
 use Rattle.obj_memory.specs.Access.{move_range}
-use Rattle.obj_memory.specs.Heap.{is_allocated, block_room, rounded_up, block_count, least_place}
-use Rattle.obj_memory.specs.Sound.{IsSound, IsPlace, IsBlockPlace, DoNotMeet, IsClearOf}
+use Rattle.obj_memory.specs.Heap.{is_allocated, block_room, block_count, least_place}
+use Rattle.obj_memory.specs.Sound.{IsPlace, IsBlockPlace, DoNotMeet, IsClearOf}
 use Rattle.obj_memory.proofs.Soundness.{sound_new, sound_dead, sound_moved}
 use Rattle.obj_memory.proofs.Keeping.{keeps_moved}
 use Rattle.obj_memory.proofs.Continuing.{continues_moved}
@@ -31,13 +31,13 @@ use Rattle.source_meaning.specs.Actions.{integer, is_zero, make_object}
 use Rattle.source_meaning.specs.Heap.{tally_blocks, block_place, make_block, allocate, bad_free, is_block_start, freed_object, freed_by, freed, release, free, calloc, move_block, replace_block, realloc}
 use Rattle.source_meaning.specs.Library.{putchar, next_byte, argument, routine}
 use Rattle.source_meaning.specs.Strings.{reach}
-use Rattle.source_meaning.specs.Naming.{Scope, OnValue}
-use Rattle.source_meaning.specs.Keeping.{LivesOn, IsDirect}
+use Rattle.source_meaning.specs.Naming.{OnValue}
+use Rattle.source_meaning.specs.Keeping.{IsDirect}
 use Rattle.source_meaning.proofs.Holding.{beyond, length-new, length-dead, lives_same, lives_kept, lives_new, lives_dead_block}
-use Rattle.source_meaning.proofs.Sure.{Context, IsGood, AreTagged, Leaves, After, Sure, Any, IsStable, sure_frame, sure_beside, sure_objects, stable_tag, stable_tagged, sure_on, sure_weak, sure_any, sure_post, sure_done, sure_skip, sure_stop, sure_read, sure_tally, sure_choose, good_on, IsTagged}
+use Rattle.source_meaning.proofs.Sure.{Context, IsGood, AreTagged, Leaves, After, Sure, Any, IsStable, sure_frame, sure_beside, sure_objects, stable_tag, stable_tagged, sure_on, sure_weak, sure_any, sure_post, sure_done, sure_stop, sure_read, sure_tally, sure_choose, good_on, IsTagged}
 use Rattle.source_meaning.proofs.SureActions.{sure_located, sure_put_bytes, sure_take_key}
 use Rattle.source_meaning.proofs.SureBytes.{sure_memmove, sure_memset, sure_memcmp, sure_strlen, sure_compare_within, sure_strcpy, sure_strncpy, sure_strcat, sure_seek_within, sure_puts}
-use Rattle.source_meaning.proofs.Laying.{fresh_live, fresh_size, low_new, low_dead, rounded_whole}
+use Rattle.source_meaning.proofs.Laying.{fresh_live, fresh_size, low_new, low_dead}
 use Rattle.source_meaning.proofs.Separating.{separate_dead, separate_block, ends_same, ends_as_many, ends_block}
 
 -- objects that are made and that die

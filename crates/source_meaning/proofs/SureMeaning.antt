@@ -1,8 +1,8 @@
 -- A program that names what is there keeps its objects sound, and its accesses are of bytes of objects.
-use Rattle.std.proofs.Common.{◌≡◌, ℕ, zero, suc, ◌+◌, ◌-◌, ◌*◌, ◌/◌, ◌%◌, ◌≤◌, ◌<◌, List, [], ◌∷◌, ◌++◌, Bool, true, false, Option, Some, None, length, get_or, replicate, refl, sym, ap, ◌∙◌, subst, arith, inl, inr, ◌⊎◌, ◌≢◌}
+use Rattle.std.proofs.Common.{◌≡◌, ℕ, zero, suc, ◌+◌, ◌/◌, ◌%◌, ◌≤◌, ◌<◌, List, [], ◌∷◌, true, false, Option, Some, None, length, get_or, replicate, refl, sym, ap, ◌∙◌, subst, arith, inl, inr, ◌⊎◌, ◌≢◌}
 use Rattle.std.proofs.lemmas.Bool.{cases_lt}
 use Rattle.std.proofs.lemmas.List.{length-replicate}
-use Rattle.addr_map.specs.Places.{AreMapped, region_start, region_end, region_size, whole_pages}
+use Rattle.addr_map.specs.Places.{AreMapped, region_start, region_size}
 use Rattle.addr_map.specs.declared.region.Region.TheVariants.{Globals, Stack as StackRegion, Heap as HeapRegion}
 use Rattle.addr_map.proofs.Order.{ends_low, starts_whole, in_order}
 use Rattle.sb_base.specs.Budgets.{BudgetSizes}
@@ -18,18 +18,17 @@ use Rattle.c_tree.specs.declared.expression.Kind.{Kind}
 use Rattle.c_tree.specs.declared.program.Function.{Function}
 use Rattle.c_tree.specs.declared.program.StaticObject.{StaticObject}
 use Rattle.c_tree.specs.declared.program.Program.{Program}
-use Rattle.source_meaning.specs.State.{State, Outcome, Gives, Ended, Paused, Run, Setting, Env}
+use Rattle.source_meaning.specs.State.{State, Outcome, Gives, Ended, Paused, Setting}
 use Rattle.source_meaning.specs.Places.{statics_first, stack_first, stack_end, heap_first}
 use Rattle.c_tree.specs.Kinds.{size_of_kind}
-use Rattle.source_meaning.specs.Actions.{integer}
 use Rattle.source_meaning.specs.Calls.{enter_found, function_at, calls}
 use Rattle.source_meaning.specs.Meaning.{placed_statics, statics_end, setting_of, fresh, static_env, store_statics, objects_after, initial_objects, start, line_of, outcome}
 use Rattle.source_meaning.specs.Acting.{state_of}
-use Rattle.source_meaning.specs.Naming.{Scope, static_kind, FunctionNames, FunctionsName, StaticsName, NamesObjects, PartsName, scope_of}
-use Rattle.source_meaning.specs.Keeping.{IsKept, IsNamed, AreSeparate, IsSoundState}
+use Rattle.source_meaning.specs.Naming.{static_kind, FunctionNames, FunctionsName, StaticsName, NamesObjects, scope_of}
+use Rattle.source_meaning.specs.Keeping.{IsNamed, AreSeparate, IsSoundState}
 use Rattle.source_meaning.proofs.Separating.{separate_back}
-use Rattle.source_meaning.proofs.Holding.{live_made, IsHeld, held_on, held_named}
-use Rattle.source_meaning.proofs.Sure.{Context, IsGood, IsGoodBy, AreLow, AreTagged, Leaves, After, Sure, Any, sure_on, sure_weak, sure_any, sure_post, sure_done, sure_skip, sure_stop, sure_pause, sure_read, IsTagged}
+use Rattle.source_meaning.proofs.Holding.{live_made, IsHeld, held_named}
+use Rattle.source_meaning.proofs.Sure.{Context, IsGood, AreLow, AreTagged, After, Sure, Any, sure_on, sure_skip, sure_stop, sure_pause, sure_read, IsTagged}
 use Rattle.source_meaning.proofs.SureTree.{Calling, parts_sure}
 use Rattle.source_meaning.proofs.SureCalls.{enter_sure}
 use Rattle.source_meaning.proofs.SureLibrary.{sure_routine}

@@ -1,17 +1,12 @@
 -- Expressions, lvalues and initializers keep objects sound, and an lvalue that rests on a name is of bytes of a live object.
-use Rattle.std.proofs.Common.{◌≡◌, ℕ, zero, suc, ◌+◌, ◌≤◌, List, [], ◌∷◌, Bool, true, false, Option, Some, None, length, get_or, refl, sym, ap, ◌∙◌, subst, arith}
-use Rattle.std.specs.Prelude.{not}
+use Rattle.std.proofs.Common.{◌≡◌, ℕ, zero, suc, ◌+◌, ◌≤◌, List, [], ◌∷◌, Some, length, refl, sym, subst, arith}
 use Rattle.obj_memory.specs.declared.int_type.IntType.TheVariants.{Char}
-use Rattle.obj_memory.specs.declared.value.Tag.TheVariants.{Untagged}
 use Rattle.obj_memory.specs.declared.value.Value.{Value}
-use Rattle.obj_memory.specs.declared.value.Scalar.{Scalar}
-use Rattle.obj_memory.specs.declared.value.Scalar.TheVariants.{Integer, Pointer}
-use Rattle.obj_memory.specs.Objects.{Objects, object_at, pointer_to}
+use Rattle.obj_memory.specs.declared.value.Scalar.TheVariants.{Integer}
+use Rattle.obj_memory.specs.Objects.{Objects, pointer_to}
 use Rattle.obj_memory.specs.Integers.{size_of}
 use Rattle.obj_memory.specs.Judgement.{narrowed}
-use Rattle.obj_memory.specs.Operators.{one_if, unary_value}
 use Rattle.obj_memory.specs.Access.{scalar_size}
-use Rattle.obj_memory.specs.Sound.{IsSoundTag}
 use Rattle.obj_memory.proofs.Judging.{sound_pointer, sound_narrowed}
 use Rattle.c_tree.specs.declared.expression.Fixity.{Fixity}
 use Rattle.c_tree.specs.declared.expression.Fixity.TheVariants.{Prefix}
@@ -28,18 +23,17 @@ use Rattle.c_tree.specs.declared.statement.Content.TheVariants.{Value as ValueOf
 use Rattle.c_tree.specs.declared.statement.Initialization.{Initialization}
 use Rattle.c_tree.specs.declared.statement.Initialization.TheVariants.{Plain as PlainInitialization, Object}
 use Rattle.source_meaning.specs.declared.home.Home.{Home}
-use Rattle.source_meaning.specs.declared.home.Home.TheVariants.{PlainValue, InObject}
-use Rattle.source_meaning.specs.State.{State, Run, ◌>>=◌, ◌>>◌, done, stop, choose, read_state, skip, tally, Setting, Env}
+use Rattle.source_meaning.specs.State.{State, Env}
 use Rattle.c_tree.specs.Kinds.{size_of_kind}
-use Rattle.source_meaning.specs.Actions.{integer, is_zero, scalar_of, integer_type, converted, offset_value, difference_value, updated, plain_value, home_value, home_pointer, each_value, read_lvalue, write_lvalue, update}
-use Rattle.source_meaning.specs.Expressions.{counted, nodes_of, function_pointer, is_judged, value, place, values, evaluate}
+use Rattle.source_meaning.specs.Actions.{integer, is_zero, scalar_of, integer_type, converted, offset_value, updated, plain_value, home_value, home_pointer, each_value, read_lvalue, write_lvalue, update}
+use Rattle.source_meaning.specs.Expressions.{counted, nodes_of, is_judged, value, place, values, evaluate}
 use Rattle.source_meaning.specs.Initializers.{store_bytes, store_content, store_parts, initialize, initialize_all}
 use Rattle.source_meaning.specs.Library.{routine}
 use Rattle.source_meaning.specs.Printing.{print_formatted}
-use Rattle.source_meaning.specs.Naming.{Scope, Basis, OnName, OnPointer, OnValue, basis_of, IsWritable, IsNoStructure, IsScalar, IsStructureWith, ValueNames, LvalueNames, RowNames, Names, ContentNames, PartsName, InitializationNames, InitializationsName, static_kind, object_kind}
+use Rattle.source_meaning.specs.Naming.{Basis, OnName, OnPointer, OnValue, basis_of, IsScalar, IsStructureWith, ValueNames, LvalueNames, RowNames, Names, ContentNames, PartsName, InitializationNames, InitializationsName, static_kind, object_kind}
 use Rattle.source_meaning.specs.Keeping.{IsDirect, IsNamed}
 use Rattle.source_meaning.proofs.Holding.{direct_less, direct_narrowed, named_less, named_narrowed, named_on, held_named}
-use Rattle.source_meaning.proofs.Sure.{Context, IsGood, AreTagged, Sure, Any, IsStable, sure_on, sure_weak, sure_if_good, sure_any, sure_post, sure_frame, sure_beside, sure_done, sure_value, sure_skip, sure_read, sure_tally, sure_counted_as, sure_counted, sure_choose, IsTagged, DirectIf, ValueIs, ReachBy, LvalueIs, stable_tag, stable_tagged, stable_lvalue, value_is, plainly, of_kind}
+use Rattle.source_meaning.proofs.Sure.{Context, IsGood, AreTagged, Sure, Any, IsStable, sure_on, sure_weak, sure_if_good, sure_any, sure_post, sure_frame, sure_beside, sure_done, sure_value, sure_skip, sure_read, sure_tally, sure_counted_as, sure_counted, sure_choose, IsTagged, DirectIf, ValueIs, ReachBy, LvalueIs, stable_tag, stable_lvalue, plainly, of_kind}
 use Rattle.source_meaning.proofs.SureActions.{converted_tagged, offset_tagged, sure_operate, sure_callee, on_pointer, sure_store, sure_read_lvalue, sure_write_lvalue, sure_update, sure_set_plain, sure_update_plain, sure_zero_variable}
 
 -- what the calls of an environment do
@@ -214,8 +208,13 @@ module _ {sc : Context} {env : Env} (c : Calling sc env) where
   content_sure : (p : Value) (whole offset : ℕ) (content : Content) → ContentNames sc.scope whole offset content → Sure sc (IsBase p whole) (store_content env p offset content) (λ _. IsBase p whole)
   content_sure p whole offset (ValueOf e) h =
       sure_on (sure_beside (stable_base p whole) (evaluate_sure e h.0)) (λ v.
-      sure_on (sure_post (λ _ o x. x.0) (sure_if_good (λ s good x. (x.0, (
-        record { tag = (base_part p whole offset (size_of_kind e.kind) h.1 s good x.0).0; reach = (base_part p whole offset (size_of_kind e.kind) h.1 s good x.0).1 }, x.1)))
+      sure_on (sure_post (λ _ o x. x.0) (sure_if_good (λ s good x. (
+        x.0,
+        (
+          record { tag = (base_part p whole offset (size_of_kind e.kind) h.1 s good x.0).0; reach = (base_part p whole offset (size_of_kind e.kind) h.1 s good x.0).1 },
+          x.1,
+        ),
+      ))
       (sure_frame (stable_base p whole) (sure_write_lvalue OnName e.kind (narrowed offset (size_of_kind e.kind) p) e.line v)))) (λ _. sure_skip))
   content_sure p whole offset (Literal bytes) h = sure_on (sure_tally 1) (λ _. bytes_sure p whole offset bytes.items h)
 

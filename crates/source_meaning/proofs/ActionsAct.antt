@@ -36,17 +36,18 @@ use Rattle.source_meaning.specs.Expressions.{callee_by, callee}
 use Rattle.source_meaning.specs.Initializers.{zero_object, zero_home, zero_variable, store_bytes}
 use Rattle.source_meaning.specs.Calls.{pass_or_stop, test_charge, test_stack, test_keys, call_tests, first_of, rest_of, set_plain_values, place_object, place_variables, write_parameter, write_parameters, lay_out, set_up, Caller, without_homes, back_to}
 use Rattle.source_meaning.specs.Acting.{IsAction}
-use Rattle.source_meaning.proofs.Acting.{acts_on, acts_then, acts_done, acts_skip, acts_stop, acts_choose, acts_tally, acts_change, acts_private, changes, basic}
+use Rattle.source_meaning.proofs.Acting.{later_same, acts_on, acts_then, acts_done, acts_skip, acts_stop, acts_choose, acts_read, acts_tally, acts_change, acts_objects, acts_private, changes, basic}
+use Rattle.source_meaning.proofs.Local.{IsLocal, local_on, local_then, local_done, local_skip, local_stop, local_choose, local_read, local_tally, local_change, local_objects, local_changes, local_basic}
 
 -- accesses
 
-pub acts_place_or_stop : (v : Verdict) (line : ℕ) → IsAction (place_or_stop v line)
-acts_place_or_stop Outside line = acts_stop
-acts_place_or_stop Dead line = acts_stop
-acts_place_or_stop (Inside p) line = acts_done
+pub local_place_or_stop : (v : Verdict) (line : ℕ) → IsLocal (place_or_stop v line)
+local_place_or_stop Outside line = local_stop
+local_place_or_stop Dead line = local_stop
+local_place_or_stop (Inside p) line = local_done
 
-pub acts_located : (j : Bool) (size : ℕ) (v : Value) (line : ℕ) → IsAction (located j size v line)
-acts_located j size v line = search (basic, acts_place_or_stop)
+pub local_located : (j : Bool) (size : ℕ) (v : Value) (line : ℕ) → IsLocal (located j size v line)
+local_located j size v line = search (local_basic, local_place_or_stop)
 
 pub acts_note : (kind : AccessKind) (address size : ℕ) → IsAction (note kind address size)
 acts_note kind address size = record {
@@ -69,56 +70,59 @@ acts_note kind address size = record {
   );
 }
 
-pub acts_read_scalar : (k : Scalar) (address : ℕ) (p : Place) → IsAction (read_scalar k address p)
-acts_read_scalar k address p = search (basic, acts_note)
+pub local_note : (kind : AccessKind) (address size : ℕ) → IsLocal (note kind address size)
+local_note kind address size = record { action = acts_note kind address size; keeps = λ s. record { plain = refl; frame = refl } }
 
-pub acts_write_scalar : (k : Scalar) (address : ℕ) (p : Place) (v : Value) → IsAction (write_scalar k address p v)
-acts_write_scalar k address p v = search (basic, acts_note, changes)
+pub local_read_scalar : (k : Scalar) (address : ℕ) (p : Place) → IsLocal (read_scalar k address p)
+local_read_scalar k address p = search (local_basic, local_note)
 
-pub acts_move_bytes : (size : ℕ) (d s : Place) → IsAction (move_bytes size d s)
-acts_move_bytes size d s = search (basic, changes)
+pub local_write_scalar : (k : Scalar) (address : ℕ) (p : Place) (v : Value) → IsLocal (write_scalar k address p v)
+local_write_scalar k address p v = search (local_basic, local_note, local_changes)
 
-pub acts_load : (k : Scalar) (j : Bool) (p : Value) (line : ℕ) → IsAction (load k j p line)
-acts_load k j p line = acts_on (acts_located j _ p line) (λ place. acts_read_scalar k p.word place)
+pub local_move_bytes : (size : ℕ) (d s : Place) → IsLocal (move_bytes size d s)
+local_move_bytes size d s = search (local_basic, local_changes)
 
-pub acts_store : (k : Scalar) (j : Bool) (p : Value) (line : ℕ) (v : Value) → IsAction (store k j p line v)
-acts_store k j p line v = acts_on (acts_located j _ p line) (λ place. acts_write_scalar k p.word place v)
+pub local_load : (k : Scalar) (j : Bool) (p : Value) (line : ℕ) → IsLocal (load k j p line)
+local_load k j p line = local_on (local_located j _ p line) (λ place. local_read_scalar k p.word place)
 
-pub acts_update : (k : Scalar) (j : Bool) (p : Value) (line : ℕ) (f : Value → Run Value) (fixity : Fixity) → ((v : Value) → IsAction (f v)) → IsAction (update k j p line f fixity)
-acts_update k j p line f fixity h =
-    acts_on (acts_located j _ p line) (λ place. acts_on (acts_read_scalar k p.word place) (λ old. acts_on (h old) (λ new. acts_then (acts_write_scalar k p.word place new) (acts_done {a = given fixity old new}))))
+pub local_store : (k : Scalar) (j : Bool) (p : Value) (line : ℕ) (v : Value) → IsLocal (store k j p line v)
+local_store k j p line v = local_on (local_located j _ p line) (λ place. local_write_scalar k p.word place v)
 
-pub acts_load_structure : (size : ℕ) (j : Bool) (p : Value) (line : ℕ) → IsAction (load_structure size j p line)
-acts_load_structure size j p line = acts_then (acts_located j size p line) acts_done
+pub local_update : (k : Scalar) (j : Bool) (p : Value) (line : ℕ) (f : Value → Run Value) (fixity : Fixity) → ((v : Value) → IsLocal (f v)) → IsLocal (update k j p line f fixity)
+local_update k j p line f fixity h =
+    local_on (local_located j _ p line) (λ place. local_on (local_read_scalar k p.word place) (λ old. local_on (h old) (λ new. local_then (local_write_scalar k p.word place new) (local_done {a = given fixity old new}))))
 
-pub acts_copy_structure : (size : ℕ) (j : Bool) (p : Value) (line : ℕ) (v : Value) → IsAction (copy_structure size j p line v)
-acts_copy_structure size j p line v = acts_on (acts_located j size p line) (λ d. acts_on (acts_located false size v line) (λ s. acts_move_bytes size d s))
+pub local_load_structure : (size : ℕ) (j : Bool) (p : Value) (line : ℕ) → IsLocal (load_structure size j p line)
+local_load_structure size j p line = local_then (local_located j size p line) local_done
 
-pub acts_read_lvalue : (kind : Kind) (j : Bool) (p : Value) (line : ℕ) → IsAction (read_lvalue kind j p line)
-acts_read_lvalue Void j p line = acts_done
-acts_read_lvalue (OfScalar k) j p line = acts_load k j p line
-acts_read_lvalue (Structure n) j p line = acts_load_structure n j p line
-acts_read_lvalue (Array n) j p line = acts_done
+pub local_copy_structure : (size : ℕ) (j : Bool) (p : Value) (line : ℕ) (v : Value) → IsLocal (copy_structure size j p line v)
+local_copy_structure size j p line v = local_on (local_located j size p line) (λ d. local_on (local_located false size v line) (λ s. local_move_bytes size d s))
 
-pub acts_write_lvalue : (kind : Kind) (j : Bool) (p : Value) (line : ℕ) (v : Value) → IsAction (write_lvalue kind j p line v)
-acts_write_lvalue Void j p line v = acts_done
-acts_write_lvalue (OfScalar k) j p line v = acts_then (acts_store k j p line v) acts_done
-acts_write_lvalue (Structure n) j p line v = acts_then (acts_copy_structure n j p line v) acts_done
-acts_write_lvalue (Array n) j p line v = acts_done
+pub local_read_lvalue : (kind : Kind) (j : Bool) (p : Value) (line : ℕ) → IsLocal (read_lvalue kind j p line)
+local_read_lvalue Void j p line = local_done
+local_read_lvalue (OfScalar k) j p line = local_load k j p line
+local_read_lvalue (Structure n) j p line = local_load_structure n j p line
+local_read_lvalue (Array n) j p line = local_done
+
+pub local_write_lvalue : (kind : Kind) (j : Bool) (p : Value) (line : ℕ) (v : Value) → IsLocal (write_lvalue kind j p line v)
+local_write_lvalue Void j p line v = local_done
+local_write_lvalue (OfScalar k) j p line v = local_then (local_store k j p line v) local_done
+local_write_lvalue (Structure n) j p line v = local_then (local_copy_structure n j p line v) local_done
+local_write_lvalue (Array n) j p line v = local_done
 
 -- values
 
-acts_value_or_divide : (o : Option ℕ) (line : ℕ) → IsAction (value_or_divide o line)
-acts_value_or_divide None line = acts_stop
-acts_value_or_divide (Some w) line = acts_done
+local_value_or_divide : (o : Option ℕ) (line : ℕ) → IsLocal (value_or_divide o line)
+local_value_or_divide None line = local_stop
+local_value_or_divide (Some w) line = local_done
 
-pub acts_operate : (op : BinaryOperator) (t : IntType) (x y : Value) (line : ℕ) → IsAction (operate op t x y line)
-acts_operate op t x y line = acts_value_or_divide (binary_value op t x.word y.word) line
+pub local_operate : (op : BinaryOperator) (t : IntType) (x y : Value) (line : ℕ) → IsLocal (operate op t x y line)
+local_operate op t x y line = local_value_or_divide (binary_value op t x.word y.word) line
 
-pub acts_updated : (u : Update) (k : Scalar) (right : Value) (line : ℕ) (old : Value) → IsAction (updated u k right line old)
-acts_updated (Arithmetic op t) k right line old = acts_on (acts_operate op t (integer (fit t old.word)) right line) (λ new. acts_done)
-acts_updated (Forward size) k right line old = acts_done
-acts_updated (Back size) k right line old = acts_done
+pub local_updated : (u : Update) (k : Scalar) (right : Value) (line : ℕ) (old : Value) → IsLocal (updated u k right line old)
+local_updated (Arithmetic op t) k right line old = local_on (local_operate op t (integer (fit t old.word)) right line) (λ new. local_done)
+local_updated (Forward size) k right line old = local_done
+local_updated (Back size) k right line old = local_done
 
 pub acts_set_plain : (x : ℕ) (v : Value) → IsAction (set_plain x v)
 acts_set_plain x v = acts_private (λ k s. refl) (λ s. refl) (λ s. refl) (λ s. refl) (λ s. refl) (λ s. refl) (λ s. refl) (λ s. refl)
@@ -126,18 +130,18 @@ acts_set_plain x v = acts_private (λ k s. refl) (λ s. refl) (λ s. refl) (λ s
 pub acts_update_plain : (x : ℕ) (f : Value → Run Value) (fixity : Fixity) → ((v : Value) → IsAction (f v)) → IsAction (update_plain x f fixity)
 acts_update_plain x f fixity h = search (basic, acts_set_plain, h)
 
-pub acts_callee : (functions : List Header) (type_number : ℕ) (v : Value) (line : ℕ) → IsAction (callee functions type_number v line)
-acts_callee functions type_number v line = by v.tag
+pub local_callee : (functions : List Header) (type_number : ℕ) (v : Value) (line : ℕ) → IsLocal (callee functions type_number v line)
+local_callee functions type_number v line = by v.tag
   where
-    by : (t : Tag) → IsAction (callee_by functions type_number v.word t line)
-    by Untagged = acts_stop
-    by (OfFunction f) = acts_choose _ acts_done acts_stop
-    by (OfObject o b) = acts_stop
+    by : (t : Tag) → IsLocal (callee_by functions type_number v.word t line)
+    by Untagged = local_stop
+    by (OfFunction f) = local_choose _ local_done local_stop
+    by (OfObject o b) = local_stop
 
 -- objects
 
-pub acts_make_object : (storage : Storage) (address size : ℕ) → IsAction (make_object storage address size)
-acts_make_object storage address size = search (basic, changes) depth 9
+pub local_make_object : (storage : Storage) (address size : ℕ) → IsLocal (make_object storage address size)
+local_make_object storage address size = search (local_basic, local_changes) depth 9
 
 acts_output : (bytes : List ℕ) → IsAction (change (λ s. record s { output = s.output ++ bytes }))
 acts_output bytes = record {
@@ -160,30 +164,77 @@ acts_output bytes = record {
   );
 }
 
-pub acts_put_bytes : (bytes : List ℕ) → IsAction (put_bytes bytes)
-acts_put_bytes bytes = acts_then (acts_tally (length bytes)) (acts_output bytes)
+local_output : (bytes : List ℕ) → IsLocal (change (λ s. record s { output = s.output ++ bytes }))
+local_output bytes = record { action = acts_output bytes; keeps = λ s. record { plain = refl; frame = refl } }
+
+pub local_put_bytes : (bytes : List ℕ) → IsLocal (put_bytes bytes)
+local_put_bytes bytes = local_then (local_tally (length bytes)) (local_output bytes)
 
 one_more : (n : ℕ) → n ≤ n + 1
 one_more n = omega arith
 
-pub acts_take_key : (g : Setting) (line : ℕ) → IsAction (take_key g line)
-acts_take_key g line = search (basic, changes, one_more) depth 9
+pub local_take_key : (g : Setting) (line : ℕ) → IsLocal (take_key g line)
+local_take_key g line = search (local_basic, local_changes, one_more) depth 9
 
 -- initializers
 
-acts_zero_object : (o : ℕ) → IsAction (zero_object o)
-acts_zero_object o = search (basic, changes) depth 9
+local_zero_object : (o : ℕ) → IsLocal (zero_object o)
+local_zero_object o = search (local_basic, local_changes) depth 9
 
-acts_zero_home : (home : Home) → IsAction (zero_home home)
-acts_zero_home PlainValue = acts_skip
-acts_zero_home (InObject o) = acts_zero_object o
+local_zero_home : (home : Home) → IsLocal (zero_home home)
+local_zero_home PlainValue = local_skip
+local_zero_home (InObject o) = local_zero_object o
+
+pub local_zero_variable : (x : ℕ) → IsLocal (zero_variable x)
+local_zero_variable x = search (local_basic, local_zero_home)
+
+pub local_store_bytes : (p : Value) (offset : ℕ) (bytes : List ℕ) → IsLocal (store_bytes p offset bytes)
+local_store_bytes p offset [] = local_skip
+local_store_bytes p offset (b ∷ bs) = local_then (local_store (Integer Char) false (narrowed offset 1 p) 0 (integer b)) (local_store_bytes p (offset + 1) bs)
+
+-- they are actions
+
+pub acts_operate : (op : BinaryOperator) (t : IntType) (x y : Value) (line : ℕ) → IsAction (operate op t x y line)
+acts_operate op t x y line = (local_operate op t x y line).action
+
+pub acts_updated : (u : Update) (k : Scalar) (right : Value) (line : ℕ) (old : Value) → IsAction (updated u k right line old)
+acts_updated u k right line old = (local_updated u k right line old).action
+
+pub acts_located : (j : Bool) (size : ℕ) (v : Value) (line : ℕ) → IsAction (located j size v line)
+acts_located j size v line = (local_located j size v line).action
+
+pub acts_read_scalar : (k : Scalar) (address : ℕ) (p : Place) → IsAction (read_scalar k address p)
+acts_read_scalar k address p = (local_read_scalar k address p).action
+
+pub acts_write_scalar : (k : Scalar) (address : ℕ) (p : Place) (v : Value) → IsAction (write_scalar k address p v)
+acts_write_scalar k address p v = (local_write_scalar k address p v).action
+
+pub acts_move_bytes : (size : ℕ) (d s : Place) → IsAction (move_bytes size d s)
+acts_move_bytes size d s = (local_move_bytes size d s).action
+
+pub acts_read_lvalue : (kind : Kind) (j : Bool) (p : Value) (line : ℕ) → IsAction (read_lvalue kind j p line)
+acts_read_lvalue kind j p line = (local_read_lvalue kind j p line).action
+
+pub acts_write_lvalue : (kind : Kind) (j : Bool) (p : Value) (line : ℕ) (v : Value) → IsAction (write_lvalue kind j p line v)
+acts_write_lvalue kind j p line v = (local_write_lvalue kind j p line v).action
+
+pub acts_callee : (functions : List Header) (type_number : ℕ) (v : Value) (line : ℕ) → IsAction (callee functions type_number v line)
+acts_callee functions type_number v line = (local_callee functions type_number v line).action
+
+pub acts_make_object : (storage : Storage) (address size : ℕ) → IsAction (make_object storage address size)
+acts_make_object storage address size = (local_make_object storage address size).action
+
+pub acts_take_key : (g : Setting) (line : ℕ) → IsAction (take_key g line)
+acts_take_key g line = (local_take_key g line).action
 
 pub acts_zero_variable : (x : ℕ) → IsAction (zero_variable x)
-acts_zero_variable x = search (basic, acts_zero_home)
+acts_zero_variable x = (local_zero_variable x).action
 
 pub acts_store_bytes : (p : Value) (offset : ℕ) (bytes : List ℕ) → IsAction (store_bytes p offset bytes)
-acts_store_bytes p offset [] = acts_skip
-acts_store_bytes p offset (b ∷ bs) = acts_then (acts_store (Integer Char) false (narrowed offset 1 p) 0 (integer b)) (acts_store_bytes p (offset + 1) bs)
+acts_store_bytes p offset bytes = (local_store_bytes p offset bytes).action
+
+pub acts_update : (k : Scalar) (j : Bool) (p : Value) (line : ℕ) (u : Update) (right : Value) (at : ℕ) (fixity : Fixity) → IsAction (update k j p line (updated u k right at) fixity)
+acts_update k j p line u right at fixity = (local_update k j p line (updated u k right at) fixity (local_updated u k right at)).action
 
 -- calls
 

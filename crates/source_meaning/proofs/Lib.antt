@@ -1,4 +1,5 @@
 pub mod Acting
+pub mod Local
 pub mod ActionsAct
 pub mod LibraryActs
 pub mod Related

@@ -96,13 +96,13 @@ module _ (g : Setting) (limit limit' depth depth' : ℕ) (call call' : ℕ → L
         counted_as_related (nodes_of x) (h.on (value_related a ak al) (λ v. h.on (h.action (acts_set_plain x.variable v)) (λ _. done_related v)))
     value_related (Compound' u _ pk pl p _ ak al a) kind line =
         counted_related (h.on (place_related p) (λ q. h.on (value_related a ak al) (λ y.
-        h.action (acts_update (scalar_of pk) (is_judged p) q pl (updated u (scalar_of pk) y line) Prefix (acts_updated u (scalar_of pk) y line)))))
+        h.action (acts_update (scalar_of pk) (is_judged p) q pl u y line Prefix))))
     value_related (ChangePlain' u x _ ak al a) kind line =
         counted_as_related (nodes_of x) (h.on (value_related a ak al) (λ y.
         h.action (acts_update_plain x.variable (updated u (scalar_of kind) y line) Prefix (acts_updated u (scalar_of kind) y line))))
     value_related (Step' u fixity _ pk pl p) kind line =
         counted_related (h.on (place_related p) (λ q.
-        h.action (acts_update (scalar_of pk) (is_judged p) q pl (updated u (scalar_of pk) (integer 1) line) fixity (acts_updated u (scalar_of pk) (integer 1) line))))
+        h.action (acts_update (scalar_of pk) (is_judged p) q pl u (integer 1) line fixity)))
     value_related (StepPlain u fixity x) kind line =
         counted_as_related (nodes_of x) (h.action (acts_update_plain x.variable (updated u (scalar_of kind) (integer 1) line) fixity (acts_updated u (scalar_of kind) (integer 1) line)))
     value_related (Call' f shape args) kind line = counted_related (h.on (values_related args) (λ vs. h.call f vs line))

@@ -4,6 +4,7 @@ pub mod ActionsAct
 pub mod LibraryActs
 pub mod Related
 pub mod RelatedFlow
+pub mod Stays
 pub mod Growing
 pub mod TurnLaws
 pub mod LimitLaw

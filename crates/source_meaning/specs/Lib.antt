@@ -16,3 +16,4 @@ pub mod Acting
 pub mod Turns
 pub mod Naming
 pub mod Keeping
+pub mod Assigns

@@ -7,12 +7,12 @@ pub mod Growing
 pub mod TurnLaws
 pub mod LimitLaw
 pub mod Holding
+pub mod Separating
 pub mod Sure
 pub mod SureActions
 pub mod SureTree
 pub mod SureFlow
 pub mod Laying
-pub mod Separating
 pub mod SureCalls
 pub mod SureBytes
 pub mod SureLibrary

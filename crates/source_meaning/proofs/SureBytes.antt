@@ -27,9 +27,9 @@ use Rattle.source_meaning.specs.Bytes.{look, set_bytes, order}
 use Rattle.source_meaning.specs.Memory.{memmove, memset, pairs_compared, order_of, memcmp}
 use Rattle.source_meaning.specs.Strings.{reach, scan_within, scan, strlen, go_on, compare_within, write_string, strcpy, strncpy, strcat, seek_within}
 use Rattle.source_meaning.specs.Printing.{puts, argument_bytes, formatted, pieces_or_none, print_formatted}
-use Rattle.source_meaning.specs.Naming.{Scope, OnPointer}
+use Rattle.source_meaning.specs.Naming.{OnPointer}
 use Rattle.source_meaning.proofs.Holding.{lives_kept}
-use Rattle.source_meaning.proofs.Sure.{AreTagged, Sure, IsStable, sure_on, sure_weak, sure_post, sure_frame, sure_done, sure_stop, sure_read, sure_tally, sure_choose, sure_objects, IsTagged}
+use Rattle.source_meaning.proofs.Sure.{Context, AreTagged, Sure, IsStable, sure_on, sure_weak, sure_post, sure_frame, sure_done, sure_stop, sure_read, sure_tally, sure_choose, sure_objects, IsTagged}
 use Rattle.source_meaning.proofs.SureActions.{IsFound, sure_located, sure_move_bytes, sure_put_bytes}
 
 -- bytes
@@ -74,7 +74,7 @@ IsKnown P p = (o : Objects) → P o → IsTagged p o
 known_moved : (P : Objects → Type 0) (n : ℕ) (p : Value) → IsKnown P p → IsKnown P (moved n p)
 known_moved P n p h = λ o x. sound_offset o n p (h o x)
 
-module _ {sc : Scope} {P : Objects → Type 0} where
+module _ {sc : Context} {P : Objects → Type 0} where
   sure_judged : (size : ℕ) (p : Value) (line : ℕ) → IsKnown P p → Sure sc P (located true size p line) (λ place o. P o × IsFound p size place o)
   sure_judged size p line h = sure_weak (λ o x. (x, (h o x, tt))) (sure_located {P = P} OnPointer size p line)
 
@@ -206,6 +206,6 @@ module _ {sc : Scope} {P : Objects → Type 0} where
       rest_tagged [] o x k = x k
       rest_tagged (v ∷ vs) o x k = x (suc k)
 
-pub sure_print : {sc : Scope} (format : List ℕ) (vs : List Value) (line : ℕ) → Sure sc (AreTagged vs) (print_formatted format vs line) IsTagged
+pub sure_print : {sc : Context} (format : List ℕ) (vs : List Value) (line : ℕ) → Sure sc (AreTagged vs) (print_formatted format vs line) IsTagged
 sure_print format vs line =
     sure_on (sure_formatted (pieces_or_none (pieces format)) vs line (λ o x. x)) (λ bs. sure_on (sure_put_bytes bs) (λ _. sure_done {a = integer (fit Int (length bs))} (λ o x. tt)))

@@ -1,5 +1,5 @@
 -- The same of statements and of programs.
-use Rattle.std.proofs.Common.{◌≡◌, ℕ, zero, suc, ◌+◌, ◌≤◌, List, [], ◌∷◌, ◌++◌, map, Bool, true, false, ◌&&◌, ◌==◌, not, Option, Some, None, length, get_or, if◌then◌else◌, refl, sym, ap, ◌∙◌, subst, arith, nat_le, nat_lt}
+use Rattle.std.proofs.Common.{◌≡◌, ℕ, zero, suc, ◌+◌, List, [], ◌∷◌, ◌++◌, map, Bool, true, false, ◌==◌, Option, Some, None, length, get_or, if◌then◌else◌, refl, sym, ap, subst, arith, nat_le, nat_lt}
 use Rattle.std.specs.List.{list_all}
 use Rattle.std.proofs.lemmas.Bool.{leb-true, ltb-true, lt-ltb}
 use Rattle.c_tree.specs.declared.expression.Kind.{Kind}
@@ -21,9 +21,9 @@ use Rattle.c_tree.specs.declared.statement.Statement.{Statement, Expression as E
 use Rattle.c_tree.specs.Kinds.{is_kind, size_of_kind, is_scalar, is_value, Signature}
 use Rattle.c_tree.specs.Valid as valid
 use Rattle.c_tree.specs.Valid.{no_signature, no_variable, is_valid_expression, is_condition, is_plain}
-use Rattle.c_tree.specs.ValidProgram.{content_size, is_content, is_part, are_parts, is_initialization, are_initializations, is_first, is_condition_if, is_expression_if, is_return, Inside, in_loop, in_switch, is_statement, is_else, are_statements, are_items, signature_of, signatures_of, at_number, scope_in, function_scope, are_parameters, is_variable, is_function, is_static_object, is_main, is_valid_program}
+use Rattle.c_tree.specs.ValidProgram.{content_size, is_content, is_part, are_parts, is_initialization, are_initializations, is_first, is_condition_if, is_expression_if, is_return, Inside, in_loop, in_switch, is_statement, is_else, are_statements, are_items, signature_of, signatures_of, at_number, scope_in, function_scope, are_parameters, is_function, is_static_object, is_main, is_valid_program}
 use Rattle.c_tree.specs.Room.{room}
-use Rattle.source_meaning.specs.Naming.{Scope, static_kind, object_kind, IsNoStructure, Names, NamesIfAny, ContentNames, PartsName, InitializationNames, InitializationsName, FirstNames, StatementNames, OtherwiseNames, StatementsName, ItemsName, AllName, scope_of, TakeNoStructure, AreNoStructures, PassNoStructures, FunctionNames, FunctionsName, StaticsName, NamesObjects}
+use Rattle.source_meaning.specs.Naming.{Scope, static_kind, object_kind, IsNoStructure, Names, NamesIfAny, ContentNames, PartsName, InitializationNames, InitializationsName, FirstNames, StatementNames, OtherwiseNames, StatementsName, ItemsName, AllName, TakeNoStructure, AreNoStructures, PassNoStructures, FunctionNames, FunctionsName, StaticsName, NamesObjects}
 use Rattle.source_meaning.proofs.ValidNames.{both, three, four, five, never, same_kind, none_like, Agree, value_names}
 
 module _ {scope : valid.Scope} {sc : Scope} (g : Agree scope sc) where

@@ -7,6 +7,7 @@ use Rattle.obj_memory.specs.declared.value.Value.{Value}
 use Rattle.obj_memory.specs.Objects.{Objects, object_at}
 use Rattle.obj_memory.specs.Heap.{is_allocated}
 use Rattle.obj_memory.specs.Sound.{IsSound, AreDisjoint, Continues}
+use Rattle.source_meaning.specs.State.{State}
 
 -- the bytes of an access are bytes of one object
 pub record LiesInObject (objects : Objects) (a : Access) : Type 0 where
@@ -23,6 +24,11 @@ AllLie objects (a ∷ rest) = LiesInObject objects a × AllLie objects rest
 pub record IsKept (objects : Objects) (accesses : List Access) : Type 0 where
   pub sound : IsSound objects
   pub lie : AllLie objects accesses
+
+-- what holds of the objects and accesses of a state that a run came to
+pub record IsSoundState (s : State) : Type 0 where
+  pub kept : IsKept s.objects s.accesses
+  pub apart : AreDisjoint s.objects
 
 -- objects live on that no `free` ends
 pub record LivesOn (old new : Objects) : Type 0 where

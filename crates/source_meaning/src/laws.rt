@@ -26,7 +26,7 @@ ghost use Rattle.source_meaning.specs.Meaning.{meaning, outcome, initial_objects
 ghost use Rattle.source_meaning.specs.Acting.{IsAction, RunsAlike, state_of};
 ghost use Rattle.source_meaning.specs.Turns.{Grows};
 ghost use Rattle.source_meaning.specs.Naming.{PassNoStructures};
-ghost use Rattle.source_meaning.specs.Keeping.{IsKept};
+ghost use Rattle.source_meaning.specs.Keeping.{IsSoundState};
 
 /// More turns show more of the same: what is shown never shrinks, no work and no turn is taken back, and
 /// a run that ended stays as it is.
@@ -46,11 +46,12 @@ pub fn objects_continue_along_a_run()
 {}
 
 /// In a run of a valid program every tag that is stored names an object and reaches nothing outside it,
-/// each object has its bytes and tags, and each access was of bytes of an object.
+/// each object has its bytes and tags, no two live objects share an address, and each access was of bytes
+/// of an object.
 pub fn runs_keep_objects_sound()
     ensures { (p : Program) (budgets : BudgetSizes) → AreMapped (setting_of p budgets).sizes
         → is_valid_program p ≡ true → PassNoStructures p.function_types.items → (input : List ℕ) (t : ℕ)
-        → IsKept (state_of (outcome p budgets input t)).objects (state_of (outcome p budgets input t)).accesses }
+        → IsSoundState (state_of (outcome p budgets input t)) }
 {}
 
 /// Accesses and changes of variables begin no turn, do the same at any count of work, and add to it.

@@ -36,8 +36,12 @@ mod RowStrings
 mod RowFormats
 mod RowBlocks
 mod RowTags
-mod RowInput
-mod RowExit
+mod RowCopiedTags
+mod RowPrinted
+mod RowGrown
+mod RowNotGrown
+mod RowTooLong
+mod RowCounted
 mod RowFirst
 mod RowGlobal
 mod RowEndless

@@ -1,7 +1,7 @@
 //! Laws of the map, each as the contract of a function that does nothing: layers above rest on them.
 ghost use Rattle.std.specs.Prelude.{◌≡◌, ◌<◌, ◌≤◌, ◌%◌, ◌^◌, ℕ};
 ghost use Rattle.addr_map.specs.declared.region.Region.{Region};
-ghost use Rattle.addr_map.specs.Places.{MapSizes, AreMapped, order_of, region_start, region_end};
+ghost use Rattle.addr_map.specs.Places.{MapSizes, AreMapped, order_of, region_start, region_end, function_address};
 
 use crate::map::AddrMap;
 
@@ -12,6 +12,13 @@ pub fn regions_stand_in_order()
     ensures low { (m : MapSizes) → AreMapped m → (r : Region) → region_end m r < 1610612736 }
     ensures pages { (m : MapSizes) → AreMapped m → (r : Region) → region_start m r % 4096 ≡ 0 }
     ensures whole { (m : MapSizes) → AreMapped m → (r : Region) → region_end m r % 4096 ≡ 0 }
+{}
+
+/// The jump rows of the functions stand in their region below the runtime, one for each function.
+pub fn function_addresses_differ()
+    ensures first { (k : ℕ) → 65536 ≤ function_address k }
+    ensures last { (k : ℕ) → k ≤ 4096 → function_address k ≤ 131072 }
+    ensures apart { (j k : ℕ) → function_address j ≡ function_address k → j ≡ k }
 {}
 
 /// The sizes of a map are in their ranges, as the other laws want them.

@@ -24,3 +24,6 @@ pub mod region;
 
 pub use map::{AddrMap, TooLarge, function_address};
 pub use region::Region;
+
+#[cfg(test)]
+mod tests;

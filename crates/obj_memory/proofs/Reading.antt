@@ -1,6 +1,7 @@
 -- What is read after a write: what was written there, and what stood at other places.
 use Rattle.std.proofs.Common.{◌≡◌, ◌≢◌, ℕ, ◌+◌, ◌*◌, ◌/◌, ◌%◌, ◌^◌, ◌<◌, ◌≤◌, Bool, true, false, if◌then◌else◌, ◌⊎◌, inl, inr, List, length, take, drop, get_or, set, refl, ap, sym, ◌∙◌, subst, arith}
-use Rattle.std.proofs.lemmas.Bool.{eqb-true}
+use Rattle.std.proofs.lemmas.Bool.{eqb-true, eq-eqb}
+use Rattle.std.proofs.lemmas.Bool.Decides.{nat_tests}
 use Rattle.std.proofs.lemmas.List.{get_or-set_same, get_or-set_other}
 use Rattle.std.proofs.Math.Nat.{mod-eq_of_lt}
 use Rattle.obj_memory.specs.declared.int_type.IntType.{IntType}
@@ -12,7 +13,7 @@ use Rattle.obj_memory.specs.declared.value.Scalar.{Scalar}
 use Rattle.obj_memory.specs.declared.value.Scalar.TheVariants.{Integer, Pointer}
 use Rattle.obj_memory.specs.Integers.{size_of, fit}
 use Rattle.obj_memory.specs.Objects.{ObjectState, Objects, no_object, object_at}
-use Rattle.obj_memory.specs.Access.{is_aligned, bytes_at, tag_at, little_bytes, little_number, overwrite, scalar_size, read_value, write_bytes, write_tag, write_value, kept_value}
+use Rattle.obj_memory.specs.Access.{tag_of, is_aligned, bytes_at, tag_at, little_bytes, little_number, overwrite, scalar_size, read_value, write_bytes, write_tag, write_value, kept_value}
 use Rattle.obj_memory.specs.Sound.{KeepsObjects, IsSound, IsPlace, AreApart, IsSoundTag}
 use Rattle.obj_memory.specs.Sound.AreApart.{InOthers, Before, Behind}
 use Rattle.obj_memory.proofs.Listed.{at_set, overwrite-read, overwrite-other}
@@ -213,3 +214,78 @@ sound_read Pointer p objects h =
       | true ↦ (h.at p.object).tag (p.offset / 8)
       | false ↦ tt
     ]
+
+-- the object of a write, as a whole
+pub bytes_of_written : (s : Scalar) (v : Value) (p : Place) (objects : Objects) → p.object < length objects
+    → (object_at (write_value s v p objects) p.object).bytes ≡ overwrite p.offset (little_bytes (scalar_size s) v.word) (object_at objects p.object).bytes
+unfolding write_value write_bytes write_tag
+bytes_of_written (Integer t) v p objects h = ap (λ o. o.bytes) (object_set objects p.object _ h)
+bytes_of_written Pointer v p objects h =
+    let new = little_bytes 8 v.word in
+    let x = record (object_at objects p.object) { bytes = overwrite p.offset new (object_at objects p.object).bytes } in
+    let after = set objects p.object x in
+    elim (is_aligned p.offset) as (λ b. (object_at (if b then set after p.object (record (object_at after p.object) { tags = set (object_at after p.object).tags (p.offset / 8) v.tag }) else after) p.object).bytes ≡ x.bytes) [
+      | true ↦ field_kept (λ o. o.bytes) after p.object p.object _ refl ∙ ap (λ o. o.bytes) (object_set objects p.object x h)
+      | false ↦ ap (λ o. o.bytes) (object_set objects p.object x h)
+    ]
+
+pub written_other : (s : Scalar) (v : Value) (p : Place) (n : ℕ) (objects : Objects) → n ≢ p.object → object_at (write_value s v p objects) n ≡ object_at objects n
+unfolding write_value write_bytes write_tag
+written_other (Integer t) v p n objects h = object_set_other objects p.object n _ h
+written_other Pointer v p n objects h =
+    let x = record (object_at objects p.object) { bytes = overwrite p.offset (little_bytes 8 v.word) (object_at objects p.object).bytes } in
+    let after = set objects p.object x in
+    elim (is_aligned p.offset) as (λ b. object_at (if b then set after p.object (record (object_at after p.object) { tags = set (object_at after p.object).tags (p.offset / 8) v.tag }) else after) n ≡ object_at objects n) [
+      | true ↦ object_set_other after p.object n _ h ∙ object_set_other objects p.object n x h
+      | false ↦ object_set_other objects p.object n x h
+    ]
+
+-- its tags
+tag_kept : (new : List ℕ) (p : Place) (n k : ℕ) (objects : Objects) → tag_of n k (write_bytes new p objects) ≡ tag_of n k objects
+unfolding write_bytes
+tag_kept new p n k objects = ap (λ ts. get_or ts k Untagged) (field_kept (λ o. o.tags) objects p.object n _ refl)
+
+pub tags_after_integer : (t : IntType) (v : Value) (p : Place) (n k : ℕ) (objects : Objects) → tag_of n k (write_value (Integer t) v p objects) ≡ tag_of n k objects
+unfolding write_value
+tags_after_integer t v p n k objects = tag_kept (little_bytes (size_of t) v.word) p n k objects
+
+pub tags_after_misaligned : (v : Value) (p : Place) (n k : ℕ) (objects : Objects) → p.offset % 8 ≢ 0 → tag_of n k (write_value Pointer v p objects) ≡ tag_of n k objects
+unfolding write_value write_tag
+tags_after_misaligned v p n k objects h =
+    let after = write_bytes (little_bytes 8 v.word) p objects in
+    let test : is_aligned p.offset ≡ false = grind (arith, nat_tests) in
+    ap (λ b. tag_of n k (if b then set after p.object (record (object_at after p.object) { tags = set (object_at after p.object).tags (p.offset / 8) v.tag }) else after)) test
+    ∙ tag_kept (little_bytes 8 v.word) p n k objects
+
+pub tag_after_pointer : (v : Value) (p : Place) (objects : Objects) → IsSound objects → IsPlace objects p 8 → p.offset % 8 ≡ 0
+    → tag_of p.object (p.offset / 8) (write_value Pointer v p objects) ≡ v.tag
+unfolding write_value
+tag_after_pointer v p objects h place aligned =
+    let new = little_bytes 8 v.word in
+    let after = write_bytes new p objects in
+    let there = subst (λ n. IsPlace objects p n) (sym (length-little_bytes 8 v.word)) place in
+    let sound : IsSound after = sound_bytes new p objects h there (little_bytes_below 8 v.word) in
+    let written = tag_written v.tag p after sound (place_kept objects after p 8 (keeps_bytes new p objects) place) in
+    let test : is_aligned p.offset ≡ true = eq-eqb _ _ aligned in
+    sym (ap (λ b. if b then tag_of p.object (p.offset / 8) (write_tag v.tag p after) else Untagged) test)
+    ∙ written
+    ∙ ap (λ b. if b then v.tag else Untagged) test
+
+other_word : (v : Value) (p : Place) (n k : ℕ) (objects : Objects) → k ≢ p.offset / 8 → tag_of n k (write_value Pointer v p objects) ≡ tag_of n k objects
+unfolding write_value write_tag
+other_word v p n k objects other =
+    let after = write_bytes (little_bytes 8 v.word) p objects in
+    let o = object_at after p.object in
+    let x = record o { tags = set o.tags (p.offset / 8) v.tag } in
+    let P : ObjectState → Type 0 = λ y. get_or y.tags k Untagged ≡ tag_of n k after in
+    elim (is_aligned p.offset) as (λ b. tag_of n k (if b then set after p.object x else after) ≡ tag_of n k objects) [
+      | true ↦ at_set P no_object after p.object n x
+          (λ same. subst (λ m. get_or x.tags k Untagged ≡ tag_of m k after) (sym same) (get_or-set_other o.tags (p.offset / 8) k v.tag Untagged other)) refl
+          ∙ tag_kept (little_bytes 8 v.word) p n k objects
+      | false ↦ tag_kept (little_bytes 8 v.word) p n k objects
+    ]
+
+pub tags_after_pointer : (v : Value) (p : Place) (n k : ℕ) (objects : Objects) → (n ≢ p.object) ⊎ (k ≢ p.offset / 8)
+    → tag_of n k (write_value Pointer v p objects) ≡ tag_of n k objects
+tags_after_pointer v p n k objects (inl other) = ap (λ o. get_or o.tags k Untagged) (written_other Pointer v p n objects other)
+tags_after_pointer v p n k objects (inr other) = other_word v p n k objects other

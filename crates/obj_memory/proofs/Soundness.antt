@@ -176,3 +176,7 @@ sound_moved size d s objects h to place =
       | true ↦ every_moved (λ t. IsSoundTag objects t) size d.offset s.offset from.tags (h.at s.object).tag 0 o.tags sound.tag k
       | false ↦ sound.tag k
     ]))
+
+-- objects stand at multiples of 16
+pub aligned_address : (objects : Objects) (p : Place) → IsSound objects → ((object_at objects p.object).address + p.offset) % 8 ≡ p.offset % 8
+aligned_address objects p h = let a = (h.at p.object).aligned in omega (arith, a)

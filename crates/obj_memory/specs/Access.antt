@@ -23,9 +23,11 @@ little_bytes (suc k) n = n % 256 ∷ little_bytes k (n / 256)
 abbrev pub overwrite : {A : Type 0} → (start : ℕ) → (new old : List A) → List A
 overwrite start new old = take start old ++ (new ++ drop (start + length new) old)
 
+-- some bytes from a place on
 abbrev pub bytes_at : (size : ℕ) → Place → Objects → List ℕ
 bytes_at size p objects = take size (drop p.offset (object_at objects p.object).bytes)
 
+-- whether a word begins at an offset
 abbrev pub is_aligned : (offset : ℕ) → Bool
 is_aligned offset = offset % 8 == 0
 
@@ -42,6 +44,7 @@ abbrev pub scalar_size : Scalar → ℕ
 scalar_size (Integer t) = size_of t
 scalar_size Pointer = 8
 
+-- what is read of a scalar: its bytes, and of a pointer the tag of the word there
 unfoldable pub read_value : Scalar → Place → Objects → Value
 read_value (Integer t) p objects = record { word = fit t (little_number (bytes_at (size_of t) p objects)); tag = Untagged }
 read_value Pointer p objects = record { word = little_number (bytes_at 8 p objects); tag = tag_at p objects }
@@ -58,6 +61,7 @@ write_tag t p objects =
     let o = object_at objects p.object in
     if is_aligned p.offset then set objects p.object (record o { tags = set o.tags (p.offset / 8) t }) else objects
 
+-- a scalar written: its bytes, and of a pointer the tag of the word there
 unfoldable pub write_value : Scalar → Value → Place → Objects → Objects
 write_value (Integer t) v p objects = write_bytes (little_bytes (size_of t) v.word) p objects
 write_value Pointer v p objects = write_tag v.tag p (write_bytes (little_bytes 8 v.word) p objects)

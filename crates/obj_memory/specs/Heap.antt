@@ -12,6 +12,7 @@ rounded_up unit n = (n + (unit - 1)) / unit * unit
 abbrev pub block_room : (size : ℕ) → ℕ
 block_room size = max 16 (rounded_up 16 size)
 
+-- whether an object came from the heap, and is not freed
 abbrev pub is_allocated : Storage → Bool
 is_allocated Static = false
 is_allocated Automatic = false

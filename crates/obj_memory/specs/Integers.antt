@@ -19,6 +19,7 @@ size_of UnsignedLong = 8
 size_of LongLong = 8
 size_of UnsignedLongLong = 8
 
+-- whether it has negative values (6.2.5 paragraphs 4 and 6), as plain char has not (paragraph 15)
 unfoldable pub is_signed : IntType → Bool
 is_signed Char = false
 is_signed SignedChar = true

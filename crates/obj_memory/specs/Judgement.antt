@@ -17,6 +17,7 @@ are_within b address size = nat_le b.base address && nat_le (address + size) b.b
 abbrev pub place_in : Objects → (object address : ℕ) → Place
 place_in objects object address = record { object = object; offset = address - (object_at objects object).address }
 
+-- an access of some bytes from an address on, by the tag: first the bounds, then the life of the object
 abbrev pub judged : (size : ℕ) → Tag → (address : ℕ) → Objects → Verdict
 judged size Untagged address objects = Outside
 judged size (OfFunction f) address objects = Outside
@@ -29,6 +30,7 @@ judged size (OfObject o b) address objects =
 unfoldable pub judge : (size : ℕ) → Value → Objects → Verdict
 judge size v objects = judged size v.tag v.word objects
 
+-- the place of an address by the tag alone
 abbrev pub named_in : Tag → (address : ℕ) → Objects → Verdict
 named_in Untagged address objects = Outside
 named_in (OfFunction f) address objects = Outside
@@ -42,6 +44,7 @@ named v objects = named_in v.tag v.word objects
 unfoldable pub moved : (offset : ℕ) → Value → Value
 moved offset v = record { word = (v.word + offset) % 2 ^ 64; tag = v.tag }
 
+-- bounds that meet the bytes from an address on
 abbrev pub narrowed_tag : (address size : ℕ) → Tag → Tag
 narrowed_tag address size Untagged = Untagged
 narrowed_tag address size (OfFunction f) = OfFunction f

@@ -17,6 +17,7 @@ pub record ObjectState : Type 0 where
   pub bytes : List ℕ
   pub tags : List Tag
 
+-- all objects that were made, in that order
 abbrev pub Objects : Type 0
 Objects = List ObjectState
 

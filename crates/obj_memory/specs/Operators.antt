@@ -9,6 +9,7 @@ use Rattle.obj_memory.specs.declared.operator.BinaryOperator.{BinaryOperator}
 use Rattle.obj_memory.specs.declared.operator.BinaryOperator.TheVariants.{Add, Subtract, Multiply, Divide, Remainder, ShiftLeft, ShiftRight, BitAnd, BitXor, BitOr, Less, Greater, LessOrEqual, GreaterOrEqual, Equal, NotEqual}
 use Rattle.obj_memory.specs.Integers.{fit, is_signed, size_of}
 
+-- whether the number of a word is negative, its negative, and its absolute value
 abbrev pub is_negative : ℕ → Bool
 is_negative x = nat_le (2 ^ 63) x
 

@@ -14,11 +14,13 @@ pub record IsTagOf (objects : Objects) (object : ℕ) (b : Bounds) : Type 0 wher
   pub base : (object_at objects object).address ≤ b.base
   pub bound : b.bound ≤ (object_at objects object).address + (object_at objects object).size
 
+-- a tag that is none, a function, or one of an object
 abbrev pub IsSoundTag : Objects → Tag → Type 0
 IsSoundTag objects Untagged = Unit {0}
 IsSoundTag objects (OfFunction f) = Unit {0}
 IsSoundTag objects (OfObject o b) = IsTagOf objects o b
 
+-- an object has all its bytes and tags, stands at a multiple of 16, and holds sound tags
 pub record IsSoundObject (objects : Objects) (o : ObjectState) : Type 0 where
   pub aligned : o.address % 16 ≡ 0
   pub bytes : length o.bytes ≡ o.size
@@ -71,6 +73,11 @@ pub data AreApart (p : Place) (size : ℕ) (q : Place) (count : ℕ) : Type 0 wh
 abbrev pub IsClearOf : (start room : ℕ) → ObjectState → Type 0
 IsClearOf start room o = (start + room ≤ o.address) ⊎ (o.address + block_room o.size ≤ start)
 
+-- a range of addresses lies in a heap, clear of every live block
+pub record HasRoom (last room : ℕ) (objects : Objects) (start : ℕ) : Type 0 where
+  pub in_heap : start + room ≤ last + 1
+  pub clear : (n : ℕ) → is_live_block (object_at objects n) ≡ true → IsClearOf start room (object_at objects n)
+
 -- the place of a block in a heap: it lies in the heap, clear of every live block, and no multiple of 16 below it would do
 pub record IsBlockPlace (first last size : ℕ) (objects : Objects) (place : ℕ) : Type 0 where
   pub step : ℕ
@@ -86,7 +93,7 @@ IsPartOf (OfFunction f) (OfFunction g) = f ≡ g
 IsPartOf (OfObject o b) (OfObject n c) = (o ≡ n) × (c.base ≤ b.base) × (b.bound ≤ c.bound)
 IsPartOf _ _ = ⊥
 
--- two ranges of addresses that do not meet
+-- two ranges that do not meet
 abbrev pub DoNotMeet : (start size other count : ℕ) → Type 0
 DoNotMeet start size other count = (start + size ≤ other) ⊎ (other + count ≤ start)
 

@@ -9,15 +9,17 @@ ghost use Rattle.obj_memory.specs.declared.value.Tag.{Tag};
 ghost use Rattle.obj_memory.specs.declared.value.Value.{Value};
 ghost use Rattle.obj_memory.specs.declared.value.Scalar.{Scalar};
 ghost use Rattle.obj_memory.specs.declared.value.Place.{Place};
+ghost use Rattle.obj_memory.specs.declared.object.Storage.TheVariants.{Allocated};
 ghost use Rattle.obj_memory.specs.declared.value.Tag.TheVariants.{Untagged};
+ghost use Rattle.obj_memory.specs.declared.value.Scalar.TheVariants.{Integer, Pointer};
 ghost use Rattle.obj_memory.specs.declared.judgement.Verdict.TheVariants.{Inside};
 ghost use Rattle.obj_memory.specs.Integers.{fit, size_of};
 ghost use Rattle.obj_memory.specs.Operators.{unary_value, binary_value};
 ghost use Rattle.obj_memory.specs.Objects.{Objects, object_at, new_object, with_new, with_dead, with_zeroed, pointer_to};
 ghost use Rattle.obj_memory.specs.Judgement.{judge, named, moved, narrowed};
-ghost use Rattle.obj_memory.specs.Access.{scalar_size, read_value, write_value, kept_value, write_bytes, bytes_at, tag_at, tag_of, move_range};
-ghost use Rattle.obj_memory.specs.Heap.{block_count, block_room, has_room, least_place};
-ghost use Rattle.obj_memory.specs.Sound.{IsSound, IsSoundTag, IsPlace, IsAllowed, IsPartOf, KeepsObjects, Continues, AreApart, AreDisjoint, DoNotMeet, IsBlockPlace};
+ghost use Rattle.obj_memory.specs.Access.{scalar_size, overwrite, little_bytes, read_value, write_value, kept_value, write_bytes, bytes_at, tag_at, tag_of, move_range};
+ghost use Rattle.obj_memory.specs.Heap.{is_allocated, is_live_block, block_count, block_room, has_room, least_place};
+ghost use Rattle.obj_memory.specs.Sound.{IsSound, IsSoundTag, IsPlace, IsAllowed, IsPartOf, KeepsObjects, Continues, AreApart, AreDisjoint, DoNotMeet, HasRoom, IsBlockPlace};
 
 /// A conversion reads no more than the bytes of its type and gives a word, and a second one changes
 /// nothing.
@@ -44,6 +46,27 @@ pub fn what_was_written_is_read()
     ensures apart { (s : Scalar) (v : Value) (p : Place) (r : Scalar) (q : Place) (objects : Objects)
         → IsSound objects → IsPlace objects p (scalar_size s) → AreApart p (scalar_size s) q (scalar_size r)
         → read_value r q (write_value s v p objects) ≡ read_value r q objects }
+{}
+
+/// A write puts the bytes of its value into the object of its place, and leaves every other object.
+pub fn writes_change_one_object()
+    ensures bytes { (s : Scalar) (v : Value) (p : Place) (objects : Objects) → p.object < length objects
+        → (object_at (write_value s v p objects) p.object).bytes ≡ overwrite p.offset (little_bytes (scalar_size s) v.word) (object_at objects p.object).bytes }
+    ensures other { (s : Scalar) (v : Value) (p : Place) (n : ℕ) (objects : Objects) → n ≢ p.object
+        → object_at (write_value s v p objects) n ≡ object_at objects n }
+{}
+
+/// A write of a pointer at a multiple of 8 sets the tag of the word there, and every other tag
+/// stays at every write.
+pub fn writes_change_one_tag()
+    ensures pointer { (v : Value) (p : Place) (objects : Objects) → IsSound objects → IsPlace objects p 8
+        → p.offset % 8 ≡ 0 → tag_of p.object (p.offset / 8) (write_value Pointer v p objects) ≡ v.tag }
+    ensures other { (v : Value) (p : Place) (n word : ℕ) (objects : Objects) → (n ≢ p.object) ⊎ (word ≢ p.offset / 8)
+        → tag_of n word (write_value Pointer v p objects) ≡ tag_of n word objects }
+    ensures misaligned { (v : Value) (p : Place) (n word : ℕ) (objects : Objects) → p.offset % 8 ≢ 0
+        → tag_of n word (write_value Pointer v p objects) ≡ tag_of n word objects }
+    ensures integer { (t : IntType) (v : Value) (p : Place) (n word : ℕ) (objects : Objects)
+        → tag_of n word (write_value (Integer t) v p objects) ≡ tag_of n word objects }
 {}
 
 /// The same of bytes, which leave every tag.
@@ -185,12 +208,44 @@ pub fn derived_pointers_are_sound()
 {}
 
 /// The place of a block lies in the heap, clear of every live block, and no multiple of 16 below it
-/// would do; where there is none, none would.
+/// would do; just such a place is found, and where there is none, none would do.
 pub fn block_place_is_the_least()
     ensures found { (first last size : ℕ) (objects : Objects) (place : ℕ)
         → least_place first last size objects ≡ Some place → IsBlockPlace first last size objects place }
+    ensures least { (first last size : ℕ) (objects : Objects) (place : ℕ) → IsBlockPlace first last size objects place
+        → least_place first last size objects ≡ Some place }
+    ensures room { (last room : ℕ) (objects : Objects) (start : ℕ) → has_room last room objects start ≡ true
+        → HasRoom last room objects start }
+    ensures has_room { (last room : ℕ) (objects : Objects) (start : ℕ) → HasRoom last room objects start
+        → has_room last room objects start ≡ true }
     ensures none { (first last size : ℕ) (objects : Objects) → least_place first last size objects ≡ None → (i : ℕ)
         → has_room last (block_room size) objects (first + 16 * i) ≡ false }
+{}
+
+/// A block takes as many bytes as it has or more, at least 16 and a multiple of 16.
+pub fn block_has_its_room()
+    ensures holds { (size : ℕ) → size ≤ block_room size }
+    ensures some { (size : ℕ) → 16 ≤ block_room size }
+    ensures whole { (size : ℕ) → block_room size % 16 ≡ 0 }
+{}
+
+/// The count of live blocks rises by one where an allocated object is made, and falls by one where
+/// one dies.
+pub fn blocks_are_counted()
+    ensures made { (address size : ℕ) (objects : Objects)
+        → block_count (with_new Allocated address size objects) ≡ block_count objects + 1 }
+    ensures other { (storage : Storage) (address size : ℕ) (objects : Objects) → is_allocated storage ≡ false
+        → block_count (with_new storage address size objects) ≡ block_count objects }
+    ensures dead { (n : ℕ) (objects : Objects) → is_live_block (object_at objects n) ≡ true
+        → block_count (with_dead n objects) + 1 ≡ block_count objects }
+    ensures dead_other { (n : ℕ) (objects : Objects) → is_live_block (object_at objects n) ≡ false
+        → block_count (with_dead n objects) ≡ block_count objects }
+{}
+
+/// A word begins at an offset just where its address is a multiple of 8.
+pub fn words_are_aligned()
+    ensures { (objects : Objects) (p : Place) → IsSound objects
+        → ((object_at objects p.object).address + p.offset) % 8 ≡ p.offset % 8 }
 {}
 
 /// Live objects that share no address stay so when one dies, and when one is made that meets none

@@ -10,8 +10,8 @@ use crate::IntType::{
 };
 use crate::UnaryOperator::{Complement, Negate, Not, Plus};
 use crate::{
-    BinaryOperator, Bounds, IntType, Object, Place, Storage, Tag, UnaryOperator, Value, Verdict,
-    judge, named,
+    BinaryOperator, Bounds, IntType, Object, Place, Scalar, Storage, Tag, UnaryOperator, Value,
+    Verdict, judge, named,
 };
 use std::test::Fail;
 
@@ -224,6 +224,8 @@ fn knows_types(rt: HostRuntime) {
     assert!(rt; Short.is_signed());
     assert_eq!(rt; Short.promoted(), Int);
     assert_eq!(rt; Char.unsigned(), UnsignedChar);
+    assert_eq!(rt; Scalar::Integer(Short).size(), 2);
+    assert_eq!(rt; Scalar::Pointer.size(), 8);
 }
 
 // A pointer into an object of 16 bytes at 0x1000, and one to a member of 4 bytes at its offset 8.

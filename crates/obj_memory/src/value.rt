@@ -52,6 +52,21 @@ pub struct Place {
     pub offset: u64,
 }
 
+impl Scalar {
+    ghost use Rattle.obj_memory.specs.Access.{scalar_size};
+
+    /// The number of its bytes: 1, 2, 4 or 8.
+    pub fn size(self) -> u64
+        ensures value { result ≡ scalar_size self }
+        ensures small { result ≤ 8 }
+    {
+        match self {
+            Scalar::Integer(of) => of.size(),
+            Scalar::Pointer => 8,
+        }
+    }
+}
+
 impl Value {
     ghost use Rattle.obj_memory.specs.Judgement.{moved, narrowed};
 

@@ -19,3 +19,4 @@ mod Samples
 mod RowFirst
 mod RowGlobal
 mod RowEndless
+mod RowArrayEnd

@@ -1,3 +1,4 @@
+-- An element behind the last one of an array. The text is rows/array_end.c.
 --     int a[4];
 --     int main(void){int i;for(i=0;i<=4;i=i+1){a[i]=65+i;putchar(a[i]);}
 --     return 0;}

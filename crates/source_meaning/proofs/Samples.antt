@@ -204,6 +204,9 @@ compound line u p e = at line p.kind (Compound u (box p) (box e))
 abbrev pub change_plain : (line : ℕ) → Kind → Update → (variable : ℕ) → Expression → Expression
 change_plain line kind u x e = at line kind (ChangePlain u (record { variable = x; parentheses = 0 }) (box e))
 
+abbrev pub change_plain_in : (line : ℕ) → Kind → Update → PlainName → Expression → Expression
+change_plain_in line kind u x e = at line kind (ChangePlain u x (box e))
+
 abbrev pub step : (line : ℕ) → Update → Fixity → Lvalue → Expression
 step line u fixity p = at line p.kind (Step u fixity (box p))
 

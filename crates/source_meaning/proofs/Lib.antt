@@ -16,6 +16,7 @@ pub mod SureCalls
 pub mod SureLibrary
 pub mod SureMeaning
 mod Samples
+mod Hexadecimal
 mod RowFirst
 mod RowGlobal
 mod RowEndless

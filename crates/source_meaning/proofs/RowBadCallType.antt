@@ -22,15 +22,15 @@ function_main = defined 1 0 none
     (one (plain_variable pointer))
     208
     (three
-        (Declaration (one (Plain 0 (cast 1 pointer (function 1 0)))))
-        (Expression (call_through 1 Void 2 (plain 1 pointer 0) none))
-        (Return (Some (number 1 0))))
+    (Declaration (one (Plain 0 (cast 1 pointer (function 1 0)))))
+    (Expression (call_through 1 Void 2 (plain 1 pointer 0) none))
+    (Return (Some (number 1 0))))
 
 program : Program
 program = program_of none
     (three main_type
-        (function_type (Takes ∷ (IntegerWord Int) ∷ Gives ∷ (IntegerWord Int) ∷ []) (one int) int)
-        (function_type (Gives ∷ VoidWord ∷ []) none Void))
+    (function_type (Takes ∷ (IntegerWord Int) ∷ Gives ∷ (IntegerWord Int) ∷ []) (one int) int)
+    (function_type (Gives ∷ VoidWord ∷ []) none Void))
     (two function_f function_main)
     1
 

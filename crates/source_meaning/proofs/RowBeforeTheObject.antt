@@ -18,9 +18,9 @@ program = main_alone
     (one (plain_variable pointer))
     248
     (three
-        (Declaration (one (Plain 0 (decay (lvalue 1 (Array 16) (Static 0))))))
-        (Expression (assign 1 (index 1 int (plain 1 pointer 0) (number 1 4)) (number 1 1)))
-        (Return (Some (number 1 0))))
+    (Declaration (one (Plain 0 (decay (lvalue 1 (Array 16) (Static 0))))))
+    (Expression (assign 1 (index 1 int (plain 1 pointer 0) (number 1 4)) (number 1 1)))
+    (Return (Some (number 1 0))))
 
 run : seen (meaning program default_sizes [] 20) ≡ stopped [] (codes "sbcets: spatial violation at line 1\n") 120
 unfolding program computing

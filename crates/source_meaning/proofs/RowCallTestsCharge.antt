@@ -27,9 +27,9 @@ function_main = defined 1 0 none
     (one (plain_variable pointer))
     208
     (three
-        (Declaration (one (Plain 0 (cast 1 pointer (function 1 0)))))
-        (Expression (library 1 int Putchar (one (number 1 65))))
-        (Return (Some (call 3 int 0 (one (library 4 int Putchar (one (number 4 66))))))))
+    (Declaration (one (Plain 0 (cast 1 pointer (function 1 0)))))
+    (Expression (library 1 int Putchar (one (number 1 65))))
+    (Return (Some (call 3 int 0 (one (library 4 int Putchar (one (number 4 66))))))))
 
 program : Program
 program = program_of none

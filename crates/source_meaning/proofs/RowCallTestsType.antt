@@ -25,9 +25,9 @@ function_main = defined 1 0 none
     (one (plain_variable pointer))
     208
     (three
-        (Declaration (one (Plain 0 (cast 1 pointer (function 1 0)))))
-        (Expression (library 1 int Putchar (one (number 1 65))))
-        (Return (Some (call_through 3 int 0 (plain 2 pointer 0) none))))
+    (Declaration (one (Plain 0 (cast 1 pointer (function 1 0)))))
+    (Expression (library 1 int Putchar (one (number 1 65))))
+    (Return (Some (call_through 3 int 0 (plain 2 pointer 0) none))))
 
 program : Program
 program = program_of none

@@ -21,8 +21,8 @@ function_main = defined 1 0 none
     (one (plain_variable pointer))
     208
     (two
-        (Declaration (one (Plain 0 (cast 1 pointer (cast 1 (integer_kind Long) (function 1 0))))))
-        (Return (Some (call_through 2 int 0 (plain 2 pointer 0) none))))
+    (Declaration (one (Plain 0 (cast 1 pointer (cast 1 (integer_kind Long) (function 1 0))))))
+    (Return (Some (call_through 2 int 0 (plain 2 pointer 0) none))))
 
 program : Program
 program = program_of none (one main_type) (two function_f function_main) 1

@@ -8,7 +8,7 @@ use Rattle.c_tree.specs.declared.expression.Routine.TheVariants.{Putchar}
 use Rattle.c_tree.specs.declared.program.Function.{Function}
 use Rattle.c_tree.specs.declared.program.Program.{Program}
 use Rattle.c_tree.specs.declared.statement.Initialization.TheVariants.{Plain}
-use Rattle.c_tree.specs.declared.statement.Statement.{Declaration, Expression, Return}
+use Rattle.c_tree.specs.declared.statement.Statement.{Declaration, Expression, Return, Statement}
 use Rattle.obj_memory.specs.declared.int_type.IntType.TheVariants.{Long}
 use Rattle.obj_memory.specs.declared.operator.BinaryOperator.TheVariants.{Add, Equal}
 use Rattle.sb_base.specs.Budgets.{default_sizes}
@@ -21,22 +21,25 @@ function_f = defined 1 0 none none 168 (one (Return (Some (number 1 1))))
 function_g : Function
 function_g = defined 1 0 none none 168 (one (Return (Some (number 1 2))))
 
+statement_1 : Statement
+statement_1 = Declaration (one (Plain 0 (cast 1 pointer (parenthesized (offset 1 PointerPlusIndex 1 (cast 1 pointer (function 1 0)) (number 1 16))))))
+
+statement_2 : Statement
+statement_2 = Expression (library 1 int Putchar (one (binary 1 Add (number 1 48) (parenthesized (compare 1 Equal (cast 1 (integer_kind Long) (plain 1 pointer 0)) (cast 1 (integer_kind Long) (function 1 1)))))))
+
 function_main : Function
 function_main = defined 1 0 none
     (one (plain_variable pointer))
     288
-    (three
-        (Declaration (one (Plain 0 (cast 1 pointer (parenthesized (offset 1 PointerPlusIndex 1 (cast 1 pointer (function 1 0)) (number 1 16)))))))
-        (Expression (library 1 int Putchar (one (binary 1 Add (number 1 48) (parenthesized (compare 1 Equal (cast 1 (integer_kind Long) (plain 1 pointer 0)) (cast 1 (integer_kind Long) (function 1 1))))))))
-        (Return (Some (call_through 1 int 0 (plain 1 pointer 0) none))))
+    (three statement_1 statement_2 (Return (Some (call_through 1 int 0 (plain 1 pointer 0) none))))
 
 program : Program
 program = program_of none (one main_type) (three function_f function_g function_main) 2
 
 run : seen (meaning program default_sizes [] 20) ≡ stopped (codes "1") (codes "sbcets: bad call at line 1\n") 122
-unfolding program function_f function_g function_main computing
+unfolding program function_f function_g function_main statement_1 statement_2 computing
 run = refl
 
 valid : is_valid_program program ≡ true
-unfolding program function_f function_g function_main computing
+unfolding program function_f function_g function_main statement_1 statement_2 computing
 valid = refl

@@ -19,8 +19,8 @@ function_main = defined 1 0 none
     (one (plain_variable pointer))
     248
     (two
-        (Declaration (one (Plain 0 (convert pointer (number 1 0)))))
-        (Return (Some (call_through 1 int 1 (plain 1 pointer 0) (one (library 1 int Putchar (one (number 1 65))))))))
+    (Declaration (one (Plain 0 (convert pointer (number 1 0)))))
+    (Return (Some (call_through 1 int 1 (plain 1 pointer 0) (one (library 1 int Putchar (one (number 1 65))))))))
 
 program : Program
 program = program_of none

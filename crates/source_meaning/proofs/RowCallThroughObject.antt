@@ -16,8 +16,8 @@ program = main_alone (one (static int none))
     (one (plain_variable pointer))
     208
     (two
-        (Declaration (one (Plain 0 (cast 1 pointer (address 1 (lvalue 1 int (Static 0)))))))
-        (Return (Some (call_through 1 int 0 (plain 1 pointer 0) none))))
+    (Declaration (one (Plain 0 (cast 1 pointer (address 1 (lvalue 1 int (Static 0)))))))
+    (Return (Some (call_through 1 int 0 (plain 1 pointer 0) none))))
 
 run : seen (meaning program default_sizes [] 20) ≡ stopped [] (codes "sbcets: bad call at line 1\n") 122
 unfolding program computing

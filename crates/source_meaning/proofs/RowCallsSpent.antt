@@ -21,8 +21,8 @@ function_f = defined 1 1
     none
     280
     (two
-        (Expression (library 1 int Putchar (one (number 1 46))))
-        (Return (Some (call 1 int 0 (one (binary 1 Add (plain 1 int 0) (number 1 1)))))))
+    (Expression (library 1 int Putchar (one (number 1 46))))
+    (Return (Some (call 1 int 0 (one (binary 1 Add (plain 1 int 0) (number 1 1)))))))
 
 function_main : Function
 function_main = defined 1 0 none none 168 (one (Return (Some (call 1 int 0 (one (number 1 0))))))

@@ -12,7 +12,7 @@ use Rattle.c_tree.specs.declared.expression.Update.TheVariants.{Arithmetic}
 use Rattle.c_tree.specs.declared.program.Function.{Function}
 use Rattle.c_tree.specs.declared.program.Program.{Program}
 use Rattle.c_tree.specs.declared.statement.First.TheVariants.{Expression as FirstExpression}
-use Rattle.c_tree.specs.declared.statement.Statement.{Expression, For, Return}
+use Rattle.c_tree.specs.declared.statement.Statement.{Expression, For, Return, Statement}
 use Rattle.obj_memory.specs.declared.int_type.IntType.TheVariants.{Int}
 use Rattle.obj_memory.specs.declared.operator.BinaryOperator.TheVariants.{Add, Less}
 use Rattle.sb_base.specs.Budgets.{default_sizes}
@@ -25,21 +25,19 @@ function_f = defined 1 1
     (one (object_variable (Array 4)))
     320
     (three
-        (Expression (assign 1 (index 1 int (decay (lvalue 1 (Array 4) (Automatic 1))) (number 1 0)) (plain 1 int 0)))
-        (Expression (library 1 int Putchar (one (number 1 46))))
-        (Return (Some (read (index 1 int (decay (lvalue 1 (Array 4) (Automatic 1))) (number 1 0))))))
+    (Expression (assign 1 (index 1 int (decay (lvalue 1 (Array 4) (Automatic 1))) (number 1 0)) (plain 1 int 0)))
+    (Expression (library 1 int Putchar (one (number 1 46))))
+    (Return (Some (read (index 1 int (decay (lvalue 1 (Array 4) (Automatic 1))) (number 1 0))))))
+
+statement_1 : Statement
+statement_1 = For
+    (FirstExpression (set_plain 1 0 (number 1 0)))
+    (Some (compare 1 Less (plain 1 int 0) (number 1 3)))
+    (Some (step_plain 1 int (Arithmetic Add Int) Postfix 0))
+    (box (Expression (call 1 int 0 (one (plain 1 int 0)))))
 
 function_main : Function
-function_main = defined 1 0 none
-    (one (plain_variable int))
-    248
-    (two
-        (For
-            (FirstExpression (set_plain 1 0 (number 1 0)))
-            (Some (compare 1 Less (plain 1 int 0) (number 1 3)))
-            (Some (step_plain 1 int (Arithmetic Add Int) Postfix 0))
-            (box (Expression (call 1 int 0 (one (plain 1 int 0))))))
-        (Return (Some (number 1 0))))
+function_main = defined 1 0 none (one (plain_variable int)) 248 (two statement_1 (Return (Some (number 1 0))))
 
 program : Program
 program = program_of none
@@ -49,9 +47,9 @@ program = program_of none
 
 run : seen (meaning program (record default_sizes { keys = 2 }) [] 20) ≡
     stopped (codes "..") (codes "sbcets: keys exhausted at line 1\n") 126
-unfolding program function_f function_main computing
+unfolding program function_f function_main statement_1 computing
 run = refl
 
 valid : is_valid_program program ≡ true
-unfolding program function_f function_main computing
+unfolding program function_f function_main statement_1 computing
 valid = refl

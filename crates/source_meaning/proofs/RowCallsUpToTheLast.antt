@@ -8,25 +8,25 @@ use Rattle.c_tree.specs.declared.c_type.TypeWord.TheVariants.{Gives, Integer as 
 use Rattle.c_tree.specs.declared.expression.Routine.TheVariants.{Putchar}
 use Rattle.c_tree.specs.declared.program.Function.{Function}
 use Rattle.c_tree.specs.declared.program.Program.{Program}
-use Rattle.c_tree.specs.declared.statement.Statement.{Expression, If, Return}
+use Rattle.c_tree.specs.declared.statement.Statement.{Expression, If, Return, Statement}
 use Rattle.obj_memory.specs.declared.int_type.IntType.TheVariants.{Int}
 use Rattle.obj_memory.specs.declared.operator.BinaryOperator.TheVariants.{Add, Greater, Subtract}
 use Rattle.sb_base.specs.Budgets.{default_sizes}
 use Rattle.source_meaning.proofs.Samples.{binary, box, call, compare, computing, defined, exited, function_type, int, library, main_type, none, number, one, plain, plain_variable, program_of, seen, three, two}
 use Rattle.source_meaning.specs.Meaning.{meaning}
 
+statement_1 : Statement
+statement_1 = If
+    (compare 1 Greater (plain 1 int 0) (number 1 1))
+    (box (Return (Some (call 1 int 0 (one (binary 1 Subtract (plain 1 int 0) (number 1 1)))))))
+    None
+
 function_f : Function
 function_f = defined 1 1
     (one (plain_variable int))
     none
     280
-    (three
-        (Expression (library 1 int Putchar (one (number 1 46))))
-        (If
-            (compare 1 Greater (plain 1 int 0) (number 1 1))
-            (box (Return (Some (call 1 int 0 (one (binary 1 Subtract (plain 1 int 0) (number 1 1)))))))
-            None)
-        (Return (Some (number 1 7))))
+    (three (Expression (library 1 int Putchar (one (number 1 46)))) statement_1 (Return (Some (number 1 7))))
 
 function_main : Function
 function_main = defined 1 0 none none 208 (one (Return (Some (binary 1 Add (call 1 int 0 (one (number 1 13))) (call 1 int 0 (one (number 1 13)))))))
@@ -38,9 +38,9 @@ program = program_of none
     1
 
 run : seen (meaning program (record default_sizes { calls = 4096 }) [] 40) ≡ exited (codes "..........................") 14
-unfolding program function_f function_main computing
+unfolding program function_f function_main statement_1 computing
 run = refl
 
 valid : is_valid_program program ≡ true
-unfolding program function_f function_main computing
+unfolding program function_f function_main statement_1 computing
 valid = refl

@@ -20,12 +20,12 @@ program = main_alone
     (three (plain_variable pointer) (plain_variable (integer_kind Long)) (plain_variable pointer))
     328
     (six
-        (Declaration (one (Plain 0 (address 1 (lvalue 1 int (Static 0))))))
-        (Declaration (one (Plain 1 (cast 1 (integer_kind Long) (plain 1 pointer 0)))))
-        (Declaration (one (Plain 2 (cast 1 pointer (cast 1 pointer (cast 1 pointer (plain 1 pointer 0)))))))
-        (Expression (library 1 int Putchar (one (binary 1 Add (number 1 48) (read (deref 1 int (plain 1 pointer 2)))))))
-        (Expression (set_plain 1 2 (cast 1 pointer (plain 1 (integer_kind Long) 1))))
-        (Return (Some (read (deref 1 int (plain 1 pointer 2))))))
+    (Declaration (one (Plain 0 (address 1 (lvalue 1 int (Static 0))))))
+    (Declaration (one (Plain 1 (cast 1 (integer_kind Long) (plain 1 pointer 0)))))
+    (Declaration (one (Plain 2 (cast 1 pointer (cast 1 pointer (cast 1 pointer (plain 1 pointer 0)))))))
+    (Expression (library 1 int Putchar (one (binary 1 Add (number 1 48) (read (deref 1 int (plain 1 pointer 2)))))))
+    (Expression (set_plain 1 2 (cast 1 pointer (plain 1 (integer_kind Long) 1))))
+    (Return (Some (read (deref 1 int (plain 1 pointer 2))))))
 
 run : seen (meaning program default_sizes [] 20) ≡ stopped (codes "5") (codes "sbcets: spatial violation at line 1\n") 120
 unfolding program computing

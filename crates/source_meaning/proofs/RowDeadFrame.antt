@@ -21,8 +21,8 @@ function_f = defined 1 1 none
     (one (object_variable int))
     208
     (two
-        (Declaration (one (Object 0 (one (part 0 (content (number 1 5)))))))
-        (Return (Some (address 1 (lvalue 1 int (Automatic 0))))))
+    (Declaration (one (Object 0 (one (part 0 (content (number 1 5)))))))
+    (Return (Some (address 1 (lvalue 1 int (Automatic 0))))))
 
 function_main : Function
 function_main = defined 2 0 none none 168 (one (Return (Some (read (deref 2 int (call 2 pointer 0 none))))))

@@ -9,7 +9,7 @@ use Rattle.c_tree.specs.declared.expression.Routine.TheVariants.{Putchar}
 use Rattle.c_tree.specs.declared.program.Function.{Function}
 use Rattle.c_tree.specs.declared.program.Program.{Program}
 use Rattle.c_tree.specs.declared.statement.Initialization.TheVariants.{Object, Plain}
-use Rattle.c_tree.specs.declared.statement.Statement.{Declaration, Expression, Return}
+use Rattle.c_tree.specs.declared.statement.Statement.{Declaration, Expression, Return, Statement}
 use Rattle.obj_memory.specs.declared.int_type.IntType.TheVariants.{Int}
 use Rattle.obj_memory.specs.declared.operator.BinaryOperator.TheVariants.{Add, Equal}
 use Rattle.sb_base.specs.Budgets.{default_sizes}
@@ -22,9 +22,12 @@ function_f = defined 1 1
     (one (object_variable int))
     320
     (three
-        (Declaration (one (Object 1 (one (part 0 (content (plain 1 int 0)))))))
-        (Expression (assign 1 (lvalue 1 pointer (Static 0)) (address 1 (lvalue 1 int (Automatic 1)))))
-        (Return (Some (read (lvalue 1 int (Automatic 1))))))
+    (Declaration (one (Object 1 (one (part 0 (content (plain 1 int 0)))))))
+    (Expression (assign 1 (lvalue 1 pointer (Static 0)) (address 1 (lvalue 1 int (Automatic 1)))))
+    (Return (Some (read (lvalue 1 int (Automatic 1))))))
+
+statement_1 : Statement
+statement_1 = Expression (library 1 int Putchar (one (binary 1 Add (number 1 48) (parenthesized (compare 1 Equal (plain 1 pointer 2) (read (lvalue 1 pointer (Static 0))))))))
 
 function_h : Function
 function_h = defined 1 1
@@ -32,10 +35,10 @@ function_h = defined 1 1
     (two (object_variable int) (plain_variable pointer))
     400
     (four
-        (Declaration (one (Object 1 (one (part 0 (content (plain 1 int 0)))))))
-        (Declaration (one (Plain 2 (address 1 (lvalue 1 int (Automatic 1))))))
-        (Expression (library 1 int Putchar (one (binary 1 Add (number 1 48) (parenthesized (compare 1 Equal (plain 1 pointer 2) (read (lvalue 1 pointer (Static 0)))))))))
-        (Return (Some (read (deref 1 int (plain 1 pointer 2))))))
+    (Declaration (one (Object 1 (one (part 0 (content (plain 1 int 0)))))))
+    (Declaration (one (Plain 2 (address 1 (lvalue 1 int (Automatic 1))))))
+    statement_1
+    (Return (Some (read (deref 1 int (plain 1 pointer 2))))))
 
 function_main : Function
 function_main = defined 1 0 none none 208 (three
@@ -51,9 +54,9 @@ program = program_of
     2
 
 run : seen (meaning program default_sizes [] 20) ≡ stopped (codes "14") (codes "sbcets: temporal violation at line 1\n") 121
-unfolding program function_f function_h function_main computing
+unfolding program function_f function_h function_main statement_1 computing
 run = refl
 
 valid : is_valid_program program ≡ true
-unfolding program function_f function_h function_main computing
+unfolding program function_f function_h function_main statement_1 computing
 valid = refl

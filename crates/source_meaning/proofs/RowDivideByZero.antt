@@ -19,10 +19,10 @@ program = main_alone none
     (one (plain_variable int))
     288
     (four
-        (Declaration (one (Plain 0 (number 1 0))))
-        (Expression (library 2 int Putchar (one (number 2 48))))
-        (Expression (set_plain 2 0 (binary 3 Divide (number 2 5) (plain 3 int 0))))
-        (Return (Some (number 3 0))))
+    (Declaration (one (Plain 0 (number 1 0))))
+    (Expression (library 2 int Putchar (one (number 2 48))))
+    (Expression (set_plain 2 0 (binary 3 Divide (number 2 5) (plain 3 int 0))))
+    (Return (Some (number 3 0))))
 
 run : seen (meaning program default_sizes [] 20) ≡ stopped (codes "0") (codes "sbcets: division by zero at line 3\n") 124
 unfolding program computing

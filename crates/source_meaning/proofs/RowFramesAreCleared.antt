@@ -10,12 +10,21 @@ use Rattle.c_tree.specs.declared.expression.Routine.TheVariants.{Putchar}
 use Rattle.c_tree.specs.declared.program.Function.{Function}
 use Rattle.c_tree.specs.declared.program.Program.{Program}
 use Rattle.c_tree.specs.declared.statement.Initialization.TheVariants.{Object}
-use Rattle.c_tree.specs.declared.statement.Statement.{Block, Declaration, Expression, If, Return}
+use Rattle.c_tree.specs.declared.statement.Statement.{Block, Declaration, Expression, If, Return, Statement}
 use Rattle.obj_memory.specs.declared.int_type.IntType.TheVariants.{Int}
 use Rattle.obj_memory.specs.declared.operator.BinaryOperator.TheVariants.{Add}
 use Rattle.sb_base.specs.Budgets.{default_sizes}
 use Rattle.source_meaning.proofs.Samples.{address, assign, binary, box, call, computing, content, decay, defined, deref, function_type, index, int, library, lvalue, main_type, none, number, object_variable, one, part, plain, plain_variable, pointer, program_of, read, seen, stopped, three, two}
 use Rattle.source_meaning.specs.Meaning.{meaning}
+
+statement_1 : Statement
+statement_1 = Expression (assign 1 (index 1 pointer (decay (lvalue 1 (Array 8) (Automatic 1))) (number 1 0)) (address 1 (lvalue 1 int (Automatic 2))))
+
+statement_2 : Statement
+statement_2 = Return (Some (read (deref 1 int (read (index 1 pointer (decay (lvalue 1 (Array 8) (Automatic 1))) (number 1 0))))))
+
+statement_3 : Statement
+statement_3 = Return (Some (read (deref 1 int (read (index 1 pointer (decay (lvalue 1 (Array 8) (Automatic 1))) (number 1 0))))))
 
 function_f : Function
 function_f = defined 1 1
@@ -23,15 +32,9 @@ function_f = defined 1 1
     (two (object_variable (Array 8)) (object_variable int))
     360
     (three
-        (Declaration (one (Object 2 (one (part 0 (content (number 1 1)))))))
-        (If (plain 1 int 0)
-            (box (Block (two
-                (Expression (assign 1
-                    (index 1 pointer (decay (lvalue 1 (Array 8) (Automatic 1))) (number 1 0))
-                    (address 1 (lvalue 1 int (Automatic 2)))))
-                (Return (Some (read (deref 1 int (read (index 1 pointer (decay (lvalue 1 (Array 8) (Automatic 1))) (number 1 0))))))))))
-            None)
-        (Return (Some (read (deref 1 int (read (index 1 pointer (decay (lvalue 1 (Array 8) (Automatic 1))) (number 1 0))))))))
+    (Declaration (one (Object 2 (one (part 0 (content (number 1 1)))))))
+    (If (plain 1 int 0) (box (Block (two statement_1 statement_2))) None)
+    statement_3)
 
 function_main : Function
 function_main = defined 1 0 none none 208 (two
@@ -45,9 +48,9 @@ program = program_of none
     1
 
 run : seen (meaning program default_sizes [] 20) ≡ stopped (codes "1") (codes "sbcets: spatial violation at line 1\n") 120
-unfolding program function_f function_main computing
+unfolding program function_f function_main statement_1 statement_2 statement_3 computing
 run = refl
 
 valid : is_valid_program program ≡ true
-unfolding program function_f function_main computing
+unfolding program function_f function_main statement_1 statement_2 statement_3 computing
 valid = refl

@@ -9,7 +9,7 @@ use Rattle.c_tree.specs.declared.expression.Routine.TheVariants.{Free, Malloc}
 use Rattle.c_tree.specs.declared.program.Function.{Function}
 use Rattle.c_tree.specs.declared.program.Program.{Program}
 use Rattle.c_tree.specs.declared.statement.Initialization.TheVariants.{Plain}
-use Rattle.c_tree.specs.declared.statement.Statement.{Declaration, Expression, Return}
+use Rattle.c_tree.specs.declared.statement.Statement.{Declaration, Expression, Return, Statement}
 use Rattle.obj_memory.specs.declared.int_type.IntType.TheVariants.{Int, UnsignedLong}
 use Rattle.obj_memory.specs.declared.operator.BinaryOperator.TheVariants.{Add}
 use Rattle.sb_base.specs.Budgets.{default_sizes}
@@ -22,12 +22,15 @@ function_g = defined 1 1
     (one (plain_variable int))
     320
     (three
-        (Declaration (one (Plain 1 (read (deref 1 int (plain 1 pointer 0))))))
-        (Expression (library 1 Void Free (one (plain 1 pointer 0))))
-        (Return (Some (binary 1 Add (plain 1 int 1) (read (deref 1 int (plain 1 pointer 0)))))))
+    (Declaration (one (Plain 1 (read (deref 1 int (plain 1 pointer 0))))))
+    (Expression (library 1 Void Free (one (plain 1 pointer 0))))
+    (Return (Some (binary 1 Add (plain 1 int 1) (read (deref 1 int (plain 1 pointer 0)))))))
+
+statement_1 : Statement
+statement_1 = Return (Some (call 1 int 0 (one (library 1 pointer Malloc (one (convert (integer_kind UnsignedLong) (number 1 4)))))))
 
 function_main : Function
-function_main = defined 1 0 none none 168 (one (Return (Some (call 1 int 0 (one (library 1 pointer Malloc (one (convert (integer_kind UnsignedLong) (number 1 4)))))))))
+function_main = defined 1 0 none none 168 (one statement_1)
 
 program : Program
 program = program_of none
@@ -36,13 +39,13 @@ program = program_of none
     1
 
 run : seen (meaning program default_sizes [] 20) ≡ stopped [] (codes "sbcets: temporal violation at line 1\n") 121
-unfolding program function_g function_main computing
+unfolding program function_g function_main statement_1 computing
 run = refl
 
 accesses : (meaning program default_sizes [] 20).shown.accesses ≡ reads 0x10100000 4 ∷ []
-unfolding program function_g function_main computing
+unfolding program function_g function_main statement_1 computing
 accesses = refl
 
 valid : is_valid_program program ≡ true
-unfolding program function_g function_main computing
+unfolding program function_g function_main statement_1 computing
 valid = refl

@@ -19,9 +19,9 @@ program = main_alone none
     (one (plain_variable pointer))
     248
     (three
-        (Declaration (one (Plain 0 (library 1 pointer Malloc (one (convert (integer_kind UnsignedLong) (number 1 8)))))))
-        (Expression (library 1 Void Free (one (offset 1 PointerPlusIndex 1 (plain 1 pointer 0) (number 1 1)))))
-        (Return (Some (number 1 0))))
+    (Declaration (one (Plain 0 (library 1 pointer Malloc (one (convert (integer_kind UnsignedLong) (number 1 8)))))))
+    (Expression (library 1 Void Free (one (offset 1 PointerPlusIndex 1 (plain 1 pointer 0) (number 1 1)))))
+    (Return (Some (number 1 0))))
 
 run : seen (meaning program default_sizes [] 20) ≡ stopped [] (codes "sbcets: bad free at line 1\n") 123
 unfolding program computing

@@ -18,10 +18,10 @@ program = main_alone none
     (one (plain_variable pointer))
     208
     (four
-        (Declaration (one (Plain 0 (library 1 pointer Malloc (one (convert (integer_kind UnsignedLong) (number 1 8)))))))
-        (Expression (library 1 Void Free (one (plain 1 pointer 0))))
-        (Expression (library 1 Void Free (one (plain 1 pointer 0))))
-        (Return (Some (number 1 0))))
+    (Declaration (one (Plain 0 (library 1 pointer Malloc (one (convert (integer_kind UnsignedLong) (number 1 8)))))))
+    (Expression (library 1 Void Free (one (plain 1 pointer 0))))
+    (Expression (library 1 Void Free (one (plain 1 pointer 0))))
+    (Return (Some (number 1 0))))
 
 run : seen (meaning program default_sizes [] 20) ≡ stopped [] (codes "sbcets: temporal violation at line 1\n") 121
 unfolding program computing

@@ -7,35 +7,47 @@ use Rattle.c_tree.specs.declared.expression.Kind.TheVariants.{Void}
 use Rattle.c_tree.specs.declared.expression.Routine.TheVariants.{Free, Malloc, Putchar}
 use Rattle.c_tree.specs.declared.program.Program.{Program}
 use Rattle.c_tree.specs.declared.statement.Initialization.TheVariants.{Plain}
-use Rattle.c_tree.specs.declared.statement.Statement.{Declaration, Expression, If, Return}
+use Rattle.c_tree.specs.declared.statement.Statement.{Declaration, Expression, If, Return, Statement}
 use Rattle.obj_memory.specs.declared.int_type.IntType.TheVariants.{Char, UnsignedLong}
 use Rattle.obj_memory.specs.declared.operator.BinaryOperator.TheVariants.{Equal}
 use Rattle.sb_base.specs.Budgets.{default_sizes}
 use Rattle.source_meaning.proofs.Samples.{assign, box, compare, computing, convert, deref, exited, int, integer_kind, library, main_alone, none, number, one, plain, plain_variable, pointer, read, seen, set_plain, two, vec_of}
 use Rattle.source_meaning.specs.Meaning.{meaning}
 
+statement_1 : Statement
+statement_1 = Declaration (one (Plain 0 (library 1 pointer Malloc (one (convert (integer_kind UnsignedLong) (number 1 4096))))))
+
+statement_2 : Statement
+statement_2 = If
+    (compare 1 Equal (plain 1 pointer 1) (convert pointer (number 1 0)))
+    (box (Expression (library 1 int Putchar (one (number 1 78)))))
+    None
+
+statement_3 : Statement
+statement_3 = Expression (set_plain 1 1 (library 1 pointer Malloc (one (convert (integer_kind UnsignedLong) (number 1 4096)))))
+
+statement_4 : Statement
+statement_4 = Expression (assign 1 (deref 1 (integer_kind Char) (plain 1 pointer 1)) (convert (integer_kind Char) (number 1 90)))
+
 program : Program
 program = main_alone none
     (two (plain_variable pointer) (plain_variable pointer))
     288
     (vec_of
-        (Declaration (one (Plain 0 (library 1 pointer Malloc (one (convert (integer_kind UnsignedLong) (number 1 4096)))))) ∷
-            Declaration (one (Plain 1 (library 1 pointer Malloc (one (convert (integer_kind UnsignedLong) (number 1 1)))))) ∷
-            If
-                (compare 1 Equal (plain 1 pointer 1) (convert pointer (number 1 0)))
-                (box (Expression (library 1 int Putchar (one (number 1 78)))))
-                None ∷
-            Expression (library 1 Void Free (one (plain 1 pointer 0))) ∷
-            Expression (set_plain 1 1 (library 1 pointer Malloc (one (convert (integer_kind UnsignedLong) (number 1 4096))))) ∷
-            Expression (assign 1 (deref 1 (integer_kind Char) (plain 1 pointer 1)) (convert (integer_kind Char) (number 1 90))) ∷
-            Expression (library 1 int Putchar (one (convert int (read (deref 1 (integer_kind Char) (plain 1 pointer 1)))))) ∷
-            Return (Some (number 1 0)) ∷ [])
-        (lit< tt))
+    (statement_1 ∷
+    Declaration (one (Plain 1 (library 1 pointer Malloc (one (convert (integer_kind UnsignedLong) (number 1 1)))))) ∷
+    statement_2 ∷
+    Expression (library 1 Void Free (one (plain 1 pointer 0))) ∷
+    statement_3 ∷
+    statement_4 ∷
+    Expression (library 1 int Putchar (one (convert int (read (deref 1 (integer_kind Char) (plain 1 pointer 1)))))) ∷
+    Return (Some (number 1 0)) ∷ [])
+    (lit< tt))
 
 run : seen (meaning program (record default_sizes { heap = 4096 }) [] 20) ≡ exited (codes "NZ") 0
-unfolding program computing
+unfolding program statement_1 statement_2 statement_3 statement_4 computing
 run = refl
 
 valid : is_valid_program program ≡ true
-unfolding program computing
+unfolding program statement_1 statement_2 statement_3 statement_4 computing
 valid = refl

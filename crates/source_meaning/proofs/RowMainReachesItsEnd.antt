@@ -17,8 +17,8 @@ program = main_alone none
     (one (plain_variable int))
     248
     (two
-        (Declaration (one (Plain 0 (number 1 3))))
-        (Expression (library 1 int Putchar (one (binary 1 Add (number 1 48) (plain 1 int 0))))))
+    (Declaration (one (Plain 0 (number 1 3))))
+    (Expression (library 1 int Putchar (one (binary 1 Add (number 1 48) (plain 1 int 0))))))
 
 run : seen (meaning program default_sizes [] 20) ≡ exited (codes "3") 0
 unfolding program computing

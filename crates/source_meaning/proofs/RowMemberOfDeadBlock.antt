@@ -21,12 +21,12 @@ program = main_alone none
     (two (plain_variable pointer) (plain_variable pointer))
     288
     (six
-        (Declaration (one (Plain 0 (library 1 pointer Malloc (one (constant UnsignedLong 1 8))))))
-        (Expression (assign 1 (arrow 1 int 4 (plain 1 pointer 0)) (number 1 7)))
-        (Expression (set_plain 1 1 (address 1 (arrow 1 int 4 (plain 1 pointer 0)))))
-        (Expression (library 1 int Putchar (one (binary 1 Add (number 1 48) (read (deref 1 int (plain 1 pointer 1)))))))
-        (Expression (library 1 Void Free (one (plain 1 pointer 0))))
-        (Return (Some (read (arrow 2 int 4 (plain 2 pointer 0))))))
+    (Declaration (one (Plain 0 (library 1 pointer Malloc (one (constant UnsignedLong 1 8))))))
+    (Expression (assign 1 (arrow 1 int 4 (plain 1 pointer 0)) (number 1 7)))
+    (Expression (set_plain 1 1 (address 1 (arrow 1 int 4 (plain 1 pointer 0)))))
+    (Expression (library 1 int Putchar (one (binary 1 Add (number 1 48) (read (deref 1 int (plain 1 pointer 1)))))))
+    (Expression (library 1 Void Free (one (plain 1 pointer 0))))
+    (Return (Some (read (arrow 2 int 4 (plain 2 pointer 0))))))
 
 run : seen (meaning program default_sizes [] 20) ≡ stopped (codes "7") (codes "sbcets: temporal violation at line 2\n") 121
 unfolding program computing

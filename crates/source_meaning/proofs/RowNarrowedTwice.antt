@@ -8,11 +8,14 @@ use Rattle.c_tree.specs.declared.expression.LvalueNode.{Static}
 use Rattle.c_tree.specs.declared.expression.Routine.TheVariants.{Putchar}
 use Rattle.c_tree.specs.declared.program.Program.{Program}
 use Rattle.c_tree.specs.declared.statement.Initialization.TheVariants.{Plain}
-use Rattle.c_tree.specs.declared.statement.Statement.{Declaration, Expression, Return}
+use Rattle.c_tree.specs.declared.statement.Statement.{Declaration, Expression, Return, Statement}
 use Rattle.obj_memory.specs.declared.operator.BinaryOperator.TheVariants.{Add}
 use Rattle.sb_base.specs.Budgets.{default_sizes}
 use Rattle.source_meaning.proofs.Samples.{address, arrow, assign, binary, cast, computing, decay, index, int, library, lvalue, main_alone, none, number, one, plain, plain_variable, pointer, read, seen, static, stopped, three, vec_of}
 use Rattle.source_meaning.specs.Meaning.{meaning}
+
+statement_1 : Statement
+statement_1 = Expression (library 1 int Putchar (one (binary 1 Add (number 1 48) (read (index 1 int (decay (lvalue 1 (Array 16) (Static 0))) (number 1 1))))))
 
 program : Program
 program = main_alone
@@ -20,19 +23,19 @@ program = main_alone
     (three (plain_variable pointer) (plain_variable pointer) (plain_variable pointer))
     368
     (vec_of
-        (Declaration (one (Plain 0 (cast 1 pointer (decay (lvalue 1 (Array 16) (Static 0)))))) ∷
-            Declaration (one (Plain 1 (address 1 (arrow 1 int 4 (plain 1 pointer 0))))) ∷
-            Declaration (one (Plain 2 (cast 1 pointer (plain 1 pointer 1)))) ∷
-            Expression (assign 1 (arrow 1 int 0 (plain 1 pointer 2)) (number 1 1)) ∷
-            Expression (library 1 int Putchar (one (binary 1 Add (number 1 48) (read (index 1 int (decay (lvalue 1 (Array 16) (Static 0))) (number 1 1)))))) ∷
-            Expression (assign 1 (arrow 1 int 4 (plain 1 pointer 2)) (number 1 2)) ∷
-            Return (Some (number 1 0)) ∷ [])
-        (lit< tt))
+    (Declaration (one (Plain 0 (cast 1 pointer (decay (lvalue 1 (Array 16) (Static 0)))))) ∷
+    Declaration (one (Plain 1 (address 1 (arrow 1 int 4 (plain 1 pointer 0))))) ∷
+    Declaration (one (Plain 2 (cast 1 pointer (plain 1 pointer 1)))) ∷
+    Expression (assign 1 (arrow 1 int 0 (plain 1 pointer 2)) (number 1 1)) ∷
+    statement_1 ∷
+    Expression (assign 1 (arrow 1 int 4 (plain 1 pointer 2)) (number 1 2)) ∷
+    Return (Some (number 1 0)) ∷ [])
+    (lit< tt))
 
 run : seen (meaning program default_sizes [] 20) ≡ stopped (codes "1") (codes "sbcets: spatial violation at line 1\n") 120
-unfolding program computing
+unfolding program statement_1 computing
 run = refl
 
 valid : is_valid_program program ≡ true
-unfolding program computing
+unfolding program statement_1 computing
 valid = refl

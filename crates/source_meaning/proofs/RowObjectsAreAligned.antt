@@ -10,58 +10,69 @@ use Rattle.c_tree.specs.declared.expression.Routine.TheVariants.{Putchar}
 use Rattle.c_tree.specs.declared.program.Function.{Function}
 use Rattle.c_tree.specs.declared.program.Program.{Program}
 use Rattle.c_tree.specs.declared.statement.Initialization.TheVariants.{Plain}
-use Rattle.c_tree.specs.declared.statement.Statement.{Declaration, Expression, Return}
+use Rattle.c_tree.specs.declared.statement.Statement.{Declaration, Expression, Return, Statement}
 use Rattle.obj_memory.specs.declared.int_type.IntType.TheVariants.{Char, Int, Long}
 use Rattle.obj_memory.specs.declared.operator.BinaryOperator.TheVariants.{Add, Divide, Remainder}
 use Rattle.sb_base.specs.Budgets.{default_sizes}
 use Rattle.source_meaning.proofs.Samples.{address, binary, call, cast, computing, convert, decay, defined, difference, exited, function_type, int, integer_kind, library, lvalue, main_type, none, number, object_variable, one, parenthesized, plain, plain_variable, pointer, program_of, seen, six, static, two, vec_of}
 use Rattle.source_meaning.specs.Meaning.{meaning}
 
+statement_1 : Statement
+statement_1 = Expression (library 1 int Putchar (one (convert int (binary 1 Add
+    (convert (integer_kind Long) (number 1 48))
+    (binary 1 Divide
+    (parenthesized (difference 1 1 (plain 1 pointer 5) (plain 1 pointer 4)))
+    (convert (integer_kind Long) (number 1 16)))))))
+
+statement_2 : Statement
+statement_2 = Expression (library 1 int Putchar (one (convert int (binary 1 Add
+    (convert (integer_kind Long) (number 1 48))
+    (binary 1 Divide
+    (parenthesized (difference 1 1 (decay (lvalue 1 (Array 17) (Automatic 2))) (plain 1 pointer 5)))
+    (convert (integer_kind Long) (number 1 16)))))))
+
+statement_3 : Statement
+statement_3 = Expression (library 1 int Putchar (one (convert int (binary 1 Add
+    (convert (integer_kind Long) (number 1 48))
+    (binary 1 Divide
+    (parenthesized (difference 1 1 (plain 1 pointer 6) (decay (lvalue 1 (Array 17) (Automatic 2)))))
+    (convert (integer_kind Long) (number 1 16)))))))
+
+statement_4 : Statement
+statement_4 = Return (Some (convert int (binary 1 Remainder (cast 1 (integer_kind Long) (plain 1 pointer 4)) (convert (integer_kind Long) (number 1 16)))))
+
 function_f : Function
 function_f = defined 1 1
     (one (object_variable (integer_kind Char)))
     (six
-        (object_variable (integer_kind Char))
-        (object_variable (Array 17))
-        (object_variable (integer_kind Char))
-        (plain_variable pointer)
-        (plain_variable pointer)
-        (plain_variable pointer))
+    (object_variable (integer_kind Char))
+    (object_variable (Array 17))
+    (object_variable (integer_kind Char))
+    (plain_variable pointer)
+    (plain_variable pointer)
+    (plain_variable pointer))
     560
     (vec_of
-        (Declaration (one (Plain 4 (address 1 (lvalue 1 (integer_kind Char) (Automatic 0))))) ∷
-            Declaration (one (Plain 5 (address 1 (lvalue 1 (integer_kind Char) (Automatic 1))))) ∷
-            Declaration (one (Plain 6 (address 1 (lvalue 1 (integer_kind Char) (Automatic 3))))) ∷
-            Expression (library 1 int Putchar (one (convert int (binary 1 Add
-                (convert (integer_kind Long) (number 1 48))
-                (binary 1 Divide
-                    (parenthesized (difference 1 1 (plain 1 pointer 5) (plain 1 pointer 4)))
-                    (convert (integer_kind Long) (number 1 16))))))) ∷
-            Expression (library 1 int Putchar (one (convert int (binary 1 Add
-                (convert (integer_kind Long) (number 1 48))
-                (binary 1 Divide
-                    (parenthesized (difference 1 1 (decay (lvalue 1 (Array 17) (Automatic 2))) (plain 1 pointer 5)))
-                    (convert (integer_kind Long) (number 1 16))))))) ∷
-            Expression (library 1 int Putchar (one (convert int (binary 1 Add
-                (convert (integer_kind Long) (number 1 48))
-                (binary 1 Divide
-                    (parenthesized (difference 1 1 (plain 1 pointer 6) (decay (lvalue 1 (Array 17) (Automatic 2)))))
-                    (convert (integer_kind Long) (number 1 16))))))) ∷
-            Return (Some (convert int (binary 1 Remainder
-                (cast 1 (integer_kind Long) (plain 1 pointer 4))
-                (convert (integer_kind Long) (number 1 16))))) ∷ [])
-        (lit< tt))
+    (Declaration (one (Plain 4 (address 1 (lvalue 1 (integer_kind Char) (Automatic 0))))) ∷
+    Declaration (one (Plain 5 (address 1 (lvalue 1 (integer_kind Char) (Automatic 1))))) ∷
+    Declaration (one (Plain 6 (address 1 (lvalue 1 (integer_kind Char) (Automatic 3))))) ∷
+    statement_1 ∷
+    statement_2 ∷
+    statement_3 ∷
+    statement_4 ∷ [])
+    (lit< tt))
+
+statement_5 : Statement
+statement_5 = Expression (library 1 int Putchar (one (convert int (binary 1 Add
+    (convert (integer_kind Long) (number 1 48))
+    (binary 1 Divide
+    (parenthesized (difference 1 1
+    (cast 1 pointer (address 1 (lvalue 1 int (Static 1))))
+    (address 1 (lvalue 1 (integer_kind Char) (Static 0)))))
+    (convert (integer_kind Long) (number 1 16)))))))
 
 function_main : Function
-function_main = defined 1 0 none none 248 (two
-    (Expression (library 1 int Putchar (one (convert int (binary 1 Add
-        (convert (integer_kind Long) (number 1 48))
-        (binary 1 Divide
-            (parenthesized (difference 1 1
-                (cast 1 pointer (address 1 (lvalue 1 int (Static 1))))
-                (address 1 (lvalue 1 (integer_kind Char) (Static 0)))))
-            (convert (integer_kind Long) (number 1 16))))))))
-    (Return (Some (call 1 int 0 (one (convert (integer_kind Char) (number 1 7)))))))
+function_main = defined 1 0 none none 248 (two statement_5 (Return (Some (call 1 int 0 (one (convert (integer_kind Char) (number 1 7)))))))
 
 program : Program
 program = program_of
@@ -71,9 +82,9 @@ program = program_of
     1
 
 run : seen (meaning program default_sizes [] 20) ≡ exited (codes "1112") 0
-unfolding program function_f function_main computing
+unfolding program function_f function_main statement_1 statement_2 statement_3 statement_4 statement_5 computing
 run = refl
 
 valid : is_valid_program program ≡ true
-unfolding program function_f function_main computing
+unfolding program function_f function_main statement_1 statement_2 statement_3 statement_4 statement_5 computing
 valid = refl

@@ -7,10 +7,13 @@ use Rattle.c_tree.specs.declared.expression.Kind.TheVariants.{Array}
 use Rattle.c_tree.specs.declared.expression.LvalueNode.{Static}
 use Rattle.c_tree.specs.declared.program.Program.{Program}
 use Rattle.c_tree.specs.declared.statement.Initialization.TheVariants.{Plain}
-use Rattle.c_tree.specs.declared.statement.Statement.{Declaration, Expression, Return}
+use Rattle.c_tree.specs.declared.statement.Statement.{Declaration, Expression, Return, Statement}
 use Rattle.sb_base.specs.Budgets.{default_sizes}
 use Rattle.source_meaning.proofs.Samples.{assign, computing, decay, index, int, lvalue, main_alone, none, number, one, parenthesized, plain, plain_variable, read, seen, set_plain, static, stopped, three, writes}
 use Rattle.source_meaning.specs.Meaning.{meaning}
+
+statement_1 : Statement
+statement_1 = Expression (assign 1 (index 1 int (decay (lvalue 1 (Array 16) (Static 0))) (plain 1 int 0)) (parenthesized (set_plain 1 0 (number 1 9))))
 
 program : Program
 program = main_alone
@@ -18,20 +21,18 @@ program = main_alone
     (one (plain_variable int))
     288
     (three
-        (Declaration (one (Plain 0 (number 1 0))))
-        (Expression (assign 1
-            (index 1 int (decay (lvalue 1 (Array 16) (Static 0))) (plain 1 int 0))
-            (parenthesized (set_plain 1 0 (number 1 9)))))
-        (Return (Some (read (index 1 int (decay (lvalue 1 (Array 16) (Static 0))) (plain 1 int 0))))))
+    (Declaration (one (Plain 0 (number 1 0))))
+    statement_1
+    (Return (Some (read (index 1 int (decay (lvalue 1 (Array 16) (Static 0))) (plain 1 int 0))))))
 
 run : seen (meaning program default_sizes [] 20) ≡ stopped [] (codes "sbcets: spatial violation at line 1\n") 120
-unfolding program computing
+unfolding program statement_1 computing
 run = refl
 
 accesses : (meaning program default_sizes [] 20).shown.accesses ≡ writes 0x10000000 4 ∷ []
-unfolding program computing
+unfolding program statement_1 computing
 accesses = refl
 
 valid : is_valid_program program ≡ true
-unfolding program computing
+unfolding program statement_1 computing
 valid = refl

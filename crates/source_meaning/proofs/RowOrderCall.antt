@@ -9,7 +9,7 @@ use Rattle.c_tree.specs.declared.c_type.TypeWord.TheVariants.{Gives, Integer as 
 use Rattle.c_tree.specs.declared.expression.Routine.TheVariants.{Putchar}
 use Rattle.c_tree.specs.declared.program.Function.{Function}
 use Rattle.c_tree.specs.declared.program.Program.{Program}
-use Rattle.c_tree.specs.declared.statement.Statement.{Expression, Return}
+use Rattle.c_tree.specs.declared.statement.Statement.{Expression, Return, Statement}
 use Rattle.obj_memory.specs.declared.int_type.IntType.TheVariants.{Int}
 use Rattle.obj_memory.specs.declared.operator.BinaryOperator.TheVariants.{Add, Subtract}
 use Rattle.sb_base.specs.Budgets.{default_sizes}
@@ -26,26 +26,30 @@ function_s = defined 1 1
 function_g : Function
 function_g = defined 2 2 none none 168 (two (Expression (library 2 int Putchar (one (number 2 71)))) (Return (Some (function 2 0))))
 
+statement_1 : Statement
+statement_1 = Expression (call 3 int 0 (two (library 3 int Putchar (one (number 3 65))) (library 3 int Putchar (one (number 3 66)))))
+
+statement_2 : Statement
+statement_2 = Return (Some (call_through 3 int 1 (call 3 pointer 1 none) (two (binary 3 Add (library 3 int Putchar (one (number 3 67))) (number 3 3)) (library 3 int Putchar (one (number 3 68))))))
+
 function_main : Function
-function_main = defined 3 0 none none 248 (two
-    (Expression (call 3 int 0 (two (library 3 int Putchar (one (number 3 65))) (library 3 int Putchar (one (number 3 66))))))
-    (Return (Some (call_through 3 int 1 (call 3 pointer 1 none) (two (binary 3 Add (library 3 int Putchar (one (number 3 67))) (number 3 3)) (library 3 int Putchar (one (number 3 68))))))))
+function_main = defined 3 0 none none 248 (two statement_1 statement_2)
 
 program : Program
 program = program_of none
     (three main_type
-        (function_type (Takes ∷ (IntegerWord Int) ∷ Takes ∷ (IntegerWord Int) ∷ Gives ∷ (IntegerWord Int) ∷ []) (two int int) int)
-        (function_type
-            (Gives ∷ PointerWord ∷ Takes ∷ (IntegerWord Int) ∷ Takes ∷ (IntegerWord Int) ∷ Gives ∷ (IntegerWord Int) ∷ [])
-            none
-            pointer))
+    (function_type (Takes ∷ (IntegerWord Int) ∷ Takes ∷ (IntegerWord Int) ∷ Gives ∷ (IntegerWord Int) ∷ []) (two int int) int)
+    (function_type
+    (Gives ∷ PointerWord ∷ Takes ∷ (IntegerWord Int) ∷ Takes ∷ (IntegerWord Int) ∷ Gives ∷ (IntegerWord Int) ∷ [])
+    none
+    pointer))
     (three function_s function_g function_main)
     2
 
 run : seen (meaning program default_sizes [] 20) ≡ exited (codes "ABGCD") 2
-unfolding program function_s function_g function_main computing
+unfolding program function_s function_g function_main statement_1 statement_2 computing
 run = refl
 
 valid : is_valid_program program ≡ true
-unfolding program function_s function_g function_main computing
+unfolding program function_s function_g function_main statement_1 statement_2 computing
 valid = refl

@@ -10,7 +10,7 @@ use Rattle.c_tree.specs.declared.expression.Routine.TheVariants.{Putchar}
 use Rattle.c_tree.specs.declared.program.Function.{Function}
 use Rattle.c_tree.specs.declared.program.Program.{Program}
 use Rattle.c_tree.specs.declared.statement.Initialization.TheVariants.{Plain}
-use Rattle.c_tree.specs.declared.statement.Statement.{Declaration, Expression, If, Return}
+use Rattle.c_tree.specs.declared.statement.Statement.{Declaration, Expression, If, Return, Statement}
 use Rattle.obj_memory.specs.declared.int_type.IntType.TheVariants.{Int}
 use Rattle.obj_memory.specs.declared.operator.BinaryOperator.TheVariants.{Add, Multiply, Subtract}
 use Rattle.sb_base.specs.Budgets.{default_sizes}
@@ -23,32 +23,40 @@ function_f = defined 1 1
     none
     280
     (two
-        (Expression (library 1 int Putchar (one (plain 1 int 0))))
-        (Return (Some (binary 1 Subtract (plain 1 int 0) (number 1 64)))))
+    (Expression (library 1 int Putchar (one (plain 1 int 0))))
+    (Return (Some (binary 1 Subtract (plain 1 int 0) (number 1 64)))))
+
+statement_1 : Statement
+statement_1 = Declaration (one (Plain 0 (binary 2 Add
+    (call 2 int 0 (one (number 2 65)))
+    (binary 2 Multiply (call 2 int 0 (one (number 2 66))) (call 2 int 0 (one (number 2 67)))))))
+
+statement_2 : Statement
+statement_2 = If
+    (logical_and 2
+    (logical_and 2 (call 2 int 0 (one (number 2 70))) (logical_not 2 (call 2 int 0 (one (number 2 71)))))
+    (call 2 int 0 (one (number 2 72))))
+    (box (Expression (call 2 int 0 (one (number 2 73)))))
+    None
+
+statement_3 : Statement
+statement_3 = If
+    (logical_or 2 (call 2 int 0 (one (number 2 64))) (call 2 int 0 (one (number 2 74))))
+    (box (Expression (call 2 int 0 (one (number 2 75)))))
+    None
+
+statement_4 : Statement
+statement_4 = Return (Some (binary 2 Add (plain 2 int 0) (parenthesized (conditional 2 (call 2 int 0 (one (number 2 76))) (call 2 int 0 (one (number 2 77))) (call 2 int 0 (one (number 2 78)))))))
 
 function_main : Function
 function_main = defined 2 0 none
     (one (plain_variable int))
     288
-    (five
-        (Declaration (one (Plain 0 (binary 2 Add
-            (call 2 int 0 (one (number 2 65)))
-            (binary 2 Multiply (call 2 int 0 (one (number 2 66))) (call 2 int 0 (one (number 2 67))))))))
-        (Expression (parenthesized (comma 2 (call 2 int 0 (one (number 2 68))) (call 2 int 0 (one (number 2 69))))))
-        (If
-            (logical_and 2
-                (logical_and 2 (call 2 int 0 (one (number 2 70))) (logical_not 2 (call 2 int 0 (one (number 2 71)))))
-                (call 2 int 0 (one (number 2 72))))
-            (box (Expression (call 2 int 0 (one (number 2 73)))))
-            None)
-        (If
-            (logical_or 2 (call 2 int 0 (one (number 2 64))) (call 2 int 0 (one (number 2 74))))
-            (box (Expression (call 2 int 0 (one (number 2 75)))))
-            None)
-        (Return (Some (binary 2 Add (plain 2 int 0) (parenthesized (conditional 2
-            (call 2 int 0 (one (number 2 76)))
-            (call 2 int 0 (one (number 2 77)))
-            (call 2 int 0 (one (number 2 78)))))))))
+    (five statement_1
+    (Expression (parenthesized (comma 2 (call 2 int 0 (one (number 2 68))) (call 2 int 0 (one (number 2 69))))))
+    statement_2
+    statement_3
+    statement_4)
 
 program : Program
 program = program_of none
@@ -57,9 +65,9 @@ program = program_of none
     1
 
 run : seen (meaning program default_sizes [] 40) ≡ exited (codes "ABCDEFG@JKLM") 20
-unfolding program function_f function_main computing
+unfolding program function_f function_main statement_1 statement_2 statement_3 statement_4 computing
 run = refl
 
 valid : is_valid_program program ≡ true
-unfolding program function_f function_main computing
+unfolding program function_f function_main statement_1 statement_2 statement_3 statement_4 computing
 valid = refl

@@ -9,22 +9,25 @@ use Rattle.c_tree.specs.declared.expression.LvalueNode.{Automatic}
 use Rattle.c_tree.specs.declared.program.Function.{Function}
 use Rattle.c_tree.specs.declared.program.Program.{Program}
 use Rattle.c_tree.specs.declared.statement.Initialization.TheVariants.{Plain}
-use Rattle.c_tree.specs.declared.statement.Statement.{Declaration, Expression, Return}
+use Rattle.c_tree.specs.declared.statement.Statement.{Declaration, Expression, Return, Statement}
 use Rattle.obj_memory.specs.declared.int_type.IntType.TheVariants.{Int}
 use Rattle.obj_memory.specs.declared.operator.BinaryOperator.TheVariants.{Add, Multiply}
 use Rattle.sb_base.specs.Budgets.{default_sizes}
 use Rattle.source_meaning.proofs.Samples.{address, assign, binary, call, computing, counts, defined, deref, exited, function_type, int, lvalue, main_type, none, number, object_variable, one, plain, plain_variable, pointer, program_of, read, reads, seen, three, two, writes}
 use Rattle.source_meaning.specs.Meaning.{meaning}
 
+statement_1 : Statement
+statement_1 = Expression (assign 1 (deref 1 int (plain 1 pointer 2)) (binary 1 Add (read (deref 1 int (plain 1 pointer 2))) (number 1 1)))
+
+statement_2 : Statement
+statement_2 = Return (Some (binary 1 Add (binary 1 Multiply (plain 1 int 0) (number 1 10)) (read (lvalue 1 int (Automatic 1)))))
+
 function_f : Function
 function_f = defined 1 1
     (two (plain_variable int) (object_variable int))
     (one (plain_variable pointer))
     432
-    (three
-        (Declaration (one (Plain 2 (address 1 (lvalue 1 int (Automatic 1))))))
-        (Expression (assign 1 (deref 1 int (plain 1 pointer 2)) (binary 1 Add (read (deref 1 int (plain 1 pointer 2))) (number 1 1))))
-        (Return (Some (binary 1 Add (binary 1 Multiply (plain 1 int 0) (number 1 10)) (read (lvalue 1 int (Automatic 1)))))))
+    (three (Declaration (one (Plain 2 (address 1 (lvalue 1 int (Automatic 1)))))) statement_1 statement_2)
 
 function_main : Function
 function_main = defined 1 0 none none 208 (one (Return (Some (call 1 int 0 (two (number 1 2) (number 1 3))))))
@@ -36,14 +39,14 @@ program = program_of none
     1
 
 run : seen (meaning program default_sizes [] 20) ≡ exited [] 24
-unfolding program function_f function_main computing
+unfolding program function_f function_main statement_1 statement_2 computing
 run = refl
 
 counted : counts (meaning program default_sizes [] 20) ≡
     record { turns = 2; work = 32; accesses = writes 0x10000000 4 ∷ reads 0x10000000 4 ∷ writes 0x10000000 4 ∷ reads 0x10000000 4 ∷ [] }
-unfolding program function_f function_main computing
+unfolding program function_f function_main statement_1 statement_2 computing
 counted = refl
 
 valid : is_valid_program program ≡ true
-unfolding program function_f function_main computing
+unfolding program function_f function_main statement_1 statement_2 computing
 valid = refl

@@ -8,7 +8,7 @@ use Rattle.c_tree.specs.declared.expression.Kind.TheVariants.{Array}
 use Rattle.c_tree.specs.declared.expression.LvalueNode.{Automatic}
 use Rattle.c_tree.specs.declared.program.Function.{Function}
 use Rattle.c_tree.specs.declared.program.Program.{Program}
-use Rattle.c_tree.specs.declared.statement.Statement.{Expression, Return}
+use Rattle.c_tree.specs.declared.statement.Statement.{Expression, Return, Statement}
 use Rattle.obj_memory.specs.declared.int_type.IntType.TheVariants.{Int}
 use Rattle.obj_memory.specs.declared.operator.BinaryOperator.TheVariants.{Add, Multiply}
 use Rattle.sb_base.specs.Budgets.{default_sizes}
@@ -22,16 +22,19 @@ function_f = defined 1 1
     360
     (two (Expression (set_plain 1 1 (binary 1 Add (plain 1 int 1) (plain 1 int 0)))) (Return (Some (plain 1 int 1))))
 
+statement_1 : Statement
+statement_1 = Expression (assign 1 (index 1 int (decay (lvalue 1 (Array 8) (Automatic 0))) (number 1 1)) (call 1 int 0 (one (number 1 1))))
+
+statement_2 : Statement
+statement_2 = Return (Some (binary 1 Add
+    (binary 1 Multiply (read (index 1 int (decay (lvalue 1 (Array 8) (Automatic 0))) (number 1 0))) (number 1 10))
+    (read (index 1 int (decay (lvalue 1 (Array 8) (Automatic 0))) (number 1 1)))))
+
 function_main : Function
 function_main = defined 1 0 none
     (one (object_variable (Array 8)))
     288
-    (three
-        (Expression (call 1 int 0 (one (number 1 7))))
-        (Expression (assign 1 (index 1 int (decay (lvalue 1 (Array 8) (Automatic 0))) (number 1 1)) (call 1 int 0 (one (number 1 1)))))
-        (Return (Some (binary 1 Add
-            (binary 1 Multiply (read (index 1 int (decay (lvalue 1 (Array 8) (Automatic 0))) (number 1 0))) (number 1 10))
-            (read (index 1 int (decay (lvalue 1 (Array 8) (Automatic 0))) (number 1 1)))))))
+    (three (Expression (call 1 int 0 (one (number 1 7)))) statement_1 statement_2)
 
 program : Program
 program = program_of none
@@ -40,9 +43,9 @@ program = program_of none
     1
 
 run : seen (meaning program default_sizes [] 20) ≡ exited [] 1
-unfolding program function_f function_main computing
+unfolding program function_f function_main statement_1 statement_2 computing
 run = refl
 
 valid : is_valid_program program ≡ true
-unfolding program function_f function_main computing
+unfolding program function_f function_main statement_1 statement_2 computing
 valid = refl

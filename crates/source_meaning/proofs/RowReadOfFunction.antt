@@ -16,8 +16,8 @@ program = main_alone none
     (one (plain_variable pointer))
     208
     (two
-        (Declaration (one (Plain 0 (cast 1 pointer (function 1 0)))))
-        (Return (Some (convert int (read (deref 1 (integer_kind Char) (plain 1 pointer 0)))))))
+    (Declaration (one (Plain 0 (cast 1 pointer (function 1 0)))))
+    (Return (Some (convert int (read (deref 1 (integer_kind Char) (plain 1 pointer 0)))))))
 
 run : seen (meaning program default_sizes [] 20) ≡ stopped [] (codes "sbcets: spatial violation at line 1\n") 120
 unfolding program computing

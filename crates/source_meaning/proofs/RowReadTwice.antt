@@ -29,8 +29,8 @@ function_main = defined 2 0 none
     (one (object_variable int))
     208
     (two
-        (Declaration (one (Object 0 (one (part 0 (content (number 2 4)))))))
-        (Return (Some (call 2 int 0 (one (address 2 (lvalue 2 int (Automatic 0))))))))
+    (Declaration (one (Object 0 (one (part 0 (content (number 2 4)))))))
+    (Return (Some (call 2 int 0 (one (address 2 (lvalue 2 int (Automatic 0))))))))
 
 program : Program
 program = program_of none

@@ -7,7 +7,7 @@ use Rattle.c_tree.specs.declared.c_type.TypeWord.TheVariants.{Gives, Integer as 
 use Rattle.c_tree.specs.declared.expression.Routine.TheVariants.{Putchar}
 use Rattle.c_tree.specs.declared.program.Function.{Function}
 use Rattle.c_tree.specs.declared.program.Program.{Program}
-use Rattle.c_tree.specs.declared.statement.Statement.{Expression, If, Return}
+use Rattle.c_tree.specs.declared.statement.Statement.{Expression, If, Return, Statement}
 use Rattle.obj_memory.specs.declared.int_type.IntType.TheVariants.{Int}
 use Rattle.obj_memory.specs.declared.operator.BinaryOperator.TheVariants.{Add, Equal}
 use Rattle.sb_base.specs.Budgets.{default_sizes}
@@ -21,10 +21,11 @@ function_f = defined 1 1
     240
     (one (If (plain 1 int 0) (box (Return (Some (convert pointer (number 1 0))))) None))
 
+statement_1 : Statement
+statement_1 = Expression (library 1 int Putchar (one (binary 1 Add (number 1 48) (parenthesized (compare 1 Equal (call 1 pointer 0 (one (number 1 0))) (convert pointer (number 1 0)))))))
+
 function_main : Function
-function_main = defined 1 0 none none 248 (two
-    (Expression (library 1 int Putchar (one (binary 1 Add (number 1 48) (parenthesized (compare 1 Equal (call 1 pointer 0 (one (number 1 0))) (convert pointer (number 1 0))))))))
-    (Expression (assign 1 (deref 1 int (call 1 pointer 0 (one (number 1 0)))) (number 1 1))))
+function_main = defined 1 0 none none 248 (two statement_1 (Expression (assign 1 (deref 1 int (call 1 pointer 0 (one (number 1 0)))) (number 1 1))))
 
 program : Program
 program = program_of none
@@ -33,9 +34,9 @@ program = program_of none
     1
 
 run : seen (meaning program default_sizes [] 20) ≡ stopped (codes "1") (codes "sbcets: spatial violation at line 1\n") 120
-unfolding program function_f function_main computing
+unfolding program function_f function_main statement_1 computing
 run = refl
 
 valid : is_valid_program program ≡ true
-unfolding program function_f function_main computing
+unfolding program function_f function_main statement_1 computing
 valid = refl

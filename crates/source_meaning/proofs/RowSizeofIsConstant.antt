@@ -7,7 +7,7 @@ use Rattle.c_tree.specs.declared.expression.Kind.TheVariants.{Array}
 use Rattle.c_tree.specs.declared.expression.Routine.TheVariants.{Putchar}
 use Rattle.c_tree.specs.declared.program.Function.{Function}
 use Rattle.c_tree.specs.declared.program.Program.{Program}
-use Rattle.c_tree.specs.declared.statement.Statement.{Expression, Return}
+use Rattle.c_tree.specs.declared.statement.Statement.{Expression, Return, Statement}
 use Rattle.obj_memory.specs.declared.int_type.IntType.TheVariants.{UnsignedLong}
 use Rattle.obj_memory.specs.declared.operator.BinaryOperator.TheVariants.{Add}
 use Rattle.sb_base.specs.Budgets.{default_sizes}
@@ -17,25 +17,25 @@ use Rattle.source_meaning.specs.Meaning.{meaning}
 function_f : Function
 function_f = defined 1 0 none none 168 (two (Expression (library 1 int Putchar (one (number 1 65)))) (Return (Some (number 1 1))))
 
+statement_1 : Statement
+statement_1 = Return (Some (convert int (binary 1 Add
+    (binary 1 Add (binary 1 Add (constant UnsignedLong 1 4) (constant UnsignedLong 1 3)) (constant UnsignedLong 1 5))
+    (constant UnsignedLong 1 32))))
+
 function_main : Function
-function_main = defined 1 0 none
-    (one (object_variable (Array 3)))
-    248
-    (one (Return (Some (convert int (binary 1 Add
-        (binary 1 Add (binary 1 Add (constant UnsignedLong 1 4) (constant UnsignedLong 1 3)) (constant UnsignedLong 1 5))
-        (constant UnsignedLong 1 32))))))
+function_main = defined 1 0 none (one (object_variable (Array 3))) 248 (one statement_1)
 
 program : Program
 program = program_of none (one main_type) (two function_f function_main) 1
 
 run : seen (meaning program default_sizes [] 20) ≡ exited [] 44
-unfolding program function_f function_main computing
+unfolding program function_f function_main statement_1 computing
 run = refl
 
 counted : counts (meaning program default_sizes [] 20) ≡ record { turns = 1; work = 14; accesses = [] }
-unfolding program function_f function_main computing
+unfolding program function_f function_main statement_1 computing
 counted = refl
 
 valid : is_valid_program program ≡ true
-unfolding program function_f function_main computing
+unfolding program function_f function_main statement_1 computing
 valid = refl

@@ -17,12 +17,12 @@ program = main_alone none
     (one (plain_variable int))
     248
     (six
-        (Declaration (one (Plain 0 (number 1 0))))
-        (Expression (logical_and 1 (plain 1 int 0) (plain 1 int 0)))
-        (Expression (logical_or 1 (plain 1 int 0) (plain 1 int 0)))
-        (Expression (conditional 1 (plain 1 int 0) (number 1 1) (binary 1 Add (plain 1 int 0) (number 1 1))))
-        (Expression (logical_and 1 (number 1 1) (number 1 0)))
-        (Return (Some (number 1 0))))
+    (Declaration (one (Plain 0 (number 1 0))))
+    (Expression (logical_and 1 (plain 1 int 0) (plain 1 int 0)))
+    (Expression (logical_or 1 (plain 1 int 0) (plain 1 int 0)))
+    (Expression (conditional 1 (plain 1 int 0) (number 1 1) (binary 1 Add (plain 1 int 0) (number 1 1))))
+    (Expression (logical_and 1 (number 1 1) (number 1 0)))
+    (Return (Some (number 1 0))))
 
 run : seen (meaning program default_sizes [] 20) ≡ exited [] 0
 unfolding program computing

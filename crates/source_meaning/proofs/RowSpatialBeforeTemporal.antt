@@ -18,9 +18,9 @@ program = main_alone none
     (one (plain_variable pointer))
     248
     (three
-        (Declaration (one (Plain 0 (library 1 pointer Malloc (one (convert (integer_kind UnsignedLong) (number 1 2)))))))
-        (Expression (library 1 Void Free (one (plain 1 pointer 0))))
-        (Return (Some (convert int (read (index 1 (integer_kind Char) (plain 1 pointer 0) (number 1 2)))))))
+    (Declaration (one (Plain 0 (library 1 pointer Malloc (one (convert (integer_kind UnsignedLong) (number 1 2)))))))
+    (Expression (library 1 Void Free (one (plain 1 pointer 0))))
+    (Return (Some (convert int (read (index 1 (integer_kind Char) (plain 1 pointer 0) (number 1 2)))))))
 
 run : seen (meaning program default_sizes [] 20) ≡ stopped [] (codes "sbcets: spatial violation at line 1\n") 120
 unfolding program computing

@@ -18,8 +18,8 @@ program = main_alone (one (static int none))
     (one (plain_variable (integer_kind Long)))
     248
     (two
-        (Declaration (one (Plain 0 (cast 1 (integer_kind Long) (address 1 (lvalue 1 int (Static 0)))))))
-        (Return (Some (convert int (binary 1 ShiftRight (plain 1 (integer_kind Long) 0) (number 1 28))))))
+    (Declaration (one (Plain 0 (cast 1 (integer_kind Long) (address 1 (lvalue 1 int (Static 0)))))))
+    (Return (Some (convert int (binary 1 ShiftRight (plain 1 (integer_kind Long) 0) (number 1 28))))))
 
 run : seen (meaning program default_sizes [] 20) ≡ exited [] 1
 unfolding program computing

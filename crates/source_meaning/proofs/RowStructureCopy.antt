@@ -7,34 +7,39 @@ use Rattle.c_tree.specs.ValidProgram.{is_valid_program}
 use Rattle.c_tree.specs.declared.expression.Kind.TheVariants.{Structure}
 use Rattle.c_tree.specs.declared.expression.LvalueNode.{Automatic, Static}
 use Rattle.c_tree.specs.declared.program.Program.{Program}
-use Rattle.c_tree.specs.declared.statement.Statement.{Expression, Return}
+use Rattle.c_tree.specs.declared.statement.Statement.{Expression, Return, Statement}
 use Rattle.obj_memory.specs.declared.operator.BinaryOperator.TheVariants.{Add}
 use Rattle.sb_base.specs.Budgets.{default_sizes}
 use Rattle.source_meaning.proofs.Samples.{address, assign, binary, computing, content, counts, deref, exited, four, int, lvalue, main_alone, member, number, object_variable, one, part, pointer, read, reads, seen, static, two, writes}
 use Rattle.source_meaning.specs.Meaning.{meaning}
+
+statement_1 : Statement
+statement_1 = Expression (assign 1 (member 1 pointer 0 (lvalue 1 (Structure 16) (Automatic 0))) (address 1 (lvalue 1 int (Static 0))))
+
+statement_2 : Statement
+statement_2 = Return (Some (binary 1 Add
+    (read (deref 1 int (read (member 1 pointer 0 (lvalue 1 (Structure 16) (Automatic 1))))))
+    (read (member 1 int 8 (lvalue 1 (Structure 16) (Automatic 1))))))
 
 program : Program
 program = main_alone
     (one (static int (one (part 0 (content (number 1 7))))))
     (two (object_variable (Structure 16)) (object_variable (Structure 16)))
     288
-    (four
-        (Expression (assign 1 (member 1 pointer 0 (lvalue 1 (Structure 16) (Automatic 0))) (address 1 (lvalue 1 int (Static 0)))))
-        (Expression (assign 1 (member 1 int 8 (lvalue 1 (Structure 16) (Automatic 0))) (number 1 1)))
-        (Expression (assign 1 (lvalue 1 (Structure 16) (Automatic 1)) (read (lvalue 1 (Structure 16) (Automatic 0)))))
-        (Return (Some (binary 1 Add
-            (read (deref 1 int (read (member 1 pointer 0 (lvalue 1 (Structure 16) (Automatic 1))))))
-            (read (member 1 int 8 (lvalue 1 (Structure 16) (Automatic 1))))))))
+    (four statement_1
+    (Expression (assign 1 (member 1 int 8 (lvalue 1 (Structure 16) (Automatic 0))) (number 1 1)))
+    (Expression (assign 1 (lvalue 1 (Structure 16) (Automatic 1)) (read (lvalue 1 (Structure 16) (Automatic 0)))))
+    statement_2)
 
 run : seen (meaning program default_sizes [] 20) ≡ exited [] 8
-unfolding program computing
+unfolding program statement_1 statement_2 computing
 run = refl
 
 counted : counts (meaning program default_sizes [] 20) ≡
     record { turns = 1; work = 74; accesses = writes 0x10001000 8 ∷ writes 0x10001008 4 ∷ reads 0x10001010 8 ∷ reads 0x10000000 4 ∷ reads 0x10001018 4 ∷ [] }
-unfolding program computing
+unfolding program statement_1 statement_2 computing
 counted = refl
 
 valid : is_valid_program program ≡ true
-unfolding program computing
+unfolding program statement_1 statement_2 computing
 valid = refl

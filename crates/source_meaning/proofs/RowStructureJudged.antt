@@ -19,9 +19,9 @@ program = main_alone
     (one (plain_variable pointer))
     248
     (three
-        (Declaration (one (Plain 0 (cast 1 pointer (address 1 (member 1 int 4 (lvalue 1 (Structure 8) (Static 0))))))))
-        (Expression (assign 2 (deref 2 (Structure 8) (plain 2 pointer 0)) (read (lvalue 2 (Structure 8) (Static 0)))))
-        (Return (Some (number 2 0))))
+    (Declaration (one (Plain 0 (cast 1 pointer (address 1 (member 1 int 4 (lvalue 1 (Structure 8) (Static 0))))))))
+    (Expression (assign 2 (deref 2 (Structure 8) (plain 2 pointer 0)) (read (lvalue 2 (Structure 8) (Static 0)))))
+    (Return (Some (number 2 0))))
 
 run : seen (meaning program default_sizes [] 20) ≡ stopped [] (codes "sbcets: spatial violation at line 2\n") 120
 unfolding program computing

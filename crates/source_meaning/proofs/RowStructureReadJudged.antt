@@ -20,9 +20,9 @@ program = main_alone
     (two (plain_variable pointer) (object_variable (Structure 8)))
     288
     (three
-        (Declaration (one (Plain 0 (cast 1 pointer (address 1 (member 1 int 4 (lvalue 1 (Structure 8) (Static 0))))))))
-        (Expression (assign 2 (lvalue 2 (Structure 8) (Automatic 1)) (read (deref 3 (Structure 8) (plain 3 pointer 0)))))
-        (Return (Some (number 3 0))))
+    (Declaration (one (Plain 0 (cast 1 pointer (address 1 (member 1 int 4 (lvalue 1 (Structure 8) (Static 0))))))))
+    (Expression (assign 2 (lvalue 2 (Structure 8) (Automatic 1)) (read (deref 3 (Structure 8) (plain 3 pointer 0)))))
+    (Return (Some (number 3 0))))
 
 run : seen (meaning program default_sizes [] 20) ≡ stopped [] (codes "sbcets: spatial violation at line 3\n") 120
 unfolding program computing

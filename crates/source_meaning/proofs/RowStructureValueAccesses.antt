@@ -7,28 +7,29 @@ use Rattle.c_tree.specs.ValidProgram.{is_valid_program}
 use Rattle.c_tree.specs.declared.expression.Kind.TheVariants.{Structure}
 use Rattle.c_tree.specs.declared.expression.LvalueNode.{Automatic, Static}
 use Rattle.c_tree.specs.declared.program.Program.{Program}
-use Rattle.c_tree.specs.declared.statement.Statement.{Expression, Return}
+use Rattle.c_tree.specs.declared.statement.Statement.{Expression, Return, Statement}
 use Rattle.sb_base.specs.Budgets.{default_sizes}
 use Rattle.source_meaning.proofs.Samples.{assign, computing, counts, exited, int, lvalue, main_alone, member_of_value, none, object_variable, one, parenthesized, read, reads, seen, static, two}
 use Rattle.source_meaning.specs.Meaning.{meaning}
+
+statement_1 : Statement
+statement_1 = Return (Some (read (member_of_value 1 int 4 (parenthesized (assign 1 (lvalue 1 (Structure 8) (Automatic 0)) (read (lvalue 1 (Structure 8) (Static 0))))))))
 
 program : Program
 program = main_alone
     (one (static (Structure 8) none))
     (one (object_variable (Structure 8)))
     248
-    (two
-        (Expression (assign 1 (lvalue 1 (Structure 8) (Automatic 0)) (read (lvalue 1 (Structure 8) (Static 0)))))
-        (Return (Some (read (member_of_value 1 int 4 (parenthesized (assign 1 (lvalue 1 (Structure 8) (Automatic 0)) (read (lvalue 1 (Structure 8) (Static 0))))))))))
+    (two (Expression (assign 1 (lvalue 1 (Structure 8) (Automatic 0)) (read (lvalue 1 (Structure 8) (Static 0))))) statement_1)
 
 run : seen (meaning program default_sizes [] 20) ≡ exited [] 0
-unfolding program computing
+unfolding program statement_1 computing
 run = refl
 
 counted : counts (meaning program default_sizes [] 20) ≡ record { turns = 1; work = 37; accesses = reads 0x10001004 4 ∷ [] }
-unfolding program computing
+unfolding program statement_1 computing
 counted = refl
 
 valid : is_valid_program program ≡ true
-unfolding program computing
+unfolding program statement_1 computing
 valid = refl

@@ -9,33 +9,33 @@ use Rattle.c_tree.specs.declared.expression.Routine.TheVariants.{Putchar}
 use Rattle.c_tree.specs.declared.program.Program.{Program}
 use Rattle.c_tree.specs.declared.statement.CaseLabel.TheVariants.{Case, Default}
 use Rattle.c_tree.specs.declared.statement.Initialization.TheVariants.{Plain}
-use Rattle.c_tree.specs.declared.statement.Statement.{Break, Declaration, Expression, Return, Switch}
+use Rattle.c_tree.specs.declared.statement.Statement.{Break, Declaration, Expression, Return, Statement, Switch}
 use Rattle.sb_base.specs.Budgets.{default_sizes}
 use Rattle.source_meaning.proofs.Samples.{computing, counts, exited, five, int, item, library, main_alone, none, number, one, plain, plain_variable, seen, three}
 use Rattle.source_meaning.specs.Meaning.{meaning}
+
+statement_1 : Statement
+statement_1 = Switch (plain 1 int 0) (five
+    (item (one (Case 1)) (Expression (library 1 int Putchar (one (number 1 65)))))
+    (item (one (Case 2)) (Expression (library 1 int Putchar (one (number 1 66)))))
+    (item (one (Case 3)) (Expression (library 1 int Putchar (one (number 1 67)))))
+    (item none Break)
+    (item (one Default) (Expression (library 1 int Putchar (one (number 1 68))))))
 
 program : Program
 program = main_alone none
     (one (plain_variable int))
     208
-    (three
-        (Declaration (one (Plain 0 (number 1 2))))
-        (Switch (plain 1 int 0) (five
-            (item (one (Case 1)) (Expression (library 1 int Putchar (one (number 1 65)))))
-            (item (one (Case 2)) (Expression (library 1 int Putchar (one (number 1 66)))))
-            (item (one (Case 3)) (Expression (library 1 int Putchar (one (number 1 67)))))
-            (item none Break)
-            (item (one Default) (Expression (library 1 int Putchar (one (number 1 68)))))))
-        (Return (Some (number 1 0))))
+    (three (Declaration (one (Plain 0 (number 1 2)))) statement_1 (Return (Some (number 1 0))))
 
 run : seen (meaning program default_sizes [] 20) ≡ exited (codes "BC") 0
-unfolding program computing
+unfolding program statement_1 computing
 run = refl
 
 counted : counts (meaning program default_sizes [] 20) ≡ record { turns = 1; work = 24; accesses = [] }
-unfolding program computing
+unfolding program statement_1 computing
 counted = refl
 
 valid : is_valid_program program ≡ true
-unfolding program computing
+unfolding program statement_1 computing
 valid = refl

@@ -7,11 +7,20 @@ use Rattle.c_tree.specs.declared.expression.Kind.TheVariants.{Array}
 use Rattle.c_tree.specs.declared.expression.LvalueNode.{Automatic, Static}
 use Rattle.c_tree.specs.declared.program.Program.{Program}
 use Rattle.c_tree.specs.declared.statement.Initialization.TheVariants.{Plain}
-use Rattle.c_tree.specs.declared.statement.Statement.{Declaration, Expression, Return}
+use Rattle.c_tree.specs.declared.statement.Statement.{Declaration, Expression, Return, Statement}
 use Rattle.obj_memory.specs.declared.int_type.IntType.TheVariants.{Long}
 use Rattle.sb_base.specs.Budgets.{default_sizes}
 use Rattle.source_meaning.proofs.Samples.{address, assign, cast, computing, content, decay, deref, exited, four, index, int, integer_kind, lvalue, main_alone, number, object_variable, one, part, plain, plain_variable, pointer, read, seen, static, two}
 use Rattle.source_meaning.specs.Meaning.{meaning}
+
+statement_1 : Statement
+statement_1 = Expression (assign 1 (index 1 pointer (decay (lvalue 1 (Array 8) (Automatic 0))) (number 1 0)) (address 1 (lvalue 1 int (Static 0))))
+
+statement_2 : Statement
+statement_2 = Expression (assign 1 (deref 1 (integer_kind Long) (plain 1 pointer 1)) (read (deref 1 (integer_kind Long) (plain 1 pointer 1))))
+
+statement_3 : Statement
+statement_3 = Return (Some (read (deref 1 int (read (index 1 pointer (decay (lvalue 1 (Array 8) (Automatic 0))) (number 1 0))))))
 
 program : Program
 program = main_alone
@@ -19,17 +28,15 @@ program = main_alone
     (two (object_variable (Array 8)) (plain_variable pointer))
     288
     (four
-        (Declaration (one (Plain 1 (cast 1 pointer (decay (lvalue 1 (Array 8) (Automatic 0)))))))
-        (Expression (assign 1
-            (index 1 pointer (decay (lvalue 1 (Array 8) (Automatic 0))) (number 1 0))
-            (address 1 (lvalue 1 int (Static 0)))))
-        (Expression (assign 1 (deref 1 (integer_kind Long) (plain 1 pointer 1)) (read (deref 1 (integer_kind Long) (plain 1 pointer 1)))))
-        (Return (Some (read (deref 1 int (read (index 1 pointer (decay (lvalue 1 (Array 8) (Automatic 0))) (number 1 0))))))))
+    (Declaration (one (Plain 1 (cast 1 pointer (decay (lvalue 1 (Array 8) (Automatic 0)))))))
+    statement_1
+    statement_2
+    statement_3)
 
 run : seen (meaning program default_sizes [] 20) ≡ exited [] 5
-unfolding program computing
+unfolding program statement_1 statement_2 statement_3 computing
 run = refl
 
 valid : is_valid_program program ≡ true
-unfolding program computing
+unfolding program statement_1 statement_2 statement_3 computing
 valid = refl

@@ -36,8 +36,8 @@ use Rattle.source_meaning.specs.Expressions.{callee_by, callee}
 use Rattle.source_meaning.specs.Initializers.{zero_object, zero_home, zero_variable, store_bytes}
 use Rattle.source_meaning.specs.Calls.{pass_or_stop, test_charge, test_stack, test_keys, call_tests, first_of, rest_of, set_plain_values, place_object, place_variables, write_parameter, write_parameters, lay_out, set_up, Caller, without_homes, back_to}
 use Rattle.source_meaning.specs.Acting.{IsAction}
-use Rattle.source_meaning.proofs.Acting.{later_same, acts_on, acts_then, acts_done, acts_skip, acts_stop, acts_choose, acts_read, acts_tally, acts_change, acts_objects, acts_private, changes, basic}
-use Rattle.source_meaning.proofs.Local.{IsLocal, local_on, local_then, local_done, local_skip, local_stop, local_choose, local_read, local_tally, local_change, local_objects, local_changes, local_basic}
+use Rattle.source_meaning.proofs.Acting.{acts_on, acts_then, acts_done, acts_skip, acts_stop, acts_choose, acts_tally, acts_change, acts_private, changes, basic}
+use Rattle.source_meaning.proofs.Local.{IsLocal, local_on, local_then, local_done, local_skip, local_stop, local_choose, local_tally, local_changes, local_basic}
 
 -- accesses
 

@@ -1,5 +1,5 @@
 -- An expression that does not assign a plain variable leaves it as it was, and keeps all homes.
-use Rattle.std.proofs.Common.{◌≡◌, ℕ, zero, suc, ◌+◌, List, [], ◌∷◌, Bool, true, false, ◌||◌, ◌==◌, Option, Some, None, get_or, set, map, refl, sym, ap, ◌∙◌, nat_lt}
+use Rattle.std.proofs.Common.{◌≡◌, ℕ, zero, suc, ◌+◌, List, ◌∷◌, Bool, true, false, ◌||◌, ◌==◌, Option, Some, None, get_or, map, refl, sym, ap, ◌∙◌, nat_lt}
 use Rattle.std.proofs.lemmas.Bool.{eqb-false}
 use Rattle.std.proofs.lemmas.List.{get_or-set_other}
 use Rattle.std.specs.Prelude.{not}
@@ -16,13 +16,13 @@ use Rattle.c_tree.specs.declared.expression.Node.{Node, Constant, Function as Fu
 use Rattle.c_tree.specs.declared.expression.LvalueNode.{LvalueNode, Automatic, Static, Deref', Index', Member', Arrow', MemberOfValue', Parenthesized' as ParenthesizedLvalue'}
 use Rattle.c_tree.specs.declared.program.Function.{Function}
 use Rattle.source_meaning.specs.declared.completion.Completion.{Completion}
-use Rattle.source_meaning.specs.State.{State, Outcome, Gives, Ended, Paused, Run, on, ◌>>=◌, ◌>>◌, done, stop, pause, choose, read_state, change, tally, Setting, Env}
+use Rattle.source_meaning.specs.State.{State, Outcome, Gives, Ended, Paused, Run, on, ◌>>=◌, ◌>>◌, done, pause, choose, read_state, change, Setting, Env}
 use Rattle.source_meaning.specs.Actions.{integer, is_zero, scalar_of, integer_type, converted, offset_value, difference_value, updated, plain_value, set_plain, update_plain, given, home_pointer, each_value, begin_turn}
 use Rattle.source_meaning.specs.Expressions.{counted_as, counted, nodes_of, function_pointer, is_judged, value, place, values}
 use Rattle.source_meaning.specs.Statements.{in_order, execute}
-use Rattle.source_meaning.specs.Calls.{header_of, set_up, caller, back_to, returned_by, enter_begun, enter_found, function_at, calls}
+use Rattle.source_meaning.specs.Calls.{header_of, set_up, caller, back_to, returned_by, enter_found, function_at, calls}
 use Rattle.source_meaning.specs.Assigns.{assigns, lvalue_assigns, row_assigns}
-use Rattle.source_meaning.proofs.Local.{KeepsVariables, KeepsBy, IsLocal, local_tally}
+use Rattle.source_meaning.proofs.Local.{KeepsBy, IsLocal, local_tally}
 use Rattle.source_meaning.proofs.ActionsAct.{local_operate, local_updated, local_update, local_read_lvalue, local_write_lvalue, local_callee}
 use Rattle.source_meaning.proofs.LibraryActs.{local_routine, local_print}
 

@@ -129,5 +129,5 @@ variables_of f = length f.parameters.items + length f.variables.items
 abbrev pub body_height : program.Function → ℕ
 body_height f = greatest (map statement_height f.body.items)
 
-pub room : program.Function → ℕ
+unfoldable pub room : program.Function → ℕ
 room f = 96 + 40 * (variables_of f + body_height f) + 32 * (1 + length f.parameters.items)

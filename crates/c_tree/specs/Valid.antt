@@ -92,6 +92,18 @@ abbrev pub are_printed : Option (List Piece) → List Kind → Bool
 are_printed None arguments = false
 are_printed (Some ps) arguments = fit_directives (directives ps) arguments
 
+-- what has an address and may be assigned (6.3.2.1); a member of a structure value that is no lvalue is none either (6.5.2.3
+-- paragraph 3)
+abbrev pub is_lvalue : lvalue.LvalueNode → Bool
+is_lvalue (lvalue.Automatic x) = true
+is_lvalue (lvalue.Static n) = true
+is_lvalue (lvalue.Deref' _ t line e) = true
+is_lvalue (lvalue.Index' form size _ t line e _ t' line' e') = true
+is_lvalue (lvalue.Member' _ t line l offset size) = is_lvalue l
+is_lvalue (lvalue.Arrow' _ t line e offset size) = true
+is_lvalue (lvalue.MemberOfValue' _ t line e offset size) = false
+is_lvalue (lvalue.Parenthesized' _ t line l) = is_lvalue l
+
 abbrev pub kinds : {n : _} → Row_of-Expression n → List Kind
 kinds end_of-Expression = []
 kinds (more_of-Expression k line e others) = k ∷ kinds others
@@ -104,7 +116,7 @@ abbrev mutual
   is_valid scope (Plain x) k = is_plain scope x k
   is_valid scope (Read' _ t line l) k = is_valid_lvalue scope l t && is_kind k t && is_value k
   is_valid scope (Decay' _ t line l) k = is_valid_lvalue scope l t && is_array t && is_kind k pointer
-  is_valid scope (Address' _ t line l) k = is_valid_lvalue scope l t && is_kind k pointer
+  is_valid scope (Address' _ t line l) k = is_valid_lvalue scope l t && is_lvalue l && is_kind k pointer
   is_valid scope (Parenthesized' _ t line e) k = is_valid scope e t && is_kind k t
   is_valid scope (FunctionDesignator' _ t line e) k = is_valid scope e t && is_kind t pointer && is_kind k pointer
   is_valid scope (Cast' _ t line e) k = is_valid scope e t && is_conversion t k
@@ -123,12 +135,12 @@ abbrev mutual
   is_valid scope (Conditional' _ t line c _ t' line' e _ t'' line'' e') k =
       is_valid scope c t && is_scalar t && is_valid scope e t' && is_valid scope e' t'' && is_kind k t' && is_kind k t''
   is_valid scope (Assign' _ t line l _ t' line' e) k =
-      is_valid_lvalue scope l t && is_valid scope e t' && is_kind t t' && is_kind k t && is_value k
+      is_valid_lvalue scope l t && is_lvalue l && is_valid scope e t' && is_kind t t' && is_kind k t && is_value k
   is_valid scope (SetPlain' x _ t line e) k = is_valid scope e t && is_plain scope x.variable t && is_kind k t
   is_valid scope (Compound' u _ t line l _ t' line' e) k =
-      is_valid_lvalue scope l t && is_valid scope e t' && is_update u t t' && is_kind k t
+      is_valid_lvalue scope l t && is_lvalue l && is_valid scope e t' && is_update u t t' && is_kind k t
   is_valid scope (ChangePlain' u x _ t line e) k = is_valid scope e t && is_plain scope x.variable k && is_update u k t
-  is_valid scope (Step' u fixity _ t line l) k = is_valid_lvalue scope l t && is_step u t && is_kind k t
+  is_valid scope (Step' u fixity _ t line l) k = is_valid_lvalue scope l t && is_lvalue l && is_step u t && is_kind k t
   is_valid scope (StepPlain u fixity x) k = is_plain scope x.variable k && is_step u k
   is_valid scope (Call' f shape arguments) k =
       are_valid scope arguments && has_number scope.functions f && is_call (get_or scope.functions f no_signature) (kinds arguments) k

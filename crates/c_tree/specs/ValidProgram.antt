@@ -179,6 +179,6 @@ is_main program =
     has_number program.functions.items program.main
     && is_main_signature (at_number (scope_in program [] kind.Void).functions program.main)
 
-pub is_valid_program : Program → Bool
+unfoldable pub is_valid_program : Program → Bool
 is_valid_program program =
     list_all (is_static_object program) program.statics.items && list_all (is_function program) program.functions.items && is_main program

@@ -1,0 +1,252 @@
+-- Calls keep objects sound: those of the callee are new, and die at its return, and the caller's names are good again.
+use Rattle.std.proofs.Common.{◌≡◌, ℕ, zero, suc, ◌+◌, ◌≤◌, List, [], ◌∷◌, ◌++◌, map, Bool, true, false, Some, length, if◌then◌else◌, refl, sym, ap, ◌∙◌, subst, arith, nat_le, nat_lt}
+use Rattle.std.proofs.lemmas.Bool.{leb-true}
+use Rattle.sb_base.specs.declared.ending.Ending.TheVariants.{Stack, Keys}
+use Rattle.obj_memory.specs.declared.value.Value.{Value}
+use Rattle.obj_memory.specs.Objects.{Objects, pointer_to}
+use Rattle.obj_memory.specs.Sound.{IsSound, Continues, AreDisjoint}
+use Rattle.obj_memory.proofs.Soundness.{sound_tag_continues}
+use Rattle.obj_memory.proofs.Judging.{sound_pointer}
+use Rattle.c_tree.specs.declared.expression.Kind.{Kind}
+use Rattle.c_tree.specs.declared.program.Variable.{Variable}
+use Rattle.c_tree.specs.declared.program.Function.{Function}
+use Rattle.c_tree.specs.declared.program.StaticObject.{StaticObject}
+use Rattle.source_meaning.specs.declared.home.Home.{Home}
+use Rattle.source_meaning.specs.declared.home.Home.TheVariants.{PlainValue, InObject}
+use Rattle.source_meaning.specs.declared.completion.Completion.{Completion}
+use Rattle.source_meaning.specs.declared.completion.Completion.TheVariants.{Normal, Broken, Continued, Returned}
+use Rattle.source_meaning.specs.State.{State, Outcome, Gives, Ended, Paused, on, ◌>>=◌, ◌>>◌, done, stop, choose, change, skip, Header, Setting, Env}
+use Rattle.source_meaning.specs.Places.{stack_end}
+use Rattle.source_meaning.specs.Actions.{integer, home_value, take_key}
+use Rattle.source_meaning.specs.Expressions.{counted}
+use Rattle.source_meaning.specs.Statements.{in_order, execute}
+use Rattle.source_meaning.specs.Calls.{header_of, variables_of, pass_or_stop, test_stack, test_keys, call_tests, objects_end, has_objects, first_of, rest_of, parameter_values, plain_values, plain_count, parameter_count, place_variables, write_parameter, write_parameters, lay_out, set_up, caller, without_homes, back_to, returned_by, enter_begun, enter}
+use Rattle.source_meaning.specs.Naming.{static_kind, OnName, IsNoStructure, TakeNoStructure, FunctionNames, scope_of}
+use Rattle.source_meaning.specs.Keeping.{AllLie, IsKept, LivesOn, AreSeparate}
+use Rattle.source_meaning.proofs.ActionsAct.{continues_without}
+use Rattle.source_meaning.proofs.Separating.{separate_without, separate_back}
+use Rattle.source_meaning.proofs.Holding.{all_lie_on, lives_same, lives_then, IsHeld, held_on, held_named}
+use Rattle.source_meaning.proofs.Sure.{Context, IsGood, AreTagged, AreLow, Leaves, Stops, stops_then, After, Sure, Any, IsStable, sure_on, sure_weak, sure_any, sure_post, sure_frame, sure_done, sure_skip, sure_read, sure_counted, IsTagged, LvalueIs, stable_tagged, value_is}
+use Rattle.source_meaning.proofs.SureActions.{sure_write_lvalue}
+use Rattle.source_meaning.proofs.SureTree.{Calling}
+use Rattle.source_meaning.proofs.SureFlow.{CompletionIs, sure_begin_turn, body_sure}
+use Rattle.source_meaning.proofs.Laying.{PlacedHome, Placed, placed_homes, placed_on, AllFrom, placed_from, without_sound, without_low, without_lives, EndsBut, ends_but_then, ends_without, PlacesBy, places}
+
+-- plain values at entry
+
+first_tagged : (vs : List Value) (o : Objects) → AreTagged vs o → IsTagged (first_of vs) o
+first_tagged [] o h = tt
+first_tagged (v ∷ vs) o h = h 0
+
+rest_tagged : (vs : List Value) (o : Objects) → AreTagged vs o → AreTagged (rest_of vs) o
+rest_tagged [] o h = λ x. tt
+rest_tagged (v ∷ vs) o h = λ x. h (suc x)
+
+one_tagged : (b : Bool) (v : Value) (o : Objects) → IsTagged v o → IsTagged (if b then integer 0 else v) o
+one_tagged true v o h = tt
+one_tagged false v o h = h
+
+parameters_tagged : (ps : List Variable) (vs : List Value) (o : Objects) → AreTagged vs o → AreTagged (parameter_values ps vs) o
+parameters_tagged [] vs o h x = tt
+parameters_tagged (p ∷ ps) vs o h zero = one_tagged p.is_object (first_of vs) o (first_tagged vs o h)
+parameters_tagged (p ∷ ps) vs o h (suc x) = parameters_tagged ps (rest_of vs) o (rest_tagged vs o h) x
+
+zeros_tagged : (vs : List Variable) (o : Objects) → AreTagged (map (λ _. integer 0) vs) o
+zeros_tagged [] o x = tt
+zeros_tagged (v ∷ vs) o zero = tt
+zeros_tagged (v ∷ vs) o (suc x) = zeros_tagged vs o x
+
+both_tagged : (us vs : List Value) (o : Objects) → AreTagged us o → AreTagged vs o → AreTagged (us ++ vs) o
+both_tagged [] vs o h g x = g x
+both_tagged (u ∷ us) vs o h g zero = h 0
+both_tagged (u ∷ us) vs o h g (suc x) = both_tagged us vs o (λ y. h (suc y)) g x
+
+-- the tests
+
+abbrev Untouched : State → State → Type 0
+Untouched s s' = (s'.objects ≡ s.objects) × (s'.accesses ≡ s.accesses) × (s'.stacked ≡ s.stacked)
+
+abbrev TestsBy : (bound : ℕ) → List Variable → State → Outcome (Unit {0}) → Type 0
+TestsBy bound vs s (Gives a s') = Untouched s s' × (objects_end vs s'.stacked ≤ bound)
+TestsBy bound vs s (Ended e s') = Untouched s s'
+TestsBy bound vs s (Paused s') = ⊥
+
+module _ (g : Setting) (h : Header) (line : ℕ) where
+  key_passes : (s : State) → objects_end (variables_of h) s.stacked ≤ stack_end g → (b : Bool) → TestsBy (stack_end g) (variables_of h) s (choose b (change (λ s. record s { keys = s.keys + 1 })) (stop (Keys line)) s)
+  key_passes s fits true = ((refl, refl, refl), fits)
+  key_passes s fits false = (refl, refl, refl)
+
+  keys_pass : (s : State) → objects_end (variables_of h) s.stacked ≤ stack_end g → (b : Bool) → TestsBy (stack_end g) (variables_of h) s (choose b (take_key g line) skip s)
+  keys_pass s fits true = key_passes s fits (nat_lt s.keys g.sizes.budgets.keys)
+  keys_pass s fits false = ((refl, refl, refl), fits)
+
+  stack_passes : (s : State) (b : Bool) → nat_le (objects_end (variables_of h) s.stacked) (stack_end g) ≡ b
+      → TestsBy (stack_end g) (variables_of h) s (on (pass_or_stop b (Stack line) s) (λ _ s. test_keys g h line s))
+  stack_passes s true e = keys_pass s (leb-true _ _ e) (has_objects (variables_of h))
+  stack_passes s false e = (refl, refl, refl)
+
+  charge_passes : (s : State) (b : Bool) → TestsBy (stack_end g) (variables_of h) s (on (pass_or_stop b (Stack line) s) (λ _ s. (test_stack g h line >> test_keys g h line) s))
+  charge_passes s true = stack_passes s (nat_le (objects_end (variables_of h) s.stacked) (stack_end g)) refl
+  charge_passes s false = (refl, refl, refl)
+
+  tests_pass : (s : State) → TestsBy (stack_end g) (variables_of h) s (call_tests g h line s)
+  tests_pass s = charge_passes s (nat_le (s.charged + h.room) g.sizes.budgets.calls)
+
+-- parameters that are objects
+
+held_home : (n : ℕ) (b : Bool) (kind : Kind) (k : ℕ) (o : Objects) → PlacedHome n b kind (InObject k) o → IsHeld o k kind
+held_home n true kind k o p = p.1
+held_home n false kind k o p = absurd p
+
+held_lvalue : (k : ℕ) (kind : Kind) (o : Objects) → IsHeld o k kind → LvalueIs OnName kind (pointer_to k o) o
+held_lvalue k kind o h = record { tag = sound_pointer k o h.made; reach = held_named o k kind h }
+
+stable_rest : (n : ℕ) (rest ps : List Variable) (homes : List Home) (vs : List Value) → IsStable (λ o. Placed n (ps ++ rest) homes o × AreTagged vs o)
+stable_rest n rest ps homes vs old new l p = (placed_on n (ps ++ rest) homes old new l p.0, stable_tagged vs old new l p.1)
+
+module _ {sc : Context} (n : ℕ) (rest : List Variable) where
+  parameter_sure : (b : Bool) (kind : Kind) → IsNoStructure kind → (home : Home) (line : ℕ) (v : Value) → Sure sc (λ o. PlacedHome n b kind home o × IsTagged v o) (write_parameter kind home line v) (λ _. Any)
+  parameter_sure b kind none PlainValue line v = sure_done (λ o p. tt)
+  parameter_sure b kind none (InObject k) line v =
+      sure_on (sure_read {Q = λ q o. LvalueIs OnName kind q o × IsTagged v o} {f = λ s. home_value (InObject k) s.objects} (λ s good p. (held_lvalue k kind s.objects (held_home n b kind k s.objects p.0), p.1))) (λ q.
+      sure_on (sure_weak (λ o x. (x.0, value_is kind v o none x.1)) (sure_write_lvalue OnName kind q line v)) (λ w. sure_any sure_skip))
+
+  parameters_sure : (ps : List Variable) → TakeNoStructure ps → (homes : List Home) (line : ℕ) (vs : List Value) → Sure sc (λ o. Placed n (ps ++ rest) homes o × AreTagged vs o) (write_parameters ps homes line vs) (λ _. Any)
+  parameters_sure [] none homes line vs = sure_done (λ o p. tt)
+  parameters_sure (p ∷ ps) none [] line vs = sure_done (λ o p. tt)
+  parameters_sure (p ∷ ps) none (home ∷ homes) line vs =
+      sure_on (sure_post (λ _ o x. x.0) (sure_weak (λ o x. ((x.0.1, rest_tagged vs o x.1), (x.0.0, first_tagged vs o x.1)))
+      (sure_frame (stable_rest n rest ps homes (rest_of vs)) (parameter_sure p.is_object p.kind none.0 home line (first_of vs))))) (λ _.
+      parameters_sure ps none.1 homes line (rest_of vs))
+
+-- what is set up
+
+pub record IsSetUp (sc : Context) (old : Objects) (s' : State) : Type 0 where
+  pub good : IsGood sc s'
+  pub lives : LivesOn old s'.objects
+  pub new : AllFrom (length old) s'.frame
+  pub ends : EndsBut old s'.objects s'.frame
+
+abbrev SetsUpBy : Context → Objects → Outcome (Unit {0}) → Type 0
+SetsUpBy sc old (Gives a s') = IsSetUp sc old s'
+SetsUpBy sc old (Ended e s') = Stops old s'
+SetsUpBy sc old (Paused s') = Stops old s'
+
+module _ (statics : List StaticObject) (f : Function) (names : FunctionNames statics f) (g : Setting) (boundary : ℕ) (most : stack_end g ≤ boundary) (low : boundary ≤ 1610612736) where
+  abbrev inner : Context
+  inner = record { scope = scope_of statics f; boundary = boundary }
+
+  abbrev head : Header
+  head = header_of f
+
+  written : (s s1 : State) → LivesOn s.objects s1.objects → AllFrom (length s.objects) s1.frame → EndsBut s.objects s1.objects s1.frame → (o : Outcome (Unit {0})) → After inner s1 (λ _. Any) o → SetsUpBy inner s.objects o
+  written s s1 l new ends (Gives a s2) h = record {
+    good = h.0.good;
+    lives = lives_then s.objects s1.objects s2.objects l h.0.lives;
+    new = subst (λ x. AllFrom (length s.objects) x) (sym h.0.frame) new;
+    ends = subst (λ x. EndsBut s.objects s2.objects x) (sym h.0.frame) (ends_but_then s.objects s1.objects s2.objects s1.frame ends h.0.lives.continues h.0.ended);
+  }
+  written s s1 l new ends (Ended e s2) h = stops_then s.objects s1.objects s2 l h
+  written s s1 l new ends (Paused s2) h = stops_then s.objects s1.objects s2 l h
+
+  module _ (outer : Context) (same : outer.scope.statics ≡ statics) (level : outer.boundary ≡ boundary) (vs : List Value) (line : ℕ) where
+    laid : (s : State) → IsGood outer s → AreTagged vs s.objects → (s1 : State) → s1.objects ≡ s.objects → s1.accesses ≡ s.accesses → s1.plain ≡ plain_values head vs
+        → (o : Outcome (List Home)) → PlacesBy boundary s1 (length s1.objects) (variables_of head) o
+        → SetsUpBy inner s.objects (on o (λ homes. change (λ s. record s { frame = homes }) >> write_parameters head.parameters homes line vs))
+    laid s good tagged s1 e a w (Gives homes s2) h =
+        let lives = subst (λ o. LivesOn o s2.objects) e h.0.lives in
+        let s3 : State = record s2 { frame = homes } in
+        let placed = subst (λ n. Placed n (variables_of head) homes s2.objects) (ap length e) h.0.placed in
+        let ends = subst (λ x. EndsBut x s2.objects homes) e h.0.ends in
+        let entry : IsGood inner s3 = record {
+          kept = record { sound = h.0.sound; lie = subst (λ x. AllLie s2.objects x) (sym (h.1 ∙ a)) (all_lie_on s.objects s2.objects lives.continues s.accesses good.kept.lie) };
+          low = h.0.low;
+          statics = λ n kind k. held_on s.objects s2.objects lives n kind (good.statics n kind (subst (λ x. static_kind x n ≡ Some kind) (sym same) k));
+          homes = placed_homes (length s.objects) (variables_of head) homes s2.objects placed;
+          plain = subst (λ x. AreTagged x s2.objects) (sym (h.2 ∙ w)) (both_tagged (parameter_values head.parameters vs) (map (λ _. integer 0) head.variables) s2.objects
+              (parameters_tagged head.parameters vs s2.objects (stable_tagged vs s.objects s2.objects lives tagged)) (zeros_tagged head.variables s2.objects));
+          separate = h.0.separate;
+        } in
+        written s s3 lives (placed_from (length s.objects) (variables_of head) homes s2.objects placed) ends (write_parameters head.parameters homes line vs s3)
+        ((parameters_sure (length s.objects) head.variables head.parameters names.parameters homes line vs).by s3 entry (placed, stable_tagged vs s.objects s2.objects lives tagged))
+    laid s good tagged s1 e a w (Ended x s2) h = absurd h
+    laid s good tagged s1 e a w (Paused s2) h = absurd h
+
+    tested : (s : State) → IsGood outer s → AreTagged vs s.objects → (o : Outcome (Unit {0})) → TestsBy (stack_end g) (variables_of head) s o → SetsUpBy inner s.objects (on o (λ _. lay_out head vs line))
+    tested s good tagged (Gives a s1) h =
+        let s2 : State = record s1 { charged = s1.charged + head.room; work = s1.work + (parameter_count head.parameters + plain_count head.variables); plain = plain_values head vs } in
+        laid s good tagged s2 h.0.0 h.0.1 refl (place_variables (variables_of head) s2)
+        (places boundary low (variables_of head) s2 (subst IsSound (sym h.0.0) good.kept.sound) (subst AreLow (sym h.0.0) good.low)
+        (subst (λ o. AreSeparate boundary s1.stacked o) (sym h.0.0) (subst (λ t. AreSeparate boundary t s.objects) (sym h.0.2) (subst (λ b. AreSeparate b s.stacked s.objects) level good.separate)))
+        (omega (arith, h.1, most)))
+    tested s good tagged (Ended x s1) h = record {
+      kept = subst (λ o. IsKept o s1.accesses) (sym h.0) (subst (λ a. IsKept s.objects a) (sym h.1) good.kept);
+      low = subst AreLow (sym h.0) good.low;
+      lives = subst (LivesOn s.objects) (sym h.0) (lives_same s.objects);
+      apart = subst AreDisjoint (sym h.0) good.separate.apart;
+    }
+    tested s good tagged (Paused s1) h = absurd h
+
+    set_up_by : (s : State) → IsGood outer s → AreTagged vs s.objects → SetsUpBy inner s.objects (set_up g head vs line s)
+    set_up_by s good tagged =
+        let s1 : State = record s { work = s.work + 1 } in
+        tested s1 good tagged (call_tests g head line s1) (tests_pass g head line s1)
+
+    -- the return
+
+    returned_tagged : (completion : Completion) (old new : Objects) → Continues old new → CompletionIs completion old → IsTagged (returned_by completion) new
+    returned_tagged Normal old new c h = tt
+    returned_tagged Broken old new c h = tt
+    returned_tagged Continued old new c h = tt
+    returned_tagged (Returned v) old new c h = sound_tag_continues old new c v.tag h
+
+    back_good : (s : State) → IsGood outer s → (s2 : State) → IsGood inner s2 → LivesOn s.objects s2.objects → AllFrom (length s.objects) s2.frame → EndsBut s.objects s2.objects s2.frame → Leaves outer s (back_to (caller s) s2)
+    back_good s good s2 after lives new ends =
+        let c = continues_without s2.frame s2.objects in
+        let l = without_lives s.objects s2.objects s2.frame lives new c in
+        let ended = ends_without s.objects s2.objects s2.frame c ends in
+        let separate = subst (λ b. AreSeparate b s2.stacked s2.objects) (sym level) after.separate in
+        record {
+          good = record {
+            kept = record { sound = without_sound s2.frame s2.objects after.kept.sound; lie = all_lie_on s2.objects (without_homes s2.frame s2.objects) c s2.accesses after.kept.lie };
+            low = without_low s2.frame s2.objects after.low;
+            statics = λ n kind e. held_on s.objects (without_homes s2.frame s2.objects) l n kind (good.statics n kind e);
+            homes = λ x kind e.
+                let home = good.homes x kind e in
+                record { object = home.object; home = home.home; held = held_on s.objects (without_homes s2.frame s2.objects) l home.object kind home.held };
+            plain = stable_tagged s.plain s.objects (without_homes s2.frame s2.objects) l good.plain;
+            separate = separate_back outer.boundary s.stacked s2.stacked s.objects (without_homes s2.frame s2.objects) good.separate (separate_without outer.boundary s2.stacked s2.frame s2.objects separate) l.continues ended;
+          };
+          lives = l;
+          frame = refl;
+          ended = ended;
+        }
+
+    returns_by : (s : State) → IsGood outer s → (s1 : State) → IsSetUp inner s.objects s1 → (o : Outcome Completion) → After inner s1 CompletionIs o
+        → After outer s IsTagged (on o (λ completion. change (back_to (caller s)) >> done (returned_by completion)))
+    returns_by s good s1 up (Gives completion s2) h = (
+      back_good s good s2 h.0.good (lives_then s.objects s1.objects s2.objects up.lives h.0.lives) (subst (λ x. AllFrom (length s.objects) x) (sym h.0.frame) up.new)
+          (subst (λ x. EndsBut s.objects s2.objects x) (sym h.0.frame) (ends_but_then s.objects s1.objects s2.objects s1.frame up.ends h.0.lives.continues h.0.ended)),
+      returned_tagged completion s2.objects (without_homes s2.frame s2.objects) (continues_without s2.frame s2.objects) h.1,
+    )
+    returns_by s good s1 up (Ended e s2) h = stops_then s.objects s1.objects s2 up.lives h
+    returns_by s good s1 up (Paused s2) h = stops_then s.objects s1.objects s2 up.lives h
+
+    module _ (env : Env) (c : Calling inner env) where
+      runs_by : (s : State) → IsGood outer s → (o : Outcome (Unit {0})) → SetsUpBy inner s.objects o
+          → After outer s IsTagged (on o (λ _. counted (in_order (map (execute env) f.body.items)) >>= (λ completion. change (back_to (caller s)) >> done (returned_by completion))))
+      runs_by s good (Gives a s1) h =
+          returns_by s good s1 h (counted (in_order (map (execute env) f.body.items)) s1) ((sure_counted (body_sure c f.body.items names.body)).by s1 h.good tt)
+      runs_by s good (Ended e s1) h = h
+      runs_by s good (Paused s1) h = h
+
+module _ (statics : List StaticObject) (f : Function) (names : FunctionNames statics f) (env : Env) (boundary : ℕ) (most : stack_end env.setting ≤ boundary) (low : boundary ≤ 1610612736) (c : Calling (record { scope = scope_of statics f; boundary = boundary }) env)
+    (outer : Context) (same : outer.scope.statics ≡ statics) (level : outer.boundary ≡ boundary) where
+  pub begun_sure : (vs : List Value) (line : ℕ) → Sure outer (AreTagged vs) (enter_begun env f vs line) IsTagged
+  begun_sure vs line = record {
+    by = λ s good tagged.
+        runs_by statics f names env.setting boundary most low outer same level vs line env c s good (set_up env.setting (header_of f) vs line s) (set_up_by statics f names env.setting boundary most low outer same level vs line s good tagged);
+  }
+
+  pub enter_sure : (vs : List Value) (line : ℕ) → Sure outer (AreTagged vs) (enter env f vs line) IsTagged
+  enter_sure vs line = sure_on (sure_begin_turn env.limit) (λ _. begun_sure vs line)

@@ -1,0 +1,19 @@
+use Rattle.source_meaning.proofs.ActionsAct.{acts_located, acts_read_scalar, acts_write_scalar, acts_move_bytes, acts_read_lvalue, acts_write_lvalue, acts_updated, acts_update, acts_set_plain, acts_update_plain, acts_zero_variable, acts_store_bytes}
+use Rattle.source_meaning.proofs.laws.accesses_are_actions.Goals as goal
+use Rattle.source_meaning.specs.Actions.{updated}
+
+pub returns : goal.returns
+returns c = record {
+  located = acts_located;
+  read = acts_read_scalar;
+  write = acts_write_scalar;
+  moved = acts_move_bytes;
+  read_lvalue = acts_read_lvalue;
+  write_lvalue = acts_write_lvalue;
+  updated = acts_updated;
+  update = λ u k j p line right at f. acts_update k j p line u right at f;
+  plain = acts_set_plain;
+  update_plain = λ u k x right at f. acts_update_plain x (updated u k right at) f (acts_updated u k right at);
+  zero = acts_zero_variable;
+  bytes = acts_store_bytes;
+}

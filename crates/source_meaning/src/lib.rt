@@ -1,0 +1,12 @@
+//! The meaning of a typed program: what its run shows, how much work it does and how it ends, for each number of turns.
+//!
+//! The definitions stand in `specs/`: the state of a run and the actions on it, which three-address code shares, then
+//! expressions, initializers, statements, the library, calls, and the meaning of a program as a behaviour.
+#![tactic(auto)]
+
+pub mod completion;
+pub mod home;
+pub mod laws;
+
+pub use completion::Completion;
+pub use home::Home;

@@ -1,0 +1,2 @@
+int main(void){putchar(65);
+abort();}

@@ -1,0 +1,1 @@
+int main(void){int(*h)(int)=0;return h(putchar(65));}

@@ -1,0 +1,1 @@
+int main(void){free(0);return 0;}

@@ -1,0 +1,1 @@
+int main(void){free((void*)main);return 0;}

@@ -1,0 +1,1 @@
+int x;int main(void){free(&x);return 0;}

@@ -1,0 +1,1 @@
+int x;int main(void){x=2;return x;}

@@ -1,0 +1,1 @@
+int a[3]={1,2,3};int*p=a+1;int*q=&a[2];char*s="hi";struct s{int*r;int(*f)(int);};int g(int n){return n*2;}struct s t={&a[0],g};int main(void){putchar(48+*p);putchar(48+*q);putchar(s[1]);putchar(48+t.f(t.r[1]));return p[2];}

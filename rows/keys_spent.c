@@ -1,0 +1,3 @@
+int main(void){malloc(1);
+malloc(1);
+malloc(1);return 0;}

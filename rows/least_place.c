@@ -1,0 +1,1 @@
+int main(void){char*a=malloc(0);char*b=malloc(17);char*c=malloc(16);char*d;free(b);d=malloc(33);putchar(48+(b-a)/16);putchar(48+(c-b)/16);putchar(48+(d-c)/16);d=malloc(32);putchar(48+(d==b));return 0;}

@@ -1,0 +1,1 @@
+int main(void){int x=3;putchar(48+x);}

@@ -1,0 +1,1 @@
+int f(char c){char a;char b[17];char d;char*p=&c;char*q=&a;char*r=&d;putchar(48+(q-p)/16);putchar(48+(b-q)/16);putchar(48+(r-b)/16);return (long)p%16;}char x;int y;int main(void){putchar(48+((char*)&y-&x)/16);return f(7);}

@@ -1,0 +1,1 @@
+int main(void){char*p=(char*)main;return *p;}

@@ -1,0 +1,1 @@
+int z;int main(void){return 1/z;}

@@ -1,0 +1,1 @@
+int x;int main(void){long a=(long)&x;return a>>28;}

@@ -1,0 +1,1 @@
+int a[2];int main(void){short s=32767;short*q=&s;int*p=a;a[0]=3;putchar(48+a[0]++);putchar(48+ ++a[0]);putchar(48+(*p)--);putchar(48+ --*p);*p++=7;(*p)++;putchar(48+a[0]);putchar(48+a[1]);putchar(48+(p-a));++*q;return s==-32768;}

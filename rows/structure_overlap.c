@@ -1,0 +1,1 @@
+struct s{int a[3];}x[2]={{{1,2,3}},{{4,5,6}}};int main(void){struct s*p=x;struct s*q=(struct s*)((int*)x+1);*q=*p;putchar(48+x[0].a[0]);putchar(48+x[0].a[1]);putchar(48+x[0].a[2]);putchar(48+x[1].a[0]);return x[1].a[1];}

@@ -1,0 +1,1 @@
+int main(void){unsigned u=4294967295U;long l=-1;int r=0;switch(u){case -1:r=1;}switch(l){case 4294967295U:r=r+2;break;case -1:r=r+4;}switch((signed char)200){case 200:r=r+8;break;case -56:r=r+16;}return r;}

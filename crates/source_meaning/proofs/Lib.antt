@@ -181,3 +181,4 @@ mod RowStringOutside
 mod RowShadowing
 mod RowMutualCalls
 mod RowGlobalPointers
+pub mod LiveAccesses

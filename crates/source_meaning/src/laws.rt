@@ -1,13 +1,13 @@
 //! Laws of the definitions, each as the contract of a function that does nothing: layers above rest on
 //! them.
-ghost use Rattle.std.specs.Prelude.{◌≡◌, ℕ, List, Bool, true};
+ghost use Rattle.std.specs.Prelude.{◌≡◌, ℕ, List, Bool, true, false};
 ghost use Rattle.behaviours.specs.Behaviour.{IsSource};
 ghost use Rattle.sb_base.specs.Budgets.{BudgetSizes};
 ghost use Rattle.addr_map.specs.Places.{AreMapped};
 ghost use Rattle.obj_memory.specs.declared.value.Value.{Value};
 ghost use Rattle.obj_memory.specs.declared.value.Scalar.{Scalar};
 ghost use Rattle.obj_memory.specs.declared.value.Place.{Place};
-ghost use Rattle.obj_memory.specs.Sound.{Continues};
+ghost use Rattle.obj_memory.specs.Sound.{Continues, IsAllowed, IsSoundTag};
 ghost use Rattle.c_tree.specs.declared.expression.Kind.{Kind};
 ghost use Rattle.c_tree.specs.declared.expression.Update.{Update};
 ghost use Rattle.c_tree.specs.declared.expression.Fixity.{Fixity};
@@ -15,7 +15,7 @@ ghost use Rattle.c_tree.specs.declared.expression.Routine.{Routine};
 ghost use Rattle.c_tree.specs.declared.program.Function.{Function};
 ghost use Rattle.c_tree.specs.declared.program.Program.{Program};
 ghost use Rattle.c_tree.specs.ValidProgram.{is_valid_program};
-ghost use Rattle.source_meaning.specs.State.{Run, Header, Setting, change};
+ghost use Rattle.source_meaning.specs.State.{State, Gives, Run, Header, Setting, change};
 ghost use Rattle.source_meaning.specs.Actions.{located, read_lvalue, write_lvalue, read_scalar, write_scalar, updated, update, update_plain, set_plain, move_bytes, make_object, put_bytes, take_key};
 ghost use Rattle.source_meaning.specs.Expressions.{callee};
 ghost use Rattle.source_meaning.specs.Initializers.{zero_variable, store_bytes};
@@ -26,7 +26,7 @@ ghost use Rattle.source_meaning.specs.Meaning.{meaning, outcome, initial_objects
 ghost use Rattle.source_meaning.specs.Acting.{IsAction, RunsAlike, state_of};
 ghost use Rattle.source_meaning.specs.Turns.{Grows};
 ghost use Rattle.source_meaning.specs.Naming.{PassNoStructures};
-ghost use Rattle.source_meaning.specs.Keeping.{IsSoundState};
+ghost use Rattle.source_meaning.specs.Keeping.{IsDirect, IsSoundState};
 
 /// More turns show more of the same: what is shown never shrinks, no work and no turn is taken back, and
 /// a run that ended stays as it is.
@@ -52,6 +52,15 @@ pub fn runs_keep_objects_sound()
     ensures { (p : Program) (budgets : BudgetSizes) → AreMapped (setting_of p budgets).sizes
         → is_valid_program p ≡ true → PassNoStructures p.function_types.items → (input : List ℕ) (t : ℕ)
         → IsSoundState (state_of (outcome p budgets input t)) }
+{}
+
+/// An access that is made is, at that moment, of bytes of a live object: one that is judged, through a pointer whose tag
+/// is sound, and one that names its object, where that is live.
+pub fn accesses_are_of_live_objects()
+    ensures judged { (size : ℕ) (p : Value) (line : ℕ) (s s' : State) (place : Place) → IsSoundTag s.objects p.tag
+        → located true size p line s ≡ Gives place s' → IsAllowed s.objects p size place }
+    ensures named { (size : ℕ) (p : Value) (line : ℕ) (s s' : State) (place : Place) → IsDirect s.objects p size
+        → located false size p line s ≡ Gives place s' → IsAllowed s.objects p size place }
 {}
 
 /// Accesses and changes of variables begin no turn, do the same at any count of work, and add to it.

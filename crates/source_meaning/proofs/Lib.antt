@@ -155,3 +155,9 @@ mod RowStringOutside
 mod RowShadowing
 mod RowMutualCalls
 mod RowGlobalPointers
+mod RowKeysNeverReturn
+mod RowNestedSwitch
+mod RowReturnFromLoops
+mod RowPutcharNegative
+mod RowExitNegative
+mod RowInputEnds

@@ -1,0 +1,1 @@
+int main(void){exit(-1);return 3;}

@@ -1,0 +1,2 @@
+int main(void){free(malloc(1));
+malloc(1);return 0;}

@@ -1,0 +1,1 @@
+int f(int m,int n){switch(m){case 0:switch(n){case 1:return 1;case 2:break;default:return 3;}case 5:return 4;default:{switch(n){default:break;case 7:return 5;}}}return 6;}int main(void){putchar(48+f(0,1));putchar(48+f(0,2));putchar(48+f(0,9));putchar(48+f(5,1));putchar(48+f(9,1));return f(9,7);}

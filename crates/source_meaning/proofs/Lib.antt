@@ -181,13 +181,10 @@ mod RowStringOutside
 mod RowShadowing
 mod RowMutualCalls
 mod RowGlobalPointers
-<<<<<<< HEAD
 pub mod LiveAccesses
-=======
 mod RowKeysNeverReturn
 mod RowNestedSwitch
 mod RowReturnFromLoops
 mod RowPutcharNegative
 mod RowExitNegative
 mod RowInputEnds
->>>>>>> 723bc1ee2d62a108061401938ba8b759c951eb5a

@@ -5,7 +5,6 @@ use Rattle.obj_memory.specs.declared.value.Place.{Place}
 use Rattle.obj_memory.specs.declared.judgement.Verdict.{Verdict}
 use Rattle.obj_memory.specs.declared.judgement.Verdict.TheVariants.{Outside, Dead, Inside}
 use Rattle.obj_memory.specs.Judgement.{judge, named, place_in}
-use Rattle.obj_memory.specs.Objects.{Objects}
 use Rattle.obj_memory.specs.Sound.{IsAllowed, IsSoundTag}
 use Rattle.obj_memory.proofs.Judging.{judge_inside}
 use Rattle.source_meaning.specs.State.{State, Gives}

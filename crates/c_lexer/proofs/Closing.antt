@@ -1,14 +1,14 @@
 -- A literal closes at one place alone.
-use Rattle.std.proofs.Common.{◌≡◌, ℕ, zero, suc, ◌+◌, ◌<◌, ◌≤◌, Bool, true, false, cond, ◌&&◌, ◌||◌, ◌==◌, List, [], ◌∷◌, ◌++◌, take, length, Option, Some, None, refl, sym, ap, subst, ◌∙◌, arith}
+use Rattle.std.proofs.Common.{◌≡◌, ℕ, zero, suc, ◌≤◌, Bool, true, false, ◌||◌, ◌==◌, List, [], ◌∷◌, take, length, Option, Some, None, refl, sym, ap, subst, ◌∙◌, arith}
 use Rattle.std.specs.Prelude.{is_some}
 use Rattle.std.proofs.lemmas.Bool.{false≢true, eqb-true}
 use Rattle.c_lexer.specs.declared.literal.LiteralState.{LiteralState}
 use Rattle.c_lexer.specs.declared.literal.LiteralState.TheVariants.{Start}
 use Rattle.c_lexer.specs.declared.literal.LiteralStep.{LiteralStep}
 use Rattle.c_lexer.specs.declared.literal.LiteralStep.TheVariants.{Refused, Closes, Begins, Continues}
-use Rattle.c_lexer.specs.Literals.{literal_step, characters_by, characters_from, characters_of, character_value, bytes_of_literal, behind, ended, at_end, only_one, only}
+use Rattle.c_lexer.specs.Literals.{literal_step, characters_by, characters_from, characters_of, character_value, bytes_of_literal, behind, ended, at_end, only_one}
 use Rattle.c_lexer.specs.Scan.{closing_by, closing_length, longer, literal_length, if_character}
-use Rattle.c_lexer.specs.Words.{is_character, is_string, is_literal}
+use Rattle.c_lexer.specs.Words.{is_character, is_literal}
 use Rattle.c_lexer.proofs.LongestWord.{split}
 
 behind_some : (front : List ℕ) (o : Option (List ℕ)) → is_some (behind front o) ≡ is_some o

@@ -1,14 +1,12 @@
 -- The number that digits spell.
-use Rattle.std.proofs.Common.{◌≡◌, ℕ, zero, suc, ◌+◌, ◌*◌, ◌^◌, ◌<◌, ◌≤◌, Bool, true, false, List, [], ◌∷◌, Option, Some, None, drop, length, get_or, refl, sym, ap, ◌∙◌, rules, arith, drop-cons, add-one}
+use Rattle.std.proofs.Common.{◌≡◌, ℕ, zero, suc, ◌+◌, ◌*◌, ◌^◌, ◌<◌, ◌≤◌, List, [], ◌∷◌, None, drop, length, get_or, refl, arith, drop-cons, add-one}
 use Rattle.std.proofs.lemmas.Bool.{lt-leb}
 use Rattle.std.specs.Prelude.{nat_le}
 use Rattle.std.specs.List.{find}
 use Rattle.c_lexer.specs.declared.integer.IntegerType.{IntegerType}
 use Rattle.c_lexer.specs.declared.integer.IntegerType.TheVariants as type
-use Rattle.c_lexer.specs.declared.integer.Radix.{Radix}
-use Rattle.c_lexer.specs.declared.integer.Suffix.{Suffix}
 use Rattle.c_lexer.specs.Characters.{digit_value}
-use Rattle.c_lexer.specs.Constants.{number_from, greatest_of, typed, types_of, with_suffix}
+use Rattle.c_lexer.specs.Constants.{number_from, greatest_of, typed}
 
 times_one : (base v : ℕ) → 1 ≤ base → v ≤ base * v
 times_one zero v h = absurd (omega arith)

@@ -1,8 +1,8 @@
 -- White space and comments leave an end of the text, and are passed one after another.
-use Rattle.std.proofs.Common.{◌≡◌, ℕ, zero, suc, ◌+◌, ◌-◌, ◌<◌, ◌≤◌, Bool, true, false, not, cond, ◌&&◌, ◌||◌, ◌==◌, List, [], ◌∷◌, drop, length, Option, Some, None, refl, sym, ap, subst, ◌∙◌, arith}
+use Rattle.std.proofs.Common.{◌≡◌, ℕ, zero, suc, ◌≤◌, Bool, true, false, not, cond, ◌&&◌, ◌||◌, ◌==◌, List, [], ◌∷◌, drop, length, Option, Some, None, refl, subst, arith}
 use Rattle.std.proofs.lemmas.Bool.{cond_both}
 use Rattle.c_lexer.specs.Characters.{begins}
-use Rattle.c_lexer.specs.Separators.{Separator, Gap, passed, passed_if_some, joins, line_comment_rest, block_comment_rest, is_white_space, comment, joined_line, separator, gap_by, gap_to, gap}
+use Rattle.c_lexer.specs.Separators.{Separator, passed, passed_if_some, joins, line_comment_rest, block_comment_rest, is_white_space, comment, joined_line, separator, gap_by, gap_to, gap}
 use Rattle.c_lexer.proofs.Ends.{Ends, ends_within, ends_drop, ends_shorter}
 use Rattle.c_lexer.proofs.Ends.Ends.{here, there}
 

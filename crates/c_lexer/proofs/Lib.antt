@@ -8,3 +8,5 @@ pub mod TableFound
 pub mod LongestWord
 pub mod Scanned
 pub mod Turns
+pub mod Tables
+pub mod Soundness

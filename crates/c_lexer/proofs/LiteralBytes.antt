@@ -1,6 +1,6 @@
 -- Reading a literal byte by byte.
-use Rattle.std.proofs.Common.{◌≡◌, ℕ, zero, suc, ◌+◌, ◌<◌, ◌≤◌, Bool, true, false, List, [], ◌∷◌, ◌++◌, Option, Some, None, length, refl, sym, ap, ◌∙◌, arith}
-use Rattle.c_lexer.specs.Literals.{behind, only, only_one}
+use Rattle.std.proofs.Common.{◌≡◌, ℕ, List, [], ◌∷◌, Option, Some, None, refl}
+use Rattle.c_lexer.specs.Literals.{behind, only_one}
 
 pub behind_none : (o : Option (List ℕ)) → behind [] o ≡ o
 behind_none None = refl

@@ -1,8 +1,8 @@
 -- What makes a word the longest one at the front of a text.
-use Rattle.std.proofs.Common.{◌≡◌, ℕ, zero, suc, ◌+◌, ◌<◌, ◌≤◌, Bool, true, false, ◌⊎◌, inl, inr, ⊎_elim, List, [], ◌∷◌, take, length, Option, Some, None, refl, sym, ap, subst, ◌∙◌, arith}
+use Rattle.std.proofs.Common.{◌≡◌, ℕ, zero, suc, ◌<◌, ◌≤◌, Bool, true, false, ◌⊎◌, ⊎_elim, List, take, Some, None, refl, sym, ap, ◌∙◌, arith}
 use Rattle.std.proofs.lemmas.Bool.{cases_Bool}
 use Rattle.c_lexer.specs.declared.token.Word.{Word}
-use Rattle.c_lexer.specs.Longest.{longest_to, or_shorter}
+use Rattle.c_lexer.specs.Longest.{longest_to}
 use Rattle.c_lexer.specs.Words.{word_of}
 
 -- cases on a test, with what it answers

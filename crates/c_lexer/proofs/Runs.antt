@@ -1,5 +1,5 @@
 -- Runs of bytes: each shorter front passes, each longer one does not.
-use Rattle.std.proofs.Common.{◌≡◌, ℕ, zero, suc, ◌+◌, ◌<◌, ◌≤◌, Bool, true, false, cond, List, [], ◌∷◌, take, length, refl, sym, ap, ◌∙◌, arith}
+use Rattle.std.proofs.Common.{◌≡◌, ℕ, zero, suc, ◌+◌, ◌<◌, ◌≤◌, Bool, true, false, cond, List, [], ◌∷◌, take, length, refl, arith}
 use Rattle.std.specs.List.{prefix_len, list_all}
 use Rattle.c_lexer.specs.Words.{continues_number, all_continue_number}
 use Rattle.c_lexer.specs.Scan.{number_length}

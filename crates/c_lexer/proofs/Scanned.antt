@@ -1,9 +1,8 @@
 -- The token that is found from left to right is the longest one.
-use Rattle.std.proofs.Common.{◌≡◌, ℕ, zero, suc, ◌+◌, ◌<◌, ◌≤◌, Bool, true, false, not, cond, ◌&&◌, ◌||◌, ◌==◌, leb, eqb, ⊎_elim, List, [], ◌∷◌, take, length, Option, Some, None, refl, sym, ap, subst, ◌∙◌, arith}
-use Rattle.std.specs.Prelude.{is_some, IfSome}
-use Rattle.std.specs.List.{prefix_len, list_all, find}
-use Rattle.std.proofs.lemmas.Bool.{false≢true, false_from_ne_true, leb-true, lt-leb, eqb-true, ne_eqb, and_parts, and_left, and_right, or_cases, both_ways}
-use Rattle.c_lexer.specs.declared.keyword.Keyword.{Keyword}
+use Rattle.std.proofs.Common.{◌≡◌, ℕ, zero, suc, ◌+◌, ◌<◌, ◌≤◌, Bool, true, false, not, cond, ◌&&◌, ◌||◌, ◌==◌, leb, ⊎_elim, List, [], ◌∷◌, take, length, Option, Some, None, refl, sym, ap, subst, ◌∙◌, arith}
+use Rattle.std.specs.Prelude.{IfSome}
+use Rattle.std.specs.List.{prefix_len, list_all}
+use Rattle.std.proofs.lemmas.Bool.{false≢true, false_from_ne_true, leb-true, lt-leb, eqb-true, ne_eqb, and_parts, and_left, and_right, or_cases}
 use Rattle.c_lexer.specs.declared.punctuator.Punctuator.{Punctuator}
 use Rattle.c_lexer.specs.declared.punctuator.TheConstants.{PUNCTUATORS}
 use Rattle.c_lexer.specs.declared.token.Word.{Word}
@@ -13,11 +12,11 @@ use Rattle.c_lexer.specs.Literals.{character_value, bytes_of_literal, characters
 use Rattle.c_lexer.specs.Longest.{longest, longest_to, or_shorter, is_valid, valid, begins_comment, front_token}
 use Rattle.c_lexer.specs.Scan.{scan, scan_name, scan_identifier, scan_number, scan_punctuator, wide_or_identifier, number_length, literal_length, cut, punctuator_found}
 use Rattle.c_lexer.specs.Spellings.{keyword_of, punctuator_of, punctuator_spelling}
-use Rattle.c_lexer.specs.Words.{word_of, named, punctuated, is_identifier, is_number, is_character, is_string, is_literal, is_wide, begins_digit, begins_number, continues_number, all_continue_number}
+use Rattle.c_lexer.specs.Words.{word_of, named, punctuated, is_character, is_string, is_literal, begins_digit, begins_number, continues_number, all_continue_number}
 use Rattle.c_lexer.proofs.LongestWord.{split, longest_none, longest_at}
 use Rattle.c_lexer.proofs.Runs.{run_within, run_beyond, run_fits, number_within, number_beyond, number_fits}
 use Rattle.c_lexer.proofs.Closing.{IsLiteral, literal_only, literal_at, no_literal}
-use Rattle.c_lexer.proofs.TableFound.{is_apart, no_punctuator, found_in, spelled_in, found_front, found_at, found_some, none_found, none_beyond, table_falls, take_length}
+use Rattle.c_lexer.proofs.TableFound.{is_apart, no_punctuator, found_in, spelled_in, found_front, found_at, found_some, none_found, none_beyond, table_falls}
 
 -- ---- bytes
 

@@ -5,7 +5,6 @@ use Rattle.std.proofs.lemmas.Bool.{eqb-true, true≢false}
 use Rattle.c_lexer.specs.Spelled.{TokenList}
 use Rattle.c_lexer.specs.declared.token.Token.{Token}
 use Rattle.c_lexer.specs.declared.token.Word.{Word}
-use Rattle.c_lexer.specs.declared.lexer.LexFault.{LexFault}
 use Rattle.c_lexer.specs.Longest.{front_token}
 use Rattle.c_lexer.specs.Separators.{Gap, gap}
 use Rattle.c_lexer.specs.Text.{newlines, line_of, Lexed, behind_tokens, at_end, token_behind, tokens_by, unless_empty, tokens_behind, tokens_to, tokens}

@@ -1,5 +1,5 @@
 -- Integer constants: digits, suffix, type and value (C99 6.4.4.1).
-use Rattle.std.specs.Prelude.{ℕ, ◌+◌, ◌-◌, ◌*◌, ◌^◌, Bool, true, false, ◌&&◌, ◌||◌, if◌then◌else◌, ◌==◌, nat_le, List, [], ◌∷◌, take, drop, Option, Some, None}
+use Rattle.std.specs.Prelude.{ℕ, ◌+◌, ◌-◌, ◌*◌, ◌^◌, Bool, ◌&&◌, ◌||◌, if◌then◌else◌, ◌==◌, nat_le, List, [], ◌∷◌, take, drop, Option, Some, None}
 use Rattle.std.specs.List.{prefix_len, find}
 use Rattle.c_lexer.specs.declared.integer.IntegerType.{IntegerType}
 use Rattle.c_lexer.specs.declared.integer.IntegerType.TheVariants as type

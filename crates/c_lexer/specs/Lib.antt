@@ -4,6 +4,7 @@ pub mod Literals
 pub mod Longest
 pub mod Scan
 pub mod Separators
+pub mod Sound
 pub mod Spelled
 pub mod Spellings
 pub mod Text

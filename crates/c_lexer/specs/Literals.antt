@@ -1,6 +1,6 @@
 -- Character constants and string literals, read byte by byte (C99 6.4.4.4, 6.4.5). Any byte but a newline, the closing
 -- quote and a backslash stands for itself.
-use Rattle.std.specs.Prelude.{ℕ, ◌+◌, ◌-◌, ◌*◌, Bool, true, false, ◌&&◌, if◌then◌else◌, ◌==◌, nat_le, nat_lt, List, [], ◌∷◌, ◌++◌, Option, Some, None}
+use Rattle.std.specs.Prelude.{ℕ, ◌+◌, ◌*◌, ◌&&◌, if◌then◌else◌, ◌==◌, nat_le, nat_lt, List, [], ◌∷◌, ◌++◌, Option, Some, None}
 use Rattle.c_lexer.specs.declared.literal.LiteralState.{LiteralState}
 use Rattle.c_lexer.specs.declared.literal.LiteralState.TheVariants.{Start, Character, Escape, Octal, HexadecimalStart, Hexadecimal}
 use Rattle.c_lexer.specs.declared.literal.LiteralStep.{LiteralStep}

@@ -1,5 +1,5 @@
 -- The token at the front of a text, as it is found from left to right. `longest` (Longest.antt) is what is meant.
-use Rattle.std.specs.Prelude.{ℕ, zero, suc, ◌+◌, Bool, true, false, ◌&&◌, ◌||◌, if◌then◌else◌, ◌==◌, List, [], ◌∷◌, take, length, Option, Some, None}
+use Rattle.std.specs.Prelude.{ℕ, suc, ◌+◌, if◌then◌else◌, ◌==◌, List, [], ◌∷◌, take, length, Option, Some, None}
 use Rattle.std.specs.List.{prefix_len, find, starts_with}
 use Rattle.std.specs.Prelude.{nat_eq}
 use Rattle.c_lexer.specs.declared.token.Word.{Word}

@@ -1,11 +1,14 @@
 -- The token that is all of some bytes (C99 6.4).
+-- Left out: a backslash and a newline inside a token other than a comment, so that the backslash ends the token, and begins
+-- none; `##`, which is two `#`; digraphs, trigraphs, universal character names, and letters outside ASCII.
+-- A wide literal that is no token leaves its `L`, an identifier, and its quote, which begins none.
 use Rattle.std.specs.Prelude.{ℕ, Bool, true, false, ◌&&◌, ◌||◌, if◌then◌else◌, ◌==◌, List, [], ◌∷◌, Option, Some, None, is_some}
 use Rattle.std.specs.List.{list_all}
 use Rattle.c_lexer.specs.declared.keyword.Keyword.{Keyword}
 use Rattle.c_lexer.specs.declared.punctuator.Punctuator.{Punctuator}
 use Rattle.c_lexer.specs.declared.token.Word.{Word}
 use Rattle.c_lexer.specs.declared.token.Word.TheVariants as word
-use Rattle.c_lexer.specs.Characters.{is_digit, is_nondigit, continues_identifier, begins}
+use Rattle.c_lexer.specs.Characters.{is_digit, is_nondigit, continues_identifier}
 use Rattle.c_lexer.specs.Literals.{character_value, bytes_of_literal}
 use Rattle.c_lexer.specs.Spellings.{keyword_spelling, keyword_of, punctuator_spelling, punctuator_of}
 

@@ -29,8 +29,11 @@ pub struct IntegerConstant {
 /// How the digits of an integer constant are read.
 #[derive(Clone, Copy, Debug, PartialEq, Eq)]
 pub enum Radix {
+    /// Digits `0` to `7`, the first of them `0`.
     Octal,
+    /// Digits `0` to `9`.
     Decimal,
+    /// Digits `0` to `9`, `a` to `f` and `A` to `F`, behind `0x` or `0X`.
     Hexadecimal,
 }
 

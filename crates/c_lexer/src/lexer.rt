@@ -1,6 +1,6 @@
 //! From a source text to its tokens (C99 6.4).
 
-ghost use Rattle.std.specs.Prelude.{◌≡◌, ◌≤◌, ◌<◌, ◌^◌, length};
+ghost use Rattle.std.specs.Prelude.{◌≡◌, ◌≤◌, ◌<◌, ◌^◌, length, IfOk};
 ghost use Rattle.c_lexer.specs.Text.{Lexes, newlines};
 
 use crate::scan::front_token;
@@ -43,7 +43,8 @@ fn newlines(text: &[u8]) -> usize
 /// quotes, has another number of characters than one, and at a `/*` that is never closed.
 pub fn lex(alloc: Global, text: &[u8]) -> Result<Tokens<'_>, LexError>
     requires { length text.now ≤ 1048576 }
-    ensures { Lexes text.now result }
+    ensures value { Lexes text.now result }
+    ensures few { IfOk result (λ found. length found.tokens ≤ length text.now) }
 {
     let mut items = Vec::new(alloc);
     let mut first = true;

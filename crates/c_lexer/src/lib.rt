@@ -1,14 +1,17 @@
 //! Tokens of a C source text (C99 6.4): the longest token at each place, between white space and comments.
 #![tactic(auto)]
 
-pub mod character;
+mod character;
 pub mod integer;
 pub mod keyword;
+pub mod laws;
 pub mod lexer;
-pub mod literal;
+mod literal;
 pub mod punctuator;
-pub mod scan;
-pub mod separator;
+mod scan;
+mod separator;
+#[cfg(test)]
+mod tests;
 pub mod token;
 
 pub use crate::integer::{IntegerConstant, IntegerType, constant_of};

@@ -3,11 +3,11 @@ pub mod Complete
 pub mod Composition
 pub mod Counts
 pub mod Execution
+pub mod Listed
 pub mod Machine
 pub mod Meant
 pub mod Pieces
 pub mod Running
-pub mod Scanning
-pub mod Statements
+pub mod Steps
 pub mod Theorem
 pub mod Words

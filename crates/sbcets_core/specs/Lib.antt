@@ -4,12 +4,11 @@ pub mod Commanded
 pub mod Commands
 pub mod Counting
 pub mod Faithful
-pub mod Lexing
+pub mod Listed
 pub mod Meaning
 pub mod Meant
 pub mod Outcomes
 pub mod Part
+pub mod Parting
 pub mod Source
-pub mod Spelling
-pub mod Tokens
 pub mod Top

@@ -1,12 +1,13 @@
 -- The exit status of each outcome, and the tool's own line for it.
 use Rattle.std.specs.Prelude.{ℕ, ◌+◌, ◌/◌, ◌%◌, nat_lt, ◌==◌, if◌then◌else◌, List, [], ◌∷◌, ◌++◌, take, drop, codes, decimal}
 use Rattle.std.specs.List.{prefix_len}
+use Rattle.c_pre.specs.Faults.{number_of}
 use Rattle.elf_image.specs.Tests.{fault_number}
 use Rattle.rv_sim.specs.declared.trap.TrapKind.{TrapKind}
 use Rattle.rv_sim.specs.declared.trap.TrapKind.TheVariants.{Illegal, Access, Jump, Break, Call}
 use Rattle.sbcets_core.specs.declared.refusal.Counted.TheVariants.{Source}
 use Rattle.sbcets_core.specs.declared.refusal.SourceRefusal.{SourceRefusal}
-use Rattle.sbcets_core.specs.declared.refusal.SourceRefusal.TheVariants.{Lex, Unsupported, TooLarge}
+use Rattle.sbcets_core.specs.declared.refusal.SourceRefusal.TheVariants.{Lex, Pre, Unsupported, TooLarge}
 use Rattle.sbcets_core.specs.declared.refusal.SourceRefusal.TheVariants as refusals
 use Rattle.sbcets_core.specs.declared.outcome.ReadFault.TheVariants.{Failed, TooLong}
 use Rattle.sbcets_core.specs.declared.outcome.Outcome.{Outcome}
@@ -74,7 +75,8 @@ trap_name Call = codes "call"
 
 abbrev pub refusal_line : SourceRefusal → List ℕ
 refusal_line (Lex fault) = numbered_line (codes "lexical fault at line ") fault.line []
-refusal_line Unsupported = plain_line (codes "unsupported")
+refusal_line (Pre fault) = line_of (codes "directive fault ") (decimal (number_of fault.kind)) (codes " at line ") (decimal fault.line)
+refusal_line (Unsupported word line) = line_of (codes "unsupported ") word (codes " at line ") (decimal line)
 refusal_line (TooLarge Source n) = numbered_line (codes "source of ") n (codes " is too large")
 refusal_line refusals.Memory = plain_line (codes "out of memory")
 

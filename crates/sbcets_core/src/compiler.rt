@@ -1,18 +1,18 @@
 //! From a source text to an image.
-ghost use Rattle.std.specs.Prelude.{◌≡◌};
 ghost use Rattle.sbcets_core.specs.Accepted.{Compiles};
 
 use crate::generator::image_of;
-use crate::lexer::{LexError, lex};
-use crate::part::{PartError, program_of};
 use crate::refusal::{Counted, SourceRefusal};
+use crate::support::supported;
+use c_lexer::{LexError, lex};
+use c_pre::{PreError, expand};
 use std::alloc::Global;
 
 /// The largest source that is read, in bytes.
 pub const MAX_SOURCE: u64 = 1_048_576;
 
 /// The image of a source, faithful to what the source means; or why the source is refused: it is too
-/// large, else it has no tokens, else they are no text of the part.
+/// large, else it has no tokens, else a directive is at fault, else a word of it is not supported.
 #[tactic(auto, unfolding(crate::specs::Accepted::accepted))]
 pub fn compile(alloc: Global, source: &[u8]) -> Result<Vec<u8>, SourceRefusal>
     ensures { Compiles source.now result }
@@ -29,10 +29,14 @@ pub fn compile(alloc: Global, source: &[u8]) -> Result<Vec<u8>, SourceRefusal>
         Err(LexError::Fault(fault)) => return Err(SourceRefusal::Lex(fault)),
         Err(LexError::Memory) => return Err(SourceRefusal::Memory),
     };
-    let program = match program_of(alloc, &tokens) {
+    let expanded = match expand(alloc, tokens) {
+        Ok(expanded) => expanded,
+        Err(PreError::Fault(fault)) => return Err(SourceRefusal::Pre(fault)),
+        Err(PreError::Memory) => return Err(SourceRefusal::Memory),
+    };
+    let program = match supported(alloc, &expanded) {
         Ok(program) => program,
-        Err(PartError::Unsupported) => return Err(SourceRefusal::Unsupported),
-        Err(PartError::Memory) => return Err(SourceRefusal::Memory),
+        Err(refusal) => return Err(refusal),
     };
     match image_of(alloc, &program) {
         Ok(image) => Ok(image),

@@ -17,7 +17,7 @@ pub enum ReadFault {
 }
 
 /// What the program comes to.
-#[derive(Clone, Copy, Debug, PartialEq, Eq)]
+#[derive(Debug, Drop)]
 pub enum Outcome {
     /// The run ended with this status.
     Exited(u8),
@@ -49,8 +49,8 @@ impl Outcome {
     pub fn status(&self) -> u8
         ensures { result ≡ status_of self.now }
     {
-        match *self {
-            Outcome::Exited(code) => code,
+        match self {
+            Outcome::Exited(code) => *code,
             Outcome::Built => 0,
             Outcome::Usage => 101,
             Outcome::ReadFault(_) => 102,

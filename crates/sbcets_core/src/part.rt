@@ -1,101 +1,205 @@
-//! From tokens to a program: the part of C that is compiled so far.
-ghost use Rattle.std.specs.Prelude.{◌≡◌, ◌+◌, ◌*◌, ◌≤◌, Some, None, length, drop, option_map, IfOk, IsErrOf};
-ghost use Rattle.sbcets_core.specs.Part.{program_of, statements, is_head, is_putchar, is_return, returns, puts_before};
-ghost use Rattle.sbcets_core.specs.Tokens.{constant_of};
+//! From tokens to a program: the part of C that is compiled so far, `int main(void){ putchar(N); .. return N; }`.
+ghost use Rattle.std.specs.Prelude.{◌≡◌, ◌≤◌, ◌++◌, length, OnOk, IfOk};
+ghost use Rattle.sbcets_core.specs.Part.{after_word, statement_step, is_name, number_of, is_int, is_void, is_return, is_open, is_close, is_begin, is_end, is_semicolon, put_by, place_after};
+ghost use Rattle.sbcets_core.specs.Parting.{Parts};
 
-use crate::lexer::constant_of;
 use crate::program::Program;
-use crate::token::Token;
-use std::alloc::Global;
+use c_lexer::{Keyword, Punctuator, Token, Word, constant_of};
+use std::alloc::{AllocFailed, Global};
+
+/// A place in a text of the part: what is wanted there.
+#[derive(Clone, Copy, Debug, PartialEq, Eq)]
+pub enum Place {
+    /// `int`
+    Int,
+    /// `main`
+    Main,
+    /// `(` behind it
+    Open,
+    /// `void`
+    Void,
+    /// `)` behind it
+    Close,
+    /// `{`
+    Body,
+    /// `putchar` or `return`
+    Statement,
+    /// `(` behind `putchar`
+    PutOpen,
+    /// the number to put
+    PutNumber,
+    /// `)` behind this number
+    PutClose(u64),
+    /// `;` behind this number and `)`
+    PutSemicolon(u64),
+    /// the number to return
+    ReturnNumber,
+    /// `;` behind this number
+    ReturnSemicolon(u64),
+    /// `}` behind the return of this number
+    BodyEnd(u64),
+    /// the end of the text behind the return of this number
+    End(u64),
+}
+
+/// What a word of a text of the part does.
+#[derive(Clone, Copy, Debug, PartialEq, Eq)]
+pub enum Step {
+    /// It leads to a place.
+    Goes(Place),
+    /// It ends a statement that puts this number.
+    Puts(u64),
+}
 
 /// Why tokens were not read as a program.
 #[derive(Clone, Copy, Debug, PartialEq, Eq)]
 pub enum PartError {
-    /// They are no text of the part.
-    Unsupported,
+    /// The tokens up to and with that of this number, from 0, begin no text of the part. It is the number of tokens where the
+    /// text ends too early.
+    Unfit(usize),
     /// There was no memory for the program.
     Memory,
 }
 
-/// The program that tokens are a text of: Unsupported exactly where they are none.
-#[tactic(auto, unfolding(crate::specs::Part::program_of))]
+/// The program that tokens are a text of; or the first token with which the tokens so far begin no text of the part.
+#[tactic(auto, using(crate::proofs::Steps::begun, crate::proofs::Steps::step_on))]
 pub fn program_of(alloc: Global, tokens: &[Token]) -> Result<Program, PartError>
     requires { length tokens.now ≤ 1048576 }
-    ensures ok { IfOk result (λ program. program_of tokens.now ≡ Some program) }
-    ensures unsupported { IsErrOf result PartError.Unsupported → program_of tokens.now ≡ None }
-{
-    match tokens {
-        [a, b, c, d, e, f, others @ ..] => {
-            if !is_head(a, b, c, d, e, f) {
-                return Err(PartError::Unsupported);
-            }
-            statements(alloc, others)
-        }
-        _ => Err(PartError::Unsupported),
-    }
-}
-
-fn is_head(a: &Token, b: &Token, c: &Token, d: &Token, e: &Token, f: &Token) -> bool
-    ensures { result ≡ is_head a.now b.now c.now d.now e.now f.now }
-{
-    a.is(b"int") && b.is(b"main") && c.is(b"(") && d.is(b"void") && e.is(b")") && f.is(b"{")
-}
-
-fn is_putchar(a: &Token, b: &Token, d: &Token, e: &Token) -> bool
-    ensures { result ≡ is_putchar a.now b.now d.now e.now }
-{
-    a.is(b"putchar") && b.is(b"(") && d.is(b")") && e.is(b";")
-}
-
-fn is_return(a: &Token, c: &Token, d: &Token) -> bool
-    ensures { result ≡ is_return a.now c.now d.now }
-{
-    a.is(b"return") && c.is(b";") && d.is(b"}")
-}
-
-#[tactic(auto, using(crate::proofs::Statements::put_taken, crate::proofs::Statements::no_put, crate::proofs::Statements::put_none, crate::proofs::Statements::put_result))]
-fn statements(alloc: Global, tokens: &[Token]) -> Result<Program, PartError>
-    requires { length tokens.now ≤ 1048576 }
-    ensures ok { IfOk result (λ program. statements tokens.now ≡ Some program) }
-    ensures unsupported { IsErrOf result PartError.Unsupported → statements tokens.now ≡ None }
+    ensures { Parts tokens.now result }
 {
     let mut numbers = Vec::new(alloc);
+    let mut place = Place::Int;
     let mut at = 0;
-    while tokens.len() - at > 4 {
-        let Some(number) = put_number(&tokens[at..]) else {
-            return Err(PartError::Unsupported);
+    while at < tokens.len() {
+        let Some(step) = after_word(place, &tokens[at].word) else {
+            return Err(PartError::Unfit(at));
         };
-        if numbers.push(number).is_err() {
+        let Ok(next) = take_step(step, &mut numbers) else {
             return Err(PartError::Memory);
+        };
+        place = next;
+        at += 1;
+    }
+    match place {
+        Place::End(number) => Ok(Program::new(numbers, number)),
+        _ => Err(PartError::Unfit(at)),
+    }
+}
+
+// Takes a step: puts its number, if it has one, and gives the place to which it leads.
+fn take_step(step: Step, numbers: &mut Vec<u64>) -> Result<Place, AllocFailed<u64>>
+    ensures put { OnOk result (numbers.new.items ≡ numbers.old.items ++ put_by step) }
+    ensures place { IfOk result (λ place. place ≡ place_after step) }
+{
+    match step {
+        Step::Goes(next) => Ok(next),
+        Step::Puts(number) => {
+            numbers.push(number)?;
+            Ok(Place::Statement)
         }
-        at += 5;
-    }
-    match return_number(&tokens[at..]) {
-        Some(number) => Ok(Program::new(numbers, number)),
-        None => Err(PartError::Unsupported),
     }
 }
 
-// The number of the `putchar(N);` at the front, where one stands there.
-#[tactic(auto, unfolding(crate::specs::Part::statements))]
-fn put_number(tokens: &[Token]) -> Option<u64>
-    requires { 5 ≤ length tokens.now }
-    ensures { statements tokens.now ≡ puts_before result (statements (drop 5 tokens.now)) }
+// Where a word leads to from a place, if the part goes on with it there.
+#[tactic(auto, unfolding(crate::specs::Part::after_word))]
+fn after_word(place: Place, word: &Word) -> Option<Step>
+    ensures { result ≡ after_word place word.now }
 {
-    match tokens {
-        [a, b, c, d, e, ..] if is_putchar(a, b, d, e) => constant_of(c.spelling()),
+    let (fits, next) = match place {
+        Place::Int => (is_int(word), Step::Goes(Place::Main)),
+        Place::Main => (is_name(b"main", word), Step::Goes(Place::Open)),
+        Place::Open => (is_open(word), Step::Goes(Place::Void)),
+        Place::Void => (is_void(word), Step::Goes(Place::Close)),
+        Place::Close => (is_close(word), Step::Goes(Place::Body)),
+        Place::Body => (is_begin(word), Step::Goes(Place::Statement)),
+        Place::Statement => return statement_step(word),
+        Place::PutOpen => (is_open(word), Step::Goes(Place::PutNumber)),
+        Place::PutNumber => return Some(Step::Goes(Place::PutClose(number(word)?))),
+        Place::PutClose(n) => (is_close(word), Step::Goes(Place::PutSemicolon(n))),
+        Place::PutSemicolon(n) => (is_semicolon(word), Step::Puts(n)),
+        Place::ReturnNumber => return Some(Step::Goes(Place::ReturnSemicolon(number(word)?))),
+        Place::ReturnSemicolon(n) => (is_semicolon(word), Step::Goes(Place::BodyEnd(n))),
+        Place::BodyEnd(n) => (is_end(word), Step::Goes(Place::End(n))),
+        Place::End(_) => return None,
+    };
+    if fits { Some(next) } else { None }
+}
+
+fn statement_step(word: &Word) -> Option<Step>
+    ensures { result ≡ statement_step word.now }
+{
+    if is_return(word) {
+        Some(Step::Goes(Place::ReturnNumber))
+    } else if is_name(b"putchar", word) {
+        Some(Step::Goes(Place::PutOpen))
+    } else {
+        None
+    }
+}
+
+fn is_name(name: &[u8], word: &Word) -> bool
+    ensures { result ≡ is_name name.now word.now }
+{
+    match word {
+        Word::Identifier(spelling) => spelling.bytes() == name,
+        _ => false,
+    }
+}
+
+// The number that an integer constant stands for.
+fn number(word: &Word) -> Option<u64>
+    ensures { result ≡ number_of word.now }
+{
+    match word {
+        Word::Integer(spelling) => Some(constant_of(spelling.bytes())?.value),
         _ => None,
     }
 }
 
-// The number of the `return N; }` that stands alone.
-#[tactic(auto, unfolding(crate::specs::Part::statements))]
-fn return_number(tokens: &[Token]) -> Option<u64>
-    requires { length tokens.now ≤ 4 }
-    ensures { statements tokens.now ≡ option_map returns result }
+fn is_int(word: &Word) -> bool
+    ensures { result ≡ is_int word.now }
 {
-    match tokens {
-        [a, b, c, d] if is_return(a, c, d) => constant_of(b.spelling()),
-        _ => None,
-    }
+    matches!(word, Word::Keyword(Keyword::Int))
+}
+
+fn is_void(word: &Word) -> bool
+    ensures { result ≡ is_void word.now }
+{
+    matches!(word, Word::Keyword(Keyword::Void))
+}
+
+fn is_return(word: &Word) -> bool
+    ensures { result ≡ is_return word.now }
+{
+    matches!(word, Word::Keyword(Keyword::Return))
+}
+
+fn is_open(word: &Word) -> bool
+    ensures { result ≡ is_open word.now }
+{
+    matches!(word, Word::Punctuator(Punctuator::LeftParenthesis))
+}
+
+fn is_close(word: &Word) -> bool
+    ensures { result ≡ is_close word.now }
+{
+    matches!(word, Word::Punctuator(Punctuator::RightParenthesis))
+}
+
+fn is_begin(word: &Word) -> bool
+    ensures { result ≡ is_begin word.now }
+{
+    matches!(word, Word::Punctuator(Punctuator::LeftBrace))
+}
+
+fn is_end(word: &Word) -> bool
+    ensures { result ≡ is_end word.now }
+{
+    matches!(word, Word::Punctuator(Punctuator::RightBrace))
+}
+
+fn is_semicolon(word: &Word) -> bool
+    ensures { result ≡ is_semicolon word.now }
+{
+    matches!(word, Word::Punctuator(Punctuator::Semicolon))
 }

@@ -1,5 +1,9 @@
 //! Why a source is refused.
-use crate::lexer::LexFault;
+use c_lexer::LexFault;
+use c_pre::PreFault;
+use sb_base::Line;
+use std::alloc::{AllocError, Global};
+use std::marker::Model;
 use thiserror::Error;
 
 /// What there is too much of.
@@ -9,16 +13,55 @@ pub enum Counted {
     Source,
 }
 
+/// The word of a refusal: a copy of the bytes that spell a token. Contracts see the list of the bytes.
+#[derive(Debug, Drop)]
+pub struct RefusedWord {
+    bytes: Vec<u8>,
+}
+
+impl Model for RefusedWord {
+    ghost use Rattle.std.specs.Prelude.{ℕ, List};
+
+    ghost Value = { List ℕ };
+
+    ghost view = { λ w. w.bytes.items };
+}
+
+impl RefusedWord {
+    ghost use Rattle.std.specs.Prelude.{◌≡◌, IfOk};
+
+    /// A copy of these bytes.
+    pub fn copy(alloc: Global, bytes: &[u8]) -> Result<Self, AllocError>
+        ensures { IfOk result (λ word. word ≡ bytes.now) }
+    {
+        let mut copy = Vec::new(alloc);
+        copy.extend_from_slice(bytes)?;
+        Ok(RefusedWord { bytes: copy })
+    }
+
+    /// The bytes.
+    pub fn bytes(&self) -> &[u8]
+        ensures { result.now ≡ self.now }
+    {
+        &self.bytes
+    }
+}
+
 /// Why a source is refused. The order of the tests is that of the variants, `TooLarge` of the source
 /// before all others.
-#[derive(Clone, Copy, Debug, PartialEq, Eq, Error)]
+#[derive(Debug, Drop, Error)]
 pub enum SourceRefusal {
     /// The first place where no token stands.
     #[error("no token stands at a place of the source")]
     Lex(LexFault),
-    /// The tokens are no text of the part of C that is compiled.
+    /// The first fault of a directive or a macro.
+    #[error("a directive of the source is at fault")]
+    Pre(PreFault),
+    /// The first of the expanded tokens that is of no part of C that is compiled: `float`, `double`, `_Bool`, `_Complex`,
+    /// `_Imaginary`, `volatile`, `restrict`, `goto`, `...` or a wide literal (the word `L`); or else the first with which
+    /// the tokens so far begin no text of the part, no word where the text ends too early.
     #[error("the source is not of the part that is compiled")]
-    Unsupported,
+    Unsupported(RefusedWord, Line),
     /// There is more of something than its limit, and how much there is.
     #[error("there is too much of something in the source")]
     TooLarge { which: Counted, count: u64 },

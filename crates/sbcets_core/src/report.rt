@@ -7,8 +7,10 @@ ghost use Rattle.sbcets_core.specs.Outcomes.{tool_line, refusal_line, trap_name,
 
 use crate::outcome::{Outcome, ReadFault};
 use crate::refusal::{Counted, SourceRefusal};
+use c_pre::PreFault;
 use itoa::Buffer;
 use rv_sim::TrapKind;
+use sb_base::Line;
 use sb_outside::{Failed, Sink};
 
 /// Puts the line of an outcome, where it has one.
@@ -17,27 +19,27 @@ pub fn report<S: Sink>(sink: &mut S, outcome: &Outcome) -> Result<(), Failed>
     ensures err { OnErr result (GainsPart (S.taken sink.old) (S.taken sink.new) (tool_line outcome.now)) }
     ensures cause { CountsFaults (S.faults sink.old) (S.faults sink.new) result }
 {
-    match *outcome {
+    match outcome {
         Outcome::Exited(_) | Outcome::Built | Outcome::WriteFault => Ok(()),
         Outcome::Usage => put_plain(sink, b"usage"),
         Outcome::ReadFault(ReadFault::Failed) => put_plain(sink, b"cannot read"),
         Outcome::ReadFault(ReadFault::TooLong { max, .. }) => {
-            put_numbered(sink, b"file of more than ", max, b" bytes")
+            put_numbered(sink, b"file of more than ", *max, b" bytes")
         }
         Outcome::InputFault => put_plain(sink, b"cannot read input"),
         Outcome::Memory => put_plain(sink, b"out of memory"),
-        Outcome::Limit(n) => put_numbered(sink, b"limit of ", n, b" instructions"),
+        Outcome::Limit(n) => put_numbered(sink, b"limit of ", *n, b" instructions"),
         Outcome::Refused(refusal) => report_refusal(sink, refusal),
         Outcome::ImageRefused(fault) => {
             put_numbered(sink, b"image fault ", u64::from(fault.number()), b"")
         }
-        Outcome::Trap { kind, pc } => report_trap(sink, kind, pc),
+        Outcome::Trap { kind, pc } => report_trap(sink, *kind, *pc),
     }
 }
 
-fn report_refusal<S: Sink>(sink: &mut S, refusal: SourceRefusal) -> Result<(), Failed>
-    ensures ok { OnOk result (S.taken sink.new ≡ gained (S.taken sink.old) (refusal_line refusal)) }
-    ensures err { OnErr result (GainsPart (S.taken sink.old) (S.taken sink.new) (refusal_line refusal)) }
+fn report_refusal<S: Sink>(sink: &mut S, refusal: &SourceRefusal) -> Result<(), Failed>
+    ensures ok { OnOk result (S.taken sink.new ≡ gained (S.taken sink.old) (refusal_line refusal.now)) }
+    ensures err { OnErr result (GainsPart (S.taken sink.old) (S.taken sink.new) (refusal_line refusal.now)) }
     ensures cause { CountsFaults (S.faults sink.old) (S.faults sink.new) result }
 {
     match refusal {
@@ -45,13 +47,36 @@ fn report_refusal<S: Sink>(sink: &mut S, refusal: SourceRefusal) -> Result<(), F
             let line = u64::from(fault.line.number());
             put_numbered(sink, b"lexical fault at line ", line, b"")
         }
-        SourceRefusal::Unsupported => put_plain(sink, b"unsupported"),
+        SourceRefusal::Pre(fault) => report_fault(sink, *fault),
+        SourceRefusal::Unsupported(word, line) => report_word(sink, word.bytes(), *line),
         SourceRefusal::TooLarge {
             which: Counted::Source,
             count,
-        } => { put_numbered(sink, b"source of ", count, b" is too large") }
+        } => { put_numbered(sink, b"source of ", *count, b" is too large") }
         SourceRefusal::Memory => put_plain(sink, b"out of memory"),
     }
+}
+
+fn report_fault<S: Sink>(sink: &mut S, fault: PreFault) -> Result<(), Failed>
+    ensures ok { OnOk result (S.taken sink.new ≡ gained (S.taken sink.old) (refusal_line (SourceRefusal.Pre fault))) }
+    ensures err { OnErr result (GainsPart (S.taken sink.old) (S.taken sink.new) (refusal_line (SourceRefusal.Pre fault))) }
+    ensures cause { CountsFaults (S.faults sink.old) (S.faults sink.new) result }
+{
+    let mut kind = Buffer::new();
+    let mut line = Buffer::new();
+    let kind = kind.format(u64::from(fault.kind.number())).as_bytes();
+    let line = line.format(u64::from(fault.line.number())).as_bytes();
+    put_line(sink, b"directive fault ", kind, b" at line ", line)
+}
+
+fn report_word<S: Sink>(sink: &mut S, word: &[u8], line: Line) -> Result<(), Failed>
+    ensures ok { OnOk result (S.taken sink.new ≡ gained (S.taken sink.old) (refusal_line (SourceRefusal.Unsupported word.now line))) }
+    ensures err { OnErr result (GainsPart (S.taken sink.old) (S.taken sink.new) (refusal_line (SourceRefusal.Unsupported word.now line))) }
+    ensures cause { CountsFaults (S.faults sink.old) (S.faults sink.new) result }
+{
+    let mut digits = Buffer::new();
+    let line = digits.format(u64::from(line.number())).as_bytes();
+    put_line(sink, b"unsupported ", word, b" at line ", line)
 }
 
 #[tactic(auto, unfolding(crate::specs::Outcomes::hexadecimal))]

@@ -3,44 +3,38 @@ ghost use Rattle.std.specs.Prelude.{◌≡◌, ◌≤◌, ◌<◌, length, IfOk}
 ghost use Rattle.elf_image.specs.Writing.{PiecesFit};
 
 use crate::outside::{HI, Left, SOUND, Shown, Streams, call, files_of};
-use elf_image::{Image, ImageFault, Part, Parts};
+use elf_image::{Image, Part, Parts};
 use rv_isa::{Imm12, Imm20, ImmOp, Instr, JumpOffset, LoadOp, Reg, encode};
-use rv_sim::TrapKind;
 use sb_outside::{Files, MemFiles};
-use sbcets_core::{Outcome, ReadFault, compile};
+use sbcets_core::compile;
 use std::alloc::{AllocError, Global};
 use std::test::Fail;
 
 const RUN_OF_HI: Shown<'static> = Shown {
-    outcome: Outcome::Exited(7),
     status: 7,
     output: b"Hi",
     errors: b"",
 };
 
 const BUILT: Shown<'static> = Shown {
-    outcome: Outcome::Built,
     status: 0,
     output: b"0 checks, 0 dropped\n",
     errors: b"",
 };
 
 const LIMIT: Shown<'static> = Shown {
-    outcome: Outcome::Limit(0),
     status: 106,
     output: b"",
     errors: b"sbcets: error: limit of 0 instructions\n",
 };
 
 const USAGE: Shown<'static> = Shown {
-    outcome: Outcome::Usage,
     status: 101,
     output: b"",
     errors: b"sbcets: error: usage\n",
 };
 
 const UNREAD: Shown<'static> = Shown {
-    outcome: Outcome::ReadFault(ReadFault::Failed),
     status: 102,
     output: b"",
     errors: b"sbcets: error: cannot read\n",
@@ -48,14 +42,12 @@ const UNREAD: Shown<'static> = Shown {
 
 // A sink or a file took no more, and nothing is told of it.
 const UNWRITTEN: Shown<'static> = Shown {
-    outcome: Outcome::WriteFault,
     status: 103,
     output: b"",
     errors: b"",
 };
 
 const INPUT_FAILED: Shown<'static> = Shown {
-    outcome: Outcome::InputFault,
     status: 104,
     output: b"",
     errors: b"sbcets: error: cannot read input\n",
@@ -228,9 +220,8 @@ fn files_and_output_that_fail(rt: HostRuntime) -> Result<(), Fail> {
 }
 
 // What `run` shows of an image.
-fn trapped(kind: TrapKind, pc: u64, errors: &'static [u8]) -> Shown<'static> {
+fn trapped(errors: &[u8]) -> Shown<'_> {
     Shown {
-        outcome: Outcome::Trap { kind, pc },
         status: 112,
         output: b"",
         errors,
@@ -314,42 +305,23 @@ fn run(alloc: Global, image: &[u8], streams: &Streams) -> Result<Left, Fail> {
 #[test]
 fn images_that_trap(rt: HostRuntime) -> Result<(), Fail> {
     let access = load(LoadOp::Ld, 0);
-    let rows: [(&[Instr], TrapKind, u64, &[u8]); 5] = [
-        (
-            &[],
-            TrapKind::Illegal,
-            0x1_0000,
-            b"sbcets: error: trap illegal at 0x10000\n",
-        ),
-        (
-            &[access],
-            TrapKind::Access,
-            0x1_0000,
-            b"sbcets: error: trap access at 0x10000\n",
-        ),
+    let rows: [(&[Instr], &[u8]); 5] = [
+        (&[], b"sbcets: error: trap illegal at 0x10000\n"),
+        (&[access], b"sbcets: error: trap access at 0x10000\n"),
         (
             &[jump_into_a_word()],
-            TrapKind::Jump,
-            0x1_0000,
             b"sbcets: error: trap jump at 0x10000\n",
         ),
-        (
-            &[Instr::Ebreak],
-            TrapKind::Break,
-            0x1_0000,
-            b"sbcets: error: trap break at 0x10000\n",
-        ),
+        (&[Instr::Ebreak], b"sbcets: error: trap break at 0x10000\n"),
         (
             &[load_immediate(17, 1), Instr::Ecall],
-            TrapKind::Call,
-            0x1_0004,
             b"sbcets: error: trap call at 0x10004\n",
         ),
     ];
-    for (instrs, kind, pc, errors) in rows {
+    for (instrs, errors) in rows {
         let image = image_of(rt.alloc(), instrs)?;
         let left = run(rt.alloc(), &image, &SOUND)?;
-        assert_eq!(rt; left.shown(), trapped(kind, pc, errors), "{kind:?}");
+        assert_eq!(rt; left.shown(), trapped(errors));
     }
     Ok(())
 }
@@ -361,7 +333,6 @@ fn damaged_images(rt: HostRuntime) -> Result<(), Fail> {
     let alloc = rt.alloc();
     let mut image = compile(alloc, HI)?;
     let cut = Shown {
-        outcome: Outcome::ImageRefused(ImageFault::Truncated),
         status: 111,
         output: b"",
         errors: b"sbcets: error: image fault 1\n",
@@ -375,7 +346,7 @@ fn damaged_images(rt: HostRuntime) -> Result<(), Fail> {
     }
     let line = b"sbcets: error: trap illegal at 0x100000\n";
     let left = run(alloc, &image, &SOUND)?;
-    assert_eq!(rt; left.shown(), trapped(TrapKind::Illegal, 0x10_0000, line));
+    assert_eq!(rt; left.shown(), trapped(line));
     Ok(())
 }
 
@@ -404,7 +375,6 @@ fn streams_that_fail(rt: HostRuntime) -> Result<(), Fail> {
     let alloc = rt.alloc();
     let reading = reading_image(alloc)?;
     let exited = Shown {
-        outcome: Outcome::Exited(117),
         status: 117,
         output: b"",
         errors: b"",

@@ -1,9 +1,7 @@
 // The first path through `sbcets`: every outcome, every line of the tool's own, every fault of the outside in turn.
 // Outputs, lines and statuses are those that the documents state (docs/LANGUAGE.md, docs/FORMATS.md).
 use crate::outside::{HI, Left, SOUND, Streams, call, files_of};
-use sb_base::Line;
-use sbcets_core::lexer::LexFault;
-use sbcets_core::{Counted, Outcome, ReadFault, SourceRefusal, compile};
+use sbcets_core::{Counted, SourceRefusal, compile};
 use std::alloc::Global;
 use std::test::Fail;
 
@@ -19,27 +17,39 @@ fn call_on(
     call(alloc, spoken, &mut files, streams)
 }
 
-fn unsupported() -> Outcome {
-    Outcome::Refused(SourceRefusal::Unsupported)
-}
-
-fn lexical_fault(at: u64, line: Line) -> Outcome {
-    Outcome::Refused(SourceRefusal::Lex(LexFault { at, line }))
-}
-
 // A source, its status and its output.
-const ACCEPTED: [(&[u8], u8, &[u8]); 4] = [
+const ACCEPTED: [(&[u8], u8, &[u8]); 9] = [
     (HI, 7, b"Hi"),
     (b"int main(void){putchar(321);return 300;}", 44, b"A"),
     (b"\tint\nmain ( void )\r\n{ return\x0b0 ; }\x0c", 0, b""),
-    (b"int main(void){return 9223372036854775807;}", 255, b""),
+    (b"int main(void){return 18446744073709551615u;}", 255, b""),
+    (
+        b"int main(void){putchar(0x48);putchar(0151);return 00;}",
+        0,
+        b"Hi",
+    ),
+    (b"int/**/main(void){//\nputchar(\\\n72);return 0;}", 0, b"H"),
+    (
+        b"#define N 72\nint main(void){putchar(N);return 0;}",
+        0,
+        b"H",
+    ),
+    (
+        b"#ifdef A\n#else\nint main(void){return 3;}\n#endif\n",
+        3,
+        b"",
+    ),
+    (
+        b"#include <limits.h>\nint main(void){return CHAR_MAX;}",
+        255,
+        b"",
+    ),
 ];
 
 #[test]
 fn accepted_sources(rt: HostRuntime) -> Result<(), Fail> {
     for (source, status, output) in ACCEPTED.iter() {
         let left = call_on(rt.alloc(), &["go", "hi.c"], source, &[], &SOUND)?;
-        assert_eq!(rt; left.shown().outcome, Outcome::Exited(*status));
         assert_eq!(rt; left.shown().status, *status);
         assert_eq!(rt; left.shown().output, *output);
         assert_eq!(rt; left.shown().errors, b"".as_slice());
@@ -47,66 +57,71 @@ fn accepted_sources(rt: HostRuntime) -> Result<(), Fail> {
     Ok(())
 }
 
+// A source that is refused, and its line.
+const REFUSED: [(&[u8], &[u8]); 15] = [
+    (b"int main(void){return x;}", b"unsupported x at line 1"),
+    // The text ends too early, on the line behind its last newline.
+    (b"", b"unsupported  at line 1"),
+    (b"int main(void){\n", b"unsupported  at line 2"),
+    (
+        b"float f;int main(void){return 0;}",
+        b"unsupported float at line 1",
+    ),
+    (b"int x;\nlong y=L'a';", b"unsupported L at line 2"),
+    (b"int f(int a,...);", b"unsupported ... at line 1"),
+    (b"int main(void){return 0;}@", b"lexical fault at line 1"),
+    (
+        b"int main(void){\n\nreturn 18446744073709551616;}",
+        b"lexical fault at line 3",
+    ),
+    (b"int main(void){return 08;}", b"lexical fault at line 1"),
+    (b"#include <math.h>\n", b"directive fault 1 at line 1"),
+    (b"int x;\n#if 1\n", b"directive fault 2 at line 2"),
+    (b"#ifdef A\n", b"directive fault 3 at line 1"),
+    (b"#endif\n", b"directive fault 4 at line 1"),
+    (
+        b"#define N 1\n#define N 2\n",
+        b"directive fault 5 at line 2",
+    ),
+    // Lexical faults come first, then those of directives, then listed words.
+    (b"float f;\n#endif\n", b"directive fault 4 at line 2"),
+];
+
 #[test]
 fn refused_sources(rt: HostRuntime) -> Result<(), Fail> {
-    let first = Line::first();
-    let rows: [(&[u8], Outcome, &[u8]); 5] = [
-        (
-            b"int main(void){return x;}",
-            unsupported(),
-            b"sbcets: error: unsupported\n",
-        ),
-        (b"", unsupported(), b"sbcets: error: unsupported\n"),
-        (
-            b"int main(void){return 0;}@",
-            lexical_fault(25, first),
-            b"sbcets: error: lexical fault at line 1\n",
-        ),
-        (
-            b"int main(void){\n\nreturn 9223372036854775808;}",
-            lexical_fault(24, first.next().next()),
-            b"sbcets: error: lexical fault at line 3\n",
-        ),
-        (
-            b"int main(void){return 00;}",
-            lexical_fault(22, first),
-            b"sbcets: error: lexical fault at line 1\n",
-        ),
-    ];
-    for (source, outcome, errors) in rows {
-        let left = call_on(rt.alloc(), &["go", "hi.c"], source, &[], &SOUND)?;
-        assert_eq!(rt; left.shown().outcome, outcome);
+    let alloc = rt.alloc();
+    for (source, line) in REFUSED.iter() {
+        let left = call_on(alloc, &["go", "hi.c"], source, &[], &SOUND)?;
+        let mut errors = Vec::from_slice(alloc, b"sbcets: error: ")?;
+        errors.extend_from_slice(line)?;
+        errors.push(b'\n')?;
         assert_eq!(rt; left.shown().status, 110);
         assert_eq!(rt; left.shown().output, b"".as_slice());
-        assert_eq!(rt; left.shown().errors, errors);
+        assert_eq!(rt; left.shown().errors, errors.as_slice());
     }
     Ok(())
 }
 
-fn failed() -> Outcome {
-    Outcome::ReadFault(ReadFault::Failed)
-}
+// Words, the reads that fail, the status and the line.
+type Unread = (&'static [&'static str], &'static [u64], u8, &'static [u8]);
+
+const UNREAD: [Unread; 7] = [
+    (&[], &[], 101, b"sbcets: error: usage\n"),
+    (&["go"], &[], 101, b"sbcets: error: usage\n"),
+    (&["go", "-hi.c"], &[], 101, b"sbcets: error: usage\n"),
+    (&["go", "hi.c", "more"], &[], 101, b"sbcets: error: usage\n"),
+    (&["go", "none.c"], &[], 102, b"sbcets: error: cannot read\n"),
+    (&["go", ""], &[], 102, b"sbcets: error: cannot read\n"),
+    (&["go", "hi.c"], &[0], 102, b"sbcets: error: cannot read\n"),
+];
 
 #[test]
 fn words_and_files(rt: HostRuntime) -> Result<(), Fail> {
-    let alloc = rt.alloc();
-    let usage: &[u8] = b"sbcets: error: usage\n";
-    let cannot: &[u8] = b"sbcets: error: cannot read\n";
-    let rows: [(&[&str], &[u64], Outcome, u8, &[u8]); 7] = [
-        (&[], &[], Outcome::Usage, 101, usage),
-        (&["go"], &[], Outcome::Usage, 101, usage),
-        (&["go", "-hi.c"], &[], Outcome::Usage, 101, usage),
-        (&["go", "hi.c", "more"], &[], Outcome::Usage, 101, usage),
-        (&["go", "none.c"], &[], failed(), 102, cannot),
-        (&["go", ""], &[], failed(), 102, cannot),
-        (&["go", "hi.c"], &[0], failed(), 102, cannot),
-    ];
-    for (words, read_fails, outcome, status, line) in rows {
-        let left = call_on(alloc, words, HI, read_fails, &SOUND)?;
-        assert_eq!(rt; left.shown().outcome, outcome);
-        assert_eq!(rt; left.shown().status, status);
+    for (words, read_fails, status, line) in UNREAD.iter() {
+        let left = call_on(rt.alloc(), words, HI, read_fails, &SOUND)?;
+        assert_eq!(rt; left.shown().status, *status);
         assert_eq!(rt; left.shown().output, b"".as_slice());
-        assert_eq!(rt; left.shown().errors, line);
+        assert_eq!(rt; left.shown().errors, *line);
         assert!(rt; left.image().is_empty());
     }
     Ok(())
@@ -120,33 +135,28 @@ fn spaces(alloc: Global, count: usize) -> Result<Vec<u8>, Fail> {
 #[test]
 fn largest_sources(rt: HostRuntime) -> Result<(), Fail> {
     let alloc = rt.alloc();
-    let rows: [(usize, Outcome, &[u8]); 2] = [
-        (
-            1_048_576,
-            Outcome::Refused(SourceRefusal::Unsupported),
-            b"sbcets: error: unsupported\n",
-        ),
+    let rows: [(usize, &[u8]); 2] = [
+        (1_048_576, b"sbcets: error: unsupported  at line 1\n"),
         (
             1_048_577,
-            Outcome::ReadFault(ReadFault::TooLong {
-                len: 1_048_577,
-                max: 1_048_576,
-            }),
             b"sbcets: error: file of more than 1048576 bytes\n",
         ),
     ];
-    for (count, outcome, line) in rows {
+    for (count, line) in rows {
         let source = spaces(alloc, count)?;
         let left = call_on(alloc, &["go", "hi.c"], &source, &[], &SOUND)?;
-        assert_eq!(rt; left.shown().outcome, outcome);
         assert_eq!(rt; left.shown().errors, line);
     }
-    let too_large = SourceRefusal::TooLarge {
-        which: Counted::Source,
-        count: 1_048_577,
-    };
     let refusal = compile(alloc, &spaces(alloc, 1_048_577)?).err();
-    assert_eq!(rt; refusal, Some(too_large));
+    assert!(rt;
+        matches!(
+            refusal,
+            Some(SourceRefusal::TooLarge {
+                which: Counted::Source,
+                count: 1_048_577
+            })
+        )
+    );
     assert!(rt; compile(alloc, HI)?.len() > 8192);
     Ok(())
 }
@@ -172,7 +182,6 @@ fn sinks_that_fail(rt: HostRuntime) -> Result<(), Fail> {
             ..SOUND
         };
         let left = call_on(alloc, &["go", "hi.c"], source, &[], &streams)?;
-        assert_eq!(rt; left.shown().outcome, Outcome::WriteFault);
         assert_eq!(rt; left.shown().status, 103);
         assert_eq!(rt; left.shown().output, output);
         assert_eq!(rt; left.shown().errors, errors);

@@ -31,10 +31,9 @@ pub const SOUND: Streams<'static> = Streams {
     error_fails: &[],
 };
 
-/// What a call comes to, as its caller sees it.
+/// What a call comes to, as its caller sees it. Status and line tell one outcome from another.
 #[derive(Clone, Copy, Debug, PartialEq, Eq)]
 pub struct Shown<'a> {
-    pub outcome: Outcome,
     pub status: u8,
     pub output: &'a [u8],
     pub errors: &'a [u8],
@@ -52,7 +51,6 @@ pub struct Left {
 impl Left {
     pub fn shown(&self) -> Shown<'_> {
         Shown {
-            outcome: self.outcome,
             status: self.outcome.status(),
             output: self.output.bytes(),
             errors: self.errors.bytes(),

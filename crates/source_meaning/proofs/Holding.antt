@@ -1,19 +1,18 @@
 -- Objects that live on, and pointers to bytes of live objects.
-use Rattle.std.proofs.Common.{◌≡◌, ◌≢◌, ℕ, zero, suc, ◌+◌, ◌%◌, ◌^◌, ◌<◌, ◌≤◌, Bool, true, false, List, [], ◌∷◌, ◌++◌, length, refl, sym, ap, ◌∙◌, subst, arith, nat_eq, if◌then◌else◌}
-use Rattle.std.proofs.lemmas.Bool.{eqb-true, eqb-false}
+use Rattle.std.proofs.Common.{◌≡◌, ℕ, zero, suc, ◌+◌, ◌%◌, ◌^◌, ◌<◌, ◌≤◌, Bool, true, false, List, [], ◌∷◌, ◌++◌, length, refl, sym, ap, ◌∙◌, arith, nat_eq, if◌then◌else◌, ◌⊎◌, inl, inr, length-set, length-append}
+use Rattle.std.proofs.lemmas.Bool.{eqb-true, eqb-false, cases_lt}
 use Rattle.std.proofs.Math.Nat.{mod-eq_of_lt}
 use Rattle.behaviours.specs.Shown.{Access}
-use Rattle.obj_memory.specs.declared.value.Bounds.{Bounds}
 use Rattle.obj_memory.specs.declared.value.Tag.{Tag}
 use Rattle.obj_memory.specs.declared.value.Tag.TheVariants.{Untagged, OfFunction, OfObject}
 use Rattle.obj_memory.specs.declared.value.Value.{Value}
 use Rattle.obj_memory.specs.declared.value.Place.{Place}
 use Rattle.obj_memory.specs.declared.object.Storage.{Storage}
 use Rattle.obj_memory.specs.declared.judgement.Verdict.TheVariants.{Outside, Dead, Inside}
-use Rattle.obj_memory.specs.Objects.{Objects, object_at, with_new, with_dead, pointer_to}
+use Rattle.obj_memory.specs.Objects.{ObjectState, Objects, no_object, object_at, new_object, with_new, with_dead, pointer_to}
 use Rattle.obj_memory.specs.Judgement.{are_within, place_in, judged, judge, named_in, named, narrowed_tag, narrowed}
 use Rattle.obj_memory.specs.Heap.{is_allocated}
-use Rattle.obj_memory.specs.Sound.{Continues, KeepsObjects, IsSoundTag, IsAllowed, IsPlace}
+use Rattle.obj_memory.specs.Sound.{Continues, KeepsObjects, IsSoundTag, IsAllowed}
 use Rattle.obj_memory.proofs.Continuing.{continues_same, continues_then, continues_new, continues_dead}
 use Rattle.obj_memory.proofs.Judging.{judge_inside}
 use Rattle.obj_memory.proofs.Making.{new_other, dead_other}
@@ -38,6 +37,29 @@ all_lie_on old new c (a ∷ rest) h = (lies_on old new c a h.0, all_lie_on old n
 pub all_lie_more : (objects : Objects) (all : List Access) (a : Access) → AllLie objects all → LiesInObject objects a → AllLie objects (all ++ (a ∷ []))
 all_lie_more objects [] a h x = (x, tt)
 all_lie_more objects (b ∷ bs) a h x = (h.0, all_lie_more objects bs a h.1 x)
+
+-- numbers of objects
+
+pub beyond : (objects : Objects) (n : ℕ) → length objects ≤ n → object_at objects n ≡ no_object
+beyond [] n h = refl
+beyond (o ∷ os) zero h = absurd (omega arith)
+beyond (o ∷ os) (suc n) h = beyond os n (omega arith)
+
+pub length-dead : (n : ℕ) (objects : Objects) → length (with_dead n objects) ≡ length objects
+unfolding with_dead
+length-dead n objects = length-set objects n _
+
+pub length-new : (storage : Storage) (address size : ℕ) (objects : Objects) → length (with_new storage address size objects) ≡ length objects + 1
+unfolding with_new
+length-new storage address size objects = length-append objects (new_object storage address size ∷ [])
+
+-- what is live is an object of the list
+pub live_made : (objects : Objects) (n : ℕ) → (object_at objects n).is_live ≡ true → n < length objects
+live_made objects n live = by (cases_lt n (length objects))
+  where
+    by : (n < length objects) ⊎ (length objects ≤ n) → n < length objects
+    by (inl lt) = lt
+    by (inr le) = absurd (let dead : (object_at objects n).is_live ≡ false = ap (λ (o : ObjectState). o.is_live) (beyond objects n le) in let both : true ≡ false = sym live ∙ dead in cc)
 
 -- objects that live on
 

@@ -1,43 +1,31 @@
 -- What a call lays out: the objects of its variables, which are new, and which die at its return.
-use Rattle.std.proofs.Common.{◌≡◌, ◌≢◌, ℕ, zero, suc, ◌+◌, ◌-◌, ◌*◌, ◌/◌, ◌%◌, ◌≤◌, ◌<◌, ◌⊎◌, inl, inr, List, [], ◌∷◌, ◌++◌, Bool, true, false, Option, Some, None, length, get_or, set, if◌then◌else◌, refl, sym, ap, ◌∙◌, subst, arith, length-set, length-append}
-use Rattle.std.proofs.lemmas.Bool.{cases_lt}
+use Rattle.std.proofs.Common.{◌≡◌, ℕ, zero, suc, ◌+◌, ◌%◌, ◌≤◌, ◌<◌, ◌⊎◌, inl, inr, List, [], ◌∷◌, Bool, true, false, Some, None, length, if◌then◌else◌, refl, sym, ap, ◌∙◌, subst, arith, nat_eq}
+use Rattle.std.proofs.lemmas.Bool.{cases_lt, eqb-true, eqb-false}
 use Rattle.obj_memory.specs.declared.object.Storage.{Storage}
-use Rattle.obj_memory.specs.declared.object.Storage.TheVariants.{Static, Automatic, Allocated}
-use Rattle.obj_memory.specs.Objects.{ObjectState, Objects, no_object, object_at, new_object, with_new, with_dead}
+use Rattle.obj_memory.specs.declared.object.Storage.TheVariants.{Automatic}
+use Rattle.obj_memory.specs.Objects.{ObjectState, Objects, object_at, new_object, with_new, with_dead}
 use Rattle.obj_memory.specs.Heap.{is_allocated, rounded_up}
 use Rattle.obj_memory.specs.Sound.{IsSound, Continues}
 use Rattle.obj_memory.proofs.Soundness.{sound_new, sound_dead}
-use Rattle.obj_memory.proofs.Continuing.{continues_same, continues_then, continues_new, continues_dead}
-use Rattle.obj_memory.proofs.Making.{new_last, new_other, dead_other}
+use Rattle.obj_memory.proofs.Continuing.{continues_then, continues_new, continues_dead}
+use Rattle.obj_memory.proofs.Making.{new_last, dead_other, dead_is_dead}
 use Rattle.c_tree.specs.declared.expression.Kind.{Kind}
 use Rattle.c_tree.specs.declared.program.Variable.{Variable}
 use Rattle.source_meaning.specs.declared.home.Home.{Home}
 use Rattle.source_meaning.specs.declared.home.Home.TheVariants.{PlainValue, InObject}
-use Rattle.source_meaning.specs.State.{State, Outcome, Gives, Ended, Paused, Run, on, done, choose}
+use Rattle.source_meaning.specs.State.{State, Outcome, Gives, Ended, Paused, on, done, choose}
 use Rattle.c_tree.specs.Kinds.{size_of_kind}
-use Rattle.source_meaning.specs.Calls.{objects_end, place_object, place_variable, place_variables, without_homes}
+use Rattle.source_meaning.specs.Calls.{objects_end, place_object, place_variables, without_homes}
 use Rattle.source_meaning.specs.Naming.{object_kind}
-use Rattle.source_meaning.specs.Keeping.{AllLie, IsKept, LivesOn}
-use Rattle.source_meaning.proofs.Holding.{all_lie_on, lives_same, lives_then, lives_new, IsHeld, held_on}
+use Rattle.source_meaning.specs.Keeping.{LivesOn, AreSeparate}
+use Rattle.source_meaning.proofs.Separating.{separate_automatic, EndsMade, ends_same, live_before}
+use Rattle.source_meaning.proofs.Holding.{live_made, beyond, length-dead, length-new, lives_same, lives_then, lives_new, IsHeld, held_on}
 use Rattle.source_meaning.proofs.Sure.{HasHome, AreLow}
 
 -- objects that are low
 
-beyond : (objects : Objects) (n : ℕ) → length objects ≤ n → object_at objects n ≡ no_object
-beyond [] n h = refl
-beyond (o ∷ os) zero h = absurd (omega arith)
-beyond (o ∷ os) (suc n) h = beyond os n (omega arith)
-
 beyond_low : (objects : Objects) (n : ℕ) → length objects ≤ n → (object_at objects n).address + (object_at objects n).size ≤ 1610612736
 beyond_low objects n h = subst (λ (o : ObjectState). o.address + o.size ≤ 1610612736) (sym (beyond objects n h)) (omega arith)
-
-length-dead : (n : ℕ) (objects : Objects) → length (with_dead n objects) ≡ length objects
-unfolding with_dead
-length-dead n objects = length-set objects n _
-
-pub length-new : (storage : Storage) (address size : ℕ) (objects : Objects) → length (with_new storage address size objects) ≡ length objects + 1
-unfolding with_new
-length-new storage address size objects = length-append objects (new_object storage address size ∷ [])
 
 -- one of two, by their order
 abbrev OrderCase : (n m : ℕ) → Type 0
@@ -70,11 +58,11 @@ low_new storage address size objects fits h = λ n. by n (cases_lt n (length obj
 
 -- what is known of a new object
 
-fresh_live : (storage : Storage) (address size : ℕ) → (new_object storage address size).is_live ≡ true
+pub fresh_live : (storage : Storage) (address size : ℕ) → (new_object storage address size).is_live ≡ true
 unfolding new_object
 fresh_live storage address size = refl
 
-fresh_size : (storage : Storage) (address size : ℕ) → (new_object storage address size).size ≡ size
+pub fresh_size : (storage : Storage) (address size : ℕ) → (new_object storage address size).size ≡ size
 unfolding new_object
 fresh_size storage address size = refl
 
@@ -190,18 +178,88 @@ without_lives old objects homes l from c = record {
   live = λ n lt held live. ap (λ o. o.is_live) (without_other (length old) homes objects from n lt) ∙ l.live n lt held live;
 }
 
+-- objects that are made, and still live, are blocks, or in one of some homes
+
+abbrev pub IsIn : (n : ℕ) → List Home → Type 0
+IsIn n [] = ⊥
+IsIn n (PlainValue ∷ hs) = IsIn n hs
+IsIn n (InObject k ∷ hs) = (n ≡ k) ⊎ IsIn n hs
+
+abbrev pub EndsBut : (old new : Objects) → List Home → Type 0
+EndsBut old new homes = (n : ℕ) → length old ≤ n → (object_at new n).is_live ≡ true → (is_allocated (object_at new n).storage ≡ true) ⊎ IsIn n homes
+
+ends_but_same : (objects : Objects) → EndsBut objects objects []
+ends_but_same objects n le live = inl (ends_same objects n le live)
+
+ends_one_more : (old mid new : Objects) (homes : List Home) → length mid ≡ length old + 1 → EndsBut mid new homes → EndsBut old new (InObject (length old) ∷ homes)
+ends_one_more old mid new homes longer h n le live = by (cases_lt n (length mid))
+  where
+    rest : (is_allocated (object_at new n).storage ≡ true) ⊎ IsIn n homes → (is_allocated (object_at new n).storage ≡ true) ⊎ IsIn n (InObject (length old) ∷ homes)
+    rest (inl block) = inl block
+    rest (inr home) = inr (inr home)
+
+    by : (n < length mid) ⊎ (length mid ≤ n) → (is_allocated (object_at new n).storage ≡ true) ⊎ IsIn n (InObject (length old) ∷ homes)
+    by (inl lt) = inr (inl (omega (arith, lt, le, longer)))
+    by (inr ge) = rest (h n ge live)
+
+pub ends_but_then : (old mid new : Objects) (homes : List Home) → EndsBut old mid homes → Continues mid new → EndsMade mid new → EndsBut old new homes
+ends_but_then old mid new homes p c q n le live = by (cases_lt n (length mid))
+  where
+    moved : (n < length mid) → (is_allocated (object_at mid n).storage ≡ true) ⊎ IsIn n homes → (is_allocated (object_at new n).storage ≡ true) ⊎ IsIn n homes
+    moved lt (inl block) = inl (ap is_allocated (c.storage n lt) ∙ block)
+    moved lt (inr home) = inr home
+
+    by : (n < length mid) ⊎ (length mid ≤ n) → (is_allocated (object_at new n).storage ≡ true) ⊎ IsIn n homes
+    by (inl lt) = moved lt (p n le (live_before mid new c n lt live))
+    by (inr ge) = inl (q n ge live)
+
+dead_stays : (k n : ℕ) (objects : Objects) → (object_at objects n).is_live ≡ false → (object_at (with_dead k objects) n).is_live ≡ false
+dead_stays k n objects dead = by (nat_eq n k) refl
+  where
+    by : (b : Bool) → nat_eq n k ≡ b → (object_at (with_dead k objects) n).is_live ≡ false
+    by true e = subst (λ m. (object_at (with_dead k objects) m).is_live ≡ false) (sym (eqb-true n k e)) (dead_is_dead k objects)
+    by false e = ap (λ (o : ObjectState). o.is_live) (dead_other k n objects (eqb-false n k e)) ∙ dead
+
+without_stays : (homes : List Home) (n : ℕ) (objects : Objects) → (object_at objects n).is_live ≡ false → (object_at (without_homes homes objects) n).is_live ≡ false
+without_stays [] n objects dead = dead
+without_stays (PlainValue ∷ hs) n objects dead = without_stays hs n objects dead
+without_stays (InObject k ∷ hs) n objects dead = without_stays hs n (with_dead k objects) (dead_stays k n objects dead)
+
+without_dead : (homes : List Home) (n : ℕ) (objects : Objects) → IsIn n homes → (object_at (without_homes homes objects) n).is_live ≡ false
+without_dead [] n objects h = absurd h
+without_dead (PlainValue ∷ hs) n objects h = without_dead hs n objects h
+without_dead (InObject k ∷ hs) n objects (inl same) =
+    without_stays hs n (with_dead k objects) (subst (λ m. (object_at (with_dead k objects) m).is_live ≡ false) (sym same) (dead_is_dead k objects))
+without_dead (InObject k ∷ hs) n objects (inr h) = without_dead hs n (with_dead k objects) h
+
+length-without : (homes : List Home) (objects : Objects) → length (without_homes homes objects) ≡ length objects
+length-without [] objects = refl
+length-without (PlainValue ∷ hs) objects = length-without hs objects
+length-without (InObject k ∷ hs) objects = length-without hs (with_dead k objects) ∙ length-dead k objects
+
+pub ends_without : (old objects : Objects) (homes : List Home) → Continues objects (without_homes homes objects) → EndsBut old objects homes → EndsMade old (without_homes homes objects)
+ends_without old objects homes c h n le live =
+    let made : n < length objects = subst (λ m. n < m) (length-without homes objects) (live_made (without_homes homes objects) n live) in
+    by made (h n le (live_before objects (without_homes homes objects) c n made live))
+  where
+    by : n < length objects → (is_allocated (object_at objects n).storage ≡ true) ⊎ IsIn n homes → is_allocated (object_at (without_homes homes objects) n).storage ≡ true
+    by made (inl block) = ap is_allocated (c.storage n made) ∙ block
+    by made (inr home) = absurd (let both : true ≡ false = sym live ∙ without_dead homes n objects home in cc)
+
 -- placing
 
-pub record HasPlaced (old : Objects) (n : ℕ) (vs : List Variable) (homes : List Home) (s : State) : Type 0 where
+pub record HasPlaced (boundary : ℕ) (old : Objects) (n : ℕ) (vs : List Variable) (homes : List Home) (s : State) : Type 0 where
   pub sound : IsSound s.objects
   pub low : AreLow s.objects
   pub lives : LivesOn old s.objects
   pub placed : Placed n vs homes s.objects
+  pub separate : AreSeparate boundary s.stacked s.objects
+  pub ends : EndsBut old s.objects homes
 
-abbrev pub PlacesBy : State → (n : ℕ) → List Variable → Outcome (List Home) → Type 0
-PlacesBy s n vs (Gives homes s') = HasPlaced s.objects n vs homes s' × (s'.accesses ≡ s.accesses) × (s'.plain ≡ s.plain)
-PlacesBy s n vs (Ended e s') = ⊥
-PlacesBy s n vs (Paused s') = ⊥
+abbrev pub PlacesBy : (boundary : ℕ) → State → (n : ℕ) → List Variable → Outcome (List Home) → Type 0
+PlacesBy boundary s n vs (Gives homes s') = HasPlaced boundary s.objects n vs homes s' × (s'.accesses ≡ s.accesses) × (s'.plain ≡ s.plain)
+PlacesBy boundary s n vs (Ended e s') = ⊥
+PlacesBy boundary s n vs (Paused s') = ⊥
 
 end_grows_by : (b : Bool) (size top end after : ℕ) → (if b then rounded_up 16 top + size else top) ≡ after → after ≤ end → top ≤ end
 end_grows_by true size top end after e h = omega (arith, e, h)
@@ -215,41 +273,51 @@ pub rounded_whole : (n : ℕ) → rounded_up 16 n % 16 ≡ 0
 rounded_whole n = omega arith
 
 -- the variables behind one that was placed, or that is no object
-abbrev PlacesRest : (bound : ℕ) → List Variable → Type 0
-PlacesRest bound vs = (s : State) → IsSound s.objects → AreLow s.objects → objects_end vs s.stacked ≤ bound → PlacesBy s (length s.objects) vs (place_variables vs s)
+abbrev PlacesRest : (boundary : ℕ) → List Variable → Type 0
+PlacesRest boundary vs = (s : State) → IsSound s.objects → AreLow s.objects → AreSeparate boundary s.stacked s.objects → objects_end vs s.stacked ≤ boundary
+    → PlacesBy boundary s (length s.objects) vs (place_variables vs s)
 
-behind_object : (kind : Kind) (vs : List Variable) (s s1 : State) → s1.objects ≡ with_new Automatic (rounded_up 16 s.stacked) (size_of_kind kind) s.objects → s1.accesses ≡ s.accesses → s1.plain ≡ s.plain
-    → (o : Outcome (List Home)) → PlacesBy s1 (length s1.objects) vs o → PlacesBy s (length s.objects) (record { kind = kind; is_object = true } ∷ vs) (on o (λ homes. done (InObject (length s.objects) ∷ homes)))
-behind_object kind vs s s1 e a w (Gives homes s2) h =
+behind_object : (boundary : ℕ) (kind : Kind) (vs : List Variable) (s s1 : State) → s1.objects ≡ with_new Automatic (rounded_up 16 s.stacked) (size_of_kind kind) s.objects → s1.accesses ≡ s.accesses → s1.plain ≡ s.plain
+    → (o : Outcome (List Home)) → PlacesBy boundary s1 (length s1.objects) vs o → PlacesBy boundary s (length s.objects) (record { kind = kind; is_object = true } ∷ vs) (on o (λ homes. done (InObject (length s.objects) ∷ homes)))
+behind_object boundary kind vs s s1 e a w (Gives homes s2) h =
     let made = length-new Automatic (rounded_up 16 s.stacked) (size_of_kind kind) s.objects in
     let lives = subst (LivesOn s.objects) (sym e) (lives_new Automatic (rounded_up 16 s.stacked) (size_of_kind kind) s.objects) in
     let held = subst (λ o. IsHeld o (length s.objects) kind) (sym e) (held_new Automatic (rounded_up 16 s.stacked) kind s.objects refl) in
-    let longer : length s1.objects ≡ length s.objects + 1 = ap length e ∙ made in
-    (record {
-      sound = h.0.sound;
-      low = h.0.low;
-      lives = lives_then s.objects s1.objects s2.objects lives h.0.lives;
-      placed = ((omega arith, held_on s1.objects s2.objects h.0.lives (length s.objects) kind held), placed_less (length s1.objects) (length s.objects) (omega (arith, longer)) vs homes s2.objects h.0.placed);
-    }, h.1 ∙ a, h.2 ∙ w)
-behind_object kind vs s s1 e a w (Ended x s2) h = h
-behind_object kind vs s s1 e a w (Paused s2) h = h
+    let longer : length s1.objects ≡ length s.objects + 1 = ap length e ∙ made in (
+      record {
+        sound = h.0.sound;
+        low = h.0.low;
+        lives = lives_then s.objects s1.objects s2.objects lives h.0.lives;
+        placed = ((omega arith, held_on s1.objects s2.objects h.0.lives (length s.objects) kind held), placed_less (length s1.objects) (length s.objects) (omega (arith, longer)) vs homes s2.objects h.0.placed);
+        separate = h.0.separate;
+        ends = ends_one_more s.objects s1.objects s2.objects homes longer h.0.ends;
+      },
+      h.1 ∙ a,
+      h.2 ∙ w,
+    )
+behind_object boundary kind vs s s1 e a w (Ended x s2) h = h
+behind_object boundary kind vs s s1 e a w (Paused s2) h = h
 
-behind_plain : (kind : Kind) (vs : List Variable) (s : State) → (o : Outcome (List Home)) → PlacesBy s (length s.objects) vs o
-    → PlacesBy s (length s.objects) (record { kind = kind; is_object = false } ∷ vs) (on o (λ homes. done (PlainValue ∷ homes)))
-behind_plain kind vs s (Gives homes s2) h = (record { sound = h.0.sound; low = h.0.low; lives = h.0.lives; placed = (tt, h.0.placed) }, h.1, h.2)
-behind_plain kind vs s (Ended x s2) h = h
-behind_plain kind vs s (Paused s2) h = h
+behind_plain : (boundary : ℕ) (kind : Kind) (vs : List Variable) (s : State) → (o : Outcome (List Home)) → PlacesBy boundary s (length s.objects) vs o
+    → PlacesBy boundary s (length s.objects) (record { kind = kind; is_object = false } ∷ vs) (on o (λ homes. done (PlainValue ∷ homes)))
+behind_plain boundary kind vs s (Gives homes s2) h =
+    (record { sound = h.0.sound; low = h.0.low; lives = h.0.lives; placed = (tt, h.0.placed); separate = h.0.separate; ends = h.0.ends }, h.1, h.2)
+behind_plain boundary kind vs s (Ended x s2) h = h
+behind_plain boundary kind vs s (Paused s2) h = h
 
-places_one : (bound : ℕ) → bound ≤ 1610612736 → (kind : Kind) (b : Bool) (vs : List Variable) → PlacesRest bound vs → (s : State) → IsSound s.objects → AreLow s.objects
-    → objects_end vs (if b then rounded_up 16 s.stacked + size_of_kind kind else s.stacked) ≤ bound
-    → PlacesBy s (length s.objects) (record { kind = kind; is_object = b } ∷ vs) (on (choose b (place_object (size_of_kind kind)) (done PlainValue) s) (λ home s1. on (place_variables vs s1) (λ homes. done (home ∷ homes))))
-places_one bound least kind true vs rest s sound low fits =
+places_one : (boundary : ℕ) → boundary ≤ 1610612736 → (kind : Kind) (b : Bool) (vs : List Variable) → PlacesRest boundary vs → (s : State) → IsSound s.objects → AreLow s.objects → AreSeparate boundary s.stacked s.objects
+    → objects_end vs (if b then rounded_up 16 s.stacked + size_of_kind kind else s.stacked) ≤ boundary
+    → PlacesBy boundary s (length s.objects) (record { kind = kind; is_object = b } ∷ vs) (on (choose b (place_object (size_of_kind kind)) (done PlainValue) s) (λ home s1. on (place_variables vs s1) (λ homes. done (home ∷ homes))))
+places_one boundary least kind true vs rest s sound low separate fits =
     let top = rounded_up 16 s.stacked in
     let s1 : State = record s { stacked = top + size_of_kind kind; work = s.work + (1 + size_of_kind kind); objects = with_new Automatic top (size_of_kind kind) s.objects } in
-    behind_object kind vs s s1 refl refl refl (place_variables vs s1)
-    (rest s1 (sound_new Automatic top (size_of_kind kind) s.objects sound (rounded_whole s.stacked)) (low_new Automatic top (size_of_kind kind) s.objects (omega (arith, end_grows vs (top + size_of_kind kind), fits, least)) low) fits)
-places_one bound least kind false vs rest s sound low fits = behind_plain kind vs s (place_variables vs s) (rest s sound low fits)
+    let grows = end_grows vs (top + size_of_kind kind) in
+    behind_object boundary kind vs s s1 refl refl refl (place_variables vs s1)
+    (rest s1 (sound_new Automatic top (size_of_kind kind) s.objects sound (rounded_whole s.stacked)) (low_new Automatic top (size_of_kind kind) s.objects (omega (arith, grows, fits, least)) low)
+    (separate_automatic boundary s.stacked top (size_of_kind kind) s.objects separate (omega arith) (omega (arith, grows, fits))) fits)
+places_one boundary least kind false vs rest s sound low separate fits = behind_plain boundary kind vs s (place_variables vs s) (rest s sound low separate fits)
 
-pub places : (bound : ℕ) → bound ≤ 1610612736 → (vs : List Variable) → PlacesRest bound vs
-places bound least [] s sound low fits = (record { sound = sound; low = low; lives = lives_same s.objects; placed = tt }, refl, refl)
-places bound least (v ∷ vs) s sound low fits = places_one bound least v.kind v.is_object vs (places bound least vs) s sound low fits
+pub places : (boundary : ℕ) → boundary ≤ 1610612736 → (vs : List Variable) → PlacesRest boundary vs
+places boundary least [] s sound low separate fits =
+    (record { sound = sound; low = low; lives = lives_same s.objects; placed = tt; separate = separate; ends = ends_but_same s.objects }, refl, refl)
+places boundary least (v ∷ vs) s sound low separate fits = places_one boundary least v.kind v.is_object vs (places boundary least vs) s sound low separate fits

@@ -1,22 +1,23 @@
 -- Runs that keep objects sound: from a good state they come to a good one, with what is known of the value that they give;
 -- where they end or pause, objects and accesses are kept.
-use Rattle.std.proofs.Common.{◌≡◌, ℕ, zero, suc, ◌+◌, ◌≤◌, ◌<◌, List, [], ◌∷◌, Bool, true, false, Option, Some, None, length, get_or, set, refl, sym, ap, ◌∙◌, subst, arith}
+use Rattle.std.proofs.Common.{◌≡◌, ℕ, ◌+◌, ◌≤◌, List, Bool, true, false, Some, get_or, refl, sym, ◌∙◌, subst, arith}
 use Rattle.behaviours.specs.Shown.{Access}
 use Rattle.sb_base.specs.declared.ending.Ending.{Ending}
 use Rattle.obj_memory.specs.declared.value.Value.{Value}
 use Rattle.obj_memory.specs.Objects.{Objects, object_at}
-use Rattle.obj_memory.specs.Sound.{IsSound, IsSoundTag, KeepsObjects, Continues}
+use Rattle.obj_memory.specs.Sound.{IsSound, IsSoundTag, KeepsObjects, Continues, AreDisjoint}
 use Rattle.obj_memory.proofs.Soundness.{sound_tag_continues}
 use Rattle.c_tree.specs.declared.expression.Kind.{Kind}
 use Rattle.c_tree.specs.declared.expression.Kind.TheVariants.{Void, Scalar as OfScalar, Structure, Array}
 use Rattle.source_meaning.specs.declared.home.Home.{Home}
 use Rattle.source_meaning.specs.declared.home.Home.TheVariants.{PlainValue, InObject}
-use Rattle.source_meaning.specs.State.{State, Outcome, Gives, Ended, Paused, Run, on, ◌>>=◌, ◌>>◌, done, stop, pause, choose, read_state, change, skip, tally}
+use Rattle.source_meaning.specs.State.{State, Outcome, Gives, Ended, Paused, Run, on, ◌>>=◌, done, stop, pause, choose, read_state, change, skip, tally}
 use Rattle.c_tree.specs.Kinds.{size_of_kind}
 use Rattle.source_meaning.specs.Actions.{integer}
 use Rattle.source_meaning.specs.Expressions.{counted_as, counted}
 use Rattle.source_meaning.specs.Naming.{Scope, static_kind, object_kind, Basis, OnName, OnPointer, OnValue, IsWritable, IsNoStructure}
-use Rattle.source_meaning.specs.Keeping.{AllLie, IsKept, LivesOn, IsDirect, IsNamed}
+use Rattle.source_meaning.specs.Keeping.{IsKept, LivesOn, IsDirect, IsNamed, AreSeparate}
+use Rattle.source_meaning.proofs.Separating.{separate_kept, EndsMade, ends_as_many, ends_same, ends_then}
 use Rattle.source_meaning.proofs.Holding.{all_lie_on, lives_same, lives_then, lives_kept, named_on, IsHeld, held_on}
 
 -- the home of a variable that is an object
@@ -31,34 +32,42 @@ AreLow objects = (n : ℕ) → (object_at objects n).address + (object_at object
 abbrev pub AreTagged : List Value → Objects → Type 0
 AreTagged values objects = (x : ℕ) → IsSoundTag objects (get_or values x (integer 0)).tag
 
-pub record IsGoodBy (sc : Scope) (objects : Objects) (frame : List Home) (values : List Value) (accesses : List Access) : Type 0 where
+-- the names of a function, and the address at which automatic objects end and allocated ones begin
+pub record Context : Type 0 where
+  pub scope : Scope
+  pub boundary : ℕ
+
+pub record IsGoodBy (sc : Context) (objects : Objects) (frame : List Home) (values : List Value) (accesses : List Access) (stacked : ℕ) : Type 0 where
   pub kept : IsKept objects accesses
   pub low : AreLow objects
-  pub statics : (n : ℕ) (kind : Kind) → static_kind sc.statics n ≡ Some kind → IsHeld objects n kind
-  pub homes : (x : ℕ) (kind : Kind) → object_kind sc.variables x ≡ Some kind → HasHome frame objects x kind
+  pub statics : (n : ℕ) (kind : Kind) → static_kind sc.scope.statics n ≡ Some kind → IsHeld objects n kind
+  pub homes : (x : ℕ) (kind : Kind) → object_kind sc.scope.variables x ≡ Some kind → HasHome frame objects x kind
   pub plain : AreTagged values objects
+  pub separate : AreSeparate sc.boundary stacked objects
 
-abbrev pub IsGood : Scope → State → Type 0
-IsGood sc s = IsGoodBy sc s.objects s.frame s.plain s.accesses
+abbrev pub IsGood : Context → State → Type 0
+IsGood sc s = IsGoodBy sc s.objects s.frame s.plain s.accesses s.stacked
 
 -- a good state is left for another, in which the same names are of the same objects
-pub record Leaves (sc : Scope) (s s' : State) : Type 0 where
+pub record Leaves (sc : Context) (s s' : State) : Type 0 where
   pub good : IsGood sc s'
   pub lives : LivesOn s.objects s'.objects
   pub frame : s'.frame ≡ s.frame
+  pub ended : EndsMade s.objects s'.objects
 
 -- where a run ends or pauses, objects and accesses are kept
 pub record Stops (old : Objects) (s' : State) : Type 0 where
   pub kept : IsKept s'.objects s'.accesses
   pub low : AreLow s'.objects
   pub lives : LivesOn old s'.objects
+  pub apart : AreDisjoint s'.objects
 
-abbrev pub After : {A : Type 0} → Scope → State → (A → Objects → Type 0) → Outcome A → Type 0
+abbrev pub After : {A : Type 0} → Context → State → (A → Objects → Type 0) → Outcome A → Type 0
 After sc s Q (Gives a s') = Leaves sc s s' × Q a s'.objects
 After sc s Q (Ended e s') = Stops s.objects s'
 After sc s Q (Paused s') = Stops s.objects s'
 
-pub record Sure {A : Type 0} (sc : Scope) (P : Objects → Type 0) (r : Run A) (Q : A → Objects → Type 0) : Type 0 where
+pub record Sure {A : Type 0} (sc : Context) (P : Objects → Type 0) (r : Run A) (Q : A → Objects → Type 0) : Type 0 where
   pub by : (s : State) → IsGood sc s → P s.objects → After sc s Q (r s)
 
 -- nothing is known
@@ -68,98 +77,103 @@ Any objects = Unit {0}
 abbrev pub IsStable : (Objects → Type 0) → Type 0
 IsStable P = (old new : Objects) → LivesOn old new → P old → P new
 
-leaves_same : (sc : Scope) (s : State) → IsGood sc s → Leaves sc s s
-leaves_same sc s h = record { good = h; lives = lives_same s.objects; frame = refl }
+leaves_same : (sc : Context) (s : State) → IsGood sc s → Leaves sc s s
+leaves_same sc s h = record { good = h; lives = lives_same s.objects; frame = refl; ended = ends_same s.objects }
 
-leaves_then : (sc : Scope) (s s1 s2 : State) → Leaves sc s s1 → Leaves sc s1 s2 → Leaves sc s s2
-leaves_then sc s s1 s2 p q = record { good = q.good; lives = lives_then s.objects s1.objects s2.objects p.lives q.lives; frame = q.frame ∙ p.frame }
+leaves_then : (sc : Context) (s s1 s2 : State) → Leaves sc s s1 → Leaves sc s1 s2 → Leaves sc s s2
+leaves_then sc s s1 s2 p q = record {
+  good = q.good;
+  lives = lives_then s.objects s1.objects s2.objects p.lives q.lives;
+  frame = q.frame ∙ p.frame;
+  ended = ends_then s.objects s1.objects s2.objects q.lives.continues p.ended q.ended;
+}
 
-pub stops_same : (sc : Scope) (s : State) → IsGood sc s → Stops s.objects s
-stops_same sc s h = record { kept = h.kept; low = h.low; lives = lives_same s.objects }
+pub stops_same : (sc : Context) (s : State) → IsGood sc s → Stops s.objects s
+stops_same sc s h = record { kept = h.kept; low = h.low; lives = lives_same s.objects; apart = h.separate.apart }
 
 pub stops_then : (old new : Objects) (s : State) → LivesOn old new → Stops new s → Stops old s
-stops_then old new s l h = record { kept = h.kept; low = h.low; lives = lives_then old new s.objects l h.lives }
+stops_then old new s l h = record { kept = h.kept; low = h.low; lives = lives_then old new s.objects l h.lives; apart = h.apart }
 
-after_then : {A : Type 0} (sc : Scope) (s s1 : State) (Q : A → Objects → Type 0) (o : Outcome A) → Leaves sc s s1 → After sc s1 Q o → After sc s Q o
+after_then : {A : Type 0} (sc : Context) (s s1 : State) (Q : A → Objects → Type 0) (o : Outcome A) → Leaves sc s s1 → After sc s1 Q o → After sc s Q o
 after_then sc s s1 Q (Gives a s') p h = (leaves_then sc s s1 s' p h.0, h.1)
 after_then sc s s1 Q (Ended e s') p h = stops_then s.objects s1.objects s' p.lives h
 after_then sc s s1 Q (Paused s') p h = stops_then s.objects s1.objects s' p.lives h
 
-after_on : {A B : Type 0} (sc : Scope) (s : State) (o : Outcome A) (k : A → Run B) (Q : A → Objects → Type 0) (Q' : B → Objects → Type 0)
+after_on : {A B : Type 0} (sc : Context) (s : State) (o : Outcome A) (k : A → Run B) (Q : A → Objects → Type 0) (Q' : B → Objects → Type 0)
     → After sc s Q o → ((a : A) → Sure sc (Q a) (k a) Q') → After sc s Q' (on o k)
 after_on sc s (Gives a s') k Q Q' h g = after_then sc s s' Q' (k a s') h.0 ((g a).by s' h.0.good h.1)
 after_on sc s (Ended e s') k Q Q' h g = h
 after_on sc s (Paused s') k Q Q' h g = h
 
-pub sure_on : {A B : Type 0} {sc : Scope} {P : Objects → Type 0} {Q : A → Objects → Type 0} {Q' : B → Objects → Type 0} {r : Run A} {k : A → Run B}
+pub sure_on : {A B : Type 0} {sc : Context} {P : Objects → Type 0} {Q : A → Objects → Type 0} {Q' : B → Objects → Type 0} {r : Run A} {k : A → Run B}
     → Sure sc P r Q → ((a : A) → Sure sc (Q a) (k a) Q') → Sure sc P (r >>= k) Q'
 sure_on {sc = sc} {Q = Q} {Q' = Q'} {r = r} {k = k} h g = record { by = λ s good p. after_on sc s (r s) k Q Q' (h.by s good p) g }
 
-pub sure_weak : {A : Type 0} {sc : Scope} {P P' : Objects → Type 0} {Q : A → Objects → Type 0} {r : Run A} → ((o : Objects) → P' o → P o) → Sure sc P r Q → Sure sc P' r Q
+pub sure_weak : {A : Type 0} {sc : Context} {P P' : Objects → Type 0} {Q : A → Objects → Type 0} {r : Run A} → ((o : Objects) → P' o → P o) → Sure sc P r Q → Sure sc P' r Q
 sure_weak w h = record { by = λ s good p. h.by s good (w s.objects p) }
 
 -- the same, where it matters that the state is good
-pub sure_if_good : {A : Type 0} {sc : Scope} {P P' : Objects → Type 0} {Q : A → Objects → Type 0} {r : Run A} → ((s : State) → IsGood sc s → P' s.objects → P s.objects) → Sure sc P r Q → Sure sc P' r Q
+pub sure_if_good : {A : Type 0} {sc : Context} {P P' : Objects → Type 0} {Q : A → Objects → Type 0} {r : Run A} → ((s : State) → IsGood sc s → P' s.objects → P s.objects) → Sure sc P r Q → Sure sc P' r Q
 sure_if_good w h = record { by = λ s good p. h.by s good (w s good p) }
 
-pub sure_any : {A : Type 0} {sc : Scope} {P : Objects → Type 0} {Q : A → Objects → Type 0} {r : Run A} → Sure sc Any r Q → Sure sc P r Q
+pub sure_any : {A : Type 0} {sc : Context} {P : Objects → Type 0} {Q : A → Objects → Type 0} {r : Run A} → Sure sc Any r Q → Sure sc P r Q
 sure_any h = record { by = λ s good p. h.by s good tt }
 
-after_post : {A : Type 0} (sc : Scope) (s : State) (Q Q' : A → Objects → Type 0) (o : Outcome A) → ((a : A) (o : Objects) → Q a o → Q' a o) → After sc s Q o → After sc s Q' o
+after_post : {A : Type 0} (sc : Context) (s : State) (Q Q' : A → Objects → Type 0) (o : Outcome A) → ((a : A) (o : Objects) → Q a o → Q' a o) → After sc s Q o → After sc s Q' o
 after_post sc s Q Q' (Gives a s') w h = (h.0, w a s'.objects h.1)
 after_post sc s Q Q' (Ended e s') w h = h
 after_post sc s Q Q' (Paused s') w h = h
 
-pub sure_post : {A : Type 0} {sc : Scope} {P : Objects → Type 0} {Q Q' : A → Objects → Type 0} {r : Run A} → ((a : A) (o : Objects) → Q a o → Q' a o) → Sure sc P r Q → Sure sc P r Q'
+pub sure_post : {A : Type 0} {sc : Context} {P : Objects → Type 0} {Q Q' : A → Objects → Type 0} {r : Run A} → ((a : A) (o : Objects) → Q a o → Q' a o) → Sure sc P r Q → Sure sc P r Q'
 sure_post {sc = sc} {Q = Q} {Q' = Q'} {r = r} w h = record { by = λ s good p. after_post sc s Q Q' (r s) w (h.by s good p) }
 
-after_frame : {A : Type 0} (sc : Scope) (s : State) (P0 : Objects → Type 0) (Q : A → Objects → Type 0) (o : Outcome A) → IsStable P0 → P0 s.objects → After sc s Q o → After sc s (λ a o. P0 o × Q a o) o
+after_frame : {A : Type 0} (sc : Context) (s : State) (P0 : Objects → Type 0) (Q : A → Objects → Type 0) (o : Outcome A) → IsStable P0 → P0 s.objects → After sc s Q o → After sc s (λ a o. P0 o × Q a o) o
 after_frame sc s P0 Q (Gives a s') st p h = (h.0, (st s.objects s'.objects h.0.lives p, h.1))
 after_frame sc s P0 Q (Ended e s') st p h = h
 after_frame sc s P0 Q (Paused s') st p h = h
 
 -- what is known of earlier values stays known
-pub sure_frame : {A : Type 0} {sc : Scope} {P0 P : Objects → Type 0} {Q : A → Objects → Type 0} {r : Run A} → IsStable P0 → Sure sc P r Q → Sure sc (λ o. P0 o × P o) r (λ a o. P0 o × Q a o)
+pub sure_frame : {A : Type 0} {sc : Context} {P0 P : Objects → Type 0} {Q : A → Objects → Type 0} {r : Run A} → IsStable P0 → Sure sc P r Q → Sure sc (λ o. P0 o × P o) r (λ a o. P0 o × Q a o)
 sure_frame {sc = sc} {P0 = P0} {Q = Q} {r = r} st h = record { by = λ s good p. after_frame sc s P0 Q (r s) st p.0 (h.by s good p.1) }
 
-pub sure_beside : {A : Type 0} {sc : Scope} {P0 : Objects → Type 0} {Q : A → Objects → Type 0} {r : Run A} → IsStable P0 → Sure sc Any r Q → Sure sc P0 r (λ a o. P0 o × Q a o)
+pub sure_beside : {A : Type 0} {sc : Context} {P0 : Objects → Type 0} {Q : A → Objects → Type 0} {r : Run A} → IsStable P0 → Sure sc Any r Q → Sure sc P0 r (λ a o. P0 o × Q a o)
 sure_beside st h = sure_weak (λ o p. (p, tt)) (sure_frame st h)
 
-pub sure_done : {A : Type 0} {sc : Scope} {P : Objects → Type 0} {Q : A → Objects → Type 0} {a : A} → ((o : Objects) → P o → Q a o) → Sure sc P (done a) Q
+pub sure_done : {A : Type 0} {sc : Context} {P : Objects → Type 0} {Q : A → Objects → Type 0} {a : A} → ((o : Objects) → P o → Q a o) → Sure sc P (done a) Q
 sure_done {sc = sc} w = record { by = λ s good p. (leaves_same sc s good, w s.objects p) }
 
 -- the same, where it matters that the state is good
-pub sure_value : {A : Type 0} {sc : Scope} {P : Objects → Type 0} {Q : A → Objects → Type 0} {a : A} → ((s : State) → IsGood sc s → P s.objects → Q a s.objects) → Sure sc P (done a) Q
+pub sure_value : {A : Type 0} {sc : Context} {P : Objects → Type 0} {Q : A → Objects → Type 0} {a : A} → ((s : State) → IsGood sc s → P s.objects → Q a s.objects) → Sure sc P (done a) Q
 sure_value {sc = sc} w = record { by = λ s good p. (leaves_same sc s good, w s good p) }
 
-pub sure_skip : {sc : Scope} {P : Objects → Type 0} → Sure sc P skip (λ _. P)
+pub sure_skip : {sc : Context} {P : Objects → Type 0} → Sure sc P skip (λ _. P)
 sure_skip {sc = sc} = record { by = λ s good p. (leaves_same sc s good, p) }
 
-pub sure_stop : {A : Type 0} {sc : Scope} {P : Objects → Type 0} {Q : A → Objects → Type 0} {e : Ending} → Sure sc P (stop e) Q
+pub sure_stop : {A : Type 0} {sc : Context} {P : Objects → Type 0} {Q : A → Objects → Type 0} {e : Ending} → Sure sc P (stop e) Q
 sure_stop {sc = sc} = record { by = λ s good p. stops_same sc s good }
 
-pub sure_pause : {A : Type 0} {sc : Scope} {P : Objects → Type 0} {Q : A → Objects → Type 0} → Sure sc P pause Q
+pub sure_pause : {A : Type 0} {sc : Context} {P : Objects → Type 0} {Q : A → Objects → Type 0} → Sure sc P pause Q
 sure_pause {sc = sc} = record { by = λ s good p. stops_same sc s good }
 
-pub sure_read : {A : Type 0} {sc : Scope} {P : Objects → Type 0} {Q : A → Objects → Type 0} {f : State → A} → ((s : State) → IsGood sc s → P s.objects → Q (f s) s.objects) → Sure sc P (read_state f) Q
+pub sure_read : {A : Type 0} {sc : Context} {P : Objects → Type 0} {Q : A → Objects → Type 0} {f : State → A} → ((s : State) → IsGood sc s → P s.objects → Q (f s) s.objects) → Sure sc P (read_state f) Q
 sure_read {sc = sc} w = record { by = λ s good p. (leaves_same sc s good, w s good p) }
 
-pub sure_tally : {sc : Scope} {P : Objects → Type 0} (n : ℕ) → Sure sc P (tally n) (λ _. P)
-sure_tally {sc = sc} n = record { by = λ s good p. (record { good = good; lives = lives_same s.objects; frame = refl }, p) }
+pub sure_tally : {sc : Context} {P : Objects → Type 0} (n : ℕ) → Sure sc P (tally n) (λ _. P)
+sure_tally {sc = sc} n = record { by = λ s good p. (record { good = good; lives = lives_same s.objects; frame = refl; ended = ends_same s.objects }, p) }
 
-pub sure_counted_as : {A : Type 0} {sc : Scope} {P : Objects → Type 0} {Q : A → Objects → Type 0} {r : Run A} (n : ℕ) → Sure sc P r Q → Sure sc P (counted_as n r) Q
+pub sure_counted_as : {A : Type 0} {sc : Context} {P : Objects → Type 0} {Q : A → Objects → Type 0} {r : Run A} (n : ℕ) → Sure sc P r Q → Sure sc P (counted_as n r) Q
 sure_counted_as n h = sure_on (sure_tally n) (λ _. h)
 
-pub sure_counted : {A : Type 0} {sc : Scope} {P : Objects → Type 0} {Q : A → Objects → Type 0} {r : Run A} → Sure sc P r Q → Sure sc P (counted r) Q
+pub sure_counted : {A : Type 0} {sc : Context} {P : Objects → Type 0} {Q : A → Objects → Type 0} {r : Run A} → Sure sc P r Q → Sure sc P (counted r) Q
 sure_counted h = sure_on (sure_tally 1) (λ _. h)
 
-pub sure_choose : {A : Type 0} {sc : Scope} {P : Objects → Type 0} {Q : A → Objects → Type 0} (b : Bool) {r q : Run A} → Sure sc P r Q → Sure sc P q Q → Sure sc P (choose b r q) Q
+pub sure_choose : {A : Type 0} {sc : Context} {P : Objects → Type 0} {Q : A → Objects → Type 0} (b : Bool) {r q : Run A} → Sure sc P r Q → Sure sc P q Q → Sure sc P (choose b r q) Q
 sure_choose true h g = h
 sure_choose false h g = g
 
 -- objects that change: names and tags stay good where the objects live on
-pub good_on : (sc : Scope) (s : State) (new : Objects) → IsGood sc s → LivesOn s.objects new → IsSound new → AreLow new → IsGoodBy sc new s.frame s.plain s.accesses
-good_on sc s new h l sound low = record {
+pub good_on : (sc : Context) (s : State) (new : Objects) → IsGood sc s → LivesOn s.objects new → IsSound new → AreLow new → AreSeparate sc.boundary s.stacked new → IsGoodBy sc new s.frame s.plain s.accesses s.stacked
+good_on sc s new h l sound low separate = record {
   kept = record { sound = sound; lie = all_lie_on s.objects new l.continues s.accesses h.kept.lie };
   low = low;
   statics = λ n kind e. held_on s.objects new l n kind (h.statics n kind e);
@@ -167,21 +181,28 @@ good_on sc s new h l sound low = record {
       let home = h.homes x kind e in
       record { object = home.object; home = home.home; held = held_on s.objects new l home.object kind home.held };
   plain = λ x. sound_tag_continues s.objects new l.continues _ (h.plain x);
+  separate = separate;
 }
 
 pub low_kept : (old new : Objects) → KeepsObjects old new → AreLow old → AreLow new
 low_kept old new k h = λ n. let a = (k.at n).address in let z = (k.at n).size in omega (arith, a, z, h n)
 
 -- a change of the objects that leaves them where they are
-pub sure_objects : {sc : Scope} {P Q : Objects → Type 0} (f : Objects → Objects) → ((o : Objects) → KeepsObjects o (f o)) → ((o : Objects) → Continues o (f o)) → ((o : Objects) → P o → IsSound o → IsSound (f o)) → ((o : Objects) → P o → Q (f o))
+pub sure_objects : {sc : Context} {P Q : Objects → Type 0} (f : Objects → Objects) → ((o : Objects) → KeepsObjects o (f o)) → ((o : Objects) → Continues o (f o)) → ((o : Objects) → P o → IsSound o → IsSound (f o)) → ((o : Objects) → P o → Q (f o))
     → Sure sc P (change (λ s. record s { objects = f s.objects })) (λ _. Q)
-sure_objects {sc = sc} f k c sound q = record { by = λ s good p.
-  let lives = lives_kept s.objects (f s.objects) (c s.objects) (k s.objects) in
-  (record {
-    good = good_on sc s (f s.objects) good lives (sound s.objects p good.kept.sound) (low_kept s.objects (f s.objects) (k s.objects) good.low);
-    lives = lives;
-    frame = refl;
-  }, q s.objects p) }
+sure_objects {sc = sc} f k c sound q = record {
+  by = λ s good p.
+      let lives = lives_kept s.objects (f s.objects) (c s.objects) (k s.objects) in (
+        record {
+          good = good_on sc s (f s.objects) good lives (sound s.objects p good.kept.sound) (low_kept s.objects (f s.objects) (k s.objects) good.low)
+              (separate_kept sc.boundary s.stacked s.objects (f s.objects) (k s.objects) good.separate);
+          lives = lives;
+          frame = refl;
+          ended = ends_as_many s.objects (f s.objects) (k s.objects).count;
+        },
+        q s.objects p,
+      );
+}
 
 -- values
 
@@ -223,10 +244,10 @@ value_is (Structure m) v objects n h = absurd n
 value_is (Array m) v objects n h = record { tag = h; structure = tt }
 
 -- of a kind that is no structure
-pub plainly : {sc : Scope} {P : Objects → Type 0} {r : Run Value} {kind : Kind} → IsNoStructure kind → Sure sc P r IsTagged → Sure sc P r (ValueIs kind)
+pub plainly : {sc : Context} {P : Objects → Type 0} {r : Run Value} {kind : Kind} → IsNoStructure kind → Sure sc P r IsTagged → Sure sc P r (ValueIs kind)
 plainly {kind = kind} n h = sure_post (λ v o t. value_is kind v o n t) h
 
-pub of_kind : {sc : Scope} {P : Objects → Type 0} {r : Run Value} {kind other : Kind} → kind ≡ other → Sure sc P r (ValueIs other) → Sure sc P r (ValueIs kind)
+pub of_kind : {sc : Context} {P : Objects → Type 0} {r : Run Value} {kind other : Kind} → kind ≡ other → Sure sc P r (ValueIs other) → Sure sc P r (ValueIs kind)
 of_kind {sc = sc} {P = P} {r = r} e h = subst (λ k. Sure sc P r (ValueIs k)) (sym e) h
 
 pub stable_tagged : (vs : List Value) → IsStable (AreTagged vs)

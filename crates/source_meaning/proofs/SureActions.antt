@@ -1,9 +1,8 @@
 -- The actions keep objects sound.
-use Rattle.std.proofs.Common.{◌≡◌, ℕ, zero, suc, ◌+◌, ◌-◌, ◌*◌, ◌%◌, ◌^◌, ◌≤◌, ◌<◌, List, [], ◌∷◌, ◌++◌, Bool, true, false, Option, Some, None, length, get_or, set, refl, sym, ap, ◌∙◌, subst, arith, nat_lt}
+use Rattle.std.proofs.Common.{◌≡◌, ℕ, zero, suc, ◌+◌, ◌-◌, ◌*◌, ◌%◌, ◌^◌, List, [], ◌∷◌, Bool, true, false, Option, Some, None, get_or, set, refl, sym, ◌∙◌, subst, arith, nat_lt}
 use Rattle.behaviours.specs.Shown.{AccessKind, Read, Write}
 use Rattle.sb_base.specs.declared.ending.Ending.TheVariants.{Keys}
 use Rattle.obj_memory.specs.declared.int_type.IntType.{IntType}
-use Rattle.obj_memory.specs.declared.int_type.IntType.TheVariants.{Char}
 use Rattle.obj_memory.specs.declared.operator.BinaryOperator.{BinaryOperator}
 use Rattle.obj_memory.specs.declared.value.Tag.{Tag}
 use Rattle.obj_memory.specs.declared.value.Tag.TheVariants.{Untagged, OfFunction, OfObject}
@@ -16,13 +15,13 @@ use Rattle.obj_memory.specs.declared.judgement.Verdict.TheVariants.{Outside, Dea
 use Rattle.obj_memory.specs.Integers.{fit}
 use Rattle.obj_memory.specs.Operators.{binary_value}
 use Rattle.obj_memory.specs.Objects.{Objects, object_at, with_zeroed}
-use Rattle.obj_memory.specs.Judgement.{judge, named, moved, narrowed, place_in}
+use Rattle.obj_memory.specs.Judgement.{judge, named, place_in}
 use Rattle.obj_memory.specs.Access.{scalar_size, read_value, write_value, move_range}
-use Rattle.obj_memory.specs.Sound.{IsSound, IsSoundTag, IsAllowed, IsPlace, KeepsObjects}
+use Rattle.obj_memory.specs.Sound.{IsSoundTag, IsAllowed, KeepsObjects}
 use Rattle.obj_memory.proofs.Soundness.{sound_value, sound_moved, sound_zeroed}
 use Rattle.obj_memory.proofs.Keeping.{keeps_value, keeps_moved, keeps_zeroed}
 use Rattle.obj_memory.proofs.Continuing.{continues_value, continues_moved, continues_zeroed}
-use Rattle.obj_memory.proofs.Judging.{judge_inside, sound_narrowed, sound_offset}
+use Rattle.obj_memory.proofs.Judging.{judge_inside, sound_offset}
 use Rattle.obj_memory.proofs.Reading.{sound_read, place_kept}
 use Rattle.c_tree.specs.declared.expression.Kind.{Kind}
 use Rattle.c_tree.specs.declared.expression.Kind.TheVariants.{Void, Scalar as OfScalar, Structure, Array}
@@ -34,15 +33,15 @@ use Rattle.c_tree.specs.declared.expression.OffsetForm.{OffsetForm}
 use Rattle.c_tree.specs.declared.expression.OffsetForm.TheVariants.{PointerPlusIndex, IndexPlusPointer, PointerMinusIndex}
 use Rattle.source_meaning.specs.declared.home.Home.{Home}
 use Rattle.source_meaning.specs.declared.home.Home.TheVariants.{PlainValue, InObject}
-use Rattle.source_meaning.specs.State.{State, Outcome, Gives, Ended, Paused, Run, on, ◌>>=◌, ◌>>◌, done, stop, pause, choose, read_state, change, skip, tally, Header, Setting}
-use Rattle.c_tree.specs.Kinds.{size_of_kind}
-use Rattle.source_meaning.specs.Actions.{integer, scalar_of, converted_to, converted, moved_back, offset_value, value_or_divide, operate, updated, given, plain_value, set_plain, update_plain, verdict_on, place_or_stop, located, note, read_scalar, write_scalar, move_bytes, load, store, update, load_structure, copy_structure, read_lvalue, write_lvalue, put_bytes, take_key}
+use Rattle.source_meaning.specs.State.{State, stop, choose, change, Header, Setting}
+use Rattle.source_meaning.specs.Actions.{integer, converted_to, converted, offset_value, value_or_divide, operate, updated, given, plain_value, set_plain, update_plain, place_or_stop, located, note, read_scalar, write_scalar, move_bytes, load, store, update, copy_structure, read_lvalue, write_lvalue, put_bytes, take_key}
 use Rattle.source_meaning.specs.Expressions.{callee_by, callee}
-use Rattle.source_meaning.specs.Initializers.{zero_object, zero_home, zero_variable, store_bytes}
-use Rattle.source_meaning.specs.Naming.{Scope, Basis, OnName, OnPointer, OnValue, IsWritable, IsNoStructure, IsScalar}
-use Rattle.source_meaning.specs.Keeping.{LiesInObject, AllLie, IsKept, LivesOn, IsDirect, IsNamed}
+use Rattle.source_meaning.specs.Initializers.{zero_object, zero_home, zero_variable}
+use Rattle.source_meaning.specs.Naming.{Basis, OnName, OnPointer, OnValue}
+use Rattle.source_meaning.specs.Keeping.{LiesInObject, IsDirect}
+use Rattle.source_meaning.proofs.Separating.{ends_same}
 use Rattle.source_meaning.proofs.Holding.{all_lie_more, lives_same, direct_named, direct_allowed, allowed_lies, judged_direct, direct_kept}
-use Rattle.source_meaning.proofs.Sure.{IsGood, AreTagged, stops_same, Leaves, After, Sure, Any, IsStable, sure_on, sure_weak, sure_any, sure_post, sure_frame, sure_beside, sure_done, sure_skip, sure_stop, sure_read, sure_tally, sure_choose, sure_objects, IsTagged, DirectIf, ValueIs, ReachBy, LvalueIs, stable_tag, value_is}
+use Rattle.source_meaning.proofs.Sure.{Context, IsGood, AreTagged, stops_same, After, Sure, Any, sure_on, sure_weak, sure_post, sure_frame, sure_done, sure_skip, sure_stop, sure_read, sure_tally, sure_choose, sure_objects, IsTagged, ValueIs, ReachBy, LvalueIs, stable_tag}
 
 -- values
 
@@ -68,24 +67,24 @@ given_tagged Postfix old new o h g = h
 pub is_untagged : (v : Value) → v.tag ≡ Untagged → (o : Objects) → IsTagged v o
 is_untagged v e o = subst (IsSoundTag o) (sym e) tt
 
-divide_sure : {sc : Scope} {P : Objects → Type 0} (x : Option ℕ) (line : ℕ) → Sure sc P (value_or_divide x line) (λ v o. P o × (v.tag ≡ Untagged))
+divide_sure : {sc : Context} {P : Objects → Type 0} (x : Option ℕ) (line : ℕ) → Sure sc P (value_or_divide x line) (λ v o. P o × (v.tag ≡ Untagged))
 divide_sure None line = sure_stop
 divide_sure (Some w) line = sure_done (λ o p. (p, refl))
 
-operate_sure : {sc : Scope} {P : Objects → Type 0} (op : BinaryOperator) (t : IntType) (x y : Value) (line : ℕ) → Sure sc P (operate op t x y line) (λ v o. P o × (v.tag ≡ Untagged))
+operate_sure : {sc : Context} {P : Objects → Type 0} (op : BinaryOperator) (t : IntType) (x y : Value) (line : ℕ) → Sure sc P (operate op t x y line) (λ v o. P o × (v.tag ≡ Untagged))
 operate_sure op t x y line = divide_sure (binary_value op t x.word y.word) line
 
-pub sure_operate : {sc : Scope} {P : Objects → Type 0} (op : BinaryOperator) (t : IntType) (x y : Value) (line : ℕ) → Sure sc P (operate op t x y line) IsTagged
+pub sure_operate : {sc : Context} {P : Objects → Type 0} (op : BinaryOperator) (t : IntType) (x y : Value) (line : ℕ) → Sure sc P (operate op t x y line) IsTagged
 sure_operate op t x y line = sure_post (λ v o e. is_untagged v e.1 o) (operate_sure op t x y line)
 
 -- what is known of the objects stays known
-pub sure_updated : {sc : Scope} {P : Objects → Type 0} (u : Update) (k : Scalar) (right : Value) (line : ℕ) (old : Value) → Sure sc (λ o. P o × IsTagged old o) (updated u k right line old) (λ v o. (P o × IsTagged old o) × IsTagged v o)
+pub sure_updated : {sc : Context} {P : Objects → Type 0} (u : Update) (k : Scalar) (right : Value) (line : ℕ) (old : Value) → Sure sc (λ o. P o × IsTagged old o) (updated u k right line old) (λ v o. (P o × IsTagged old o) × IsTagged v o)
 sure_updated (Arithmetic op t) k right line old =
     sure_on (operate_sure op t (integer (fit t old.word)) right line) (λ new. sure_done (λ o e. (e.0, converted_to_tagged k new o (is_untagged new e.1 o))))
 sure_updated (Forward size) k right line old = sure_done (λ o h. (h, sound_offset o (right.word * size) old h.1))
 sure_updated (Back size) k right line old = sure_done (λ o h. (h, sound_offset o (2 ^ 64 - (right.word * size) % 2 ^ 64) old h.1))
 
-pub sure_callee : {sc : Scope} {P : Objects → Type 0} (functions : List Header) (type_number : ℕ) (v : Value) (line : ℕ) → Sure sc P (callee functions type_number v line) (λ f. P)
+pub sure_callee : {sc : Context} {P : Objects → Type 0} (functions : List Header) (type_number : ℕ) (v : Value) (line : ℕ) → Sure sc P (callee functions type_number v line) (λ f. P)
 sure_callee {sc = sc} {P = P} functions type_number v line = by v.tag
   where
     by : (t : Tag) → Sure sc P (callee_by functions type_number v.word t line) (λ f. P)
@@ -104,11 +103,11 @@ on_pointer OnValue = false
 abbrev pub IsFound : Value → (size : ℕ) → Place → Objects → Type 0
 IsFound q size p o = IsAllowed o q size p × IsDirect o q size
 
-located_by : {sc : Scope} (P : Objects → Type 0) (s : State) → IsGood sc s → P s.objects → (size : ℕ) (q : Value) (line : ℕ) (v : Verdict) → ((p : Place) → v ≡ Inside p → IsFound q size p s.objects)
+located_by : {sc : Context} (P : Objects → Type 0) (s : State) → IsGood sc s → P s.objects → (size : ℕ) (q : Value) (line : ℕ) (v : Verdict) → ((p : Place) → v ≡ Inside p → IsFound q size p s.objects)
     → After sc s (λ p o. P o × IsFound q size p o) (place_or_stop v line s)
 located_by {sc = sc} P s good h size q line Outside w = stops_same sc s good
 located_by {sc = sc} P s good h size q line Dead w = stops_same sc s good
-located_by P s good h size q line (Inside p) w = (record { good = good; lives = lives_same s.objects; frame = refl }, (h, w p refl))
+located_by P s good h size q line (Inside p) w = (record { good = good; lives = lives_same s.objects; frame = refl; ended = ends_same s.objects }, (h, w p refl))
 
 inside_only : (p q : Place) → Inside p ≡ Inside q → p ≡ q
 inside_only p q e = cc
@@ -117,25 +116,32 @@ direct_by : (o : Objects) (q : Value) (size : ℕ) → IsDirect o q size → (p 
 direct_by o q size d p e =
     (subst (λ x. IsAllowed o q size x) (inside_only (place_in o d.object q.word) p (sym (direct_named o q size d) ∙ e)) (direct_allowed o q size d), d)
 
-pub sure_located : {sc : Scope} {P : Objects → Type 0} (b : Basis) (size : ℕ) (q : Value) (line : ℕ) → Sure sc (λ o. P o × (IsTagged q o × ReachBy b size q o)) (located (on_pointer b) size q line) (λ p o. P o × IsFound q size p o)
+pub sure_located : {sc : Context} {P : Objects → Type 0} (b : Basis) (size : ℕ) (q : Value) (line : ℕ) → Sure sc (λ o. P o × (IsTagged q o × ReachBy b size q o)) (located (on_pointer b) size q line) (λ p o. P o × IsFound q size p o)
 sure_located {P = P} OnPointer size q line = record { by = λ s good h. located_by P s good h.0 size q line (judge size q s.objects) (λ p e. (judge_inside s.objects size q p h.1.0 e, judged_direct s.objects size q p h.1.0 e)) }
 sure_located {P = P} OnName size q line = record { by = λ s good h. located_by P s good h.0 size q line (named q s.objects) (λ p e. direct_by s.objects q size h.1.1.direct p e) }
 sure_located {P = P} OnValue size q line = record { by = λ s good h. located_by P s good h.0 size q line (named q s.objects) (λ p e. direct_by s.objects q size h.1.1 p e) }
 
-pub sure_note : {sc : Scope} {P : Objects → Type 0} (kind : AccessKind) (address size : ℕ) → ((o : Objects) → P o → LiesInObject o (record { address = address; size = size; kind = kind })) → Sure sc P (note kind address size) (λ _. P)
-sure_note kind address size w = record { by = λ s good p. (record {
-  good = record {
-    kept = record { sound = good.kept.sound; lie = all_lie_more s.objects s.accesses _ good.kept.lie (w s.objects p) };
-    low = good.low;
-    statics = good.statics;
-    homes = good.homes;
-    plain = good.plain;
-  };
-  lives = lives_same s.objects;
-  frame = refl;
-}, p) }
+pub sure_note : {sc : Context} {P : Objects → Type 0} (kind : AccessKind) (address size : ℕ) → ((o : Objects) → P o → LiesInObject o (record { address = address; size = size; kind = kind })) → Sure sc P (note kind address size) (λ _. P)
+sure_note kind address size w = record {
+  by = λ s good p. (
+    record {
+      good = record {
+        kept = record { sound = good.kept.sound; lie = all_lie_more s.objects s.accesses _ good.kept.lie (w s.objects p) };
+        low = good.low;
+        statics = good.statics;
+        homes = good.homes;
+        plain = good.plain;
+        separate = good.separate;
+      };
+      lives = lives_same s.objects;
+      frame = refl;
+      ended = ends_same s.objects;
+    },
+    p,
+  );
+}
 
-pub sure_read_scalar : {sc : Scope} (k : Scalar) (q : Value) (p : Place) → Sure sc (λ o. IsAllowed o q (scalar_size k) p) (read_scalar k q.word p) (λ v o. IsAllowed o q (scalar_size k) p × IsTagged v o)
+pub sure_read_scalar : {sc : Context} (k : Scalar) (q : Value) (p : Place) → Sure sc (λ o. IsAllowed o q (scalar_size k) p) (read_scalar k q.word p) (λ v o. IsAllowed o q (scalar_size k) p × IsTagged v o)
 sure_read_scalar k q p =
     sure_on (sure_note Read q.word (scalar_size k) (λ o h. allowed_lies o q (scalar_size k) h _ refl refl)) (λ _. sure_read {f = λ s. read_value k p s.objects} (λ s good h. (h, sound_read k p s.objects good.kept.sound)))
 
@@ -146,13 +152,13 @@ allowed_kept old new q size p k h = record {
   address = let a = (k.at p.object).address in omega (arith, a, h.address);
 }
 
-pub sure_write_scalar : {sc : Scope} (k : Scalar) (q : Value) (p : Place) (v : Value) → Sure sc (λ o. IsAllowed o q (scalar_size k) p × IsTagged v o) (write_scalar k q.word p v) (λ _ o. IsTagged v o)
+pub sure_write_scalar : {sc : Context} (k : Scalar) (q : Value) (p : Place) (v : Value) → Sure sc (λ o. IsAllowed o q (scalar_size k) p × IsTagged v o) (write_scalar k q.word p v) (λ _ o. IsTagged v o)
 sure_write_scalar k q p v =
     sure_on (sure_note Write q.word (scalar_size k) (λ o h. allowed_lies o q (scalar_size k) h.0 _ refl refl)) (λ _.
     sure_objects (write_value k v p) (keeps_value k v p) (continues_value k v p) (λ o h sound. sound_value k v p o sound h.0.place h.1)
     (λ o h. stable_tag v o (write_value k v p o) (record { continues = continues_value k v p o; live = λ n lt held live. ((keeps_value k v p o).at n).live ∙ live }) h.1))
 
-pub sure_move_bytes : {sc : Scope} (size : ℕ) (d s : Place) (q w : Value) → Sure sc (λ o. IsFound q size d o × IsFound w size s o) (move_bytes size d s) (λ _ o. IsDirect o q size)
+pub sure_move_bytes : {sc : Context} (size : ℕ) (d s : Place) (q w : Value) → Sure sc (λ o. IsFound q size d o × IsFound w size s o) (move_bytes size d s) (λ _ o. IsDirect o q size)
 sure_move_bytes size d s q w =
     sure_on (sure_tally size) (λ _.
     sure_objects (move_range size d s) (keeps_moved size d s) (continues_moved size d s) (λ o h sound. sound_moved size d s o sound h.0.0.place h.1.0.place)
@@ -160,14 +166,14 @@ sure_move_bytes size d s q w =
 
 -- scalars
 
-pub sure_load : {sc : Scope} (b : Basis) (k : Scalar) (q : Value) (line : ℕ) → Sure sc (λ o. IsTagged q o × ReachBy b (scalar_size k) q o) (load k (on_pointer b) q line) IsTagged
+pub sure_load : {sc : Context} (b : Basis) (k : Scalar) (q : Value) (line : ℕ) → Sure sc (λ o. IsTagged q o × ReachBy b (scalar_size k) q o) (load k (on_pointer b) q line) IsTagged
 sure_load b k q line =
     sure_on (sure_weak (λ o h. (tt, h)) (sure_located {P = Any} b (scalar_size k) q line)) (λ p. sure_post (λ v o h. h.1) (sure_weak (λ o h. h.1.0) (sure_read_scalar k q p)))
 
-pub sure_store : {sc : Scope} (b : Basis) (k : Scalar) (q : Value) (line : ℕ) (v : Value) → Sure sc (λ o. IsTagged v o × (IsTagged q o × ReachBy b (scalar_size k) q o)) (store k (on_pointer b) q line v) (λ _ o. IsTagged v o)
+pub sure_store : {sc : Context} (b : Basis) (k : Scalar) (q : Value) (line : ℕ) (v : Value) → Sure sc (λ o. IsTagged v o × (IsTagged q o × ReachBy b (scalar_size k) q o)) (store k (on_pointer b) q line v) (λ _ o. IsTagged v o)
 sure_store b k q line v = sure_on (sure_located b (scalar_size k) q line) (λ p. sure_weak (λ o h. (h.1.0, h.0)) (sure_write_scalar k q p v))
 
-pub sure_update : {sc : Scope} (b : Basis) (k : Scalar) (q : Value) (line : ℕ) (u : Update) (right : Value) (at : ℕ) (f : Fixity)
+pub sure_update : {sc : Context} (b : Basis) (k : Scalar) (q : Value) (line : ℕ) (u : Update) (right : Value) (at : ℕ) (f : Fixity)
     → Sure sc (λ o. IsTagged q o × ReachBy b (scalar_size k) q o) (update k (on_pointer b) q line (updated u k right at) f) IsTagged
 sure_update b k q line u right at f =
     sure_on (sure_weak (λ o h. (tt, h)) (sure_located {P = Any} b (scalar_size k) q line)) (λ p.
@@ -178,20 +184,20 @@ sure_update b k q line u right at f =
 
 -- lvalues of any kind
 
-pub sure_read_lvalue : {sc : Scope} (b : Basis) (kind : Kind) (q : Value) (line : ℕ) → Sure sc (LvalueIs b kind q) (read_lvalue kind (on_pointer b) q line) (ValueIs kind)
+pub sure_read_lvalue : {sc : Context} (b : Basis) (kind : Kind) (q : Value) (line : ℕ) → Sure sc (LvalueIs b kind q) (read_lvalue kind (on_pointer b) q line) (ValueIs kind)
 sure_read_lvalue b Void q line = sure_done (λ o h. record { tag = h.tag; structure = tt })
 sure_read_lvalue b (OfScalar k) q line = sure_post (λ v o h. record { tag = h; structure = tt }) (sure_weak (λ o h. (h.tag, h.reach)) (sure_load b k q line))
 sure_read_lvalue b (Structure n) q line =
     sure_on (sure_weak (λ o h. (h.tag, (h.tag, h.reach))) (sure_located {P = IsTagged q} b n q line)) (λ p. sure_done (λ o h. record { tag = h.0; structure = h.1.1 }))
 sure_read_lvalue b (Array n) q line = sure_done (λ o h. record { tag = h.tag; structure = tt })
 
-sure_copy : {sc : Scope} (b : Basis) (n : ℕ) (q : Value) (line : ℕ) (v : Value)
+sure_copy : {sc : Context} (b : Basis) (n : ℕ) (q : Value) (line : ℕ) (v : Value)
     → Sure sc (λ o. (IsTagged v o × IsDirect o v n) × (IsTagged q o × ReachBy b n q o)) (copy_structure n (on_pointer b) q line v) (λ _ o. IsDirect o q n)
 sure_copy b n q line v =
     sure_on (sure_located b n q line) (λ d.
     sure_on (sure_weak (λ o h. (h.1, h.0)) (sure_located {P = λ o. IsFound q n d o} OnValue n v line)) (λ s. sure_move_bytes n d s q v))
 
-pub sure_write_lvalue : {sc : Scope} (b : Basis) (kind : Kind) (q : Value) (line : ℕ) (v : Value) → Sure sc (λ o. LvalueIs b kind q o × ValueIs kind v o) (write_lvalue kind (on_pointer b) q line v) (ValueIs kind)
+pub sure_write_lvalue : {sc : Context} (b : Basis) (kind : Kind) (q : Value) (line : ℕ) (v : Value) → Sure sc (λ o. LvalueIs b kind q o × ValueIs kind v o) (write_lvalue kind (on_pointer b) q line v) (ValueIs kind)
 sure_write_lvalue b Void q line v = sure_done (λ o h. h.1)
 sure_write_lvalue b (OfScalar k) q line v =
     sure_on (sure_weak (λ o h. (h.1.tag, (h.0.tag, h.0.reach))) (sure_store b k q line v)) (λ _. sure_done (λ o h. record { tag = h; structure = tt }))
@@ -209,20 +215,27 @@ tagged_set o v t (w ∷ ws) zero h (suc y) = h (suc y)
 tagged_set o v t (w ∷ ws) (suc x) h zero = h zero
 tagged_set o v t (w ∷ ws) (suc x) h (suc y) = tagged_set o v t ws x (λ z. h (suc z)) y
 
-pub sure_set_plain : {sc : Scope} (x : ℕ) (v : Value) → Sure sc (IsTagged v) (set_plain x v) (λ _ o. IsTagged v o)
-sure_set_plain x v = record { by = λ s good h. (record {
-  good = record {
-    kept = good.kept;
-    low = good.low;
-    statics = good.statics;
-    homes = good.homes;
-    plain = tagged_set s.objects v h s.plain x good.plain;
-  };
-  lives = lives_same s.objects;
-  frame = refl;
-}, h) }
+pub sure_set_plain : {sc : Context} (x : ℕ) (v : Value) → Sure sc (IsTagged v) (set_plain x v) (λ _ o. IsTagged v o)
+sure_set_plain x v = record {
+  by = λ s good h. (
+    record {
+      good = record {
+        kept = good.kept;
+        low = good.low;
+        statics = good.statics;
+        homes = good.homes;
+        plain = tagged_set s.objects v h s.plain x good.plain;
+        separate = good.separate;
+      };
+      lives = lives_same s.objects;
+      frame = refl;
+      ended = ends_same s.objects;
+    },
+    h,
+  );
+}
 
-pub sure_update_plain : {sc : Scope} {P : Objects → Type 0} (x : ℕ) (u : Update) (k : Scalar) (right : Value) (at : ℕ) (f : Fixity) → Sure sc P (update_plain x (updated u k right at) f) IsTagged
+pub sure_update_plain : {sc : Context} {P : Objects → Type 0} (x : ℕ) (u : Update) (k : Scalar) (right : Value) (at : ℕ) (f : Fixity) → Sure sc P (update_plain x (updated u k right at) f) IsTagged
 sure_update_plain x u k right at f =
     sure_on (sure_read {f = plain_value x} (λ s good h. good.plain x)) (λ old.
     sure_on (sure_weak (λ o h. (tt, h)) (sure_updated {P = Any} u k right at old)) (λ new.
@@ -231,34 +244,46 @@ sure_update_plain x u k right at f =
 
 -- output and keys
 
-pub sure_put_bytes : {sc : Scope} {P : Objects → Type 0} (bytes : List ℕ) → Sure sc P (put_bytes bytes) (λ _. P)
-sure_put_bytes bytes = record { by = λ s good p. (record {
-  good = record { kept = good.kept; low = good.low; statics = good.statics; homes = good.homes; plain = good.plain };
-  lives = lives_same s.objects;
-  frame = refl;
-}, p) }
+pub sure_put_bytes : {sc : Context} {P : Objects → Type 0} (bytes : List ℕ) → Sure sc P (put_bytes bytes) (λ _. P)
+sure_put_bytes bytes = record {
+  by = λ s good p. (
+    record {
+      good = record { kept = good.kept; low = good.low; statics = good.statics; homes = good.homes; plain = good.plain; separate = good.separate };
+      lives = lives_same s.objects;
+      frame = refl;
+      ended = ends_same s.objects;
+    },
+    p,
+  );
+}
 
-key_by : {sc : Scope} {P : Objects → Type 0} (line : ℕ) (b : Bool) → Sure sc P (choose b (change (λ s. record s { keys = s.keys + 1 })) (stop (Keys line))) (λ _. P)
-key_by line true = record { by = λ s good p. (record {
-  good = record { kept = good.kept; low = good.low; statics = good.statics; homes = good.homes; plain = good.plain };
-  lives = lives_same s.objects;
-  frame = refl;
-}, p) }
+key_by : {sc : Context} {P : Objects → Type 0} (line : ℕ) (b : Bool) → Sure sc P (choose b (change (λ s. record s { keys = s.keys + 1 })) (stop (Keys line))) (λ _. P)
+key_by line true = record {
+  by = λ s good p. (
+    record {
+      good = record { kept = good.kept; low = good.low; statics = good.statics; homes = good.homes; plain = good.plain; separate = good.separate };
+      lives = lives_same s.objects;
+      frame = refl;
+      ended = ends_same s.objects;
+    },
+    p,
+  );
+}
 key_by line false = sure_stop
 
-pub sure_take_key : {sc : Scope} {P : Objects → Type 0} (g : Setting) (line : ℕ) → Sure sc P (take_key g line) (λ _. P)
+pub sure_take_key : {sc : Context} {P : Objects → Type 0} (g : Setting) (line : ℕ) → Sure sc P (take_key g line) (λ _. P)
 sure_take_key g line = record { by = λ s good p. (key_by line (nat_lt s.keys g.sizes.budgets.keys)).by s good p }
 
 -- initializers
 
-sure_zero_object : {sc : Scope} (o : ℕ) → Sure sc Any (zero_object o) (λ _. Any)
+sure_zero_object : {sc : Context} (o : ℕ) → Sure sc Any (zero_object o) (λ _. Any)
 sure_zero_object o =
     sure_on (sure_read {Q = λ _. Any} {f = λ s. (object_at s.objects o).size} (λ s good h. tt)) (λ size.
     sure_on (sure_tally size) (λ _. sure_objects (with_zeroed o) (keeps_zeroed o) (continues_zeroed o) (λ objects h sound. sound_zeroed o objects sound) (λ objects h. tt)))
 
-sure_zero_home : {sc : Scope} (home : Home) → Sure sc Any (zero_home home) (λ _. Any)
+sure_zero_home : {sc : Context} (home : Home) → Sure sc Any (zero_home home) (λ _. Any)
 sure_zero_home PlainValue = sure_skip
 sure_zero_home (InObject o) = sure_zero_object o
 
-pub sure_zero_variable : {sc : Scope} (x : ℕ) → Sure sc Any (zero_variable x) (λ _. Any)
+pub sure_zero_variable : {sc : Context} (x : ℕ) → Sure sc Any (zero_variable x) (λ _. Any)
 sure_zero_variable x = sure_on (sure_read {Q = λ _. Any} {f = λ s. get_or s.frame x PlainValue} (λ s good h. tt)) sure_zero_home

@@ -1,14 +1,10 @@
 -- Calls keep objects sound: those of the callee are new, and die at its return, and the caller's names are good again.
-use Rattle.std.proofs.Common.{◌≡◌, ℕ, zero, suc, ◌+◌, ◌≤◌, ◌<◌, List, [], ◌∷◌, ◌++◌, map, Bool, true, false, Option, Some, None, length, get_or, if◌then◌else◌, refl, sym, ap, ◌∙◌, subst, arith, nat_le, nat_lt}
+use Rattle.std.proofs.Common.{◌≡◌, ℕ, zero, suc, ◌+◌, ◌≤◌, List, [], ◌∷◌, ◌++◌, map, Bool, true, false, Some, length, if◌then◌else◌, refl, sym, ap, ◌∙◌, subst, arith, nat_le, nat_lt}
 use Rattle.std.proofs.lemmas.Bool.{leb-true}
-use Rattle.addr_map.specs.Places.{AreMapped, region_end}
-use Rattle.addr_map.specs.declared.region.Region.TheVariants.{Stack as StackRegion}
-use Rattle.addr_map.proofs.Order.{ends_low}
-use Rattle.sb_base.specs.declared.ending.Ending.{Ending}
 use Rattle.sb_base.specs.declared.ending.Ending.TheVariants.{Stack, Keys}
 use Rattle.obj_memory.specs.declared.value.Value.{Value}
 use Rattle.obj_memory.specs.Objects.{Objects, pointer_to}
-use Rattle.obj_memory.specs.Sound.{IsSound, IsSoundTag, Continues}
+use Rattle.obj_memory.specs.Sound.{IsSound, Continues, AreDisjoint}
 use Rattle.obj_memory.proofs.Soundness.{sound_tag_continues}
 use Rattle.obj_memory.proofs.Judging.{sound_pointer}
 use Rattle.c_tree.specs.declared.expression.Kind.{Kind}
@@ -19,21 +15,22 @@ use Rattle.source_meaning.specs.declared.home.Home.{Home}
 use Rattle.source_meaning.specs.declared.home.Home.TheVariants.{PlainValue, InObject}
 use Rattle.source_meaning.specs.declared.completion.Completion.{Completion}
 use Rattle.source_meaning.specs.declared.completion.Completion.TheVariants.{Normal, Broken, Continued, Returned}
-use Rattle.source_meaning.specs.State.{State, Outcome, Gives, Ended, Paused, Run, on, ◌>>=◌, ◌>>◌, done, stop, pause, choose, read_state, change, skip, tally, Header, Setting, Env}
+use Rattle.source_meaning.specs.State.{State, Outcome, Gives, Ended, Paused, on, ◌>>=◌, ◌>>◌, done, stop, choose, change, skip, Header, Setting, Env}
 use Rattle.source_meaning.specs.Places.{stack_end}
-use Rattle.source_meaning.specs.Actions.{integer, begin_turn, home_value, take_key}
+use Rattle.source_meaning.specs.Actions.{integer, home_value, take_key}
 use Rattle.source_meaning.specs.Expressions.{counted}
 use Rattle.source_meaning.specs.Statements.{in_order, execute}
-use Rattle.source_meaning.specs.Calls.{header_of, variables_of, pass_or_stop, test_stack, test_keys, call_tests, objects_end, has_objects, first_of, rest_of, parameter_values, plain_values, plain_count, parameter_count, place_variables, write_parameter, write_parameters, lay_out, set_up, caller, without_homes, back_to, returned_by, enter_begun, enter, enter_found, function_at, calls}
-use Rattle.source_meaning.specs.Naming.{Scope, static_kind, OnName, IsNoStructure, TakeNoStructure, FunctionNames, FunctionsName, scope_of, AllName}
-use Rattle.source_meaning.specs.Keeping.{AllLie, IsKept, LivesOn}
+use Rattle.source_meaning.specs.Calls.{header_of, variables_of, pass_or_stop, test_stack, test_keys, call_tests, objects_end, has_objects, first_of, rest_of, parameter_values, plain_values, plain_count, parameter_count, place_variables, write_parameter, write_parameters, lay_out, set_up, caller, without_homes, back_to, returned_by, enter_begun, enter}
+use Rattle.source_meaning.specs.Naming.{static_kind, OnName, IsNoStructure, TakeNoStructure, FunctionNames, scope_of}
+use Rattle.source_meaning.specs.Keeping.{AllLie, IsKept, LivesOn, AreSeparate}
 use Rattle.source_meaning.proofs.ActionsAct.{continues_without}
+use Rattle.source_meaning.proofs.Separating.{separate_without, separate_back}
 use Rattle.source_meaning.proofs.Holding.{all_lie_on, lives_same, lives_then, IsHeld, held_on, held_named}
-use Rattle.source_meaning.proofs.Sure.{IsGood, IsGoodBy, AreTagged, AreLow, Leaves, Stops, stops_then, After, Sure, Any, IsStable, sure_on, sure_weak, sure_any, sure_post, sure_frame, sure_beside, sure_done, sure_skip, sure_stop, sure_pause, sure_read, sure_counted, IsTagged, LvalueIs, stable_tagged, value_is}
+use Rattle.source_meaning.proofs.Sure.{Context, IsGood, AreTagged, AreLow, Leaves, Stops, stops_then, After, Sure, Any, IsStable, sure_on, sure_weak, sure_any, sure_post, sure_frame, sure_done, sure_skip, sure_read, sure_counted, IsTagged, LvalueIs, stable_tagged, value_is}
 use Rattle.source_meaning.proofs.SureActions.{sure_write_lvalue}
 use Rattle.source_meaning.proofs.SureTree.{Calling}
 use Rattle.source_meaning.proofs.SureFlow.{CompletionIs, sure_begin_turn, body_sure}
-use Rattle.source_meaning.proofs.Laying.{PlacedHome, Placed, placed_homes, placed_on, AllFrom, placed_from, without_sound, without_low, without_lives, HasPlaced, PlacesBy, places}
+use Rattle.source_meaning.proofs.Laying.{PlacedHome, Placed, placed_homes, placed_on, AllFrom, placed_from, without_sound, without_low, without_lives, EndsBut, ends_but_then, ends_without, PlacesBy, places}
 
 -- plain values at entry
 
@@ -67,7 +64,7 @@ both_tagged (u ∷ us) vs o h g (suc x) = both_tagged us vs o (λ y. h (suc y)) 
 -- the tests
 
 abbrev Untouched : State → State → Type 0
-Untouched s s' = (s'.objects ≡ s.objects) × (s'.accesses ≡ s.accesses) × (s'.frame ≡ s.frame)
+Untouched s s' = (s'.objects ≡ s.objects) × (s'.accesses ≡ s.accesses) × (s'.stacked ≡ s.stacked)
 
 abbrev TestsBy : (bound : ℕ) → List Variable → State → Outcome (Unit {0}) → Type 0
 TestsBy bound vs s (Gives a s') = Untouched s s' × (objects_end vs s'.stacked ≤ bound)
@@ -107,7 +104,7 @@ held_lvalue k kind o h = record { tag = sound_pointer k o h.made; reach = held_n
 stable_rest : (n : ℕ) (rest ps : List Variable) (homes : List Home) (vs : List Value) → IsStable (λ o. Placed n (ps ++ rest) homes o × AreTagged vs o)
 stable_rest n rest ps homes vs old new l p = (placed_on n (ps ++ rest) homes old new l p.0, stable_tagged vs old new l p.1)
 
-module _ {sc : Scope} (n : ℕ) (rest : List Variable) where
+module _ {sc : Context} (n : ℕ) (rest : List Variable) where
   parameter_sure : (b : Bool) (kind : Kind) → IsNoStructure kind → (home : Home) (line : ℕ) (v : Value) → Sure sc (λ o. PlacedHome n b kind home o × IsTagged v o) (write_parameter kind home line v) (λ _. Any)
   parameter_sure b kind none PlainValue line v = sure_done (λ o p. tt)
   parameter_sure b kind none (InObject k) line v =
@@ -124,40 +121,43 @@ module _ {sc : Scope} (n : ℕ) (rest : List Variable) where
 
 -- what is set up
 
-pub record IsSetUp (sc : Scope) (old : Objects) (s' : State) : Type 0 where
+pub record IsSetUp (sc : Context) (old : Objects) (s' : State) : Type 0 where
   pub good : IsGood sc s'
   pub lives : LivesOn old s'.objects
   pub new : AllFrom (length old) s'.frame
+  pub ends : EndsBut old s'.objects s'.frame
 
-abbrev SetsUpBy : Scope → Objects → Outcome (Unit {0}) → Type 0
+abbrev SetsUpBy : Context → Objects → Outcome (Unit {0}) → Type 0
 SetsUpBy sc old (Gives a s') = IsSetUp sc old s'
 SetsUpBy sc old (Ended e s') = Stops old s'
 SetsUpBy sc old (Paused s') = Stops old s'
 
-module _ (statics : List StaticObject) (f : Function) (names : FunctionNames statics f) (g : Setting) (mapped : AreMapped g.sizes) where
-  abbrev inner : Scope
-  inner = scope_of statics f
+module _ (statics : List StaticObject) (f : Function) (names : FunctionNames statics f) (g : Setting) (boundary : ℕ) (most : stack_end g ≤ boundary) (low : boundary ≤ 1610612736) where
+  abbrev inner : Context
+  inner = record { scope = scope_of statics f; boundary = boundary }
 
   abbrev head : Header
   head = header_of f
 
-  written : (s s1 : State) → LivesOn s.objects s1.objects → AllFrom (length s.objects) s1.frame → (o : Outcome (Unit {0})) → After inner s1 (λ _. Any) o → SetsUpBy inner s.objects o
-  written s s1 l new (Gives a s2) h = record {
+  written : (s s1 : State) → LivesOn s.objects s1.objects → AllFrom (length s.objects) s1.frame → EndsBut s.objects s1.objects s1.frame → (o : Outcome (Unit {0})) → After inner s1 (λ _. Any) o → SetsUpBy inner s.objects o
+  written s s1 l new ends (Gives a s2) h = record {
     good = h.0.good;
     lives = lives_then s.objects s1.objects s2.objects l h.0.lives;
     new = subst (λ x. AllFrom (length s.objects) x) (sym h.0.frame) new;
+    ends = subst (λ x. EndsBut s.objects s2.objects x) (sym h.0.frame) (ends_but_then s.objects s1.objects s2.objects s1.frame ends h.0.lives.continues h.0.ended);
   }
-  written s s1 l new (Ended e s2) h = stops_then s.objects s1.objects s2 l h
-  written s s1 l new (Paused s2) h = stops_then s.objects s1.objects s2 l h
+  written s s1 l new ends (Ended e s2) h = stops_then s.objects s1.objects s2 l h
+  written s s1 l new ends (Paused s2) h = stops_then s.objects s1.objects s2 l h
 
-  module _ (outer : Scope) (same : outer.statics ≡ statics) (vs : List Value) (line : ℕ) where
+  module _ (outer : Context) (same : outer.scope.statics ≡ statics) (level : outer.boundary ≡ boundary) (vs : List Value) (line : ℕ) where
     laid : (s : State) → IsGood outer s → AreTagged vs s.objects → (s1 : State) → s1.objects ≡ s.objects → s1.accesses ≡ s.accesses → s1.plain ≡ plain_values head vs
-        → (o : Outcome (List Home)) → PlacesBy s1 (length s1.objects) (variables_of head) o
+        → (o : Outcome (List Home)) → PlacesBy boundary s1 (length s1.objects) (variables_of head) o
         → SetsUpBy inner s.objects (on o (λ homes. change (λ s. record s { frame = homes }) >> write_parameters head.parameters homes line vs))
     laid s good tagged s1 e a w (Gives homes s2) h =
         let lives = subst (λ o. LivesOn o s2.objects) e h.0.lives in
         let s3 : State = record s2 { frame = homes } in
         let placed = subst (λ n. Placed n (variables_of head) homes s2.objects) (ap length e) h.0.placed in
+        let ends = subst (λ x. EndsBut x s2.objects homes) e h.0.ends in
         let entry : IsGood inner s3 = record {
           kept = record { sound = h.0.sound; lie = subst (λ x. AllLie s2.objects x) (sym (h.1 ∙ a)) (all_lie_on s.objects s2.objects lives.continues s.accesses good.kept.lie) };
           low = h.0.low;
@@ -165,8 +165,9 @@ module _ (statics : List StaticObject) (f : Function) (names : FunctionNames sta
           homes = placed_homes (length s.objects) (variables_of head) homes s2.objects placed;
           plain = subst (λ x. AreTagged x s2.objects) (sym (h.2 ∙ w)) (both_tagged (parameter_values head.parameters vs) (map (λ _. integer 0) head.variables) s2.objects
               (parameters_tagged head.parameters vs s2.objects (stable_tagged vs s.objects s2.objects lives tagged)) (zeros_tagged head.variables s2.objects));
+          separate = h.0.separate;
         } in
-        written s s3 lives (placed_from (length s.objects) (variables_of head) homes s2.objects placed) (write_parameters head.parameters homes line vs s3)
+        written s s3 lives (placed_from (length s.objects) (variables_of head) homes s2.objects placed) ends (write_parameters head.parameters homes line vs s3)
         ((parameters_sure (length s.objects) head.variables head.parameters names.parameters homes line vs).by s3 entry (placed, stable_tagged vs s.objects s2.objects lives tagged))
     laid s good tagged s1 e a w (Ended x s2) h = absurd h
     laid s good tagged s1 e a w (Paused s2) h = absurd h
@@ -175,11 +176,14 @@ module _ (statics : List StaticObject) (f : Function) (names : FunctionNames sta
     tested s good tagged (Gives a s1) h =
         let s2 : State = record s1 { charged = s1.charged + head.room; work = s1.work + (parameter_count head.parameters + plain_count head.variables); plain = plain_values head vs } in
         laid s good tagged s2 h.0.0 h.0.1 refl (place_variables (variables_of head) s2)
-        (places (stack_end g) (let low = ends_low g.sizes mapped StackRegion in omega arith) (variables_of head) s2 (subst IsSound (sym h.0.0) good.kept.sound) (subst AreLow (sym h.0.0) good.low) h.1)
+        (places boundary low (variables_of head) s2 (subst IsSound (sym h.0.0) good.kept.sound) (subst AreLow (sym h.0.0) good.low)
+        (subst (λ o. AreSeparate boundary s1.stacked o) (sym h.0.0) (subst (λ t. AreSeparate boundary t s.objects) (sym h.0.2) (subst (λ b. AreSeparate b s.stacked s.objects) level good.separate)))
+        (omega (arith, h.1, most)))
     tested s good tagged (Ended x s1) h = record {
       kept = subst (λ o. IsKept o s1.accesses) (sym h.0) (subst (λ a. IsKept s.objects a) (sym h.1) good.kept);
       low = subst AreLow (sym h.0) good.low;
       lives = subst (LivesOn s.objects) (sym h.0) (lives_same s.objects);
+      apart = subst AreDisjoint (sym h.0) good.separate.apart;
     }
     tested s good tagged (Paused s1) h = absurd h
 
@@ -196,29 +200,35 @@ module _ (statics : List StaticObject) (f : Function) (names : FunctionNames sta
     returned_tagged Continued old new c h = tt
     returned_tagged (Returned v) old new c h = sound_tag_continues old new c v.tag h
 
-    back_good : (s : State) → IsGood outer s → (s2 : State) → IsKept s2.objects s2.accesses → AreLow s2.objects → LivesOn s.objects s2.objects → AllFrom (length s.objects) s2.frame → Leaves outer s (back_to (caller s) s2)
-    back_good s good s2 kept low lives new =
+    back_good : (s : State) → IsGood outer s → (s2 : State) → IsGood inner s2 → LivesOn s.objects s2.objects → AllFrom (length s.objects) s2.frame → EndsBut s.objects s2.objects s2.frame → Leaves outer s (back_to (caller s) s2)
+    back_good s good s2 after lives new ends =
         let c = continues_without s2.frame s2.objects in
         let l = without_lives s.objects s2.objects s2.frame lives new c in
+        let ended = ends_without s.objects s2.objects s2.frame c ends in
+        let separate = subst (λ b. AreSeparate b s2.stacked s2.objects) (sym level) after.separate in
         record {
           good = record {
-            kept = record { sound = without_sound s2.frame s2.objects kept.sound; lie = all_lie_on s2.objects (without_homes s2.frame s2.objects) c s2.accesses kept.lie };
-            low = without_low s2.frame s2.objects low;
+            kept = record { sound = without_sound s2.frame s2.objects after.kept.sound; lie = all_lie_on s2.objects (without_homes s2.frame s2.objects) c s2.accesses after.kept.lie };
+            low = without_low s2.frame s2.objects after.low;
             statics = λ n kind e. held_on s.objects (without_homes s2.frame s2.objects) l n kind (good.statics n kind e);
             homes = λ x kind e.
                 let home = good.homes x kind e in
                 record { object = home.object; home = home.home; held = held_on s.objects (without_homes s2.frame s2.objects) l home.object kind home.held };
             plain = stable_tagged s.plain s.objects (without_homes s2.frame s2.objects) l good.plain;
+            separate = separate_back outer.boundary s.stacked s2.stacked s.objects (without_homes s2.frame s2.objects) good.separate (separate_without outer.boundary s2.stacked s2.frame s2.objects separate) l.continues ended;
           };
           lives = l;
           frame = refl;
+          ended = ended;
         }
 
     returns_by : (s : State) → IsGood outer s → (s1 : State) → IsSetUp inner s.objects s1 → (o : Outcome Completion) → After inner s1 CompletionIs o
         → After outer s IsTagged (on o (λ completion. change (back_to (caller s)) >> done (returned_by completion)))
-    returns_by s good s1 up (Gives completion s2) h =
-        (back_good s good s2 h.0.good.kept h.0.good.low (lives_then s.objects s1.objects s2.objects up.lives h.0.lives) (subst (λ x. AllFrom (length s.objects) x) (sym h.0.frame) up.new),
-        returned_tagged completion s2.objects (without_homes s2.frame s2.objects) (continues_without s2.frame s2.objects) h.1)
+    returns_by s good s1 up (Gives completion s2) h = (
+      back_good s good s2 h.0.good (lives_then s.objects s1.objects s2.objects up.lives h.0.lives) (subst (λ x. AllFrom (length s.objects) x) (sym h.0.frame) up.new)
+          (subst (λ x. EndsBut s.objects s2.objects x) (sym h.0.frame) (ends_but_then s.objects s1.objects s2.objects s1.frame up.ends h.0.lives.continues h.0.ended)),
+      returned_tagged completion s2.objects (without_homes s2.frame s2.objects) (continues_without s2.frame s2.objects) h.1,
+    )
     returns_by s good s1 up (Ended e s2) h = stops_then s.objects s1.objects s2 up.lives h
     returns_by s good s1 up (Paused s2) h = stops_then s.objects s1.objects s2 up.lives h
 
@@ -230,10 +240,13 @@ module _ (statics : List StaticObject) (f : Function) (names : FunctionNames sta
       runs_by s good (Ended e s1) h = h
       runs_by s good (Paused s1) h = h
 
-module _ (statics : List StaticObject) (f : Function) (names : FunctionNames statics f) (env : Env) (mapped : AreMapped env.setting.sizes) (c : Calling (scope_of statics f) env) (outer : Scope) (same : outer.statics ≡ statics) where
+module _ (statics : List StaticObject) (f : Function) (names : FunctionNames statics f) (env : Env) (boundary : ℕ) (most : stack_end env.setting ≤ boundary) (low : boundary ≤ 1610612736) (c : Calling (record { scope = scope_of statics f; boundary = boundary }) env)
+    (outer : Context) (same : outer.scope.statics ≡ statics) (level : outer.boundary ≡ boundary) where
   pub begun_sure : (vs : List Value) (line : ℕ) → Sure outer (AreTagged vs) (enter_begun env f vs line) IsTagged
-  begun_sure vs line = record { by = λ s good tagged.
-    runs_by statics f names env.setting mapped outer same vs line env c s good (set_up env.setting (header_of f) vs line s) (set_up_by statics f names env.setting mapped outer same vs line s good tagged) }
+  begun_sure vs line = record {
+    by = λ s good tagged.
+        runs_by statics f names env.setting boundary most low outer same level vs line env c s good (set_up env.setting (header_of f) vs line s) (set_up_by statics f names env.setting boundary most low outer same level vs line s good tagged);
+  }
 
   pub enter_sure : (vs : List Value) (line : ℕ) → Sure outer (AreTagged vs) (enter env f vs line) IsTagged
   enter_sure vs line = sure_on (sure_begin_turn env.limit) (λ _. begun_sure vs line)

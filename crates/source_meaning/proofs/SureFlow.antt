@@ -1,7 +1,6 @@
 -- Statements keep objects sound.
-use Rattle.std.proofs.Common.{◌≡◌, ℕ, zero, suc, ◌+◌, List, [], ◌∷◌, ◌++◌, map, Bool, true, false, Option, Some, None, refl, ap, sym, ◌∙◌, subst, nat_lt}
-use Rattle.std.specs.Prelude.{not, length}
-use Rattle.obj_memory.specs.declared.value.Value.{Value}
+use Rattle.std.proofs.Common.{ℕ, zero, suc, ◌+◌, List, [], ◌∷◌, map, Bool, true, false, Option, Some, None, refl, nat_lt}
+use Rattle.std.specs.Prelude.{length}
 use Rattle.obj_memory.specs.Objects.{Objects}
 use Rattle.c_tree.specs.declared.expression.Expression.{Expression}
 use Rattle.c_tree.specs.declared.statement.First.{First}
@@ -10,13 +9,13 @@ use Rattle.c_tree.specs.declared.statement.CaseLabel.{CaseLabel}
 use Rattle.c_tree.specs.declared.statement.Statement.{Statement, Expression as ExpressionStatement, Empty, Declaration, Block', If', While', DoWhile', For', Switch', Break, Continue, Return, Row_of-Statement, end_of-Statement, more_of-Statement, Held-Statement-If-2, None', Some', Row_of-SwitchItem, end_of-SwitchItem, more_of-SwitchItem}
 use Rattle.source_meaning.specs.declared.completion.Completion.{Completion}
 use Rattle.source_meaning.specs.declared.completion.Completion.TheVariants.{Normal, Broken, Continued, Returned}
-use Rattle.source_meaning.specs.State.{State, Run, ◌>>=◌, ◌>>◌, done, stop, pause, choose, read_state, change, skip, tally, Setting, Env}
-use Rattle.source_meaning.specs.Actions.{begin_turn, integer, is_zero}
-use Rattle.source_meaning.specs.Expressions.{counted, evaluate}
+use Rattle.source_meaning.specs.State.{Run, done, pause, choose, change, Env}
+use Rattle.source_meaning.specs.Actions.{begin_turn}
 use Rattle.source_meaning.specs.Statements.{next_after, in_order, holds, perform, perform_first, after_body, turns, turns_before, LabeledRun, run_labeled, is_case_of, is_default, labels_from, items_at, items_from, labels_of, compared, or_default, run_items, after_switch, switch, execute, otherwise, each_of, items_of}
-use Rattle.source_meaning.specs.Naming.{Scope, Names, NamesIfAny, FirstNames, InitializationsName, StatementNames, OtherwiseNames, StatementsName, ItemsName, AllName}
+use Rattle.source_meaning.specs.Naming.{NamesIfAny, FirstNames, StatementNames, OtherwiseNames, StatementsName, ItemsName, AllName}
+use Rattle.source_meaning.proofs.Separating.{ends_same}
 use Rattle.source_meaning.proofs.Holding.{lives_same}
-use Rattle.source_meaning.proofs.Sure.{IsGood, Sure, Any, sure_on, sure_weak, sure_any, sure_post, sure_done, sure_skip, sure_pause, sure_tally, sure_counted, sure_choose, IsTagged, ValueIs}
+use Rattle.source_meaning.proofs.Sure.{Context, Sure, Any, sure_on, sure_any, sure_done, sure_skip, sure_pause, sure_tally, sure_counted, sure_choose, IsTagged}
 use Rattle.source_meaning.proofs.SureTree.{Calling, evaluate_sure, initialize_all_sure}
 
 -- the value of a return has a sound tag
@@ -27,15 +26,15 @@ CompletionIs Continued o = Unit {0}
 CompletionIs (Returned v) o = IsTagged v o
 
 -- the items of a switch
-abbrev AllSure : Scope → List LabeledRun → Type 0
+abbrev AllSure : Context → List LabeledRun → Type 0
 AllSure sc [] = Unit {0}
 AllSure sc (i ∷ is) = Sure sc Any i.run CompletionIs × AllSure sc is
 
-abbrev SureIfAny : Scope → Option (List LabeledRun) → Type 0
+abbrev SureIfAny : Context → Option (List LabeledRun) → Type 0
 SureIfAny sc None = Unit {0}
 SureIfAny sc (Some is) = AllSure sc is
 
-module _ {sc : Scope} where
+module _ {sc : Context} where
   next_sure : (completion : Completion) {rest : Run Completion} → Sure sc Any rest CompletionIs → Sure sc (CompletionIs completion) (next_after completion rest) CompletionIs
   next_sure Normal h = sure_any h
   next_sure Broken h = sure_done (λ o c. c)
@@ -57,7 +56,7 @@ module _ {sc : Scope} where
   -- turns
 
   turn_by : {P : Objects → Type 0} (b : Bool) → Sure sc P (choose b (change (λ s. record s { turns = s.turns + 1 })) pause) (λ _. P)
-  turn_by true = record { by = λ s good p. (record { good = good; lives = lives_same s.objects; frame = refl }, p) }
+  turn_by true = record { by = λ s good p. (record { good = good; lives = lives_same s.objects; frame = refl; ended = ends_same s.objects }, p) }
   turn_by false = sure_pause
 
   pub sure_begin_turn : {P : Objects → Type 0} (limit : ℕ) → Sure sc P (begin_turn limit) (λ _. P)
@@ -76,7 +75,7 @@ module _ {sc : Scope} where
     turns_before_sure (suc n) =
         sure_on (sure_begin_turn limit) (λ _. sure_on b (λ x. after_sure x (sure_on c (λ again. sure_choose again (turns_before_sure n) (sure_done (λ o h. tt))))))
 
-module _ (sc : Scope) where
+module _ (sc : Context) where
   found_sure : (o : Option (List CaseLabel)) (i : LabeledRun) (is : List LabeledRun) (p : Option (List LabeledRun)) → Sure sc Any i.run CompletionIs → AllSure sc is → SureIfAny sc p → SureIfAny sc (items_at o i is p)
   found_sure None i is p h all q = q
   found_sure (Some ls) i is p h all q = (h, all)
@@ -102,22 +101,22 @@ module _ (sc : Scope) where
       sure_on (sure_tally (compared word (labels_of all))) (λ _.
       sure_on (run_sure (or_default (items_from (is_case_of word) all) all) (default_sure (items_from (is_case_of word) all) (from_sure (is_case_of word) all h) all h)) switched_sure)
 
-module _ {sc : Scope} {env : Env} (c : Calling sc env) where
-  holds_sure : (e : Option Expression) → NamesIfAny sc e → Sure sc Any (holds env e) (λ _. Any)
+module _ {sc : Context} {env : Env} (c : Calling sc env) where
+  holds_sure : (e : Option Expression) → NamesIfAny sc.scope e → Sure sc Any (holds env e) (λ _. Any)
   holds_sure None h = sure_done (λ o p. tt)
   holds_sure (Some e) h = sure_on (evaluate_sure c e h) (λ v. sure_done (λ o p. tt))
 
-  perform_sure : (e : Option Expression) → NamesIfAny sc e → Sure sc Any (perform env e) (λ _. Any)
+  perform_sure : (e : Option Expression) → NamesIfAny sc.scope e → Sure sc Any (perform env e) (λ _. Any)
   perform_sure None h = sure_skip
   perform_sure (Some e) h = sure_on (evaluate_sure c e h) (λ v. sure_any sure_skip)
 
-  first_sure : (f : First) → FirstNames sc f → Sure sc Any (perform_first env f) (λ _. Any)
+  first_sure : (f : First) → FirstNames sc.scope f → Sure sc Any (perform_first env f) (λ _. Any)
   first_sure Nothing h = sure_skip
   first_sure (FirstExpression e) h = perform_sure (Some e) h
   first_sure (FirstDeclaration is) h = initialize_all_sure c is.items h
 
   mutual
-    pub execute_sure : (s : Statement) → StatementNames sc s → Sure sc Any (execute env s) CompletionIs
+    pub execute_sure : (s : Statement) → StatementNames sc.scope s → Sure sc Any (execute env s) CompletionIs
     execute_sure (ExpressionStatement e) h = sure_counted (sure_on (evaluate_sure c e h) (λ v. sure_done (λ o p. tt)))
     execute_sure Empty h = sure_counted (sure_done (λ o p. tt))
     execute_sure (Declaration is) h = sure_on (initialize_all_sure c is.items h) (λ _. sure_done (λ o p. tt))
@@ -133,18 +132,18 @@ module _ {sc : Scope} {env : Env} (c : Calling sc env) where
     execute_sure (Return None) h = sure_counted (sure_done (λ o p. tt))
     execute_sure (Return (Some e)) h = sure_counted (sure_on (evaluate_sure c e h) (λ v. sure_done {a = Returned v} (λ o x. x.tag)))
 
-    otherwise_sure : (other : Held-Statement-If-2) → OtherwiseNames sc other → Sure sc Any (otherwise env other) CompletionIs
+    otherwise_sure : (other : Held-Statement-If-2) → OtherwiseNames sc.scope other → Sure sc Any (otherwise env other) CompletionIs
     otherwise_sure None' h = sure_done (λ o p. tt)
     otherwise_sure (Some' _ body) h = execute_sure body h
 
-    row_sure : {n : _} (row : Row_of-Statement n) → StatementsName sc row → Sure sc Any (in_order (each_of env row)) CompletionIs
+    row_sure : {n : _} (row : Row_of-Statement n) → StatementsName sc.scope row → Sure sc Any (in_order (each_of env row)) CompletionIs
     row_sure end_of-Statement h = sure_done (λ o p. tt)
     row_sure (more_of-Statement s rest) h = sure_on (execute_sure s h.0) (λ x. next_sure x (row_sure rest h.1))
 
-    switch_items_sure : {n : _} (row : Row_of-SwitchItem n) → ItemsName sc row → AllSure sc (items_of env row)
+    switch_items_sure : {n : _} (row : Row_of-SwitchItem n) → ItemsName sc.scope row → AllSure sc (items_of env row)
     switch_items_sure end_of-SwitchItem h = tt
     switch_items_sure (more_of-SwitchItem labels s rest) h = (execute_sure s h.0, switch_items_sure rest h.1)
 
-  pub body_sure : (body : List Statement) → AllName sc body → Sure sc Any (in_order (map (execute env) body)) CompletionIs
+  pub body_sure : (body : List Statement) → AllName sc.scope body → Sure sc Any (in_order (map (execute env) body)) CompletionIs
   body_sure [] h = sure_done (λ o p. tt)
   body_sure (s ∷ ss) h = sure_on (execute_sure s h.0) (λ x. next_sure x (body_sure ss h.1))

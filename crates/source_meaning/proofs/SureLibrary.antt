@@ -1,66 +1,119 @@
 -- The routines of the library keep objects sound.
-use Rattle.std.proofs.Common.{◌≡◌, ℕ, zero, suc, ◌+◌, ◌-◌, ◌*◌, ◌%◌, ◌≤◌, ◌<◌, List, [], ◌∷◌, ◌++◌, Bool, true, false, ◌&&◌, Option, Some, None, length, if◌then◌else◌, refl, sym, ap, ◌∙◌, subst, arith, nat_lt}
-use Rattle.addr_map.specs.Places.{AreMapped, region_start, region_end, region_last}
+use Rattle.std.proofs.Common.{◌≡◌, ℕ, ◌+◌, ◌*◌, ◌%◌, ◌≤◌, ◌<◌, List, [], ◌∷◌, Bool, true, false, ◌&&◌, Option, Some, None, length, min, if◌then◌else◌, refl, sym, ap, ◌∙◌, arith, nat_lt, inl, inr}
+use Rattle.std.proofs.lemmas.Bool.{ltb-true, ltb-false}
+use Rattle.addr_map.specs.Places.{AreMapped}
 use Rattle.addr_map.specs.declared.region.Region.TheVariants.{Heap as HeapRegion}
 use Rattle.addr_map.proofs.Order.{ends_low, starts_whole}
 use Rattle.sb_base.specs.declared.ending.Ending.TheVariants.{BadFree}
+use Rattle.obj_memory.specs.declared.int_type.IntType.TheVariants.{Char}
+use Rattle.obj_memory.specs.declared.value.Place.{Place}
 use Rattle.obj_memory.specs.declared.value.Tag.{Tag}
 use Rattle.obj_memory.specs.declared.value.Tag.TheVariants.{Untagged, OfFunction, OfObject}
 use Rattle.obj_memory.specs.declared.value.Value.{Value}
 use Rattle.obj_memory.specs.declared.object.Storage.{Storage}
 use Rattle.obj_memory.specs.declared.object.Storage.TheVariants.{Allocated}
 use Rattle.obj_memory.specs.Objects.{ObjectState, Objects, object_at, with_new, with_dead, pointer_to}
-use Rattle.obj_memory.specs.Heap.{is_allocated, block_room, rounded_up, block_count, least_place}
-use Rattle.obj_memory.specs.Sound.{IsSound, IsBlockPlace}
-use Rattle.obj_memory.proofs.Soundness.{sound_new, sound_dead}
+use Rattle.obj_memory.specs.Integers.{fit}
+use Rattle.obj_memory.specs.Access.{move_range}
+use Rattle.obj_memory.specs.Heap.{is_allocated, block_room, block_count, least_place}
+use Rattle.obj_memory.specs.Sound.{IsPlace, IsBlockPlace, DoNotMeet, IsClearOf}
+use Rattle.obj_memory.proofs.Soundness.{sound_new, sound_dead, sound_moved}
+use Rattle.obj_memory.proofs.Keeping.{keeps_moved}
+use Rattle.obj_memory.proofs.Continuing.{continues_moved}
+use Rattle.obj_memory.proofs.Making.{new_last}
 use Rattle.obj_memory.proofs.Placing.{least_place_found}
 use Rattle.obj_memory.proofs.Judging.{sound_pointer}
 use Rattle.c_tree.specs.declared.expression.Routine.{Routine}
 use Rattle.c_tree.specs.declared.expression.Routine.TheVariants.{Malloc, Calloc, Free, Realloc, Memcpy, Memmove, Memset, Memcmp, Strlen, Strcmp, Strcpy, Strncpy, Strcat, Strchr, Putchar, Getchar, Puts, Exit, Abort}
-use Rattle.source_meaning.specs.State.{State, Outcome, Gives, Ended, Paused, Run, on, ◌>>=◌, ◌>>◌, done, stop, choose, read_state, change, skip, tally, Setting}
+use Rattle.source_meaning.specs.State.{State, Run, ◌>>=◌, ◌>>◌, done, choose, read_state, change, Setting}
 use Rattle.source_meaning.specs.Places.{heap_first, heap_last}
 use Rattle.source_meaning.specs.Actions.{integer, is_zero, make_object}
-use Rattle.source_meaning.specs.Heap.{tally_blocks, block_place, make_block, allocate, bad_free, is_block_start, freed_object, freed_by, freed, release, free}
-use Rattle.source_meaning.specs.Library.{putchar, next_byte, getchar, argument, routine}
-use Rattle.source_meaning.specs.Printing.{print_formatted}
-use Rattle.source_meaning.specs.Naming.{Scope}
-use Rattle.source_meaning.specs.Keeping.{LivesOn}
-use Rattle.source_meaning.proofs.Holding.{lives_same, lives_new, lives_dead_block}
-use Rattle.source_meaning.proofs.Sure.{IsGood, AreTagged, Leaves, After, Sure, Any, sure_on, sure_weak, sure_any, sure_post, sure_done, sure_skip, sure_stop, sure_read, sure_tally, sure_choose, good_on, IsTagged}
-use Rattle.source_meaning.proofs.SureActions.{sure_put_bytes, sure_take_key}
-use Rattle.source_meaning.proofs.Laying.{length-new, low_new, low_dead, rounded_whole}
+use Rattle.source_meaning.specs.Heap.{tally_blocks, block_place, make_block, allocate, bad_free, is_block_start, freed_object, freed_by, freed, release, free, calloc, move_block, replace_block, realloc}
+use Rattle.source_meaning.specs.Library.{putchar, next_byte, argument, routine}
+use Rattle.source_meaning.specs.Strings.{reach}
+use Rattle.source_meaning.specs.Naming.{OnValue}
+use Rattle.source_meaning.specs.Keeping.{IsDirect}
+use Rattle.source_meaning.proofs.Holding.{beyond, length-new, length-dead, lives_same, lives_kept, lives_new, lives_dead_block}
+use Rattle.source_meaning.proofs.Sure.{Context, IsGood, AreTagged, Leaves, After, Sure, Any, IsStable, sure_frame, sure_beside, sure_objects, stable_tag, stable_tagged, sure_on, sure_weak, sure_any, sure_post, sure_done, sure_stop, sure_read, sure_tally, sure_choose, good_on, IsTagged}
+use Rattle.source_meaning.proofs.SureActions.{sure_located, sure_put_bytes, sure_take_key}
+use Rattle.source_meaning.proofs.SureBytes.{sure_memmove, sure_memset, sure_memcmp, sure_strlen, sure_compare_within, sure_strcpy, sure_strncpy, sure_strcat, sure_seek_within, sure_puts}
+use Rattle.source_meaning.proofs.Laying.{fresh_live, fresh_size, low_new, low_dead}
+use Rattle.source_meaning.proofs.Separating.{separate_dead, separate_block, ends_same, ends_as_many, ends_block}
 
 -- objects that are made and that die
 
-abbrev pub IsAt : (address size : ℕ) → Objects → Type 0
-IsAt address size o = (address % 16 ≡ 0) × (address + size ≤ 1610612736)
+-- where a block may be placed: behind the boundary, and clear of other blocks
+pub record IsAt (boundary address size : ℕ) (o : Objects) : Type 0 where
+  pub aligned : address % 16 ≡ 0
+  pub low : address + size ≤ 1610612736
+  pub behind : boundary ≤ address
+  pub clear : (n : ℕ) → (object_at o n).is_live ≡ true → is_allocated (object_at o n).storage ≡ true → DoNotMeet address size (object_at o n).address (object_at o n).size
 
-with_object : {sc : Scope} (storage : Storage) (address size : ℕ) (s : State) → IsGood sc s → IsAt address size s.objects → Leaves sc s (record s { objects = with_new storage address size s.objects })
-with_object {sc = sc} storage address size s good p =
-    let lives = lives_new storage address size s.objects in
+with_block : {sc : Context} (address size : ℕ) (s : State) → IsGood sc s → IsAt sc.boundary address size s.objects → Leaves sc s (record s { objects = with_new Allocated address size s.objects })
+with_block {sc = sc} address size s good p =
+    let lives = lives_new Allocated address size s.objects in
     record {
-      good = good_on sc s (with_new storage address size s.objects) good lives (sound_new storage address size s.objects good.kept.sound p.0) (low_new storage address size s.objects p.1 good.low);
+      good = good_on sc s (with_new Allocated address size s.objects) good lives (sound_new Allocated address size s.objects good.kept.sound p.aligned) (low_new Allocated address size s.objects p.low good.low)
+          (separate_block sc.boundary s.stacked address size s.objects good.separate p.behind p.clear);
       lives = lives;
       frame = refl;
+      ended = ends_block address size s.objects;
     }
 
-made : {sc : Scope} (storage : Storage) (address size : ℕ)
-    → Sure sc (IsAt address size) (do number ← read_state (λ s. length s.objects); change (λ s. record s { objects = with_new storage address size s.objects }); done number) (λ n o. n < length o)
-made storage address size = record { by = λ s good p. (with_object storage address size s good p, omega (arith, length-new storage address size s.objects)) }
+-- a new object of some size
+pub record IsFresh (count n : ℕ) (objects : Objects) : Type 0 where
+  pub made : n < length objects
+  pub live : (object_at objects n).is_live ≡ true
+  pub size : (object_at objects n).size ≡ count
 
-pub sure_make_object : {sc : Scope} (storage : Storage) (address size : ℕ) → Sure sc (IsAt address size) (make_object storage address size) (λ n o. n < length o)
-sure_make_object storage address size = sure_on (sure_tally (1 + size)) (λ _. made storage address size)
+fresh_new : (storage : Storage) (address size : ℕ) (objects : Objects) → IsFresh size (length objects) (with_new storage address size objects)
+fresh_new storage address size objects =
+    let last = new_last storage address size objects in
+    record {
+      made = omega (arith, length-new storage address size objects);
+      live = ap (λ (o : ObjectState). o.is_live) last ∙ fresh_live storage address size;
+      size = ap (λ (o : ObjectState). o.size) last ∙ fresh_size storage address size;
+    }
 
-pub sure_dead : {sc : Scope} (n : ℕ) → Sure sc (λ o. is_allocated (object_at o n).storage ≡ true) (change (λ s. record s { objects = with_dead n s.objects })) (λ _. Any)
-sure_dead {sc = sc} n = record { by = λ s good p.
-  let lives = lives_dead_block n s.objects p in
-  (record {
-    good = good_on sc s (with_dead n s.objects) good lives (sound_dead n s.objects good.kept.sound) (low_dead n s.objects good.low);
-    lives = lives;
-    frame = refl;
-  }, tt) }
+-- a null pointer, or one to some bytes of a live object
+abbrev pub IsPointerTo : (size : ℕ) → Value → Objects → Type 0
+IsPointerTo size v o = IsTagged v o × (is_zero v ≡ false → IsDirect o v size)
 
-sure_tally_blocks : {sc : Scope} {P : Objects → Type 0} → Sure sc P tally_blocks (λ _. P)
+fresh_direct : (size n : ℕ) (objects : Objects) → IsFresh size n objects → IsDirect objects (pointer_to n objects) size
+unfolding pointer_to
+fresh_direct size n objects h = record {
+  object = n;
+  bounds = _;
+  tag = refl;
+  made = h.made;
+  live = h.live;
+  start = omega arith;
+  end = omega (arith, h.size);
+}
+
+made : {sc : Context} (address size : ℕ)
+    → Sure sc (IsAt sc.boundary address size) (do number ← read_state (λ s. length s.objects); change (λ s. record s { objects = with_new Allocated address size s.objects }); done number) (IsFresh size)
+made address size = record { by = λ s good p. (with_block address size s good p, fresh_new Allocated address size s.objects) }
+
+pub sure_make_object : {sc : Context} (address size : ℕ) → Sure sc (IsAt sc.boundary address size) (make_object Allocated address size) (IsFresh size)
+sure_make_object address size = sure_on (sure_tally (1 + size)) (λ _. made address size)
+
+pub sure_dead : {sc : Context} (n : ℕ) → Sure sc (λ o. is_allocated (object_at o n).storage ≡ true) (change (λ s. record s { objects = with_dead n s.objects })) (λ _. Any)
+sure_dead {sc = sc} n = record {
+  by = λ s good p.
+      let lives = lives_dead_block n s.objects p in (
+        record {
+          good = good_on sc s (with_dead n s.objects) good lives (sound_dead n s.objects good.kept.sound) (low_dead n s.objects good.low)
+              (separate_dead sc.boundary s.stacked n s.objects good.separate);
+          lives = lives;
+          frame = refl;
+          ended = ends_as_many s.objects (with_dead n s.objects) (length-dead n s.objects);
+        },
+        tt,
+      );
+}
+
+sure_tally_blocks : {sc : Context} {P : Objects → Type 0} → Sure sc P tally_blocks (λ _. P)
 sure_tally_blocks {P = P} = sure_on (sure_read {Q = λ _. P} {f = λ s. block_count s.objects} (λ s good p. p)) (λ count. sure_tally (1 + count))
 
 -- allocation
@@ -68,99 +121,171 @@ sure_tally_blocks {P = P} = sure_on (sure_read {Q = λ _. P} {f = λ s. block_co
 size_fits : (size : ℕ) → size ≤ block_room size
 size_fits size = omega arith
 
+both_hold : (a b : Bool) → a ≡ true → b ≡ true → (a && b) ≡ true
+both_hold true true e f = refl
+both_hold true false e f = f
+both_hold false b e f = e
+
 module _ (g : Setting) (mapped : AreMapped g.sizes) where
-  placed_at : (size : ℕ) (o : Objects) (address : ℕ) → IsBlockPlace (heap_first g) (heap_last g) size o address → IsAt address size o
-  placed_at size o address h =
+  clear_apart : (address size : ℕ) (o : ObjectState) → IsClearOf address (block_room size) o → DoNotMeet address size o.address o.size
+  clear_apart address size o (inl before) = inl (let fits = size_fits size in omega (arith, before, fits))
+  clear_apart address size o (inr behind) = inr (let fits = size_fits o.size in omega (arith, behind, fits))
+
+  placed_at : (boundary : ℕ) → boundary ≤ heap_first g → (size : ℕ) (o : Objects) (address : ℕ) → IsBlockPlace (heap_first g) (heap_last g) size o address → IsAt boundary address size o
+  placed_at boundary least size o address h =
       let first = starts_whole g.sizes mapped HeapRegion in
       let low = ends_low g.sizes mapped HeapRegion in
       let fits = size_fits size in
-      (omega (arith, h.is_step, first), omega (arith, h.in_heap, low, fits))
+      record {
+        aligned = omega (arith, h.is_step, first);
+        low = omega (arith, h.in_heap, low, fits);
+        behind = omega (arith, h.is_step, least);
+        clear = λ n live block. clear_apart address size (object_at o n) (h.clear n (both_hold (is_allocated (object_at o n).storage) (object_at o n).is_live block live));
+      }
 
   place_of : (b : Bool) (p : Option ℕ) (address : ℕ) → (if b then p else None) ≡ Some address → p ≡ Some address
   place_of true p address e = e
   place_of false p address e = absurd (cc)
 
-  sure_make_block : {sc : Scope} (size line : ℕ) (place : Option ℕ) → Sure sc (λ o. block_place g size o ≡ place) (make_block g size line place) IsTagged
-  sure_make_block size line None = sure_done (λ o p. tt)
-  sure_make_block size line (Some address) =
-      sure_on (sure_weak {P = IsAt address size}
-      (λ o e. placed_at size o address (least_place_found (heap_first g) (heap_last g) size o address (place_of (nat_lt (block_count o) g.sizes.budgets.blocks) (least_place (heap_first g) (heap_last g) size o) address e)))
+  sure_make_block : {sc : Context} → sc.boundary ≤ heap_first g → (size line : ℕ) (place : Option ℕ) → Sure sc (λ o. block_place g size o ≡ place) (make_block g size line place) (IsPointerTo size)
+  sure_make_block least size line None = sure_done {a = integer 0} (λ o p. (tt, λ (e : true ≡ false). absurd cc))
+  sure_make_block {sc = sc} least size line (Some address) =
+      sure_on (sure_weak {P = IsAt sc.boundary address size}
+      (λ o e. placed_at sc.boundary least size o address (least_place_found (heap_first g) (heap_last g) size o address (place_of (nat_lt (block_count o) g.sizes.budgets.blocks) (least_place (heap_first g) (heap_last g) size o) address e)))
       (sure_take_key g line)) (λ _.
-      sure_on (sure_make_object Allocated address size) (λ n.
-      sure_read {f = λ s. pointer_to n s.objects} (λ s good p. sound_pointer n s.objects p)))
+      sure_on (sure_make_object address size) (λ n.
+      sure_read {f = λ s. pointer_to n s.objects} (λ s good p. (sound_pointer n s.objects p.made, λ _. fresh_direct size n s.objects p))))
 
-  pub sure_allocate : {sc : Scope} (size line : ℕ) → Sure sc Any (allocate g size line) IsTagged
-  sure_allocate size line =
+  pub sure_allocate : {sc : Context} → sc.boundary ≤ heap_first g → (size line : ℕ) → Sure sc Any (allocate g size line) (IsPointerTo size)
+  sure_allocate least size line =
       sure_on sure_tally_blocks (λ _.
-      sure_on (sure_read {Q = λ place o. block_place g size o ≡ place} {f = λ s. block_place g size s.objects} (λ s good p. refl)) (λ place. sure_make_block size line place))
+      sure_on (sure_read {Q = λ place o. block_place g size o ≡ place} {f = λ s. block_place g size s.objects} (λ s good p. refl)) (λ place. sure_make_block least size line place))
 
 -- release
 
-sure_bad_free : {A : Type 0} {sc : Scope} {P : Objects → Type 0} {Q : A → Objects → Type 0} (line : ℕ) → Sure sc P (bad_free {A = A} line) Q
+sure_bad_free : {A : Type 0} {sc : Context} {P : Objects → Type 0} {Q : A → Objects → Type 0} (line : ℕ) → Sure sc P (bad_free {A = A} line) Q
 sure_bad_free {P = P} line = sure_on (sure_tally_blocks {P = P}) (λ _. sure_stop {e = BadFree line})
 
 -- the block that is freed
-abbrev IsBlock : (n : ℕ) → Objects → Type 0
+abbrev pub IsBlock : (n : ℕ) → Objects → Type 0
 IsBlock n o = is_allocated (object_at o n).storage ≡ true
 
 both_true : (a b : Bool) → (a && b) ≡ true → a ≡ true
 both_true true b e = refl
 both_true false b e = e
 
-start_by : {sc : Scope} (n : ℕ) (o : ObjectState) (line : ℕ) (b : Bool) → (b ≡ true → is_allocated o.storage ≡ true) → Sure sc (λ objects. object_at objects n ≡ o) (choose b (done n) (bad_free line)) IsBlock
+start_by : {sc : Context} (n : ℕ) (o : ObjectState) (line : ℕ) (b : Bool) → (b ≡ true → is_allocated o.storage ≡ true) → Sure sc (λ objects. object_at objects n ≡ o) (choose b (done n) (bad_free line)) IsBlock
 start_by n o line true w = sure_done (λ objects e. ap (λ x. is_allocated x.storage) e ∙ w refl)
 start_by n o line false w = sure_bad_free line
 
-sure_freed_object : {sc : Scope} (n : ℕ) (o : ObjectState) (address line : ℕ) → Sure sc (λ objects. object_at objects n ≡ o) (freed_object n o address line) IsBlock
+sure_freed_object : {sc : Context} (n : ℕ) (o : ObjectState) (address line : ℕ) → Sure sc (λ objects. object_at objects n ≡ o) (freed_object n o address line) IsBlock
 sure_freed_object n o address line = sure_choose o.is_live (start_by n o line (is_block_start o address) (both_true (is_allocated o.storage) _)) sure_stop
 
-sure_freed_by : {sc : Scope} (t : Tag) (address line : ℕ) → Sure sc Any (freed_by t address line) IsBlock
+sure_freed_by : {sc : Context} (t : Tag) (address line : ℕ) → Sure sc Any (freed_by t address line) IsBlock
 sure_freed_by Untagged address line = sure_bad_free line
 sure_freed_by (OfFunction f) address line = sure_bad_free line
 sure_freed_by (OfObject n b) address line =
     sure_on (sure_read {Q = λ o objects. object_at objects n ≡ o} {f = λ s. object_at s.objects n} (λ s good p. refl)) (λ o. sure_freed_object n o address line)
 
-pub sure_freed : {sc : Scope} (p : Value) (line : ℕ) → Sure sc Any (freed p line) IsBlock
+pub sure_freed : {sc : Context} (p : Value) (line : ℕ) → Sure sc Any (freed p line) IsBlock
 sure_freed p line = sure_freed_by p.tag p.word line
 
-pub sure_release : {sc : Scope} (n : ℕ) → Sure sc (IsBlock n) (release n) (λ _. Any)
+pub sure_release : {sc : Context} (n : ℕ) → Sure sc (IsBlock n) (release n) (λ _. Any)
 sure_release n = sure_on (sure_tally_blocks {P = IsBlock n}) (λ _. sure_dead n)
 
-sure_free : {sc : Scope} (p : Value) (line : ℕ) → Sure sc Any (free p line) IsTagged
+sure_free : {sc : Context} (p : Value) (line : ℕ) → Sure sc Any (free p line) IsTagged
 sure_free p line = sure_choose (is_zero p) (sure_done (λ o h. tt)) (sure_on (sure_freed p line) (λ n. sure_on (sure_release n) (λ _. sure_done {a = integer 0} (λ o h. tt))))
+
+-- a block in place of another
+
+pub sure_choose_by : {A : Type 0} {sc : Context} {P : Objects → Type 0} {Q : A → Objects → Type 0} (b : Bool) {r q : Run A}
+    → Sure sc P r Q → (b ≡ false → Sure sc P q Q) → Sure sc P (choose b r q) Q
+sure_choose_by true h g = h
+sure_choose_by false h g = g refl
+
+block_made : (n : ℕ) (o : Objects) → IsBlock n o → n < length o
+block_made n o h = by (nat_lt n (length o)) refl
+  where
+    by : (b : Bool) → nat_lt n (length o) ≡ b → n < length o
+    by true e = ltb-true n (length o) e
+    by false e = absurd (let none : is_allocated (object_at o n).storage ≡ false = ap (λ (x : ObjectState). is_allocated x.storage) (beyond o n (ltb-false n (length o) e)) in let both : true ≡ false = sym h ∙ none in cc)
+
+stable_block : (n : ℕ) → IsStable (IsBlock n)
+stable_block n old new l h = ap is_allocated (l.continues.storage n (block_made n old h)) ∙ h
+
+stable_place : (p : Place) (size : ℕ) → IsStable (λ o. IsPlace o p size)
+stable_place p size old new l h = record {
+  made = omega (arith, h.made, l.continues.longer);
+  room = let z = l.continues.size p.object h.made in omega (arith, z, h.room);
+}
+
+-- the start of a block
+abbrev start_of : ℕ → Place
+start_of n = record { object = n; offset = 0 }
+
+block_place_less : (n size : ℕ) (o : Objects) → IsBlock n o → IsPlace o (start_of n) (min size (object_at o n).size)
+block_place_less n size o h = record { made = block_made n o h; room = omega arith }
+
+place_less : (p : Place) (n m : ℕ) (o : Objects) → m ≤ n → IsPlace o p n → IsPlace o p m
+place_less p n m o le h = record { made = h.made; room = omega (arith, le, h.room) }
+
+sure_move_block : {sc : Context} (n : ℕ) (new : Value) (size line : ℕ)
+    → Sure sc (λ o. IsBlock n o × (IsTagged new o × IsDirect o new size)) (move_block n new size line) (λ _ o. IsBlock n o × IsTagged new o)
+sure_move_block n new size line =
+    sure_on (sure_weak (λ o x. ((x.0, x.1.0), x.1)) (sure_located {P = λ o. IsBlock n o × IsTagged new o} OnValue size new line)) (λ place.
+    sure_on (sure_read {Q = λ lesser o. (IsPlace o place lesser × IsPlace o (start_of n) lesser) × (IsBlock n o × IsTagged new o)} {f = λ s. min size (object_at s.objects n).size}
+    (λ s good x. ((place_less place size (min size (object_at s.objects n).size) s.objects (omega arith) x.1.0.place, block_place_less n size s.objects x.0.0), x.0))) (λ lesser.
+    sure_on (sure_tally lesser) (λ _.
+    sure_objects (move_range lesser place (start_of n)) (keeps_moved lesser place (start_of n)) (continues_moved lesser place (start_of n)) (λ o x sound. sound_moved lesser place (start_of n) o sound x.0.0 x.0.1)
+    (λ o x. let l = lives_kept o (move_range lesser place (start_of n) o) (continues_moved lesser place (start_of n) o) (keeps_moved lesser place (start_of n) o) in
+    (stable_block n o (move_range lesser place (start_of n) o) l x.1.0, stable_tag new o (move_range lesser place (start_of n) o) l x.1.1)))))
 
 -- input and output
 
-sure_putchar : {sc : Scope} {P : Objects → Type 0} (c : Value) → Sure sc P (putchar c) IsTagged
+sure_putchar : {sc : Context} {P : Objects → Type 0} (c : Value) → Sure sc P (putchar c) IsTagged
 sure_putchar {P = P} c = sure_on (sure_put_bytes {P = P} (c.word % 256 ∷ [])) (λ _. sure_done {a = integer (c.word % 256)} (λ o h. tt))
 
-byte_by : (sc : Scope) (bytes : List ℕ) (s : State) → IsGood sc s → After sc s IsTagged (next_byte bytes s)
-byte_by sc [] s good = (record { good = good; lives = lives_same s.objects; frame = refl }, tt)
-byte_by sc (b ∷ bs) s good = (record { good = good; lives = lives_same s.objects; frame = refl }, tt)
+byte_by : (sc : Context) (bytes : List ℕ) (s : State) → IsGood sc s → After sc s IsTagged (next_byte bytes s)
+byte_by sc [] s good = (record { good = good; lives = lives_same s.objects; frame = refl; ended = ends_same s.objects }, tt)
+byte_by sc (b ∷ bs) s good = (record { good = good; lives = lives_same s.objects; frame = refl; ended = ends_same s.objects }, tt)
+
+module _ (g : Setting) (mapped : AreMapped g.sizes) {sc : Context} (least : sc.boundary ≤ heap_first g) where
+  sure_malloc : (size line : ℕ) → Sure sc Any (allocate g size line) IsTagged
+  sure_malloc size line = sure_post (λ v o x. x.0) (sure_allocate g mapped least size line)
+
+  sure_calloc : (count size : Value) (line : ℕ) → Sure sc Any (calloc g count size line) IsTagged
+  sure_calloc count size line = sure_choose _ (sure_malloc (count.word * size.word) line) (sure_done {a = integer 0} (λ o h. tt))
+
+  sure_replace_block : (n size line : ℕ) → Sure sc (IsBlock n) (replace_block g n size line) IsTagged
+  sure_replace_block n size line =
+      sure_on (sure_beside (stable_block n) (sure_allocate g mapped least size line)) (λ new.
+      sure_choose_by (is_zero new) (sure_done {a = new} (λ o x. x.1.0)) (λ e.
+      sure_on (sure_weak (λ o x. (x.0, (x.1.0, x.1.1 e))) (sure_move_block n new size line)) (λ _.
+      sure_on (sure_weak (λ o x. (x.1, x.0)) (sure_frame (stable_tag new) (sure_release n))) (λ _. sure_done {a = new} (λ o x. x.0)))))
+
+  sure_realloc : (old size : Value) (line : ℕ) → Sure sc Any (realloc g old size line) IsTagged
+  sure_realloc old size line = sure_choose (is_zero old) (sure_malloc size.word line) (sure_on (sure_freed old line) (λ n. sure_replace_block n size.word line))
 
 -- every routine
 
-module _ (g : Setting) (mapped : AreMapped g.sizes) {sc : Scope} where
+module _ (g : Setting) (mapped : AreMapped g.sizes) {sc : Context} (least : sc.boundary ≤ heap_first g) where
   pub sure_routine : (r : Routine) (vs : List Value) (line : ℕ) → Sure sc (AreTagged vs) (routine g r vs line) IsTagged
-  sure_routine Malloc vs line = sure_any (sure_allocate g mapped (argument 0 vs).word line)
-  sure_routine Calloc vs line = sure_done (λ o h. tt)
+  sure_routine Malloc vs line = sure_any (sure_malloc g mapped least (argument 0 vs).word line)
+  sure_routine Calloc vs line = sure_any (sure_calloc g mapped least (argument 0 vs) (argument 1 vs) line)
   sure_routine Free vs line = sure_any (sure_free (argument 0 vs) line)
-  sure_routine Realloc vs line = sure_done (λ o h. tt)
-  sure_routine Memcpy vs line = sure_done (λ o h. tt)
-  sure_routine Memmove vs line = sure_done (λ o h. tt)
-  sure_routine Memset vs line = sure_done (λ o h. tt)
-  sure_routine Memcmp vs line = sure_done (λ o h. tt)
-  sure_routine Strlen vs line = sure_done (λ o h. tt)
-  sure_routine Strcmp vs line = sure_done (λ o h. tt)
-  sure_routine Strcpy vs line = sure_done (λ o h. tt)
-  sure_routine Strncpy vs line = sure_done (λ o h. tt)
-  sure_routine Strcat vs line = sure_done (λ o h. tt)
-  sure_routine Strchr vs line = sure_done (λ o h. tt)
+  sure_routine Realloc vs line = sure_any (sure_realloc g mapped least (argument 0 vs) (argument 1 vs) line)
+  sure_routine Memcpy vs line = sure_memmove (stable_tagged vs) (argument 0 vs) (argument 1 vs) (argument 2 vs) line (λ o h. h 0) (λ o h. h 1)
+  sure_routine Memmove vs line = sure_memmove (stable_tagged vs) (argument 0 vs) (argument 1 vs) (argument 2 vs) line (λ o h. h 0) (λ o h. h 1)
+  sure_routine Memset vs line = sure_memset (stable_tagged vs) (argument 0 vs) (argument 1 vs) (argument 2 vs) line (λ o h. h 0)
+  sure_routine Memcmp vs line = sure_memcmp (argument 0 vs) (argument 1 vs) (argument 2 vs) line (λ o h. h 0) (λ o h. h 1)
+  sure_routine Strlen vs line = sure_strlen (argument 0 vs) line (λ o h. h 0)
+  sure_routine Strcmp vs line = sure_compare_within (reach (argument 0 vs)) (argument 0 vs) (argument 1 vs) line (λ o h. h 0) (λ o h. h 1)
+  sure_routine Strcpy vs line = sure_strcpy (stable_tagged vs) (argument 0 vs) (argument 1 vs) line (λ o h. h 0) (λ o h. h 1)
+  sure_routine Strncpy vs line = sure_strncpy (stable_tagged vs) (argument 0 vs) (argument 1 vs) (argument 2 vs) line (λ o h. h 0) (λ o h. h 1)
+  sure_routine Strcat vs line = sure_strcat (stable_tagged vs) (argument 0 vs) (argument 1 vs) line (λ o h. h 0) (λ o h. h 1)
+  sure_routine Strchr vs line = sure_seek_within (reach (argument 0 vs)) (fit Char (argument 1 vs).word) (argument 0 vs) line (λ o h. h 0)
   sure_routine Putchar vs line = sure_putchar (argument 0 vs)
   sure_routine Getchar vs line = record { by = λ s good p. byte_by sc s.input s good }
-  sure_routine Puts vs line = sure_done (λ o h. tt)
+  sure_routine Puts vs line = sure_puts (argument 0 vs) line (λ o h. h 0)
   sure_routine Exit vs line = sure_stop
   sure_routine Abort vs line = sure_stop
-
-  pub sure_print : (format : List ℕ) (vs : List Value) (line : ℕ) → Sure sc (AreTagged vs) (print_formatted format vs line) IsTagged
-  sure_print format vs line = sure_done (λ o h. tt)

@@ -1,17 +1,12 @@
 -- Expressions, lvalues and initializers keep objects sound, and an lvalue that rests on a name is of bytes of a live object.
-use Rattle.std.proofs.Common.{◌≡◌, ℕ, zero, suc, ◌+◌, ◌≤◌, List, [], ◌∷◌, Bool, true, false, Option, Some, None, length, get_or, refl, sym, ap, ◌∙◌, subst, arith}
-use Rattle.std.specs.Prelude.{not}
+use Rattle.std.proofs.Common.{◌≡◌, ℕ, zero, suc, ◌+◌, ◌≤◌, List, [], ◌∷◌, Some, length, refl, sym, subst, arith}
 use Rattle.obj_memory.specs.declared.int_type.IntType.TheVariants.{Char}
-use Rattle.obj_memory.specs.declared.value.Tag.TheVariants.{Untagged}
 use Rattle.obj_memory.specs.declared.value.Value.{Value}
-use Rattle.obj_memory.specs.declared.value.Scalar.{Scalar}
-use Rattle.obj_memory.specs.declared.value.Scalar.TheVariants.{Integer, Pointer}
-use Rattle.obj_memory.specs.Objects.{Objects, object_at, pointer_to}
+use Rattle.obj_memory.specs.declared.value.Scalar.TheVariants.{Integer}
+use Rattle.obj_memory.specs.Objects.{Objects, pointer_to}
 use Rattle.obj_memory.specs.Integers.{size_of}
 use Rattle.obj_memory.specs.Judgement.{narrowed}
-use Rattle.obj_memory.specs.Operators.{one_if, unary_value}
 use Rattle.obj_memory.specs.Access.{scalar_size}
-use Rattle.obj_memory.specs.Sound.{IsSoundTag}
 use Rattle.obj_memory.proofs.Judging.{sound_pointer, sound_narrowed}
 use Rattle.c_tree.specs.declared.expression.Fixity.{Fixity}
 use Rattle.c_tree.specs.declared.expression.Fixity.TheVariants.{Prefix}
@@ -28,22 +23,21 @@ use Rattle.c_tree.specs.declared.statement.Content.TheVariants.{Value as ValueOf
 use Rattle.c_tree.specs.declared.statement.Initialization.{Initialization}
 use Rattle.c_tree.specs.declared.statement.Initialization.TheVariants.{Plain as PlainInitialization, Object}
 use Rattle.source_meaning.specs.declared.home.Home.{Home}
-use Rattle.source_meaning.specs.declared.home.Home.TheVariants.{PlainValue, InObject}
-use Rattle.source_meaning.specs.State.{State, Run, ◌>>=◌, ◌>>◌, done, stop, choose, read_state, skip, tally, Setting, Env}
+use Rattle.source_meaning.specs.State.{State, Env}
 use Rattle.c_tree.specs.Kinds.{size_of_kind}
-use Rattle.source_meaning.specs.Actions.{integer, is_zero, scalar_of, integer_type, converted, offset_value, difference_value, updated, plain_value, home_value, home_pointer, each_value, read_lvalue, write_lvalue, update}
-use Rattle.source_meaning.specs.Expressions.{counted, nodes_of, function_pointer, is_judged, value, place, values, evaluate}
+use Rattle.source_meaning.specs.Actions.{integer, is_zero, scalar_of, integer_type, converted, offset_value, updated, plain_value, home_value, home_pointer, each_value, read_lvalue, write_lvalue, update}
+use Rattle.source_meaning.specs.Expressions.{counted, nodes_of, is_judged, value, place, values, evaluate}
 use Rattle.source_meaning.specs.Initializers.{store_bytes, store_content, store_parts, initialize, initialize_all}
 use Rattle.source_meaning.specs.Library.{routine}
 use Rattle.source_meaning.specs.Printing.{print_formatted}
-use Rattle.source_meaning.specs.Naming.{Scope, Basis, OnName, OnPointer, OnValue, basis_of, IsWritable, IsNoStructure, IsScalar, IsStructureWith, ValueNames, LvalueNames, RowNames, Names, ContentNames, PartsName, InitializationNames, InitializationsName, static_kind, object_kind}
+use Rattle.source_meaning.specs.Naming.{Basis, OnName, OnPointer, OnValue, basis_of, IsScalar, IsStructureWith, ValueNames, LvalueNames, RowNames, Names, ContentNames, PartsName, InitializationNames, InitializationsName, static_kind, object_kind}
 use Rattle.source_meaning.specs.Keeping.{IsDirect, IsNamed}
 use Rattle.source_meaning.proofs.Holding.{direct_less, direct_narrowed, named_less, named_narrowed, named_on, held_named}
-use Rattle.source_meaning.proofs.Sure.{IsGood, AreTagged, Sure, Any, IsStable, sure_on, sure_weak, sure_if_good, sure_any, sure_post, sure_frame, sure_beside, sure_done, sure_value, sure_skip, sure_read, sure_tally, sure_counted_as, sure_counted, sure_choose, IsTagged, DirectIf, ValueIs, ReachBy, LvalueIs, stable_tag, stable_tagged, stable_lvalue, value_is, plainly, of_kind}
+use Rattle.source_meaning.proofs.Sure.{Context, IsGood, AreTagged, Sure, Any, IsStable, sure_on, sure_weak, sure_if_good, sure_any, sure_post, sure_frame, sure_beside, sure_done, sure_value, sure_skip, sure_read, sure_tally, sure_counted_as, sure_counted, sure_choose, IsTagged, DirectIf, ValueIs, ReachBy, LvalueIs, stable_tag, stable_lvalue, plainly, of_kind}
 use Rattle.source_meaning.proofs.SureActions.{converted_tagged, offset_tagged, sure_operate, sure_callee, on_pointer, sure_store, sure_read_lvalue, sure_write_lvalue, sure_update, sure_set_plain, sure_update_plain, sure_zero_variable}
 
 -- what the calls of an environment do
-pub record Calling (sc : Scope) (env : Env) : Type 0 where
+pub record Calling (sc : Context) (env : Env) : Type 0 where
   pub call : (f : ℕ) (vs : List Value) (line : ℕ) → Sure sc (AreTagged vs) (env.call f vs line) IsTagged
   pub library : (r : Routine) (vs : List Value) (line : ℕ) → Sure sc (AreTagged vs) (routine env.setting r vs line) IsTagged
   pub print : (format : List ℕ) (vs : List Value) (line : ℕ) → Sure sc (AreTagged vs) (print_formatted format vs line) IsTagged
@@ -60,10 +54,10 @@ judged_is (Arrow' _ ak al a offset size) = refl
 judged_is (MemberOfValue' _ ak al a offset size) = refl
 judged_is (ParenthesizedLvalue' _ pk pl p) = judged_is p
 
-read_sure : {sc : Scope} (p : LvalueNode) (kind : Kind) (q : Value) (line : ℕ) → Sure sc (LvalueIs (basis_of p) kind q) (read_lvalue kind (is_judged p) q line) (ValueIs kind)
+read_sure : {sc : Context} (p : LvalueNode) (kind : Kind) (q : Value) (line : ℕ) → Sure sc (LvalueIs (basis_of p) kind q) (read_lvalue kind (is_judged p) q line) (ValueIs kind)
 read_sure {sc = sc} p kind q line = subst (λ j. Sure sc (LvalueIs (basis_of p) kind q) (read_lvalue kind j q line) (ValueIs kind)) (sym (judged_is p)) (sure_read_lvalue (basis_of p) kind q line)
 
-write_sure : {sc : Scope} (p : LvalueNode) (kind : Kind) (q : Value) (line : ℕ) (v : Value) → Sure sc (λ o. LvalueIs (basis_of p) kind q o × ValueIs kind v o) (write_lvalue kind (is_judged p) q line v) (ValueIs kind)
+write_sure : {sc : Context} (p : LvalueNode) (kind : Kind) (q : Value) (line : ℕ) (v : Value) → Sure sc (λ o. LvalueIs (basis_of p) kind q o × ValueIs kind v o) (write_lvalue kind (is_judged p) q line v) (ValueIs kind)
 write_sure {sc = sc} p kind q line v =
     subst (λ j. Sure sc (λ o. LvalueIs (basis_of p) kind q o × ValueIs kind v o) (write_lvalue kind j q line v) (ValueIs kind)) (sym (judged_is p)) (sure_write_lvalue (basis_of p) kind q line v)
 
@@ -73,7 +67,7 @@ scalar_reach (OfScalar k) h = refl
 scalar_reach (Structure n) h = absurd h
 scalar_reach (Array n) h = absurd h
 
-update_sure : {sc : Scope} (p : LvalueNode) (kind : Kind) → IsScalar kind → (q : Value) (line : ℕ) (u : Update) (right : Value) (at : ℕ) (f : Fixity)
+update_sure : {sc : Context} (p : LvalueNode) (kind : Kind) → IsScalar kind → (q : Value) (line : ℕ) (u : Update) (right : Value) (at : ℕ) (f : Fixity)
     → Sure sc (LvalueIs (basis_of p) kind q) (update (scalar_of kind) (is_judged p) q line (updated u (scalar_of kind) right at) f) IsTagged
 update_sure {sc = sc} p kind is_scalar q line u right at f =
     sure_weak (λ o h. (h.tag, subst (λ n. ReachBy (basis_of p) n q o) (scalar_reach kind is_scalar) h.reach))
@@ -81,7 +75,7 @@ update_sure {sc = sc} p kind is_scalar q line u right at f =
     (sure_update (basis_of p) (scalar_of kind) q line u right at f))
 
 -- a member of an lvalue, and a part that is no larger
-reach_narrowed : {sc : Scope} (b : Basis) (whole offset size n : ℕ) (q : Value) → offset + size ≤ whole → n ≤ size → (s : State) → IsGood sc s → ReachBy b whole q s.objects → ReachBy b n (narrowed offset size q) s.objects
+reach_narrowed : {sc : Context} (b : Basis) (whole offset size n : ℕ) (q : Value) → offset + size ≤ whole → n ≤ size → (s : State) → IsGood sc s → ReachBy b whole q s.objects → ReachBy b n (narrowed offset size q) s.objects
 reach_narrowed OnName whole offset size n q le less s good h = named_less s.objects _ size n less (named_narrowed s.objects q whole offset size h (good.low h.direct.object) le)
 reach_narrowed OnPointer whole offset size n q le less s good h = tt
 reach_narrowed OnValue whole offset size n q le less s good h = direct_less s.objects _ size n less (direct_narrowed s.objects q whole offset size h (good.low h.object) le)
@@ -92,13 +86,13 @@ structure_reach (OfScalar s) bytes v h k = absurd h
 structure_reach (Structure n) bytes v h k = k n h (λ o d. d)
 structure_reach (Array n) bytes v h k = absurd h
 
-home_sure : {sc : Scope} (x : ℕ) (kind : Kind) → object_kind sc.variables x ≡ Some kind → (s : State) → IsGood sc s → LvalueIs OnName kind (home_pointer x s) s.objects
+home_sure : {sc : Context} (x : ℕ) (kind : Kind) → object_kind sc.scope.variables x ≡ Some kind → (s : State) → IsGood sc s → LvalueIs OnName kind (home_pointer x s) s.objects
 home_sure x kind e s good =
     let h = good.homes x kind e in
     subst (λ (home : Home). LvalueIs OnName kind (home_value home s.objects) s.objects) (sym h.home)
     (record { tag = sound_pointer h.object s.objects h.held.made; reach = held_named s.objects h.object kind h.held })
 
-static_sure : {sc : Scope} (n : ℕ) (kind : Kind) → static_kind sc.statics n ≡ Some kind → (s : State) → IsGood sc s → LvalueIs OnName kind (pointer_to n s.objects) s.objects
+static_sure : {sc : Context} (n : ℕ) (kind : Kind) → static_kind sc.scope.statics n ≡ Some kind → (s : State) → IsGood sc s → LvalueIs OnName kind (pointer_to n s.objects) s.objects
 static_sure n kind e s good =
     let h = good.statics n kind e in
     record { tag = sound_pointer n s.objects h.made; reach = held_named s.objects n kind h }
@@ -107,9 +101,9 @@ both : (v : Value) (vs : List Value) (o : Objects) → IsTagged v o → AreTagge
 both v vs o h g zero = h
 both v vs o h g (suc x) = g x
 
-module _ {sc : Scope} {env : Env} (c : Calling sc env) where
+module _ {sc : Context} {env : Env} (c : Calling sc env) where
   mutual
-    pub value_sure : (n : Node) (kind : Kind) (line : ℕ) → ValueNames sc n kind → Sure sc Any (value env n kind line) (ValueIs kind)
+    pub value_sure : (n : Node) (kind : Kind) (line : ℕ) → ValueNames sc.scope n kind → Sure sc Any (value env n kind line) (ValueIs kind)
     value_sure (Constant w) kind line h = plainly h (sure_counted (sure_done (λ o p. tt)))
     value_sure (FunctionName f) kind line h = plainly h (sure_counted (sure_done (λ o p. tt)))
     value_sure (Plain x) kind line h = plainly h (sure_counted (sure_read {f = plain_value x} (λ s good p. good.plain x)))
@@ -160,7 +154,7 @@ module _ {sc : Scope} {env : Env} (c : Calling sc env) where
     value_sure (Printf' format shape args) kind line h =
         plainly h.1 (sure_counted (sure_on (sure_tally 1) (λ _. sure_on (values_sure args h.0) (λ vs. sure_on (sure_tally 1) (λ _. c.print format.items vs line)))))
 
-    pub place_sure : (p : LvalueNode) (kind : Kind) → LvalueNames sc p kind → Sure sc Any (place env p) (LvalueIs (basis_of p) kind)
+    pub place_sure : (p : LvalueNode) (kind : Kind) → LvalueNames sc.scope p kind → Sure sc Any (place env p) (LvalueIs (basis_of p) kind)
     place_sure (Automatic x) kind h = sure_counted (sure_read {f = home_pointer x} (λ s good p. home_sure x kind h s good))
     place_sure (Static n) kind h = sure_counted (sure_read {f = λ s. pointer_to n s.objects} (λ s good p. static_sure n kind h s good))
     place_sure (Deref' _ ak al a) kind h = sure_counted (sure_post (λ v o x. record { tag = x.tag; reach = tt }) (value_sure a ak al h))
@@ -183,12 +177,12 @@ module _ {sc : Scope} {env : Env} (c : Calling sc env) where
     place_sure (ParenthesizedLvalue' _ pk pl p) kind h =
         subst (λ k. Sure sc Any (counted (place env p)) (LvalueIs (basis_of p) k)) (sym h.1) (sure_counted (place_sure p pk h.0))
 
-    values_sure : {n : _} (row : Row_of-Expression n) → RowNames sc row → Sure sc Any (each_value (values env row)) AreTagged
+    values_sure : {n : _} (row : Row_of-Expression n) → RowNames sc.scope row → Sure sc Any (each_value (values env row)) AreTagged
     values_sure end_of-Expression h = sure_done (λ o p x. tt)
     values_sure (more_of-Expression ak al a rest) h =
         sure_on (value_sure a ak al h.0) (λ v. sure_on (sure_weak (λ o x. x.tag) (sure_beside (stable_tag v) (values_sure rest h.1))) (λ vs. sure_done {a = v ∷ vs} (λ o x. both v vs o x.0 x.1)))
 
-  pub evaluate_sure : (e : Expression) → Names sc e → Sure sc Any (evaluate env e) (ValueIs e.kind)
+  pub evaluate_sure : (e : Expression) → Names sc.scope e → Sure sc Any (evaluate env e) (ValueIs e.kind)
   evaluate_sure e h = value_sure e.node e.kind e.line h
 
   -- initializers
@@ -211,25 +205,30 @@ module _ {sc : Scope} {env : Env} (c : Calling sc env) where
       (sure_frame (stable_base p whole) (sure_store OnName (Integer Char) (narrowed offset 1 p) 0 (integer b))))) (λ _.
       bytes_sure p whole (offset + 1) bs (omega (arith, le)))
 
-  content_sure : (p : Value) (whole offset : ℕ) (content : Content) → ContentNames sc whole offset content → Sure sc (IsBase p whole) (store_content env p offset content) (λ _. IsBase p whole)
+  content_sure : (p : Value) (whole offset : ℕ) (content : Content) → ContentNames sc.scope whole offset content → Sure sc (IsBase p whole) (store_content env p offset content) (λ _. IsBase p whole)
   content_sure p whole offset (ValueOf e) h =
       sure_on (sure_beside (stable_base p whole) (evaluate_sure e h.0)) (λ v.
-      sure_on (sure_post (λ _ o x. x.0) (sure_if_good (λ s good x. (x.0, (
-        record { tag = (base_part p whole offset (size_of_kind e.kind) h.1 s good x.0).0; reach = (base_part p whole offset (size_of_kind e.kind) h.1 s good x.0).1 }, x.1)))
+      sure_on (sure_post (λ _ o x. x.0) (sure_if_good (λ s good x. (
+        x.0,
+        (
+          record { tag = (base_part p whole offset (size_of_kind e.kind) h.1 s good x.0).0; reach = (base_part p whole offset (size_of_kind e.kind) h.1 s good x.0).1 },
+          x.1,
+        ),
+      ))
       (sure_frame (stable_base p whole) (sure_write_lvalue OnName e.kind (narrowed offset (size_of_kind e.kind) p) e.line v)))) (λ _. sure_skip))
   content_sure p whole offset (Literal bytes) h = sure_on (sure_tally 1) (λ _. bytes_sure p whole offset bytes.items h)
 
-  pub parts_sure : (p : Value) (whole : ℕ) (parts : List Part) → PartsName sc whole parts → Sure sc (IsBase p whole) (store_parts env p parts) (λ _. Any)
+  pub parts_sure : (p : Value) (whole : ℕ) (parts : List Part) → PartsName sc.scope whole parts → Sure sc (IsBase p whole) (store_parts env p parts) (λ _. Any)
   parts_sure p whole [] h = sure_done (λ o x. tt)
   parts_sure p whole (q ∷ qs) h = sure_on (content_sure p whole q.offset q.content h.0) (λ _. parts_sure p whole qs h.1)
 
-  initialize_sure : (i : Initialization) → InitializationNames sc i → Sure sc Any (initialize env i) (λ _. Any)
+  initialize_sure : (i : Initialization) → InitializationNames sc.scope i → Sure sc Any (initialize env i) (λ _. Any)
   initialize_sure (PlainInitialization x e) h =
       sure_on (evaluate_sure e h) (λ v. sure_post (λ _ o y. tt) (sure_weak (λ o y. y.tag) (sure_set_plain x v)))
   initialize_sure (Object x parts) h =
       sure_on (sure_zero_variable x) (λ _.
       sure_on (sure_read {Q = λ v. IsBase v (size_of_kind h.0)} {f = home_pointer x} (λ s good y. let l = home_sure x h.0 h.1 s good in (l.tag, l.reach))) (λ p. parts_sure p (size_of_kind h.0) parts.items h.2))
 
-  pub initialize_all_sure : (is : List Initialization) → InitializationsName sc is → Sure sc Any (initialize_all env is) (λ _. Any)
+  pub initialize_all_sure : (is : List Initialization) → InitializationsName sc.scope is → Sure sc Any (initialize_all env is) (λ _. Any)
   initialize_all_sure [] h = sure_skip
   initialize_all_sure (i ∷ is) h = sure_on (initialize_sure i h.0) (λ _. initialize_all_sure is h.1)

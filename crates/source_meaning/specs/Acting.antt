@@ -38,3 +38,12 @@ abbrev pub state_of : {A : Type 0} → Outcome A → State
 state_of (Gives a s) = s
 state_of (Ended e s) = s
 state_of (Paused s) = s
+
+-- the same of any run, which may begin turns and pause
+abbrev pub RunsAlikeBy : {A : Type 0} → (k : ℕ) → State → (own other : Outcome A) → Type 0
+RunsAlikeBy k s (Gives a s') other = (k' : ℕ) × (other ≡ Gives a (at_work k' s')) × (k' + s.work ≡ k + s'.work)
+RunsAlikeBy k s (Ended e s') other = (k' : ℕ) × (other ≡ Ended e (at_work k' s')) × (k' + s.work ≡ k + s'.work)
+RunsAlikeBy k s (Paused s') other = (k' : ℕ) × (other ≡ Paused (at_work k' s')) × (k' + s.work ≡ k + s'.work)
+
+pub record RunsAlike {A : Type 0} (r : Run A) : Type 0 where
+  pub alike : (s : State) (k : ℕ) → RunsAlikeBy k s (r s) (r (at_work k s))

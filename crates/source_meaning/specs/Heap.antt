@@ -1,5 +1,5 @@
 -- `malloc`, `calloc`, `free` and `realloc` (C99 7.20.3).
-use Rattle.std.specs.Prelude.{ℕ, ◌+◌, Bool, ◌&&◌, ◌==◌, nat_lt, if◌then◌else◌, Option, Some, None}
+use Rattle.std.specs.Prelude.{ℕ, ◌+◌, ◌*◌, ◌^◌, min, Bool, false, ◌&&◌, ◌==◌, nat_lt, if◌then◌else◌, Option, Some, None}
 use Rattle.sb_base.specs.declared.ending.Ending.TheVariants.{Temporal, BadFree}
 use Rattle.obj_memory.specs.declared.object.Storage.TheVariants.{Allocated}
 use Rattle.obj_memory.specs.declared.value.Tag.{Tag}
@@ -9,7 +9,7 @@ use Rattle.obj_memory.specs.Objects.{ObjectState, Objects, object_at, with_dead,
 use Rattle.obj_memory.specs.Heap.{is_allocated, block_count, least_place}
 use Rattle.source_meaning.specs.State.{Run, ◌>>=◌, ◌>>◌, done, stop, choose, read_state, change, tally, Setting}
 use Rattle.source_meaning.specs.Places.{heap_first, heap_last}
-use Rattle.source_meaning.specs.Actions.{integer, is_zero, take_key, make_object}
+use Rattle.source_meaning.specs.Actions.{integer, is_zero, take_key, make_object, located, move_bytes}
 
 -- the work of seeking a place in the heap, and of a block's end
 abbrev pub tally_blocks : Run (Unit {0})
@@ -77,8 +77,29 @@ free p line = choose (is_zero p) (done (integer 0)) (do
   release n
   done (integer 0))
 
+-- an array of zero bytes: null where its size is no size_t, and then no place is sought
 abbrev pub calloc : Setting → (count size : Value) → (line : ℕ) → Run Value
-calloc g count size line = done (integer 0)
+calloc g count size line =
+    choose (nat_lt (count.word * size.word) (2 ^ 64)) (allocate g (count.word * size.word) line) (done (integer 0))
 
+-- the bytes and tags that an object and a new block of some size both have room for, moved to the block
+abbrev pub move_block : (number : ℕ) → (new : Value) → (size line : ℕ) → Run (Unit {0})
+move_block n new size line = do
+  destination ← located false size new line
+  lesser ← read_state (λ s. min size (object_at s.objects n).size)
+  move_bytes lesser destination (record { object = n; offset = 0 })
+
+-- a block in place of an old one, which lives while a place is sought, and on where there is none
+abbrev pub replace_block : Setting → (number : ℕ) → (size line : ℕ) → Run Value
+replace_block g n size line = do
+  new ← allocate g size line
+  choose (is_zero new) (done new) (do
+    move_block n new size line
+    release n
+    done new)
+
+-- a block of another size: of a null pointer a new one, of any other one in place of the block that the pointer would free
 abbrev pub realloc : Setting → (old size : Value) → (line : ℕ) → Run Value
-realloc g old size line = done (integer 0)
+realloc g old size line = choose (is_zero old) (allocate g size.word line) (do
+  n ← freed old line
+  replace_block g n size.word line)

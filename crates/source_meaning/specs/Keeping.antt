@@ -6,7 +6,8 @@ use Rattle.obj_memory.specs.declared.value.Tag.TheVariants.{OfObject}
 use Rattle.obj_memory.specs.declared.value.Value.{Value}
 use Rattle.obj_memory.specs.Objects.{Objects, object_at}
 use Rattle.obj_memory.specs.Heap.{is_allocated}
-use Rattle.obj_memory.specs.Sound.{IsSound, Continues}
+use Rattle.obj_memory.specs.Sound.{IsSound, AreDisjoint, Continues}
+use Rattle.source_meaning.specs.State.{State}
 
 -- the bytes of an access are bytes of one object
 pub record LiesInObject (objects : Objects) (a : Access) : Type 0 where
@@ -23,6 +24,11 @@ AllLie objects (a ∷ rest) = LiesInObject objects a × AllLie objects rest
 pub record IsKept (objects : Objects) (accesses : List Access) : Type 0 where
   pub sound : IsSound objects
   pub lie : AllLie objects accesses
+
+-- what holds of the objects and accesses of a state that a run came to
+pub record IsSoundState (s : State) : Type 0 where
+  pub kept : IsKept s.objects s.accesses
+  pub apart : AreDisjoint s.objects
 
 -- objects live on that no `free` ends
 pub record LivesOn (old new : Objects) : Type 0 where
@@ -43,3 +49,13 @@ pub record IsDirect (objects : Objects) (v : Value) (size : ℕ) : Type 0 where
 pub record IsNamed (objects : Objects) (v : Value) (size : ℕ) : Type 0 where
   pub direct : IsDirect objects v size
   pub named : is_allocated (object_at objects direct.object).storage ≡ false
+
+-- Live objects share no address: those that no `free` ends lie below the top of the object stack, and the blocks of the heap
+-- behind the boundary of both.
+pub record AreSeparate (boundary stacked : ℕ) (objects : Objects) : Type 0 where
+  pub apart : AreDisjoint objects
+  pub below : (n : ℕ) → (object_at objects n).is_live ≡ true → is_allocated (object_at objects n).storage ≡ false
+      → (object_at objects n).address + (object_at objects n).size ≤ stacked
+  pub above : (n : ℕ) → (object_at objects n).is_live ≡ true → is_allocated (object_at objects n).storage ≡ true
+      → boundary ≤ (object_at objects n).address
+  pub top : stacked ≤ boundary

@@ -2,6 +2,7 @@ pub mod State
 pub mod Places
 pub mod Actions
 pub mod Heap
+pub mod Bytes
 pub mod Memory
 pub mod Strings
 pub mod Printing

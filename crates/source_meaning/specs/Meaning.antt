@@ -68,15 +68,17 @@ store_statics env n (o ∷ os) = do
   store_parts env p o.parts.items
   store_statics env (n + 1) os
 
-abbrev pub objects_after : {A : Type 0} → Outcome A → Objects
-objects_after (Gives a s) = s.objects
-objects_after (Ended e s) = s.objects
-objects_after (Paused s) = s.objects
+-- the objects after initializers, which neither end nor pause in a valid program
+abbrev pub objects_after : {A : Type 0} → (placed : Objects) → Outcome A → Objects
+objects_after placed (Gives a s) = s.objects
+objects_after placed (Ended e s) = placed
+objects_after placed (Paused s) = placed
 
 -- the static objects as they are before the run: what their initializers do is not shown and no work
 abbrev pub initial_objects : Program → Setting → Objects
 initial_objects p g =
-    objects_after (store_statics (static_env g) 0 p.statics.items (fresh g (placed_statics (statics_first g) p.statics.items 0) []))
+    let placed = placed_statics (statics_first g) p.statics.items 0 in
+    objects_after placed (store_statics (static_env g) 0 p.statics.items (fresh g placed []))
 
 abbrev pub start : Program → Setting → (input : List ℕ) → State
 start p g input = fresh g (initial_objects p g) input

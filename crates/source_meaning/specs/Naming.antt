@@ -1,7 +1,7 @@
 -- What accesses that are not judged rest on. They name an object or a structure value, so the names must be of objects that
 -- are there, members must lie in what has them, and a structure value is used where it is made. Every program that types
 -- has this.
-use Rattle.std.specs.Prelude.{◌≡◌, ℕ, zero, suc, ◌+◌, ◌≤◌, Bool, true, false, if◌then◌else◌, List, [], ◌∷◌, ◌++◌, Option, Some, None, length}
+use Rattle.std.specs.Prelude.{◌≡◌, ℕ, zero, suc, ◌+◌, ◌≤◌, if◌then◌else◌, List, [], ◌∷◌, Option, Some, None, length}
 use Rattle.c_tree.specs.declared.expression.Kind.{Kind}
 use Rattle.c_tree.specs.declared.expression.Kind.TheVariants.{Void, Scalar as OfScalar, Structure, Array}
 use Rattle.c_tree.specs.declared.expression.Expression.{Expression}
@@ -17,6 +17,7 @@ use Rattle.c_tree.specs.declared.statement.First.TheVariants.{Nothing, Expressio
 use Rattle.c_tree.specs.declared.statement.Statement.{Statement, Expression as ExpressionStatement, Empty, Declaration, Block', If', While', DoWhile', For', Switch', Break, Continue, Return, Row_of-Statement, end_of-Statement, more_of-Statement, Held-Statement-If-2, None', Some', Row_of-SwitchItem, end_of-SwitchItem, more_of-SwitchItem}
 use Rattle.c_tree.specs.declared.program.Variable.{Variable}
 use Rattle.c_tree.specs.declared.program.Function.{Function}
+use Rattle.c_tree.specs.declared.program.FunctionType.{FunctionType}
 use Rattle.c_tree.specs.declared.program.StaticObject.{StaticObject}
 use Rattle.c_tree.specs.declared.program.Program.{Program}
 use Rattle.c_tree.specs.Kinds.{size_of_kind}
@@ -211,6 +212,15 @@ FunctionsName statics (f ∷ fs) = FunctionNames statics f × FunctionsName stat
 abbrev pub StaticsName : Scope → List StaticObject → Type 0
 StaticsName sc [] = Unit {0}
 StaticsName sc (o ∷ os) = PartsName sc (size_of_kind o.kind) o.parts.items × StaticsName sc os
+
+-- no function takes or gives a structure or union
+abbrev pub AreNoStructures : List Kind → Type 0
+AreNoStructures [] = Unit {0}
+AreNoStructures (k ∷ ks) = IsNoStructure k × AreNoStructures ks
+
+abbrev pub PassNoStructures : List FunctionType → Type 0
+PassNoStructures [] = Unit {0}
+PassNoStructures (t ∷ ts) = IsNoStructure t.result × AreNoStructures t.parameters.items × PassNoStructures ts
 
 -- a program names what is there
 pub record NamesObjects (p : Program) : Type 0 where

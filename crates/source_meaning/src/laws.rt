@@ -1,6 +1,6 @@
 //! Laws of the definitions, each as the contract of a function that does nothing: layers above rest on
 //! them.
-ghost use Rattle.std.specs.Prelude.{ℕ, List, Bool};
+ghost use Rattle.std.specs.Prelude.{◌≡◌, ℕ, List, Bool, true};
 ghost use Rattle.behaviours.specs.Behaviour.{IsSource};
 ghost use Rattle.sb_base.specs.Budgets.{BudgetSizes};
 ghost use Rattle.addr_map.specs.Places.{AreMapped};
@@ -12,19 +12,21 @@ ghost use Rattle.c_tree.specs.declared.expression.Kind.{Kind};
 ghost use Rattle.c_tree.specs.declared.expression.Update.{Update};
 ghost use Rattle.c_tree.specs.declared.expression.Fixity.{Fixity};
 ghost use Rattle.c_tree.specs.declared.expression.Routine.{Routine};
+ghost use Rattle.c_tree.specs.declared.program.Function.{Function};
 ghost use Rattle.c_tree.specs.declared.program.Program.{Program};
+ghost use Rattle.c_tree.specs.ValidProgram.{is_valid_program};
 ghost use Rattle.source_meaning.specs.State.{Run, Header, Setting, change};
 ghost use Rattle.source_meaning.specs.Actions.{located, read_lvalue, write_lvalue, read_scalar, write_scalar, updated, update, update_plain, set_plain, move_bytes, make_object, put_bytes, take_key};
 ghost use Rattle.source_meaning.specs.Expressions.{callee};
 ghost use Rattle.source_meaning.specs.Initializers.{zero_variable, store_bytes};
 ghost use Rattle.source_meaning.specs.Library.{routine};
 ghost use Rattle.source_meaning.specs.Printing.{print_formatted};
-ghost use Rattle.source_meaning.specs.Calls.{Caller, back_to, set_up};
+ghost use Rattle.source_meaning.specs.Calls.{Caller, back_to, calls, set_up};
 ghost use Rattle.source_meaning.specs.Meaning.{meaning, outcome, initial_objects, setting_of};
-ghost use Rattle.source_meaning.specs.Acting.{IsAction, state_of};
+ghost use Rattle.source_meaning.specs.Acting.{IsAction, RunsAlike, state_of};
 ghost use Rattle.source_meaning.specs.Turns.{Grows};
-ghost use Rattle.source_meaning.specs.Naming.{NamesObjects};
-ghost use Rattle.source_meaning.specs.Keeping.{IsKept};
+ghost use Rattle.source_meaning.specs.Naming.{PassNoStructures};
+ghost use Rattle.source_meaning.specs.Keeping.{IsSoundState};
 
 /// More turns show more of the same: what is shown never shrinks, no work and no turn is taken back, and
 /// a run that ended stays as it is.
@@ -43,12 +45,13 @@ pub fn objects_continue_along_a_run()
         → Continues (initial_objects p (setting_of p budgets)) (state_of (outcome p budgets input t)).objects }
 {}
 
-/// Where a program names what is there, every tag that is stored names an object and reaches nothing
-/// outside it, each object has its bytes and tags, and each access of the run was of bytes of an object.
+/// In a run of a valid program every tag that is stored names an object and reaches nothing outside it,
+/// each object has its bytes and tags, no two live objects share an address, and each access was of bytes
+/// of an object.
 pub fn runs_keep_objects_sound()
-    ensures { (p : Program) (budgets : BudgetSizes) → AreMapped (setting_of p budgets).sizes → NamesObjects p
-        → (input : List ℕ) (t : ℕ)
-        → IsKept (state_of (outcome p budgets input t)).objects (state_of (outcome p budgets input t)).accesses }
+    ensures { (p : Program) (budgets : BudgetSizes) → AreMapped (setting_of p budgets).sizes
+        → is_valid_program p ≡ true → PassNoStructures p.function_types.items → (input : List ℕ) (t : ℕ)
+        → IsSoundState (state_of (outcome p budgets input t)) }
 {}
 
 /// Accesses and changes of variables begin no turn, do the same at any count of work, and add to it.
@@ -79,4 +82,10 @@ pub fn routines_and_calls_are_actions()
         → IsAction (callee functions type_number v line) }
     ensures set_up { (g : Setting) (f : Header) (vs : List Value) (line : ℕ) → IsAction (set_up g f vs line) }
     ensures back { (c : Caller) → IsAction (change (back_to c)) }
+{}
+
+/// And so does every call, with all that it leads to: the work that was done before plays no part.
+pub fn calls_do_the_same_at_any_work()
+    ensures { (functions : List Function) (g : Setting) (limit n f : ℕ) (vs : List Value) (line : ℕ)
+        → RunsAlike (calls functions g limit n f vs line) }
 {}

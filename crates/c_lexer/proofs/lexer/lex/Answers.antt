@@ -1,8 +1,9 @@
-use Rattle.std.proofs.Common.{◌≡◌, true, ℕ, suc, ◌+◌, ◌-◌, ◌<◌, ◌≤◌, List, length, take, drop, sym, ap, subst, ◌∙◌, arith}
+use Rattle.std.proofs.Common.{◌≡◌, true, suc, ◌+◌, ◌≤◌, length, take, sym, ap, subst, ◌∙◌, arith}
 use Rattle.std.proofs.lemmas.List.{take_rest}
 use Rattle.c_lexer.specs.Separators.{Gap}
 use Rattle.c_lexer.specs.Text.{newlines, behind_tokens, tokens, tokens_to}
 use Rattle.c_lexer.proofs.Ends.{newlines_cut}
+use Rattle.c_lexer.proofs.Soundness.{few_tokens}
 use Rattle.c_lexer.proofs.Turns.{IsPlace, place_behind, shorter_behind, turn_first, read_end, read_fault, read_more, pushed}
 use Rattle.c_lexer.proofs.lexer.lex.Goals as goal
 
@@ -19,10 +20,11 @@ returns-then-is_empty c =
     let g : Gap = record { rest = c.skip_gap-gap.result.rest.now; has_newline = c.skip_gap-gap.result.has_newline } in
     let p = place_behind c.args.text.now c.loop-rest.rest.now c.loop-rest.first g c.loop-rest.line c.newlines.result c.skip_gap-gap.ensures.value c.loop-rest.invariant.line c.loop-rest.invariant.some c.newlines.ensures.value in
     let at : IsPlace c.args.text.now c.loop-rest.rest.now c.loop-rest.first g c.new-here.result = subst (λ n. IsPlace c.args.text.now c.loop-rest.rest.now c.loop-rest.first g n) (sym c.new-here.ensures) p in
-    read_end c.args.text.now c.loop-rest.rest.now c.loop-rest.first g c.new-here.result c.loop-rest.items.items c.new.result at c.loop-rest.invariant.read c.is_empty.result c.is_empty.ensures c.if-is_empty.true c.new.ensures
+    let value = read_end c.args.text.now c.loop-rest.rest.now c.loop-rest.first g c.new-here.result c.loop-rest.items.items c.new.result at c.loop-rest.invariant.read c.is_empty.result c.is_empty.ensures c.if-is_empty.true c.new.ensures in
+    record { value = value; few = few_tokens c.args.text.now c.new.result value }
 
-pub returns-in_default : goal.returns-in_default
-returns-in_default c =
+pub returns-in_default-clause-value : goal.returns-in_default-clause-value
+returns-in_default-clause-value c =
     let g : Gap = record { rest = c.skip_gap-gap.result.rest.now; has_newline = c.skip_gap-gap.result.has_newline } in
     let p = place_behind c.args.text.now c.loop-rest.rest.now c.loop-rest.first g c.loop-rest.line c.newlines.result c.skip_gap-gap.ensures.value c.loop-rest.invariant.line c.loop-rest.invariant.some c.newlines.ensures.value in
     let at : IsPlace c.args.text.now c.loop-rest.rest.now c.loop-rest.first g c.new-here.result = subst (λ n. IsPlace c.args.text.now c.loop-rest.rest.now c.loop-rest.first g n) (sym c.new-here.ensures) p in

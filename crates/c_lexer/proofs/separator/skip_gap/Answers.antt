@@ -1,4 +1,4 @@
-use Rattle.std.proofs.Common.{◌≡◌, ◌∙◌, sym, ap, length, arith}
+use Rattle.std.proofs.Common.{◌∙◌, sym, arith}
 use Rattle.c_lexer.proofs.Gaps.{gap_turn_found, gap_turn_open}
 use Rattle.c_lexer.proofs.separator.skip_gap.Goals as goal
 

@@ -1,5 +1,6 @@
-use Rattle.source_meaning.proofs.SureMeaning.{run_kept}
+use Rattle.source_meaning.proofs.SureMeaning.{run_sound}
+use Rattle.source_meaning.proofs.ValidProgramNames.{valid_names}
 use Rattle.source_meaning.proofs.laws.runs_keep_objects_sound.Goals as goal
 
 pub returns : goal.returns
-returns c = run_kept
+returns c = λ p budgets mapped valid none input t. run_sound p budgets mapped (valid_names p none valid) input t

@@ -1,0 +1,9 @@
+pub mod Stacks
+pub mod Traces
+pub mod Giving
+pub mod Tables
+pub mod Turns
+pub mod LineReading
+pub mod Cutting
+pub mod Wholes
+pub mod Including

@@ -1,0 +1,128 @@
+-- What a line of a text is (C99 6.10 paragraph 1).
+use Rattle.std.specs.Prelude.{ℕ, Bool, true, false, ◌&&◌, not, List, [], ◌∷◌, Option, Some, None, if◌then◌else◌, codes, bytes_eq}
+use Rattle.c_lexer.specs.declared.token.Word.{Word}
+use Rattle.c_lexer.specs.declared.token.Word.TheVariants.{Punctuator}
+use Rattle.c_lexer.specs.declared.token.Token.{Token}
+use Rattle.c_lexer.specs.declared.punctuator.Punctuator.TheVariants.{Hash, LeftParenthesis}
+use Rattle.c_lexer.specs.Words.{spelling_of}
+use Rattle.c_pre.specs.declared.header.Header.{Header}
+use Rattle.c_pre.specs.declared.header.Header.TheVariants as h
+use Rattle.c_pre.specs.declared.directive.DirectiveName.{DirectiveName}
+use Rattle.c_pre.specs.declared.directive.DirectiveName.TheVariants as d
+use Rattle.c_pre.specs.Lines.{Tokens}
+use Rattle.c_pre.specs.Names.{Name, name_of}
+
+-- Where a directive is malformed, what it is to a skipped group is still told.
+pub data Line : Type 0 where
+  text_line : Line
+  -- `#ifdef` (whether the name is to be defined) and `#ifndef`
+  if_defined : Name → Bool → Line
+  -- begins an if-section, which only a skipped group may have: `#if`, and `#ifdef` and `#ifndef` without one name
+  if_other : Line
+  -- whether nothing stands behind the directive's name
+  else_group : Bool → Line
+  endif_line : Bool → Line
+  define : Name → Tokens → Line
+  undef : Name → Line
+  include : Header → Line
+  -- `#` alone (6.10.7)
+  null_directive : Line
+  unknown_include : Line
+  unknown_directive : Line
+
+abbrev pub is_empty : Tokens → Bool
+is_empty [] = true
+is_empty (token ∷ more) = false
+
+-- one name and nothing else
+abbrev pub only_name : Tokens → Option Name
+only_name [] = None
+only_name (token ∷ more) = if is_empty more then name_of token.word else None
+
+abbrev pub named_or : (Name → Line) → Line → Option Name → Line
+named_or found other None = other
+named_or found other (Some name) = found name
+
+abbrev pub is_open : Word → Bool
+is_open (Punctuator LeftParenthesis) = true
+is_open _ = false
+
+-- whether a `(` stands directly behind a macro's name, which begins a parameter list (6.10.3 paragraph 10)
+abbrev pub begins_parameters : Tokens → Bool
+begins_parameters [] = false
+begins_parameters (token ∷ more) = is_open token.word && not token.is_spaced
+
+abbrev pub define_named : Option Name → Tokens → Line
+define_named None list = unknown_directive
+define_named (Some name) list = if begins_parameters list then unknown_directive else define name list
+
+-- behind `#define`: a name and its replacement list (6.10.3 paragraph 9)
+abbrev pub definition : Tokens → Line
+definition [] = unknown_directive
+definition (token ∷ list) = define_named (name_of token.word) list
+
+-- the header `<NAME.h>`, by its name
+abbrev pub header_named : Name → Option Header
+header_named name =
+    if bytes_eq name (codes "stdio") then Some h.Stdio
+    else if bytes_eq name (codes "stdlib") then Some h.Stdlib
+    else if bytes_eq name (codes "string") then Some h.String
+    else if bytes_eq name (codes "stddef") then Some h.Stddef
+    else if bytes_eq name (codes "limits") then Some h.Limits
+    else None
+
+-- a token that is spelled so, with no white space before it
+abbrev pub is_touching : Token → List ℕ → Bool
+is_touching token bytes = bytes_eq (spelling_of token.word) bytes && not token.is_spaced
+
+-- behind `#include`: `<`, the name, `.`, `h` and `>`, which touch (6.4.7, 6.10.2 paragraph 2)
+abbrev pub header_of : Tokens → Option Header
+header_of (less ∷ name ∷ dot ∷ h ∷ greater ∷ []) =
+    if bytes_eq (spelling_of less.word) (codes "<") && not name.is_spaced && is_touching dot (codes ".") && is_touching h (codes "h") && is_touching greater (codes ">")
+    then header_named (spelling_of name.word)
+    else None
+header_of _ = None
+
+abbrev pub included : Option Header → Line
+included None = unknown_include
+included (Some header) = include header
+
+abbrev pub directive_named : Name → Option DirectiveName
+directive_named name =
+    if bytes_eq name (codes "define") then Some d.Define
+    else if bytes_eq name (codes "undef") then Some d.Undef
+    else if bytes_eq name (codes "include") then Some d.Include
+    else if bytes_eq name (codes "ifdef") then Some d.Ifdef
+    else if bytes_eq name (codes "ifndef") then Some d.Ifndef
+    else if bytes_eq name (codes "if") then Some d.If
+    else if bytes_eq name (codes "else") then Some d.Else
+    else if bytes_eq name (codes "endif") then Some d.Endif
+    else None
+
+abbrev pub directive_by : DirectiveName → Tokens → Line
+directive_by d.Define more = definition more
+directive_by d.Undef more = named_or undef unknown_directive (only_name more)
+directive_by d.Include more = included (header_of more)
+directive_by d.Ifdef more = named_or (λ name. if_defined name true) if_other (only_name more)
+directive_by d.Ifndef more = named_or (λ name. if_defined name false) if_other (only_name more)
+directive_by d.If more = if_other
+directive_by d.Else more = else_group (is_empty more)
+directive_by d.Endif more = endif_line (is_empty more)
+
+abbrev pub directive_or_unknown : Option DirectiveName → Tokens → Line
+directive_or_unknown None more = unknown_directive
+directive_or_unknown (Some directive) more = directive_by directive more
+
+-- behind the `#`
+abbrev pub directive : Tokens → Line
+directive [] = null_directive
+directive (token ∷ more) = directive_or_unknown (directive_named (spelling_of token.word)) more
+
+abbrev pub line_by : Word → Tokens → Line
+line_by (Punctuator Hash) more = directive more
+line_by _ more = text_line
+
+-- a line whose first token is `#` is a directive (6.10 paragraph 2)
+unfoldable pub line_kind : Tokens → Line
+line_kind [] = text_line
+line_kind (token ∷ more) = line_by token.word more

@@ -1,0 +1,11 @@
+pub mod Faults
+pub mod Lines
+pub mod Headers
+pub mod Names
+pub mod Trace
+pub mod Expansion
+pub mod Directives
+pub mod Sections
+pub mod Reading
+pub mod Pending
+pub mod Outcomes

@@ -1,0 +1,33 @@
+-- Names of macros (C99 6.10.3). While directives are obeyed there are no keywords: each is an identifier (6.4.1 paragraph 2).
+use Rattle.std.specs.Prelude.{ℕ, Bool, false, true, ◌&&◌, List, [], ◌∷◌, Option, Some, None, bytes_eq}
+use Rattle.std.specs.List.{list_any}
+use Rattle.c_lexer.specs.declared.token.Word.{Word}
+use Rattle.c_lexer.specs.declared.token.Word.TheVariants.{Identifier, Keyword}
+use Rattle.c_lexer.specs.Spellings.{keyword_spelling}
+use Rattle.c_lexer.specs.Words.{spelling_of}
+use Rattle.c_pre.specs.Lines.{Tokens}
+
+-- a name is the bytes that spell it
+abbrev pub Name : Type 0
+Name = List ℕ
+
+abbrev pub Names : Type 0
+Names = List Name
+
+abbrev pub name_of : Word → Option Name
+name_of (Identifier bytes) = Some bytes
+name_of (Keyword keyword) = Some (keyword_spelling keyword)
+name_of _ = None
+
+abbrev pub member : Name → Names → Bool
+member name names = list_any (bytes_eq name) names
+
+-- what each name is defined as: its replacement list (6.10.3 paragraph 9)
+abbrev pub Macros : Type 0
+Macros = Name → Option Tokens
+
+-- whether two replacement lists have the same spellings in the same order (6.10.3 paragraph 1); white space does not count
+abbrev pub same_list : Tokens → Tokens → Bool
+same_list [] [] = true
+same_list (a ∷ as_) (b ∷ bs) = bytes_eq (spelling_of a.word) (spelling_of b.word) && same_list as_ bs
+same_list a b = false

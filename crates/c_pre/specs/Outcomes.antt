@@ -1,0 +1,75 @@
+-- What the calls of the code answer, against the definitions.
+use Rattle.std.specs.Prelude.{◌≡◌, ℕ, suc, ◌≤◌, [], ◌∷◌, length, Result, Ok, Err, option_map, bytes_eq, ⊤, if◌then◌else◌}
+use denote.Ref.{Bor}
+use Rattle.indexmap.specs.IndexMap.{IndexMap, get}
+use Rattle.c_pre.specs.declared.fault.PreFault.{PreFault}
+use Rattle.c_pre.specs.declared.fault.PreError.{PreError}
+use Rattle.c_pre.specs.declared.fault.PreError.TheVariants.{Memory, Fault}
+use Rattle.c_pre.specs.declared.directive.LineKind.{LineKind}
+use Rattle.c_pre.specs.declared.directive.LineKind.TheVariants as k
+use Rattle.c_pre.specs.declared.preprocessor.Preprocessor.{Preprocessor}
+use Rattle.c_pre.specs.declared.TheConstants.{MAX_EXPANDED_TOKENS}
+use Rattle.c_pre.specs.Lines.{Tokens}
+use Rattle.c_pre.specs.Names.{Name, Macros}
+use Rattle.c_pre.specs.Trace.{Trace, after, answer, quiet}
+use Rattle.c_pre.specs.Directives as d
+use Rattle.c_pre.specs.Sections.{State}
+use Rattle.c_pre.specs.Pending.{inner_first}
+
+abbrev pub Fails : {A : Type 0} → Trace A → PreError → Type 0
+Fails t Memory = ⊤
+Fails t (Fault fault) = answer t ≡ Err fault
+
+-- of a call that gives tokens, with those given before and those given now: it gave those of the trace; or the answer for
+-- the whole text is this fault, whatever follows
+abbrev pub Follows : {A X : Type 0} → Trace A → (X → A) → Tokens → Tokens → Result X PreError → Type 0
+Follows t view old new (Ok x) = (after old t ≡ record { given = new; end = Ok (view x) }) × (length new ≤ MAX_EXPANDED_TOKENS)
+Follows t view old new (Err error) = Fails (after old t) error
+
+abbrev pub Stops : {A : Type 0} → Trace A → PreError → Type 0
+Stops t Memory = ⊤
+Stops t (Fault fault) = t ≡ record { given = []; end = Err fault }
+
+-- of a call that gives no tokens
+abbrev pub Steps : {A X : Type 0} → Trace A → (X → A) → Result X PreError → Type 0
+Steps t view (Ok x) = t ≡ quiet (view x)
+Steps t view (Err error) = Stops t error
+
+abbrev pub Refuses : {A : Type 0} → PreError → Result A PreFault → Type 0
+Refuses Memory wanted = ⊤
+Refuses (Fault fault) wanted = wanted ≡ Err fault
+
+-- the call gave what was wanted, unless memory failed
+abbrev pub Gives : {A X : Type 0} → (X → A) → Result X PreError → Result A PreFault → Type 0
+Gives view (Ok x) wanted = wanted ≡ Ok (view x)
+Gives view (Err error) wanted = Refuses error wanted
+
+-- the table of macros as a function of the name
+abbrev pub macros_of : {S : Type 0} → IndexMap Name (Bor Tokens) S → Macros
+macros_of table = λ name. option_map (λ list. list.now) (get bytes_eq table name)
+
+abbrev pub state_of : Preprocessor → State
+state_of p = record { sections = inner_first p.sections.items; macros = macros_of p.macros; room = p.room }
+
+abbrev pub line_of_kind : LineKind → d.Line
+line_of_kind k.Text = d.text_line
+line_of_kind (k.IfDefined name wanted) = d.if_defined name wanted
+line_of_kind k.IfOther = d.if_other
+line_of_kind (k.Else well_formed) = d.else_group well_formed
+line_of_kind (k.Endif well_formed) = d.endif_line well_formed
+line_of_kind (k.Define definition) = d.define definition.name definition.list.now
+line_of_kind (k.Undef name) = d.undef name
+line_of_kind (k.Include header) = d.include header
+line_of_kind k.Null = d.null_directive
+line_of_kind k.UnknownInclude = d.unknown_include
+line_of_kind k.UnknownDirective = d.unknown_directive
+
+-- for the code: how many of these tokens still belong to the line before them
+abbrev pub line_rest : Tokens → ℕ
+line_rest [] = 0
+line_rest (token ∷ more) = if token.begins_line then 0 else suc (line_rest more)
+
+-- for the code: how many tokens the first line has
+abbrev pub line_len : Tokens → ℕ
+line_len [] = 0
+line_len (token ∷ more) = suc (line_rest more)

@@ -1,0 +1,91 @@
+//! Faults of directives and macros.
+
+ghost use Rattle.std.specs.Prelude.{◌≡◌};
+
+use sb_base::Line;
+use std::alloc::{AllocError, AllocFailed};
+
+/// What is wrong with a directive or a macro.
+#[derive(Clone, Copy, Debug, PartialEq, Eq)]
+pub enum PreFaultKind {
+    /// `#include` of anything but one of the five headers, written `<NAME.h>` (C99 6.10.2).
+    UnknownInclude,
+    /// A directive that is malformed or not known, in text that is read. `#if`, `#elif` and definitions with parameters
+    /// are so (6.10).
+    UnknownDirective,
+    /// An if-section that is still open at the end of the text (6.10.1).
+    Unclosed,
+    /// `#else` or `#endif` with no if-section open, or a second `#else` (6.10.1).
+    StrayEnd,
+    /// A definition of a macro that is defined by other tokens (6.10.3 paragraph 2).
+    MacroRedefined,
+    /// More expanded tokens, or more tokens put in by replacement lists, than there may be.
+    TooMany,
+}
+
+impl PreFaultKind {
+    ghost use Rattle.c_pre.specs.Faults.{number_of};
+
+    /// The number by which the fault is told, 1 to 6.
+    #[tactic(auto, unfolding(crate::specs::Faults::number_of))]
+    pub fn number(self) -> u8
+        ensures { result ≡ number_of self }
+    {
+        match self {
+            PreFaultKind::UnknownInclude => 1,
+            PreFaultKind::UnknownDirective => 2,
+            PreFaultKind::Unclosed => 3,
+            PreFaultKind::StrayEnd => 4,
+            PreFaultKind::MacroRedefined => 5,
+            PreFaultKind::TooMany => 6,
+        }
+    }
+}
+
+/// A fault, and the line to which it belongs: that of the directive, of the if-section that was opened first, of the
+/// token that is one too many, or of the macro's use.
+#[derive(Clone, Copy, Debug, PartialEq, Eq)]
+pub struct PreFault {
+    /// What is wrong.
+    pub kind: PreFaultKind,
+    /// The line.
+    pub line: Line,
+}
+
+impl PreFault {
+    /// A fault of this kind on this line.
+    pub fn new(kind: PreFaultKind, line: Line) -> Self
+        ensures { result ≡ record { kind = kind; line = line } }
+    {
+        PreFault { kind, line }
+    }
+}
+
+/// Why a text has no expansion.
+#[derive(Debug, Drop)]
+pub enum PreError {
+    /// The first fault of the text.
+    Fault(PreFault),
+    /// There was no memory.
+    Memory,
+}
+
+impl From<AllocError> for PreError {
+    ghost use Rattle.c_pre.specs.declared.fault.PreError.TheVariants.{Memory};
+
+    ghost from_gives = { λ _ e. e ≡ Memory };
+
+    fn from(_error: AllocError) -> PreError {
+        PreError::Memory
+    }
+}
+
+impl<T: Drop> From<AllocFailed<T>> for PreError {
+    ghost use Rattle.c_pre.specs.declared.fault.PreError.TheVariants.{Memory};
+
+    ghost from_gives = { λ _ e. e ≡ Memory };
+
+    fn from(_error: AllocFailed<T>) -> PreError {
+        PreError::Memory
+    }
+}

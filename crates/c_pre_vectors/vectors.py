@@ -1,0 +1,186 @@
+#!/usr/bin/env python3
+"""Makes stdin and stdout of this program by Debian's gcc and clang, and by nothing of this repository.
+
+The tokens of a text are those of `gcc -E -std=c99 -pedantic-errors` and of `clang -E -std=c99`, parted by the
+regular expression TOKEN. A macro's tokens stand there on the line of its use, which line markers and newlines tell. A text
+in which the two differ is refused here. A fault is the first error of gcc, whose message tells its kind; of if-sections
+that are left open, which gcc tells from the innermost one, it is the outermost.
+"""
+
+import os
+import random
+import re
+import subprocess
+import sys
+import tempfile
+
+END = "%%\n"
+OPTIONS = ["-E", "-std=c99", "-undef", "-nostdinc"]
+TOKEN = re.compile(r'[A-Za-z_]\w*|\d\w*|"(?:[^"\\]|\\.)*"|\'(?:[^\'\\]|\\.)*\'|\.\.\.|<<=|>>=|->|\+\+|--|<<|>>|[<>=!]=|&&|\|\||[-+*/%&^|]=|\S')
+
+FAULTS = [
+    (r"invalid preprocessing directive|macro names must be identifiers|no macro name given|extra tokens at end of #", 2),
+    (r"unterminated #", 3),
+    (r"#(else|endif) without #if|#else after #else", 4),
+    (r'"\w+" redefined', 5),
+]
+
+TEXTS = [
+    "int main(void) { return 0; }\n",
+    "#define N 72\nputchar(N);\n",
+    "#define A\nx A y\nA\n",
+    "#define A 1\n#define B A\n#define C B + B\nC C\n",
+    # C99 6.10.3.4 and 6.10.3.5
+    "#define z z[0]\n#define w 0,1\nz w z\n",
+    "#define TABSIZE 100\nint table[TABSIZE];\n",
+    "#define OBJ (1-1)\n#define OBJ /* white */ (1-1) /* other */\nOBJ\n",
+    "#define OBJ (0)\n#define OBJ (1-1)\n",
+    "#define a a\na a\n", "#define a b\n#define b a\na b\n", "#define a b\n#define b c\n#define c a\na b c\n", "#define a (a)\n((a))\n",
+    "#define a b b\n#define b a c\n#define c b a\na\nb\nc\n", "#define f g\n#define g f + h\n#define h f g\nf g h\n",
+    "#define x y\n#define y z\n#define z x y z\nx y z\n",
+    "#define a b +\n#define b c -\n#define c a b c\na a\n",
+    "#define e\n#define f e e e\nf g f\n", "#define e\ne e\ne\n",
+    "#define int long\n#define if while\nint x; if (x) else\n", "#define else endif\n#ifdef q\n1\n#else\n2\n#endif\nelse\n",
+    "#define define undef\n#define A 1\nA define\n", "#define ifdef ifndef\n#ifdef A\n1\n#endif\nifdef\n", "#define return break\n#undef return\nreturn\n",
+    "#define A 1\n#undef A\nA\n#define A 2\nA\n", "#undef A\n#undef A\nA\n", "#define A 1\n#undef A\n#define A 1 2\nA\n",
+    "A\n#define A 1\nA\n", "#define A B\nA\n#define B 2\nA\n#undef B\nA\n",
+    "#define A 1\n#define A 1\nA\n", "#define A 1 2\n#define A 1  2\nA\n", "#define A\n#define A\nA;\n", "#define A 1 + 2\n#define A 1 + 3\n",
+    "#define A 1\n#define A\n", "#define A\n#define A 1\n", "#define A 1 2\n#define A 1\n", "x\n#define A x\n\n#define A y\nz\n", '#define S "a b"\n#define S "a  b"\n',
+    "#define A 'a'\n#define A 'a'\nA\n",
+    "#ifdef A\n1\n#endif\n2\n", "#ifndef A\n1\n#endif\n2\n", "#define A\n#ifdef A\n1\n#endif\n2\n", "#define A\n#ifndef A\n1\n#endif\n2\n",
+    "#define A\n#undef A\n#ifdef A\n1\n#else\n2\n#endif\n", "#ifdef A\n1\n#else\n2\n#endif\n3\n", "#ifndef A\n1\n#else\n2\n#endif\n3\n",
+    "#ifdef A\n#define B 1\n#else\n#define B 2\n#endif\nB\n", "#ifndef A\n#define A\n1\n#endif\n#ifndef A\n2\n#endif\n",
+    "#ifdef A\n#ifdef B\n1\n#else\n2\n#endif\n3\n#else\n#ifdef B\n4\n#else\n5\n#endif\n#endif\n6\n",
+    "#define A\n#ifdef A\n#ifdef B\n1\n#else\n2\n#endif\n3\n#else\n#ifdef A\n4\n#else\n5\n#endif\n#endif\n6\n",
+    "#ifdef A\n#ifndef A\n1\n#endif\n#else\n2\n#endif\n", "#ifdef A\n#foo\n#define\n#undef 1\n#include x\n#define 3\n#else\n1\n#endif\n", "#ifdef A\n#ifdef\n#else\n#endif\n#endif\n1\n",
+    "#ifdef A\n#if nothing at all\n#else\n1\n#endif\n2\n#endif\n3\n", "#ifndef A\n#else\n#if 1\n2\n#endif\n#endif\n3\n",
+    "#ifdef A\n'a' \"b\" 3 ...\n#endif\n1\n", "#ifdef A\n#\n# \n#endif\n", "#ifdef int\n1\n#else\n2\n#endif\n", "#define int\n#ifdef int\n1\n#else\n2\n#endif\n",
+    "#\nx\n # \n", "#/* c */\nx\n", "/* c */ # define A 1\nA\n", " #\tdefine\tA\t1\nA\n", "#define A/* c */1\nA\n", "x # y\n", "x #define A 1\nA\n", "# define A 1 // c\nA\n",
+    "#define A 1 /* c\n d */ 2\nA\n", "#define A 1 /* c\n d */\nA\n", "#ifdef A /* c\n\n*/\n1\n#endif\n2\n", "#define A 1 // c \\\n d\nA\n",
+    "#define A \\\n 1 \\\n 2\nA\n", "# \\\ndefine A 1\nA\n", "#define \\\nA \\\n\n1\nA\n", "#ifdef \\\n A\n1\n#else \\\n\n2\n#endif\n",
+    "#define A (x)\n#define B A\nB A B\n", "#define A ( B )\n#define B [ A ]\nA B\n", "#define P (\n#define Q )\nP Q P P Q Q\n",
+    "#define A , ; : ?\nA A\n", "#define A ... -> ++ --\nA\n", '#define S "A" \'A\'\n#define A 1\nS A "A"\n', "#define A #\nA define B 1\nB\n", "#define H #\nH H\n",
+    "#define A 1\n\n\n\n\n\n\n\n\n\n\n\n\nA\n\nA A\n",
+    "#else\n", "#endif\n", "x\n#endif\ny\n", "#ifdef A\n#endif\n#endif\n", "#ifdef A\n#else\n#else\n#endif\n", "#ifdef A\n#else\n#endif\n#else\n", "#ifdef A\n#ifdef B\n#else\n#else\n#endif\n#endif\n",
+    "#ifdef A\n", "#ifndef A\nx\n", "x\n\n#ifdef A\n#else\ny\n", "#ifdef A\n#ifdef B\n#endif\n", "#ifndef A\n#ifndef B\n#ifdef C\n", "#ifdef A\n#endif\n#ifndef B\n#ifdef C\n#endif\n",
+    "#foo\n", "x\n#foo bar\ny\n", "#1\n", "#\"a\"\n", "#+\n", "#define\n", "#define 1\n", "#define \"a\"\n", "#define +\n", "#undef\n", "#undef 1\n", "#undef A B\n", "#define A\n#undef A +\n",
+    "#ifdef\n#endif\n", "#ifndef\n#endif\n", "#ifdef 1\n#endif\n", "#ifdef A B\n#endif\n", "#ifndef A +\n#endif\n", "#ifdef A\n#else B\n#endif\n", "#ifdef A\n#endif B\n", "#ifndef A\n#else 1\n#endif\n",
+    "#ifdef A\n#ifdef B\n#else x\n#endif y\n#endif\n1\n", "#define A 1\n#define A 2\n#foo\n", "#foo\n#define A 1\n#define A 2\n", "#define A 1\n#ifdef A\n#foo\n", "#ifdef A\n#foo\n#endif\n#bar\n",
+    "#define a1 0 0\n#define a2 a1 a1\n#define a3 a2 a2\n#define a4 a3 a3\n#define a5 a4 a4\na5\na1 a2\n",
+    "#define EMPTY\n#define LIST EMPTY 1 EMPTY , EMPTY 2 EMPTY\nLIST EMPTY LIST\n",
+    "#define NULL ((void*)0)\n#define p NULL\nchar *q = p; int x = p == NULL;\n",
+    "#define LOOP for (i = 0; i < N; i++)\n#define N 10\nvoid f(void) { int i; LOOP g(i); }\n",
+]
+
+NAMES = ["a", "b", "c", "d", "e", "f"]
+OTHERS = ["1", "2", "+", "-", "(", ")", "x", "y", ";", ",", "int", '"s"', "->", "<<", "'c'"]
+
+
+def random_list(r, most):
+    return " ".join(r.choice(NAMES if r.random() < 0.6 else OTHERS) for _ in range(r.randint(0, most)))
+
+
+def random_lines(r, depth):
+    for _ in range(r.randint(2, 7)):
+        kind = r.random()
+        name = r.choice(NAMES)
+        if kind < 0.45:
+            if r.random() < 0.7:
+                yield f"#undef {name}"
+            yield f"#define {name} {random_list(r, 5)}"
+        elif kind < 0.55:
+            yield f"#undef {name}"
+        elif kind < 0.75 and depth < 3:
+            yield r.choice(["#ifdef ", "#ifndef "]) + name
+            yield from random_lines(r, depth + 1)
+            if r.random() < 0.6:
+                yield "#else"
+                yield from random_lines(r, depth + 1)
+            if r.random() < 0.97:
+                yield "#endif"
+        elif kind < 0.77:
+            yield r.choice(["#else", "#endif", "#foo", "#define", "#undef", "#ifdef a b", "#"])
+        else:
+            yield random_list(r, 6)
+
+
+def random_texts():
+    """Texts of random lines, the same each time."""
+    r = random.Random(10)
+    for _ in range(240):
+        yield "\n".join(list(random_lines(r, 0)) + [" ".join(NAMES)]) + "\n"
+
+
+def run(command, text):
+    with tempfile.NamedTemporaryFile("w", suffix=".c", newline="", delete=False) as f:
+        f.write(text)
+    try:
+        return subprocess.run(command + OPTIONS + [f.name], capture_output=True, text=True, check=False)
+    finally:
+        os.unlink(f.name)
+
+
+def shown(output):
+    """The tokens of a preprocessor's output, those of a line behind its number."""
+    line, rows = 1, {}
+    for row in output.split("\n"):
+        marker = re.match(r'# (\d+) "(.*?)"', row)
+        if marker:
+            line = int(marker[1])
+            continue
+        tokens = TOKEN.findall(row)
+        if tokens:
+            rows.setdefault(line, []).extend(tokens)
+        line += 1
+    return "".join(f"{line}: {' '.join(tokens)}\n" for line, tokens in sorted(rows.items()))
+
+
+def fault(errors):
+    """The first error of gcc."""
+    found = []
+    for m in re.finditer(r"^[^\n]*?\.c:(\d+):(?:\d+:)? error: ([^\n]*)$", errors, re.M):
+        if m[2] == "the conditional began here":
+            continue
+        kinds = [kind for pattern, kind in FAULTS if re.search(pattern, m[2])]
+        if not kinds:
+            raise ValueError(m[2])
+        found.append((kinds[0] == 3, int(m[1]), kinds[0]))
+    unclosed, line, kind = min(found)
+    return f"fault {kind} line {line}\n"
+
+
+def expected(text):
+    gcc = run(["gcc", "-pedantic-errors"], text)
+    if gcc.returncode != 0:
+        return fault(gcc.stderr)
+    clang = run(["clang"], text)
+    if clang.returncode != 0 or shown(clang.stdout) != shown(gcc.stdout):
+        raise ValueError("clang differs")
+    return shown(gcc.stdout)
+
+
+def too_many():
+    """Twice as many empty macros with each line: too many tokens put in, at the macro's use."""
+    lines = ["#define b1"] + [f"#define b{n} b{n - 1} b{n - 1}" for n in range(2, 41)] + ["b40"]
+    return "\n".join(lines) + "\n", "fault 6 line 41\n"
+
+
+def main():
+    here = os.path.dirname(os.path.abspath(__file__))
+    rows = []
+    for text in dict.fromkeys(TEXTS + list(random_texts())):
+        try:
+            rows.append((text, expected(text)))
+        except ValueError as error:
+            print("left out:", error, repr(text), file=sys.stderr)
+    rows.append(too_many())
+    assert all("%%" not in text for text, _ in rows)
+    with open(os.path.join(here, "stdin"), "w", newline="") as f:
+        f.write(END.join(text for text, _ in rows))
+    with open(os.path.join(here, "stdout"), "w", newline="") as f:
+        f.write("".join(want + END for _, want in rows))
+    print(len(rows), "texts,", sum(want.startswith("fault") for _, want in rows), "of them faults")
+
+
+if __name__ == "__main__":
+    sys.exit(main())

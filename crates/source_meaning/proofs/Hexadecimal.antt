@@ -14,7 +14,7 @@ use Rattle.c_tree.specs.declared.program.Function.{Function}
 use Rattle.c_tree.specs.declared.program.FunctionType.{FunctionType}
 use Rattle.c_tree.specs.declared.program.StaticObject.{StaticObject}
 use Rattle.c_tree.specs.declared.statement.Content.TheVariants.{Literal}
-use Rattle.c_tree.specs.declared.statement.Statement.{Expression, If, Statement}
+use Rattle.c_tree.specs.declared.statement.Statement.{Expression, If}
 use Rattle.obj_memory.specs.declared.int_type.IntType.TheVariants.{Char, UnsignedLong}
 use Rattle.obj_memory.specs.declared.operator.BinaryOperator.TheVariants.{BitAnd, Greater, ShiftRight}
 use Rattle.source_meaning.proofs.Samples.{binary, box, call, compare, convert, decay, defined, function_type, index, int, integer_kind, library, lvalue, none, number, one, part, plain, plain_variable, read, string_literal, two, vec_of}

@@ -185,3 +185,12 @@ mod RowReturnFromLoops
 mod RowPutcharNegative
 mod RowExitNegative
 mod RowInputEnds
+mod RowJudgedAfterRightSide
+mod RowJudgedAfterOperand
+mod RowFreeOfInteger
+mod RowFreeOfAutomatic
+mod RowFreeOfMember
+mod RowFreeOfDeadInside
+mod RowCallocOverflows
+mod RowUnterminatedString
+mod RowPrintDead

@@ -23,6 +23,7 @@ pub mod ValidNames
 pub mod ValidProgramNames
 pub mod RunsAlike
 mod Samples
+mod Hexadecimal
 mod LibrarySamples
 mod RowBounds
 mod RowDead
@@ -188,3 +189,12 @@ mod RowReturnFromLoops
 mod RowPutcharNegative
 mod RowExitNegative
 mod RowInputEnds
+mod RowJudgedAfterRightSide
+mod RowJudgedAfterOperand
+mod RowFreeOfInteger
+mod RowFreeOfAutomatic
+mod RowFreeOfMember
+mod RowFreeOfDeadInside
+mod RowCallocOverflows
+mod RowUnterminatedString
+mod RowPrintDead

@@ -1,5 +1,6 @@
 -- `int f(int n){return n+1;}int main(void){return f(2);}`
--- A call of a function without objects takes no key. The text is rows/keys_for_objects_alone.c.
+-- A call of a function without objects takes no key. The text is rows/keys_for_objects_alone.c; gcc 12.2.0 gives the
+-- same output and status.
 use Rattle.std.proofs.Common.{Some, [], refl, true, ◌∷◌, ◌≡◌}
 use Rattle.c_tree.specs.ValidProgram.{is_valid_program}
 use Rattle.c_tree.specs.declared.c_type.TypeWord.TheVariants.{Gives, Integer as IntegerWord, Takes}

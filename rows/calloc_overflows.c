@@ -1,0 +1,1 @@
+int main(void){return calloc(1UL<<63,2)==0;}

@@ -1,0 +1,1 @@
+int main(void){char*p=malloc(2);free(p);printf("a%s",p);return 0;}

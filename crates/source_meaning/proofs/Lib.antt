@@ -43,7 +43,6 @@ mod RowGrown
 mod RowNotGrown
 mod RowTooLong
 mod RowCounted
-mod Hexadecimal
 mod RowFirst
 mod RowGlobal
 mod RowEndless

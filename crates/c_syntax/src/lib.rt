@@ -4,6 +4,7 @@
 pub mod containers;
 pub mod declaration;
 pub mod place;
+pub mod specifiers;
 pub mod statement;
 pub mod tree;
 
@@ -13,6 +14,7 @@ pub use crate::declaration::{
     InitializerItem,
 };
 pub use crate::place::{Place, Placed, Spelled};
+pub use crate::specifiers::{TypeSize, TypeWords};
 pub use crate::statement::{Block, BlockItem, External, ForInit, Statement, Unit};
 pub use crate::tree::{
     Arguments, Declarator, Enumerator, Expression, Member, Parameters, Specifier, TypedDeclarator,

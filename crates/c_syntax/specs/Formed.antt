@@ -12,9 +12,9 @@ use Rattle.c_syntax.specs.declared.specifiers.TypeSize.{TypeSize}
 use Rattle.c_syntax.specs.declared.specifiers.TypeSize.TheVariants as size
 use Rattle.c_syntax.specs.declared.specifiers.TypeWords.{TypeWords}
 use Rattle.c_syntax.specs.declared.place.Spelled.{Spelled}
-use Rattle.c_syntax.specs.Tree.{Expression, Arguments, MoreArguments, TypedDeclarator, Declarator, Parameters, MoreParameters, Specifiers, Specifier, Members, MoreDeclarators, Enumerator, MoreEnumerators, Designator, Designation, Initializer, InitializerItem, MoreItems}
+use Rattle.c_syntax.specs.Tree.{Expression, Arguments, MoreArguments, TypedDeclarator, Declarator, Parameters, MoreParameters, Specifiers, Specifier, Members, Member, MoreDeclarators, Enumerator, MoreEnumerators, Designator, Designation, Initializer, InitializerItem, MoreItems}
 use Rattle.c_syntax.specs.Tree as t
-use Rattle.c_syntax.specs.Statements.{InitDeclarator, InitDeclarators, Declaration, ForInit, Statement, Block, BlockItems, External, Unit}
+use Rattle.c_syntax.specs.Statements.{InitDeclarator, InitDeclarators, Declaration, ForInit, Statement, Block, BlockItems, BlockItem, External, Unit}
 use Rattle.c_syntax.specs.Statements as s
 use Rattle.c_syntax.specs.Levels.{expression_levels, declarator_levels, specifiers_levels, initializer_levels, statement_levels, block_levels}
 
@@ -319,7 +319,10 @@ module _ (names : List (List ℕ)) where
 
     pub AreMembers : Members → Type 0
     AreMembers t.no_members = ⊤
-    AreMembers (t.members z d m at rest) = (names_one_type z ≡ true) × EachSpecifier z × (has_typedef z ≡ false) × (has_name d ≡ true) × IsDeclarator d × AreMoreDeclarators m × AreMembers rest
+    AreMembers (t.members x m) = IsMember x × AreMembers m
+
+    pub IsMember : Member → Type 0
+    IsMember (t.member_declaration z d m at) = (names_one_type z ≡ true) × EachSpecifier z × (has_typedef z ≡ false) × (has_name d ≡ true) × IsDeclarator d × AreMoreDeclarators m
 
     pub AreMoreDeclarators : MoreDeclarators → Type 0
     AreMoreDeclarators t.end_of_declarators = ⊤
@@ -496,8 +499,11 @@ module _ (levels : ℕ) where
 
       pub AreItems : BlockItems → Type 0
       AreItems s.no_items = ⊤
-      AreItems (s.declaration_item d m) = IsLocal names d × AreItems m
-      AreItems (s.statement_item x m) = IsStatement x × AreItems m
+      AreItems (s.items x m) = IsBlockItem x × AreItems m
+
+      pub IsBlockItem : BlockItem → Type 0
+      IsBlockItem (s.local d) = IsLocal names d
+      IsBlockItem (s.inner x) = IsStatement x
 
   -- C99 6.9
   abbrev pub IsExternal : List (List ℕ) → External → Type 0

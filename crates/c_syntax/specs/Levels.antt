@@ -4,9 +4,9 @@
 -- has no parts, 0. A statement without a statement inside has 0, so an empty block too; each other has 1 more than the
 -- greatest statement inside, and its expressions and declarations are measured by themselves.
 use Rattle.std.specs.Prelude.{ℕ, suc, max, List, [], ◌∷◌, Option, Some, None}
-use Rattle.c_syntax.specs.Tree.{Expression, Arguments, MoreArguments, TypedDeclarator, Declarator, Parameters, MoreParameters, Specifiers, Specifier, Members, MoreDeclarators, Enumerator, MoreEnumerators, Designator, Designation, Initializer, InitializerItem, MoreItems}
+use Rattle.c_syntax.specs.Tree.{Expression, Arguments, MoreArguments, TypedDeclarator, Declarator, Parameters, MoreParameters, Specifiers, Specifier, Members, Member, MoreDeclarators, Enumerator, MoreEnumerators, Designator, Designation, Initializer, InitializerItem, MoreItems}
 use Rattle.c_syntax.specs.Tree as t
-use Rattle.c_syntax.specs.Statements.{Statement, Block, BlockItems}
+use Rattle.c_syntax.specs.Statements.{Statement, Block, BlockItems, BlockItem}
 use Rattle.c_syntax.specs.Statements as s
 
 abbrev mutual
@@ -71,7 +71,10 @@ abbrev mutual
 
   pub members_levels : Members → ℕ
   members_levels t.no_members = 0
-  members_levels (t.members z d m at rest) = max (specifiers_levels z) (max (declarator_levels d) (max (more_declarators_levels m) (members_levels rest)))
+  members_levels (t.members x m) = max (member_levels x) (members_levels m)
+
+  pub member_levels : Member → ℕ
+  member_levels (t.member_declaration z d m at) = max (specifiers_levels z) (max (declarator_levels d) (more_declarators_levels m))
 
   pub more_declarators_levels : MoreDeclarators → ℕ
   more_declarators_levels t.end_of_declarators = 0
@@ -127,5 +130,8 @@ abbrev mutual
 
   pub items_levels : BlockItems → ℕ
   items_levels s.no_items = 0
-  items_levels (s.declaration_item d m) = items_levels m
-  items_levels (s.statement_item x m) = max (suc (statement_levels x)) (items_levels m)
+  items_levels (s.items x m) = max (block_item_levels x) (items_levels m)
+
+  pub block_item_levels : BlockItem → ℕ
+  block_item_levels (s.local d) = 0
+  block_item_levels (s.inner x) = suc (statement_levels x)

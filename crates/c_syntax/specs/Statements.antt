@@ -47,8 +47,11 @@ mutual
 
   pub data BlockItems : Type 0 where
     no_items : BlockItems
-    declaration_item : Declaration → BlockItems → BlockItems
-    statement_item : Statement → BlockItems → BlockItems
+    items : BlockItem → BlockItems → BlockItems
+
+  pub data BlockItem : Type 0 where
+    local : Declaration → BlockItem
+    inner : Statement → BlockItem
 
 -- C99 6.9
 pub data External : Type 0 where

@@ -84,7 +84,10 @@ mutual
   -- C99 6.7.2.1
   pub data Members : Type 0 where
     no_members : Members
-    members : Specifiers → Declarator → MoreDeclarators → Place → Members → Members
+    members : Member → Members → Members
+
+  pub data Member : Type 0 where
+    member_declaration : Specifiers → Declarator → MoreDeclarators → Place → Member
 
   pub data MoreDeclarators : Type 0 where
     end_of_declarators : MoreDeclarators

@@ -10,9 +10,9 @@ use Rattle.c_lexer.specs.declared.token.Word.TheVariants as word
 use Rattle.c_syntax.specs.declared.place.Place.{Place}
 use Rattle.c_syntax.specs.declared.place.Placed.{Placed}
 use Rattle.c_syntax.specs.declared.place.Spelled.{Spelled}
-use Rattle.c_syntax.specs.Tree.{Expression, Arguments, MoreArguments, TypedDeclarator, Declarator, Parameters, MoreParameters, Specifiers, Specifier, Members, MoreDeclarators, Enumerator, MoreEnumerators, Designator, Designation, Initializer, InitializerItem, MoreItems}
+use Rattle.c_syntax.specs.Tree.{Expression, Arguments, MoreArguments, TypedDeclarator, Declarator, Parameters, MoreParameters, Specifiers, Specifier, Members, Member, MoreDeclarators, Enumerator, MoreEnumerators, Designator, Designation, Initializer, InitializerItem, MoreItems}
 use Rattle.c_syntax.specs.Tree as t
-use Rattle.c_syntax.specs.Statements.{InitDeclarator, InitDeclarators, Declaration, ForInit, Statement, Block, BlockItems, External, Unit}
+use Rattle.c_syntax.specs.Statements.{InitDeclarator, InitDeclarators, Declaration, ForInit, Statement, Block, BlockItems, BlockItem, External, Unit}
 use Rattle.c_syntax.specs.Statements as s
 
 abbrev pub Words : Type 0
@@ -129,7 +129,10 @@ abbrev mutual
 
   pub members_words : Members → Words → Words
   members_words t.no_members i = i
-  members_words (t.members z d m at rest) i = specifiers_words z (declarator_words d (more_declarators_words m (punctuator p.Semicolon at ∷ members_words rest i)))
+  members_words (t.members x m) i = member_words x (members_words m i)
+
+  pub member_words : Member → Words → Words
+  member_words (t.member_declaration z d m at) i = specifiers_words z (declarator_words d (more_declarators_words m (punctuator p.Semicolon at ∷ i)))
 
   pub more_declarators_words : MoreDeclarators → Words → Words
   more_declarators_words t.end_of_declarators i = i
@@ -216,8 +219,11 @@ abbrev mutual
 
   pub items_words : BlockItems → Words → Words
   items_words s.no_items i = i
-  items_words (s.declaration_item d m) i = declaration_words d (items_words m i)
-  items_words (s.statement_item x m) i = statement_words x (items_words m i)
+  items_words (s.items x m) i = block_item_words x (items_words m i)
+
+  pub block_item_words : BlockItem → Words → Words
+  block_item_words (s.local d) i = declaration_words d i
+  block_item_words (s.inner x) i = statement_words x i
 
 abbrev pub external_words : External → Words → Words
 external_words (s.definition z d b) i = specifiers_words z (declarator_words d (block_words b i))

@@ -6,7 +6,9 @@ pub mod declaration;
 pub mod place;
 pub mod specifiers;
 pub mod statement;
+mod statement_words;
 pub mod tree;
+mod tree_words;
 
 pub use crate::containers::{Boxed, Items};
 pub use crate::declaration::{
@@ -16,6 +18,7 @@ pub use crate::declaration::{
 pub use crate::place::{Place, Placed, Spelled};
 pub use crate::specifiers::{TypeSize, TypeWords};
 pub use crate::statement::{Block, BlockItem, External, ForInit, Statement, Unit};
+pub use crate::statement_words::words;
 pub use crate::tree::{
     Arguments, Declarator, Enumerator, Expression, Member, Parameters, Specifier, TypedDeclarator,
 };

@@ -47,29 +47,13 @@ pub enum Statement<'a> {
     /// `if ( expression ) statement` (6.8.4.1).
     If(Place, Place, Expression<'a>, Place, Boxed<Statement<'a>>),
     /// `if ( expression ) statement else statement` (6.8.4.1).
-    IfElse(
-        Place,
-        Place,
-        Expression<'a>,
-        Place,
-        Boxed<Statement<'a>>,
-        Place,
-        Boxed<Statement<'a>>,
-    ),
+    IfElse(Place, Place, Expression<'a>, Place, Boxed<Statement<'a>>, Place, Boxed<Statement<'a>>),
     /// `switch ( expression ) block` (6.8.4.2).
     Switch(Place, Place, Expression<'a>, Place, Block<'a>),
     /// `while ( expression ) statement` (6.8.5.1).
     While(Place, Place, Expression<'a>, Place, Boxed<Statement<'a>>),
     /// `do statement while ( expression ) ;` (6.8.5.2).
-    Do(
-        Place,
-        Boxed<Statement<'a>>,
-        Place,
-        Place,
-        Expression<'a>,
-        Place,
-        Place,
-    ),
+    Do(Place, Boxed<Statement<'a>>, Place, Place, Expression<'a>, Place, Place),
     /// `for ( first condition ; step ) statement`, the first part with its semicolon (6.8.5.3).
     For(
         Place,

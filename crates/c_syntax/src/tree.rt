@@ -38,13 +38,7 @@ pub enum Expression<'a> {
     /// Two operands around an operator from `*` to `||`, or around the comma (6.5.5 to 6.5.14, 6.5.17).
     Binary(Boxed<Expression<'a>>, Punctuator, Place, Boxed<Expression<'a>>),
     /// `expression ? expression : expression` (6.5.15).
-    Conditional(
-        Boxed<Expression<'a>>,
-        Place,
-        Boxed<Expression<'a>>,
-        Place,
-        Boxed<Expression<'a>>,
-    ),
+    Conditional(Boxed<Expression<'a>>, Place, Boxed<Expression<'a>>, Place, Boxed<Expression<'a>>),
     /// Two operands around an assignment operator (6.5.16).
     Assignment(Boxed<Expression<'a>>, Punctuator, Place, Boxed<Expression<'a>>),
 }
@@ -98,10 +92,7 @@ pub enum Parameters<'a> {
     /// The word `void` alone.
     Void(Place),
     /// The first parameter, and the others, each behind its comma.
-    Given(
-        Boxed<TypedDeclarator<'a>>,
-        Items<(Place, TypedDeclarator<'a>)>,
-    ),
+    Given(Boxed<TypedDeclarator<'a>>, Items<(Place, TypedDeclarator<'a>)>),
 }
 
 /// A word of the specifiers of a declaration (C99 6.7.1 to 6.7.4), or a structure, union or enumeration.
@@ -115,14 +106,7 @@ pub enum Specifier<'a> {
     /// `struct` or `union`, and a tag (6.7.2.1).
     Structure(Keyword, Place, Spelled<'a>),
     /// `struct` or `union`, a tag or none, and `{ members }` (6.7.2.1).
-    StructureBody(
-        Keyword,
-        Place,
-        Option<Spelled<'a>>,
-        Place,
-        Items<Member<'a>>,
-        Place,
-    ),
+    StructureBody(Keyword, Place, Option<Spelled<'a>>, Place, Items<Member<'a>>, Place),
     /// `enum` and a tag (6.7.2.2).
     Enumeration(Place, Spelled<'a>),
     /// `enum`, a tag or none, `{`, the first enumerator, the others, each behind its comma, a last comma or none, and `}`

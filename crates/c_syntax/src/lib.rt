@@ -3,6 +3,8 @@
 
 pub mod containers;
 pub mod declaration;
+pub mod names;
+pub mod operators;
 pub mod place;
 pub mod specifiers;
 pub mod statement;
@@ -15,7 +17,7 @@ pub use crate::declaration::{
     Declaration, Designation, Designator, InitDeclarator, InitDeclarators, Initializer,
     InitializerItem,
 };
-pub use crate::place::{Place, Placed, Spelled};
+pub use crate::place::{Place, Placed, Spelled, with_places};
 pub use crate::specifiers::{TypeSize, TypeWords};
 pub use crate::statement::{Block, BlockItem, External, ForInit, Statement, Unit};
 pub use crate::statement_words::words;

@@ -1,7 +1,11 @@
 //! Where a token stands in the text, and tokens with their places.
 
-use c_lexer::{Spelling, Word};
+ghost use Rattle.std.specs.Prelude.{◌≡◌, IfOk};
+ghost use Rattle.c_syntax.specs.Words.{placed};
+
+use c_lexer::{Spelling, Token, Word};
 use sb_base::Line;
+use std::alloc::{AllocError, Global};
 
 /// Where a token stands.
 #[derive(Clone, Copy, Debug, PartialEq, Eq)]
@@ -29,4 +33,22 @@ pub struct Spelled<'a> {
     pub spelling: Spelling<'a>,
     /// Where it stands.
     pub place: Place,
+}
+
+/// The words of tokens with their places, numbered from 0, or the answer that there is no memory for them.
+pub fn with_places<'a>(alloc: Global, tokens: &[Token<'a>]) -> Result<Vec<Placed<'a>>, AllocError>
+    ensures { IfOk result (λ words. words.items ≡ placed tokens.now) }
+{
+    let mut words = Vec::new(alloc);
+    for token in tokens {
+        let place = Place {
+            at: words.len() as u64,
+            line: token.line,
+        };
+        words.push(Placed {
+            word: token.word.again(),
+            place,
+        })?;
+    }
+    Ok(words)
 }

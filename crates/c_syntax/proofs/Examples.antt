@@ -1,5 +1,5 @@
 -- Small trees, to compare the definitions with C99.
-use Rattle.std.proofs.Common.{◌≡◌, ℕ, zero, suc, Bool, true, false, List, [], ◌∷◌, Option, Some, None}
+use Rattle.std.proofs.Common.{◌≡◌, ℕ, zero, suc, true, false, List, [], ◌∷◌, Some, None}
 use mathlib.Core.Path.{refl}
 use Rattle.c_lexer.specs.declared.keyword.Keyword.{Keyword}
 use Rattle.c_lexer.specs.declared.keyword.Keyword.TheVariants as k
@@ -12,7 +12,7 @@ use Rattle.c_syntax.specs.Statements.{Statement, Block, Declaration, Unit}
 use Rattle.c_syntax.specs.Statements as s
 use Rattle.c_syntax.specs.Words as w
 use Rattle.c_syntax.specs.Levels.{expression_levels, statement_levels}
-use Rattle.c_syntax.specs.Formed.{SIZE_T, is_among, with_specifier, with_keyword, names_one_type, names_after, names_after_declaration, defines_function, ends_open, precedence}
+use Rattle.c_syntax.specs.Formed.{SIZE_T, is_among, with_specifier, with_keyword, names_one_type, names_after_declaration, defines_function, ends_open, precedence}
 
 abbrev at : Place
 at = record { at = 0; line = 1 }

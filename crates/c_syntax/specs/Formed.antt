@@ -1,7 +1,7 @@
 -- Which trees are well formed: the shapes of the grammar (C99 6.5 to 6.9), precedence, the nearest else, and typedef names.
 -- Left out: floating types, `_Bool`, `_Complex`, `volatile`, `restrict`, bit-fields, `[static 3]`, `[*]` and `...` in
 -- declarators, identifier lists (6.9.1), `goto` and its labels, compound literals, typedefs inside blocks.
-use Rattle.std.specs.Prelude.{◌≡◌, ℕ, ◌≤◌, ◌<◌, ◌==◌, Bool, true, false, ◌&&◌, ◌||◌, not, if◌then◌else◌, List, [], ◌∷◌, ◌++◌, Option, Some, None, is_some, bytes_eq, ⊤}
+use Rattle.std.specs.Prelude.{◌≡◌, ℕ, ◌≤◌, ◌<◌, Bool, true, false, ◌&&◌, ◌||◌, not, if◌then◌else◌, List, [], ◌∷◌, ◌++◌, Option, Some, None, is_some, bytes_eq, ⊤}
 use Rattle.std.specs.List.{list_any}
 use Rattle.c_lexer.specs.declared.keyword.Keyword.{Keyword}
 use Rattle.c_lexer.specs.declared.keyword.Keyword.TheVariants as k
@@ -11,12 +11,11 @@ use Rattle.c_syntax.specs.declared.place.Place.{Place}
 use Rattle.c_syntax.specs.declared.specifiers.TypeSize.{TypeSize}
 use Rattle.c_syntax.specs.declared.specifiers.TypeSize.TheVariants as size
 use Rattle.c_syntax.specs.declared.specifiers.TypeWords.{TypeWords}
-use Rattle.c_syntax.specs.declared.place.Spelled.{Spelled}
 use Rattle.c_syntax.specs.Tree.{Expression, Arguments, MoreArguments, TypedDeclarator, Declarator, Parameters, MoreParameters, Specifiers, Specifier, Members, Member, MoreDeclarators, Enumerator, MoreEnumerators, Designator, Designation, Initializer, InitializerItem, MoreItems}
 use Rattle.c_syntax.specs.Tree as t
 use Rattle.c_syntax.specs.Statements.{InitDeclarator, InitDeclarators, Declaration, ForInit, Statement, Block, BlockItems, BlockItem, External, Unit}
 use Rattle.c_syntax.specs.Statements as s
-use Rattle.c_syntax.specs.Levels.{expression_levels, declarator_levels, specifiers_levels, initializer_levels, statement_levels, block_levels}
+use Rattle.c_syntax.specs.Levels.{expression_levels, declarator_levels, specifiers_levels, initializer_levels, block_levels}
 
 -- how tightly an operator between two operands binds; 0: it is none (C99 6.5.5 to 6.5.14, 6.5.17)
 unfoldable pub binary_precedence : Punctuator → ℕ
@@ -108,15 +107,18 @@ is_among x names = list_any (λ y. bytes_eq y x) names
 abbrev pub no_type : TypeWords
 no_type = record { has_sign = false; has_int = false; size = size.Absent }
 
+-- no word has given the size
 abbrev pub is_absent : TypeSize → Bool
 is_absent size.Absent = true
 is_absent _ = false
 
+-- `int` may stand beside it (C99 6.7.2)
 abbrev pub is_integer_size : TypeSize → Bool
 is_integer_size size.Char = false
 is_integer_size size.Other = false
 is_integer_size _ = true
 
+-- `void`, a structure, union, enumeration or typedef name has come
 abbrev pub is_other : TypeSize → Bool
 is_other size.Other = true
 is_other _ = false
@@ -125,24 +127,30 @@ is_other _ = false
 abbrev pub with_sign : TypeWords → Option TypeWords
 with_sign w = if w.has_sign || is_other w.size then None else Some (record w { has_sign = true })
 
+-- with `int`
 abbrev pub with_int : TypeWords → Option TypeWords
 with_int w = if w.has_int || not (is_integer_size w.size) then None else Some (record w { has_int = true })
 
+-- with `char`
 abbrev pub with_char : TypeWords → Option TypeWords
 with_char w = if not w.has_int && is_absent w.size then Some (record w { size = size.Char }) else None
 
+-- with `short`
 abbrev pub with_short : TypeWords → Option TypeWords
 with_short w = if is_absent w.size then Some (record w { size = size.Short }) else None
 
+-- what `long` makes of a size
 abbrev pub longer : TypeSize → Option TypeSize
 longer size.Absent = Some size.Long
 longer size.Long = Some size.LongLong
 longer _ = None
 
+-- the words with this size, if there is one
 abbrev pub of_size : TypeWords → Option TypeSize → Option TypeWords
 of_size w None = None
 of_size w (Some s) = Some (record w { size = s })
 
+-- with a word that is a type by itself
 abbrev pub with_other : TypeWords → Option TypeWords
 with_other w = if not w.has_sign && (not w.has_int && is_absent w.size) then Some (record w { size = size.Other }) else None
 
@@ -164,14 +172,17 @@ with_keyword k.Signed w = with_sign w
 with_keyword k.Unsigned w = with_sign w
 with_keyword _ w = None
 
+-- C99 6.7.2.1
 abbrev pub is_structure_keyword : Keyword → Bool
 is_structure_keyword k.Struct = true
 is_structure_keyword k.Union = true
 is_structure_keyword _ = false
 
+-- with `struct` or `union` and what belongs to it
 abbrev pub with_structure : Keyword → TypeWords → Option TypeWords
 with_structure x w = if is_structure_keyword x then with_other w else None
 
+-- with a specifier; None: no specifiers of one type have it (C99 6.7.2)
 unfoldable pub with_specifier : Specifier → TypeWords → Option TypeWords
 with_specifier (t.keyword x at) w = with_keyword x w
 with_specifier (t.typedef_name x) w = with_other w
@@ -184,10 +195,12 @@ with_specifier (t.enumeration_body at tag l e m c r) w = with_other w
 abbrev pub is_type : TypeWords → Bool
 is_type w = w.has_sign || (w.has_int || not (is_absent w.size))
 
+-- the same, where the words so far may be no type's
 abbrev pub and_specifier : Specifier → Option TypeWords → Option TypeWords
 and_specifier x None = None
 and_specifier x (Some w) = with_specifier x w
 
+-- the words that have come are those of a type
 abbrev pub is_some_type : Option TypeWords → Bool
 is_some_type None = false
 is_some_type (Some w) = is_type w
@@ -201,6 +214,7 @@ names_type w (t.specifiers x z) = names_type (and_specifier x w) z
 abbrev pub names_one_type : Specifiers → Bool
 names_one_type z = names_type (Some no_type) z
 
+-- C99 6.7.1
 abbrev pub is_typedef : Specifier → Bool
 is_typedef (t.keyword k.Typedef at) = true
 is_typedef _ = false
@@ -220,9 +234,11 @@ declared (t.open_array d l r) = declared d
 declared (t.array d l e r) = declared d
 declared (t.function d l a r) = declared d
 
+-- it is not abstract (C99 6.7.5, 6.7.6)
 abbrev pub has_name : Declarator → Bool
 has_name d = is_some (declared d)
 
+-- nothing is left of it (C99 6.7.6)
 abbrev pub is_unnamed : Declarator → Bool
 is_unnamed t.unnamed = true
 is_unnamed _ = false
@@ -237,14 +253,17 @@ abbrev pub is_void : TypedDeclarator → Bool
 is_void (t.typed (t.specifiers (t.keyword k.Void at) t.no_specifiers) t.unnamed) = true
 is_void _ = false
 
+-- the only parameter, and `void`: this is the empty list, and no parameter (C99 6.7.5.3)
 abbrev pub is_lone_void : TypedDeclarator → MoreParameters → Bool
 is_lone_void x t.end_of_parameters = is_void x
 is_lone_void x _ = false
 
+-- C99 6.7.2.1 asks for one
 abbrev pub is_no_member : Members → Bool
 is_no_member t.no_members = true
 is_no_member _ = false
 
+-- a list of nothing
 abbrev pub is_empty : {A : Type 0} → List A → Bool
 is_empty [] = true
 is_empty (x ∷ z) = false
@@ -252,6 +271,7 @@ is_empty (x ∷ z) = false
 -- the names that are typedef names here
 module _ (names : List (List ℕ)) where
   abbrev mutual
+    -- C99 6.5.1 to 6.5.17
     pub IsExpression : Expression → Type 0
     IsExpression (t.identifier x) = is_among x.spelling names ≡ false
     IsExpression (t.integer x) = ⊤
@@ -270,10 +290,12 @@ module _ (names : List (List ℕ)) where
     IsExpression (t.conditional c q a colon b) = (4 ≤ precedence c) × (3 ≤ precedence b) × IsExpression c × IsExpression a × IsExpression b
     IsExpression (t.assignment a w at b) = (is_assignment w ≡ true) × (15 ≤ precedence a) × (2 ≤ precedence b) × IsExpression a × IsExpression b
 
+    -- assignment expressions (C99 6.5.2.2)
     pub AreArguments : Arguments → Type 0
     AreArguments t.no_arguments = ⊤
     AreArguments (t.arguments e m) = (2 ≤ precedence e) × IsExpression e × AreMoreArguments m
 
+    -- the arguments behind the first
     pub AreMoreArguments : MoreArguments → Type 0
     AreMoreArguments t.end_of_arguments = ⊤
     AreMoreArguments (t.more_arguments at e m) = (2 ≤ precedence e) × IsExpression e × AreMoreArguments m
@@ -286,6 +308,7 @@ module _ (names : List (List ℕ)) where
     pub IsParameter : TypedDeclarator → Type 0
     IsParameter (t.typed z d) = (names_one_type z ≡ true) × EachSpecifier z × (has_typedef z ≡ false) × IsDeclarator d
 
+    -- C99 6.7.5, 6.7.6
     pub IsDeclarator : Declarator → Type 0
     IsDeclarator (t.named x) = is_among x.spelling names ≡ false
     IsDeclarator t.unnamed = ⊤
@@ -295,11 +318,13 @@ module _ (names : List (List ℕ)) where
     IsDeclarator (t.array d l e r) = (is_direct d ≡ true) × (3 ≤ precedence e) × IsDeclarator d × IsExpression e
     IsDeclarator (t.function d l a r) = (is_direct d ≡ true) × IsDeclarator d × AreParameters a
 
+    -- C99 6.7.5.3
     pub AreParameters : Parameters → Type 0
     AreParameters t.no_parameters = ⊤
     AreParameters (t.void_parameters at) = ⊤
     AreParameters (t.parameters x m) = (is_lone_void x m ≡ false) × IsParameter x × AreMoreParameters m
 
+    -- the parameters behind the first
     pub AreMoreParameters : MoreParameters → Type 0
     AreMoreParameters t.end_of_parameters = ⊤
     AreMoreParameters (t.more_parameters at x m) = IsParameter x × AreMoreParameters m
@@ -309,6 +334,7 @@ module _ (names : List (List ℕ)) where
     EachSpecifier t.no_specifiers = ⊤
     EachSpecifier (t.specifiers x z) = IsSpecifier x × EachSpecifier z
 
+    -- C99 6.7.1 to 6.7.4
     pub IsSpecifier : Specifier → Type 0
     IsSpecifier (t.keyword x at) = ⊤
     IsSpecifier (t.typedef_name x) = is_among x.spelling names ≡ true
@@ -317,25 +343,31 @@ module _ (names : List (List ℕ)) where
     IsSpecifier (t.enumeration at tag) = ⊤
     IsSpecifier (t.enumeration_body at tag l e m c r) = IsEnumerator e × AreMoreEnumerators m
 
+    -- C99 6.7.2.1
     pub AreMembers : Members → Type 0
     AreMembers t.no_members = ⊤
     AreMembers (t.members x m) = IsMember x × AreMembers m
 
+    -- C99 6.7.2.1, without bit-fields
     pub IsMember : Member → Type 0
     IsMember (t.member_declaration z d m at) = (names_one_type z ≡ true) × EachSpecifier z × (has_typedef z ≡ false) × (has_name d ≡ true) × IsDeclarator d × AreMoreDeclarators m
 
+    -- the declarators behind the first
     pub AreMoreDeclarators : MoreDeclarators → Type 0
     AreMoreDeclarators t.end_of_declarators = ⊤
     AreMoreDeclarators (t.more_declarators at d m) = (has_name d ≡ true) × IsDeclarator d × AreMoreDeclarators m
 
+    -- C99 6.7.2.2
     pub IsEnumerator : Enumerator → Type 0
     IsEnumerator (t.plain x) = is_among x.spelling names ≡ false
     IsEnumerator (t.valued x at e) = (is_among x.spelling names ≡ false) × (3 ≤ precedence e) × IsExpression e
 
+    -- the enumerators behind the first
     pub AreMoreEnumerators : MoreEnumerators → Type 0
     AreMoreEnumerators t.end_of_enumerators = ⊤
     AreMoreEnumerators (t.more_enumerators at e m) = IsEnumerator e × AreMoreEnumerators m
 
+  -- C99 6.7
   abbrev pub AreSpecifiers : Specifiers → Type 0
   AreSpecifiers z = (names_one_type z ≡ true) × EachSpecifier z
 
@@ -349,11 +381,13 @@ module _ (names : List (List ℕ)) where
   AreDesignators (t.element l e r ∷ z) = (3 ≤ precedence e) × IsExpression e × AreDesignators z
   AreDesignators (t.member_named at x ∷ z) = AreDesignators z
 
+  -- C99 6.7.8
   abbrev pub IsDesignation : Option Designation → Type 0
   IsDesignation None = ⊤
   IsDesignation (Some x) = (is_empty x.designators ≡ false) × AreDesignators x.designators
 
   abbrev mutual
+    -- C99 6.7.8
     pub IsInitializer : Initializer → Type 0
     IsInitializer (t.value e) = (2 ≤ precedence e) × IsExpression e
     IsInitializer (t.braced l x m c r) = IsItem x × AreMoreItems m
@@ -374,10 +408,12 @@ with_declared (Some x) names = names ++ x ∷ []
 abbrev pub names_after : Bool → Declarator → List (List ℕ) → List (List ℕ)
 names_after is_typedef d names = if is_typedef then with_declared (declared d) names else names
 
+-- the typedef names behind the declarators after the first
 abbrev pub names_after_more : Bool → List (Place × InitDeclarator) → List (List ℕ) → List (List ℕ)
 names_after_more is_typedef [] names = names
 names_after_more is_typedef (x ∷ z) names = names_after_more is_typedef z (names_after is_typedef x.1.declarator names)
 
+-- the typedef names behind all declarators of a declaration
 abbrev pub names_after_all : Bool → Option InitDeclarators → List (List ℕ) → List (List ℕ)
 names_after_all is_typedef None names = names
 names_after_all is_typedef (Some x) names = names_after_more is_typedef x.others (names_after is_typedef x.first.declarator names)
@@ -386,18 +422,22 @@ names_after_all is_typedef (Some x) names = names_after_more is_typedef x.others
 abbrev pub names_after_declaration : Declaration → List (List ℕ) → List (List ℕ)
 names_after_declaration x names = names_after_all (has_typedef x.specifiers) x.declarators names
 
+-- a name, which may stand in parentheses that hold nothing else
 abbrev pub is_plain_name : Declarator → Bool
 is_plain_name (t.named x) = true
 is_plain_name (t.grouped l d r) = is_plain_name d
 is_plain_name _ = false
 
+-- a parameter with a name
 abbrev pub is_named_parameter : TypedDeclarator → Bool
 is_named_parameter (t.typed z d) = has_name d
 
+-- the parameters behind the first have names
 abbrev pub are_named_parameters : MoreParameters → Bool
 are_named_parameters t.end_of_parameters = true
 are_named_parameters (t.more_parameters at x m) = is_named_parameter x && are_named_parameters m
 
+-- all parameters have names (C99 6.9.1)
 abbrev pub has_named_parameters : Parameters → Bool
 has_named_parameters t.no_parameters = true
 has_named_parameters (t.void_parameters at) = true
@@ -431,6 +471,7 @@ names_after_external (s.declaration x) names = names_after_declaration x names
 
 -- how many levels there may be
 module _ (levels : ℕ) where
+  -- an expression of a statement, measured by itself
   abbrev pub IsWhole : List (List ℕ) → Expression → Type 0
   IsWhole names e = (expression_levels e ≤ levels) × IsExpression names e
 
@@ -443,9 +484,11 @@ module _ (levels : ℕ) where
   abbrev pub BeginDeclaration : List (List ℕ) → Specifiers → Type 0
   BeginDeclaration names z = (specifiers_levels z ≤ levels) × AreSpecifiers names z
 
+  -- a declarator of a declaration (C99 6.7)
   abbrev pub IsDeclared : List (List ℕ) → Declarator → Type 0
   IsDeclared names d = (declarator_levels d ≤ levels) × IsNamed names d
 
+  -- its initializer, if there is one (C99 6.7.8)
   abbrev pub IsInitialized : List (List ℕ) → Option (Place × Initializer) → Type 0
   IsInitialized names None = ⊤
   IsInitialized names (Some x) = (initializer_levels x.1 ≤ levels) × IsInitializer names x.1
@@ -454,10 +497,12 @@ module _ (levels : ℕ) where
   abbrev pub IsInitDeclarator : Bool → List (List ℕ) → InitDeclarator → Type 0
   IsInitDeclarator is_typedef names x = IsDeclared names x.declarator × IsInitialized (names_after is_typedef x.declarator names) x.initializer
 
+  -- the declarators behind the first
   abbrev pub AreMoreInitDeclarators : Bool → List (List ℕ) → List (Place × InitDeclarator) → Type 0
   AreMoreInitDeclarators is_typedef names [] = ⊤
   AreMoreInitDeclarators is_typedef names (x ∷ z) = IsInitDeclarator is_typedef names x.1 × AreMoreInitDeclarators is_typedef (names_after is_typedef x.1.declarator names) z
 
+  -- the declarators of a declaration (C99 6.7)
   abbrev pub AreInitDeclarators : Bool → List (List ℕ) → Option InitDeclarators → Type 0
   AreInitDeclarators is_typedef names None = ⊤
   AreInitDeclarators is_typedef names (Some x) = IsInitDeclarator is_typedef names x.first × AreMoreInitDeclarators is_typedef (names_after is_typedef x.first.declarator names) x.others
@@ -512,6 +557,7 @@ module _ (levels : ℕ) where
       BeginDeclaration names z × IsDeclared names d × (defines_function d ≡ true) ×
       (block_levels b ≤ levels) × IsBlock (names_after (has_typedef z) d names) b
 
+  -- C99 6.9, each with the typedef names that those before it leave
   abbrev pub AreExternals : List (List ℕ) → List External → Type 0
   AreExternals names [] = ⊤
   AreExternals names (x ∷ z) = IsExternal names x × AreExternals (names_after_external x names) z

@@ -88,11 +88,13 @@ abbrev mutual
   more_enumerators_levels t.end_of_enumerators = 0
   more_enumerators_levels (t.more_enumerators at e m) = max (enumerator_levels e) (more_enumerators_levels m)
 
+-- the sizes in designators
 abbrev pub designators_levels : List Designator → ℕ
 designators_levels [] = 0
 designators_levels (t.element l e r ∷ z) = max (expression_levels e) (designators_levels z)
 designators_levels (t.member_named at x ∷ z) = designators_levels z
 
+-- C99 6.7.8
 abbrev pub designation_levels : Option Designation → ℕ
 designation_levels None = 0
 designation_levels (Some x) = designators_levels x.designators

@@ -1,6 +1,6 @@
 -- The syntax trees of expressions, declarators, specifiers and initializers (C99 6.5, 6.7). A node has the places of its
 -- own tokens in the order of the text; its constructor says which they are.
-use Rattle.std.specs.Prelude.{ℕ, List, Option}
+use Rattle.std.specs.Prelude.{List, Option}
 use Rattle.c_lexer.specs.declared.keyword.Keyword.{Keyword}
 use Rattle.c_lexer.specs.declared.punctuator.Punctuator.{Punctuator}
 use Rattle.c_syntax.specs.declared.place.Place.{Place}

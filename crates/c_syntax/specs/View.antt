@@ -1,5 +1,5 @@
 -- Trees without where they lie in memory: from the code's trees to the plain ones.
-use Rattle.std.specs.Prelude.{ℕ, List, [], ◌∷◌, map, Option, Some, None}
+use Rattle.std.specs.Prelude.{List, [], ◌∷◌, map}
 use Rattle.c_syntax.specs.declared.place.Place.{Place}
 use Rattle.c_syntax.specs.declared.tree.Arguments.TheOpen.{Arguments-F, Declarator-F, Enumerator-F, Expression-F, Parameters-F, Specifier-F, Member-F, TypedDeclarator-F}
 use Rattle.c_syntax.specs.declared.tree.Arguments as ra

@@ -15,6 +15,7 @@ use Rattle.c_syntax.specs.Tree as t
 use Rattle.c_syntax.specs.Statements.{InitDeclarator, InitDeclarators, Declaration, ForInit, Statement, Block, BlockItems, BlockItem, External, Unit}
 use Rattle.c_syntax.specs.Statements as s
 
+-- words with their places
 abbrev pub Words : Type 0
 Words = List Placed
 
@@ -27,27 +28,35 @@ placed_from n (t ∷ z) = (record { word = t.word; place = record { at = n; line
 abbrev pub placed : List Token → Words
 placed tokens = placed_from 0 tokens
 
+-- a word at a place
 abbrev pub word_at : Word → Place → Placed
 word_at w at = record { word = w; place = at }
 
+-- a keyword
 abbrev pub keyword : Keyword → Place → Placed
 keyword w at = word_at (word.Keyword w) at
 
+-- a punctuator
 abbrev pub punctuator : Punctuator → Place → Placed
 punctuator w at = word_at (word.Punctuator w) at
 
+-- an identifier
 abbrev pub identifier : Spelled → Placed
 identifier x = word_at (word.Identifier x.spelling) x.place
 
+-- an integer constant
 abbrev pub integer : Spelled → Placed
 integer x = word_at (word.Integer x.spelling) x.place
 
+-- a character constant
 abbrev pub character : Spelled → Placed
 character x = word_at (word.Character x.spelling) x.place
 
+-- a string literal
 abbrev pub string : Spelled → Placed
 string x = word_at (word.StringLiteral x.spelling) x.place
 
+-- string literals that stand side by side
 abbrev pub strings_words : List Spelled → Words → Words
 strings_words [] i = i
 strings_words (x ∷ z) i = string x ∷ strings_words z i
@@ -146,14 +155,17 @@ abbrev mutual
   more_enumerators_words t.end_of_enumerators i = i
   more_enumerators_words (t.more_enumerators at e m) i = punctuator p.Comma at ∷ enumerator_words e (more_enumerators_words m i)
 
+-- C99 6.7.8
 abbrev pub designator_words : Designator → Words → Words
 designator_words (t.element l e r) i = punctuator p.LeftBracket l ∷ expression_words e (punctuator p.RightBracket r ∷ i)
 designator_words (t.member_named at x) i = punctuator p.Dot at ∷ identifier x ∷ i
 
+-- designators, one behind the other
 abbrev pub designators_words : List Designator → Words → Words
 designators_words [] i = i
 designators_words (x ∷ z) i = designator_words x (designators_words z i)
 
+-- designators and `=`, or nothing
 abbrev pub designation_words : Option Designation → Words → Words
 designation_words None i = i
 designation_words (Some x) i = designators_words x.designators (punctuator p.Assign x.equals ∷ i)
@@ -175,17 +187,21 @@ abbrev pub initialized_words : Option (Place × Initializer) → Words → Words
 initialized_words None i = i
 initialized_words (Some x) i = punctuator p.Assign x.0 ∷ initializer_words x.1 i
 
+-- C99 6.7
 abbrev pub init_declarator_words : InitDeclarator → Words → Words
 init_declarator_words x i = declarator_words x.declarator (initialized_words x.initializer i)
 
+-- the declarators behind the first
 abbrev pub more_init_declarators_words : List (Place × InitDeclarator) → Words → Words
 more_init_declarators_words [] i = i
 more_init_declarators_words (x ∷ z) i = punctuator p.Comma x.0 ∷ init_declarator_words x.1 (more_init_declarators_words z i)
 
+-- the declarators of a declaration, or none
 abbrev pub init_declarators_words : Option InitDeclarators → Words → Words
 init_declarators_words None i = i
 init_declarators_words (Some x) i = init_declarator_words x.first (more_init_declarators_words x.others i)
 
+-- C99 6.7
 abbrev pub declaration_words : Declaration → Words → Words
 declaration_words x i = specifiers_words x.specifiers (init_declarators_words x.declarators (punctuator p.Semicolon x.semicolon ∷ i))
 
@@ -194,6 +210,7 @@ abbrev pub optional_words : Option Expression → Words → Words
 optional_words None i = i
 optional_words (Some e) i = expression_words e i
 
+-- C99 6.8.5.3
 abbrev pub for_init_words : ForInit → Words → Words
 for_init_words (s.declares d) i = declaration_words d i
 for_init_words (s.evaluates e at) i = optional_words e (punctuator p.Semicolon at ∷ i)
@@ -225,10 +242,12 @@ abbrev mutual
   block_item_words (s.local d) i = declaration_words d i
   block_item_words (s.inner x) i = statement_words x i
 
+-- C99 6.9
 abbrev pub external_words : External → Words → Words
 external_words (s.definition z d b) i = specifiers_words z (declarator_words d (block_words b i))
 external_words (s.declaration d) i = declaration_words d i
 
+-- one behind the other
 abbrev pub externals_words : List External → Words → Words
 externals_words [] i = i
 externals_words (x ∷ z) i = external_words x (externals_words z i)

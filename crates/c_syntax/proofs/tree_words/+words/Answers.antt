@@ -1,4 +1,4 @@
-use Rattle.std.proofs.Common.{◌≡◌, ◌++◌}
+use Rattle.std.proofs.Common.{◌++◌}
 use mathlib.Core.Path.{◌∙◌, ap}
 use Rattle.c_syntax.specs.Words.{member_words}
 use Rattle.c_syntax.proofs.MemberView.{member_parts}

@@ -9,6 +9,8 @@ pub mod place;
 pub mod specifiers;
 pub mod statement;
 mod statement_words;
+#[cfg(test)]
+mod tests;
 pub mod tree;
 mod tree_words;
 

@@ -1,0 +1,28 @@
+//! Syntax trees of the C subset, the words that a tree is written with, and which trees are well formed (C99 6.5 to 6.9).
+#![tactic(auto)]
+
+pub mod containers;
+pub mod declaration;
+pub mod names;
+pub mod operators;
+pub mod place;
+pub mod specifiers;
+pub mod statement;
+mod statement_words;
+#[cfg(test)]
+mod tests;
+pub mod tree;
+mod tree_words;
+
+pub use crate::containers::{Boxed, Items};
+pub use crate::declaration::{
+    Declaration, Designation, Designator, InitDeclarator, InitDeclarators, Initializer,
+    InitializerItem,
+};
+pub use crate::place::{Place, Placed, Spelled, with_places};
+pub use crate::specifiers::{TypeSize, TypeWords};
+pub use crate::statement::{Block, BlockItem, External, ForInit, Statement, Unit};
+pub use crate::statement_words::words;
+pub use crate::tree::{
+    Arguments, Declarator, Enumerator, Expression, Member, Parameters, Specifier, TypedDeclarator,
+};

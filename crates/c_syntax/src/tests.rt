@@ -1,0 +1,60 @@
+//! The words of a tree that is made by hand.
+
+use crate::{
+    Declaration, Declarator, External, InitDeclarator, InitDeclarators, Items, Place, Specifier,
+    Spelled, Unit, with_places, words,
+};
+use c_lexer::{Keyword, Spelling, lex};
+use sb_base::Line;
+use std::alloc::{AllocError, Global};
+use std::test::Fail;
+
+fn place(at: u64) -> Place {
+    Place {
+        at,
+        line: Line::first(),
+    }
+}
+
+fn named(name: &'static [u8], at: u64) -> InitDeclarator<'static> {
+    InitDeclarator {
+        declarator: Declarator::Named(Spelled {
+            spelling: Spelling::new(name),
+            place: place(at),
+        }),
+        initializer: None,
+    }
+}
+
+fn only<T: Drop>(alloc: Global, item: T) -> Result<Items<T>, AllocError> {
+    let mut items = Vec::new(alloc);
+    items.push(item)?;
+    Ok(Items::from_vec(items))
+}
+
+// `int x, y;`: each token once, with its number and line.
+#[test]
+fn puts_the_tokens_of_the_text(rt: HostRuntime) -> Result<(), Fail> {
+    let declaration = Declaration {
+        specifiers: only(rt.alloc(), Specifier::Keyword(Keyword::Int, place(0)))?,
+        declarators: Some(InitDeclarators {
+            first: named(b"x", 1),
+            others: only(rt.alloc(), (place(2), named(b"y", 3)))?,
+        }),
+        semicolon: place(4),
+    };
+    let unit = Unit {
+        externals: only(rt.alloc(), External::Declaration(declaration))?,
+    };
+    let found = words(rt.alloc(), &unit)?;
+    let tokens = lex(rt.alloc(), b"int x, y;").map_err(|_| "no tokens")?;
+    let expected = with_places(rt.alloc(), tokens.as_slice())?;
+    assert_eq!(rt; found.len(), 5);
+    assert_eq!(rt; expected.len(), 5);
+    for (i, word) in found.iter().enumerate() {
+        let other = &expected[i];
+        assert!(rt; word.word.is(&other.word));
+        assert!(rt; word.place == other.place);
+    }
+    Ok(())
+}

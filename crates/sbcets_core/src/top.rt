@@ -17,6 +17,12 @@ use std::alloc::Global;
 /// compiles the file SRC and leaves the image in the file IMAGE; `run IMAGE` runs an image; `go SRC`
 /// compiles and runs. The bytes that are returned are the image that `go` built and ran, else there
 /// are none.
+///
+/// Usage comes exactly for words that are no command or whose budgets are out of range; then ReadFault
+/// where the file is not read or too long; then Refused or ImageRefused, exactly where the source or the
+/// image is; then WriteFault where IMAGE is not written. A run ends with Exited, Limit or Trap as the
+/// machine does, or with InputFault or WriteFault where a stream fails. A fault of the outside comes only
+/// where its count rose, and want of memory may come before anything is written or run.
 #[tactic(auto, using(crate::proofs::Counts::line_counts, crate::proofs::Complete::complete))]
 pub fn sbcets<F: Files, I: Source, O: Sink, E: Sink>(
     alloc: Global,

@@ -188,6 +188,30 @@ impl TypeWords {
     }
 }
 
+/// The words of specifiers so far and one more specifier; `None`: no specifiers have them.
+fn and_specifier(words: Option<TypeWords>, specifier: &Specifier) -> Option<TypeWords>
+    ensures { result ≡ formed.and_specifier (view.specifier_of specifier.now) words }
+{
+    match words {
+        None => None,
+        Some(words) => words.with_specifier(specifier),
+    }
+}
+
+/// Whether specifiers have the words of one type, and no other words of types (C99 6.7.2).
+pub fn names_one_type(specifiers: &[Specifier]) -> bool
+    ensures { result ≡ formed.names_one_type (view.specifiers_in specifiers.now) }
+{
+    let mut words = Some(TypeWords::none());
+    for specifier in specifiers {
+        words = and_specifier(words, specifier);
+    }
+    match words {
+        None => false,
+        Some(words) => words.is_type(),
+    }
+}
+
 /// Whether `typedef` is among the specifiers (C99 6.7.1).
 pub fn has_typedef(specifiers: &[Specifier]) -> bool
     ensures { result ≡ formed.has_typedef (view.specifiers_in specifiers.now) }

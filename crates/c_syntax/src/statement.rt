@@ -1,5 +1,9 @@
 //! Trees of statements and of whole files (C99 6.8, 6.9).
 
+ghost use Rattle.std.specs.Prelude.{◌≡◌};
+ghost use Rattle.c_syntax.specs.Formed as formed;
+ghost use Rattle.c_syntax.specs.StatementsView as views;
+
 use crate::containers::{Boxed, Items};
 use crate::declaration::Declaration;
 use crate::place::Place;
@@ -91,4 +95,25 @@ pub enum External<'a> {
 pub struct Unit<'a> {
     /// These in order.
     pub externals: Items<External<'a>>,
+}
+
+/// Whether a statement ends with an `if` that an `else` could follow (C99 6.8.4.1).
+pub fn ends_open(statement: &Statement) -> bool
+    ensures { result ≡ formed.ends_open (views.statement_of statement.now) }
+{
+    match statement {
+        Statement::If(_, _, _, _, _) => true,
+        Statement::IfElse(_, _, _, _, _, _, inner)
+        | Statement::While(_, _, _, _, inner)
+        | Statement::For(_, _, _, _, _, _, _, inner)
+        | Statement::Case(_, _, _, inner)
+        | Statement::Default(_, _, inner) => ends_open(inner.get()),
+        Statement::Block(_)
+        | Statement::Expression(_, _)
+        | Statement::Switch(_, _, _, _, _)
+        | Statement::Do(_, _, _, _, _, _, _)
+        | Statement::Break(_, _)
+        | Statement::Continue(_, _)
+        | Statement::Return(_, _, _) => false,
+    }
 }

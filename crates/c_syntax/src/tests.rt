@@ -1,8 +1,8 @@
-//! The words of a tree that is made by hand.
+//! A tree that is made by hand: its words, and that it is well formed.
 
 use crate::{
     Declaration, Declarator, External, InitDeclarator, InitDeclarators, Items, Place, Specifier,
-    Spelled, Unit, with_places, words,
+    Spelled, Unit, well_formed, with_places, words,
 };
 use c_lexer::{Keyword, Spelling, lex};
 use sb_base::Line;
@@ -32,20 +32,25 @@ fn only<T: Drop>(alloc: Global, item: T) -> Result<Items<T>, AllocError> {
     Ok(Items::from_vec(items))
 }
 
-// `int x, y;`: each token once, with its number and line.
-#[test]
-fn puts_the_tokens_of_the_text(rt: HostRuntime) -> Result<(), Fail> {
+// `int x, y;`
+fn two_objects(alloc: Global) -> Result<Unit<'static>, AllocError> {
     let declaration = Declaration {
-        specifiers: only(rt.alloc(), Specifier::Keyword(Keyword::Int, place(0)))?,
+        specifiers: only(alloc, Specifier::Keyword(Keyword::Int, place(0)))?,
         declarators: Some(InitDeclarators {
             first: named(b"x", 1),
-            others: only(rt.alloc(), (place(2), named(b"y", 3)))?,
+            others: only(alloc, (place(2), named(b"y", 3)))?,
         }),
         semicolon: place(4),
     };
-    let unit = Unit {
-        externals: only(rt.alloc(), External::Declaration(declaration))?,
-    };
+    Ok(Unit {
+        externals: only(alloc, External::Declaration(declaration))?,
+    })
+}
+
+// Each token of the text once, with its number and line.
+#[test]
+fn puts_the_tokens_of_the_text(rt: HostRuntime) -> Result<(), Fail> {
+    let unit = two_objects(rt.alloc())?;
     let found = words(rt.alloc(), &unit)?;
     let tokens = lex(rt.alloc(), b"int x, y;").map_err(|_| "no tokens")?;
     let expected = with_places(rt.alloc(), tokens.as_slice())?;
@@ -56,5 +61,13 @@ fn puts_the_tokens_of_the_text(rt: HostRuntime) -> Result<(), Fail> {
         assert!(rt; word.word.is(&other.word));
         assert!(rt; word.place == other.place);
     }
+    Ok(())
+}
+
+// The grammar has such a declaration (C99 6.7).
+#[test]
+fn a_declaration_of_two_objects_is_well_formed(rt: HostRuntime) -> Result<(), Fail> {
+    let unit = two_objects(rt.alloc())?;
+    assert!(rt; well_formed(rt.alloc(), &unit)?);
     Ok(())
 }

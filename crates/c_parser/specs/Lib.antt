@@ -1,0 +1,11 @@
+pub mod Reader
+pub mod Readers
+pub mod ExpressionReader
+pub mod SpecifierReader
+pub mod DeclaratorReader
+pub mod Nested
+pub mod InitializerReader
+pub mod DeclarationReader
+pub mod StatementReader
+pub mod UnitReader
+pub mod Reads

@@ -1,0 +1,6 @@
+mod MemberSteps
+mod SuffixSteps
+mod SpecifierSteps
+mod DirectSteps
+mod TypedView
+mod OperationSteps

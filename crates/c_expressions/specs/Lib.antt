@@ -1,0 +1,2 @@
+pub mod LeveledReads
+pub mod Steps

@@ -1,0 +1,304 @@
+//! Reading declarators (C99 6.7.5, 6.7.6).
+
+ghost use Rattle.std.specs.Prelude.{◌≡◌, ◌<◌, ◌||◌, ◌&&◌, suc, nat_lt};
+ghost use Rattle.c_lexer.specs.declared.punctuator.Punctuator.TheVariants as p;
+ghost use Rattle.c_grammar.specs.Reader.{next_is, next_is_punctuator};
+ghost use Rattle.c_expressions.specs.Steps.{suffix_next};
+ghost use Rattle.c_grammar.specs.Readers as common;
+ghost use Rattle.c_grammar.specs.DeclaratorReader as spec;
+ghost use Rattle.c_grammar.specs.Nested.{readers};
+ghost use Rattle.c_expressions.specs.LeveledReads.{ReadsLeveled, Below, Deeper};
+ghost use Rattle.c_syntax.specs.Tree as t;
+ghost use Rattle.c_syntax.specs.View.{declarator_of};
+ghost use Rattle.c_syntax.specs.Levels.{declarator_levels};
+
+use crate::grammar::Grammar;
+use crate::leveled::{Leveled, leaf};
+use crate::specifier::begins_specifiers;
+use c_grammar::cursor::{Cursor, Fault, is_punctuator, is_same, next_is, spelled};
+use c_grammar::declarator_kind::DeclaratorKind;
+use c_lexer::{Punctuator, Spelling, Word};
+use c_syntax::names::is_among;
+use c_syntax::{Boxed, Declarator, Expression, Items, Place, Placed, Specifier, Spelled};
+use std::alloc::Global;
+
+/// Whether a declarator of this kind may have a name.
+fn may_have_name(kind: DeclaratorKind) -> bool
+    ensures { result ≡ common.may_have_name kind }
+{
+    !matches!(kind, DeclaratorKind::Abstract)
+}
+
+/// Whether a declarator of this kind has a name.
+fn must_have_name(kind: DeclaratorKind) -> bool
+    ensures { result ≡ common.must_have_name kind }
+{
+    matches!(kind, DeclaratorKind::Named)
+}
+
+/// No word of a declarator.
+fn unnamed<'a>(kind: DeclaratorKind, rest: &[Placed<'a>]) -> Result<Leveled<Declarator<'a>>, Fault>
+    ensures { ReadsLeveled declarator_of declarator_levels 1 (spec.unnamed_at kind rest.now) result rest.now }
+{
+    if must_have_name(kind) {
+        return Err(Fault::Refused);
+    }
+    Ok(leaf(Declarator::Unnamed))
+}
+
+/// A name as a declarator.
+fn named<'a>(name: Spelled<'a>) -> Leveled<Declarator<'a>>
+    ensures tree { declarator_of result.tree ≡ t.named name.entry }
+    ensures levels { result.levels ≡ 0 }
+{
+    leaf(Declarator::Named(name))
+}
+
+/// Whether the next word begins or ends parameters.
+fn begins_parameters(names: &[Spelling], rest: &[Placed]) -> bool
+    ensures { result ≡ next_is_punctuator p.RightParenthesis rest.now || common.begins_specifiers names.now rest.now }
+{
+    next_is(rest, Punctuator::RightParenthesis) || begins_specifiers(names, rest)
+}
+
+/// Whether the next word is `(` or `[`, and a declarator with these levels has fewer than a number.
+fn begins_suffix(rest: &[Placed], levels: usize, limit: usize) -> bool
+    ensures { result ≡ next_is spec.begins_suffix rest.now && nat_lt levels limit }
+{
+    let begins = next_is(rest, Punctuator::LeftParenthesis)
+        || next_is(rest, Punctuator::LeftBracket);
+    begins && levels < limit
+}
+
+impl<
+    't,
+    'a,
+    E: Fn(
+        Global,
+        &[Spelling<'a>],
+        &mut Cursor<'_, 'a>,
+        usize,
+        Option<Place>,
+        u8,
+    ) -> Result<Leveled<Expression<'a>>, Fault>,
+    S: Fn(
+        Global,
+        &[Spelling<'a>],
+        &mut Cursor<'_, 'a>,
+        usize,
+        bool,
+    ) -> Result<Leveled<Items<Specifier<'a>>>, Fault>,
+    D: Fn(
+        Global,
+        &[Spelling<'a>],
+        &mut Cursor<'_, 'a>,
+        usize,
+        DeclaratorKind,
+    ) -> Result<Leveled<Declarator<'a>>, Fault>,
+> Grammar<'t, 'a, E, S, D> {
+    /// Reads what follows the `(` of parameters (C99 6.7.5.3).
+    fn function(
+        &self,
+        tokens: &mut Cursor<'_, 'a>,
+        left: Leveled<Declarator<'a>>,
+        place: Place,
+    ) -> Result<Leveled<Declarator<'a>>, Fault>
+        requires deeper { Deeper self.now.levels (E.pre self.now.expression) (E.post self.now.expression) (S.pre self.now.specifiers) (S.post self.now.specifiers) (D.pre self.now.declarator) (D.post self.now.declarator) }
+        requires known { Below self.now.levels left.levels (declarator_levels (declarator_of left.tree)) }
+        ensures { ReadsLeveled declarator_of declarator_levels (suc self.now.levels) (spec.function_from self.now.names.now (readers self.now.names.now self.now.levels) self.now.levels (declarator_of left.entry.tree) place tokens.old.rest.now) result tokens.new.rest.now }
+    {
+        let parameters = self.parameters(tokens)?;
+        let right = tokens.expect(Punctuator::RightParenthesis)?;
+        Ok(Leveled {
+            levels: left.levels.max(parameters.levels) + 1,
+            tree: Declarator::Function(
+                Boxed::new(self.alloc, left.tree)?,
+                place,
+                parameters.tree,
+                right,
+            ),
+        })
+    }
+
+    /// Reads what follows a first `(`: the parameters of a function without a name, or a declarator in parentheses (C99 6.7.6).
+    #[tactic(auto, unfolding(c_grammar::specs::DeclaratorReader::parenthesis_from))]
+    fn declarator_parenthesis(
+        &self,
+        tokens: &mut Cursor<'_, 'a>,
+        kind: DeclaratorKind,
+        place: Place,
+    ) -> Result<Leveled<Declarator<'a>>, Fault>
+        requires deeper { Deeper self.now.levels (E.pre self.now.expression) (E.post self.now.expression) (S.pre self.now.specifiers) (S.post self.now.specifiers) (D.pre self.now.declarator) (D.post self.now.declarator) }
+        requires some { 0 < self.now.levels }
+        ensures { ReadsLeveled declarator_of declarator_levels (suc self.now.levels) (spec.parenthesis_from self.now.names.now (readers self.now.names.now self.now.levels) self.now.levels kind place tokens.old.rest.now) result tokens.new.rest.now }
+    {
+        if !must_have_name(kind) && begins_parameters(self.names, tokens.rest) {
+            let nameless = unnamed(kind, tokens.rest)?;
+            return self.function(tokens, nameless, place);
+        }
+        let inner = self.declarator(tokens, kind)?;
+        let right = tokens.expect(Punctuator::RightParenthesis)?;
+        Ok(Leveled {
+            tree: Declarator::Parenthesized(place, Boxed::new(self.alloc, inner.tree)?, right),
+            levels: inner.levels + 1,
+        })
+    }
+
+    /// Reads what is no pointer, without its suffixes.
+    #[tactic(auto, unfolding(c_grammar::specs::DeclaratorReader::direct_from))]
+    fn direct(
+        &self,
+        tokens: &mut Cursor<'_, 'a>,
+        kind: DeclaratorKind,
+    ) -> Result<Leveled<Declarator<'a>>, Fault>
+        requires deeper { Deeper self.now.levels (E.pre self.now.expression) (E.post self.now.expression) (S.pre self.now.specifiers) (S.post self.now.specifiers) (D.pre self.now.declarator) (D.post self.now.declarator) }
+        ensures { ReadsLeveled declarator_of declarator_levels (suc self.now.levels) (spec.direct_from self.now.names.now (readers self.now.names.now self.now.levels) self.now.levels kind tokens.old.rest.now) result tokens.new.rest.now }
+    {
+        let [first, rest @ ..] = tokens.rest else {
+            return unnamed(kind, tokens.rest);
+        };
+        match &first.word {
+            Word::Identifier(spelling) => {
+                if !may_have_name(kind) || is_among(self.names, spelling) {
+                    return unnamed(kind, tokens.rest);
+                }
+                tokens.rest = rest;
+                Ok(named(spelled(spelling, first.place)))
+            }
+            Word::Punctuator(punctuator) => {
+                if !is_same(Punctuator::LeftParenthesis, *punctuator) || self.levels < 1 {
+                    return unnamed(kind, tokens.rest);
+                }
+                tokens.rest = rest;
+                self.declarator_parenthesis(tokens, kind, first.place)
+            }
+            _ => unnamed(kind, tokens.rest),
+        }
+    }
+
+    /// Reads what follows the `[` of an array (C99 6.7.5.2).
+    #[tactic(auto, unfolding(c_grammar::specs::DeclaratorReader::array_from))]
+    fn array(
+        &self,
+        tokens: &mut Cursor<'_, 'a>,
+        left: Leveled<Declarator<'a>>,
+        place: Place,
+    ) -> Result<Leveled<Declarator<'a>>, Fault>
+        requires deeper { Deeper self.now.levels (E.pre self.now.expression) (E.post self.now.expression) (S.pre self.now.specifiers) (S.post self.now.specifiers) (D.pre self.now.declarator) (D.post self.now.declarator) }
+        requires known { Below self.now.levels left.levels (declarator_levels (declarator_of left.tree)) }
+        ensures { ReadsLeveled declarator_of declarator_levels (suc self.now.levels) (spec.array_from self.now.names.now (readers self.now.names.now self.now.levels) self.now.levels (declarator_of left.entry.tree) place tokens.old.rest.now) result tokens.new.rest.now }
+    {
+        if next_is(tokens.rest, Punctuator::RightBracket) {
+            let right = tokens.expect(Punctuator::RightBracket)?;
+            return Ok(Leveled {
+                levels: left.levels + 1,
+                tree: Declarator::OpenArray(Boxed::new(self.alloc, left.tree)?, place, right),
+            });
+        }
+        let size = self.expression(tokens, None, 3)?;
+        let right = tokens.expect(Punctuator::RightBracket)?;
+        Ok(Leveled {
+            levels: left.levels.max(size.levels) + 1,
+            tree: Declarator::Array(
+                Boxed::new(self.alloc, left.tree)?,
+                place,
+                Boxed::new(self.alloc, size.tree)?,
+                right,
+            ),
+        })
+    }
+
+    /// Reads a suffix by its first word, which is `[` or `(`.
+    fn suffix(
+        &self,
+        tokens: &mut Cursor<'_, 'a>,
+        left: Leveled<Declarator<'a>>,
+    ) -> Result<Leveled<Declarator<'a>>, Fault>
+        requires deeper { Deeper self.now.levels (E.pre self.now.expression) (E.post self.now.expression) (S.pre self.now.specifiers) (S.post self.now.specifiers) (D.pre self.now.declarator) (D.post self.now.declarator) }
+        requires known { Below self.now.levels left.levels (declarator_levels (declarator_of left.tree)) }
+        ensures { ReadsLeveled declarator_of declarator_levels (suc self.now.levels) (suffix_next self.now.names.now (readers self.now.names.now self.now.levels) self.now.levels (declarator_of left.entry.tree) tokens.old.rest.now) result tokens.new.rest.now }
+    {
+        let [first, rest @ ..] = tokens.rest else {
+            return Err(Fault::Refused);
+        };
+        tokens.rest = rest;
+        if is_punctuator(&first.word, Punctuator::LeftBracket) {
+            self.array(tokens, left, first.place)
+        } else {
+            self.function(tokens, left, first.place)
+        }
+    }
+
+    /// Reads the suffixes of a declarator.
+    fn suffixes(
+        &self,
+        tokens: &mut Cursor<'_, 'a>,
+        first: Leveled<Declarator<'a>>,
+    ) -> Result<Leveled<Declarator<'a>>, Fault>
+        requires deeper { Deeper self.now.levels (E.pre self.now.expression) (E.post self.now.expression) (S.pre self.now.specifiers) (S.post self.now.specifiers) (D.pre self.now.declarator) (D.post self.now.declarator) }
+        requires known { Below (suc self.now.levels) first.levels (declarator_levels (declarator_of first.tree)) }
+        ensures { ReadsLeveled declarator_of declarator_levels (suc self.now.levels) (spec.suffixes_from self.now.names.now (readers self.now.names.now self.now.levels) self.now.levels self.now.levels (declarator_of first.entry.tree) tokens.old.rest.now) result tokens.new.rest.now }
+    {
+        let mut left = first;
+        for _ in 0..self.levels {
+            if !begins_suffix(tokens.rest, left.levels, self.levels) {
+                return Ok(left);
+            }
+            left = self.suffix(tokens, left)?;
+        }
+        Ok(left)
+    }
+
+    /// Reads what is no pointer.
+    #[tactic(auto, unfolding(c_grammar::specs::DeclaratorReader::suffixed_from))]
+    fn suffixed(
+        &self,
+        tokens: &mut Cursor<'_, 'a>,
+        kind: DeclaratorKind,
+    ) -> Result<Leveled<Declarator<'a>>, Fault>
+        requires deeper { Deeper self.now.levels (E.pre self.now.expression) (E.post self.now.expression) (S.pre self.now.specifiers) (S.post self.now.specifiers) (D.pre self.now.declarator) (D.post self.now.declarator) }
+        ensures { ReadsLeveled declarator_of declarator_levels (suc self.now.levels) (spec.suffixed_from self.now.names.now (readers self.now.names.now self.now.levels) self.now.levels kind tokens.old.rest.now) result tokens.new.rest.now }
+    {
+        let first = self.direct(tokens, kind)?;
+        self.suffixes(tokens, first)
+    }
+
+    /// Reads what follows `*` (C99 6.7.5.1).
+    #[tactic(auto, unfolding(c_grammar::specs::DeclaratorReader::pointer_from))]
+    fn pointer(
+        &self,
+        tokens: &mut Cursor<'_, 'a>,
+        kind: DeclaratorKind,
+        place: Place,
+    ) -> Result<Leveled<Declarator<'a>>, Fault>
+        requires deeper { Deeper self.now.levels (E.pre self.now.expression) (E.post self.now.expression) (S.pre self.now.specifiers) (S.post self.now.specifiers) (D.pre self.now.declarator) (D.post self.now.declarator) }
+        ensures { ReadsLeveled declarator_of declarator_levels (suc self.now.levels) (spec.pointer_from self.now.names.now (readers self.now.names.now self.now.levels) self.now.levels kind place tokens.old.rest.now) result tokens.new.rest.now }
+    {
+        let consts = tokens.consts(self.alloc)?;
+        let inner = self.declarator(tokens, kind)?;
+        Ok(Leveled {
+            tree: Declarator::Pointer(place, consts, Boxed::new(self.alloc, inner.tree)?),
+            levels: inner.levels + 1,
+        })
+    }
+
+    /// Reads a declarator with at most the rules' number of levels (C99 6.7.5, 6.7.6).
+    #[tactic(auto, unfolding(c_grammar::specs::DeclaratorReader::declarator_at))]
+    pub fn declarator_at(
+        &self,
+        tokens: &mut Cursor<'_, 'a>,
+        kind: DeclaratorKind,
+    ) -> Result<Leveled<Declarator<'a>>, Fault>
+        requires deeper { Deeper self.now.levels (E.pre self.now.expression) (E.post self.now.expression) (S.pre self.now.specifiers) (S.post self.now.specifiers) (D.pre self.now.declarator) (D.post self.now.declarator) }
+        ensures { ReadsLeveled declarator_of declarator_levels (suc self.now.levels) (spec.declarator_at self.now.names.now (readers self.now.names.now self.now.levels) self.now.levels kind tokens.old.rest.now) result tokens.new.rest.now }
+    {
+        let [first, rest @ ..] = tokens.rest else {
+            return self.suffixed(tokens, kind);
+        };
+        if !is_punctuator(&first.word, Punctuator::Star) || self.levels < 1 {
+            return self.suffixed(tokens, kind);
+        }
+        tokens.rest = rest;
+        self.pointer(tokens, kind, first.place)
+    }
+}

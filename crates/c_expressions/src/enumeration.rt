@@ -1,0 +1,153 @@
+//! Reading enumerations (C99 6.7.2.2).
+
+ghost use Rattle.std.specs.Prelude.{◌≡◌, ◌<◌, suc, length};
+ghost use Rattle.c_grammar.specs.Reader.{behind_commas_to_brace};
+ghost use Rattle.c_grammar.specs.SpecifierReader as spec;
+ghost use Rattle.c_grammar.specs.Nested.{readers};
+ghost use Rattle.c_expressions.specs.Steps.{enumerators_behind, enumerators_behind_levels};
+ghost use Rattle.c_expressions.specs.LeveledReads.{ReadsLeveled, Deeper};
+ghost use Rattle.c_syntax.specs.View.{specifier_of, enumerator_of};
+ghost use Rattle.c_syntax.specs.Levels.{specifier_levels, enumerator_levels};
+
+use crate::grammar::Grammar;
+use crate::leveled::{Leveled, leaf};
+use crate::structure::begins_body;
+use c_grammar::cursor::{Cursor, Fault, next_is};
+use c_grammar::declarator_kind::DeclaratorKind;
+use c_lexer::{Punctuator, Spelling};
+use c_syntax::{Boxed, Declarator, Enumerator, Expression, Items, Place, Specifier, Spelled};
+use std::alloc::Global;
+
+impl<
+    't,
+    'a,
+    E: Fn(
+        Global,
+        &[Spelling<'a>],
+        &mut Cursor<'_, 'a>,
+        usize,
+        Option<Place>,
+        u8,
+    ) -> Result<Leveled<Expression<'a>>, Fault>,
+    S: Fn(
+        Global,
+        &[Spelling<'a>],
+        &mut Cursor<'_, 'a>,
+        usize,
+        bool,
+    ) -> Result<Leveled<Items<Specifier<'a>>>, Fault>,
+    D: Fn(
+        Global,
+        &[Spelling<'a>],
+        &mut Cursor<'_, 'a>,
+        usize,
+        DeclaratorKind,
+    ) -> Result<Leveled<Declarator<'a>>, Fault>,
+> Grammar<'t, 'a, E, S, D> {
+    /// Reads an enumerator (C99 6.7.2.2).
+    #[tactic(auto, unfolding(c_grammar::specs::SpecifierReader::enumerator_from))]
+    fn enumerator(&self, tokens: &mut Cursor<'_, 'a>) -> Result<Leveled<Enumerator<'a>>, Fault>
+        requires deeper { Deeper self.now.levels (E.pre self.now.expression) (E.post self.now.expression) (S.pre self.now.specifiers) (S.post self.now.specifiers) (D.pre self.now.declarator) (D.post self.now.declarator) }
+        requires some { 0 < self.now.levels }
+        ensures { ReadsLeveled enumerator_of enumerator_levels self.now.levels (spec.enumerator_from self.now.names.now (readers self.now.names.now self.now.levels) self.now.levels tokens.old.rest.now) result tokens.new.rest.now }
+    {
+        let name = tokens.ordinary(self.names)?;
+        if !next_is(tokens.rest, Punctuator::Assign) {
+            return Ok(leaf(Enumerator::Plain(name)));
+        }
+        let place = tokens.expect(Punctuator::Assign)?;
+        let value = self.expression(tokens, None, 3)?;
+        Ok(Leveled {
+            levels: value.levels,
+            tree: Enumerator::Valued(name, place, Boxed::new(self.alloc, value.tree)?),
+        })
+    }
+
+    /// Reads enumerators behind the first, each behind its comma, and a last comma before `}`.
+    fn more_enumerators(
+        &self,
+        tokens: &mut Cursor<'_, 'a>,
+    ) -> Result<Leveled<(Items<(Place, Enumerator<'a>)>, Option<Place>)>, Fault>
+        requires deeper { Deeper self.now.levels (E.pre self.now.expression) (E.post self.now.expression) (S.pre self.now.specifiers) (S.post self.now.specifiers) (D.pre self.now.declarator) (D.post self.now.declarator) }
+        requires some { 0 < self.now.levels }
+        ensures { ReadsLeveled enumerators_behind enumerators_behind_levels self.now.levels (behind_commas_to_brace (spec.enumerator_from self.now.names.now (readers self.now.names.now self.now.levels) self.now.levels) (length tokens.old.rest.now) tokens.old.rest.now) result tokens.new.rest.now }
+    {
+        let mut levels = 0;
+        let mut others = Vec::new(self.alloc);
+        for _ in 0..tokens.rest.len() {
+            let Some(place) = tokens.take(Punctuator::Comma) else {
+                return Ok(Leveled {
+                    tree: (Items::from_vec(others), None),
+                    levels,
+                });
+            };
+            if next_is(tokens.rest, Punctuator::RightBrace) {
+                return Ok(Leveled {
+                    tree: (Items::from_vec(others), Some(place)),
+                    levels,
+                });
+            }
+            let enumerator = self.enumerator(tokens)?;
+            levels = enumerator.levels.max(levels);
+            others.push((place, enumerator.tree))?;
+        }
+        Ok(Leveled {
+            tree: (Items::from_vec(others), None),
+            levels,
+        })
+    }
+
+    /// Reads `{`, the enumerators and `}` of an enumeration.
+    #[tactic(auto, unfolding(c_grammar::specs::SpecifierReader::enumeration_body_from))]
+    fn enumeration_body(
+        &self,
+        tokens: &mut Cursor<'_, 'a>,
+        place: Place,
+        tag: Option<Spelled<'a>>,
+    ) -> Result<Leveled<Specifier<'a>>, Fault>
+        requires deeper { Deeper self.now.levels (E.pre self.now.expression) (E.post self.now.expression) (S.pre self.now.specifiers) (S.post self.now.specifiers) (D.pre self.now.declarator) (D.post self.now.declarator) }
+        requires some { 0 < self.now.levels }
+        ensures { ReadsLeveled specifier_of specifier_levels (suc self.now.levels) (spec.enumeration_body_from self.now.names.now (readers self.now.names.now self.now.levels) self.now.levels place tag.entry tokens.old.rest.now) result tokens.new.rest.now }
+    {
+        let left = tokens.expect(Punctuator::LeftBrace)?;
+        let first = self.enumerator(tokens)?;
+        let others = self.more_enumerators(tokens)?;
+        let right = tokens.expect(Punctuator::RightBrace)?;
+        let Leveled {
+            tree: (others, comma),
+            levels,
+        } = others;
+        Ok(Leveled {
+            levels: first.levels.max(levels) + 1,
+            tree: Specifier::EnumerationBody(
+                place,
+                tag,
+                left,
+                Boxed::new(self.alloc, first.tree)?,
+                others,
+                comma,
+                right,
+            ),
+        })
+    }
+
+    /// Reads what follows `enum` (C99 6.7.2.2).
+    #[tactic(auto, unfolding(c_grammar::specs::SpecifierReader::enumeration_from))]
+    pub(crate) fn enumeration(
+        &self,
+        tokens: &mut Cursor<'_, 'a>,
+        place: Place,
+    ) -> Result<Leveled<Specifier<'a>>, Fault>
+        requires deeper { Deeper self.now.levels (E.pre self.now.expression) (E.post self.now.expression) (S.pre self.now.specifiers) (S.post self.now.specifiers) (D.pre self.now.declarator) (D.post self.now.declarator) }
+        ensures { ReadsLeveled specifier_of specifier_levels (suc self.now.levels) (spec.enumeration_from self.now.names.now (readers self.now.names.now self.now.levels) self.now.levels place tokens.old.rest.now) result tokens.new.rest.now }
+    {
+        if begins_body(self.levels, tokens.rest) {
+            return self.enumeration_body(tokens, place, None);
+        }
+        let tag = tokens.identifier()?;
+        if begins_body(self.levels, tokens.rest) {
+            return self.enumeration_body(tokens, place, Some(tag));
+        }
+        Ok(leaf(Specifier::Enumeration(place, tag)))
+    }
+}

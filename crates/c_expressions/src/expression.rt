@@ -1,0 +1,413 @@
+//! Reading operations on operands, one on another as long as they bind tightly enough (C99 6.5.2, 6.5.5 to 6.5.17).
+
+ghost use Rattle.std.specs.Prelude.{◌≡◌, suc, ◌<◌, length, Option, None, Some};
+ghost use Rattle.c_grammar.specs.ExpressionReader as spec;
+ghost use Rattle.c_grammar.specs.Reader.{behind_commas};
+ghost use Rattle.c_grammar.specs.Nested.{readers};
+ghost use Rattle.c_expressions.specs.Steps.{arguments_behind, arguments_behind_levels, operation_next, operation_is_next, postfix_at, conditional_at};
+ghost use Rattle.c_expressions.specs.LeveledReads.{ReadsLeveled, Below, Deeper};
+ghost use Rattle.c_grammar.specs.declared.operation.Operation.TheVariants as op;
+ghost use Rattle.c_lexer.specs.declared.punctuator.Punctuator.TheVariants as punctuators;
+ghost use Rattle.c_syntax.specs.Words.{Words};
+ghost use Rattle.c_syntax.specs.View.{expression_of, arguments_of};
+ghost use Rattle.c_syntax.specs.Levels.{expression_levels, arguments_levels};
+
+use crate::grammar::Grammar;
+use crate::leveled::{Leveled, leaf};
+use c_grammar::cursor::{Cursor, Fault, next_is};
+use c_grammar::declarator_kind::DeclaratorKind;
+use c_grammar::operation::{Operation, binds, needs, operation_of};
+use c_lexer::{Punctuator, Spelling, Word};
+use c_syntax::operators::{binary_precedence, precedence};
+use c_syntax::{Arguments, Boxed, Declarator, Expression, Items, Place, Placed, Specifier};
+use std::alloc::Global;
+
+impl<
+    't,
+    'a,
+    E: Fn(
+        Global,
+        &[Spelling<'a>],
+        &mut Cursor<'_, 'a>,
+        usize,
+        Option<Place>,
+        u8,
+    ) -> Result<Leveled<Expression<'a>>, Fault>,
+    S: Fn(
+        Global,
+        &[Spelling<'a>],
+        &mut Cursor<'_, 'a>,
+        usize,
+        bool,
+    ) -> Result<Leveled<Items<Specifier<'a>>>, Fault>,
+    D: Fn(
+        Global,
+        &[Spelling<'a>],
+        &mut Cursor<'_, 'a>,
+        usize,
+        DeclaratorKind,
+    ) -> Result<Leveled<Declarator<'a>>, Fault>,
+> Grammar<'t, 'a, E, S, D> {
+    /// Reads arguments behind the first, each behind its comma.
+    #[tactic(auto, unfolding(c_grammar::specs::Reader::behind_commas))]
+    fn more_arguments(
+        &self,
+        tokens: &mut Cursor<'_, 'a>,
+    ) -> Result<Leveled<Items<(Place, Expression<'a>)>>, Fault>
+        requires deeper { Deeper self.now.levels (E.pre self.now.expression) (E.post self.now.expression) (S.pre self.now.specifiers) (S.post self.now.specifiers) (D.pre self.now.declarator) (D.post self.now.declarator) }
+        requires some { 0 < self.now.levels }
+        ensures { ReadsLeveled arguments_behind arguments_behind_levels self.now.levels (behind_commas ((readers self.now.names.now self.now.levels).expression None 2) (length tokens.old.rest.now) tokens.old.rest.now) result tokens.new.rest.now }
+    {
+        let mut levels = 0;
+        let mut others = Vec::new(self.alloc);
+        for _ in 0..tokens.rest.len() {
+            let Some(place) = tokens.take(Punctuator::Comma) else {
+                return Ok(Leveled {
+                    tree: Items::from_vec(others),
+                    levels,
+                });
+            };
+            let argument = self.expression(tokens, None, 2)?;
+            levels = argument.levels.max(levels);
+            others.push((place, argument.tree))?;
+        }
+        Ok(Leveled {
+            tree: Items::from_vec(others),
+            levels,
+        })
+    }
+
+    /// Reads what stands between the parentheses of a call (C99 6.5.2.2).
+    #[tactic(auto, unfolding(c_grammar::specs::ExpressionReader::arguments_from))]
+    fn arguments(&self, tokens: &mut Cursor<'_, 'a>) -> Result<Leveled<Arguments<'a>>, Fault>
+        requires deeper { Deeper self.now.levels (E.pre self.now.expression) (E.post self.now.expression) (S.pre self.now.specifiers) (S.post self.now.specifiers) (D.pre self.now.declarator) (D.post self.now.declarator) }
+        requires some { 0 < self.now.levels }
+        ensures { ReadsLeveled arguments_of arguments_levels self.now.levels (spec.arguments_from self.now.names.now (readers self.now.names.now self.now.levels) self.now.levels tokens.old.rest.now) result tokens.new.rest.now }
+    {
+        if next_is(tokens.rest, Punctuator::RightParenthesis) {
+            return Ok(leaf(Arguments::Empty));
+        }
+        let first = self.expression(tokens, None, 2)?;
+        let others = self.more_arguments(tokens)?;
+        Ok(Leveled {
+            tree: Arguments::Given(Boxed::new(self.alloc, first.tree)?, others.tree),
+            levels: first.levels.max(others.levels),
+        })
+    }
+
+    /// Reads what follows an operator between two operands (C99 6.5.5 to 6.5.14, 6.5.17).
+    #[tactic(auto, unfolding(c_grammar::specs::ExpressionReader::operation_from))]
+    fn binary(
+        &self,
+        tokens: &mut Cursor<'_, 'a>,
+        left: Leveled<Expression<'a>>,
+        place: Place,
+        punctuator: Punctuator,
+    ) -> Result<Leveled<Expression<'a>>, Fault>
+        requires deeper { Deeper self.now.levels (E.pre self.now.expression) (E.post self.now.expression) (S.pre self.now.specifiers) (S.post self.now.specifiers) (D.pre self.now.declarator) (D.post self.now.declarator) }
+        requires known { Below self.now.levels left.levels (expression_levels (expression_of left.tree)) }
+        ensures { ReadsLeveled expression_of expression_levels (suc self.now.levels) (spec.operation_from self.now.names.now (readers self.now.names.now self.now.levels) self.now.levels (expression_of left.entry.tree) punctuator place (Some op.Binary) tokens.old.rest.now) result tokens.new.rest.now }
+    {
+        let right = self.expression(tokens, None, binary_precedence(punctuator) + 1)?;
+        Ok(Leveled {
+            levels: left.levels.max(right.levels) + 1,
+            tree: Expression::Binary(
+                Boxed::new(self.alloc, left.tree)?,
+                punctuator,
+                place,
+                Boxed::new(self.alloc, right.tree)?,
+            ),
+        })
+    }
+
+    /// Reads what follows an assignment operator (C99 6.5.16).
+    #[tactic(auto, unfolding(c_grammar::specs::ExpressionReader::operation_from))]
+    fn assignment(
+        &self,
+        tokens: &mut Cursor<'_, 'a>,
+        left: Leveled<Expression<'a>>,
+        place: Place,
+        punctuator: Punctuator,
+    ) -> Result<Leveled<Expression<'a>>, Fault>
+        requires deeper { Deeper self.now.levels (E.pre self.now.expression) (E.post self.now.expression) (S.pre self.now.specifiers) (S.post self.now.specifiers) (D.pre self.now.declarator) (D.post self.now.declarator) }
+        requires known { Below self.now.levels left.levels (expression_levels (expression_of left.tree)) }
+        ensures { ReadsLeveled expression_of expression_levels (suc self.now.levels) (spec.operation_from self.now.names.now (readers self.now.names.now self.now.levels) self.now.levels (expression_of left.entry.tree) punctuator place (Some op.Assignment) tokens.old.rest.now) result tokens.new.rest.now }
+    {
+        let right = self.expression(tokens, None, 2)?;
+        Ok(Leveled {
+            levels: left.levels.max(right.levels) + 1,
+            tree: Expression::Assignment(
+                Boxed::new(self.alloc, left.tree)?,
+                punctuator,
+                place,
+                Boxed::new(self.alloc, right.tree)?,
+            ),
+        })
+    }
+
+    /// The conditional expression of these operands (C99 6.5.15).
+    fn conditional_with(
+        &self,
+        left: Leveled<Expression<'a>>,
+        place: Place,
+        first: Leveled<Expression<'a>>,
+        colon: Place,
+        second: Leveled<Expression<'a>>,
+    ) -> Result<Leveled<Expression<'a>>, Fault>
+        requires known { Below self.now.levels left.levels (expression_levels (expression_of left.tree)) }
+        requires known_first { Below self.now.levels first.levels (expression_levels (expression_of first.tree)) }
+        requires known_second { Below self.now.levels second.levels (expression_levels (expression_of second.tree)) }
+        ensures { (i : Words) → ReadsLeveled expression_of expression_levels (suc self.now.levels) (conditional_at (expression_of left.entry.tree) place (expression_of first.entry.tree) colon (expression_of second.entry.tree) i) result i }
+    {
+        Ok(Leveled {
+            levels: left.levels.max(first.levels.max(second.levels)) + 1,
+            tree: Expression::Conditional(
+                Boxed::new(self.alloc, left.tree)?,
+                place,
+                Boxed::new(self.alloc, first.tree)?,
+                colon,
+                Boxed::new(self.alloc, second.tree)?,
+            ),
+        })
+    }
+
+    /// Reads what follows `?` (C99 6.5.15).
+    #[tactic(auto, unfolding(c_grammar::specs::ExpressionReader::operation_from))]
+    fn conditional(
+        &self,
+        tokens: &mut Cursor<'_, 'a>,
+        left: Leveled<Expression<'a>>,
+        place: Place,
+    ) -> Result<Leveled<Expression<'a>>, Fault>
+        requires deeper { Deeper self.now.levels (E.pre self.now.expression) (E.post self.now.expression) (S.pre self.now.specifiers) (S.post self.now.specifiers) (D.pre self.now.declarator) (D.post self.now.declarator) }
+        requires known { Below self.now.levels left.levels (expression_levels (expression_of left.tree)) }
+        ensures { ReadsLeveled expression_of expression_levels (suc self.now.levels) (spec.operation_from self.now.names.now (readers self.now.names.now self.now.levels) self.now.levels (expression_of left.entry.tree) punctuators.Question place (Some op.Conditional) tokens.old.rest.now) result tokens.new.rest.now }
+    {
+        let first = self.expression(tokens, None, 1)?;
+        let colon = tokens.expect(Punctuator::Colon)?;
+        let second = self.expression(tokens, None, 3)?;
+        self.conditional_with(left, place, first, colon, second)
+    }
+
+    /// Reads what follows `[` (C99 6.5.2.1).
+    #[tactic(auto, unfolding(c_grammar::specs::ExpressionReader::operation_from))]
+    fn subscript(
+        &self,
+        tokens: &mut Cursor<'_, 'a>,
+        left: Leveled<Expression<'a>>,
+        place: Place,
+    ) -> Result<Leveled<Expression<'a>>, Fault>
+        requires deeper { Deeper self.now.levels (E.pre self.now.expression) (E.post self.now.expression) (S.pre self.now.specifiers) (S.post self.now.specifiers) (D.pre self.now.declarator) (D.post self.now.declarator) }
+        requires known { Below self.now.levels left.levels (expression_levels (expression_of left.tree)) }
+        ensures { ReadsLeveled expression_of expression_levels (suc self.now.levels) (spec.operation_from self.now.names.now (readers self.now.names.now self.now.levels) self.now.levels (expression_of left.entry.tree) punctuators.Question place (Some op.Subscript) tokens.old.rest.now) result tokens.new.rest.now }
+    {
+        let index = self.expression(tokens, None, 1)?;
+        let right = tokens.expect(Punctuator::RightBracket)?;
+        Ok(Leveled {
+            levels: left.levels.max(index.levels) + 1,
+            tree: Expression::Subscript(
+                Boxed::new(self.alloc, left.tree)?,
+                place,
+                Boxed::new(self.alloc, index.tree)?,
+                right,
+            ),
+        })
+    }
+
+    /// Reads what follows the `(` of a call (C99 6.5.2.2).
+    #[tactic(auto, unfolding(c_grammar::specs::ExpressionReader::operation_from))]
+    fn call(
+        &self,
+        tokens: &mut Cursor<'_, 'a>,
+        left: Leveled<Expression<'a>>,
+        place: Place,
+    ) -> Result<Leveled<Expression<'a>>, Fault>
+        requires deeper { Deeper self.now.levels (E.pre self.now.expression) (E.post self.now.expression) (S.pre self.now.specifiers) (S.post self.now.specifiers) (D.pre self.now.declarator) (D.post self.now.declarator) }
+        requires known { Below self.now.levels left.levels (expression_levels (expression_of left.tree)) }
+        ensures { ReadsLeveled expression_of expression_levels (suc self.now.levels) (spec.operation_from self.now.names.now (readers self.now.names.now self.now.levels) self.now.levels (expression_of left.entry.tree) punctuators.Question place (Some op.Call) tokens.old.rest.now) result tokens.new.rest.now }
+    {
+        let arguments = self.arguments(tokens)?;
+        let right = tokens.expect(Punctuator::RightParenthesis)?;
+        Ok(Leveled {
+            levels: left.levels.max(arguments.levels) + 1,
+            tree: Expression::Call(
+                Boxed::new(self.alloc, left.tree)?,
+                place,
+                arguments.tree,
+                right,
+            ),
+        })
+    }
+
+    /// Reads what follows `.` or `->` (C99 6.5.2.3).
+    #[tactic(auto, unfolding(c_grammar::specs::ExpressionReader::operation_from))]
+    fn member(
+        &self,
+        tokens: &mut Cursor<'_, 'a>,
+        left: Leveled<Expression<'a>>,
+        place: Place,
+        punctuator: Punctuator,
+    ) -> Result<Leveled<Expression<'a>>, Fault>
+        requires deeper { Deeper self.now.levels (E.pre self.now.expression) (E.post self.now.expression) (S.pre self.now.specifiers) (S.post self.now.specifiers) (D.pre self.now.declarator) (D.post self.now.declarator) }
+        requires known { Below self.now.levels left.levels (expression_levels (expression_of left.tree)) }
+        ensures { ReadsLeveled expression_of expression_levels (suc self.now.levels) (spec.operation_from self.now.names.now (readers self.now.names.now self.now.levels) self.now.levels (expression_of left.entry.tree) punctuator place (Some op.Member) tokens.old.rest.now) result tokens.new.rest.now }
+    {
+        let name = tokens.identifier()?;
+        Ok(Leveled {
+            levels: left.levels + 1,
+            tree: Expression::Member(Boxed::new(self.alloc, left.tree)?, punctuator, place, name),
+        })
+    }
+
+    /// A postfix operator on this operand (C99 6.5.2.4).
+    #[tactic(auto, unfolding(c_grammar::specs::ExpressionReader::operation_from))]
+    fn postfix(
+        &self,
+        left: Leveled<Expression<'a>>,
+        place: Place,
+        punctuator: Punctuator,
+    ) -> Result<Leveled<Expression<'a>>, Fault>
+        requires known { Below self.now.levels left.levels (expression_levels (expression_of left.tree)) }
+        ensures { (i : Words) → ReadsLeveled expression_of expression_levels (suc self.now.levels) (postfix_at (expression_of left.entry.tree) punctuator place i) result i }
+    {
+        Ok(Leveled {
+            levels: left.levels + 1,
+            tree: Expression::Postfix(Boxed::new(self.alloc, left.tree)?, punctuator, place),
+        })
+    }
+
+    /// Reads an operation on this operand, behind its punctuator.
+    #[tactic(auto, unfolding(c_grammar::specs::ExpressionReader::operation_from))]
+    fn operation_by(
+        &self,
+        tokens: &mut Cursor<'_, 'a>,
+        left: Leveled<Expression<'a>>,
+        place: Place,
+        punctuator: Punctuator,
+        operation: Operation,
+    ) -> Result<Leveled<Expression<'a>>, Fault>
+        requires deeper { Deeper self.now.levels (E.pre self.now.expression) (E.post self.now.expression) (S.pre self.now.specifiers) (S.post self.now.specifiers) (D.pre self.now.declarator) (D.post self.now.declarator) }
+        requires known { Below self.now.levels left.levels (expression_levels (expression_of left.tree)) }
+        ensures { ReadsLeveled expression_of expression_levels (suc self.now.levels) (spec.operation_from self.now.names.now (readers self.now.names.now self.now.levels) self.now.levels (expression_of left.entry.tree) punctuator place (Some operation) tokens.old.rest.now) result tokens.new.rest.now }
+    {
+        match operation {
+            Operation::Binary => self.binary(tokens, left, place, punctuator),
+            Operation::Assignment => self.assignment(tokens, left, place, punctuator),
+            Operation::Conditional => self.conditional(tokens, left, place),
+            Operation::Subscript => self.subscript(tokens, left, place),
+            Operation::Call => self.call(tokens, left, place),
+            Operation::Member => self.member(tokens, left, place, punctuator),
+            Operation::Postfix => self.postfix(left, place, punctuator),
+        }
+    }
+
+    /// Reads an operation on this operand, which may begin with this punctuator.
+    #[tactic(auto, unfolding(c_grammar::specs::ExpressionReader::operation_from))]
+    fn operation_of(
+        &self,
+        tokens: &mut Cursor<'_, 'a>,
+        left: Leveled<Expression<'a>>,
+        place: Place,
+        punctuator: Punctuator,
+    ) -> Result<Leveled<Expression<'a>>, Fault>
+        requires deeper { Deeper self.now.levels (E.pre self.now.expression) (E.post self.now.expression) (S.pre self.now.specifiers) (S.post self.now.specifiers) (D.pre self.now.declarator) (D.post self.now.declarator) }
+        requires known { Below self.now.levels left.levels (expression_levels (expression_of left.tree)) }
+        ensures { ReadsLeveled expression_of expression_levels (suc self.now.levels) (spec.operation_from self.now.names.now (readers self.now.names.now self.now.levels) self.now.levels (expression_of left.entry.tree) punctuator place (spec.operation punctuator) tokens.old.rest.now) result tokens.new.rest.now }
+    {
+        match operation_of(punctuator) {
+            Some(operation) => self.operation_by(tokens, left, place, punctuator, operation),
+            None => Err(Fault::Refused),
+        }
+    }
+
+    /// Reads an operation on this operand, whose punctuator is next.
+    fn operation(
+        &self,
+        tokens: &mut Cursor<'_, 'a>,
+        left: Leveled<Expression<'a>>,
+    ) -> Result<Leveled<Expression<'a>>, Fault>
+        requires deeper { Deeper self.now.levels (E.pre self.now.expression) (E.post self.now.expression) (S.pre self.now.specifiers) (S.post self.now.specifiers) (D.pre self.now.declarator) (D.post self.now.declarator) }
+        requires known { Below self.now.levels left.levels (expression_levels (expression_of left.tree)) }
+        ensures { ReadsLeveled expression_of expression_levels (suc self.now.levels) (operation_next self.now.names.now (readers self.now.names.now self.now.levels) self.now.levels (expression_of left.entry.tree) tokens.old.rest.now) result tokens.new.rest.now }
+    {
+        let [first, rest @ ..] = tokens.rest else {
+            return Err(Fault::Refused);
+        };
+        tokens.rest = rest;
+        match &first.word {
+            Word::Punctuator(punctuator) => self.operation_of(
+                tokens,
+                left,
+                first.place,
+                *punctuator,
+            ),
+            _ => Err(Fault::Refused),
+        }
+    }
+
+    /// Whether the next word goes on with this operand as an expression of at least this precedence.
+    fn goes_on(&self, rest: &[Placed], least: u8, left: &Leveled<Expression<'a>>) -> bool
+        ensures { result ≡ operation_is_next self.now.levels least (expression_of left.now.tree) left.now.levels rest.now }
+    {
+        match rest.first() {
+            Some(first) => {
+                least <= binds(&first.word)
+                    && (needs(&first.word) <= precedence(&left.tree) && left.levels < self.levels)
+            }
+            None => false,
+        }
+    }
+
+    /// Reads operations of at least this precedence on a first operand, one on another.
+    fn operations(
+        &self,
+        tokens: &mut Cursor<'_, 'a>,
+        least: u8,
+        first: Leveled<Expression<'a>>,
+    ) -> Result<Leveled<Expression<'a>>, Fault>
+        requires deeper { Deeper self.now.levels (E.pre self.now.expression) (E.post self.now.expression) (S.pre self.now.specifiers) (S.post self.now.specifiers) (D.pre self.now.declarator) (D.post self.now.declarator) }
+        requires known { Below (suc self.now.levels) first.levels (expression_levels (expression_of first.tree)) }
+        ensures { ReadsLeveled expression_of expression_levels (suc self.now.levels) (spec.operations_from self.now.names.now (readers self.now.names.now self.now.levels) self.now.levels self.now.levels least (expression_of first.entry.tree) tokens.old.rest.now) result tokens.new.rest.now }
+    {
+        let mut left = first;
+        for _ in 0..self.levels {
+            if !self.goes_on(tokens.rest, least, &left) {
+                return Ok(left);
+            }
+            left = self.operation(tokens, left)?;
+        }
+        Ok(left)
+    }
+
+    /// Reads the first operand, whose `(` may have been taken.
+    fn first_operand(
+        &self,
+        tokens: &mut Cursor<'_, 'a>,
+        opened: Option<Place>,
+        least: u8,
+    ) -> Result<Leveled<Expression<'a>>, Fault>
+        requires deeper { Deeper self.now.levels (E.pre self.now.expression) (E.post self.now.expression) (S.pre self.now.specifiers) (S.post self.now.specifiers) (D.pre self.now.declarator) (D.post self.now.declarator) }
+        ensures { ReadsLeveled expression_of expression_levels (suc self.now.levels) (spec.first_operand self.now.names.now (readers self.now.names.now self.now.levels) self.now.levels opened least tokens.old.rest.now) result tokens.new.rest.now }
+    {
+        match opened {
+            None => self.operand(tokens, least),
+            Some(place) if self.levels >= 1 => self.parenthesized(tokens, place),
+            Some(_) => Err(Fault::Refused),
+        }
+    }
+
+    /// Reads an expression of at least this precedence; a place is that of the `(` that was taken.
+    #[tactic(auto, unfolding(c_grammar::specs::ExpressionReader::expression_at))]
+    pub fn expression_at(
+        &self,
+        tokens: &mut Cursor<'_, 'a>,
+        opened: Option<Place>,
+        least: u8,
+    ) -> Result<Leveled<Expression<'a>>, Fault>
+        requires deeper { Deeper self.now.levels (E.pre self.now.expression) (E.post self.now.expression) (S.pre self.now.specifiers) (S.post self.now.specifiers) (D.pre self.now.declarator) (D.post self.now.declarator) }
+        ensures { ReadsLeveled expression_of expression_levels (suc self.now.levels) (spec.expression_at self.now.names.now (readers self.now.names.now self.now.levels) self.now.levels opened least tokens.old.rest.now) result tokens.new.rest.now }
+    {
+        let left = self.first_operand(tokens, opened, least)?;
+        self.operations(tokens, least, left)
+    }
+}

@@ -1,0 +1,95 @@
+//! The rules of the grammar take the functions that read what has fewer levels as values, so that each is proved by itself.
+
+ghost use Rattle.std.specs.Prelude.{◌≡◌};
+ghost use Rattle.c_grammar.specs.Nested.{readers};
+ghost use Rattle.c_expressions.specs.LeveledReads.{ReadsLeveled, Deeper};
+ghost use Rattle.c_syntax.specs.View.{expression_of, specifiers_in, declarator_of};
+ghost use Rattle.c_syntax.specs.Levels.{expression_levels, specifiers_levels, declarator_levels};
+
+use crate::leveled::Leveled;
+use c_grammar::cursor::{Cursor, Fault};
+use c_grammar::declarator_kind::DeclaratorKind;
+use c_lexer::Spelling;
+use c_syntax::{Declarator, Expression, Items, Place, Specifier};
+use std::alloc::Global;
+
+/// The rules for what has at most some number of levels, with the functions that read what has fewer.
+#[derive(Drop)]
+pub struct Grammar<'t, 'a, E, S, D> {
+    /// Where memory comes from.
+    pub alloc: Global,
+    /// The typedef names.
+    pub names: &'t [Spelling<'a>],
+    /// How many levels there may be.
+    pub levels: usize,
+    /// Reads an expression with fewer levels than the number that it is given.
+    pub expression: E,
+    /// Reads specifiers with fewer levels.
+    pub specifiers: S,
+    /// Reads a declarator with fewer levels.
+    pub declarator: D,
+}
+
+impl<
+    't,
+    'a,
+    E: Fn(
+        Global,
+        &[Spelling<'a>],
+        &mut Cursor<'_, 'a>,
+        usize,
+        Option<Place>,
+        u8,
+    ) -> Result<Leveled<Expression<'a>>, Fault>,
+    S: Fn(
+        Global,
+        &[Spelling<'a>],
+        &mut Cursor<'_, 'a>,
+        usize,
+        bool,
+    ) -> Result<Leveled<Items<Specifier<'a>>>, Fault>,
+    D: Fn(
+        Global,
+        &[Spelling<'a>],
+        &mut Cursor<'_, 'a>,
+        usize,
+        DeclaratorKind,
+    ) -> Result<Leveled<Declarator<'a>>, Fault>,
+> Grammar<'t, 'a, E, S, D> {
+    /// Reads an expression of at least this precedence with fewer levels; a place is that of the `(` that was taken.
+    pub fn expression(
+        &self,
+        tokens: &mut Cursor<'_, 'a>,
+        opened: Option<Place>,
+        least: u8,
+    ) -> Result<Leveled<Expression<'a>>, Fault>
+        requires { Deeper self.now.levels (E.pre self.now.expression) (E.post self.now.expression) (S.pre self.now.specifiers) (S.post self.now.specifiers) (D.pre self.now.declarator) (D.post self.now.declarator) }
+        ensures { ReadsLeveled expression_of expression_levels self.now.levels ((readers self.now.names.now self.now.levels).expression opened least tokens.old.rest.now) result tokens.new.rest.now }
+    {
+        (self.expression)(self.alloc, self.names, tokens, self.levels, opened, least)
+    }
+
+    /// Reads specifiers with fewer levels, `typedef` among them where it is allowed.
+    pub fn specifiers(
+        &self,
+        tokens: &mut Cursor<'_, 'a>,
+        allowed: bool,
+    ) -> Result<Leveled<Items<Specifier<'a>>>, Fault>
+        requires { Deeper self.now.levels (E.pre self.now.expression) (E.post self.now.expression) (S.pre self.now.specifiers) (S.post self.now.specifiers) (D.pre self.now.declarator) (D.post self.now.declarator) }
+        ensures { ReadsLeveled specifiers_in specifiers_levels self.now.levels ((readers self.now.names.now self.now.levels).specifiers allowed tokens.old.rest.now) result tokens.new.rest.now }
+    {
+        (self.specifiers)(self.alloc, self.names, tokens, self.levels, allowed)
+    }
+
+    /// Reads a declarator with fewer levels.
+    pub fn declarator(
+        &self,
+        tokens: &mut Cursor<'_, 'a>,
+        kind: DeclaratorKind,
+    ) -> Result<Leveled<Declarator<'a>>, Fault>
+        requires { Deeper self.now.levels (E.pre self.now.expression) (E.post self.now.expression) (S.pre self.now.specifiers) (S.post self.now.specifiers) (D.pre self.now.declarator) (D.post self.now.declarator) }
+        ensures { ReadsLeveled declarator_of declarator_levels self.now.levels ((readers self.now.names.now self.now.levels).declarator kind tokens.old.rest.now) result tokens.new.rest.now }
+    {
+        (self.declarator)(self.alloc, self.names, tokens, self.levels, kind)
+    }
+}

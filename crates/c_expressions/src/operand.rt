@@ -1,0 +1,292 @@
+//! Reading operands: names, constants, parentheses, unary operators, casts and `sizeof` (C99 6.5.1, 6.5.3, 6.5.4).
+
+ghost use Rattle.std.specs.Prelude.{◌≡◌, suc, ◌∷◌};
+ghost use Rattle.c_lexer.specs.declared.token.Word.TheVariants as word;
+ghost use Rattle.c_grammar.specs.ExpressionReader as spec;
+ghost use Rattle.c_grammar.specs.Nested.{readers};
+ghost use Rattle.c_expressions.specs.Steps.{unary_from};
+ghost use Rattle.c_expressions.specs.LeveledReads.{ReadsLeveled, Deeper};
+ghost use Rattle.c_syntax.specs.Tree as t;
+ghost use Rattle.c_syntax.specs.Words.{word_at};
+ghost use Rattle.c_syntax.specs.View.{expression_of};
+ghost use Rattle.c_syntax.specs.Levels.{expression_levels};
+
+use crate::grammar::Grammar;
+use crate::leveled::{Leveled, leaf};
+use crate::specifier::begins_specifiers;
+use c_grammar::cursor::{Cursor, Fault, is_punctuator, is_same, spelled};
+use c_grammar::declarator_kind::DeclaratorKind;
+use c_lexer::{Keyword, Punctuator, Spelling, Word};
+use c_syntax::names::is_among;
+use c_syntax::operators::operand_precedence;
+use c_syntax::{Boxed, Declarator, Expression, Items, Place, Placed, Specifier, Spelled};
+use std::alloc::Global;
+
+/// An identifier as an expression.
+fn identifier<'a>(spelling: &Spelling<'a>, place: Place) -> Leveled<Expression<'a>>
+    ensures tree { expression_of result.tree ≡ t.identifier (record { spelling = spelling.now; place = place }) }
+    ensures levels { result.levels ≡ 0 }
+{
+    leaf(Expression::Identifier(spelled(spelling, place)))
+}
+
+/// An integer constant as an expression.
+fn integer<'a>(spelling: &Spelling<'a>, place: Place) -> Leveled<Expression<'a>>
+    ensures tree { expression_of result.tree ≡ t.integer (record { spelling = spelling.now; place = place }) }
+    ensures levels { result.levels ≡ 0 }
+{
+    leaf(Expression::Integer(spelled(spelling, place)))
+}
+
+/// A character constant as an expression.
+fn character<'a>(spelling: &Spelling<'a>, place: Place) -> Leveled<Expression<'a>>
+    ensures tree { expression_of result.tree ≡ t.character (record { spelling = spelling.now; place = place }) }
+    ensures levels { result.levels ≡ 0 }
+{
+    leaf(Expression::Character(spelled(spelling, place)))
+}
+
+/// String literals that stand side by side as an expression.
+fn strings<'a>(
+    spelling: &Spelling<'a>,
+    place: Place,
+    others: Items<Spelled<'a>>,
+) -> Leveled<Expression<'a>>
+    ensures tree { expression_of result.tree ≡ t.strings (record { spelling = spelling.now; place = place }) others.entry }
+    ensures levels { result.levels ≡ 0 }
+{
+    leaf(Expression::Strings(spelled(spelling, place), others))
+}
+
+impl<
+    't,
+    'a,
+    E: Fn(
+        Global,
+        &[Spelling<'a>],
+        &mut Cursor<'_, 'a>,
+        usize,
+        Option<Place>,
+        u8,
+    ) -> Result<Leveled<Expression<'a>>, Fault>,
+    S: Fn(
+        Global,
+        &[Spelling<'a>],
+        &mut Cursor<'_, 'a>,
+        usize,
+        bool,
+    ) -> Result<Leveled<Items<Specifier<'a>>>, Fault>,
+    D: Fn(
+        Global,
+        &[Spelling<'a>],
+        &mut Cursor<'_, 'a>,
+        usize,
+        DeclaratorKind,
+    ) -> Result<Leveled<Declarator<'a>>, Fault>,
+> Grammar<'t, 'a, E, S, D> {
+    /// Reads what follows the `(` of an expression in parentheses (C99 6.5.1).
+    #[tactic(auto, unfolding(c_grammar::specs::ExpressionReader::parenthesized_from))]
+    pub(crate) fn parenthesized(
+        &self,
+        tokens: &mut Cursor<'_, 'a>,
+        place: Place,
+    ) -> Result<Leveled<Expression<'a>>, Fault>
+        requires deeper { Deeper self.now.levels (E.pre self.now.expression) (E.post self.now.expression) (S.pre self.now.specifiers) (S.post self.now.specifiers) (D.pre self.now.declarator) (D.post self.now.declarator) }
+        ensures { ReadsLeveled expression_of expression_levels (suc self.now.levels) (spec.parenthesized_from self.now.names.now (readers self.now.names.now self.now.levels) self.now.levels place tokens.old.rest.now) result tokens.new.rest.now }
+    {
+        let inner = self.expression(tokens, None, 1)?;
+        let right = tokens.expect(Punctuator::RightParenthesis)?;
+        Ok(Leveled {
+            tree: Expression::Parenthesized(place, Boxed::new(self.alloc, inner.tree)?, right),
+            levels: inner.levels + 1,
+        })
+    }
+
+    /// Reads what follows the `(` of a cast (C99 6.5.4).
+    #[tactic(auto, unfolding(c_grammar::specs::ExpressionReader::cast_from))]
+    fn cast(
+        &self,
+        tokens: &mut Cursor<'_, 'a>,
+        place: Place,
+    ) -> Result<Leveled<Expression<'a>>, Fault>
+        requires deeper { Deeper self.now.levels (E.pre self.now.expression) (E.post self.now.expression) (S.pre self.now.specifiers) (S.post self.now.specifiers) (D.pre self.now.declarator) (D.post self.now.declarator) }
+        ensures { ReadsLeveled expression_of expression_levels (suc self.now.levels) (spec.cast_from self.now.names.now (readers self.now.names.now self.now.levels) self.now.levels place tokens.old.rest.now) result tokens.new.rest.now }
+    {
+        let name = self.typed(tokens, DeclaratorKind::Abstract)?;
+        let right = tokens.expect(Punctuator::RightParenthesis)?;
+        let operand = self.expression(tokens, None, 14)?;
+        Ok(Leveled {
+            tree: Expression::Cast(
+                place,
+                Boxed::new(self.alloc, name.tree)?,
+                right,
+                Boxed::new(self.alloc, operand.tree)?,
+            ),
+            levels: name.levels.max(operand.levels) + 1,
+        })
+    }
+
+    /// Reads what follows a `(` that begins a cast or an expression in parentheses.
+    #[tactic(auto, unfolding(c_grammar::specs::ExpressionReader::parenthesis_from))]
+    fn parenthesis(
+        &self,
+        tokens: &mut Cursor<'_, 'a>,
+        least: u8,
+        place: Place,
+    ) -> Result<Leveled<Expression<'a>>, Fault>
+        requires deeper { Deeper self.now.levels (E.pre self.now.expression) (E.post self.now.expression) (S.pre self.now.specifiers) (S.post self.now.specifiers) (D.pre self.now.declarator) (D.post self.now.declarator) }
+        ensures { ReadsLeveled expression_of expression_levels (suc self.now.levels) (spec.parenthesis_from self.now.names.now (readers self.now.names.now self.now.levels) self.now.levels least place tokens.old.rest.now) result tokens.new.rest.now }
+    {
+        if !begins_specifiers(self.names, tokens.rest) {
+            return self.parenthesized(tokens, place);
+        }
+        if least <= 14 {
+            self.cast(tokens, place)
+        } else {
+            Err(Fault::Refused)
+        }
+    }
+
+    /// Reads what follows `sizeof (` (C99 6.5.3.4).
+    #[tactic(auto, unfolding(c_grammar::specs::ExpressionReader::sizeof_parenthesis_from))]
+    fn sizeof_parenthesis(
+        &self,
+        tokens: &mut Cursor<'_, 'a>,
+        place: Place,
+        left: Place,
+    ) -> Result<Leveled<Expression<'a>>, Fault>
+        requires deeper { Deeper self.now.levels (E.pre self.now.expression) (E.post self.now.expression) (S.pre self.now.specifiers) (S.post self.now.specifiers) (D.pre self.now.declarator) (D.post self.now.declarator) }
+        ensures { ReadsLeveled expression_of expression_levels (suc self.now.levels) (spec.sizeof_parenthesis_from self.now.names.now (readers self.now.names.now self.now.levels) self.now.levels place left tokens.old.rest.now) result tokens.new.rest.now }
+    {
+        if begins_specifiers(self.names, tokens.rest) {
+            let name = self.typed(tokens, DeclaratorKind::Abstract)?;
+            let right = tokens.expect(Punctuator::RightParenthesis)?;
+            return Ok(Leveled {
+                tree: Expression::SizeofType(
+                    place,
+                    left,
+                    Boxed::new(self.alloc, name.tree)?,
+                    right,
+                ),
+                levels: name.levels + 1,
+            });
+        }
+        let operand = self.expression(tokens, Some(left), 15)?;
+        Ok(Leveled {
+            tree: Expression::SizeofExpression(place, Boxed::new(self.alloc, operand.tree)?),
+            levels: operand.levels + 1,
+        })
+    }
+
+    /// Reads what follows `sizeof` (C99 6.5.3.4).
+    #[tactic(auto, unfolding(c_grammar::specs::ExpressionReader::sizeof_from))]
+    fn sizeof_operand(
+        &self,
+        tokens: &mut Cursor<'_, 'a>,
+        place: Place,
+    ) -> Result<Leveled<Expression<'a>>, Fault>
+        requires deeper { Deeper self.now.levels (E.pre self.now.expression) (E.post self.now.expression) (S.pre self.now.specifiers) (S.post self.now.specifiers) (D.pre self.now.declarator) (D.post self.now.declarator) }
+        ensures { ReadsLeveled expression_of expression_levels (suc self.now.levels) (spec.sizeof_from self.now.names.now (readers self.now.names.now self.now.levels) self.now.levels place tokens.old.rest.now) result tokens.new.rest.now }
+    {
+        let [first, rest @ ..] = tokens.rest else {
+            return Err(Fault::Refused);
+        };
+        if is_punctuator(&first.word, Punctuator::LeftParenthesis) {
+            tokens.rest = rest;
+            return self.sizeof_parenthesis(tokens, place, first.place);
+        }
+        let operand = self.expression(tokens, None, 15)?;
+        Ok(Leveled {
+            tree: Expression::SizeofExpression(place, Boxed::new(self.alloc, operand.tree)?),
+            levels: operand.levels + 1,
+        })
+    }
+
+    /// Reads what follows a unary operator (C99 6.5.3).
+    fn unary(
+        &self,
+        tokens: &mut Cursor<'_, 'a>,
+        operator: Punctuator,
+        place: Place,
+    ) -> Result<Leveled<Expression<'a>>, Fault>
+        requires deeper { Deeper self.now.levels (E.pre self.now.expression) (E.post self.now.expression) (S.pre self.now.specifiers) (S.post self.now.specifiers) (D.pre self.now.declarator) (D.post self.now.declarator) }
+        ensures { ReadsLeveled expression_of expression_levels (suc self.now.levels) (unary_from (readers self.now.names.now self.now.levels) operator place tokens.old.rest.now) result tokens.new.rest.now }
+    {
+        let operand = self.expression(tokens, None, operand_precedence(operator))?;
+        Ok(Leveled {
+            tree: Expression::Unary(operator, place, Boxed::new(self.alloc, operand.tree)?),
+            levels: operand.levels + 1,
+        })
+    }
+
+    /// Reads an operand that begins with a punctuator, which is next, before the rest.
+    #[tactic(auto, unfolding(c_grammar::specs::ExpressionReader::operand_by_punctuator))]
+    fn operand_by_punctuator<'r>(
+        &self,
+        tokens: &mut Cursor<'r, 'a>,
+        least: u8,
+        punctuator: Punctuator,
+        place: Place,
+        rest: &'r [Placed<'a>],
+    ) -> Result<Leveled<Expression<'a>>, Fault>
+        requires deeper { Deeper self.now.levels (E.pre self.now.expression) (E.post self.now.expression) (S.pre self.now.specifiers) (S.post self.now.specifiers) (D.pre self.now.declarator) (D.post self.now.declarator) }
+        requires next { tokens.old.rest.now ≡ word_at (word.Punctuator punctuator) place ∷ rest.now }
+        ensures { ReadsLeveled expression_of expression_levels (suc self.now.levels) (spec.operand_by_punctuator self.now.names.now (readers self.now.names.now self.now.levels) self.now.levels least punctuator place rest.now) result tokens.new.rest.now }
+    {
+        if operand_precedence(punctuator) >= 1 && self.levels >= 1 {
+            tokens.rest = rest;
+            return self.unary(tokens, punctuator, place);
+        }
+        if is_same(Punctuator::LeftParenthesis, punctuator) && self.levels >= 1 {
+            tokens.rest = rest;
+            return self.parenthesis(tokens, least, place);
+        }
+        Err(Fault::Refused)
+    }
+
+    /// Reads an operand on which no operator has acted yet (C99 6.5.1, 6.5.3, 6.5.4).
+    #[tactic(auto, unfolding(c_grammar::specs::ExpressionReader::operand_from))]
+    pub fn operand(
+        &self,
+        tokens: &mut Cursor<'_, 'a>,
+        least: u8,
+    ) -> Result<Leveled<Expression<'a>>, Fault>
+        requires deeper { Deeper self.now.levels (E.pre self.now.expression) (E.post self.now.expression) (S.pre self.now.specifiers) (S.post self.now.specifiers) (D.pre self.now.declarator) (D.post self.now.declarator) }
+        ensures { ReadsLeveled expression_of expression_levels (suc self.now.levels) (spec.operand_from self.now.names.now (readers self.now.names.now self.now.levels) self.now.levels least tokens.old.rest.now) result tokens.new.rest.now }
+    {
+        let [first, rest @ ..] = tokens.rest else {
+            return Err(Fault::Refused);
+        };
+        let place = first.place;
+        match &first.word {
+            Word::Identifier(spelling) => {
+                if is_among(self.names, spelling) {
+                    return Err(Fault::Refused);
+                }
+                tokens.rest = rest;
+                Ok(identifier(spelling, place))
+            }
+            Word::Integer(spelling) => {
+                tokens.rest = rest;
+                Ok(integer(spelling, place))
+            }
+            Word::Character(spelling) => {
+                tokens.rest = rest;
+                Ok(character(spelling, place))
+            }
+            Word::StringLiteral(spelling) => {
+                tokens.rest = rest;
+                let others = tokens.strings(self.alloc)?;
+                Ok(strings(spelling, place, others))
+            }
+            Word::Punctuator(punctuator) => {
+                self.operand_by_punctuator(tokens, least, *punctuator, place, rest)
+            }
+            Word::Keyword(Keyword::Sizeof) if self.levels >= 1 => {
+                tokens.rest = rest;
+                self.sizeof_operand(tokens, place)
+            }
+            _ => Err(Fault::Refused),
+        }
+    }
+}

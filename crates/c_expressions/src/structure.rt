@@ -1,0 +1,197 @@
+//! Reading structures and unions (C99 6.7.2.1).
+
+ghost use Rattle.std.specs.Prelude.{◌≡◌, ◌<◌, ◌&&◌, suc, length, max, nat_le};
+ghost use Rattle.c_lexer.specs.declared.punctuator.Punctuator.TheVariants as p;
+ghost use Rattle.c_grammar.specs.Reader.{behind_commas, next_is_punctuator};
+ghost use Rattle.c_grammar.specs.SpecifierReader as spec;
+ghost use Rattle.c_grammar.specs.Nested.{readers};
+ghost use Rattle.c_expressions.specs.Steps.{declarators_behind, declarators_behind_levels};
+ghost use Rattle.c_expressions.specs.LeveledReads.{ReadsLeveled, Deeper};
+ghost use Rattle.c_grammar.specs.declared.declarator_kind.DeclaratorKind.TheVariants as kind;
+ghost use Rattle.c_syntax.specs.View.{specifiers_in, specifier_of, declarator_of, more_declarators_in, member_of, members_in};
+ghost use Rattle.c_syntax.specs.Levels.{specifier_levels, member_levels, members_levels};
+ghost use Rattle.c_syntax.specs.Tree as t;
+
+use crate::grammar::Grammar;
+use crate::leveled::{Leveled, leaf};
+use c_grammar::cursor::{Cursor, Fault, next_is};
+use c_grammar::declarator_kind::DeclaratorKind;
+use c_lexer::{Keyword, Punctuator, Spelling};
+use c_syntax::{Declarator, Expression, Items, Member, Place, Placed, Specifier, Spelled};
+use std::alloc::Global;
+
+/// Whether `{` is next, and there is a level for what it begins.
+pub(crate) fn begins_body(levels: usize, rest: &[Placed]) -> bool
+    ensures { result ≡ nat_le 1 levels && next_is_punctuator p.LeftBrace rest.now }
+{
+    levels >= 1 && next_is(rest, Punctuator::LeftBrace)
+}
+
+/// A declaration of members with its levels.
+fn member_with<'a>(
+    specifiers: Leveled<Items<Specifier<'a>>>,
+    first: Leveled<Declarator<'a>>,
+    others: Leveled<Items<(Place, Declarator<'a>)>>,
+    semicolon: Place,
+) -> Leveled<Member<'a>>
+    ensures tree { member_of result.tree ≡ t.member_declaration (specifiers_in specifiers.entry.tree) (declarator_of first.entry.tree) (more_declarators_in others.entry.tree) semicolon }
+    ensures levels { result.levels ≡ max specifiers.entry.levels (max first.entry.levels others.entry.levels) }
+{
+    let Leveled {
+        tree: specifiers,
+        levels: of_specifiers,
+    } = specifiers;
+    let Leveled {
+        tree: first,
+        levels: of_first,
+    } = first;
+    let Leveled {
+        tree: others,
+        levels: of_others,
+    } = others;
+    Leveled {
+        tree: Member {
+            specifiers,
+            first,
+            others,
+            semicolon,
+        },
+        levels: of_specifiers.max(of_first.max(of_others)),
+    }
+}
+
+impl<
+    't,
+    'a,
+    E: Fn(
+        Global,
+        &[Spelling<'a>],
+        &mut Cursor<'_, 'a>,
+        usize,
+        Option<Place>,
+        u8,
+    ) -> Result<Leveled<Expression<'a>>, Fault>,
+    S: Fn(
+        Global,
+        &[Spelling<'a>],
+        &mut Cursor<'_, 'a>,
+        usize,
+        bool,
+    ) -> Result<Leveled<Items<Specifier<'a>>>, Fault>,
+    D: Fn(
+        Global,
+        &[Spelling<'a>],
+        &mut Cursor<'_, 'a>,
+        usize,
+        DeclaratorKind,
+    ) -> Result<Leveled<Declarator<'a>>, Fault>,
+> Grammar<'t, 'a, E, S, D> {
+    /// Reads declarators behind the first, each behind its comma.
+    fn more_declarators(
+        &self,
+        tokens: &mut Cursor<'_, 'a>,
+    ) -> Result<Leveled<Items<(Place, Declarator<'a>)>>, Fault>
+        requires deeper { Deeper self.now.levels (E.pre self.now.expression) (E.post self.now.expression) (S.pre self.now.specifiers) (S.post self.now.specifiers) (D.pre self.now.declarator) (D.post self.now.declarator) }
+        requires some { 0 < self.now.levels }
+        ensures { ReadsLeveled declarators_behind declarators_behind_levels self.now.levels (behind_commas ((readers self.now.names.now self.now.levels).declarator kind.Named) (length tokens.old.rest.now) tokens.old.rest.now) result tokens.new.rest.now }
+    {
+        let mut levels = 0;
+        let mut others = Vec::new(self.alloc);
+        for _ in 0..tokens.rest.len() {
+            let Some(place) = tokens.take(Punctuator::Comma) else {
+                return Ok(Leveled {
+                    tree: Items::from_vec(others),
+                    levels,
+                });
+            };
+            let declarator = self.declarator(tokens, DeclaratorKind::Named)?;
+            levels = declarator.levels.max(levels);
+            others.push((place, declarator.tree))?;
+        }
+        Ok(Leveled {
+            tree: Items::from_vec(others),
+            levels,
+        })
+    }
+
+    /// Reads a declaration of members (C99 6.7.2.1).
+    #[tactic(auto, unfolding(c_grammar::specs::SpecifierReader::member_from))]
+    fn member_declaration(&self, tokens: &mut Cursor<'_, 'a>) -> Result<Leveled<Member<'a>>, Fault>
+        requires deeper { Deeper self.now.levels (E.pre self.now.expression) (E.post self.now.expression) (S.pre self.now.specifiers) (S.post self.now.specifiers) (D.pre self.now.declarator) (D.post self.now.declarator) }
+        requires some { 0 < self.now.levels }
+        ensures { ReadsLeveled member_of member_levels self.now.levels (spec.member_from self.now.names.now (readers self.now.names.now self.now.levels) self.now.levels tokens.old.rest.now) result tokens.new.rest.now }
+    {
+        let specifiers = self.specifiers(tokens, false)?;
+        let first = self.declarator(tokens, DeclaratorKind::Named)?;
+        let others = self.more_declarators(tokens)?;
+        let semicolon = tokens.expect(Punctuator::Semicolon)?;
+        Ok(member_with(specifiers, first, others, semicolon))
+    }
+
+    /// Reads declarations of members up to `}`, at least one (C99 6.7.2.1).
+    fn members(&self, tokens: &mut Cursor<'_, 'a>) -> Result<Leveled<Items<Member<'a>>>, Fault>
+        requires deeper { Deeper self.now.levels (E.pre self.now.expression) (E.post self.now.expression) (S.pre self.now.specifiers) (S.post self.now.specifiers) (D.pre self.now.declarator) (D.post self.now.declarator) }
+        requires some { 0 < self.now.levels }
+        ensures { ReadsLeveled members_in members_levels self.now.levels (spec.members_from self.now.names.now (readers self.now.names.now self.now.levels) self.now.levels tokens.old.rest.now) result tokens.new.rest.now }
+    {
+        let first = self.member_declaration(tokens)?;
+        let mut levels = first.levels;
+        let mut members: Vec<Member<'a>> = Vec::new(self.alloc);
+        members.push(first.tree)?;
+        for _ in 0..tokens.rest.len() {
+            if next_is(tokens.rest, Punctuator::RightBrace) {
+                return Ok(Leveled {
+                    tree: Items::from_vec(members),
+                    levels,
+                });
+            }
+            let member = self.member_declaration(tokens)?;
+            levels = member.levels.max(levels);
+            members.push(member.tree)?;
+        }
+        Err(Fault::Refused)
+    }
+
+    /// Reads `{`, the members and `}` of a structure or union.
+    #[tactic(auto, unfolding(c_grammar::specs::SpecifierReader::structure_body_from))]
+    fn structure_body(
+        &self,
+        tokens: &mut Cursor<'_, 'a>,
+        keyword: Keyword,
+        place: Place,
+        tag: Option<Spelled<'a>>,
+    ) -> Result<Leveled<Specifier<'a>>, Fault>
+        requires deeper { Deeper self.now.levels (E.pre self.now.expression) (E.post self.now.expression) (S.pre self.now.specifiers) (S.post self.now.specifiers) (D.pre self.now.declarator) (D.post self.now.declarator) }
+        requires some { 0 < self.now.levels }
+        ensures { ReadsLeveled specifier_of specifier_levels (suc self.now.levels) (spec.structure_body_from self.now.names.now (readers self.now.names.now self.now.levels) self.now.levels keyword place tag.entry tokens.old.rest.now) result tokens.new.rest.now }
+    {
+        let left = tokens.expect(Punctuator::LeftBrace)?;
+        let members = self.members(tokens)?;
+        let right = tokens.expect(Punctuator::RightBrace)?;
+        Ok(Leveled {
+            tree: Specifier::StructureBody(keyword, place, tag, left, members.tree, right),
+            levels: members.levels + 1,
+        })
+    }
+
+    /// Reads what follows `struct` or `union` (C99 6.7.2.1).
+    #[tactic(auto, unfolding(c_grammar::specs::SpecifierReader::structure_from))]
+    pub(crate) fn structure(
+        &self,
+        tokens: &mut Cursor<'_, 'a>,
+        keyword: Keyword,
+        place: Place,
+    ) -> Result<Leveled<Specifier<'a>>, Fault>
+        requires deeper { Deeper self.now.levels (E.pre self.now.expression) (E.post self.now.expression) (S.pre self.now.specifiers) (S.post self.now.specifiers) (D.pre self.now.declarator) (D.post self.now.declarator) }
+        ensures { ReadsLeveled specifier_of specifier_levels (suc self.now.levels) (spec.structure_from self.now.names.now (readers self.now.names.now self.now.levels) self.now.levels keyword place tokens.old.rest.now) result tokens.new.rest.now }
+    {
+        if begins_body(self.levels, tokens.rest) {
+            return self.structure_body(tokens, keyword, place, None);
+        }
+        let tag = tokens.identifier()?;
+        if begins_body(self.levels, tokens.rest) {
+            return self.structure_body(tokens, keyword, place, Some(tag));
+        }
+        Ok(leaf(Specifier::Structure(keyword, place, tag)))
+    }
+}

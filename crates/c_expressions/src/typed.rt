@@ -1,0 +1,194 @@
+//! Reading type names and parameters (C99 6.7.5.3, 6.7.6).
+
+ghost use Rattle.std.specs.Prelude.{◌≡◌, ◌<◌, length, max, IfOk};
+ghost use Rattle.c_grammar.specs.Reader.{behind_commas};
+ghost use Rattle.c_grammar.specs.Readers as spec;
+ghost use Rattle.c_grammar.specs.Nested.{readers};
+ghost use Rattle.c_expressions.specs.Steps.{void_word, void_alone, void_parameter, lone_void, parameters_behind, parameters_behind_levels};
+ghost use Rattle.c_expressions.specs.LeveledReads.{ReadsLeveled, Deeper};
+ghost use Rattle.c_grammar.specs.declared.declarator_kind.DeclaratorKind.TheVariants as kind;
+ghost use Rattle.c_syntax.specs.View.{typed_of, parameters_of, more_parameters_in, specifier_of, specifiers_in, declarator_of};
+ghost use Rattle.c_syntax.specs.Tree as t;
+ghost use Rattle.c_syntax.specs.Levels.{typed_levels, parameters_levels};
+
+use crate::grammar::Grammar;
+use crate::leveled::{Leveled, leaf};
+use c_grammar::cursor::{Cursor, Fault, next_is};
+use c_grammar::declarator_kind::DeclaratorKind;
+use c_lexer::{Keyword, Punctuator, Spelling};
+use c_syntax::{
+    Boxed, Declarator, Expression, Items, Parameters, Place, Specifier, TypedDeclarator,
+};
+use std::alloc::{AllocError, Global};
+
+/// The place of the word `void`.
+fn void_word(specifier: &Specifier) -> Option<Place>
+    ensures { result ≡ void_word (specifier_of specifier.now) }
+{
+    match specifier {
+        Specifier::Keyword(Keyword::Void, place) => Some(*place),
+        _ => None,
+    }
+}
+
+/// The place of the word `void` where it is the only specifier.
+fn void_alone(specifiers: &[Specifier]) -> Option<Place>
+    ensures { result ≡ void_alone (specifiers_in specifiers.now) }
+{
+    let Some((first, others)) = specifiers.split_first() else {
+        return None;
+    };
+    match others.first() {
+        None => void_word(first),
+        Some(_) => None,
+    }
+}
+
+/// The place of the word `void` where it is the whole parameter.
+#[tactic(auto, using(crate::proofs::TypedView::typed_view))]
+fn void_parameter(parameter: &TypedDeclarator) -> Option<Place>
+    ensures { result ≡ void_parameter (typed_of parameter.now) }
+{
+    match &parameter.declarator {
+        Declarator::Unnamed => void_alone(parameter.specifiers.as_slice()),
+        _ => None,
+    }
+}
+
+/// The place of the word `void` where it is all that stands between the parentheses (C99 6.7.5.3).
+fn lone_void(first: &TypedDeclarator, others: &[(Place, TypedDeclarator)]) -> Option<Place>
+    ensures { result ≡ lone_void (typed_of first.now) (more_parameters_in others.now) }
+{
+    match others.first() {
+        None => void_parameter(first),
+        Some(_) => None,
+    }
+}
+
+/// The parameters of a function, where the word `void` alone is the empty list (C99 6.7.5.3).
+#[tactic(auto, using(crate::proofs::TypedView::void_or_given))]
+fn parameters_of<'a>(
+    alloc: Global,
+    first: TypedDeclarator<'a>,
+    others: Items<(Place, TypedDeclarator<'a>)>,
+) -> Result<Parameters<'a>, AllocError>
+    ensures { IfOk result (λ x. parameters_of x ≡ spec.parameters_of (typed_of first.entry) (more_parameters_in others.entry)) }
+{
+    match lone_void(&first, others.as_slice()) {
+        Some(place) => Ok(Parameters::Void(place)),
+        None => Ok(Parameters::Given(Boxed::new(alloc, first)?, others)),
+    }
+}
+
+/// Specifiers and a declarator with their levels.
+fn typed_with<'a>(
+    specifiers: Leveled<Items<Specifier<'a>>>,
+    declarator: Leveled<Declarator<'a>>,
+) -> Leveled<TypedDeclarator<'a>>
+    ensures tree { typed_of result.tree ≡ t.typed (specifiers_in specifiers.entry.tree) (declarator_of declarator.entry.tree) }
+    ensures levels { result.levels ≡ max specifiers.entry.levels declarator.entry.levels }
+{
+    let Leveled {
+        tree: specifiers,
+        levels,
+    } = specifiers;
+    let Leveled {
+        tree: declarator,
+        levels: others,
+    } = declarator;
+    Leveled {
+        tree: TypedDeclarator {
+            specifiers,
+            declarator,
+        },
+        levels: levels.max(others),
+    }
+}
+
+impl<
+    't,
+    'a,
+    E: Fn(
+        Global,
+        &[Spelling<'a>],
+        &mut Cursor<'_, 'a>,
+        usize,
+        Option<Place>,
+        u8,
+    ) -> Result<Leveled<Expression<'a>>, Fault>,
+    S: Fn(
+        Global,
+        &[Spelling<'a>],
+        &mut Cursor<'_, 'a>,
+        usize,
+        bool,
+    ) -> Result<Leveled<Items<Specifier<'a>>>, Fault>,
+    D: Fn(
+        Global,
+        &[Spelling<'a>],
+        &mut Cursor<'_, 'a>,
+        usize,
+        DeclaratorKind,
+    ) -> Result<Leveled<Declarator<'a>>, Fault>,
+> Grammar<'t, 'a, E, S, D> {
+    /// Reads specifiers and a declarator: a type name (C99 6.7.6) or a parameter (6.7.5).
+    #[tactic(auto, unfolding(c_grammar::specs::Readers::typed_from))]
+    pub fn typed(
+        &self,
+        tokens: &mut Cursor<'_, 'a>,
+        kind: DeclaratorKind,
+    ) -> Result<Leveled<TypedDeclarator<'a>>, Fault>
+        requires deeper { Deeper self.now.levels (E.pre self.now.expression) (E.post self.now.expression) (S.pre self.now.specifiers) (S.post self.now.specifiers) (D.pre self.now.declarator) (D.post self.now.declarator) }
+        ensures { ReadsLeveled typed_of typed_levels self.now.levels (spec.typed_from (readers self.now.names.now self.now.levels) kind tokens.old.rest.now) result tokens.new.rest.now }
+    {
+        let specifiers = self.specifiers(tokens, false)?;
+        let declarator = self.declarator(tokens, kind)?;
+        Ok(typed_with(specifiers, declarator))
+    }
+
+    /// Reads parameters behind the first, each behind its comma.
+    fn more_parameters(
+        &self,
+        tokens: &mut Cursor<'_, 'a>,
+    ) -> Result<Leveled<Items<(Place, TypedDeclarator<'a>)>>, Fault>
+        requires deeper { Deeper self.now.levels (E.pre self.now.expression) (E.post self.now.expression) (S.pre self.now.specifiers) (S.post self.now.specifiers) (D.pre self.now.declarator) (D.post self.now.declarator) }
+        requires some { 0 < self.now.levels }
+        ensures { ReadsLeveled parameters_behind parameters_behind_levels self.now.levels (behind_commas (spec.typed_from (readers self.now.names.now self.now.levels) kind.Either) (length tokens.old.rest.now) tokens.old.rest.now) result tokens.new.rest.now }
+    {
+        let mut levels = 0;
+        let mut others = Vec::new(self.alloc);
+        for _ in 0..tokens.rest.len() {
+            let Some(place) = tokens.take(Punctuator::Comma) else {
+                return Ok(Leveled {
+                    tree: Items::from_vec(others),
+                    levels,
+                });
+            };
+            let parameter = self.typed(tokens, DeclaratorKind::Either)?;
+            levels = parameter.levels.max(levels);
+            others.push((place, parameter.tree))?;
+        }
+        Ok(Leveled {
+            tree: Items::from_vec(others),
+            levels,
+        })
+    }
+
+    /// Reads what stands between the parentheses of a function declarator (C99 6.7.5.3).
+    #[tactic(auto, unfolding(c_grammar::specs::Readers::parameters_from))]
+    pub fn parameters(&self, tokens: &mut Cursor<'_, 'a>) -> Result<Leveled<Parameters<'a>>, Fault>
+        requires deeper { Deeper self.now.levels (E.pre self.now.expression) (E.post self.now.expression) (S.pre self.now.specifiers) (S.post self.now.specifiers) (D.pre self.now.declarator) (D.post self.now.declarator) }
+        requires some { 0 < self.now.levels }
+        ensures { ReadsLeveled parameters_of parameters_levels self.now.levels (spec.parameters_from (readers self.now.names.now self.now.levels) tokens.old.rest.now) result tokens.new.rest.now }
+    {
+        if next_is(tokens.rest, Punctuator::RightParenthesis) {
+            return Ok(leaf(Parameters::Empty));
+        }
+        let first = self.typed(tokens, DeclaratorKind::Either)?;
+        let others = self.more_parameters(tokens)?;
+        Ok(Leveled {
+            levels: first.levels.max(others.levels),
+            tree: parameters_of(self.alloc, first.tree, others.tree)?,
+        })
+    }
+}

@@ -1,0 +1,30 @@
+use Rattle.std.proofs.Common.{rules, arith, ◌-◌, ◌+◌, length, sym, ◌∙◌}
+use Rattle.std.proofs.lemmas.Grind.{common_steps}
+use Rattle.c_syntax.specs.StatementsView.{designators_in}
+use Rattle.c_grammar.specs.InitializerReader.{designators_from}
+use Rattle.c_grammar.specs.Nested.{readers}
+use Rattle.c_grammar.proofs.Extending.{extending}
+use Rattle.c_declarations.proofs.InitializerLists.{designator_turn, designator_fails, designators_end, designators_done}
+use Rattle.c_grammar.proofs.Turns.{one_more, no_more}
+use Rattle.c_declarations.proofs.initializer.designators.Goals as goal
+
+pub returns-then-not-begins_designator : goal.returns-then-not-begins_designator
+returns-then-not-begins_designator c =
+    let e = c.loop.invariant ∙ designators_end (readers c.args.names.now c.args.levels) _ (designators_in c.loop.designators.items) c.loop.tokens.rest.now (sym c.begins_designator.ensures ∙ c.if-not-begins_designator.true) in
+    first_of (search rules, grind (arith, common_steps))
+
+pub returns-in_err-designator : goal.returns-in_err-designator
+returns-in_err-designator c =
+    let e = one_more (λ n. extending (designators_in c.loop.designators.items) (designators_from (readers c.args.names.now c.args.levels) n c.loop.tokens.rest.now)) _ c.loop.counter c.loop-test.true c.loop.invariant in
+    let f = designator_fails (readers c.args.names.now c.args.levels) (length c.args.tokens.now.rest.now - (c.loop.counter + 1)) (designators_in c.loop.designators.items) c.loop.tokens.rest.now c.designator.new.tokens.rest.now _ c.in_err-designator.field-0.0 e (sym c.begins_designator.ensures ∙ c.if-not-begins_designator.false) c.in_err-designator.ensures in
+    first_of (search rules, grind (arith, common_steps))
+
+pub loop-preserved : goal.loop-preserved
+loop-preserved c =
+    let e = one_more (λ n. extending (designators_in c.loop.designators.items) (designators_from (readers c.args.names.now c.args.levels) n c.loop.tokens.rest.now)) _ c.loop.counter c.loop-test.true c.loop.invariant in
+    rw c.in_ok-push.ensures.items (e ∙ designator_turn (readers c.args.names.now c.args.levels) (length c.args.tokens.now.rest.now - (c.loop.counter + 1)) c.loop.designators.items c.in_ok-designator.designator c.loop.tokens.rest.now c.designator.new.tokens.rest.now (sym c.begins_designator.ensures ∙ c.if-not-begins_designator.false) c.in_ok-designator.ensures)
+
+pub returns : goal.returns
+returns c =
+    let e = no_more (λ n. extending (designators_in c.loop.designators.items) (designators_from (readers c.args.names.now c.args.levels) n c.loop.tokens.rest.now)) _ c.loop.counter c.loop-test.false c.loop.invariant ∙ designators_done (readers c.args.names.now c.args.levels) (designators_in c.loop.designators.items) c.loop.tokens.rest.now in
+    first_of (search rules, grind (arith, common_steps))

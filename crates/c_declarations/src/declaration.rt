@@ -1,0 +1,313 @@
+//! Reading declarations (C99 6.7). Expressions, declarators, specifiers and initializers have at most some number of levels.
+
+ghost use Rattle.std.specs.Prelude.{◌≡◌, true, false, None, length, IfOk};
+ghost use Rattle.c_grammar.specs.DeclarationReader as spec;
+ghost use Rattle.c_grammar.specs.Reads.{Reads};
+ghost use Rattle.c_syntax.specs.Formed as formed;
+ghost use Rattle.c_syntax.specs.View.{declarator_of, specifiers_in};
+ghost use Rattle.c_syntax.specs.StatementsView.{initialized_of, init_declarator_of, more_init_declarators_in, declaration_of};
+
+use crate::initializer::initializer;
+use c_expressions::nested::{declarator, specifiers};
+use c_grammar::cursor::{Cursor, Fault, next_is};
+use c_grammar::declarator_kind::DeclaratorKind;
+use c_lexer::{Punctuator, Spelling};
+use c_syntax::names::declared_name;
+use c_syntax::specifiers::has_typedef;
+use c_syntax::{
+    Declaration, Declarator, InitDeclarator, InitDeclarators, Initializer, Items, Place, Specifier,
+};
+use std::alloc::{AllocError, Global};
+
+/// Puts the name of a declarator, if it has one, behind the typedef names, or answers that there is no memory (C99 6.7.7).
+fn add_typedef_name<'a>(
+    names: &mut Vec<Spelling<'a>>,
+    declarator: &Declarator<'a>,
+) -> Result<(), AllocError>
+    ensures { IfOk result (λ _. names.new.items ≡ formed.names_after true (declarator_of declarator.now) names.old.items) }
+{
+    if let Some(name) = declared_name(declarator) {
+        names.push(name)?;
+    }
+    Ok(())
+}
+
+/// Puts the name of a declarator, if the specifiers before it have `typedef`, behind the typedef names, or answers that
+/// there is no memory (C99 6.7.7).
+pub fn add_defined_name<'a>(
+    names: &mut Vec<Spelling<'a>>,
+    specifiers: &[Specifier<'a>],
+    declarator: &Declarator<'a>,
+) -> Result<(), AllocError>
+    ensures { IfOk result (λ _. names.new.items ≡ formed.names_after (formed.has_typedef (specifiers_in specifiers.now)) (declarator_of declarator.now) names.old.items) }
+{
+    if has_typedef(specifiers) {
+        add_typedef_name(names, declarator)?;
+    }
+    Ok(())
+}
+
+/// Reads `=` and an initializer, or nothing where no `=` stands next (C99 6.7).
+#[tactic(auto, unfolding(c_grammar::specs::DeclarationReader::initialized_from))]
+fn initialized<'a>(
+    alloc: Global,
+    names: &[Spelling<'a>],
+    tokens: &mut Cursor<'_, 'a>,
+    levels: u8,
+) -> Result<Option<(Place, Initializer<'a>)>, Fault>
+    ensures { Reads initialized_of (spec.initialized_from levels names.now tokens.old.rest.now) result tokens.new.rest.now }
+{
+    if !next_is(tokens.rest, Punctuator::Assign) {
+        return Ok(None);
+    }
+    let place = tokens.expect(Punctuator::Assign)?;
+    let value = initializer(alloc, names, tokens, levels as usize + 1)?;
+    Ok(Some((place, value)))
+}
+
+/// Reads what stands behind a declarator that is no typedef's (C99 6.7).
+#[tactic(auto, unfolding(c_grammar::specs::DeclarationReader::init_declarator_behind))]
+fn init_declarator_behind<'a>(
+    alloc: Global,
+    names: &[Spelling<'a>],
+    tokens: &mut Cursor<'_, 'a>,
+    levels: u8,
+    declarator: Declarator<'a>,
+) -> Result<InitDeclarator<'a>, Fault>
+    ensures { Reads init_declarator_of (spec.init_declarator_behind levels false names.now (declarator_of declarator.entry) tokens.old.rest.now) result tokens.new.rest.now }
+{
+    let initializer = initialized(alloc, names, tokens, levels)?;
+    Ok(InitDeclarator {
+        declarator,
+        initializer,
+    })
+}
+
+/// Reads a declarator of a declaration that is no typedef, and its initializer or none (C99 6.7).
+#[tactic(auto, unfolding(c_grammar::specs::DeclarationReader::init_declarator_from))]
+fn init_declarator<'a>(
+    alloc: Global,
+    names: &[Spelling<'a>],
+    tokens: &mut Cursor<'_, 'a>,
+    levels: u8,
+) -> Result<InitDeclarator<'a>, Fault>
+    ensures { Reads init_declarator_of (spec.init_declarator_from levels false names.now tokens.old.rest.now) result tokens.new.rest.now }
+{
+    let declarator = declarator(
+        alloc,
+        names,
+        tokens,
+        levels as usize + 1,
+        DeclaratorKind::Named,
+    )?;
+    init_declarator_behind(alloc, names, tokens, levels, declarator.tree)
+}
+
+/// Reads the declarators behind the first of a declaration that is no typedef, each behind its comma (C99 6.7).
+#[tactic(auto, unfolding(c_grammar::specs::DeclarationReader::more_init_declarators_from))]
+fn more_init_declarators<'a>(
+    alloc: Global,
+    names: &[Spelling<'a>],
+    tokens: &mut Cursor<'_, 'a>,
+    levels: u8,
+) -> Result<Items<(Place, InitDeclarator<'a>)>, Fault>
+    ensures { Reads more_init_declarators_in (spec.more_init_declarators_from levels false (length tokens.old.rest.now) names.now tokens.old.rest.now) result tokens.new.rest.now }
+{
+    let mut others = Vec::new(alloc);
+    for _ in 0..tokens.rest.len() {
+        let Some(place) = tokens.take(Punctuator::Comma) else {
+            return Ok(Items::from_vec(others));
+        };
+        let other = init_declarator(alloc, names, tokens, levels)?;
+        others.push((place, other))?;
+    }
+    Ok(Items::from_vec(others))
+}
+
+/// Reads what stands behind a typedef's declarator, whose name is a typedef name from there on (C99 6.7, 6.7.7).
+#[tactic(auto, unfolding(c_grammar::specs::DeclarationReader::init_declarator_behind))]
+fn typedef_behind<'a>(
+    alloc: Global,
+    names: &mut Vec<Spelling<'a>>,
+    tokens: &mut Cursor<'_, 'a>,
+    levels: u8,
+    declarator: Declarator<'a>,
+) -> Result<InitDeclarator<'a>, Fault>
+    ensures read { Reads init_declarator_of (spec.init_declarator_behind levels true names.old.items (declarator_of declarator.entry) tokens.old.rest.now) result tokens.new.rest.now }
+    ensures declarator { IfOk result (λ x. x.declarator ≡ declarator.entry) }
+    ensures names { IfOk result (λ _. names.new.items ≡ formed.names_after true (declarator_of declarator.entry) names.old.items) }
+{
+    add_typedef_name(names, &declarator)?;
+    let initializer = initialized(alloc, names.as_slice(), tokens, levels)?;
+    Ok(InitDeclarator {
+        declarator,
+        initializer,
+    })
+}
+
+/// Reads a typedef's declarator, and its initializer or none (C99 6.7, 6.7.7).
+#[tactic(auto, unfolding(c_grammar::specs::DeclarationReader::init_declarator_from))]
+fn typedef_declarator<'a>(
+    alloc: Global,
+    names: &mut Vec<Spelling<'a>>,
+    tokens: &mut Cursor<'_, 'a>,
+    levels: u8,
+) -> Result<InitDeclarator<'a>, Fault>
+    ensures read { Reads init_declarator_of (spec.init_declarator_from levels true names.old.items tokens.old.rest.now) result tokens.new.rest.now }
+    ensures names { IfOk result (λ x. names.new.items ≡ formed.names_after true (declarator_of x.declarator) names.old.items) }
+{
+    let declarator = declarator(
+        alloc,
+        names.as_slice(),
+        tokens,
+        levels as usize + 1,
+        DeclaratorKind::Named,
+    )?;
+    typedef_behind(alloc, names, tokens, levels, declarator.tree)
+}
+
+/// Reads the declarators behind the first of a typedef, each behind its comma (C99 6.7, 6.7.7).
+#[tactic(auto, unfolding(c_grammar::specs::DeclarationReader::more_init_declarators_from))]
+fn more_typedef_declarators<'a>(
+    alloc: Global,
+    names: &mut Vec<Spelling<'a>>,
+    tokens: &mut Cursor<'_, 'a>,
+    levels: u8,
+) -> Result<Items<(Place, InitDeclarator<'a>)>, Fault>
+    ensures read { Reads more_init_declarators_in (spec.more_init_declarators_from levels true (length tokens.old.rest.now) names.old.items tokens.old.rest.now) result tokens.new.rest.now }
+    ensures names { IfOk result (λ z. names.new.items ≡ formed.names_after_more true (more_init_declarators_in z) names.old.items) }
+{
+    let mut others = Vec::new(alloc);
+    for _ in 0..tokens.rest.len() {
+        let Some(place) = tokens.take(Punctuator::Comma) else {
+            return Ok(Items::from_vec(others));
+        };
+        let other = typedef_declarator(alloc, names, tokens, levels)?;
+        others.push((place, other))?;
+    }
+    Ok(Items::from_vec(others))
+}
+
+/// Reads the rest of a declaration that is no typedef, behind its first declarator (C99 6.7).
+#[tactic(auto, unfolding(c_grammar::specs::DeclarationReader::declaration_behind))]
+fn plain_declaration_behind<'a>(
+    alloc: Global,
+    names: &[Spelling<'a>],
+    tokens: &mut Cursor<'_, 'a>,
+    levels: u8,
+    specifiers: Items<Specifier<'a>>,
+    declarator: Declarator<'a>,
+) -> Result<Declaration<'a>, Fault>
+    requires { formed.has_typedef (specifiers_in specifiers) ≡ false }
+    ensures read { Reads declaration_of (spec.declaration_behind levels names.now (specifiers_in specifiers.entry) (declarator_of declarator.entry) tokens.old.rest.now) result tokens.new.rest.now }
+    ensures plain { IfOk result (λ x. formed.has_typedef (specifiers_in x.specifiers) ≡ false) }
+{
+    let first = init_declarator_behind(alloc, names, tokens, levels, declarator)?;
+    let others = more_init_declarators(alloc, names, tokens, levels)?;
+    let semicolon = tokens.expect(Punctuator::Semicolon)?;
+    Ok(Declaration {
+        specifiers,
+        declarators: Some(InitDeclarators { first, others }),
+        semicolon,
+    })
+}
+
+/// Reads the rest of a typedef behind its first declarator (C99 6.7, 6.7.7).
+#[tactic(auto, unfolding(c_grammar::specs::DeclarationReader::declaration_behind))]
+fn typedef_declaration_behind<'a>(
+    alloc: Global,
+    names: &mut Vec<Spelling<'a>>,
+    tokens: &mut Cursor<'_, 'a>,
+    levels: u8,
+    specifiers: Items<Specifier<'a>>,
+    declarator: Declarator<'a>,
+) -> Result<Declaration<'a>, Fault>
+    requires { formed.has_typedef (specifiers_in specifiers) ≡ true }
+    ensures read { Reads declaration_of (spec.declaration_behind levels names.old.items (specifiers_in specifiers.entry) (declarator_of declarator.entry) tokens.old.rest.now) result tokens.new.rest.now }
+    ensures names { IfOk result (λ x. names.new.items ≡ formed.names_after_declaration (declaration_of x) names.old.items) }
+{
+    let first = typedef_behind(alloc, names, tokens, levels, declarator)?;
+    let others = more_typedef_declarators(alloc, names, tokens, levels)?;
+    let semicolon = tokens.expect(Punctuator::Semicolon)?;
+    Ok(Declaration {
+        specifiers,
+        declarators: Some(InitDeclarators { first, others }),
+        semicolon,
+    })
+}
+
+/// Reads the rest of a declaration behind its first declarator, and puts the names of a typedef behind the typedef names
+/// (C99 6.7, 6.7.7).
+pub fn declaration_behind<'a>(
+    alloc: Global,
+    names: &mut Vec<Spelling<'a>>,
+    tokens: &mut Cursor<'_, 'a>,
+    levels: u8,
+    specifiers: Items<Specifier<'a>>,
+    declarator: Declarator<'a>,
+) -> Result<Declaration<'a>, Fault>
+    ensures read { Reads declaration_of (spec.declaration_behind levels names.old.items (specifiers_in specifiers.entry) (declarator_of declarator.entry) tokens.old.rest.now) result tokens.new.rest.now }
+    ensures names { IfOk result (λ x. names.new.items ≡ formed.names_after_declaration (declaration_of x) names.old.items) }
+{
+    if has_typedef(specifiers.as_slice()) {
+        return typedef_declaration_behind(alloc, names, tokens, levels, specifiers, declarator);
+    }
+    let declaration = plain_declaration_behind(
+        alloc,
+        names.as_slice(),
+        tokens,
+        levels,
+        specifiers,
+        declarator,
+    )?;
+    Ok(declaration)
+}
+
+/// Reads the semicolon of a declaration without declarators (C99 6.7).
+#[tactic(auto, unfolding(c_grammar::specs::DeclarationReader::bare_declaration_from))]
+pub fn bare_declaration<'a>(
+    tokens: &mut Cursor<'_, 'a>,
+    levels: u8,
+    specifiers: Items<Specifier<'a>>,
+) -> Result<Declaration<'a>, Fault>
+    ensures read { Reads declaration_of (spec.bare_declaration_from levels (specifiers_in specifiers.entry) tokens.old.rest.now) result tokens.new.rest.now }
+    ensures bare { IfOk result (λ x. x.declarators ≡ None) }
+{
+    let semicolon = tokens.expect(Punctuator::Semicolon)?;
+    Ok(Declaration {
+        specifiers,
+        declarators: None,
+        semicolon,
+    })
+}
+
+/// Reads a declaration in a function, where no `typedef` stands (C99 6.7).
+#[tactic(auto, unfolding(c_grammar::specs::DeclarationReader::local_from), using(crate::proofs::Typedefs::no_typedef))]
+pub fn local<'a>(
+    alloc: Global,
+    names: &[Spelling<'a>],
+    tokens: &mut Cursor<'_, 'a>,
+    levels: u8,
+) -> Result<Declaration<'a>, Fault>
+    ensures { Reads declaration_of (spec.local_from levels names.now tokens.old.rest.now) result tokens.new.rest.now }
+{
+    let specifiers = specifiers(alloc, names, tokens, levels as usize + 1, false)?;
+    if next_is(tokens.rest, Punctuator::Semicolon) {
+        return bare_declaration(tokens, levels, specifiers.tree);
+    }
+    let declarator = declarator(
+        alloc,
+        names,
+        tokens,
+        levels as usize + 1,
+        DeclaratorKind::Named,
+    )?;
+    plain_declaration_behind(
+        alloc,
+        names,
+        tokens,
+        levels,
+        specifiers.tree,
+        declarator.tree,
+    )
+}

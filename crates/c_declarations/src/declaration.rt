@@ -1,8 +1,9 @@
 //! Reading declarations (C99 6.7). Expressions, declarators, specifiers and initializers have at most some number of levels.
 
-ghost use Rattle.std.specs.Prelude.{◌≡◌, true, false, None, length, IfOk};
+ghost use Rattle.std.specs.Prelude.{◌≡◌, true, false, None, length, IfOk, IfErr};
 ghost use Rattle.c_grammar.specs.DeclarationReader as spec;
 ghost use Rattle.c_grammar.specs.Reads.{Reads};
+ghost use Rattle.c_grammar.specs.declared.cursor.Fault.TheVariants.{Refused};
 ghost use Rattle.c_syntax.specs.Formed as formed;
 ghost use Rattle.c_syntax.specs.View.{declarator_of, specifiers_in};
 ghost use Rattle.c_syntax.specs.StatementsView.{initialized_of, init_declarator_of, more_init_declarators_in, declaration_of};
@@ -272,6 +273,7 @@ pub fn bare_declaration<'a>(
 ) -> Result<Declaration<'a>, Fault>
     ensures read { Reads declaration_of (spec.bare_declaration_from levels (specifiers_in specifiers.entry) tokens.old.rest.now) result tokens.new.rest.now }
     ensures bare { IfOk result (λ x. x.declarators ≡ None) }
+    ensures no_memory { IfErr result (λ f. f ≡ Refused) }
 {
     let semicolon = tokens.expect(Punctuator::Semicolon)?;
     Ok(Declaration {

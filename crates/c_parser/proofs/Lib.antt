@@ -1,0 +1,4 @@
+mod Answered
+mod UnitLists
+mod StatementParts
+mod BlockSteps

@@ -1,0 +1,12 @@
+//! The parser: the one well-formed tree that has the words of a text, or the token at which the parser stood where there is none
+//! (C99 6.8, 6.9).
+#![tactic(auto)]
+
+pub mod fault;
+pub mod parser;
+mod statement;
+mod statement_tree;
+mod unit;
+
+pub use crate::fault::ParseFault;
+pub use crate::parser::parse;

@@ -1,0 +1,101 @@
+//! What the parser says of a text.
+
+use anyhow::{Result, bail};
+use c_lexer::{LexError, Tokens, lex};
+use c_parser::{ParseFault, parse};
+use c_pre::{PreError, expand};
+use c_syntax::{Placed, Unit, with_places, words};
+use sb_base::Line;
+use std::alloc::Global;
+
+/// What the parser says of a text.
+#[derive(Clone, Copy, Debug, PartialEq, Eq)]
+pub enum Verdict {
+    /// It has a tree.
+    Accepted,
+    /// It has none.
+    Refused {
+        /// The number of the token of the fault, from 0.
+        at: u64,
+        /// The line of that token, or of the end of the text.
+        line: Line,
+    },
+    /// It has none, and too many brackets are open.
+    Nested {
+        /// The line on which they are too many.
+        line: Line,
+    },
+}
+
+impl Verdict {
+    /// How the table has it.
+    pub fn name(self) -> &'static str {
+        match self {
+            Verdict::Accepted => "accepted",
+            Verdict::Refused { .. } => "refused",
+            Verdict::Nested { .. } => "nested",
+        }
+    }
+}
+
+/// The expanded tokens of a text. An error: there is no memory, or the text has no tokens or faulty directives.
+pub fn tokens_of(alloc: Global, text: &[u8]) -> Result<Tokens<'_>> {
+    if text.len() > 1_048_576 {
+        bail!("a text is too long");
+    }
+    let tokens = match lex(alloc, text) {
+        Ok(tokens) => tokens,
+        Err(LexError::Memory) => bail!("out of memory"),
+        Err(LexError::Fault(fault)) => bail!("no token on line {}", fault.line.number()),
+    };
+    match expand(alloc, tokens) {
+        Ok(expanded) => Ok(expanded),
+        Err(PreError::Memory) => bail!("out of memory"),
+        Err(PreError::Fault(fault)) => bail!("a directive's fault on line {}", fault.line.number()),
+    }
+}
+
+fn are_same(words: &[Placed], others: &[Placed]) -> bool {
+    if words.len() != others.len() {
+        return false;
+    }
+    for (word, other) in words.iter().zip(others.iter()) {
+        if !word.word.is(&other.word) || word.place != other.place {
+            return false;
+        }
+    }
+    true
+}
+
+fn test_words(alloc: Global, tokens: &Tokens, unit: &Unit) -> Result<()> {
+    let found = words(alloc, unit)?;
+    let given = with_places(alloc, tokens.as_slice())?;
+    if !are_same(found.as_slice(), given.as_slice()) {
+        bail!("the tree has other words than the text");
+    }
+    Ok(())
+}
+
+fn refusal(fault: ParseFault) -> Result<Verdict> {
+    match fault {
+        ParseFault::Memory => bail!("out of memory"),
+        ParseFault::Syntax { at, line } => Ok(Verdict::Refused { at, line }),
+        ParseFault::Nesting { line, .. } => Ok(Verdict::Nested { line }),
+    }
+}
+
+/// What the parser says of a text. An error: there is no memory, the text has no tokens or faulty directives, its tree has
+/// other words, or it is read otherwise the second time.
+pub fn verdict_of(alloc: Global, text: &[u8]) -> Result<Verdict> {
+    let tokens = tokens_of(alloc, text)?;
+    let unit = match parse(alloc, &tokens) {
+        Ok(unit) => unit,
+        Err(fault) => return refusal(fault),
+    };
+    test_words(alloc, &tokens, &unit)?;
+    match parse(alloc, &tokens) {
+        Ok(again) => test_words(alloc, &tokens, &again)?,
+        Err(_) => bail!("the text is refused the second time"),
+    }
+    Ok(Verdict::Accepted)
+}

@@ -1,5 +1,5 @@
 -- What keeps a command from its end, where its file is there and is what it has to be.
-use Rattle.std.proofs.Common.{◌≡◌, ◌≤◌, ℕ, List, length, Option, Some, None, subst, arith}
+use Rattle.std.proofs.Common.{◌≡◌, ◌≤◌, ℕ, List, length, Option, Some, None, Err, subst, arith}
 use Rattle.std.specs.Prelude.{IfSome}
 use Rattle.sbcets_core.specs.declared.outcome.ReadFault.TheVariants.{TooLong}
 use Rattle.sbcets_core.specs.declared.outcome.ReadFault.TheVariants as reads
@@ -11,7 +11,9 @@ use Rattle.sbcets_core.specs.Outcomes.{max_source, max_image_file}
 use Rattle.sbcets_core.specs.declared.refusal.SourceRefusal.{SourceRefusal}
 use Rattle.elf_image.specs.declared.fault.ImageFault.{ImageFault}
 use Rattle.sbcets_core.specs.Commands.{Outside, Holds, IsTooLong, RefusesSource, RefusesImage, Goes, Runs, Builds}
+use Rattle.sbcets_core.specs.Accepted.{Judges}
 use Rattle.sbcets_core.specs.Top.{Does, IsAcceptedFile, IsReadableFile, IsOfRun, IsOfBuild, IsComplete}
+use Rattle.sbcets_core.proofs.Judging.{not_both}
 
 -- what is read is what the file of the name holds
 pub read_is : (held : Option (List ℕ → Option (List ℕ))) (files : List ℕ → Option (List ℕ)) (name bytes read : List ℕ) → held ≡ Some files → files name ≡ Some bytes → Holds held name read → read ≡ bytes
@@ -29,9 +31,7 @@ not_too_long held files name bytes max n most told there short t =
 not_refused : (held : Option (List ℕ → Option (List ℕ))) (name : List ℕ) (refusal : SourceRefusal) → IsAcceptedFile held name → RefusesSource name refusal held → ⊥
 not_refused held name refusal f r =
     let same = read_is held f.files name f.source r.source f.told f.there r.read in
-    let accepts = f.accepts in
-    let refused = r.refused in
-    cc (same, accepts, refused)
+    not_both f.source f.program refusal f.accepts (subst (λ s. Judges s (Err refusal)) same r.refused)
 
 not_image_refused : (held : Option (List ℕ → Option (List ℕ))) (name : List ℕ) (fault : ImageFault) → IsReadableFile held name → RefusesImage name fault held → ⊥
 not_image_refused held name fault f r =

@@ -3,6 +3,7 @@ pub mod Complete
 pub mod Composition
 pub mod Counts
 pub mod Execution
+pub mod Judging
 pub mod Listed
 pub mod Machine
 pub mod Meant
@@ -11,4 +12,5 @@ pub mod Prefixes
 pub mod Running
 pub mod Steps
 pub mod Theorem
+pub mod Trees
 pub mod Words

@@ -1,5 +1,5 @@
 -- The program of an accepted source, or why the source is refused.
-use Rattle.std.specs.Prelude.{◌≡◌, ℕ, nat_lt, List, [], ◌∷◌, length, Result, Ok, Err, if◌then◌else◌, Vec}
+use Rattle.std.specs.Prelude.{◌≡◌, ℕ, nat_lt, true, false, List, [], ◌∷◌, length, Result, Ok, Err, if◌then◌else◌, Vec}
 use Rattle.std.specs.declared.alloc.Global.{Global}
 use Rattle.c_lexer.specs.declared.lexer.LexFault.{LexFault}
 use Rattle.c_lexer.specs.declared.token.Token.{Token}
@@ -7,9 +7,11 @@ use Rattle.c_lexer.specs.Spelled.{TokenList}
 use Rattle.c_lexer.specs.Text.{tokens}
 use Rattle.c_pre.specs.declared.fault.PreFault.{PreFault}
 use Rattle.c_pre.specs.Reading.{expanded}
+use Rattle.c_syntax.specs.Statements as statements
+use Rattle.c_parser.specs.Parsed.{IsTreeOf, IsRefusedAt}
 use Rattle.sbcets_core.specs.declared.refusal.Counted.TheVariants.{Source}
 use Rattle.sbcets_core.specs.declared.refusal.SourceRefusal.{SourceRefusal}
-use Rattle.sbcets_core.specs.declared.refusal.SourceRefusal.TheVariants.{Lex, Pre, Unsupported, TooLarge, Memory}
+use Rattle.sbcets_core.specs.declared.refusal.SourceRefusal.TheVariants.{Lex, Pre, Unsupported, Syntax, Nesting, TooLarge, Memory}
 use Rattle.sbcets_core.specs.Outcomes.{max_source}
 use Rattle.sbcets_core.specs.Source.{SourceProgram}
 use Rattle.sbcets_core.specs.Listed.{refused_bytes, from_listed}
@@ -19,54 +21,70 @@ use Rattle.sbcets_core.specs.Faithful.{IsFaithfulImage}
 abbrev pub Judged : Type 0
 Judged = Result SourceProgram SourceRefusal
 
+-- the expanded tokens of a source, or why it is refused before it is parsed
+abbrev pub Readable : Type 0
+Readable = Result TokenList SourceRefusal
+
 -- the refusal at the first of these tokens, or at the end of the text, on this line
 abbrev pub unsupported : (end : ℕ) → List Token → SourceRefusal
 unsupported end [] = Unsupported [] end
 unsupported end (t ∷ ts) = Unsupported (refused_bytes t.word) t.line
 
+-- no listed word is supported, wherever it stands
+abbrev pub unless_listed : TokenList → (listed : List Token) → Readable
+unless_listed list [] = Ok list
+unless_listed list (t ∷ ts) = Err (unsupported list.end (t ∷ ts))
+
+unfoldable pub without_listed : TokenList → Readable
+without_listed list = unless_listed list (from_listed list.tokens)
+
+abbrev pub of_expanded : Result TokenList PreFault → Readable
+of_expanded (Err fault) = Err (Pre fault)
+of_expanded (Ok list) = without_listed list
+
+abbrev pub of_tokens : Result TokenList LexFault → Readable
+of_tokens (Err fault) = Err (Lex fault)
+of_tokens (Ok list) = of_expanded (expanded list)
+
+-- first the size of a source, then its tokens, their expansion, and the listed words
+unfoldable pub supported_tokens : List ℕ → Readable
+supported_tokens source = if nat_lt max_source (length source) then Err (TooLarge Source (length source)) else of_tokens (tokens source)
+
+-- a well-formed file is written with these tokens (C99 6.9)
+abbrev pub HasTree : List Token → Type 0
+HasTree tokens = (u : statements.Unit) × IsTreeOf tokens u
+
+-- the program of the tokens, where they are a text of the part
 abbrev pub of_part : (end : ℕ) → Parted → Judged
 of_part end (Err unfit) = Err (unsupported end unfit)
 of_part end (Ok program) = Ok program
 
--- no listed word is supported, wherever it stands; then the tokens are a text of the part
-abbrev pub unless_listed : (end : ℕ) → List Token → Judged → Judged
-unless_listed end [] judged = judged
-unless_listed end (t ∷ ts) judged = Err (unsupported end (t ∷ ts))
+-- tokens without a tree are refused, at a token that is told; those that have one are judged as a text of the part
+abbrev pub JudgesTokens : TokenList → Judged → Type 0
+JudgesTokens list (Err (Syntax at line)) = IsRefusedAt list at line false
+JudgesTokens list (Err (Nesting at line)) = IsRefusedAt list at line true
+JudgesTokens list judged = HasTree list.tokens × (judged ≡ of_part list.end (program_of list.tokens))
 
-unfoldable pub supported : TokenList → Judged
-supported list = unless_listed list.end (from_listed list.tokens) (of_part list.end (program_of list.tokens))
+abbrev pub JudgesReadable : Readable → Judged → Type 0
+JudgesReadable (Err refusal) judged = judged ≡ Err refusal
+JudgesReadable (Ok list) judged = JudgesTokens list judged
 
-abbrev pub of_expanded : Result TokenList PreFault → Judged
-of_expanded (Err fault) = Err (Pre fault)
-of_expanded (Ok list) = supported list
-
-abbrev pub of_tokens : Result TokenList LexFault → Judged
-of_tokens (Err fault) = Err (Lex fault)
-of_tokens (Ok list) = of_expanded (expanded list)
-
--- the meaning of 'accepted source': first its size, then its tokens, their expansion, and what is supported of it
-unfoldable pub accepted : List ℕ → Judged
-accepted source = if nat_lt max_source (length source) then Err (TooLarge Source (length source)) else of_tokens (tokens source)
+-- the meaning of 'accepted source': the source is accepted as this program, or refused so
+abbrev pub Judges : List ℕ → Judged → Type 0
+Judges source judged = JudgesReadable (supported_tokens source) judged
 
 -- the source is accepted, and the image is faithful to it
 pub record IsBuiltFrom (source image : List ℕ) : Type 0 where
   pub program : SourceProgram
-  pub accepts : accepted source ≡ Ok program
+  pub accepts : Judges source (Ok program)
   pub faithful : IsFaithfulImage program image
 
--- a refusal that is not want of memory is what was wanted
-abbrev pub Refuses : SourceRefusal → Judged → Type 0
-Refuses (Lex fault) wanted = wanted ≡ Err (Lex fault)
-Refuses (Pre fault) wanted = wanted ≡ Err (Pre fault)
-Refuses (Unsupported word line) wanted = wanted ≡ Err (Unsupported word line)
-Refuses (TooLarge which n) wanted = wanted ≡ Err (TooLarge which n)
-Refuses Memory wanted = Unit {0}
+-- this holds, unless the refusal is want of memory
+abbrev pub UnlessMemory : SourceRefusal → Type 0 → Type 0
+UnlessMemory Memory holds = Unit {0}
+UnlessMemory refusal holds = holds
 
 -- what the compiler answers: for want of memory nothing is said
 abbrev pub Compiles : List ℕ → Result (Vec ℕ Global) SourceRefusal → Type 0
 Compiles source (Ok image) = IsBuiltFrom source image.items
-Compiles source (Err refusal) = Refuses refusal (accepted source)
-
-abbrev pub Supports : TokenList → Result SourceProgram SourceRefusal → Type 0
-Supports list (Ok program) = supported list ≡ Ok program
-Supports list (Err refusal) = Refuses refusal (supported list)
+Compiles source (Err refusal) = UnlessMemory refusal (Judges source (Err refusal))

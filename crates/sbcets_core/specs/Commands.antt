@@ -19,7 +19,7 @@ use Rattle.sbcets_core.specs.declared.outcome.Outcome.{Outcome}
 use Rattle.sbcets_core.specs.declared.outcome.Outcome.TheVariants.{Exited, Built, Usage, WriteFault, InputFault, Memory, Limit, Refused, ImageRefused, Trap}
 use Rattle.sbcets_core.specs.declared.outcome.Outcome.TheVariants as outcomes
 use Rattle.sbcets_core.specs.Outcomes.{max_source, max_image_file}
-use Rattle.sbcets_core.specs.Accepted.{accepted, IsBuiltFrom}
+use Rattle.sbcets_core.specs.Accepted.{Judges, IsBuiltFrom}
 
 -- what the files hold, by their names, where they tell it
 abbrev pub Held : Type 0
@@ -70,7 +70,7 @@ pub record Went (name : List ℕ) (limit : ℕ) (image : List ℕ) (stop : Stop)
 pub record RefusesSource (name : List ℕ) (refusal : SourceRefusal) (held : Option (List ℕ → Option (List ℕ))) : Type 0 where
   pub source : List ℕ
   pub read : Holds held name source
-  pub refused : accepted source ≡ Err refusal
+  pub refused : Judges source (Err refusal)
 
 abbrev pub Goes : (name : List ℕ) (limit : ℕ) → Outcome → List ℕ → Outside → Outside → Type 0
 Goes name limit (Exited code) image before after = Went name limit image (stops.Exited code) before after

@@ -12,3 +12,4 @@ pub mod Part
 pub mod Parting
 pub mod Source
 pub mod Top
+pub mod Trees

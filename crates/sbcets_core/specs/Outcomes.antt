@@ -7,7 +7,7 @@ use Rattle.rv_sim.specs.declared.trap.TrapKind.{TrapKind}
 use Rattle.rv_sim.specs.declared.trap.TrapKind.TheVariants.{Illegal, Access, Jump, Break, Call}
 use Rattle.sbcets_core.specs.declared.refusal.Counted.TheVariants.{Source}
 use Rattle.sbcets_core.specs.declared.refusal.SourceRefusal.{SourceRefusal}
-use Rattle.sbcets_core.specs.declared.refusal.SourceRefusal.TheVariants.{Lex, Pre, Unsupported, TooLarge}
+use Rattle.sbcets_core.specs.declared.refusal.SourceRefusal.TheVariants.{Lex, Pre, Unsupported, Syntax, Nesting, TooLarge}
 use Rattle.sbcets_core.specs.declared.refusal.SourceRefusal.TheVariants as refusals
 use Rattle.sbcets_core.specs.declared.outcome.ReadFault.TheVariants.{Failed, TooLong}
 use Rattle.sbcets_core.specs.declared.outcome.Outcome.{Outcome}
@@ -77,6 +77,8 @@ abbrev pub refusal_line : SourceRefusal → List ℕ
 refusal_line (Lex fault) = numbered_line (codes "lexical fault at line ") fault.line []
 refusal_line (Pre fault) = line_of (codes "directive fault ") (decimal (number_of fault.kind)) (codes " at line ") (decimal fault.line)
 refusal_line (Unsupported word line) = line_of (codes "unsupported ") word (codes " at line ") (decimal line)
+refusal_line (Syntax at line) = numbered_line (codes "syntax at line ") line []
+refusal_line (Nesting at line) = numbered_line (codes "nesting at line ") line []
 refusal_line (TooLarge Source n) = numbered_line (codes "source of ") n (codes " is too large")
 refusal_line refusals.Memory = plain_line (codes "out of memory")
 

@@ -9,7 +9,7 @@ use Rattle.sbcets_core.specs.declared.outcome.Outcome.TheVariants.{Exited, Built
 use Rattle.sbcets_core.specs.declared.outcome.Outcome.TheVariants as outcomes
 use Rattle.sbcets_core.specs.Source.{SourceProgram}
 use Rattle.sbcets_core.specs.Outcomes.{max_source, max_image_file, tool_line}
-use Rattle.sbcets_core.specs.Accepted.{accepted}
+use Rattle.sbcets_core.specs.Accepted.{Judges}
 use Rattle.command_line.specs.Asked.{Asked, build, run, go}
 use Rattle.sbcets_core.specs.Commands.{Held, Outside, DoesNothing, Goes, Runs, Builds}
 
@@ -70,7 +70,7 @@ pub record IsAcceptedFile (held : Option (List ℕ → Option (List ℕ))) (name
   pub there : files name ≡ Some source
   pub short : length source ≤ max_source
   pub program : SourceProgram
-  pub accepts : accepted source ≡ Ok program
+  pub accepts : Judges source (Ok program)
 
 -- a file that is told, is there, not too long, and a readable image
 pub record IsReadableFile (held : Option (List ℕ → Option (List ℕ))) (name : List ℕ) : Type 0 where

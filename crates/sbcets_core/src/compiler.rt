@@ -1,21 +1,53 @@
 //! From a source text to an image.
-ghost use Rattle.sbcets_core.specs.Accepted.{Compiles};
+ghost use Rattle.std.specs.Prelude.{◌≡◌, ◌≤◌, length, Ok, Err, IfOk, IfErr};
+ghost use Rattle.c_lexer.specs.Spelled.{TokenList};
+ghost use Rattle.c_syntax.specs.StatementsView.{unit_of};
+ghost use Rattle.c_parser.specs.Parsed.{IsTreeOf, Parses};
+ghost use Rattle.sbcets_core.specs.Accepted.{Compiles, UnlessMemory, JudgesTokens, supported_tokens};
 
 use crate::generator::image_of;
 use crate::refusal::{Counted, SourceRefusal};
-use crate::support::supported;
-use c_lexer::{LexError, lex};
+use crate::support::{part_of, without_listed};
+use c_lexer::{LexError, Tokens, lex};
+use c_parser::{ParseFault, parse};
 use c_pre::{PreError, expand};
+use c_syntax::Unit;
 use std::alloc::Global;
 
 /// The largest source that is read, in bytes.
 pub const MAX_SOURCE: u64 = 1_048_576;
 
 /// The image of a source, faithful to what the source means; or why the source is refused: it is too
-/// large, else it has no tokens, else a directive is at fault, else a word of it is not supported.
-#[tactic(auto, unfolding(crate::specs::Accepted::accepted))]
+/// large, else it has no tokens, else a directive is at fault, else a word of it is listed, else it has no tree, else a word of
+/// it is not supported.
+#[tactic(auto, using(crate::proofs::Judging::accepts, crate::proofs::Judging::refused_early, crate::proofs::Judging::refused_unparsed, crate::proofs::Judging::refused_by_part))]
 pub fn compile(alloc: Global, source: &[u8]) -> Result<Vec<u8>, SourceRefusal>
     ensures { Compiles source.now result }
+{
+    let tokens = match supported_tokens(alloc, source) {
+        Ok(tokens) => tokens,
+        Err(refusal) => return Err(refusal),
+    };
+    let _tree = match tree_of(alloc, &tokens) {
+        Ok(tree) => tree,
+        Err(refusal) => return Err(refusal),
+    };
+    let program = match part_of(alloc, &tokens) {
+        Ok(program) => program,
+        Err(refusal) => return Err(refusal),
+    };
+    match image_of(alloc, &program) {
+        Ok(image) => Ok(image),
+        Err(_) => Err(SourceRefusal::Memory),
+    }
+}
+
+// The expanded tokens of a source of which none is a listed word.
+#[tactic(auto, unfolding(crate::specs::Accepted::supported_tokens))]
+fn supported_tokens<'a>(alloc: Global, source: &'a [u8]) -> Result<Tokens<'a>, SourceRefusal>
+    ensures ok { IfOk result (λ tokens. supported_tokens source.now ≡ Ok tokens) }
+    ensures few { IfOk result (λ tokens. length tokens.tokens ≤ 1048576) }
+    ensures err { IfErr result (λ refusal. UnlessMemory refusal (supported_tokens source.now ≡ Err refusal)) }
 {
     let count = source.len() as u64;
     if count > MAX_SOURCE {
@@ -34,12 +66,30 @@ pub fn compile(alloc: Global, source: &[u8]) -> Result<Vec<u8>, SourceRefusal>
         Err(PreError::Fault(fault)) => return Err(SourceRefusal::Pre(fault)),
         Err(PreError::Memory) => return Err(SourceRefusal::Memory),
     };
-    let program = match supported(alloc, &expanded) {
-        Ok(program) => program,
-        Err(refusal) => return Err(refusal),
-    };
-    match image_of(alloc, &program) {
-        Ok(image) => Ok(image),
-        Err(_) => Err(SourceRefusal::Memory),
+    match without_listed(alloc, &expanded) {
+        Ok(()) => Ok(expanded),
+        Err(refusal) => Err(refusal),
+    }
+}
+
+// The tree of the tokens.
+fn tree_of<'a>(alloc: Global, tokens: &Tokens<'a>) -> Result<Unit<'a>, SourceRefusal>
+    ensures ok { IfOk result (λ tree. IsTreeOf tokens.now.tokens (unit_of tree)) }
+    ensures err { IfErr result (λ refusal. UnlessMemory refusal (JudgesTokens tokens.now (Err refusal))) }
+{
+    match parse(alloc, tokens) {
+        Ok(tree) => Ok(tree),
+        Err(fault) => Err(refusal_of(fault)),
+    }
+}
+
+// The refusal of a text that the parser refuses.
+fn refusal_of(fault: ParseFault) -> SourceRefusal
+    ensures { (list : TokenList) → Parses list (Err fault) → UnlessMemory result (JudgesTokens list (Err result)) }
+{
+    match fault {
+        ParseFault::Memory => SourceRefusal::Memory,
+        ParseFault::Syntax { at, line } => SourceRefusal::Syntax { at, line },
+        ParseFault::Nesting { at, line } => SourceRefusal::Nesting { at, line },
     }
 }

@@ -1,12 +1,16 @@
 //! Laws of the definitions that the top call's clauses cite, each as the contract of a function that
 //! does nothing.
-ghost use Rattle.std.specs.Prelude.{◌≡◌, ℕ, List, [], Option, Some, Err};
+ghost use Rattle.std.specs.Prelude.{◌≡◌, ℕ, List, [], Option, Some, Ok, Err};
 ghost use Rattle.sbcets_core.specs.declared.outcome.Outcome.{Outcome};
 ghost use Rattle.sbcets_core.specs.declared.outcome.Outcome.TheVariants.{Built};
 ghost use Rattle.rv_sim.specs.declared.stop.Stop.TheVariants.{Exited, Limit};
 ghost use Rattle.sbcets_core.specs.Commands.{Outside, Builds, Goes, Runs, Went};
 ghost use Rattle.c_lexer.specs.declared.token.Token.{Token};
 ghost use Rattle.sbcets_core.specs.Meant.{EndsAsMeant, GoesAsMeant};
+ghost use Rattle.sbcets_core.specs.declared.refusal.SourceRefusal.TheVariants.{Syntax, Nesting};
+ghost use Rattle.sbcets_core.specs.Source.{SourceProgram};
+ghost use Rattle.sbcets_core.specs.Accepted.{Judged, Judges};
+ghost use Rattle.sbcets_core.specs.Trees.{HasTokensAlone, HasOneTree, IsUnparsed};
 ghost use Rattle.sbcets_core.specs.Part.{program_of};
 ghost use Rattle.sbcets_core.specs.Parting.{IsFirstUnfit};
 
@@ -30,8 +34,26 @@ pub fn a_run_to_the_limit_is_meant()
     ensures { (name : List ℕ) (limit : ℕ) (image : List ℕ) (before after : Outside) (went : Went name limit image Limit before after) (input : List ℕ) → before.streams.input ≡ Some input → GoesAsMeant went.built.program input limit before.streams after.streams }
 {}
 
+/// Each source is judged, and in one way: it is accepted as one program, or refused for one reason at one place.
+#[tactic(auto, using(crate::proofs::Judging::some_judgement, crate::proofs::Judging::judged_once))]
+pub fn a_source_is_judged_once()
+    ensures judged { (source : List ℕ) → (answer : Judged) × Judges source answer }
+    ensures once { (source : List ℕ) (a b : Judged) → Judges source a → Judges source b → a ≡ b }
+{}
+
+/// A source is refused with `Syntax` or `Nesting` just where it has expanded tokens, none of them listed, and no well-formed tree
+/// of at most 200 levels has their words (C99 6.9). An accepted source has exactly one tree.
+#[tactic(auto, using(crate::proofs::Trees::alone_of_syntax, crate::proofs::Trees::alone_of_nesting, crate::proofs::Trees::unparsed, crate::proofs::Trees::one_of_accepted))]
+pub fn a_source_without_a_tree_is_refused()
+    ensures syntax { (source : List ℕ) (at line : ℕ) → Judges source (Err (Syntax at line)) → HasTokensAlone source }
+    ensures nesting { (source : List ℕ) (at line : ℕ) → Judges source (Err (Nesting at line)) → HasTokensAlone source }
+    ensures unparsed { (source : List ℕ) (judged : Judged) → HasTokensAlone source → Judges source judged → IsUnparsed judged }
+    ensures accepted { (source : List ℕ) (program : SourceProgram) → Judges source (Ok program) → HasOneTree source }
+{}
+
 /// Where the tokens are no text of the part, the one that is refused is the first with which the tokens so far begin none:
-/// those before it begin one, and with it they do not. None is refused where the text ends too early.
+/// those before it begin one, and with it they do not. None is refused where the text ends too early. (A source whose tokens have
+/// no tree is refused for that before.)
 pub fn the_first_unfit_token_is_refused()
     ensures { (tokens unfit : List Token) → program_of tokens ≡ Err unfit → IsFirstUnfit tokens unfit }
 {}

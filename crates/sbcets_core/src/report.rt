@@ -49,6 +49,12 @@ fn report_refusal<S: Sink>(sink: &mut S, refusal: &SourceRefusal) -> Result<(), 
         }
         SourceRefusal::Pre(fault) => report_fault(sink, *fault),
         SourceRefusal::Unsupported(word, line) => report_word(sink, word.bytes(), *line),
+        SourceRefusal::Syntax { line, .. } => {
+            put_numbered(sink, b"syntax at line ", u64::from(line.number()), b"")
+        }
+        SourceRefusal::Nesting { line, .. } => {
+            put_numbered(sink, b"nesting at line ", u64::from(line.number()), b"")
+        }
         SourceRefusal::TooLarge {
             which: Counted::Source,
             count,

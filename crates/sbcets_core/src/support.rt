@@ -1,7 +1,8 @@
 //! What is supported of the expanded tokens of a source.
-ghost use Rattle.std.specs.Prelude.{◌≡◌, ◌≤◌, length, drop, not};
+ghost use Rattle.std.specs.Prelude.{◌≡◌, ◌≤◌, length, drop, not, Ok, Err, OnOk, IfOk, IfErr};
 ghost use Rattle.std.specs.List.{prefix_len};
-ghost use Rattle.sbcets_core.specs.Accepted.{Refuses, Supports, unsupported};
+ghost use Rattle.sbcets_core.specs.Accepted.{UnlessMemory, without_listed, of_part, unsupported};
+ghost use Rattle.sbcets_core.specs.Part.{program_of};
 ghost use Rattle.sbcets_core.specs.Listed.{is_listed, refused_bytes};
 
 use crate::part::{PartError, program_of};
@@ -10,19 +11,29 @@ use crate::refusal::{RefusedWord, SourceRefusal};
 use c_lexer::{Keyword, Punctuator, Token, Tokens, Word};
 use std::alloc::Global;
 
-/// The program of the expanded tokens. Unsupported is the first listed word, wherever it stands; else the first token with
-/// which the tokens so far begin no text of the part.
-#[tactic(auto, using(crate::proofs::Listed::refused_at), unfolding(crate::specs::Accepted::supported))]
-pub fn supported(alloc: Global, tokens: &Tokens) -> Result<Program, SourceRefusal>
-    requires { length tokens.now.tokens ≤ 1048576 }
-    ensures { Supports tokens.now result }
+/// Refuses the first listed word of the expanded tokens, wherever it stands.
+#[tactic(auto, using(crate::proofs::Listed::refused_at), unfolding(crate::specs::Accepted::without_listed))]
+pub fn without_listed(alloc: Global, tokens: &Tokens) -> Result<(), SourceRefusal>
+    ensures ok { OnOk result (without_listed tokens.now ≡ Ok tokens.now) }
+    ensures err { IfErr result (λ refusal. UnlessMemory refusal (without_listed tokens.now ≡ Err refusal)) }
 {
     let words = tokens.as_slice();
     let at = before_listed(words);
     if at < words.len() {
         return Err(unsupported(alloc, tokens, at));
     }
-    match program_of(alloc, words) {
+    Ok(())
+}
+
+/// The program of the expanded tokens, where they are a text of the part. Unsupported is the first token with which the tokens
+/// so far begin none, or the end of the text.
+#[tactic(auto, using(crate::proofs::Judging::part_refused))]
+pub fn part_of(alloc: Global, tokens: &Tokens) -> Result<Program, SourceRefusal>
+    requires { length tokens.now.tokens ≤ 1048576 }
+    ensures ok { IfOk result (λ program. program_of tokens.now.tokens ≡ Ok program) }
+    ensures err { IfErr result (λ refusal. UnlessMemory refusal (of_part tokens.now.end (program_of tokens.now.tokens) ≡ Err refusal)) }
+{
+    match program_of(alloc, tokens.as_slice()) {
         Ok(program) => Ok(program),
         Err(PartError::Unfit(at)) => Err(unsupported(alloc, tokens, at)),
         Err(PartError::Memory) => Err(SourceRefusal::Memory),
@@ -70,7 +81,7 @@ fn is_listed_keyword(keyword: Keyword) -> bool
 
 // The refusal at the token of this number, or at the end of the text; or want of memory for its word.
 fn unsupported(alloc: Global, tokens: &Tokens, at: usize) -> SourceRefusal
-    ensures { Refuses result (Err (unsupported tokens.now.end (drop at tokens.now.tokens))) }
+    ensures { UnlessMemory result (result ≡ unsupported tokens.now.end (drop at tokens.now.tokens)) }
 {
     let (bytes, line) = match tokens.as_slice().get(at) {
         Some(token) => (refused_bytes(&token.word), token.line),

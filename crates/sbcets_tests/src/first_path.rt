@@ -1,6 +1,6 @@
 // The first path through `sbcets`: every outcome, every line of the tool's own, every fault of the outside in turn.
 // Outputs, lines and statuses are those that the documents state (docs/LANGUAGE.md, docs/FORMATS.md).
-use crate::outside::{HI, Left, SOUND, Streams, call, files_of};
+use crate::outside::{HI, Left, SOUND, Shown, Streams, call, files_of};
 use sbcets_core::{Counted, SourceRefusal, compile};
 use std::alloc::Global;
 use std::test::Fail;
@@ -58,11 +58,31 @@ fn accepted_sources(rt: HostRuntime) -> Result<(), Fail> {
 }
 
 // A source that is refused, and its line.
-const REFUSED: [(&[u8], &[u8]); 16] = [
+const REFUSED: [(&[u8], &[u8]); 25] = [
     (b"int main(void){return x;}", b"unsupported x at line 1"),
-    // The text ends too early, on the line behind its last newline.
-    (b"", b"unsupported  at line 1"),
-    (b"int main(void){\n", b"unsupported  at line 2"),
+    // A file has at least one declaration or definition (C99 6.9).
+    (b"", b"syntax at line 1"),
+    // A text that ends too early ends on the line behind its last newline.
+    (b"int main(void){\n", b"syntax at line 2"),
+    // A statement `return 0` ends with `;` (C99 6.8.6).
+    (b"int main(void){\nreturn 0\n}", b"syntax at line 3"),
+    // `T` is no typedef name, and a declaration begins with specifiers (C99 6.7).
+    (b"T*x;", b"syntax at line 1"),
+    // A listed word comes before a fault of syntax that stands before it.
+    (b"T*x;\nfloat f;", b"unsupported float at line 2"),
+    // A fault of syntax comes before what the part refuses, wherever they stand.
+    (b"int x;\nT*x;", b"syntax at line 2"),
+    (b"int x;\n\nint main(void){return 0}", b"syntax at line 3"),
+    // Texts that have a tree, but are none of the part.
+    (b"int\nx;", b"unsupported x at line 2"),
+    (
+        b"int main(void){\nif(1)return 0;return 1;}",
+        b"unsupported if at line 2",
+    ),
+    (
+        b"int main(void){return 0;}\nint x;",
+        b"unsupported int at line 2",
+    ),
     (
         b"float f;int main(void){return 0;}",
         b"unsupported float at line 1",
@@ -87,19 +107,69 @@ const REFUSED: [(&[u8], &[u8]); 16] = [
     (b"#ifdef A\n@\n#endif\n", b"lexical fault at line 2"),
     // Lexical faults come first, then those of directives, then listed words.
     (b"float f;\n#endif\n", b"directive fault 4 at line 2"),
+    // Faults of directives come before faults of syntax too.
+    (b"T*x;\n#endif\n", b"directive fault 4 at line 2"),
 ];
+
+// The tool's own line with this text.
+fn tool_line(alloc: Global, text: &[u8]) -> Result<Vec<u8>, Fail> {
+    let mut line = Vec::from_slice(alloc, b"sbcets: error: ")?;
+    line.extend_from_slice(text)?;
+    line.push(b'\n')?;
+    Ok(line)
+}
+
+// What a source shows that is refused with this line.
+fn refused(line: &[u8]) -> Shown<'_> {
+    Shown {
+        status: 110,
+        output: b"",
+        errors: line,
+    }
+}
 
 #[test]
 fn refused_sources(rt: HostRuntime) -> Result<(), Fail> {
     let alloc = rt.alloc();
-    for (source, line) in REFUSED.iter() {
+    for (source, text) in REFUSED.iter() {
         let left = call_on(alloc, &["go", "hi.c"], source, &[], &SOUND)?;
-        let mut errors = Vec::from_slice(alloc, b"sbcets: error: ")?;
-        errors.extend_from_slice(line)?;
-        errors.push(b'\n')?;
-        assert_eq!(rt; left.shown().status, 110);
-        assert_eq!(rt; left.shown().output, b"".as_slice());
-        assert_eq!(rt; left.shown().errors, errors.as_slice());
+        let line = tool_line(alloc, text)?;
+        assert_eq!(rt; left.shown(), refused(&line));
+    }
+    Ok(())
+}
+
+// How many pairs of parentheses stand around `0` behind `return`, what stands before each `(` and `0`, and the line of the
+// refusal. Each pair is a level (c_syntax/specs/Levels.antt), of which 200 are read; the part has no parentheses there.
+const NESTED: [(usize, &[u8], &[u8]); 4] = [
+    (200, b"", b"unsupported ( at line 1"),
+    (201, b"", b"nesting at line 1"),
+    (200, b"\n", b"unsupported ( at line 2"),
+    (201, b"\n", b"nesting at line 202"),
+];
+
+// `int main(void){return` and `0` in so many pairs of parentheses.
+fn nested(alloc: Global, pairs: usize, space: &[u8]) -> Result<Vec<u8>, Fail> {
+    let mut source = Vec::from_slice(alloc, b"int main(void){return")?;
+    for _ in 0..pairs {
+        source.extend_from_slice(space)?;
+        source.push(b'(')?;
+    }
+    source.extend_from_slice(space)?;
+    source.push(b'0')?;
+    source.extend_from_slice(&vec![in alloc; b')'; pairs]?)?;
+    source.extend_from_slice(b";}")?;
+    Ok(source)
+}
+
+#[test]
+fn nested_sources(rt: HostRuntime) -> Result<(), Fail> {
+    let alloc = rt.alloc();
+    for (pairs, space, text) in NESTED.iter() {
+        let source = nested(alloc, *pairs, space)?;
+        let left = call_on(alloc, &["go", "hi.c"], &source, &[], &SOUND)?;
+        let line = tool_line(alloc, text)?;
+        assert_eq!(rt; left.shown(), refused(&line));
     }
     Ok(())
 }
@@ -138,7 +208,7 @@ fn spaces(alloc: Global, count: usize) -> Result<Vec<u8>, Fail> {
 fn largest_sources(rt: HostRuntime) -> Result<(), Fail> {
     let alloc = rt.alloc();
     let rows: [(usize, &[u8]); 2] = [
-        (1_048_576, b"sbcets: error: unsupported  at line 1\n"),
+        (1_048_576, b"sbcets: error: syntax at line 1\n"),
         (
             1_048_577,
             b"sbcets: error: file of more than 1048576 bytes\n",

@@ -24,6 +24,3 @@ pub mod region;
 
 pub use map::{AddrMap, TooLarge, function_address};
 pub use region::Region;
-
-#[cfg(test)]
-mod tests;

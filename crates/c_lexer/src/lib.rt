@@ -10,8 +10,6 @@ mod literal;
 pub mod punctuator;
 mod scan;
 mod separator;
-#[cfg(test)]
-mod tests;
 pub mod token;
 
 pub use crate::integer::{IntegerConstant, IntegerType, constant_of};

@@ -13,6 +13,9 @@
 // a wide literal that is not one character or holds an escape sequence above 255.
 #![tactic(auto)]
 
+#[cfg(test)]
+mod constant_tests;
+
 use anyhow::{Result, bail};
 use c_lexer::{
     IntegerType, LexError, Token, Word, bytes_of_literal, character_value, constant_of, lex,

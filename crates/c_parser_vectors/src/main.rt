@@ -14,6 +14,8 @@ mod line_tests;
 #[cfg(test)]
 mod tree_tests;
 mod verdict;
+#[cfg(test)]
+mod words_tests;
 
 use crate::verdict::verdict_of;
 use anyhow::Result;

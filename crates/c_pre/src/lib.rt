@@ -24,6 +24,3 @@ pub const MAX_EXPANDED_TOKENS: usize = 1048576;
 
 /// The greatest number of tokens that replacement lists put in, all together.
 pub const MAX_REPLACEMENT_TOKENS: usize = 16777216;
-
-#[cfg(test)]
-mod tests;

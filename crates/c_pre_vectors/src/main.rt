@@ -9,6 +9,9 @@
 // text puts in more tokens than may be: gcc has no such limit, and what is to be printed there follows from the limit.
 #![tactic(auto)]
 
+#[cfg(test)]
+mod directive_tests;
+
 use anyhow::{Result, bail};
 use c_lexer::{LexError, Token, lex};
 use c_pre::{PreError, expand};

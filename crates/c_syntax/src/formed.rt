@@ -19,7 +19,7 @@ use c_lexer::Spelling;
 
 /// Whether it is a well-formed expression (C99 6.5.1 to 6.5.17).
 #[cycle(shapes)]
-pub(crate) fn is_expression(names: &[Spelling], expression: &Expression) -> bool
+pub(crate) fn is_expression<'a>(names: &'a [Spelling<'a>], expression: &'a Expression<'a>) -> bool
     ensures { IsTrue result ↔ formed.IsExpression names.now (view.expression_of expression.now) }
 {
     match expression {
@@ -87,7 +87,7 @@ pub(crate) fn is_expression(names: &[Spelling], expression: &Expression) -> bool
 /// Whether they are well-formed arguments, each an assignment expression (C99 6.5.2.2).
 #[cycle(shapes)]
 #[tactic(auto, using(crate::proofs::ListViews::arguments_view))]
-fn are_arguments(names: &[Spelling], arguments: &Arguments) -> bool
+fn are_arguments<'a>(names: &'a [Spelling<'a>], arguments: &'a Arguments<'a>) -> bool
     ensures { IsTrue result ↔ formed.AreArguments names.now (view.arguments_of arguments.now) }
 {
     match arguments {
@@ -100,7 +100,7 @@ fn are_arguments(names: &[Spelling], arguments: &Arguments) -> bool
 
 /// Whether it is a well-formed assignment expression (C99 6.5.16).
 #[cycle(shapes)]
-pub(crate) fn is_argument(names: &[Spelling], argument: &Expression) -> bool
+pub(crate) fn is_argument<'a>(names: &'a [Spelling<'a>], argument: &'a Expression<'a>) -> bool
     ensures { IsTrue result ↔ ((2 ≤ formed.precedence (view.expression_of argument.now)) × formed.IsExpression names.now (view.expression_of argument.now)) }
 {
     2 <= precedence(argument) && is_expression(names, argument)
@@ -108,7 +108,7 @@ pub(crate) fn is_argument(names: &[Spelling], argument: &Expression) -> bool
 
 /// Whether the arguments behind the first are well formed.
 #[cycle(shapes)]
-fn are_more_arguments(names: &[Spelling], others: &[(Place, Expression)]) -> bool
+fn are_more_arguments<'a>(names: &'a [Spelling<'a>], others: &'a [(Place, Expression<'a>)]) -> bool
     ensures { IsTrue result ↔ formed.AreMoreArguments names.now (view.more_arguments_in others.now) }
 {
     for (_, argument) in others {
@@ -122,7 +122,7 @@ fn are_more_arguments(names: &[Spelling], others: &[(Place, Expression)]) -> boo
 /// Whether it is a well-formed type name (C99 6.7.6).
 #[cycle(shapes)]
 #[tactic(auto, using(crate::proofs::TypedView::typed_view))]
-fn is_type_name(names: &[Spelling], typed: &TypedDeclarator) -> bool
+fn is_type_name<'a>(names: &'a [Spelling<'a>], typed: &'a TypedDeclarator<'a>) -> bool
     ensures { IsTrue result ↔ formed.IsTypeName names.now (view.typed_of typed.now) }
 {
     names_one_type(typed.specifiers.as_slice())
@@ -135,7 +135,7 @@ fn is_type_name(names: &[Spelling], typed: &TypedDeclarator) -> bool
 /// Whether it is a well-formed parameter (C99 6.7.5.3).
 #[cycle(shapes)]
 #[tactic(auto, using(crate::proofs::TypedView::typed_view))]
-fn is_parameter(names: &[Spelling], typed: &TypedDeclarator) -> bool
+fn is_parameter<'a>(names: &'a [Spelling<'a>], typed: &'a TypedDeclarator<'a>) -> bool
     ensures { IsTrue result ↔ formed.IsParameter names.now (view.typed_of typed.now) }
 {
     names_one_type(typed.specifiers.as_slice())
@@ -146,7 +146,7 @@ fn is_parameter(names: &[Spelling], typed: &TypedDeclarator) -> bool
 
 /// Whether it is a well-formed declarator, abstract or not (C99 6.7.5, 6.7.6).
 #[cycle(shapes)]
-pub(crate) fn is_declarator(names: &[Spelling], declarator: &Declarator) -> bool
+pub(crate) fn is_declarator<'a>(names: &'a [Spelling<'a>], declarator: &'a Declarator<'a>) -> bool
     ensures { IsTrue result ↔ formed.IsDeclarator names.now (view.declarator_of declarator.now) }
 {
     match declarator {
@@ -175,7 +175,7 @@ pub(crate) fn is_declarator(names: &[Spelling], declarator: &Declarator) -> bool
 
 /// Whether it is a well-formed declarator that is not abstract (C99 6.7.5).
 #[cycle(shapes)]
-pub(crate) fn is_named(names: &[Spelling], declarator: &Declarator) -> bool
+pub(crate) fn is_named<'a>(names: &'a [Spelling<'a>], declarator: &'a Declarator<'a>) -> bool
     ensures { IsTrue result ↔ formed.IsNamed names.now (view.declarator_of declarator.now) }
 {
     has_name(declarator) && is_declarator(names, declarator)
@@ -184,7 +184,7 @@ pub(crate) fn is_named(names: &[Spelling], declarator: &Declarator) -> bool
 /// Whether they are well-formed parameters (C99 6.7.5.3).
 #[cycle(shapes)]
 #[tactic(auto, using(crate::proofs::ListViews::parameters_view))]
-fn are_parameters(names: &[Spelling], parameters: &Parameters) -> bool
+fn are_parameters<'a>(names: &'a [Spelling<'a>], parameters: &'a Parameters<'a>) -> bool
     ensures { IsTrue result ↔ formed.AreParameters names.now (view.parameters_of parameters.now) }
 {
     match parameters {
@@ -199,7 +199,10 @@ fn are_parameters(names: &[Spelling], parameters: &Parameters) -> bool
 
 /// Whether the parameters behind the first are well formed.
 #[cycle(shapes)]
-fn are_more_parameters(names: &[Spelling], others: &[(Place, TypedDeclarator)]) -> bool
+fn are_more_parameters<'a>(
+    names: &'a [Spelling<'a>],
+    others: &'a [(Place, TypedDeclarator<'a>)],
+) -> bool
     ensures { IsTrue result ↔ formed.AreMoreParameters names.now (view.more_parameters_in others.now) }
 {
     for (_, parameter) in others {
@@ -212,7 +215,7 @@ fn are_more_parameters(names: &[Spelling], others: &[(Place, TypedDeclarator)]) 
 
 /// Whether each specifier is well formed by itself.
 #[cycle(shapes)]
-fn is_each_specifier(names: &[Spelling], specifiers: &[Specifier]) -> bool
+fn is_each_specifier<'a>(names: &'a [Spelling<'a>], specifiers: &'a [Specifier<'a>]) -> bool
     ensures { IsTrue result ↔ formed.EachSpecifier names.now (view.specifiers_in specifiers.now) }
 {
     for specifier in specifiers {
@@ -226,7 +229,7 @@ fn is_each_specifier(names: &[Spelling], specifiers: &[Specifier]) -> bool
 /// Whether a specifier is well formed by itself (C99 6.7.1 to 6.7.4).
 #[cycle(shapes)]
 #[tactic(auto, using(crate::proofs::ListViews::enumeration_view))]
-fn is_specifier(names: &[Spelling], specifier: &Specifier) -> bool
+fn is_specifier<'a>(names: &'a [Spelling<'a>], specifier: &'a Specifier<'a>) -> bool
     ensures { IsTrue result ↔ formed.IsSpecifier names.now (view.specifier_of specifier.now) }
 {
     match specifier {
@@ -244,7 +247,7 @@ fn is_specifier(names: &[Spelling], specifier: &Specifier) -> bool
 
 /// Whether a structure has no members.
 #[tactic(auto, using(crate::proofs::MemberView::some_members))]
-fn is_no_member(members: &[Member]) -> bool
+fn is_no_member<'a>(members: &'a [Member<'a>]) -> bool
     ensures { result ≡ formed.is_no_member (view.members_in members.now) }
 {
     match members {
@@ -255,7 +258,7 @@ fn is_no_member(members: &[Member]) -> bool
 
 /// Whether declarations of members are well formed (C99 6.7.2.1).
 #[cycle(shapes)]
-fn are_members(names: &[Spelling], members: &[Member]) -> bool
+fn are_members<'a>(names: &'a [Spelling<'a>], members: &'a [Member<'a>]) -> bool
     ensures { IsTrue result ↔ formed.AreMembers names.now (view.members_in members.now) }
 {
     for member in members {
@@ -269,7 +272,7 @@ fn are_members(names: &[Spelling], members: &[Member]) -> bool
 /// Whether a declaration of members is well formed (C99 6.7.2.1, without bit-fields).
 #[cycle(shapes)]
 #[tactic(auto, using(crate::proofs::MemberView::member_view))]
-fn is_member(names: &[Spelling], member: &Member) -> bool
+fn is_member<'a>(names: &'a [Spelling<'a>], member: &'a Member<'a>) -> bool
     ensures { IsTrue result ↔ formed.IsMember names.now (view.member_of member.now) }
 {
     names_one_type(member.specifiers.as_slice())
@@ -282,7 +285,10 @@ fn is_member(names: &[Spelling], member: &Member) -> bool
 
 /// Whether the declarators behind the first are well formed, and none is abstract.
 #[cycle(shapes)]
-fn are_more_declarators(names: &[Spelling], others: &[(Place, Declarator)]) -> bool
+fn are_more_declarators<'a>(
+    names: &'a [Spelling<'a>],
+    others: &'a [(Place, Declarator<'a>)],
+) -> bool
     ensures { IsTrue result ↔ formed.AreMoreDeclarators names.now (view.more_declarators_in others.now) }
 {
     for (_, declarator) in others {
@@ -295,7 +301,7 @@ fn are_more_declarators(names: &[Spelling], others: &[(Place, Declarator)]) -> b
 
 /// Whether an enumerator is well formed (C99 6.7.2.2).
 #[cycle(shapes)]
-fn is_enumerator(names: &[Spelling], enumerator: &Enumerator) -> bool
+fn is_enumerator<'a>(names: &'a [Spelling<'a>], enumerator: &'a Enumerator<'a>) -> bool
     ensures { IsTrue result ↔ formed.IsEnumerator names.now (view.enumerator_of enumerator.now) }
 {
     match enumerator {
@@ -310,7 +316,10 @@ fn is_enumerator(names: &[Spelling], enumerator: &Enumerator) -> bool
 
 /// Whether the enumerators behind the first are well formed.
 #[cycle(shapes)]
-fn are_more_enumerators(names: &[Spelling], others: &[(Place, Enumerator)]) -> bool
+fn are_more_enumerators<'a>(
+    names: &'a [Spelling<'a>],
+    others: &'a [(Place, Enumerator<'a>)],
+) -> bool
     ensures { IsTrue result ↔ formed.AreMoreEnumerators names.now (view.more_enumerators_in others.now) }
 {
     for (_, enumerator) in others {
@@ -322,7 +331,7 @@ fn are_more_enumerators(names: &[Spelling], others: &[(Place, Enumerator)]) -> b
 }
 
 /// Whether they are well-formed specifiers of one type (C99 6.7).
-pub(crate) fn are_specifiers(names: &[Spelling], specifiers: &[Specifier]) -> bool
+pub(crate) fn are_specifiers<'a>(names: &'a [Spelling<'a>], specifiers: &'a [Specifier<'a>]) -> bool
     ensures { IsTrue result ↔ formed.AreSpecifiers names.now (view.specifiers_in specifiers.now) }
 {
     names_one_type(specifiers) && is_each_specifier(names, specifiers)

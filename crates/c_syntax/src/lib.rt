@@ -13,8 +13,6 @@ pub mod statement;
 mod statement_formed;
 mod statement_levels;
 mod statement_words;
-#[cfg(test)]
-mod tests;
 pub mod tree;
 mod tree_words;
 

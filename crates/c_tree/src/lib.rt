@@ -7,8 +7,6 @@ pub mod format;
 pub mod layout;
 pub mod program;
 pub mod statement;
-#[cfg(test)]
-mod tests;
 
 pub use crate::c_type::{CType, TypeWord};
 pub use crate::expression::{

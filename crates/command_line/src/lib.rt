@@ -16,6 +16,3 @@ mod words;
 
 pub use command::{BudgetNumbers, Command, WordsFault};
 pub use words::command_of;
-
-#[cfg(test)]
-mod tests;

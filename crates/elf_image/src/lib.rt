@@ -12,6 +12,3 @@ mod writing;
 pub use fault::{ImageFault, ReadError};
 pub use image::{Image, Segment};
 pub use part::{Part, Parts};
-
-#[cfg(test)]
-mod tests;

@@ -17,6 +17,3 @@ pub use judgement::{Verdict, judge, named};
 pub use object::{Object, Storage};
 pub use operator::{BinaryOperator, UnaryOperator};
 pub use value::{Bounds, Place, Scalar, Tag, Value};
-
-#[cfg(test)]
-mod tests;

@@ -7,8 +7,6 @@ pub mod encoding;
 pub mod instruction;
 pub mod laws;
 pub mod operand;
-#[cfg(test)]
-mod tests;
 
 pub use crate::decoding::decode;
 pub use crate::encoding::encode;

@@ -10,6 +10,8 @@
 
 mod listing;
 mod names;
+#[cfg(test)]
+mod word_tests;
 
 use crate::listing::Listing;
 use anyhow::{Context, Result};

@@ -12,8 +12,6 @@ pub mod machine;
 pub mod memory;
 pub mod state;
 pub mod stop;
-#[cfg(test)]
-mod tests;
 pub mod trap;
 pub mod width;
 

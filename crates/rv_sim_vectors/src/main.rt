@@ -10,6 +10,8 @@
 mod case;
 #[cfg(test)]
 mod image_tests;
+#[cfg(test)]
+mod run_tests;
 mod sample;
 #[cfg(test)]
 mod trap_tests;

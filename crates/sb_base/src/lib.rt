@@ -8,6 +8,3 @@ pub mod line;
 pub use budget::{Budget, BudgetFault, Budgets};
 pub use ending::Ending;
 pub use line::Line;
-
-#[cfg(test)]
-mod tests;

@@ -21,6 +21,3 @@ pub use memory_sink::MemSink;
 pub use memory_source::MemSource;
 pub use sink::Sink;
 pub use source::{Failed, Source};
-
-#[cfg(test)]
-mod tests;

@@ -1,0 +1,73 @@
+//! A tree that is made by hand: its words, and that it is well formed.
+
+use c_lexer::{Keyword, Spelling, lex};
+use c_syntax::{
+    Declaration, Declarator, External, InitDeclarator, InitDeclarators, Items, Place, Specifier,
+    Spelled, Unit, well_formed, with_places, words,
+};
+use sb_base::Line;
+use std::alloc::{AllocError, Global};
+use std::test::Fail;
+
+fn place(at: u64) -> Place {
+    Place {
+        at,
+        line: Line::first(),
+    }
+}
+
+fn named(name: &'static [u8], at: u64) -> InitDeclarator<'static> {
+    InitDeclarator {
+        declarator: Declarator::Named(Spelled {
+            spelling: Spelling::new(name),
+            place: place(at),
+        }),
+        initializer: None,
+    }
+}
+
+fn only<T: Drop>(alloc: Global, item: T) -> Result<Items<T>, AllocError> {
+    let mut items = Vec::new(alloc);
+    items.push(item)?;
+    Ok(Items::from_vec(items))
+}
+
+// `int x, y;`
+fn two_objects(alloc: Global) -> Result<Unit<'static>, AllocError> {
+    let declaration = Declaration {
+        specifiers: only(alloc, Specifier::Keyword(Keyword::Int, place(0)))?,
+        declarators: Some(InitDeclarators {
+            first: named(b"x", 1),
+            others: only(alloc, (place(2), named(b"y", 3)))?,
+        }),
+        semicolon: place(4),
+    };
+    Ok(Unit {
+        externals: only(alloc, External::Declaration(declaration))?,
+    })
+}
+
+// Each token of the text once, with its number and line.
+#[test]
+fn puts_the_tokens_of_the_text(rt: HostRuntime) -> Result<(), Fail> {
+    let unit = two_objects(rt.alloc())?;
+    let found = words(rt.alloc(), &unit)?;
+    let tokens = lex(rt.alloc(), b"int x, y;").map_err(|_| "no tokens")?;
+    let expected = with_places(rt.alloc(), tokens.as_slice())?;
+    assert_eq!(rt; found.len(), 5);
+    assert_eq!(rt; expected.len(), 5);
+    for (i, word) in found.iter().enumerate() {
+        let other = &expected[i];
+        assert!(rt; word.word.is(&other.word));
+        assert!(rt; word.place == other.place);
+    }
+    Ok(())
+}
+
+// The grammar has such a declaration (C99 6.7).
+#[test]
+fn a_declaration_of_two_objects_is_well_formed(rt: HostRuntime) -> Result<(), Fail> {
+    let unit = two_objects(rt.alloc())?;
+    assert!(rt; well_formed(rt.alloc(), &unit)?);
+    Ok(())
+}

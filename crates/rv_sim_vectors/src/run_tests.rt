@@ -1,0 +1,96 @@
+//! A program that copies a byte from the input to both outputs, and exits with it.
+ghost use Rattle.std.specs.Prelude.{IfOk};
+ghost use Rattle.elf_image.specs.Writing.{PiecesFit};
+
+use elf_image::{Image, Part, Parts};
+use rv_sim::{Machine, Stop};
+use sb_outside::{MemSink, MemSource};
+use std::alloc::{AllocError, Global};
+use std::test::Fail;
+
+const CODE: [u8; 52] = [
+    0xb7, 0x05, 0x00, 0x10, // lui a1, 0x10000
+    0x13, 0x05, 0x00, 0x00, // addi a0, x0, 0
+    0x13, 0x06, 0x10, 0x00, // addi a2, x0, 1
+    0x93, 0x08, 0xf0, 0x03, // addi a7, x0, 63
+    0x73, 0x00, 0x00, 0x00, // ecall
+    0x13, 0x05, 0x10, 0x00, // addi a0, x0, 1
+    0x93, 0x08, 0x00, 0x04, // addi a7, x0, 64
+    0x73, 0x00, 0x00, 0x00, // ecall
+    0x13, 0x05, 0x20, 0x00, // addi a0, x0, 2
+    0x73, 0x00, 0x00, 0x00, // ecall
+    0x03, 0xc5, 0x05, 0x00, // lbu a0, 0(a1)
+    0x93, 0x08, 0xd0, 0x05, // addi a7, x0, 93
+    0x73, 0x00, 0x00, 0x00, // ecall
+];
+
+fn program(alloc: Global) -> Result<Parts, AllocError>
+    ensures { IfOk result PiecesFit }
+{
+    Ok(Parts {
+        entry: 0x10_0000,
+        rows: Part {
+            address: 0x1_0000,
+            bytes: Vec::new(alloc),
+            size: 4,
+        },
+        code: Part {
+            address: 0x10_0000,
+            bytes: Vec::from_array(alloc, CODE)?,
+            size: 52,
+        },
+        objects: Part {
+            address: 0x1000_0000,
+            bytes: Vec::new(alloc),
+            size: 16,
+        },
+        runtime: Part {
+            address: 0x4000_0000,
+            bytes: Vec::new(alloc),
+            size: 16,
+        },
+    })
+}
+
+#[test]
+fn copies_a_byte(rt: HostRuntime) -> Result<(), Fail> {
+    let alloc = rt.alloc();
+    let file = Image::write(alloc, &program(alloc)?)?;
+    let mut machine = Machine::load(alloc, &Image::read(alloc, &file)?)?;
+    let mut input = MemSource::new(alloc, &[7, 8], &[])?;
+    let mut output = MemSink::new(alloc, 16, &[])?;
+    let mut errors = MemSink::new(alloc, 16, &[])?;
+    let stop = machine.run(&mut input, &mut output, &mut errors, 9);
+    assert_eq!(rt; stop, Stop::Limit);
+    assert_eq!(rt; output.bytes(), [7].as_slice());
+    assert!(rt; errors.bytes().is_empty());
+    let stop = machine.run(&mut input, &mut output, &mut errors, 100);
+    assert_eq!(rt; stop, Stop::Exited(7));
+    assert_eq!(rt; output.bytes(), [7].as_slice());
+    assert_eq!(rt; errors.bytes(), [7].as_slice());
+    Ok(())
+}
+
+#[test]
+fn stops_where_the_outside_fails(rt: HostRuntime) -> Result<(), Fail> {
+    let alloc = rt.alloc();
+    let file = Image::write(alloc, &program(alloc)?)?;
+    let image = Image::read(alloc, &file)?;
+    for (take_fails, put_fails, want) in [
+        (true, false, Stop::InputFault),
+        (false, true, Stop::OutputFault),
+    ] {
+        let mut machine = Machine::load(alloc, &image)?;
+        let takes: &[u64] = if take_fails { &[0] } else { &[] };
+        let puts: &[(u64, u64)] = if put_fails { &[(0, 0)] } else { &[] };
+        let mut input = MemSource::new(alloc, &[7], takes)?;
+        let mut output = MemSink::new(alloc, 16, puts)?;
+        let mut errors = MemSink::new(alloc, 16, &[])?;
+        let stop = machine.run(&mut input, &mut output, &mut errors, 100);
+        assert!(rt; stop == want);
+        let again = machine.run(&mut input, &mut output, &mut errors, 100);
+        assert!(rt; again == want);
+        assert!(rt; output.bytes().is_empty());
+    }
+    Ok(())
+}

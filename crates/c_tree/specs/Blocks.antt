@@ -1,8 +1,11 @@
 -- The variables of blocks, by their numbers in the function (C99 6.2.4 paragraph 5, 6.8.2, 6.8.4 paragraph 3, 6.8.5 paragraph 5), and
 -- what a statement evaluates.
-use Rattle.std.specs.Prelude.{ℕ, List, [], ◌∷◌, ◌++◌, map, Option, Some, None}
+use Rattle.std.specs.Prelude.{ℕ, suc, Bool, false, ◌||◌, ◌==◌, if◌then◌else◌, List, [], ◌∷◌, ◌++◌, map, length, Option, Some, None}
+use Rattle.c_tree.specs.declared.expression.Kind.TheVariants as kind
+use Rattle.c_tree.specs.declared.program.Variable.{Variable}
+use Rattle.c_tree.specs.Programs.{Function}
 use Rattle.c_tree.specs.Tree.{Expression}
-use Rattle.c_tree.specs.Statements.{Content, value, Part, Initializer, of_plain, of_object, DeclaredVariable, First, nothing, first_expression, first_declaration, Statement, expression_statement, empty, declaration, block, if_then, if_else, while_do, do_while, for, switch, break, continue, return, Statements, no_statements, statements, SwitchItems, no_items, items}
+use Rattle.c_tree.specs.Statements.{Content, value_content, Part, Initializer, of_plain, of_object, DeclaredVariable, First, nothing, first_expression, first_declaration, Statement, expression_statement, empty, declaration, block, if_then, if_else, while_do, do_while, for, switch, break, continue, return, Statements, no_statements, statements, SwitchItems, no_items, items}
 
 abbrev pub variables_in : List DeclaredVariable → List ℕ
 variables_in = map (λ d. d.variable)
@@ -51,15 +54,44 @@ abbrev mutual
   items_variables no_items = []
   items_variables (items labels s is) = all_variables s ++ items_variables is
 
+-- Which objects are entered: a list of the function's variables by number, where an object whose block is not entered has no kind.
+
+abbrev pub no_variable : Variable
+no_variable = record { kind = kind.Void; is_object = false }
+
+abbrev pub closed : Variable → Variable
+closed v = if v.is_object then no_variable else v
+
+abbrev pub is_among : List ℕ → (number : ℕ) → Bool
+is_among [] x = false
+is_among (y ∷ ys) x = (y == x) || is_among ys x
+
+-- variables from a number on, of which those with some numbers are now as all are declared
+abbrev pub opened : (numbers : List ℕ) → (first : ℕ) → (all variables : List Variable) → List Variable
+opened numbers x [] vs = []
+opened numbers x (d ∷ ds) [] = []
+opened numbers x (d ∷ ds) (v ∷ vs) = (if is_among numbers x then d else v) ∷ opened numbers (suc x) ds vs
+
+-- all variables, of which those objects alone are entered that a block declares
+abbrev pub block_objects : (all : List Variable) → (numbers : List ℕ) → List Variable
+block_objects all numbers = opened numbers 0 all (map closed all)
+
+abbrev pub all_of : Function → List Variable
+all_of f = f.parameters ++ f.variables
+
+-- the variables behind the parameters, of which those are entered that the body's block declares
+abbrev pub body_variables : Function → List Variable
+body_variables f = opened (block_variables f.body) (length f.parameters) f.variables (map closed f.variables)
+
 -- what a statement evaluates: its full expressions (6.8 paragraph 4) and the parts of initializers, in the order of the text
 
 abbrev pub if_any : Option Expression → List Content
 if_any None = []
-if_any (Some e) = value e ∷ []
+if_any (Some e) = value_content e ∷ []
 
 abbrev pub initializer_contents : Option Initializer → List Content
 initializer_contents None = []
-initializer_contents (Some (of_plain e)) = value e ∷ []
+initializer_contents (Some (of_plain e)) = value_content e ∷ []
 initializer_contents (Some (of_object parts)) = map (λ p. p.content) parts
 
 abbrev pub declared_contents : List DeclaredVariable → List Content
@@ -68,21 +100,21 @@ declared_contents (d ∷ ds) = initializer_contents d.initializer ++ declared_co
 
 abbrev pub first_contents : First → List Content
 first_contents nothing = []
-first_contents (first_expression e) = value e ∷ []
+first_contents (first_expression e) = value_content e ∷ []
 first_contents (first_declaration ds) = declared_contents ds
 
 abbrev mutual
   pub contents_of : Statement → List Content
-  contents_of (expression_statement e) = value e ∷ []
+  contents_of (expression_statement e) = value_content e ∷ []
   contents_of empty = []
   contents_of (declaration ds) = declared_contents ds
   contents_of (block line body) = each_contents body
-  contents_of (if_then e s) = value e ∷ contents_of s
-  contents_of (if_else e s other) = value e ∷ (contents_of s ++ contents_of other)
-  contents_of (while_do e s) = value e ∷ contents_of s
-  contents_of (do_while s e) = contents_of s ++ value e ∷ []
+  contents_of (if_then e s) = value_content e ∷ contents_of s
+  contents_of (if_else e s other) = value_content e ∷ (contents_of s ++ contents_of other)
+  contents_of (while_do e s) = value_content e ∷ contents_of s
+  contents_of (do_while s e) = contents_of s ++ value_content e ∷ []
   contents_of (for line first condition step s) = first_contents first ++ (if_any condition ++ (if_any step ++ contents_of s))
-  contents_of (switch e line is) = value e ∷ items_contents is
+  contents_of (switch e line is) = value_content e ∷ items_contents is
   contents_of break = []
   contents_of continue = []
   contents_of (return e) = if_any e

@@ -5,8 +5,8 @@ use Rattle.std.specs.Prelude.{ℕ, suc, ◌+◌, ◌*◌, max, Bool, false, ◌=
 use Rattle.obj_memory.specs.Heap.{rounded_up}
 use Rattle.c_tree.specs.declared.expression.Kind.{Kind}
 use Rattle.c_tree.specs.declared.expression.Kind.TheVariants as kind
-use Rattle.c_tree.specs.Tree.{Expression, binary, offset_by, difference, assign, set_plain, compound, change_plain, call, call_through, library, printf, index, kinds_of}
-use Rattle.c_tree.specs.Statements.{Content, value, literal, Part, Statements}
+use Rattle.c_tree.specs.Tree.{Expression, binary, offset_by, difference, assign, assign_plain, compound, change_plain, call, call_through, library, printf, index, kinds_of}
+use Rattle.c_tree.specs.Statements.{Content, value_content, literal_content, Part, Statements}
 use Rattle.c_tree.specs.Programs.{Function, StaticObject}
 use Rattle.c_tree.specs.Walk.{Visited, visited, visited_lvalue, walk, sum_of, greatest}
 use Rattle.c_tree.specs.Blocks.{each_contents}
@@ -23,7 +23,7 @@ height_made (visited kind (binary op a b)) hs = in_turn 0 hs
 height_made (visited kind (offset_by form size a b)) hs = in_turn 0 hs
 height_made (visited kind (difference size a b)) hs = in_turn 0 hs
 height_made (visited kind (assign p e)) hs = in_turn 0 hs
-height_made (visited kind (set_plain x e)) hs = in_turn 0 (1 ∷ hs)
+height_made (visited kind (assign_plain x e)) hs = in_turn 0 (1 ∷ hs)
 height_made (visited kind (compound u p e)) hs = in_turn 0 hs
 height_made (visited kind (change_plain u x e)) hs = in_turn 0 (1 ∷ hs)
 height_made (visited kind (call f es)) hs = in_turn 0 hs
@@ -37,8 +37,8 @@ abbrev pub height : Expression → ℕ
 height = walk height_made
 
 abbrev pub content_height : Content → ℕ
-content_height (value e) = height e
-content_height (literal bytes) = 1
+content_height (value_content e) = height e
+content_height (literal_content bytes) = 1
 
 abbrev pub greatest_height : List Content → ℕ
 greatest_height contents = greatest (map content_height contents)
@@ -60,8 +60,8 @@ abbrev pub passed_bytes : Expression → ℕ
 passed_bytes = walk (λ v ns. bytes_of_call v + sum_of ns)
 
 abbrev pub content_bytes : Content → ℕ
-content_bytes (value e) = passed_bytes e
-content_bytes (literal bytes) = 0
+content_bytes (value_content e) = passed_bytes e
+content_bytes (literal_content bytes) = 0
 
 -- the static objects in the block of a function
 

@@ -5,8 +5,8 @@ use Rattle.c_tree.specs.Tree.{Expression}
 
 -- what a part of an initializer stores: a value, or the bytes of a literal that fills an array
 pub data Content : Type 0 where
-  value : Expression → Content
-  literal : List ℕ → Content
+  value_content : Expression → Content
+  literal_content : List ℕ → Content
 
 pub record Part : Type 0 where
   pub offset : ℕ

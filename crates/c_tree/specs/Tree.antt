@@ -36,7 +36,7 @@ mutual
     comma : (left right : Expression) → Node
     conditional : (condition first second : Expression) → Node
     assign : Lvalue → Expression → Node
-    set_plain : PlainName → Expression → Node
+    assign_plain : PlainName → Expression → Node
     compound : Update → Lvalue → Expression → Node
     change_plain : Update → PlainName → Expression → Node
     step : Update → Fixity → Lvalue → Node

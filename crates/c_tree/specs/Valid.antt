@@ -1,6 +1,6 @@
 -- What makes an expression valid: each node has the kind that C99 6.5 gives it, and each name stands for something of that kind that
 -- can be named there.
-use Rattle.std.specs.Prelude.{ℕ, ◌+◌, ◌^◌, Bool, true, false, not, ◌&&◌, ◌==◌, nat_lt, nat_le, List, [], ◌∷◌, length, set, Option, Some, None, get_or}
+use Rattle.std.specs.Prelude.{ℕ, ◌+◌, ◌^◌, Bool, true, false, not, ◌&&◌, ◌==◌, nat_lt, nat_le, List, [], ◌∷◌, length, Option, Some, None, get_or}
 use Rattle.obj_memory.specs.declared.int_type.IntType.{IntType}
 use Rattle.obj_memory.specs.declared.int_type.IntType.TheVariants.{Int, Long}
 use Rattle.obj_memory.specs.declared.operator.UnaryOperator.{UnaryOperator}
@@ -15,7 +15,8 @@ use Rattle.c_tree.specs.declared.expression.Update.{Update}
 use Rattle.c_tree.specs.declared.expression.Update.TheVariants as update
 use Rattle.c_tree.specs.declared.program.Variable.{Variable}
 use Rattle.c_tree.specs.declared.format.Piece.{Piece}
-use Rattle.c_tree.specs.Tree.{Expression, expression, Expressions, no_expressions, expressions, Lvalue, lvalue, Node, constant, function, plain, read, decay, address, parenthesized, deref_function, address_function, cast, convert, unary, binary, offset_by, difference, logical_and, logical_or, comma, conditional, assign, set_plain, compound, change_plain, step, step_plain, call, call_through, library, printf, LvalueNode, automatic, static, deref, index, member, arrow, member_of_value, parenthesized_lvalue, kind_of, lvalue_kind, kinds_of}
+use Rattle.c_tree.specs.Tree.{Expression, expression, Expressions, no_expressions, expressions, Lvalue, lvalue, Node, constant, function, plain, read, decay, address, parenthesized, deref_function, address_function, cast, convert, unary, binary, offset_by, difference, logical_and, logical_or, comma, conditional, assign, assign_plain, compound, change_plain, step, step_plain, call, call_through, library, printf, LvalueNode, automatic, static, deref, index, member, arrow, member_of_value, parenthesized_lvalue, kind_of, lvalue_kind, kinds_of}
+use Rattle.c_tree.specs.Blocks.{no_variable, opened}
 use Rattle.c_tree.specs.Format.{pieces, directives}
 use Rattle.c_tree.specs.Kinds.{integer, pointer, is_kind, are_kinds, size_of_kind, is_size, has_size, is_integer, is_promoted, is_promoted_type, is_scalar, is_value, is_array, has_member, is_step_operator, OperatorClass, Arithmetic, Shift, Comparison, class_of, are_operands, are_offset, is_minus, Signature, routine_signature, fit_directives}
 
@@ -28,19 +29,12 @@ pub record Scope : Type 0 where
   pub variables : List Variable
   pub result : Kind
 
-abbrev pub no_variable : Variable
-no_variable = record { kind = kind.Void; is_object = false }
-
 abbrev pub at_number : List Variable → ℕ → Variable
 at_number variables x = get_or variables x no_variable
 
 -- some variables can be named too
-abbrev pub opened : (all : List Variable) → (numbers : List ℕ) → List Variable → List Variable
-opened all [] variables = variables
-opened all (x ∷ xs) variables = opened all xs (set variables x (at_number all x))
-
 abbrev pub within : Scope → (numbers : List ℕ) → Scope
-within scope numbers = record scope { variables = opened scope.all numbers scope.variables }
+within scope numbers = record scope { variables = opened numbers 0 scope.all scope.variables }
 
 -- the word of a constant is one of its type
 abbrev pub is_constant : ℕ → Kind → Bool
@@ -169,7 +163,7 @@ abbrev mutual
       is_valid scope c && is_scalar (kind_of c) && is_valid scope a && is_valid scope b && is_kind k (kind_of a) && is_kind k (kind_of b)
   is_node scope (assign p e) k =
       is_valid_lvalue scope p && is_lvalue p && is_valid scope e && is_kind (lvalue_kind p) (kind_of e) && is_kind k (lvalue_kind p) && is_value k
-  is_node scope (set_plain x e) k = is_valid scope e && is_plain scope x.variable (kind_of e) && is_kind k (kind_of e)
+  is_node scope (assign_plain x e) k = is_valid scope e && is_plain scope x.variable (kind_of e) && is_kind k (kind_of e)
   is_node scope (compound u p e) k =
       is_valid_lvalue scope p && is_lvalue p && is_valid scope e && is_update u (lvalue_kind p) (kind_of e) && is_kind k (lvalue_kind p)
   is_node scope (change_plain u x e) k = is_valid scope e && is_plain scope x.variable k && is_update u k (kind_of e)

@@ -9,23 +9,23 @@ use Rattle.c_tree.specs.declared.program.Variable.{Variable}
 use Rattle.c_tree.specs.declared.statement.CaseLabel.{CaseLabel}
 use Rattle.c_tree.specs.declared.statement.CaseLabel.TheVariants.{Case, Default}
 use Rattle.c_tree.specs.Tree.{Expression, kind_of}
-use Rattle.c_tree.specs.Statements.{Content, value, literal, Part, Initializer, of_plain, of_object, DeclaredVariable, First, nothing, first_expression, first_declaration, Statement, expression_statement, empty, declaration, block, if_then, if_else, while_do, do_while, for, switch, break, continue, return, Statements, no_statements, statements, SwitchItems, no_items, items}
+use Rattle.c_tree.specs.Statements.{Content, value_content, literal_content, Part, Initializer, of_plain, of_object, DeclaredVariable, First, nothing, first_expression, first_declaration, Statement, expression_statement, empty, declaration, block, if_then, if_else, while_do, do_while, for, switch, break, continue, return, Statements, no_statements, statements, SwitchItems, no_items, items}
 use Rattle.c_tree.specs.Programs.{FunctionType, Function, StaticObject, Program}
 use Rattle.c_tree.specs.Walk.{any_of, names_variable}
-use Rattle.c_tree.specs.Blocks.{block_variables, switch_variables, first_variables, each_variables}
+use Rattle.c_tree.specs.Blocks.{block_variables, switch_variables, first_variables, each_variables, all_of, body_variables}
 use Rattle.c_tree.specs.TypesAgree.{agrees, same_words}
 use Rattle.c_tree.specs.Kinds.{integer, is_kind, size_of_kind, has_size, is_promoted, is_value, is_scalar, Signature}
 use Rattle.c_tree.specs.Room.{room}
-use Rattle.c_tree.specs.Valid.{Scope, is_constant, is_plain, variable_at, no_variable, within, is_valid, is_condition, has_number, no_signature}
+use Rattle.c_tree.specs.Valid.{Scope, is_constant, is_plain, variable_at, within, is_valid, is_condition, has_number, no_signature}
 
 -- what a part of an initializer stores lies in the object (6.7.8)
 abbrev pub content_size : Content → ℕ
-content_size (value e) = size_of_kind (kind_of e)
-content_size (literal bytes) = length bytes
+content_size (value_content e) = size_of_kind (kind_of e)
+content_size (literal_content bytes) = length bytes
 
 abbrev pub is_content : Scope → Content → Bool
-is_content scope (value e) = is_valid scope e && is_value (kind_of e)
-is_content scope (literal bytes) = true
+is_content scope (value_content e) = is_valid scope e && is_value (kind_of e)
+is_content scope (literal_content bytes) = true
 
 abbrev pub is_part : Scope → (size : ℕ) → Part → Bool
 is_part scope size p = is_content scope p.content && nat_le (p.offset + content_size p.content) size
@@ -150,10 +150,6 @@ signature_at program n = get_or (signatures_of program) n no_signature
 abbrev pub is_variable : Variable → Bool
 is_variable v = if v.is_object then has_size v.kind else is_scalar v.kind
 
--- what can be named before a block is open: all but objects
-abbrev pub closed : Variable → Variable
-closed v = if v.is_object then no_variable else v
-
 abbrev pub are_parameters : List Variable → List Kind → Bool
 are_parameters [] [] = true
 are_parameters (v ∷ vs) (k ∷ ks) = is_kind v.kind k && is_value k && are_parameters vs ks
@@ -179,18 +175,18 @@ scope_in program all variables result = record {
   result = result;
 }
 
--- before the block of its body: parameters can be named
+-- in the block of its body
 abbrev pub function_scope : Program → Function → Scope
 function_scope program f =
-    scope_in program (f.parameters ++ f.variables) (f.parameters ++ map closed f.variables) (signature_at program f.type_number).result
+    scope_in program (all_of f) (f.parameters ++ body_variables f) (signature_at program f.type_number).result
 
 abbrev pub is_function : Program → (number : ℕ) → Function → Bool
 is_function program n f =
     has_number program.function_types f.type_number
     && are_parameters f.parameters (signature_at program f.type_number).parameters
-    && list_all is_variable (f.parameters ++ f.variables)
+    && list_all is_variable (all_of f)
     && declares_all f
-    && are_statements (within (function_scope program f) (block_variables f.body)) (record { may_break = false; may_continue = false }) f.body
+    && are_statements (function_scope program f) (record { may_break = false; may_continue = false }) f.body
     && f.room == room program.statics n (signature_at program f.type_number).result f
 
 abbrev pub are_functions : Program → (number : ℕ) → List Function → Bool
@@ -200,8 +196,8 @@ are_functions program n (f ∷ fs) = is_function program n f && are_functions pr
 -- static objects
 
 abbrev pub content_names_variable : Content → Bool
-content_names_variable (value e) = names_variable e
-content_names_variable (literal bytes) = false
+content_names_variable (value_content e) = names_variable e
+content_names_variable (literal_content bytes) = false
 
 -- whether an initializer names a variable of the function in whose block it stands; no constant does
 abbrev pub name_variables : List Part → Bool
@@ -210,7 +206,7 @@ name_variables parts = any_of (map (λ p. content_names_variable p.content) part
 abbrev pub variables_of_function : List Function → Option ℕ → List Variable
 variables_of_function functions None = []
 variables_of_function [] (Some f) = []
-variables_of_function (g ∷ gs) (Some zero) = g.parameters ++ g.variables
+variables_of_function (g ∷ gs) (Some zero) = all_of g
 variables_of_function (g ∷ gs) (Some (suc f)) = variables_of_function gs (Some f)
 
 -- the names of an initializer are judged in the function in whose block it stands; it need not be constant

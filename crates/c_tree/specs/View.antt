@@ -54,7 +54,7 @@ node_step (Node-F.Or a b) = t.logical_or a b
 node_step (Node-F.Comma a b) = t.comma a b
 node_step (Node-F.Conditional c a b) = t.conditional c a b
 node_step (Node-F.Assign p e) = t.assign p e
-node_step (Node-F.SetPlain x e) = t.set_plain x e
+node_step (Node-F.SetPlain x e) = t.assign_plain x e
 node_step (Node-F.Compound u p e) = t.compound u p e
 node_step (Node-F.ChangePlain u x e) = t.change_plain u x e
 node_step (Node-F.Step u fixity p) = t.step u fixity p
@@ -79,8 +79,8 @@ lvalue_of = rl.fold-Lvalue LvalueNode Node Expression Lvalue lvalue_node_step no
 -- initializers
 
 abbrev pub content_of : rc.Content → Content
-content_of (rc.TheVariants.Value e) = s.value (expression_of e)
-content_of (rc.TheVariants.Literal bytes) = s.literal bytes
+content_of (rc.TheVariants.Value e) = s.value_content (expression_of e)
+content_of (rc.TheVariants.Literal bytes) = s.literal_content bytes
 
 abbrev pub part_of : rp.Part → Part
 part_of p = record { offset = p.offset; content = content_of p.content }

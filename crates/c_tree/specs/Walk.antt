@@ -2,7 +2,7 @@
 -- order of the text. A definition that treats most nodes alike is a step of it, which names only the others.
 use Rattle.std.specs.Prelude.{ℕ, ◌+◌, max, Bool, true, false, ◌||◌, ◌==◌, List, [], ◌∷◌}
 use Rattle.c_tree.specs.declared.expression.Kind.{Kind}
-use Rattle.c_tree.specs.Tree.{Expression, expression, Expressions, no_expressions, expressions, Lvalue, lvalue, Node, constant, function, plain, read, decay, address, parenthesized, deref_function, address_function, cast, convert, unary, binary, offset_by, difference, logical_and, logical_or, comma, conditional, assign, set_plain, compound, change_plain, step, step_plain, call, call_through, library, printf, LvalueNode, automatic, static, deref, index, member, arrow, member_of_value, parenthesized_lvalue}
+use Rattle.c_tree.specs.Tree.{Expression, expression, Expressions, no_expressions, expressions, Lvalue, lvalue, Node, constant, function, plain, read, decay, address, parenthesized, deref_function, address_function, cast, convert, unary, binary, offset_by, difference, logical_and, logical_or, comma, conditional, assign, assign_plain, compound, change_plain, step, step_plain, call, call_through, library, printf, LvalueNode, automatic, static, deref, index, member, arrow, member_of_value, parenthesized_lvalue}
 
 -- where a walk is: at an expression or at an lvalue, with its kind
 pub data Visited : Type 0 where
@@ -37,7 +37,7 @@ abbrev mutual
   walk_operands make (comma a b) = walk make a ∷ walk make b ∷ []
   walk_operands make (conditional c a b) = walk make c ∷ walk make a ∷ walk make b ∷ []
   walk_operands make (assign p e) = walk_lvalue make p ∷ walk make e ∷ []
-  walk_operands make (set_plain x e) = walk make e ∷ []
+  walk_operands make (assign_plain x e) = walk make e ∷ []
   walk_operands make (compound u p e) = walk_lvalue make p ∷ walk make e ∷ []
   walk_operands make (change_plain u x e) = walk make e ∷ []
   walk_operands make (step u fixity p) = walk_lvalue make p ∷ []
@@ -77,26 +77,35 @@ greatest (n ∷ ns) = max n (greatest ns)
 -- 6.5.16); operands that are not evaluated count too
 
 abbrev pub assigns_itself : (variable : ℕ) → Visited → Bool
-assigns_itself y (visited kind (set_plain x e)) = x.variable == y
+assigns_itself y (visited kind (assign_plain x e)) = x.variable == y
 assigns_itself y (visited kind (change_plain u x e)) = x.variable == y
 assigns_itself y (visited kind (step_plain u fixity x)) = x.variable == y
 assigns_itself y v = false
 
+abbrev pub assigns_made : (variable : ℕ) → Visited → List Bool → Bool
+assigns_made y v found = assigns_itself y v || any_of found
+
 abbrev pub assigns : (variable : ℕ) → Expression → Bool
-assigns y = walk (λ v found. assigns_itself y v || any_of found)
+assigns y = walk (assigns_made y)
 
 abbrev pub lvalue_assigns : (variable : ℕ) → Lvalue → Bool
-lvalue_assigns y = walk_lvalue (λ v found. assigns_itself y v || any_of found)
+lvalue_assigns y = walk_lvalue (assigns_made y)
+
+abbrev pub any_assigns : (variable : ℕ) → Expressions → Bool
+any_assigns y es = any_of (walk_each (assigns_made y) es)
 
 -- whether an expression names a parameter or automatic variable
 
 abbrev pub names_itself : Visited → Bool
 names_itself (visited kind (plain x)) = true
-names_itself (visited kind (set_plain x e)) = true
+names_itself (visited kind (assign_plain x e)) = true
 names_itself (visited kind (change_plain u x e)) = true
 names_itself (visited kind (step_plain u fixity x)) = true
 names_itself (visited_lvalue kind (automatic x)) = true
 names_itself v = false
 
+abbrev pub names_made : Visited → List Bool → Bool
+names_made v found = names_itself v || any_of found
+
 abbrev pub names_variable : Expression → Bool
-names_variable = walk (λ v found. names_itself v || any_of found)
+names_variable = walk names_made

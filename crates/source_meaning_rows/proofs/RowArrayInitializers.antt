@@ -7,163 +7,159 @@
 --     for(i=0;i<3;i++){putchar(s[i]);putchar(u[i]);}
 --     putchar(w[0][0]);putchar(w[0][1]);putchar(48+w[0][2]);putchar(w[1][0]);putchar(48+w[1][1]);
 --     putchar(v[1]);putchar(48+v[2]+v[4]);return sizeof t+t[0]+s[3];}
-use Rattle.std.proofs.Common.{Some, [], lit<, refl, true, ◌++◌, ◌∷◌, ◌≡◌}
-use Rattle.std.specs.Prelude.{codes}
+use Rattle.c_tree.specs.Programs.{Program, Function}
+use Rattle.c_tree.specs.Statements.{Statement, expression_statement, declaration, for, return, first_expression, literal_content}
+use Rattle.c_tree.specs.Tree as tree
 use Rattle.c_tree.specs.ValidProgram.{is_valid_program}
 use Rattle.c_tree.specs.declared.expression.Fixity.TheVariants.{Postfix}
 use Rattle.c_tree.specs.declared.expression.Kind.TheVariants.{Array}
-use Rattle.c_tree.specs.declared.expression.LvalueNode.{Automatic, Static}
 use Rattle.c_tree.specs.declared.expression.Routine.TheVariants.{Putchar}
 use Rattle.c_tree.specs.declared.expression.Update.TheVariants.{Arithmetic}
-use Rattle.c_tree.specs.declared.program.Function.{Function}
-use Rattle.c_tree.specs.declared.program.Program.{Program}
-use Rattle.c_tree.specs.declared.statement.Content.TheVariants.{Literal}
-use Rattle.c_tree.specs.declared.statement.First.TheVariants.{Expression as FirstExpression}
-use Rattle.c_tree.specs.declared.statement.Initialization.TheVariants.{Object}
-use Rattle.c_tree.specs.declared.statement.Statement.{Block, Declaration, Expression, For, Return, Statement}
 use Rattle.obj_memory.specs.declared.int_type.IntType.TheVariants.{Char, Int, UnsignedLong}
 use Rattle.obj_memory.specs.declared.operator.BinaryOperator.TheVariants.{Add, Divide, Less, Remainder}
 use Rattle.sb_base.specs.Budgets.{default_sizes}
-use Rattle.source_meaning.proofs.Samples.{binary, box, compare, computing, constant, content, convert, decay, defined, exited, four, index, int, integer_kind, library, lvalue, main_type, none, number, object_variable, one, part, plain, plain_variable, program_of, read, seen, set_plain, six, static, step_plain, three, two, vec_of}
 use Rattle.source_meaning.specs.Meaning.{meaning}
+use Rattle.source_meaning_rows.proofs.Samples.{binary, block_of, compare, computing, constant, content, convert, decay, defined, exited, four, index, int, integer_kind, library, lvalue, main_type, none, number, object_variable, one, part, plain, plain_variable, program_of, read, seen, set_plain, six, static_object, step_plain, three, two, with_parts, without_value}
+use Rattle.std.proofs.Common.{Some, [], refl, true, ◌++◌, ◌∷◌, ◌≡◌}
+use Rattle.std.specs.Prelude.{codes}
 
 statement_1 : Statement
-statement_1 = Declaration (one (Object 0 (two
-    (part 4 (content (read (index 2 int (decay (lvalue 2 (Array 24) (Static 0))) (number 2 2)))))
-    (part 8 (content (read (index 2 int (decay (lvalue 2 (Array 24) (Static 0))) (number 2 3))))))))
+statement_1 = declaration (one (with_parts 0 (two
+    (part 4 (content (read (index 2 int (decay (lvalue 2 (Array 24) (tree.static 0))) (number 2 2)))))
+    (part 8 (content (read (index 2 int (decay (lvalue 2 (Array 24) (tree.static 0))) (number 2 3))))))))
 
 statement_2 : Statement
-statement_2 = Declaration (one (Object 2 (two
-    (part 0 (Literal (vec_of (codes "no" ++ 0 ∷ []) (lit< tt))))
+statement_2 = declaration (one (with_parts 2 (two
+    (part 0 (literal_content (codes "no" ++ 0 ∷ [])))
     (part 3 (content (convert (integer_kind Char) (number 2 117)))))))
 
 statement_3 : Statement
-statement_3 = Expression (library 3 int Putchar (one (binary 3 Add (number 3 48) (read (index 3 int (decay (lvalue 3 (Array 24) (Static 0))) (plain 3 int 3))))))
+statement_3 = expression_statement (library 3 int Putchar (one (binary 3 Add (number 3 48) (read (index 3 int (decay (lvalue 3 (Array 24) (tree.static 0))) (plain 3 int 3))))))
 
 statement_4 : Statement
-statement_4 = For
-    (FirstExpression (set_plain 3 3 (number 3 0)))
+statement_4 = for 3
+    (first_expression (set_plain 3 3 (number 3 0)))
     (Some (compare 3 Less (plain 3 int 3) (number 3 6)))
     (Some (step_plain 3 int (Arithmetic Add Int) Postfix 3))
-    (box statement_3)
+    (statement_3)
 
 statement_5 : Statement
-statement_5 = Expression (library 3 int Putchar (one (binary 3 Add (number 3 48) (read (index 3 int (decay (lvalue 3 (Array 16) (Automatic 0))) (plain 3 int 3))))))
+statement_5 = expression_statement (library 3 int Putchar (one (binary 3 Add (number 3 48) (read (index 3 int (decay (lvalue 3 (Array 16) (tree.automatic 0))) (plain 3 int 3))))))
 
 statement_6 : Statement
-statement_6 = For
-    (FirstExpression (set_plain 3 3 (number 3 0)))
+statement_6 = for 3
+    (first_expression (set_plain 3 3 (number 3 0)))
     (Some (compare 3 Less (plain 3 int 3) (number 3 4)))
     (Some (step_plain 3 int (Arithmetic Add Int) Postfix 3))
-    (box statement_5)
+    (statement_5)
 
 statement_7 : Statement
-statement_7 = Expression (library 4 int Putchar (one (binary 4 Add (number 4 48) (read (index 4 int
-    (decay (index 4 (Array 12) (decay (lvalue 4 (Array 24) (Static 4))) (binary 4 Divide (plain 4 int 3) (number 4 3))))
+statement_7 = expression_statement (library 4 int Putchar (one (binary 4 Add (number 4 48) (read (index 4 int
+    (decay (index 4 (Array 12) (decay (lvalue 4 (Array 24) (tree.static 4))) (binary 4 Divide (plain 4 int 3) (number 4 3))))
     (binary 4 Remainder (plain 4 int 3) (number 4 3)))))))
 
 statement_8 : Statement
-statement_8 = For
-    (FirstExpression (set_plain 4 3 (number 4 0)))
+statement_8 = for 4
+    (first_expression (set_plain 4 3 (number 4 0)))
     (Some (compare 4 Less (plain 4 int 3) (number 4 6)))
     (Some (step_plain 4 int (Arithmetic Add Int) Postfix 3))
-    (box statement_7)
+    (statement_7)
 
 statement_9 : Statement
-statement_9 = Expression (library 4 int Putchar (one (binary 4 Add (number 4 48) (read (index 4 int
-    (decay (index 4 (Array 8) (decay (lvalue 4 (Array 16) (Static 5))) (binary 4 Divide (plain 4 int 3) (number 4 2))))
+statement_9 = expression_statement (library 4 int Putchar (one (binary 4 Add (number 4 48) (read (index 4 int
+    (decay (index 4 (Array 8) (decay (lvalue 4 (Array 16) (tree.static 5))) (binary 4 Divide (plain 4 int 3) (number 4 2))))
     (binary 4 Remainder (plain 4 int 3) (number 4 2)))))))
 
 statement_10 : Statement
-statement_10 = For
-    (FirstExpression (set_plain 4 3 (number 4 0)))
+statement_10 = for 4
+    (first_expression (set_plain 4 3 (number 4 0)))
     (Some (compare 4 Less (plain 4 int 3) (number 4 4)))
     (Some (step_plain 4 int (Arithmetic Add Int) Postfix 3))
-    (box statement_9)
+    (statement_9)
 
 statement_11 : Statement
-statement_11 = Expression (library 5 int Putchar (one (convert int (read (index 5 (integer_kind Char) (decay (lvalue 5 (Array 4) (Static 1))) (plain 5 int 3))))))
+statement_11 = expression_statement (library 5 int Putchar (one (convert int (read (index 5 (integer_kind Char) (decay (lvalue 5 (Array 4) (tree.static 1))) (plain 5 int 3))))))
 
 statement_12 : Statement
-statement_12 = Expression (library 5 int Putchar (one (convert int (read (index 5 (integer_kind Char) (decay (lvalue 5 (Array 3) (Static 3))) (plain 5 int 3))))))
+statement_12 = expression_statement (library 5 int Putchar (one (convert int (read (index 5 (integer_kind Char) (decay (lvalue 5 (Array 3) (tree.static 3))) (plain 5 int 3))))))
 
 statement_13 : Statement
-statement_13 = For
-    (FirstExpression (set_plain 5 3 (number 5 0)))
+statement_13 = for 5
+    (first_expression (set_plain 5 3 (number 5 0)))
     (Some (compare 5 Less (plain 5 int 3) (number 5 3)))
     (Some (step_plain 5 int (Arithmetic Add Int) Postfix 3))
-    (box (Block (two statement_11 statement_12)))
+    ((block_of 1 (two statement_11 statement_12)))
 
 statement_14 : Statement
-statement_14 = Expression (library 6 int Putchar (one (convert int (read (index 6 (integer_kind Char) (decay (index 6 (Array 3) (decay (lvalue 6 (Array 6) (Automatic 2))) (number 6 0))) (number 6 0))))))
+statement_14 = expression_statement (library 6 int Putchar (one (convert int (read (index 6 (integer_kind Char) (decay (index 6 (Array 3) (decay (lvalue 6 (Array 6) (tree.automatic 2))) (number 6 0))) (number 6 0))))))
 
 statement_15 : Statement
-statement_15 = Expression (library 6 int Putchar (one (convert int (read (index 6 (integer_kind Char) (decay (index 6 (Array 3) (decay (lvalue 6 (Array 6) (Automatic 2))) (number 6 0))) (number 6 1))))))
+statement_15 = expression_statement (library 6 int Putchar (one (convert int (read (index 6 (integer_kind Char) (decay (index 6 (Array 3) (decay (lvalue 6 (Array 6) (tree.automatic 2))) (number 6 0))) (number 6 1))))))
 
 statement_16 : Statement
-statement_16 = Expression (library 6 int Putchar (one (binary 6 Add (number 6 48) (convert int (read (index 6 (integer_kind Char)
-    (decay (index 6 (Array 3) (decay (lvalue 6 (Array 6) (Automatic 2))) (number 6 0)))
+statement_16 = expression_statement (library 6 int Putchar (one (binary 6 Add (number 6 48) (convert int (read (index 6 (integer_kind Char)
+    (decay (index 6 (Array 3) (decay (lvalue 6 (Array 6) (tree.automatic 2))) (number 6 0)))
     (number 6 2)))))))
 
 statement_17 : Statement
-statement_17 = Expression (library 6 int Putchar (one (convert int (read (index 6 (integer_kind Char) (decay (index 6 (Array 3) (decay (lvalue 6 (Array 6) (Automatic 2))) (number 6 1))) (number 6 0))))))
+statement_17 = expression_statement (library 6 int Putchar (one (convert int (read (index 6 (integer_kind Char) (decay (index 6 (Array 3) (decay (lvalue 6 (Array 6) (tree.automatic 2))) (number 6 1))) (number 6 0))))))
 
 statement_18 : Statement
-statement_18 = Expression (library 6 int Putchar (one (binary 6 Add (number 6 48) (convert int (read (index 6 (integer_kind Char)
-    (decay (index 6 (Array 3) (decay (lvalue 6 (Array 6) (Automatic 2))) (number 6 1)))
+statement_18 = expression_statement (library 6 int Putchar (one (binary 6 Add (number 6 48) (convert int (read (index 6 (integer_kind Char)
+    (decay (index 6 (Array 3) (decay (lvalue 6 (Array 6) (tree.automatic 2))) (number 6 1)))
     (number 6 1)))))))
 
 statement_19 : Statement
-statement_19 = Expression (library 7 int Putchar (one (convert int (read (index 7 (integer_kind Char) (decay (lvalue 7 (Array 5) (Automatic 1))) (number 7 1))))))
+statement_19 = expression_statement (library 7 int Putchar (one (convert int (read (index 7 (integer_kind Char) (decay (lvalue 7 (Array 5) (tree.automatic 1))) (number 7 1))))))
 
 statement_20 : Statement
-statement_20 = Expression (library 7 int Putchar (one (binary 7 Add
-    (binary 7 Add (number 7 48) (convert int (read (index 7 (integer_kind Char) (decay (lvalue 7 (Array 5) (Automatic 1))) (number 7 2)))))
-    (convert int (read (index 7 (integer_kind Char) (decay (lvalue 7 (Array 5) (Automatic 1))) (number 7 4)))))))
+statement_20 = expression_statement (library 7 int Putchar (one (binary 7 Add
+    (binary 7 Add (number 7 48) (convert int (read (index 7 (integer_kind Char) (decay (lvalue 7 (Array 5) (tree.automatic 1))) (number 7 2)))))
+    (convert int (read (index 7 (integer_kind Char) (decay (lvalue 7 (Array 5) (tree.automatic 1))) (number 7 4)))))))
 
 statement_21 : Statement
-statement_21 = Return (Some (convert int (binary 7 Add
+statement_21 = return (Some (convert int (binary 7 Add
     (binary 7 Add
     (constant UnsignedLong 7 3)
     (convert
     (integer_kind UnsignedLong)
-    (read (index 7 (integer_kind Char) (decay (lvalue 7 (Array 3) (Static 2))) (number 7 0)))))
+    (read (index 7 (integer_kind Char) (decay (lvalue 7 (Array 3) (tree.static 2))) (number 7 0)))))
     (convert
     (integer_kind UnsignedLong)
-    (read (index 7 (integer_kind Char) (decay (lvalue 7 (Array 4) (Static 1))) (number 7 3)))))))
+    (read (index 7 (integer_kind Char) (decay (lvalue 7 (Array 4) (tree.static 1))) (number 7 3)))))))
 
 function_main : Function
 function_main = defined 2 0 none
     (four (object_variable (Array 16)) (object_variable (Array 5)) (object_variable (Array 6)) (plain_variable int))
     448
-    (vec_of
-    (statement_1 ∷
-    Declaration (one (Object 1 (one (part 0 (Literal (vec_of (codes "hi" ++ 0 ∷ []) (lit< tt))))))) ∷
-    statement_2 ∷
-    statement_4 ∷
-    statement_6 ∷
-    statement_8 ∷
-    statement_10 ∷
-    statement_13 ∷
-    statement_14 ∷
-    statement_15 ∷
-    statement_16 ∷
-    statement_17 ∷
-    statement_18 ∷
-    statement_19 ∷
-    statement_20 ∷
-    statement_21 ∷ [])
-    (lit< tt))
+    (statement_1
+    ∷ (declaration (one (with_parts 1 (one (part 0 (literal_content (codes "hi" ++ 0 ∷ [])))))))
+    ∷ statement_2
+    ∷ (declaration (without_value 3 ∷ []))
+    ∷ statement_4
+    ∷ statement_6
+    ∷ statement_8
+    ∷ statement_10
+    ∷ statement_13
+    ∷ statement_14
+    ∷ statement_15
+    ∷ statement_16
+    ∷ statement_17
+    ∷ statement_18
+    ∷ statement_19
+    ∷ statement_20
+    ∷ statement_21
+    ∷ [])
 
 program : Program
 program = program_of
     (six
-    (static (Array 24) (three (part 8 (content (number 1 3))) (part 12 (content (number 1 4))) (part 0 (content (number 1 1)))))
-    (static (Array 4) (one (part 0 (Literal (vec_of (codes "abc" ++ 0 ∷ []) (lit< tt))))))
-    (static (Array 3) (one (part 0 (Literal (vec_of (codes "xy" ++ 0 ∷ []) (lit< tt))))))
-    (static (Array 3) (one (part 0 (Literal (vec_of (codes "pqr") (lit< tt))))))
-    (static (Array 24) (three (part 0 (content (number 1 1))) (part 12 (content (number 1 4))) (part 16 (content (number 1 5)))))
-    (static (Array 16) (three (part 0 (content (number 1 1))) (part 4 (content (number 1 2))) (part 8 (content (number 1 3))))))
+    (static_object (Array 24) (three (part 8 (content (number 1 3))) (part 12 (content (number 1 4))) (part 0 (content (number 1 1)))))
+    (static_object (Array 4) (one (part 0 (literal_content (codes "abc" ++ 0 ∷ [])))))
+    (static_object (Array 3) (one (part 0 (literal_content (codes "xy" ++ 0 ∷ [])))))
+    (static_object (Array 3) (one (part 0 (literal_content (codes "pqr")))))
+    (static_object (Array 24) (three (part 0 (content (number 1 1))) (part 12 (content (number 1 4))) (part 16 (content (number 1 5)))))
+    (static_object (Array 16) (three (part 0 (content (number 1 1))) (part 4 (content (number 1 2))) (part 8 (content (number 1 3))))))
     (one main_type)
     (one function_main)
     0

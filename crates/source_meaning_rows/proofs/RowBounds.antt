@@ -1,17 +1,17 @@
 -- `char a[4];char b[8]="bcd";char c[2]="xy";int main(void){E;return 0;}` for each E that is named: every routine inside its
 -- ranges, one byte outside, and at no bytes. A violation ends with 120.
-use Rattle.std.proofs.Common.{◌≡◌, [], ◌∷◌, refl, true, lit<, Option, Some}
-use Rattle.std.specs.Prelude.{codes}
-use Rattle.std.specs.List.{list_all}
 use Rattle.behaviours.specs.Shown.{End, Status}
-use Rattle.sb_base.specs.Budgets.{default_sizes}
-use Rattle.c_tree.specs.declared.expression.Expression.{Expression}
-use Rattle.c_tree.specs.declared.program.Program.{Program}
-use Rattle.c_tree.specs.declared.statement.Statement.{Return}
+use Rattle.c_tree.specs.Programs.{Program}
+use Rattle.c_tree.specs.Statements.{return}
+use Rattle.c_tree.specs.Tree.{Expression}
 use Rattle.c_tree.specs.ValidProgram.{is_valid_program}
+use Rattle.sb_base.specs.Budgets.{default_sizes}
 use Rattle.source_meaning.specs.Meaning.{meaning}
-use Rattle.source_meaning.proofs.Samples.{computing, none, one, two, three, vec_of, number}
-use Rattle.source_meaning.proofs.LibrarySamples.{zero_chars, chars, array, ahead, null, memcpy, memmove, memset, memcmp, strlen, strcmp, strcpy, strncpy, strcat, strchr, puts, printf, perform, program_of}
+use Rattle.source_meaning_rows.proofs.LibrarySamples.{ahead, array, chars, memcmp, memcpy, memmove, memset, null, perform, printf, program_of, puts, strcat, strchr, strcmp, strcpy, strlen, strncpy, zero_chars}
+use Rattle.source_meaning_rows.proofs.Samples.{computing, none, number, one, three, two}
+use Rattle.std.proofs.Common.{◌≡◌, [], ◌∷◌, refl, true, Option, Some}
+use Rattle.std.specs.List.{list_all}
+use Rattle.std.specs.Prelude.{codes}
 
 a : Expression
 a = array 0 4
@@ -23,7 +23,7 @@ c : Expression
 c = array 2 2
 
 program : Expression → Program
-program e = program_of (three (zero_chars 4) (chars 8 (vec_of (codes "bcd") (lit< tt))) (chars 2 (vec_of (codes "xy") (lit< tt)))) none (two (perform e) (Return (Some (number 1 0))))
+program e = program_of (three (zero_chars 4) (chars 8 (codes "bcd")) (chars 2 (codes "xy"))) none (two (perform e) (return (Some (number 1 0))))
 
 ending : Expression → Option End
 ending e = (meaning (program e) default_sizes [] 1).shown.ending
@@ -225,17 +225,17 @@ unfolding ending program a b c computing
 puts_outside = refl
 
 -- `printf("%s",b)`
-printf_inside : ending (printf (vec_of (codes "%s") (lit< tt)) (one b)) ≡ Some (Status 0)
+printf_inside : ending (printf (codes "%s") (one b)) ≡ Some (Status 0)
 unfolding ending program a b c computing
 printf_inside = refl
 
 -- `printf("%s%s",b,c)`
-printf_outside : ending (printf (vec_of (codes "%s%s") (lit< tt)) (two b c)) ≡ Some (Status 120)
+printf_outside : ending (printf (codes "%s%s") (two b c)) ≡ Some (Status 120)
 unfolding ending program a b c computing
 printf_outside = refl
 
 -- before a violation nothing is put
-nothing_put : (meaning (program (printf (vec_of (codes "%s%s") (lit< tt)) (two b c))) default_sizes [] 1).shown.output ≡ []
+nothing_put : (meaning (program (printf (codes "%s%s") (two b c))) default_sizes [] 1).shown.output ≡ []
 unfolding program a b c computing
 nothing_put = refl
 
@@ -246,6 +246,6 @@ no_access = refl
 
 valid : list_all (λ e. is_valid_program (program e))
     (memcpy a b 4 ∷ memmove a b 4 ∷ memset a 7 4 ∷ memcmp a b 4 ∷ strlen b ∷ strcmp b c ∷ strcpy a b ∷ strncpy a b 4 ∷ strcat a b ∷ strchr b 0 ∷ puts b
-    ∷ memcpy null (ahead 1 a) 0 ∷ printf (vec_of (codes "%s%s") (lit< tt)) (two b c) ∷ []) ≡ true
+    ∷ memcpy null (ahead 1 a) 0 ∷ printf (codes "%s%s") (two b c) ∷ []) ≡ true
 unfolding program a b c computing
 valid = refl

@@ -4,32 +4,32 @@
 --     return f
 --     (
 --     putchar(66));}
-use Rattle.std.proofs.Common.{Some, [], refl, true, ◌∷◌, ◌≡◌}
-use Rattle.std.specs.Prelude.{codes}
+use Rattle.c_tree.specs.Programs.{Program, Function}
+use Rattle.c_tree.specs.Statements.{expression_statement, declaration, return}
 use Rattle.c_tree.specs.ValidProgram.{is_valid_program}
 use Rattle.c_tree.specs.declared.c_type.TypeWord.TheVariants.{Gives, Integer as IntegerWord, Takes}
 use Rattle.c_tree.specs.declared.expression.Kind.TheVariants.{Array}
 use Rattle.c_tree.specs.declared.expression.Routine.TheVariants.{Putchar}
-use Rattle.c_tree.specs.declared.program.Function.{Function}
-use Rattle.c_tree.specs.declared.program.Program.{Program}
-use Rattle.c_tree.specs.declared.statement.Initialization.TheVariants.{Plain}
-use Rattle.c_tree.specs.declared.statement.Statement.{Declaration, Expression, Return}
 use Rattle.obj_memory.specs.declared.int_type.IntType.TheVariants.{Int}
 use Rattle.sb_base.specs.Budgets.{default_sizes}
-use Rattle.source_meaning.proofs.Samples.{call, cast, computing, defined, function, function_type, int, library, main_type, none, number, object_variable, one, plain, plain_variable, pointer, program_of, seen, stopped, three, two}
 use Rattle.source_meaning.specs.Meaning.{meaning}
+use Rattle.source_meaning_rows.proofs.Samples.{call, cast, computing, defined, function, function_type, int, library, main_type, none, number, object_variable, one, plain, plain_variable, pointer, program_of, seen, stopped, three, two, with_value, without_value}
+use Rattle.std.proofs.Common.{Some, [], refl, true, ◌∷◌, ◌≡◌}
+use Rattle.std.specs.Prelude.{codes}
 
 function_f : Function
-function_f = defined 1 1 (one (plain_variable int)) (one (object_variable (Array 8000))) 280 (one (Return (Some (plain 1 int 0))))
+function_f = defined 1 1 (one (plain_variable int)) (one (object_variable (Array 8000))) 280 ((declaration (without_value 1 ∷ []))
+    ∷ (return (Some (plain 1 int 0)))
+    ∷ [])
 
 function_main : Function
 function_main = defined 1 0 none
     (one (plain_variable pointer))
     208
     (three
-    (Declaration (one (Plain 0 (cast 1 pointer (function 1 0)))))
-    (Expression (library 1 int Putchar (one (number 1 65))))
-    (Return (Some (call 3 int 0 (one (library 4 int Putchar (one (number 4 66))))))))
+    (declaration (one (with_value 0 (cast 1 pointer (function 1 0)))))
+    (expression_statement (library 1 int Putchar (one (number 1 65))))
+    (return (Some (call 3 int 0 (one (library 4 int Putchar (one (number 4 66))))))))
 
 program : Program
 program = program_of none

@@ -1,26 +1,24 @@
 -- `int main(void){int(*h)(int)=0;return h(putchar(65));}`
 -- The arguments are evaluated before the pointer is tested. The text is rows/call_through_null.c.
-use Rattle.std.proofs.Common.{Some, [], refl, true, ◌∷◌, ◌≡◌}
-use Rattle.std.specs.Prelude.{codes}
+use Rattle.c_tree.specs.Programs.{Program, Function}
+use Rattle.c_tree.specs.Statements.{declaration, return}
 use Rattle.c_tree.specs.ValidProgram.{is_valid_program}
 use Rattle.c_tree.specs.declared.c_type.TypeWord.TheVariants.{Gives, Integer as IntegerWord, Takes}
 use Rattle.c_tree.specs.declared.expression.Routine.TheVariants.{Putchar}
-use Rattle.c_tree.specs.declared.program.Function.{Function}
-use Rattle.c_tree.specs.declared.program.Program.{Program}
-use Rattle.c_tree.specs.declared.statement.Initialization.TheVariants.{Plain}
-use Rattle.c_tree.specs.declared.statement.Statement.{Declaration, Return}
 use Rattle.obj_memory.specs.declared.int_type.IntType.TheVariants.{Int}
 use Rattle.sb_base.specs.Budgets.{default_sizes}
-use Rattle.source_meaning.proofs.Samples.{call_through, computing, convert, defined, function_type, int, library, main_type, none, number, one, plain, plain_variable, pointer, program_of, seen, stopped, two}
 use Rattle.source_meaning.specs.Meaning.{meaning}
+use Rattle.source_meaning_rows.proofs.Samples.{call_through, computing, convert, defined, function_type, int, library, main_type, none, number, one, plain, plain_variable, pointer, program_of, seen, stopped, two, with_value}
+use Rattle.std.proofs.Common.{Some, [], refl, true, ◌∷◌, ◌≡◌}
+use Rattle.std.specs.Prelude.{codes}
 
 function_main : Function
 function_main = defined 1 0 none
     (one (plain_variable pointer))
     248
     (two
-    (Declaration (one (Plain 0 (convert pointer (number 1 0)))))
-    (Return (Some (call_through 1 int 1 (plain 1 pointer 0) (one (library 1 int Putchar (one (number 1 65))))))))
+    (declaration (one (with_value 0 (convert pointer (number 1 0)))))
+    (return (Some (call_through 1 int 1 (plain 1 pointer 0) (one (library 1 int Putchar (one (number 1 65))))))))
 
 program : Program
 program = program_of none

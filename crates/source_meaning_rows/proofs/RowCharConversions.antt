@@ -7,68 +7,66 @@
 --     p((char)255);p((char)256);p((char)-1);p((unsigned char)511);
 --     p((short)32767);p((short)32768);p((short)65535);p((short)65536);
 --     p((unsigned short)65535);p((unsigned short)65536);p((unsigned short)-1);return 0;}
-use Rattle.std.proofs.Common.{Some, [], lit<, refl, true, ◌∷◌, ◌≡◌}
-use Rattle.std.specs.Prelude.{codes}
+use Rattle.c_tree.specs.Programs.{Program, Function}
+use Rattle.c_tree.specs.Statements.{Statement, expression_statement, return}
 use Rattle.c_tree.specs.ValidProgram.{is_valid_program}
 use Rattle.c_tree.specs.declared.expression.Kind.TheVariants.{Void}
-use Rattle.c_tree.specs.declared.program.Function.{Function}
-use Rattle.c_tree.specs.declared.program.Program.{Program}
-use Rattle.c_tree.specs.declared.statement.Statement.{Expression, Return, Statement}
 use Rattle.obj_memory.specs.declared.int_type.IntType.TheVariants.{Char, Short, SignedChar, UnsignedChar, UnsignedLong, UnsignedShort}
 use Rattle.obj_memory.specs.declared.operator.UnaryOperator.TheVariants.{Negate}
 use Rattle.sb_base.specs.Budgets.{default_sizes}
-use Rattle.source_meaning.proofs.Hexadecimal.{hex_digits, put_digits, put_number, put_type}
-use Rattle.source_meaning.proofs.Samples.{call, cast, computing, convert, defined, exited, integer_kind, main_type, none, number, one, program_of, seen, three, two, unary, vec_of}
 use Rattle.source_meaning.specs.Meaning.{meaning}
+use Rattle.source_meaning_rows.proofs.Hexadecimal.{hex_digits, put_digits, put_number, put_type}
+use Rattle.source_meaning_rows.proofs.Samples.{call, cast, computing, convert, defined, exited, integer_kind, main_type, none, number, one, program_of, seen, three, two, unary}
+use Rattle.std.proofs.Common.{Some, [], refl, true, ◌∷◌, ◌≡◌}
+use Rattle.std.specs.Prelude.{codes}
 
 statement_1 : Statement
-statement_1 = Expression (call 4 Void 1 (one (convert (integer_kind UnsignedLong) (cast 4 (integer_kind SignedChar) (number 4 127)))))
+statement_1 = expression_statement (call 4 Void 1 (one (convert (integer_kind UnsignedLong) (cast 4 (integer_kind SignedChar) (number 4 127)))))
 
 statement_2 : Statement
-statement_2 = Expression (call 4 Void 1 (one (convert (integer_kind UnsignedLong) (cast 4 (integer_kind SignedChar) (number 4 128)))))
+statement_2 = expression_statement (call 4 Void 1 (one (convert (integer_kind UnsignedLong) (cast 4 (integer_kind SignedChar) (number 4 128)))))
 
 statement_3 : Statement
-statement_3 = Expression (call 4 Void 1 (one (convert (integer_kind UnsignedLong) (cast 4 (integer_kind SignedChar) (number 4 255)))))
+statement_3 = expression_statement (call 4 Void 1 (one (convert (integer_kind UnsignedLong) (cast 4 (integer_kind SignedChar) (number 4 255)))))
 
 statement_4 : Statement
-statement_4 = Expression (call 4 Void 1 (one (convert (integer_kind UnsignedLong) (cast 4 (integer_kind SignedChar) (number 4 256)))))
+statement_4 = expression_statement (call 4 Void 1 (one (convert (integer_kind UnsignedLong) (cast 4 (integer_kind SignedChar) (number 4 256)))))
 
 statement_5 : Statement
-statement_5 = Expression (call 5 Void 1 (one (convert (integer_kind UnsignedLong) (cast 5 (integer_kind Char) (number 5 255)))))
+statement_5 = expression_statement (call 5 Void 1 (one (convert (integer_kind UnsignedLong) (cast 5 (integer_kind Char) (number 5 255)))))
 
 statement_6 : Statement
-statement_6 = Expression (call 5 Void 1 (one (convert (integer_kind UnsignedLong) (cast 5 (integer_kind Char) (number 5 256)))))
+statement_6 = expression_statement (call 5 Void 1 (one (convert (integer_kind UnsignedLong) (cast 5 (integer_kind Char) (number 5 256)))))
 
 statement_7 : Statement
-statement_7 = Expression (call 5 Void 1 (one (convert (integer_kind UnsignedLong) (cast 5 (integer_kind Char) (unary 5 Negate (number 5 1))))))
+statement_7 = expression_statement (call 5 Void 1 (one (convert (integer_kind UnsignedLong) (cast 5 (integer_kind Char) (unary 5 Negate (number 5 1))))))
 
 statement_8 : Statement
-statement_8 = Expression (call 5 Void 1 (one (convert (integer_kind UnsignedLong) (cast 5 (integer_kind UnsignedChar) (number 5 511)))))
+statement_8 = expression_statement (call 5 Void 1 (one (convert (integer_kind UnsignedLong) (cast 5 (integer_kind UnsignedChar) (number 5 511)))))
 
 statement_9 : Statement
-statement_9 = Expression (call 6 Void 1 (one (convert (integer_kind UnsignedLong) (cast 6 (integer_kind Short) (number 6 32767)))))
+statement_9 = expression_statement (call 6 Void 1 (one (convert (integer_kind UnsignedLong) (cast 6 (integer_kind Short) (number 6 32767)))))
 
 statement_10 : Statement
-statement_10 = Expression (call 6 Void 1 (one (convert (integer_kind UnsignedLong) (cast 6 (integer_kind Short) (number 6 32768)))))
+statement_10 = expression_statement (call 6 Void 1 (one (convert (integer_kind UnsignedLong) (cast 6 (integer_kind Short) (number 6 32768)))))
 
 statement_11 : Statement
-statement_11 = Expression (call 6 Void 1 (one (convert (integer_kind UnsignedLong) (cast 6 (integer_kind Short) (number 6 65535)))))
+statement_11 = expression_statement (call 6 Void 1 (one (convert (integer_kind UnsignedLong) (cast 6 (integer_kind Short) (number 6 65535)))))
 
 statement_12 : Statement
-statement_12 = Expression (call 6 Void 1 (one (convert (integer_kind UnsignedLong) (cast 6 (integer_kind Short) (number 6 65536)))))
+statement_12 = expression_statement (call 6 Void 1 (one (convert (integer_kind UnsignedLong) (cast 6 (integer_kind Short) (number 6 65536)))))
 
 statement_13 : Statement
-statement_13 = Expression (call 7 Void 1 (one (convert (integer_kind UnsignedLong) (cast 7 (integer_kind UnsignedShort) (number 7 65535)))))
+statement_13 = expression_statement (call 7 Void 1 (one (convert (integer_kind UnsignedLong) (cast 7 (integer_kind UnsignedShort) (number 7 65535)))))
 
 statement_14 : Statement
-statement_14 = Expression (call 7 Void 1 (one (convert (integer_kind UnsignedLong) (cast 7 (integer_kind UnsignedShort) (number 7 65536)))))
+statement_14 = expression_statement (call 7 Void 1 (one (convert (integer_kind UnsignedLong) (cast 7 (integer_kind UnsignedShort) (number 7 65536)))))
 
 statement_15 : Statement
-statement_15 = Expression (call 7 Void 1 (one (convert (integer_kind UnsignedLong) (cast 7 (integer_kind UnsignedShort) (unary 7 Negate (number 7 1))))))
+statement_15 = expression_statement (call 7 Void 1 (one (convert (integer_kind UnsignedLong) (cast 7 (integer_kind UnsignedShort) (unary 7 Negate (number 7 1))))))
 
 function_main : Function
-function_main = defined 3 0 none none 168 (vec_of
-    (statement_1 ∷
+function_main = defined 3 0 none none 168 (statement_1 ∷
     statement_2 ∷
     statement_3 ∷
     statement_4 ∷
@@ -83,8 +81,7 @@ function_main = defined 3 0 none none 168 (vec_of
     statement_13 ∷
     statement_14 ∷
     statement_15 ∷
-    Return (Some (number 7 0)) ∷ [])
-    (lit< tt))
+    return (Some (number 7 0)) ∷ [])
 
 program : Program
 program = program_of (one hex_digits) (two main_type put_type) (three put_digits put_number function_main) 2

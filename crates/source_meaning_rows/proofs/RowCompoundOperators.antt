@@ -6,59 +6,57 @@
 --     p(i+=5);p(i-=200);p(i*=3);p(i/=4);p(i%=7);p(i<<=4);p(i>>=2);p(i&=0xff);p(i|=0x100);p(i^=0x1ff);
 --     p(u-=8);p(u/=2);p(u*=l);p(c+=100);p(c*=c);p(c>>=1);p(c-=1000);
 --     p(a[0]/=7);p(a[0]%=4);p(a[0]<<=u);p(*q*=c);p(*q>>=1);p((*q)^=l);p(i+=l+=3);return 0;}
-use Rattle.std.proofs.Common.{Some, [], lit<, refl, true, ◌∷◌, ◌≡◌}
-use Rattle.std.specs.Prelude.{codes}
+use Rattle.c_tree.specs.Programs.{Program, Function}
+use Rattle.c_tree.specs.Statements.{Statement, expression_statement, declaration, return}
+use Rattle.c_tree.specs.Tree as tree
 use Rattle.c_tree.specs.ValidProgram.{is_valid_program}
 use Rattle.c_tree.specs.declared.expression.Kind.TheVariants.{Array, Void}
-use Rattle.c_tree.specs.declared.expression.LvalueNode.{Automatic}
 use Rattle.c_tree.specs.declared.expression.Update.TheVariants.{Arithmetic}
-use Rattle.c_tree.specs.declared.program.Function.{Function}
-use Rattle.c_tree.specs.declared.program.Program.{Program}
-use Rattle.c_tree.specs.declared.statement.Initialization.TheVariants.{Object, Plain}
-use Rattle.c_tree.specs.declared.statement.Statement.{Declaration, Expression, Return, Statement}
 use Rattle.obj_memory.specs.declared.int_type.IntType.TheVariants.{Char, Int, Long, UnsignedInt, UnsignedLong}
 use Rattle.obj_memory.specs.declared.operator.BinaryOperator.TheVariants.{Add, BitAnd, BitOr, BitXor, Divide, Multiply, Remainder, ShiftLeft, ShiftRight, Subtract}
 use Rattle.obj_memory.specs.declared.operator.UnaryOperator.TheVariants.{Negate}
 use Rattle.sb_base.specs.Budgets.{default_sizes}
-use Rattle.source_meaning.proofs.Hexadecimal.{hex_digits, put_digits, put_number, put_type}
-use Rattle.source_meaning.proofs.Samples.{address, call, change_plain, compound, computing, content, convert, decay, defined, deref, exited, index, int, integer_kind, lvalue, main_type, none, number, object_variable, one, parenthesized_lvalue, part, plain, plain_variable, pointer, program_of, read, seen, six, three, two, unary, vec_of}
 use Rattle.source_meaning.specs.Meaning.{meaning}
+use Rattle.source_meaning_rows.proofs.Hexadecimal.{hex_digits, put_digits, put_number, put_type}
+use Rattle.source_meaning_rows.proofs.Samples.{address, call, change_plain, compound, computing, content, convert, decay, defined, deref, exited, index, int, integer_kind, lvalue, main_type, none, number, object_variable, one, parenthesized_lvalue, part, plain, plain_variable, pointer, program_of, read, seen, six, three, two, unary, with_parts, with_value}
+use Rattle.std.proofs.Common.{Some, [], refl, true, ◌∷◌, ◌≡◌}
+use Rattle.std.specs.Prelude.{codes}
 
 statement_1 : Statement
-statement_1 = Declaration (one (Object 2 (one (part 0 (content (convert (integer_kind Long) (unary 3 Negate (number 3 5))))))))
+statement_1 = declaration (one (with_parts 2 (one (part 0 (content (convert (integer_kind Long) (unary 3 Negate (number 3 5))))))))
 
 statement_2 : Statement
-statement_2 = Expression (call 4 Void 1 (one (convert (integer_kind UnsignedLong) (change_plain 4 int (Arithmetic Add Int) 0 (number 4 5)))))
+statement_2 = expression_statement (call 4 Void 1 (one (convert (integer_kind UnsignedLong) (change_plain 4 int (Arithmetic Add Int) 0 (number 4 5)))))
 
 statement_3 : Statement
-statement_3 = Expression (call 4 Void 1 (one (convert (integer_kind UnsignedLong) (change_plain 4 int (Arithmetic Subtract Int) 0 (number 4 200)))))
+statement_3 = expression_statement (call 4 Void 1 (one (convert (integer_kind UnsignedLong) (change_plain 4 int (Arithmetic Subtract Int) 0 (number 4 200)))))
 
 statement_4 : Statement
-statement_4 = Expression (call 4 Void 1 (one (convert (integer_kind UnsignedLong) (change_plain 4 int (Arithmetic Multiply Int) 0 (number 4 3)))))
+statement_4 = expression_statement (call 4 Void 1 (one (convert (integer_kind UnsignedLong) (change_plain 4 int (Arithmetic Multiply Int) 0 (number 4 3)))))
 
 statement_5 : Statement
-statement_5 = Expression (call 4 Void 1 (one (convert (integer_kind UnsignedLong) (change_plain 4 int (Arithmetic Divide Int) 0 (number 4 4)))))
+statement_5 = expression_statement (call 4 Void 1 (one (convert (integer_kind UnsignedLong) (change_plain 4 int (Arithmetic Divide Int) 0 (number 4 4)))))
 
 statement_6 : Statement
-statement_6 = Expression (call 4 Void 1 (one (convert (integer_kind UnsignedLong) (change_plain 4 int (Arithmetic Remainder Int) 0 (number 4 7)))))
+statement_6 = expression_statement (call 4 Void 1 (one (convert (integer_kind UnsignedLong) (change_plain 4 int (Arithmetic Remainder Int) 0 (number 4 7)))))
 
 statement_7 : Statement
-statement_7 = Expression (call 4 Void 1 (one (convert (integer_kind UnsignedLong) (change_plain 4 int (Arithmetic ShiftLeft Int) 0 (number 4 4)))))
+statement_7 = expression_statement (call 4 Void 1 (one (convert (integer_kind UnsignedLong) (change_plain 4 int (Arithmetic ShiftLeft Int) 0 (number 4 4)))))
 
 statement_8 : Statement
-statement_8 = Expression (call 4 Void 1 (one (convert (integer_kind UnsignedLong) (change_plain 4 int (Arithmetic ShiftRight Int) 0 (number 4 2)))))
+statement_8 = expression_statement (call 4 Void 1 (one (convert (integer_kind UnsignedLong) (change_plain 4 int (Arithmetic ShiftRight Int) 0 (number 4 2)))))
 
 statement_9 : Statement
-statement_9 = Expression (call 4 Void 1 (one (convert (integer_kind UnsignedLong) (change_plain 4 int (Arithmetic BitAnd Int) 0 (number 4 255)))))
+statement_9 = expression_statement (call 4 Void 1 (one (convert (integer_kind UnsignedLong) (change_plain 4 int (Arithmetic BitAnd Int) 0 (number 4 255)))))
 
 statement_10 : Statement
-statement_10 = Expression (call 4 Void 1 (one (convert (integer_kind UnsignedLong) (change_plain 4 int (Arithmetic BitOr Int) 0 (number 4 256)))))
+statement_10 = expression_statement (call 4 Void 1 (one (convert (integer_kind UnsignedLong) (change_plain 4 int (Arithmetic BitOr Int) 0 (number 4 256)))))
 
 statement_11 : Statement
-statement_11 = Expression (call 4 Void 1 (one (convert (integer_kind UnsignedLong) (change_plain 4 int (Arithmetic BitXor Int) 0 (number 4 511)))))
+statement_11 = expression_statement (call 4 Void 1 (one (convert (integer_kind UnsignedLong) (change_plain 4 int (Arithmetic BitXor Int) 0 (number 4 511)))))
 
 statement_12 : Statement
-statement_12 = Expression (call 5 Void 1 (one (convert
+statement_12 = expression_statement (call 5 Void 1 (one (convert
     (integer_kind UnsignedLong)
     (change_plain 5
     (integer_kind UnsignedInt)
@@ -67,7 +65,7 @@ statement_12 = Expression (call 5 Void 1 (one (convert
     (convert (integer_kind UnsignedInt) (number 5 8))))))
 
 statement_13 : Statement
-statement_13 = Expression (call 5 Void 1 (one (convert
+statement_13 = expression_statement (call 5 Void 1 (one (convert
     (integer_kind UnsignedLong)
     (change_plain 5
     (integer_kind UnsignedInt)
@@ -76,48 +74,48 @@ statement_13 = Expression (call 5 Void 1 (one (convert
     (convert (integer_kind UnsignedInt) (number 5 2))))))
 
 statement_14 : Statement
-statement_14 = Expression (call 5 Void 1 (one (convert
+statement_14 = expression_statement (call 5 Void 1 (one (convert
     (integer_kind UnsignedLong)
     (change_plain 5
     (integer_kind UnsignedInt)
     (Arithmetic Multiply Long)
     1
-    (read (lvalue 5 (integer_kind Long) (Automatic 2)))))))
+    (read (lvalue 5 (integer_kind Long) (tree.automatic 2)))))))
 
 statement_15 : Statement
-statement_15 = Expression (call 5 Void 1 (one (convert (integer_kind UnsignedLong) (change_plain 5 (integer_kind Char) (Arithmetic Add Int) 3 (number 5 100)))))
+statement_15 = expression_statement (call 5 Void 1 (one (convert (integer_kind UnsignedLong) (change_plain 5 (integer_kind Char) (Arithmetic Add Int) 3 (number 5 100)))))
 
 statement_16 : Statement
-statement_16 = Expression (call 5 Void 1 (one (convert
+statement_16 = expression_statement (call 5 Void 1 (one (convert
     (integer_kind UnsignedLong)
     (change_plain 5 (integer_kind Char) (Arithmetic Multiply Int) 3 (convert int (plain 5 (integer_kind Char) 3))))))
 
 statement_17 : Statement
-statement_17 = Expression (call 5 Void 1 (one (convert (integer_kind UnsignedLong) (change_plain 5 (integer_kind Char) (Arithmetic ShiftRight Int) 3 (number 5 1)))))
+statement_17 = expression_statement (call 5 Void 1 (one (convert (integer_kind UnsignedLong) (change_plain 5 (integer_kind Char) (Arithmetic ShiftRight Int) 3 (number 5 1)))))
 
 statement_18 : Statement
-statement_18 = Expression (call 5 Void 1 (one (convert (integer_kind UnsignedLong) (change_plain 5 (integer_kind Char) (Arithmetic Subtract Int) 3 (number 5 1000)))))
+statement_18 = expression_statement (call 5 Void 1 (one (convert (integer_kind UnsignedLong) (change_plain 5 (integer_kind Char) (Arithmetic Subtract Int) 3 (number 5 1000)))))
 
 statement_19 : Statement
-statement_19 = Expression (call 6 Void 1 (one (convert
+statement_19 = expression_statement (call 6 Void 1 (one (convert
     (integer_kind UnsignedLong)
-    (compound 6 (Arithmetic Divide Int) (index 6 int (decay (lvalue 6 (Array 4) (Automatic 4))) (number 6 0)) (number 6 7)))))
+    (compound 6 (Arithmetic Divide Int) (index 6 int (decay (lvalue 6 (Array 4) (tree.automatic 4))) (number 6 0)) (number 6 7)))))
 
 statement_20 : Statement
-statement_20 = Expression (call 6 Void 1 (one (convert
+statement_20 = expression_statement (call 6 Void 1 (one (convert
     (integer_kind UnsignedLong)
-    (compound 6 (Arithmetic Remainder Int) (index 6 int (decay (lvalue 6 (Array 4) (Automatic 4))) (number 6 0)) (number 6 4)))))
+    (compound 6 (Arithmetic Remainder Int) (index 6 int (decay (lvalue 6 (Array 4) (tree.automatic 4))) (number 6 0)) (number 6 4)))))
 
 statement_21 : Statement
-statement_21 = Expression (call 6 Void 1 (one (convert
+statement_21 = expression_statement (call 6 Void 1 (one (convert
     (integer_kind UnsignedLong)
     (compound 6
     (Arithmetic ShiftLeft Int)
-    (index 6 int (decay (lvalue 6 (Array 4) (Automatic 4))) (number 6 0))
+    (index 6 int (decay (lvalue 6 (Array 4) (tree.automatic 4))) (number 6 0))
     (plain 6 (integer_kind UnsignedInt) 1)))))
 
 statement_22 : Statement
-statement_22 = Expression (call 6 Void 1 (one (convert
+statement_22 = expression_statement (call 6 Void 1 (one (convert
     (integer_kind UnsignedLong)
     (compound 6
     (Arithmetic Multiply Long)
@@ -125,21 +123,21 @@ statement_22 = Expression (call 6 Void 1 (one (convert
     (convert (integer_kind Long) (plain 6 (integer_kind Char) 3))))))
 
 statement_23 : Statement
-statement_23 = Expression (call 6 Void 1 (one (convert
+statement_23 = expression_statement (call 6 Void 1 (one (convert
     (integer_kind UnsignedLong)
     (compound 6 (Arithmetic ShiftRight Long) (deref 6 (integer_kind Long) (plain 6 pointer 5)) (number 6 1)))))
 
 statement_24 : Statement
-statement_24 = Expression (call 6 Void 1 (one (convert
+statement_24 = expression_statement (call 6 Void 1 (one (convert
     (integer_kind UnsignedLong)
     (compound 6 (Arithmetic BitXor Long)
     (parenthesized_lvalue (deref 6 (integer_kind Long) (plain 6 pointer 5)))
-    (read (lvalue 6 (integer_kind Long) (Automatic 2)))))))
+    (read (lvalue 6 (integer_kind Long) (tree.automatic 2)))))))
 
 statement_25 : Statement
-statement_25 = Expression (call 6 Void 1 (one (convert
+statement_25 = expression_statement (call 6 Void 1 (one (convert
     (integer_kind UnsignedLong)
-    (change_plain 6 int (Arithmetic Add Long) 0 (compound 6 (Arithmetic Add Long) (lvalue 6 (integer_kind Long) (Automatic 2)) (convert (integer_kind Long) (number 6 3)))))))
+    (change_plain 6 int (Arithmetic Add Long) 0 (compound 6 (Arithmetic Add Long) (lvalue 6 (integer_kind Long) (tree.automatic 2)) (convert (integer_kind Long) (number 6 3)))))))
 
 function_main : Function
 function_main = defined 3 0 none
@@ -150,13 +148,12 @@ function_main = defined 3 0 none
     (object_variable (Array 4))
     (plain_variable pointer))
     488
-    (vec_of
-    (Declaration (one (Plain 0 (number 3 100))) ∷
-    Declaration (one (Plain 1 (convert (integer_kind UnsignedInt) (number 3 7)))) ∷
+    (declaration (one (with_value 0 (number 3 100))) ∷
+    declaration (one (with_value 1 (convert (integer_kind UnsignedInt) (number 3 7)))) ∷
     statement_1 ∷
-    Declaration (one (Plain 3 (convert (integer_kind Char) (number 3 200)))) ∷
-    Declaration (one (Object 4 (one (part 0 (content (unary 3 Negate (number 3 100))))))) ∷
-    Declaration (one (Plain 5 (address 3 (lvalue 3 (integer_kind Long) (Automatic 2))))) ∷
+    declaration (one (with_value 3 (convert (integer_kind Char) (number 3 200)))) ∷
+    declaration (one (with_parts 4 (one (part 0 (content (unary 3 Negate (number 3 100))))))) ∷
+    declaration (one (with_value 5 (address 3 (lvalue 3 (integer_kind Long) (tree.automatic 2))))) ∷
     statement_2 ∷
     statement_3 ∷
     statement_4 ∷
@@ -181,8 +178,7 @@ function_main = defined 3 0 none
     statement_23 ∷
     statement_24 ∷
     statement_25 ∷
-    Return (Some (number 6 0)) ∷ [])
-    (lit< tt))
+    return (Some (number 6 0)) ∷ [])
 
 program : Program
 program = program_of (one hex_digits) (two main_type put_type) (three put_digits put_number function_main) 2

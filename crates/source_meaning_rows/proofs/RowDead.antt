@@ -1,14 +1,14 @@
 -- `char b[8]="bcd";int main(void){char*p;p=malloc(4);free(p);E;return 0;}` for each E that is named: every routine at an object
 -- that is dead. The heap has 4096 bytes.
-use Rattle.std.proofs.Common.{◌≡◌, [], refl, lit<, Option, Some}
-use Rattle.std.specs.Prelude.{codes}
 use Rattle.behaviours.specs.Shown.{End, Status}
-use Rattle.c_tree.specs.declared.expression.Expression.{Expression}
-use Rattle.c_tree.specs.declared.program.Program.{Program}
-use Rattle.c_tree.specs.declared.statement.Statement.{Return}
+use Rattle.c_tree.specs.Programs.{Program}
+use Rattle.c_tree.specs.Statements.{return}
+use Rattle.c_tree.specs.Tree.{Expression}
 use Rattle.source_meaning.specs.Meaning.{meaning}
-use Rattle.source_meaning.proofs.Samples.{computing, vec_of, one, four, number, pointer, plain_variable}
-use Rattle.source_meaning.proofs.LibrarySamples.{chars, array, ahead, small_heap, memcpy, memmove, memset, memcmp, strlen, strcmp, strcpy, strncpy, strcat, strchr, puts, malloc, realloc, free, printf, plain, set, perform, program_of}
+use Rattle.source_meaning_rows.proofs.LibrarySamples.{ahead, array, chars, free, malloc, memcmp, memcpy, memmove, memset, perform, plain, printf, program_of, puts, realloc, set, small_heap, strcat, strchr, strcmp, strcpy, strlen, strncpy}
+use Rattle.source_meaning_rows.proofs.Samples.{computing, four, number, one, plain_variable, pointer}
+use Rattle.std.proofs.Common.{◌≡◌, [], refl, Option, Some}
+use Rattle.std.specs.Prelude.{codes}
 
 p : Expression
 p = plain 0
@@ -17,8 +17,8 @@ b : Expression
 b = array 0 8
 
 program : Expression → Program
-program e = program_of (one (chars 8 (vec_of (codes "bcd") (lit< tt)))) (one (plain_variable pointer))
-    (four (set 0 (malloc 4)) (perform (free p)) (perform e) (Return (Some (number 1 0))))
+program e = program_of (one (chars 8 (codes "bcd"))) (one (plain_variable pointer))
+    (four (set 0 (malloc 4)) (perform (free p)) (perform e) (return (Some (number 1 0))))
 
 ending : Expression → Option End
 ending e = (meaning (program e) small_heap [] 1).shown.ending
@@ -134,7 +134,7 @@ unfolding ending program p b computing
 puts_dead = refl
 
 -- `printf("%s",p)`
-printf_dead : ending (printf (vec_of (codes "%s") (lit< tt)) (one p)) ≡ Some (Status 121)
+printf_dead : ending (printf (codes "%s") (one p)) ≡ Some (Status 121)
 unfolding ending program p b computing
 printf_dead = refl
 

@@ -2,30 +2,28 @@
 -- the initializer 5 (4 bytes become zero, and a node), the return 3; the report 37. The text is rows/dead_frame.c.
 --     int*f(void){int x=5;return &x;}
 --     int main(void){return *f();}
-use Rattle.std.proofs.Common.{Some, [], refl, true, ◌∷◌, ◌≡◌}
-use Rattle.std.specs.Prelude.{codes}
+use Rattle.c_tree.specs.Programs.{Program, Function}
+use Rattle.c_tree.specs.Statements.{declaration, return}
+use Rattle.c_tree.specs.Tree as tree
 use Rattle.c_tree.specs.ValidProgram.{is_valid_program}
 use Rattle.c_tree.specs.declared.c_type.TypeWord.TheVariants.{Gives, Integer as IntegerWord, Pointer as PointerWord}
-use Rattle.c_tree.specs.declared.expression.LvalueNode.{Automatic}
-use Rattle.c_tree.specs.declared.program.Function.{Function}
-use Rattle.c_tree.specs.declared.program.Program.{Program}
-use Rattle.c_tree.specs.declared.statement.Initialization.TheVariants.{Object}
-use Rattle.c_tree.specs.declared.statement.Statement.{Declaration, Return}
 use Rattle.obj_memory.specs.declared.int_type.IntType.TheVariants.{Int}
 use Rattle.sb_base.specs.Budgets.{default_sizes}
-use Rattle.source_meaning.proofs.Samples.{address, call, computing, content, counts, defined, deref, function_type, int, lvalue, main_type, none, number, object_variable, one, part, pointer, program_of, read, seen, stopped, two, writes}
 use Rattle.source_meaning.specs.Meaning.{meaning}
+use Rattle.source_meaning_rows.proofs.Samples.{address, call, computing, content, counts, defined, deref, function_type, int, lvalue, main_type, none, number, object_variable, one, part, pointer, program_of, read, seen, stopped, two, with_parts, writes}
+use Rattle.std.proofs.Common.{Some, [], refl, true, ◌∷◌, ◌≡◌}
+use Rattle.std.specs.Prelude.{codes}
 
 function_f : Function
 function_f = defined 1 1 none
     (one (object_variable int))
     208
     (two
-    (Declaration (one (Object 0 (one (part 0 (content (number 1 5)))))))
-    (Return (Some (address 1 (lvalue 1 int (Automatic 0))))))
+    (declaration (one (with_parts 0 (one (part 0 (content (number 1 5)))))))
+    (return (Some (address 1 (lvalue 1 int (tree.automatic 0))))))
 
 function_main : Function
-function_main = defined 2 0 none none 168 (one (Return (Some (read (deref 2 int (call 2 pointer 0 none))))))
+function_main = defined 2 0 none none 168 (one (return (Some (read (deref 2 int (call 2 pointer 0 none))))))
 
 program : Program
 program = program_of none

@@ -2,33 +2,33 @@
 --     int main(void){int a[1];int z=0;a[0]=7;
 --     a[0]
 --     %=z;return 0;}
-use Rattle.std.proofs.Common.{Some, [], refl, true, ◌∷◌, ◌≡◌}
-use Rattle.std.specs.Prelude.{codes}
+use Rattle.c_tree.specs.Programs.{Program}
+use Rattle.c_tree.specs.Statements.{Statement, expression_statement, declaration, return}
+use Rattle.c_tree.specs.Tree as tree
 use Rattle.c_tree.specs.ValidProgram.{is_valid_program}
 use Rattle.c_tree.specs.declared.expression.Kind.TheVariants.{Array}
-use Rattle.c_tree.specs.declared.expression.LvalueNode.{Automatic}
 use Rattle.c_tree.specs.declared.expression.Update.TheVariants.{Arithmetic}
-use Rattle.c_tree.specs.declared.program.Program.{Program}
-use Rattle.c_tree.specs.declared.statement.Initialization.TheVariants.{Plain}
-use Rattle.c_tree.specs.declared.statement.Statement.{Declaration, Expression, Return, Statement}
 use Rattle.obj_memory.specs.declared.int_type.IntType.TheVariants.{Int}
 use Rattle.obj_memory.specs.declared.operator.BinaryOperator.TheVariants.{Remainder}
 use Rattle.sb_base.specs.Budgets.{default_sizes}
-use Rattle.source_meaning.proofs.Samples.{assign, compound, computing, decay, four, index, int, lvalue, main_alone, none, number, object_variable, one, plain, plain_variable, reads, seen, stopped, two, writes}
 use Rattle.source_meaning.specs.Meaning.{meaning}
+use Rattle.source_meaning_rows.proofs.Samples.{assign, compound, computing, decay, four, index, int, lvalue, main_alone, none, number, object_variable, one, plain, plain_variable, reads, seen, stopped, two, with_value, writes, without_value}
+use Rattle.std.proofs.Common.{Some, [], refl, true, ◌∷◌, ◌≡◌}
+use Rattle.std.specs.Prelude.{codes}
 
 statement_1 : Statement
-statement_1 = Expression (compound 3 (Arithmetic Remainder Int) (index 2 int (decay (lvalue 2 (Array 4) (Automatic 0))) (number 2 0)) (plain 3 int 1))
+statement_1 = expression_statement (compound 3 (Arithmetic Remainder Int) (index 2 int (decay (lvalue 2 (Array 4) (tree.automatic 0))) (number 2 0)) (plain 3 int 1))
 
 program : Program
 program = main_alone none
     (two (object_variable (Array 4)) (plain_variable int))
     288
-    (four
-    (Declaration (one (Plain 1 (number 1 0))))
-    (Expression (assign 1 (index 1 int (decay (lvalue 1 (Array 4) (Automatic 0))) (number 1 0)) (number 1 7)))
-    statement_1
-    (Return (Some (number 3 0))))
+    ((declaration (without_value 0 ∷ []))
+    ∷ (declaration (one (with_value 1 (number 1 0))))
+    ∷ (expression_statement (assign 1 (index 1 int (decay (lvalue 1 (Array 4) (tree.automatic 0))) (number 1 0)) (number 1 7)))
+    ∷ statement_1
+    ∷ (return (Some (number 3 0)))
+    ∷ [])
 
 run : seen (meaning program default_sizes [] 20) ≡ stopped [] (codes "sbcets: division by zero at line 3\n") 124
 unfolding program statement_1 computing

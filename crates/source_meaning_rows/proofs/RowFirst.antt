@@ -1,22 +1,22 @@
 -- `int main(void){putchar(72);putchar(105);return 7;}`: hi and status 7. Work: 4 statements (the body is one), 5 nodes, 3
 -- calls, 2 bytes.
 -- The text is rows/first.c; gcc 12.2.0 gives the same output and status.
-use Rattle.std.proofs.Common.{◌≡◌, ℕ, [], ◌∷◌, refl, true, Some, None}
 use Rattle.behaviours.specs.Shown.{Status}
-use Rattle.sb_base.specs.Budgets.{default_sizes}
-use Rattle.c_tree.specs.declared.expression.Routine.TheVariants.{Putchar}
-use Rattle.c_tree.specs.declared.expression.Node.{Library}
-use Rattle.c_tree.specs.declared.program.Program.{Program}
-use Rattle.c_tree.specs.declared.statement.Statement.{Statement, Expression, Return}
+use Rattle.c_tree.specs.Programs.{Program}
+use Rattle.c_tree.specs.Statements.{Statement, expression_statement, return}
+use Rattle.c_tree.specs.Tree as tree
 use Rattle.c_tree.specs.ValidProgram.{is_valid_program}
+use Rattle.c_tree.specs.declared.expression.Routine.TheVariants.{Putchar}
+use Rattle.sb_base.specs.Budgets.{default_sizes}
 use Rattle.source_meaning.specs.Meaning.{meaning}
-use Rattle.source_meaning.proofs.Samples.{computing, none, one, three, at, int, number, main_alone}
+use Rattle.source_meaning_rows.proofs.Samples.{at, computing, int, main_alone, none, number, one, three}
+use Rattle.std.proofs.Common.{◌≡◌, ℕ, [], ◌∷◌, refl, true, Some, None}
 
 put : ℕ → Statement
-put n = Expression (at 1 int (Library Putchar (one (number 1 n))))
+put n = expression_statement (at 1 int (tree.library Putchar (one (number 1 n))))
 
 program : Program
-program = main_alone none none 168 (three (put 72) (put 105) (Return (Some (number 1 7))))
+program = main_alone none none 168 (three (put 72) (put 105) (return (Some (number 1 7))))
 
 output : (meaning program default_sizes [] 9).shown.output ≡ 72 ∷ 105 ∷ []
 unfolding program put computing

@@ -1,16 +1,16 @@
 -- `char b[8];int main(void){char*p;p=malloc(4);E;return 0;}` for each E that is named: what can be freed and replaced, and what
 -- ends with 123. The heap has 4096 bytes.
-use Rattle.std.proofs.Common.{◌≡◌, [], ◌∷◌, refl, true, Option, Some}
-use Rattle.std.specs.List.{list_all}
 use Rattle.behaviours.specs.Shown.{End, Status}
-use Rattle.c_tree.specs.declared.expression.Expression.{Expression}
-use Rattle.c_tree.specs.declared.expression.Node.{Cast, Function}
-use Rattle.c_tree.specs.declared.program.Program.{Program}
-use Rattle.c_tree.specs.declared.statement.Statement.{Return}
+use Rattle.c_tree.specs.Programs.{Program, Function}
+use Rattle.c_tree.specs.Statements.{return}
+use Rattle.c_tree.specs.Tree as tree
+use Rattle.c_tree.specs.Tree.{Expression}
 use Rattle.c_tree.specs.ValidProgram.{is_valid_program}
 use Rattle.source_meaning.specs.Meaning.{meaning}
-use Rattle.source_meaning.proofs.Samples.{computing, box, one, three, at, number, pointer, plain_variable}
-use Rattle.source_meaning.proofs.LibrarySamples.{zero_chars, array, ahead, null, small_heap, malloc, realloc, free, plain, set, perform, program_of}
+use Rattle.source_meaning_rows.proofs.LibrarySamples.{ahead, array, free, malloc, null, perform, plain, program_of, realloc, set, small_heap, zero_chars}
+use Rattle.source_meaning_rows.proofs.Samples.{at, computing, number, one, plain_variable, pointer, three}
+use Rattle.std.proofs.Common.{◌≡◌, [], ◌∷◌, refl, true, Option, Some}
+use Rattle.std.specs.List.{list_all}
 
 p : Expression
 p = plain 0
@@ -20,7 +20,7 @@ b = array 0 8
 
 program : Expression → Program
 program e = program_of (one (zero_chars 8)) (one (plain_variable pointer))
-    (three (set 0 (malloc 4)) (perform e) (Return (Some (number 1 0))))
+    (three (set 0 (malloc 4)) (perform e) (return (Some (number 1 0))))
 
 ending : Expression → Option End
 ending e = (meaning (program e) small_heap [] 1).shown.ending
@@ -51,12 +51,12 @@ unfolding ending program p b computing
 free_static = refl
 
 -- `free((void*)1)`: no tag
-free_untagged : ending (free (at 1 pointer (Cast (box (number 1 1))))) ≡ Some (Status 123)
+free_untagged : ending (free (at 1 pointer (Cast (number 1 1)))) ≡ Some (Status 123)
 unfolding ending program p b computing
 free_untagged = refl
 
 -- `free((void*)main)`: a function
-free_function : ending (free (at 1 pointer (Cast (box (at 1 pointer (Function 0)))))) ≡ Some (Status 123)
+free_function : ending (free (at 1 pointer (Cast ((at 1 pointer (Function 0)))))) ≡ Some (Status 123)
 unfolding ending program p b computing
 free_function = refl
 
@@ -86,11 +86,11 @@ unfolding ending program p b computing
 realloc_static = refl
 
 -- `realloc((void*)1,8)`
-realloc_untagged : ending (realloc (at 1 pointer (Cast (box (number 1 1)))) 8) ≡ Some (Status 123)
+realloc_untagged : ending (realloc (at 1 pointer (Cast (number 1 1))) 8) ≡ Some (Status 123)
 unfolding ending program p b computing
 realloc_untagged = refl
 
 valid : list_all (λ e. is_valid_program (program e))
-    (free p ∷ free null ∷ free (at 1 pointer (Cast (box (number 1 1)))) ∷ free (at 1 pointer (Cast (box (at 1 pointer (Function 0))))) ∷ realloc p 8 ∷ []) ≡ true
+    (free p ∷ free null ∷ free (at 1 pointer (tree.cast (number 1 1))) ∷ free (at 1 pointer (tree.cast ((at 1 pointer (tree.function 0))))) ∷ realloc p 8 ∷ []) ≡ true
 unfolding program p b computing
 valid = refl

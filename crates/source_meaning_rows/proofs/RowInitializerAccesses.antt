@@ -2,33 +2,31 @@
 -- A string is stored byte by byte, the final 0 too where it fits. Work: the call and the body 2; the objects placed 5
 -- and 9; the first initializer 5, 4 bytes and a node, the second 9; the return 8. The text is
 -- rows/initializer_accesses.c; gcc 12.2.0 gives the same output and status.
-use Rattle.std.proofs.Common.{Some, [], lit<, refl, true, ◌++◌, ◌∷◌, ◌≡◌}
-use Rattle.std.specs.Prelude.{codes}
+use Rattle.c_tree.specs.Programs.{Program}
+use Rattle.c_tree.specs.Statements.{Statement, declaration, return, literal_content}
+use Rattle.c_tree.specs.Tree as tree
 use Rattle.c_tree.specs.ValidProgram.{is_valid_program}
 use Rattle.c_tree.specs.declared.expression.Kind.TheVariants.{Array}
-use Rattle.c_tree.specs.declared.expression.LvalueNode.{Automatic}
-use Rattle.c_tree.specs.declared.program.Program.{Program}
-use Rattle.c_tree.specs.declared.statement.Content.TheVariants.{Literal}
-use Rattle.c_tree.specs.declared.statement.Initialization.TheVariants.{Object}
-use Rattle.c_tree.specs.declared.statement.Statement.{Declaration, Return, Statement}
 use Rattle.obj_memory.specs.declared.int_type.IntType.TheVariants.{Char}
 use Rattle.obj_memory.specs.declared.operator.BinaryOperator.TheVariants.{Add}
 use Rattle.sb_base.specs.Budgets.{default_sizes}
-use Rattle.source_meaning.proofs.Samples.{binary, computing, content, convert, counts, decay, exited, index, int, integer_kind, lvalue, main_alone, none, number, object_variable, one, part, read, reads, seen, three, two, vec_of, writes}
 use Rattle.source_meaning.specs.Meaning.{meaning}
+use Rattle.source_meaning_rows.proofs.Samples.{binary, computing, content, convert, counts, decay, exited, index, int, integer_kind, lvalue, main_alone, none, number, object_variable, one, part, read, reads, seen, three, two, with_parts, writes}
+use Rattle.std.proofs.Common.{Some, [], refl, true, ◌++◌, ◌∷◌, ◌≡◌}
+use Rattle.std.specs.Prelude.{codes}
 
 statement_1 : Statement
-statement_1 = Return (Some (binary 1 Add
-    (convert int (read (index 1 (integer_kind Char) (decay (lvalue 1 (Array 4) (Automatic 0))) (number 1 1))))
-    (read (index 1 int (decay (lvalue 1 (Array 8) (Automatic 1))) (number 1 0)))))
+statement_1 = return (Some (binary 1 Add
+    (convert int (read (index 1 (integer_kind Char) (decay (lvalue 1 (Array 4) (tree.automatic 0))) (number 1 1))))
+    (read (index 1 int (decay (lvalue 1 (Array 8) (tree.automatic 1))) (number 1 0)))))
 
 program : Program
 program = main_alone none
     (two (object_variable (Array 4)) (object_variable (Array 8)))
     328
     (three
-    (Declaration (one (Object 0 (one (part 0 (Literal (vec_of (codes "hi" ++ 0 ∷ []) (lit< tt))))))))
-    (Declaration (one (Object 1 (one (part 4 (content (number 1 7)))))))
+    (declaration (one (with_parts 0 (one (part 0 (literal_content (codes "hi" ++ 0 ∷ [])))))))
+    (declaration (one (with_parts 1 (one (part 4 (content (number 1 7)))))))
     statement_1)
 
 run : seen (meaning program default_sizes [] 20) ≡ exited [] 105

@@ -6,69 +6,66 @@
 --     p((int)2147483647L);p((int)2147483648L);p((int)4294967295L);p((int)4294967296L);
 --     p((unsigned)-1);p((unsigned)4294967296L);p((long)(unsigned)-1);p((long)-1);p((unsigned long)-1);
 --     p((long long)-2147483648L);p((unsigned long long)(signed char)-1);p((unsigned)(short)-1);p((long)(unsigned short)-1);return 0;}
-use Rattle.std.proofs.Common.{Some, [], lit<, refl, true, ◌∷◌, ◌≡◌}
-use Rattle.std.specs.Prelude.{codes}
+use Rattle.c_tree.specs.Programs.{Program, Function}
+use Rattle.c_tree.specs.Statements.{Statement, expression_statement, return}
 use Rattle.c_tree.specs.ValidProgram.{is_valid_program}
 use Rattle.c_tree.specs.declared.expression.Kind.TheVariants.{Void}
-use Rattle.c_tree.specs.declared.program.Function.{Function}
-use Rattle.c_tree.specs.declared.program.Program.{Program}
-use Rattle.c_tree.specs.declared.statement.Statement.{Expression, Return, Statement}
 use Rattle.obj_memory.specs.declared.int_type.IntType.TheVariants.{Long, LongLong, Short, SignedChar, UnsignedInt, UnsignedLong, UnsignedLongLong, UnsignedShort}
 use Rattle.obj_memory.specs.declared.operator.UnaryOperator.TheVariants.{Negate}
 use Rattle.sb_base.specs.Budgets.{default_sizes}
-use Rattle.source_meaning.proofs.Hexadecimal.{hex_digits, put_digits, put_number, put_type}
-use Rattle.source_meaning.proofs.Samples.{call, cast, computing, constant, convert, defined, exited, int, integer_kind, main_type, none, number, one, program_of, seen, three, two, unary, vec_of}
 use Rattle.source_meaning.specs.Meaning.{meaning}
+use Rattle.source_meaning_rows.proofs.Hexadecimal.{hex_digits, put_digits, put_number, put_type}
+use Rattle.source_meaning_rows.proofs.Samples.{call, cast, computing, constant, convert, defined, exited, int, integer_kind, main_type, none, number, one, program_of, seen, three, two, unary}
+use Rattle.std.proofs.Common.{Some, [], refl, true, ◌∷◌, ◌≡◌}
+use Rattle.std.specs.Prelude.{codes}
 
 statement_1 : Statement
-statement_1 = Expression (call 5 Void 1 (one (convert (integer_kind UnsignedLong) (cast 5 (integer_kind UnsignedInt) (unary 5 Negate (number 5 1))))))
+statement_1 = expression_statement (call 5 Void 1 (one (convert (integer_kind UnsignedLong) (cast 5 (integer_kind UnsignedInt) (unary 5 Negate (number 5 1))))))
 
 statement_2 : Statement
-statement_2 = Expression (call 5 Void 1 (one (convert (integer_kind UnsignedLong) (cast 5 (integer_kind UnsignedInt) (constant Long 5 4294967296)))))
+statement_2 = expression_statement (call 5 Void 1 (one (convert (integer_kind UnsignedLong) (cast 5 (integer_kind UnsignedInt) (constant Long 5 4294967296)))))
 
 statement_3 : Statement
-statement_3 = Expression (call 5 Void 1 (one (convert
+statement_3 = expression_statement (call 5 Void 1 (one (convert
     (integer_kind UnsignedLong)
     (cast 5 (integer_kind Long) (cast 5 (integer_kind UnsignedInt) (unary 5 Negate (number 5 1)))))))
 
 statement_4 : Statement
-statement_4 = Expression (call 5 Void 1 (one (convert (integer_kind UnsignedLong) (cast 5 (integer_kind Long) (unary 5 Negate (number 5 1))))))
+statement_4 = expression_statement (call 5 Void 1 (one (convert (integer_kind UnsignedLong) (cast 5 (integer_kind Long) (unary 5 Negate (number 5 1))))))
 
 statement_5 : Statement
-statement_5 = Expression (call 6 Void 1 (one (convert (integer_kind UnsignedLong) (cast 6 (integer_kind LongLong) (unary 6 Negate (constant Long 6 2147483648))))))
+statement_5 = expression_statement (call 6 Void 1 (one (convert (integer_kind UnsignedLong) (cast 6 (integer_kind LongLong) (unary 6 Negate (constant Long 6 2147483648))))))
 
 statement_6 : Statement
-statement_6 = Expression (call 6 Void 1 (one (convert
+statement_6 = expression_statement (call 6 Void 1 (one (convert
     (integer_kind UnsignedLong)
     (cast 6 (integer_kind UnsignedLongLong) (cast 6 (integer_kind SignedChar) (unary 6 Negate (number 6 1)))))))
 
 statement_7 : Statement
-statement_7 = Expression (call 6 Void 1 (one (convert
+statement_7 = expression_statement (call 6 Void 1 (one (convert
     (integer_kind UnsignedLong)
     (cast 6 (integer_kind UnsignedInt) (cast 6 (integer_kind Short) (unary 6 Negate (number 6 1)))))))
 
 statement_8 : Statement
-statement_8 = Expression (call 6 Void 1 (one (convert
+statement_8 = expression_statement (call 6 Void 1 (one (convert
     (integer_kind UnsignedLong)
     (cast 6 (integer_kind Long) (cast 6 (integer_kind UnsignedShort) (unary 6 Negate (number 6 1)))))))
 
 function_main : Function
-function_main = defined 3 0 none none 168 (vec_of
-    (Expression (call 4 Void 1 (one (convert (integer_kind UnsignedLong) (cast 4 int (constant Long 4 2147483647))))) ∷
-    Expression (call 4 Void 1 (one (convert (integer_kind UnsignedLong) (cast 4 int (constant Long 4 2147483648))))) ∷
-    Expression (call 4 Void 1 (one (convert (integer_kind UnsignedLong) (cast 4 int (constant Long 4 4294967295))))) ∷
-    Expression (call 4 Void 1 (one (convert (integer_kind UnsignedLong) (cast 4 int (constant Long 4 4294967296))))) ∷
+function_main = defined 3 0 none none 168 (expression_statement (call 4 Void 1 (one (convert (integer_kind UnsignedLong) (cast 4 int (constant Long 4 2147483647))))) ∷
+    expression_statement (call 4 Void 1 (one (convert (integer_kind UnsignedLong) (cast 4 int (constant Long 4 2147483648))))) ∷
+    expression_statement (call 4 Void 1 (one (convert (integer_kind UnsignedLong) (cast 4 int (constant Long 4 4294967295))))) ∷
+    expression_statement (call 4 Void 1 (one (convert (integer_kind UnsignedLong) (cast 4 int (constant Long 4 4294967296))))) ∷
     statement_1 ∷
     statement_2 ∷
     statement_3 ∷
     statement_4 ∷
-    Expression (call 5 Void 1 (one (cast 5 (integer_kind UnsignedLong) (unary 5 Negate (number 5 1))))) ∷
+    expression_statement (call 5 Void 1 (one (cast 5 (integer_kind UnsignedLong) (unary 5 Negate (number 5 1))))) ∷
     statement_5 ∷
     statement_6 ∷
     statement_7 ∷
     statement_8 ∷
-    Return (Some (number 6 0)) ∷ [])
-    (lit< tt))
+    return (Some (number 6 0)) ∷ [])
 
 program : Program
 program = program_of (one hex_digits) (two main_type put_type) (three put_digits put_number function_main) 2

@@ -1,16 +1,16 @@
 -- `char a[4];char b[8]="bcd";char c[2]="xy";int main(void){E;return 0;}` for each E that is named: the work. Without E's nodes it
 -- is 5: the call of `main`, its body, two statements and a node; 3 where E ends the run. E's nodes and its call come next, then
 -- what the routine does. The heap has 4096 bytes.
-use Rattle.std.proofs.Common.{◌≡◌, ℕ, ◌+◌, ◌*◌, [], ◌∷◌, refl, true, lit<, length, Some}
-use Rattle.std.specs.Prelude.{codes}
-use Rattle.std.specs.List.{list_all}
-use Rattle.c_tree.specs.declared.expression.Expression.{Expression}
-use Rattle.c_tree.specs.declared.program.Program.{Program}
-use Rattle.c_tree.specs.declared.statement.Statement.{Return}
+use Rattle.c_tree.specs.Programs.{Program}
+use Rattle.c_tree.specs.Statements.{return}
+use Rattle.c_tree.specs.Tree.{Expression}
 use Rattle.c_tree.specs.ValidProgram.{is_valid_program}
 use Rattle.source_meaning.specs.Meaning.{meaning}
-use Rattle.source_meaning.proofs.Samples.{computing, vec_of, none, one, two, three, number}
-use Rattle.source_meaning.proofs.LibrarySamples.{zero_chars, chars, array, ahead, size, small_heap, memcpy, memmove, memset, memcmp, strlen, strcmp, strcpy, strncpy, strcat, strchr, puts, malloc, calloc, realloc, free, printf, perform, program_of}
+use Rattle.source_meaning_rows.proofs.LibrarySamples.{ahead, array, calloc, chars, free, malloc, memcmp, memcpy, memmove, memset, perform, printf, program_of, puts, realloc, size, small_heap, strcat, strchr, strcmp, strcpy, strlen, strncpy, zero_chars}
+use Rattle.source_meaning_rows.proofs.Samples.{computing, none, number, one, three, two}
+use Rattle.std.proofs.Common.{◌≡◌, ℕ, ◌+◌, ◌*◌, [], ◌∷◌, refl, true, length, Some}
+use Rattle.std.specs.List.{list_all}
+use Rattle.std.specs.Prelude.{codes}
 
 a : Expression
 a = array 0 4
@@ -22,7 +22,7 @@ c : Expression
 c = array 2 2
 
 program : Expression → Program
-program e = program_of (three (zero_chars 4) (chars 8 (vec_of (codes "bcd") (lit< tt))) (chars 2 (vec_of (codes "xy") (lit< tt)))) none (two (perform e) (Return (Some (number 1 0))))
+program e = program_of (three (zero_chars 4) (chars 8 (codes "bcd")) (chars 2 (codes "xy"))) none (two (perform e) (return (Some (number 1 0))))
 
 work : Expression → ℕ
 work e = (meaning (program e) small_heap [] 1).work
@@ -98,7 +98,7 @@ unfolding work program a b c computing
 puts_bytes = refl
 
 -- `printf("%s!",b)`, of which the format is a node: four bytes scanned and four put
-printf_bytes : work (printf (vec_of (codes "%s!") (lit< tt)) (one b)) ≡ 5 + 4 + 4 + 4
+printf_bytes : work (printf (codes "%s!") (one b)) ≡ 5 + 4 + 4 + 4
 unfolding work program a b c computing
 printf_bytes = refl
 

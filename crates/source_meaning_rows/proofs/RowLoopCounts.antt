@@ -3,35 +3,36 @@
 -- for each of 4 conditions, 2 for each of 3 steps, 1 for each of 3 bodies; while 1, 1 for each of 4 conditions, 3 for
 -- each of 3 bodies; do 1, its body 1, its condition 1; the last while 2; the return 2. The text is rows/loop_counts.c;
 -- gcc 12.2.0 gives the same output and status.
-use Rattle.std.proofs.Common.{Some, [], refl, true, ◌≡◌}
+use Rattle.c_tree.specs.Programs.{Program}
+use Rattle.c_tree.specs.Statements.{Statement, expression_statement, empty, while_do, do_while, for, return, first_expression, declaration}
 use Rattle.c_tree.specs.ValidProgram.{is_valid_program}
 use Rattle.c_tree.specs.declared.expression.Fixity.TheVariants.{Postfix}
 use Rattle.c_tree.specs.declared.expression.Update.TheVariants.{Arithmetic}
-use Rattle.c_tree.specs.declared.program.Program.{Program}
-use Rattle.c_tree.specs.declared.statement.First.TheVariants.{Expression as FirstExpression}
-use Rattle.c_tree.specs.declared.statement.Statement.{DoWhile, Empty, Expression, For, Return, Statement, While}
 use Rattle.obj_memory.specs.declared.int_type.IntType.TheVariants.{Int}
 use Rattle.obj_memory.specs.declared.operator.BinaryOperator.TheVariants.{Add, Less, Subtract}
 use Rattle.sb_base.specs.Budgets.{default_sizes}
-use Rattle.source_meaning.proofs.Samples.{box, compare, computing, counts, exited, five, int, main_alone, none, number, one, plain, plain_variable, seen, set_plain, step_plain}
 use Rattle.source_meaning.specs.Meaning.{meaning}
+use Rattle.source_meaning_rows.proofs.Samples.{compare, computing, counts, exited, five, int, main_alone, none, number, one, plain, plain_variable, seen, set_plain, step_plain, without_value}
+use Rattle.std.proofs.Common.{Some, [], refl, true, ◌≡◌, ◌∷◌}
 
 statement_1 : Statement
-statement_1 = For
-    (FirstExpression (set_plain 1 0 (number 1 0)))
+statement_1 = for 1
+    (first_expression (set_plain 1 0 (number 1 0)))
     (Some (compare 1 Less (plain 1 int 0) (number 1 3)))
     (Some (step_plain 1 int (Arithmetic Add Int) Postfix 0))
-    (box Empty)
+    (empty)
 
 program : Program
 program = main_alone none
     (one (plain_variable int))
     248
-    (five statement_1
-    (While (plain 1 int 0) (box (Expression (step_plain 1 int (Arithmetic Subtract Int) Postfix 0))))
-    (DoWhile (box Empty) (number 1 0))
-    (While (number 1 0) (box Empty))
-    (Return (Some (plain 1 int 0))))
+    ((declaration (without_value 0 ∷ []))
+    ∷ statement_1
+    ∷ (while_do (plain 1 int 0) ((expression_statement (step_plain 1 int (Arithmetic Subtract Int) Postfix 0))))
+    ∷ (do_while (empty) (number 1 0))
+    ∷ (while_do (number 1 0) (empty))
+    ∷ (return (Some (plain 1 int 0)))
+    ∷ [])
 
 run : seen (meaning program default_sizes [] 20) ≡ exited [] 0
 unfolding program statement_1 computing

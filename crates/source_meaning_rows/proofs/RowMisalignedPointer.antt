@@ -1,29 +1,28 @@
 -- `int x=9;int main(void){char b[16];int**q=(int**)(b+1);*q=&x;return **q;}`
 -- A pointer stored at an address that is no multiple of 8 leaves no tag. The text is rows/misaligned_pointer.c.
-use Rattle.std.proofs.Common.{Some, [], refl, true, ◌∷◌, ◌≡◌}
-use Rattle.std.specs.Prelude.{codes}
+use Rattle.c_tree.specs.Programs.{Program}
+use Rattle.c_tree.specs.Statements.{Statement, expression_statement, declaration, return}
+use Rattle.c_tree.specs.Tree as tree
 use Rattle.c_tree.specs.ValidProgram.{is_valid_program}
 use Rattle.c_tree.specs.declared.expression.Kind.TheVariants.{Array}
-use Rattle.c_tree.specs.declared.expression.LvalueNode.{Automatic, Static}
 use Rattle.c_tree.specs.declared.expression.OffsetForm.TheVariants.{PointerPlusIndex}
-use Rattle.c_tree.specs.declared.program.Program.{Program}
-use Rattle.c_tree.specs.declared.statement.Initialization.TheVariants.{Plain}
-use Rattle.c_tree.specs.declared.statement.Statement.{Declaration, Expression, Return, Statement}
 use Rattle.sb_base.specs.Budgets.{default_sizes}
-use Rattle.source_meaning.proofs.Samples.{address, assign, cast, computing, content, decay, deref, int, lvalue, main_alone, number, object_variable, offset, one, parenthesized, part, plain, plain_variable, pointer, read, reads, seen, static, stopped, three, two, writes}
 use Rattle.source_meaning.specs.Meaning.{meaning}
+use Rattle.source_meaning_rows.proofs.Samples.{address, assign, cast, computing, content, decay, deref, int, lvalue, main_alone, number, object_variable, offset, one, parenthesized, part, plain, plain_variable, pointer, read, reads, seen, static_object, stopped, three, two, with_value, writes}
+use Rattle.std.proofs.Common.{Some, [], refl, true, ◌∷◌, ◌≡◌}
+use Rattle.std.specs.Prelude.{codes}
 
 statement_1 : Statement
-statement_1 = Declaration (one (Plain 1 (cast 1 pointer (parenthesized (offset 1 PointerPlusIndex 1 (decay (lvalue 1 (Array 16) (Automatic 0))) (number 1 1))))))
+statement_1 = declaration (one (with_value 1 (cast 1 pointer (parenthesized (offset 1 PointerPlusIndex 1 (decay (lvalue 1 (Array 16) (tree.automatic 0))) (number 1 1))))))
 
 program : Program
 program = main_alone
-    (one (static int (one (part 0 (content (number 1 9))))))
+    (one (static_object int (one (part 0 (content (number 1 9))))))
     (two (object_variable (Array 16)) (plain_variable pointer))
     288
     (three statement_1
-    (Expression (assign 1 (deref 1 pointer (plain 1 pointer 1)) (address 1 (lvalue 1 int (Static 0)))))
-    (Return (Some (read (deref 1 int (read (deref 1 pointer (plain 1 pointer 1))))))))
+    (expression_statement (assign 1 (deref 1 pointer (plain 1 pointer 1)) (address 1 (lvalue 1 int (tree.static 0)))))
+    (return (Some (read (deref 1 int (read (deref 1 pointer (plain 1 pointer 1))))))))
 
 run : seen (meaning program default_sizes [] 20) ≡ stopped [] (codes "sbcets: spatial violation at line 1\n") 120
 unfolding program statement_1 computing

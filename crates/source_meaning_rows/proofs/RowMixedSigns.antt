@@ -1,19 +1,18 @@
 -- `int main(void){unsigned char c=250;long l=-1;unsigned u=4000000000U;return (c+10==260)+(l<0)*2+(-1<u)*4;}`
 -- The text is rows/mixed_signs.c; gcc 12.2.0 gives the same output and status.
-use Rattle.std.proofs.Common.{Some, [], refl, true, ◌≡◌}
+use Rattle.c_tree.specs.Programs.{Program}
+use Rattle.c_tree.specs.Statements.{Statement, declaration, return}
 use Rattle.c_tree.specs.ValidProgram.{is_valid_program}
-use Rattle.c_tree.specs.declared.program.Program.{Program}
-use Rattle.c_tree.specs.declared.statement.Initialization.TheVariants.{Plain}
-use Rattle.c_tree.specs.declared.statement.Statement.{Declaration, Return, Statement}
 use Rattle.obj_memory.specs.declared.int_type.IntType.TheVariants.{Long, UnsignedChar, UnsignedInt}
 use Rattle.obj_memory.specs.declared.operator.BinaryOperator.TheVariants.{Add, Equal, Less, Multiply}
 use Rattle.obj_memory.specs.declared.operator.UnaryOperator.TheVariants.{Negate}
 use Rattle.sb_base.specs.Budgets.{default_sizes}
-use Rattle.source_meaning.proofs.Samples.{binary, compare, computing, constant, convert, exited, four, int, integer_kind, main_alone, none, number, one, parenthesized, plain, plain_variable, seen, three, unary}
 use Rattle.source_meaning.specs.Meaning.{meaning}
+use Rattle.source_meaning_rows.proofs.Samples.{binary, compare, computing, constant, convert, exited, four, int, integer_kind, main_alone, none, number, one, parenthesized, plain, plain_variable, seen, three, unary, with_value}
+use Rattle.std.proofs.Common.{Some, [], refl, true, ◌≡◌}
 
 statement_1 : Statement
-statement_1 = Return (Some (binary 1 Add
+statement_1 = return (Some (binary 1 Add
     (binary 1 Add
     (parenthesized (compare 1 Equal (binary 1 Add (convert int (plain 1 (integer_kind UnsignedChar) 0)) (number 1 10)) (number 1 260)))
     (binary 1 Multiply
@@ -33,9 +32,9 @@ program = main_alone none
     (plain_variable (integer_kind UnsignedInt)))
     368
     (four
-    (Declaration (one (Plain 0 (convert (integer_kind UnsignedChar) (number 1 250)))))
-    (Declaration (one (Plain 1 (convert (integer_kind Long) (unary 1 Negate (number 1 1))))))
-    (Declaration (one (Plain 2 (constant UnsignedInt 1 4000000000))))
+    (declaration (one (with_value 0 (convert (integer_kind UnsignedChar) (number 1 250)))))
+    (declaration (one (with_value 1 (convert (integer_kind Long) (unary 1 Negate (number 1 1))))))
+    (declaration (one (with_value 2 (constant UnsignedInt 1 4000000000))))
     statement_1)
 
 run : seen (meaning program default_sizes [] 20) ≡ exited [] 3

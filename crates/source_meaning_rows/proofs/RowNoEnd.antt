@@ -1,16 +1,15 @@
 -- `int main(void){for(;;);}`
 -- Work: 3 for the call, the body and the loop, and 1 for each of 999 turns. The text is rows/no_end.c.
-use Rattle.std.proofs.Common.{None, [], refl, true, ◌≡◌}
+use Rattle.c_tree.specs.Programs.{Program}
+use Rattle.c_tree.specs.Statements.{empty, for, nothing}
 use Rattle.c_tree.specs.ValidProgram.{is_valid_program}
-use Rattle.c_tree.specs.declared.program.Program.{Program}
-use Rattle.c_tree.specs.declared.statement.First.TheVariants.{Nothing}
-use Rattle.c_tree.specs.declared.statement.Statement.{Empty, For}
 use Rattle.sb_base.specs.Budgets.{default_sizes}
-use Rattle.source_meaning.proofs.Samples.{box, computing, main_alone, none, one, running, seen}
 use Rattle.source_meaning.specs.Meaning.{meaning}
+use Rattle.source_meaning_rows.proofs.Samples.{computing, main_alone, none, one, running, seen}
+use Rattle.std.proofs.Common.{None, [], refl, true, ◌≡◌}
 
 program : Program
-program = main_alone none none 128 (one (For Nothing None None (box Empty)))
+program = main_alone none none 128 (one (for 1 nothing None None (empty)))
 
 run : seen (meaning program default_sizes [] 1000) ≡ running []
 unfolding program computing

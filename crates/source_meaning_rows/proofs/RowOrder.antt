@@ -1,14 +1,14 @@
 -- `char a[3]={97,200};char b[3]={97,100};int main(void){return E;}` for each E that is named. C99 fixes the sign alone; here the
 -- result is -1, of which the exit status is 255, 0 or 1.
-use Rattle.std.proofs.Common.{◌≡◌, [], ◌∷◌, refl, lit<, Option, Some}
 use Rattle.behaviours.specs.Shown.{End, Status}
+use Rattle.c_tree.specs.Programs.{Program}
+use Rattle.c_tree.specs.Statements.{return}
+use Rattle.c_tree.specs.Tree.{Expression}
 use Rattle.sb_base.specs.Budgets.{default_sizes}
-use Rattle.c_tree.specs.declared.expression.Expression.{Expression}
-use Rattle.c_tree.specs.declared.program.Program.{Program}
-use Rattle.c_tree.specs.declared.statement.Statement.{Return}
 use Rattle.source_meaning.specs.Meaning.{meaning}
-use Rattle.source_meaning.proofs.Samples.{computing, vec_of, none, one, two}
-use Rattle.source_meaning.proofs.LibrarySamples.{chars, array, ahead, memcmp, strcmp, program_of}
+use Rattle.source_meaning_rows.proofs.LibrarySamples.{ahead, array, chars, memcmp, program_of, strcmp}
+use Rattle.source_meaning_rows.proofs.Samples.{computing, none, one, two}
+use Rattle.std.proofs.Common.{◌≡◌, [], ◌∷◌, refl, Option, Some}
 
 a : Expression
 a = array 0 3
@@ -17,7 +17,7 @@ b : Expression
 b = array 1 3
 
 program : Expression → Program
-program e = program_of (two (chars 3 (vec_of (97 ∷ 200 ∷ []) (lit< tt))) (chars 3 (vec_of (97 ∷ 100 ∷ []) (lit< tt)))) none (one (Return (Some e)))
+program e = program_of (two (chars 3 (97 ∷ 200 ∷ [])) (chars 3 (97 ∷ 100 ∷ []))) none (one (return (Some e)))
 
 ending : Expression → Option End
 ending e = (meaning (program e) default_sizes [] 1).shown.ending

@@ -1,29 +1,28 @@
 -- `int a[4];int main(void){int i=0;a[i]=(i=9);return a[i];}`
 -- The text is rows/order_assign_read.c.
-use Rattle.std.proofs.Common.{Some, [], refl, true, ◌∷◌, ◌≡◌}
-use Rattle.std.specs.Prelude.{codes}
+use Rattle.c_tree.specs.Programs.{Program}
+use Rattle.c_tree.specs.Statements.{Statement, expression_statement, declaration, return}
+use Rattle.c_tree.specs.Tree as tree
 use Rattle.c_tree.specs.ValidProgram.{is_valid_program}
 use Rattle.c_tree.specs.declared.expression.Kind.TheVariants.{Array}
-use Rattle.c_tree.specs.declared.expression.LvalueNode.{Static}
-use Rattle.c_tree.specs.declared.program.Program.{Program}
-use Rattle.c_tree.specs.declared.statement.Initialization.TheVariants.{Plain}
-use Rattle.c_tree.specs.declared.statement.Statement.{Declaration, Expression, Return, Statement}
 use Rattle.sb_base.specs.Budgets.{default_sizes}
-use Rattle.source_meaning.proofs.Samples.{assign, computing, decay, index, int, lvalue, main_alone, none, number, one, parenthesized, plain, plain_variable, read, seen, set_plain, static, stopped, three, writes}
 use Rattle.source_meaning.specs.Meaning.{meaning}
+use Rattle.source_meaning_rows.proofs.Samples.{assign, computing, decay, index, int, lvalue, main_alone, none, number, one, parenthesized, plain, plain_variable, read, seen, set_plain, static_object, stopped, three, with_value, writes}
+use Rattle.std.proofs.Common.{Some, [], refl, true, ◌∷◌, ◌≡◌}
+use Rattle.std.specs.Prelude.{codes}
 
 statement_1 : Statement
-statement_1 = Expression (assign 1 (index 1 int (decay (lvalue 1 (Array 16) (Static 0))) (plain 1 int 0)) (parenthesized (set_plain 1 0 (number 1 9))))
+statement_1 = expression_statement (assign 1 (index 1 int (decay (lvalue 1 (Array 16) (tree.static 0))) (plain 1 int 0)) (parenthesized (set_plain 1 0 (number 1 9))))
 
 program : Program
 program = main_alone
-    (one (static (Array 16) none))
+    (one (static_object (Array 16) none))
     (one (plain_variable int))
     288
     (three
-    (Declaration (one (Plain 0 (number 1 0))))
+    (declaration (one (with_value 0 (number 1 0))))
     statement_1
-    (Return (Some (read (index 1 int (decay (lvalue 1 (Array 16) (Static 0))) (plain 1 int 0))))))
+    (return (Some (read (index 1 int (decay (lvalue 1 (Array 16) (tree.static 0))) (plain 1 int 0))))))
 
 run : seen (meaning program default_sizes [] 20) ≡ stopped [] (codes "sbcets: spatial violation at line 1\n") 120
 unfolding program statement_1 computing

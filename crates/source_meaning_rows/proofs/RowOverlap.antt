@@ -1,19 +1,19 @@
 -- `char a[8]="abc";int main(void){E;puts(a);return 0;}` for each E that is named, whose ranges overlap, which C99 leaves open.
-use Rattle.std.proofs.Common.{◌≡◌, ℕ, List, [], refl, lit<, Some}
-use Rattle.std.specs.Prelude.{codes}
+use Rattle.c_tree.specs.Programs.{Program}
+use Rattle.c_tree.specs.Statements.{return}
+use Rattle.c_tree.specs.Tree.{Expression}
 use Rattle.sb_base.specs.Budgets.{default_sizes}
-use Rattle.c_tree.specs.declared.expression.Expression.{Expression}
-use Rattle.c_tree.specs.declared.program.Program.{Program}
-use Rattle.c_tree.specs.declared.statement.Statement.{Return}
 use Rattle.source_meaning.specs.Meaning.{meaning}
-use Rattle.source_meaning.proofs.Samples.{computing, vec_of, none, one, three, number}
-use Rattle.source_meaning.proofs.LibrarySamples.{chars, array, ahead, memcpy, strcpy, strncpy, strcat, puts, perform, program_of}
+use Rattle.source_meaning_rows.proofs.LibrarySamples.{ahead, array, chars, memcpy, perform, program_of, puts, strcat, strcpy, strncpy}
+use Rattle.source_meaning_rows.proofs.Samples.{computing, none, number, one, three}
+use Rattle.std.proofs.Common.{◌≡◌, ℕ, List, [], refl, Some}
+use Rattle.std.specs.Prelude.{codes}
 
 a : Expression
 a = array 0 8
 
 program : Expression → Program
-program e = program_of (one (chars 8 (vec_of (codes "abc") (lit< tt)))) none (three (perform e) (perform (puts a)) (Return (Some (number 1 0))))
+program e = program_of (one (chars 8 (codes "abc"))) none (three (perform e) (perform (puts a)) (return (Some (number 1 0))))
 
 output : Expression → List ℕ
 output e = (meaning (program e) default_sizes [] 1).shown.output

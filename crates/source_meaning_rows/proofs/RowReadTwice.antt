@@ -3,34 +3,32 @@
 -- same output and status.
 --     int f(int*p){return *p+*p;}
 --     int main(void){int x=4;return f(&x);}
-use Rattle.std.proofs.Common.{Some, [], refl, true, ◌∷◌, ◌≡◌}
+use Rattle.c_tree.specs.Programs.{Program, Function}
+use Rattle.c_tree.specs.Statements.{declaration, return}
+use Rattle.c_tree.specs.Tree as tree
 use Rattle.c_tree.specs.ValidProgram.{is_valid_program}
 use Rattle.c_tree.specs.declared.c_type.TypeWord.TheVariants.{Gives, Integer as IntegerWord, Pointer as PointerWord, Takes}
-use Rattle.c_tree.specs.declared.expression.LvalueNode.{Automatic}
-use Rattle.c_tree.specs.declared.program.Function.{Function}
-use Rattle.c_tree.specs.declared.program.Program.{Program}
-use Rattle.c_tree.specs.declared.statement.Initialization.TheVariants.{Object}
-use Rattle.c_tree.specs.declared.statement.Statement.{Declaration, Return}
 use Rattle.obj_memory.specs.declared.int_type.IntType.TheVariants.{Int}
 use Rattle.obj_memory.specs.declared.operator.BinaryOperator.TheVariants.{Add}
 use Rattle.sb_base.specs.Budgets.{default_sizes}
-use Rattle.source_meaning.proofs.Samples.{address, binary, call, computing, content, counts, defined, deref, exited, function_type, int, lvalue, main_type, none, number, object_variable, one, part, plain, plain_variable, pointer, program_of, read, reads, seen, two, writes}
 use Rattle.source_meaning.specs.Meaning.{meaning}
+use Rattle.source_meaning_rows.proofs.Samples.{address, binary, call, computing, content, counts, defined, deref, exited, function_type, int, lvalue, main_type, none, number, object_variable, one, part, plain, plain_variable, pointer, program_of, read, reads, seen, two, with_parts, writes}
+use Rattle.std.proofs.Common.{Some, [], refl, true, ◌∷◌, ◌≡◌}
 
 function_f : Function
 function_f = defined 1 1
     (one (plain_variable pointer))
     none
     280
-    (one (Return (Some (binary 1 Add (read (deref 1 int (plain 1 pointer 0))) (read (deref 1 int (plain 1 pointer 0)))))))
+    (one (return (Some (binary 1 Add (read (deref 1 int (plain 1 pointer 0))) (read (deref 1 int (plain 1 pointer 0)))))))
 
 function_main : Function
 function_main = defined 2 0 none
     (one (object_variable int))
     208
     (two
-    (Declaration (one (Object 0 (one (part 0 (content (number 2 4)))))))
-    (Return (Some (call 2 int 0 (one (address 2 (lvalue 2 int (Automatic 0))))))))
+    (declaration (one (with_parts 0 (one (part 0 (content (number 2 4)))))))
+    (return (Some (call 2 int 0 (one (address 2 (lvalue 2 int (tree.automatic 0))))))))
 
 program : Program
 program = program_of none

@@ -1,19 +1,18 @@
 -- `int main(void){char*p;char*q;p=malloc(N);q=realloc(p,M);return E;}` for N, M and E as named, in a heap of 4096 bytes: where a
 -- block is placed that replaces another, and what is left where it has no place.
-use Rattle.std.proofs.Common.{◌≡◌, ℕ, [], refl, Option, Some}
 use Rattle.behaviours.specs.Shown.{End, Status}
-use Rattle.sb_base.specs.Budgets.{BudgetSizes}
-use Rattle.obj_memory.specs.declared.operator.BinaryOperator.TheVariants.{Equal}
-use Rattle.obj_memory.specs.declared.int_type.IntType.TheVariants.{Int, Long}
-use Rattle.obj_memory.specs.declared.value.Scalar.TheVariants.{Integer}
+use Rattle.c_tree.specs.Programs.{Program}
+use Rattle.c_tree.specs.Statements.{return}
+use Rattle.c_tree.specs.Tree.{Expression}
 use Rattle.c_tree.specs.declared.expression.Kind.TheVariants.{Scalar as OfScalar}
-use Rattle.c_tree.specs.declared.expression.Expression.{Expression}
-use Rattle.c_tree.specs.declared.expression.Node.{Convert, Difference}
-use Rattle.c_tree.specs.declared.program.Program.{Program}
-use Rattle.c_tree.specs.declared.statement.Statement.{Return}
+use Rattle.obj_memory.specs.declared.int_type.IntType.TheVariants.{Int, Long}
+use Rattle.obj_memory.specs.declared.operator.BinaryOperator.TheVariants.{Equal}
+use Rattle.obj_memory.specs.declared.value.Scalar.TheVariants.{Integer}
+use Rattle.sb_base.specs.Budgets.{BudgetSizes}
 use Rattle.source_meaning.specs.Meaning.{meaning}
-use Rattle.source_meaning.proofs.Samples.{computing, box, none, two, three, at, convert, int, pointer, plain_variable}
-use Rattle.source_meaning.proofs.LibrarySamples.{null, small_heap, strlen, malloc, realloc, compare, plain, set, program_of}
+use Rattle.source_meaning_rows.proofs.LibrarySamples.{compare, malloc, null, plain, program_of, realloc, set, small_heap, strlen}
+use Rattle.source_meaning_rows.proofs.Samples.{at, computing, convert, int, none, plain_variable, pointer, three, two}
+use Rattle.std.proofs.Common.{◌≡◌, ℕ, [], refl, Option, Some}
 
 p : Expression
 p = plain 0
@@ -23,13 +22,13 @@ q = plain 1
 
 program : (n m : ℕ) → Expression → Program
 program n m e = program_of none (two (plain_variable pointer) (plain_variable pointer))
-    (three (set 0 (malloc n)) (set 1 (realloc p m)) (Return (Some e)))
+    (three (set 0 (malloc n)) (set 1 (realloc p m)) (return (Some e)))
 
 ending : (n m : ℕ) → BudgetSizes → Expression → Option End
 ending n m budgets e = (meaning (program n m e) budgets [] 1).shown.ending
 
 -- `q=realloc(p,16)` of `p=malloc(16)`: the new block stands behind the old one, which lives until then. `return q-p;`
-moves : ending 16 16 (small_heap) (at 1 (OfScalar (Integer Int)) (Convert (box (at 1 (OfScalar (Integer Long)) (Difference 1 (box q) (box p)))))) ≡ Some (Status 16)
+moves : ending 16 16 (small_heap) (at 1 (OfScalar (Integer Int)) (Convert ((at 1 (OfScalar (Integer Long)) (Difference 1 (q) (p)))))) ≡ Some (Status 16)
 unfolding ending program p q computing
 moves = refl
 

@@ -2,38 +2,38 @@
 -- One judgement, a read and a write. Work: the call, the variable, the object 5 and the body 8; the initializer 1; the
 -- assignment 6; i++; 3, --(i); 4, a[0]++; 5, with the name of the plain variable and its parentheses; the return 6. The
 -- text is rows/step_counts.c; gcc 12.2.0 gives the same output and status.
-use Rattle.std.proofs.Common.{Some, [], refl, true, ◌∷◌, ◌≡◌}
+use Rattle.c_tree.specs.Programs.{Program}
+use Rattle.c_tree.specs.Statements.{Statement, expression_statement, declaration, return}
+use Rattle.c_tree.specs.Tree as tree
 use Rattle.c_tree.specs.ValidProgram.{is_valid_program}
 use Rattle.c_tree.specs.declared.expression.Fixity.TheVariants.{Postfix, Prefix}
 use Rattle.c_tree.specs.declared.expression.Kind.TheVariants.{Array}
-use Rattle.c_tree.specs.declared.expression.LvalueNode.{Automatic}
 use Rattle.c_tree.specs.declared.expression.Update.TheVariants.{Arithmetic}
-use Rattle.c_tree.specs.declared.program.Program.{Program}
-use Rattle.c_tree.specs.declared.statement.Initialization.TheVariants.{Plain}
-use Rattle.c_tree.specs.declared.statement.Statement.{Declaration, Expression, Return, Statement}
 use Rattle.obj_memory.specs.declared.int_type.IntType.TheVariants.{Int}
 use Rattle.obj_memory.specs.declared.operator.BinaryOperator.TheVariants.{Add, Subtract}
 use Rattle.sb_base.specs.Budgets.{default_sizes}
-use Rattle.source_meaning.proofs.Samples.{assign, binary, computing, counts, decay, exited, index, int, lvalue, main_alone, none, number, object_variable, one, plain, plain_variable, read, reads, seen, six, step, step_plain, step_plain_in, two, writes}
 use Rattle.source_meaning.specs.Meaning.{meaning}
+use Rattle.source_meaning_rows.proofs.Samples.{assign, binary, computing, counts, decay, exited, index, int, lvalue, main_alone, none, number, object_variable, one, plain, plain_variable, read, reads, seen, six, step, step_plain, step_plain_in, two, with_value, writes, without_value}
+use Rattle.std.proofs.Common.{Some, [], refl, true, ◌∷◌, ◌≡◌}
 
 statement_1 : Statement
-statement_1 = Expression (step 1 (Arithmetic Add Int) Postfix (index 1 int (decay (lvalue 1 (Array 4) (Automatic 1))) (number 1 0)))
+statement_1 = expression_statement (step 1 (Arithmetic Add Int) Postfix (index 1 int (decay (lvalue 1 (Array 4) (tree.automatic 1))) (number 1 0)))
 
 statement_2 : Statement
-statement_2 = Return (Some (binary 1 Add (plain 1 int 0) (read (index 1 int (decay (lvalue 1 (Array 4) (Automatic 1))) (number 1 0)))))
+statement_2 = return (Some (binary 1 Add (plain 1 int 0) (read (index 1 int (decay (lvalue 1 (Array 4) (tree.automatic 1))) (number 1 0)))))
 
 program : Program
 program = main_alone none
     (two (plain_variable int) (object_variable (Array 4)))
     328
-    (six
-    (Declaration (one (Plain 0 (number 1 1))))
-    (Expression (assign 1 (index 1 int (decay (lvalue 1 (Array 4) (Automatic 1))) (number 1 0)) (number 1 2)))
-    (Expression (step_plain 1 int (Arithmetic Add Int) Postfix 0))
-    (Expression (step_plain_in 1 int (Arithmetic Subtract Int) Prefix (record { variable = 0; parentheses = 1 })))
-    statement_1
-    statement_2)
+    ((declaration (one (with_value 0 (number 1 1))))
+    ∷ (declaration (without_value 1 ∷ []))
+    ∷ (expression_statement (assign 1 (index 1 int (decay (lvalue 1 (Array 4) (tree.automatic 1))) (number 1 0)) (number 1 2)))
+    ∷ (expression_statement (step_plain 1 int (Arithmetic Add Int) Postfix 0))
+    ∷ (expression_statement (step_plain_in 1 int (Arithmetic Subtract Int) Prefix (record { variable = 0; parentheses = 1 })))
+    ∷ statement_1
+    ∷ statement_2
+    ∷ [])
 
 run : seen (meaning program default_sizes [] 20) ≡ exited [] 4
 unfolding program statement_1 statement_2 computing

@@ -8,116 +8,114 @@
 --     putchar(48+y.a.c);putchar(48+y.a.i);putchar(48+*y.p);putchar(48+y.b[0].i);putchar(48+y.b[1].c);putchar(48+y.b[1].i);
 --     putchar(48+z.a.i);putchar(48+*z.p);putchar(48+z.b[0].c);putchar(48+z.b[0].i);putchar(48+z.b[1].c);putchar(48+z.b[1].i);
 --     putchar(48+v.c[0]);putchar(48+v.c[1]);return 0;}
-use Rattle.std.proofs.Common.{Some, [], lit<, refl, true, ◌∷◌, ◌≡◌}
-use Rattle.std.specs.Prelude.{codes}
+use Rattle.c_tree.specs.Programs.{Program, Function}
+use Rattle.c_tree.specs.Statements.{Statement, expression_statement, declaration, return}
+use Rattle.c_tree.specs.Tree as tree
 use Rattle.c_tree.specs.ValidProgram.{is_valid_program}
 use Rattle.c_tree.specs.declared.expression.Kind.TheVariants.{Array, Structure}
-use Rattle.c_tree.specs.declared.expression.LvalueNode.{Automatic, Static}
 use Rattle.c_tree.specs.declared.expression.Routine.TheVariants.{Putchar}
-use Rattle.c_tree.specs.declared.program.Function.{Function}
-use Rattle.c_tree.specs.declared.program.Program.{Program}
-use Rattle.c_tree.specs.declared.statement.Initialization.TheVariants.{Object}
-use Rattle.c_tree.specs.declared.statement.Statement.{Declaration, Expression, Return, Statement}
 use Rattle.obj_memory.specs.declared.int_type.IntType.TheVariants.{Char}
 use Rattle.obj_memory.specs.declared.operator.BinaryOperator.TheVariants.{Add, Equal}
 use Rattle.sb_base.specs.Budgets.{default_sizes}
-use Rattle.source_meaning.proofs.Samples.{address, binary, compare, computing, content, convert, decay, defined, deref, exited, five, four, index, int, integer_kind, library, lvalue, main_type, member, none, number, object_variable, one, parenthesized, part, pointer, program_of, read, seen, static, three, two, vec_of}
 use Rattle.source_meaning.specs.Meaning.{meaning}
+use Rattle.source_meaning_rows.proofs.Samples.{address, binary, compare, computing, content, convert, decay, defined, deref, exited, five, four, index, int, integer_kind, library, lvalue, main_type, member, none, number, object_variable, one, parenthesized, part, pointer, program_of, read, seen, static_object, three, two, with_parts}
+use Rattle.std.proofs.Common.{Some, [], refl, true, ◌∷◌, ◌≡◌}
+use Rattle.std.specs.Prelude.{codes}
 
 statement_1 : Statement
-statement_1 = Declaration (one (Object 0 (two (part 4 (content (number 3 8))) (part 0 (content (convert (integer_kind Char) (number 3 9)))))))
+statement_1 = declaration (one (with_parts 0 (two (part 4 (content (number 3 8))) (part 0 (content (convert (integer_kind Char) (number 3 9)))))))
 
 statement_2 : Statement
-statement_2 = Declaration (one (Object 1 (four
-    (part 0 (content (read (lvalue 3 (Structure 8) (Automatic 0)))))
-    (part 8 (content (address 3 (lvalue 3 int (Static 2)))))
+statement_2 = declaration (one (with_parts 1 (four
+    (part 0 (content (read (lvalue 3 (Structure 8) (tree.automatic 0)))))
+    (part 8 (content (address 3 (lvalue 3 int (tree.static 2)))))
     (part 24 (content (convert (integer_kind Char) (number 3 1))))
     (part 28 (content (number 3 2))))))
 
 statement_3 : Statement
-statement_3 = Declaration (one (Object 2 (four
-    (part 8 (content (address 3 (lvalue 3 int (Static 2)))))
+statement_3 = declaration (one (with_parts 2 (four
+    (part 8 (content (address 3 (lvalue 3 int (tree.static 2)))))
     (part 16 (content (convert (integer_kind Char) (number 3 3))))
     (part 20 (content (number 3 4)))
     (part 24 (content (convert (integer_kind Char) (number 3 5)))))))
 
 statement_4 : Statement
-statement_4 = Expression (library 4 int Putchar (one (binary 4 Add (number 4 48) (convert int (read (member 4 (integer_kind Char) 0 (member 4 (Structure 8) 0 (lvalue 4 (Structure 32) (Static 0)))))))))
+statement_4 = expression_statement (library 4 int Putchar (one (binary 4 Add (number 4 48) (convert int (read (member 4 (integer_kind Char) 0 (member 4 (Structure 8) 0 (lvalue 4 (Structure 32) (tree.static 0)))))))))
 
 statement_5 : Statement
-statement_5 = Expression (library 4 int Putchar (one (binary 4 Add (number 4 48) (read (member 4 int 4 (member 4 (Structure 8) 0 (lvalue 4 (Structure 32) (Static 0))))))))
+statement_5 = expression_statement (library 4 int Putchar (one (binary 4 Add (number 4 48) (read (member 4 int 4 (member 4 (Structure 8) 0 (lvalue 4 (Structure 32) (tree.static 0))))))))
 
 statement_6 : Statement
-statement_6 = Expression (library 4 int Putchar (one (binary 4 Add (number 4 48) (parenthesized (compare 4 Equal (read (member 4 pointer 8 (lvalue 4 (Structure 32) (Static 0)))) (convert pointer (number 4 0)))))))
+statement_6 = expression_statement (library 4 int Putchar (one (binary 4 Add (number 4 48) (parenthesized (compare 4 Equal (read (member 4 pointer 8 (lvalue 4 (Structure 32) (tree.static 0)))) (convert pointer (number 4 0)))))))
 
 statement_7 : Statement
-statement_7 = Expression (library 4 int Putchar (one (binary 4 Add (number 4 48) (convert int (read (member 4 (integer_kind Char) 0 (index 4 (Structure 8) (decay (member 4 (Array 16) 16 (lvalue 4 (Structure 32) (Static 0)))) (number 4 0))))))))
+statement_7 = expression_statement (library 4 int Putchar (one (binary 4 Add (number 4 48) (convert int (read (member 4 (integer_kind Char) 0 (index 4 (Structure 8) (decay (member 4 (Array 16) 16 (lvalue 4 (Structure 32) (tree.static 0)))) (number 4 0))))))))
 
 statement_8 : Statement
-statement_8 = Expression (library 4 int Putchar (one (binary 4 Add (number 4 48) (read (member 4 int 4 (index 4 (Structure 8) (decay (member 4 (Array 16) 16 (lvalue 4 (Structure 32) (Static 0)))) (number 4 0)))))))
+statement_8 = expression_statement (library 4 int Putchar (one (binary 4 Add (number 4 48) (read (member 4 int 4 (index 4 (Structure 8) (decay (member 4 (Array 16) 16 (lvalue 4 (Structure 32) (tree.static 0)))) (number 4 0)))))))
 
 statement_9 : Statement
-statement_9 = Expression (library 4 int Putchar (one (binary 4 Add (number 4 48) (convert int (read (member 4 (integer_kind Char) 0 (index 4 (Structure 8) (decay (member 4 (Array 16) 16 (lvalue 4 (Structure 32) (Static 0)))) (number 4 1))))))))
+statement_9 = expression_statement (library 4 int Putchar (one (binary 4 Add (number 4 48) (convert int (read (member 4 (integer_kind Char) 0 (index 4 (Structure 8) (decay (member 4 (Array 16) 16 (lvalue 4 (Structure 32) (tree.static 0)))) (number 4 1))))))))
 
 statement_10 : Statement
-statement_10 = Expression (library 4 int Putchar (one (binary 4 Add (number 4 48) (read (member 4 int 4 (index 4 (Structure 8) (decay (member 4 (Array 16) 16 (lvalue 4 (Structure 32) (Static 0)))) (number 4 1)))))))
+statement_10 = expression_statement (library 4 int Putchar (one (binary 4 Add (number 4 48) (read (member 4 int 4 (index 4 (Structure 8) (decay (member 4 (Array 16) 16 (lvalue 4 (Structure 32) (tree.static 0)))) (number 4 1)))))))
 
 statement_11 : Statement
-statement_11 = Expression (library 5 int Putchar (one (binary 5 Add (number 5 48) (convert int (read (index 5 (integer_kind Char) (decay (member 5 (Array 4) 0 (lvalue 5 (Structure 4) (Static 1)))) (number 5 0)))))))
+statement_11 = expression_statement (library 5 int Putchar (one (binary 5 Add (number 5 48) (convert int (read (index 5 (integer_kind Char) (decay (member 5 (Array 4) 0 (lvalue 5 (Structure 4) (tree.static 1)))) (number 5 0)))))))
 
 statement_12 : Statement
-statement_12 = Expression (library 5 int Putchar (one (binary 5 Add (number 5 48) (convert int (read (index 5 (integer_kind Char) (decay (member 5 (Array 4) 0 (lvalue 5 (Structure 4) (Static 1)))) (number 5 1)))))))
+statement_12 = expression_statement (library 5 int Putchar (one (binary 5 Add (number 5 48) (convert int (read (index 5 (integer_kind Char) (decay (member 5 (Array 4) 0 (lvalue 5 (Structure 4) (tree.static 1)))) (number 5 1)))))))
 
 statement_13 : Statement
-statement_13 = Expression (library 5 int Putchar (one (binary 5 Add (number 5 48) (convert int (read (index 5 (integer_kind Char) (decay (member 5 (Array 4) 0 (lvalue 5 (Structure 4) (Static 1)))) (number 5 2)))))))
+statement_13 = expression_statement (library 5 int Putchar (one (binary 5 Add (number 5 48) (convert int (read (index 5 (integer_kind Char) (decay (member 5 (Array 4) 0 (lvalue 5 (Structure 4) (tree.static 1)))) (number 5 2)))))))
 
 statement_14 : Statement
-statement_14 = Expression (library 5 int Putchar (one (binary 5 Add (number 5 48) (convert int (read (member 5 (integer_kind Char) 0 (lvalue 5 (Structure 8) (Automatic 0))))))))
+statement_14 = expression_statement (library 5 int Putchar (one (binary 5 Add (number 5 48) (convert int (read (member 5 (integer_kind Char) 0 (lvalue 5 (Structure 8) (tree.automatic 0))))))))
 
 statement_15 : Statement
-statement_15 = Expression (library 5 int Putchar (one (binary 5 Add (number 5 48) (read (member 5 int 4 (lvalue 5 (Structure 8) (Automatic 0)))))))
+statement_15 = expression_statement (library 5 int Putchar (one (binary 5 Add (number 5 48) (read (member 5 int 4 (lvalue 5 (Structure 8) (tree.automatic 0)))))))
 
 statement_16 : Statement
-statement_16 = Expression (library 6 int Putchar (one (binary 6 Add (number 6 48) (convert int (read (member 6 (integer_kind Char) 0 (member 6 (Structure 8) 0 (lvalue 6 (Structure 32) (Automatic 1)))))))))
+statement_16 = expression_statement (library 6 int Putchar (one (binary 6 Add (number 6 48) (convert int (read (member 6 (integer_kind Char) 0 (member 6 (Structure 8) 0 (lvalue 6 (Structure 32) (tree.automatic 1)))))))))
 
 statement_17 : Statement
-statement_17 = Expression (library 6 int Putchar (one (binary 6 Add (number 6 48) (read (member 6 int 4 (member 6 (Structure 8) 0 (lvalue 6 (Structure 32) (Automatic 1))))))))
+statement_17 = expression_statement (library 6 int Putchar (one (binary 6 Add (number 6 48) (read (member 6 int 4 (member 6 (Structure 8) 0 (lvalue 6 (Structure 32) (tree.automatic 1))))))))
 
 statement_18 : Statement
-statement_18 = Expression (library 6 int Putchar (one (binary 6 Add (number 6 48) (read (deref 6 int (read (member 6 pointer 8 (lvalue 6 (Structure 32) (Automatic 1)))))))))
+statement_18 = expression_statement (library 6 int Putchar (one (binary 6 Add (number 6 48) (read (deref 6 int (read (member 6 pointer 8 (lvalue 6 (Structure 32) (tree.automatic 1)))))))))
 
 statement_19 : Statement
-statement_19 = Expression (library 6 int Putchar (one (binary 6 Add (number 6 48) (read (member 6 int 4 (index 6 (Structure 8) (decay (member 6 (Array 16) 16 (lvalue 6 (Structure 32) (Automatic 1)))) (number 6 0)))))))
+statement_19 = expression_statement (library 6 int Putchar (one (binary 6 Add (number 6 48) (read (member 6 int 4 (index 6 (Structure 8) (decay (member 6 (Array 16) 16 (lvalue 6 (Structure 32) (tree.automatic 1)))) (number 6 0)))))))
 
 statement_20 : Statement
-statement_20 = Expression (library 6 int Putchar (one (binary 6 Add (number 6 48) (convert int (read (member 6 (integer_kind Char) 0 (index 6 (Structure 8) (decay (member 6 (Array 16) 16 (lvalue 6 (Structure 32) (Automatic 1)))) (number 6 1))))))))
+statement_20 = expression_statement (library 6 int Putchar (one (binary 6 Add (number 6 48) (convert int (read (member 6 (integer_kind Char) 0 (index 6 (Structure 8) (decay (member 6 (Array 16) 16 (lvalue 6 (Structure 32) (tree.automatic 1)))) (number 6 1))))))))
 
 statement_21 : Statement
-statement_21 = Expression (library 6 int Putchar (one (binary 6 Add (number 6 48) (read (member 6 int 4 (index 6 (Structure 8) (decay (member 6 (Array 16) 16 (lvalue 6 (Structure 32) (Automatic 1)))) (number 6 1)))))))
+statement_21 = expression_statement (library 6 int Putchar (one (binary 6 Add (number 6 48) (read (member 6 int 4 (index 6 (Structure 8) (decay (member 6 (Array 16) 16 (lvalue 6 (Structure 32) (tree.automatic 1)))) (number 6 1)))))))
 
 statement_22 : Statement
-statement_22 = Expression (library 7 int Putchar (one (binary 7 Add (number 7 48) (read (member 7 int 4 (member 7 (Structure 8) 0 (lvalue 7 (Structure 32) (Automatic 2))))))))
+statement_22 = expression_statement (library 7 int Putchar (one (binary 7 Add (number 7 48) (read (member 7 int 4 (member 7 (Structure 8) 0 (lvalue 7 (Structure 32) (tree.automatic 2))))))))
 
 statement_23 : Statement
-statement_23 = Expression (library 7 int Putchar (one (binary 7 Add (number 7 48) (read (deref 7 int (read (member 7 pointer 8 (lvalue 7 (Structure 32) (Automatic 2)))))))))
+statement_23 = expression_statement (library 7 int Putchar (one (binary 7 Add (number 7 48) (read (deref 7 int (read (member 7 pointer 8 (lvalue 7 (Structure 32) (tree.automatic 2)))))))))
 
 statement_24 : Statement
-statement_24 = Expression (library 7 int Putchar (one (binary 7 Add (number 7 48) (convert int (read (member 7 (integer_kind Char) 0 (index 7 (Structure 8) (decay (member 7 (Array 16) 16 (lvalue 7 (Structure 32) (Automatic 2)))) (number 7 0))))))))
+statement_24 = expression_statement (library 7 int Putchar (one (binary 7 Add (number 7 48) (convert int (read (member 7 (integer_kind Char) 0 (index 7 (Structure 8) (decay (member 7 (Array 16) 16 (lvalue 7 (Structure 32) (tree.automatic 2)))) (number 7 0))))))))
 
 statement_25 : Statement
-statement_25 = Expression (library 7 int Putchar (one (binary 7 Add (number 7 48) (read (member 7 int 4 (index 7 (Structure 8) (decay (member 7 (Array 16) 16 (lvalue 7 (Structure 32) (Automatic 2)))) (number 7 0)))))))
+statement_25 = expression_statement (library 7 int Putchar (one (binary 7 Add (number 7 48) (read (member 7 int 4 (index 7 (Structure 8) (decay (member 7 (Array 16) 16 (lvalue 7 (Structure 32) (tree.automatic 2)))) (number 7 0)))))))
 
 statement_26 : Statement
-statement_26 = Expression (library 7 int Putchar (one (binary 7 Add (number 7 48) (convert int (read (member 7 (integer_kind Char) 0 (index 7 (Structure 8) (decay (member 7 (Array 16) 16 (lvalue 7 (Structure 32) (Automatic 2)))) (number 7 1))))))))
+statement_26 = expression_statement (library 7 int Putchar (one (binary 7 Add (number 7 48) (convert int (read (member 7 (integer_kind Char) 0 (index 7 (Structure 8) (decay (member 7 (Array 16) 16 (lvalue 7 (Structure 32) (tree.automatic 2)))) (number 7 1))))))))
 
 statement_27 : Statement
-statement_27 = Expression (library 7 int Putchar (one (binary 7 Add (number 7 48) (read (member 7 int 4 (index 7 (Structure 8) (decay (member 7 (Array 16) 16 (lvalue 7 (Structure 32) (Automatic 2)))) (number 7 1)))))))
+statement_27 = expression_statement (library 7 int Putchar (one (binary 7 Add (number 7 48) (read (member 7 int 4 (index 7 (Structure 8) (decay (member 7 (Array 16) 16 (lvalue 7 (Structure 32) (tree.automatic 2)))) (number 7 1)))))))
 
 statement_28 : Statement
-statement_28 = Expression (library 8 int Putchar (one (binary 8 Add (number 8 48) (convert int (read (index 8 (integer_kind Char) (decay (member 8 (Array 4) 0 (lvalue 8 (Structure 4) (Automatic 3)))) (number 8 0)))))))
+statement_28 = expression_statement (library 8 int Putchar (one (binary 8 Add (number 8 48) (convert int (read (index 8 (integer_kind Char) (decay (member 8 (Array 4) 0 (lvalue 8 (Structure 4) (tree.automatic 3)))) (number 8 0)))))))
 
 statement_29 : Statement
-statement_29 = Expression (library 8 int Putchar (one (binary 8 Add (number 8 48) (convert int (read (index 8 (integer_kind Char) (decay (member 8 (Array 4) 0 (lvalue 8 (Structure 4) (Automatic 3)))) (number 8 1)))))))
+statement_29 = expression_statement (library 8 int Putchar (one (binary 8 Add (number 8 48) (convert int (read (index 8 (integer_kind Char) (decay (member 8 (Array 4) 0 (lvalue 8 (Structure 4) (tree.automatic 3)))) (number 8 1)))))))
 
 function_main : Function
 function_main = defined 3 0 none
@@ -127,11 +125,10 @@ function_main = defined 3 0 none
     (object_variable (Structure 32))
     (object_variable (Structure 4)))
     408
-    (vec_of
     (statement_1 ∷
     statement_2 ∷
     statement_3 ∷
-    Declaration (one (Object 3 (one (part 0 (content (number 3 258)))))) ∷
+    declaration (one (with_parts 3 (one (part 0 (content (number 3 258)))))) ∷
     statement_4 ∷
     statement_5 ∷
     statement_6 ∷
@@ -158,22 +155,21 @@ function_main = defined 3 0 none
     statement_27 ∷
     statement_28 ∷
     statement_29 ∷
-    Return (Some (number 8 0)) ∷ [])
-    (lit< tt))
+    return (Some (number 8 0)) ∷ [])
 
 program : Program
 program = program_of
     (three
-    (static (Structure 32) (five
+    (static_object (Structure 32) (five
     (part 0 (content (convert (integer_kind Char) (number 1 1))))
     (part 4 (content (number 1 2)))
     (part 8 (content (convert pointer (number 1 0))))
     (part 16 (content (convert (integer_kind Char) (number 1 3))))
     (part 28 (content (number 1 4)))))
-    (static (Structure 4) (two
+    (static_object (Structure 4) (two
     (part 0 (content (convert (integer_kind Char) (number 2 5))))
     (part 1 (content (convert (integer_kind Char) (number 2 6))))))
-    (static int (one (part 0 (content (number 2 7))))))
+    (static_object int (one (part 0 (content (number 2 7))))))
     (one main_type)
     (one function_main)
     0

@@ -2,31 +2,30 @@
 -- labels compared; labels reached 2, two times 5 to put a byte, and the break 1; 2 for the return. The text is
 -- rows/switch_falls_through.c; gcc 12.2.0 gives the same output and status.
 --     int main(void){int i=2;switch(i){case 1:putchar(65);case 2:putchar(66);case 3:putchar(67);break;default:putchar(68);}return 0;}
-use Rattle.std.proofs.Common.{Some, [], refl, true, ◌≡◌}
-use Rattle.std.specs.Prelude.{codes}
+use Rattle.c_tree.specs.Programs.{Program}
+use Rattle.c_tree.specs.Statements.{Statement, expression_statement, declaration, break, return}
 use Rattle.c_tree.specs.ValidProgram.{is_valid_program}
 use Rattle.c_tree.specs.declared.expression.Routine.TheVariants.{Putchar}
-use Rattle.c_tree.specs.declared.program.Program.{Program}
 use Rattle.c_tree.specs.declared.statement.CaseLabel.TheVariants.{Case, Default}
-use Rattle.c_tree.specs.declared.statement.Initialization.TheVariants.{Plain}
-use Rattle.c_tree.specs.declared.statement.Statement.{Break, Declaration, Expression, Return, Statement, Switch}
 use Rattle.sb_base.specs.Budgets.{default_sizes}
-use Rattle.source_meaning.proofs.Samples.{computing, counts, exited, five, int, item, library, main_alone, none, number, one, plain, plain_variable, seen, three}
 use Rattle.source_meaning.specs.Meaning.{meaning}
+use Rattle.source_meaning_rows.proofs.Samples.{computing, counts, exited, five, int, item, library, main_alone, none, number, one, plain, plain_variable, seen, switch_of, three, with_value}
+use Rattle.std.proofs.Common.{Some, [], refl, true, ◌≡◌}
+use Rattle.std.specs.Prelude.{codes}
 
 statement_1 : Statement
-statement_1 = Switch (plain 1 int 0) (five
-    (item (one (Case 1)) (Expression (library 1 int Putchar (one (number 1 65)))))
-    (item (one (Case 2)) (Expression (library 1 int Putchar (one (number 1 66)))))
-    (item (one (Case 3)) (Expression (library 1 int Putchar (one (number 1 67)))))
-    (item none Break)
-    (item (one Default) (Expression (library 1 int Putchar (one (number 1 68))))))
+statement_1 = switch_of (plain 1 int 0) 1 (five
+    (item (one (Case 1)) (expression_statement (library 1 int Putchar (one (number 1 65)))))
+    (item (one (Case 2)) (expression_statement (library 1 int Putchar (one (number 1 66)))))
+    (item (one (Case 3)) (expression_statement (library 1 int Putchar (one (number 1 67)))))
+    (item none break)
+    (item (one Default) (expression_statement (library 1 int Putchar (one (number 1 68))))))
 
 program : Program
 program = main_alone none
     (one (plain_variable int))
     208
-    (three (Declaration (one (Plain 0 (number 1 2)))) statement_1 (Return (Some (number 1 0))))
+    (three (declaration (one (with_value 0 (number 1 2)))) statement_1 (return (Some (number 1 0))))
 
 run : seen (meaning program default_sizes [] 20) ≡ exited (codes "BC") 0
 unfolding program statement_1 computing

@@ -1,37 +1,34 @@
 -- `int x=66;int main(void){int**p;p=malloc(8);*p=&x;p=realloc(p,16);return **p;}`: the tag of a pointer moves with its bytes.
 -- The status is that of gcc (Debian 12.2.0) with `-std=c99 -fwrapv -funsigned-char`.
-use Rattle.std.proofs.Common.{◌≡◌, [], refl, true, false, Some}
 use Rattle.behaviours.specs.Shown.{Status}
-use Rattle.sb_base.specs.Budgets.{default_sizes}
-use Rattle.c_tree.specs.declared.expression.Kind.{Kind}
-use Rattle.c_tree.specs.declared.expression.Expression.{Expression}
-use Rattle.c_tree.specs.declared.expression.Lvalue.{Lvalue}
-use Rattle.c_tree.specs.declared.expression.Node.{Address, Assign}
-use Rattle.c_tree.specs.declared.expression.LvalueNode.{Static, Deref}
-use Rattle.c_tree.specs.declared.statement.Content.TheVariants.{Value}
-use Rattle.c_tree.specs.declared.program.Program.{Program}
-use Rattle.c_tree.specs.declared.statement.Statement.{Return}
+use Rattle.c_tree.specs.Programs.{Program}
+use Rattle.c_tree.specs.Statements.{return, value_content}
+use Rattle.c_tree.specs.Tree as tree
+use Rattle.c_tree.specs.Tree.{Expression, Lvalue}
 use Rattle.c_tree.specs.ValidProgram.{is_valid_program}
+use Rattle.c_tree.specs.declared.expression.Kind.{Kind}
+use Rattle.sb_base.specs.Budgets.{default_sizes}
 use Rattle.source_meaning.specs.Meaning.{meaning}
-use Rattle.source_meaning.proofs.Samples.{computing, box, one, four, at, lvalue, read, number, int, pointer, plain_variable}
-use Rattle.source_meaning.proofs.LibrarySamples.{malloc, realloc, plain, set, perform, program_of}
+use Rattle.source_meaning_rows.proofs.LibrarySamples.{malloc, perform, plain, program_of, realloc, set}
+use Rattle.source_meaning_rows.proofs.Samples.{at, computing, four, int, lvalue, number, one, plain_variable, pointer, read}
+use Rattle.std.proofs.Common.{◌≡◌, [], refl, true, false, Some, None}
 
 p : Expression
 p = plain 0
 
 -- `*E` of some kind
 target : Kind → Expression → Lvalue
-target kind e = lvalue 1 kind (Deref (box e))
+target kind e = lvalue 1 kind (tree.deref (e))
 
 program : Program
 program = program_of
-    (one (record { kind = int; is_literal = false; parts = one (record { offset = 0; content = Value (number 1 66) }) }))
+    (one (record { kind = int; is_literal = false; function = None; parts = one (record { offset = 0; content = value_content (number 1 66) }) }))
     (one (plain_variable pointer))
     (four
     (set 0 (malloc 8))
-    (perform (at 1 pointer (Assign (box (target pointer p)) (box (at 1 pointer (Address (box (lvalue 1 int (Static 0)))))))))
+    (perform (at 1 pointer (tree.assign (target pointer p) ((at 1 pointer (tree.address ((lvalue 1 int (tree.static 0)))))))))
     (set 0 (realloc p 16))
-    (Return (Some (read (target int (read (target pointer p)))))))
+    (return (Some (read (target int (read (target pointer p)))))))
 
 ending : (meaning program default_sizes [] 1).shown.ending ≡ Some (Status 66)
 unfolding program target p computing

@@ -1,0 +1,4 @@
+mod Choices
+mod Emitted
+mod Layouts
+mod Meeting

@@ -1,0 +1,34 @@
+-- What the assembler's table of labels tells.
+use Rattle.std.specs.Prelude.{◌≡◌, ℕ, ◌<◌, List, length, Some, slice_get, slice_set, slice_index}
+use Rattle.rv_asm.specs.declared.form.Form.{Form}
+use Rattle.rv_asm.specs.declared.item.Item.{Item}
+use Rattle.rv_asm.specs.declared.item.Item.TheVariants.{Label, Instr, Jump, Call, Branch}
+use Rattle.rv_asm.specs.Forms.{start}
+
+-- the table has an entry for each label of the list
+pub record HasRoom (items : List Item) (table : List ℕ) : Type 0 where
+  pub room : (k l : ℕ) → slice_get items k ≡ Some (Label l) → l < length table
+
+-- the table has the place of each label of the first items
+pub record Holds (forms : List Form) (items : List Item) (count : ℕ) (table : List ℕ) : Type 0 where
+  pub held : (k l : ℕ) → k < count → slice_get items k ≡ Some (Label l) → slice_get table l ≡ Some (start forms items k)
+
+-- the place that the table has for a label; 0 where it has none
+abbrev pub entry : List ℕ → ℕ → ℕ
+entry table l = slice_index table l
+
+-- the table with the place of this item, if it is a label
+abbrev pub marked : Item → ℕ → List ℕ → List ℕ
+marked (Label l) place table = slice_set table l place
+marked (Instr _) place table = table
+marked (Jump _) place table = table
+marked (Call _) place table = table
+marked (Branch _ _ _ _) place table = table
+
+-- an entry for this item, if it is a label
+abbrev pub IsWithin : Item → List ℕ → Type 0
+IsWithin (Label l) table = l < length table
+IsWithin (Instr _) table = Unit {0}
+IsWithin (Jump _) table = Unit {0}
+IsWithin (Call _) table = Unit {0}
+IsWithin (Branch _ _ _ _) table = Unit {0}

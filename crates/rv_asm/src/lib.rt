@@ -1,0 +1,14 @@
+//! An assembler: from a list of labels, instructions, and branches, jumps and calls to labels, to the words of RV64IM. Each
+//! branch, jump and call has the shortest form with which its label is in reach.
+#![tactic(auto)]
+
+mod assembler;
+pub mod form;
+pub mod item;
+pub mod laws;
+mod layout;
+mod words;
+
+pub use crate::assembler::{assemble, word_count};
+pub use crate::form::Form;
+pub use crate::item::{Item, Label};

@@ -1,7 +1,6 @@
 -- Which forms are chosen, and that they reach.
-use Rattle.std.proofs.Common.{◌≡◌, ◌≢◌, ℕ, zero, suc, ◌+◌, ◌-◌, ◌<◌, ◌≤◌, List, [], ◌∷◌, length, Some, None, Option, Bool, true, false, refl, sym, ap, ◌∙◌, arith, subst, ◌⊎◌, inl, inr, true≢false}
-use Rattle.std.specs.Prelude.{slice_get, nat_eq, nat_lt, if◌then◌else◌}
-use Rattle.std.proofs.Math.ListN.{get_or}
+use Rattle.std.proofs.Common.{◌≡◌, ◌≢◌, ℕ, zero, suc, ◌+◌, ◌<◌, ◌≤◌, List, [], ◌∷◌, length, Some, Bool, true, false, refl, sym, ap, ◌∙◌, arith, true≢false}
+use Rattle.std.specs.Prelude.{slice_get, if◌then◌else◌}
 use Rattle.std.proofs.lemmas.Bool.{eq-eqb, eqb-true}
 use Rattle.std.proofs.lemmas.Option.{slice_get_within, get_or_from_slice_get}
 use Rattle.rv_asm.specs.declared.form.Form.{Form}
@@ -9,7 +8,7 @@ use Rattle.rv_asm.specs.declared.form.Form.TheVariants.{Short, Near, Far}
 use Rattle.rv_asm.specs.declared.item.Item.{Item}
 use Rattle.rv_asm.specs.declared.item.Item.TheVariants.{Label, Instr, Jump, Call, Branch}
 use Rattle.rv_asm.specs.Items.{target_of, AreApart, AreThere}
-use Rattle.rv_asm.specs.Forms.{size_of, size, start, longest, longest_size, chosen, shortest, distance, is_label, label_place, target_place, forms_of, Reaches}
+use Rattle.rv_asm.specs.Forms.{size_of, size, start, longest, longest_size, chosen, is_label, label_place, target_place, forms_of}
 use Rattle.rv_asm.specs.Tables.{Holds, entry}
 use Rattle.rv_asm.specs.Words.{words_from, words_of}
 use Rattle.rv_asm.proofs.Emitted.{words_length}

@@ -1,5 +1,5 @@
 -- Words of a list: one item further, and where each item's words stand.
-use Rattle.std.proofs.Common.{◌≡◌, ◌≢◌, ℕ, zero, suc, ◌+◌, ◌<◌, ◌≤◌, List, [], ◌∷◌, ◌++◌, map, length, drop, Option, Some, None, refl, sym, ap, ◌∙◌, arith, subst, append_assoc, length-append}
+use Rattle.std.proofs.Common.{◌≡◌, ℕ, zero, suc, ◌+◌, ◌<◌, List, [], ◌∷◌, ◌++◌, map, length, drop, Some, refl, ap, ◌∙◌, arith, subst, append_assoc, length-append}
 use Rattle.std.specs.Prelude.{slice_get}
 use Rattle.std.proofs.Math.ListN.{get_or}
 use Rattle.std.proofs.lemmas.Option.{slice_get_read}
@@ -15,12 +15,12 @@ use Rattle.rv_asm.specs.Words.{instrs_of, words_from, HasWords}
 -- what is left from item k on begins with its words
 pub words_step : (places : ℕ → ℕ) (fs : List Form) (is : List Item) (k n p : ℕ) (i : Item) (d : Form) → length fs ≡ length is → k < length is → i ≡ get_or is k i → n ≡ suc k
     → words_from places p (drop k fs) (drop k is)
-      ≡ map word_of (instrs_of (get_or fs k d) p (target_place places i) i) ++ words_from places (p + size_of (get_or fs k d) i) (drop n fs) (drop n is)
+    ≡ map word_of (instrs_of (get_or fs k d) p (target_place places i) i) ++ words_from places (p + size_of (get_or fs k d) i) (drop n fs) (drop n is)
 words_step places fs is k n p i d many inside read e = rw e (by fs is k many (slice_get_read is (length is) k i refl inside read))
   where
     by : (fs : List Form) (is : List Item) (k : ℕ) → length fs ≡ length is → slice_get is k ≡ Some i
         → words_from places p (drop k fs) (drop k is)
-          ≡ map word_of (instrs_of (get_or fs k d) p (target_place places i) i) ++ words_from places (p + size_of (get_or fs k d) i) (drop (suc k) fs) (drop (suc k) is)
+        ≡ map word_of (instrs_of (get_or fs k d) p (target_place places i) i) ++ words_from places (p + size_of (get_or fs k d) i) (drop (suc k) fs) (drop (suc k) is)
     by [] [] k many h = cc
     by [] (j ∷ is) k many h = absurd (omega (arith, many))
     by (f ∷ fs) [] k many h = absurd (omega (arith, many))
@@ -63,13 +63,13 @@ has_words before (i ∷ is) behind =
     let rest = has_words (before ++ word_of i ∷ []) is behind in
     let e : length (before ++ word_of i ∷ []) ≡ length before + 1 = omega (arith, length-append before (word_of i ∷ [])) in
     let here : HasWords (before ++ (word_of i ∷ (map word_of is ++ behind))) (length (before ++ word_of i ∷ [])) is
-          = subst (λ l. HasWords l (length (before ++ word_of i ∷ [])) is) (append_assoc before (word_of i ∷ []) (map word_of is ++ behind)) rest in
+    = subst (λ l. HasWords l (length (before ++ word_of i ∷ [])) is) (append_assoc before (word_of i ∷ []) (map word_of is ++ behind)) rest in
     (get_past before (word_of i) (map word_of is ++ behind), subst (λ n. HasWords (before ++ (word_of i ∷ (map word_of is ++ behind))) n is) e here)
 
 -- item k's words stand at its place
 pub stands : (places : ℕ → ℕ) (before : List ℕ) (fs : List Form) (is : List Item) (k : ℕ) (i : Item) (d : Form) → length fs ≡ length is → slice_get is k ≡ Some i
     → HasWords (before ++ words_from places (length before) fs is) (length before + start fs is k)
-        (instrs_of (get_or fs k d) (length before + start fs is k) (target_place places i) i)
+    (instrs_of (get_or fs k d) (length before + start fs is k) (target_place places i) i)
 stands places before [] [] k i d many h = cc
 stands places before [] (j ∷ is) k i d many h = absurd (omega (arith, many))
 stands places before (f ∷ fs) [] k i d many h = absurd (omega (arith, many))
@@ -79,7 +79,7 @@ stands places before (f ∷ fs) (j ∷ is) zero i d many h =
     let rest = words_from places (length before + size_of f j) fs is in
     let all = before ++ words_from places (length before) (f ∷ fs) (j ∷ is) in
     subst (λ p. HasWords all p (instrs_of f p (target_place places i) i)) z
-        (subst (λ x. HasWords all (length before) (instrs_of f (length before) (target_place places x) x)) e (has_words before (instrs_of f (length before) (target_place places j) j) rest))
+    (subst (λ x. HasWords all (length before) (instrs_of f (length before) (target_place places x) x)) e (has_words before (instrs_of f (length before) (target_place places j) j) rest))
 stands places before (f ∷ fs) (j ∷ is) (suc k) i d many h =
     let block = map word_of (instrs_of f (length before) (target_place places j) j) in
     let more : length (before ++ block) ≡ length before + size_of f j = length-append before block ∙ ap (λ n. length before + n) (words_size f (length before) (target_place places j) j) in
@@ -90,4 +90,4 @@ stands places before (f ∷ fs) (j ∷ is) (suc k) i d many h =
     let same : q + start fs is k ≡ length before + (size_of f j + start fs is k) = omega arith in
     let placed : Has q (length before + (size_of f j + start fs is k)) = subst (λ p. Has q p) same moved in
     subst (λ l. HasWords l (length before + (size_of f j + start fs is k)) (instrs_of (get_or fs k d) (length before + (size_of f j + start fs is k)) (target_place places i) i))
-        (append_assoc before block (words_from places q fs is)) placed
+    (append_assoc before block (words_from places q fs is)) placed

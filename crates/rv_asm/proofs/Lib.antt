@@ -2,3 +2,4 @@ mod Choices
 mod Emitted
 mod Layouts
 mod Meeting
+mod Standing

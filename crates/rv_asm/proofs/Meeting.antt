@@ -1,18 +1,17 @@
 -- The words of a labelled list meet every target, in reach.
-use Rattle.std.proofs.Common.{◌≡◌, ℕ, zero, suc, ◌+◌, ◌-◌, ◌<◌, ◌≤◌, ◌^◌, List, [], ◌∷◌, length, Some, None, Option, Bool, true, false, refl, sym, ap, ◌∙◌, arith, subst, ◌⊎◌, inl, inr}
+use Rattle.std.proofs.Common.{◌≡◌, ℕ, zero, suc, ◌+◌, ◌<◌, ◌≤◌, ◌^◌, List, [], ◌∷◌, length, Some, None, Option, Bool, true, false, refl, sym, ap, ◌∙◌, arith, subst, ◌⊎◌, inl, inr}
 use Rattle.std.specs.Prelude.{slice_get, nat_lt, if◌then◌else◌}
 use Rattle.std.proofs.Math.ListN.{get_or}
 use Rattle.std.proofs.lemmas.Bool.{ltb-true, cases_lt}
 use Rattle.std.proofs.lemmas.Option.{slice_get_within, get_or_from_slice_get}
-use Rattle.rv_isa.specs.declared.instruction.Instr.{Instr as Instruction}
 use Rattle.rv_asm.specs.declared.form.Form.{Form}
 use Rattle.rv_asm.specs.declared.form.Form.TheVariants.{Short, Near, Far}
 use Rattle.rv_asm.specs.declared.item.Item.{Item}
 use Rattle.rv_asm.specs.declared.item.Item.TheVariants.{Label, Instr, Jump, Call, Branch}
-use Rattle.rv_asm.specs.Items.{target_of, AreApart, AreThere}
-use Rattle.rv_asm.specs.Forms.{size_of, size, start, longest, longest_size, chosen, shortest, distance, label_place, target_place, forms_of, Reaches}
+use Rattle.rv_asm.specs.Items.{target_of, AreApart}
+use Rattle.rv_asm.specs.Forms.{size_of, size, start, longest, chosen, shortest, distance, label_place, target_place, forms_of, Reaches, IsAssemblable}
 use Rattle.rv_asm.specs.Words.{instrs_of, words_from, words_of, HasWords, IsMetAt, Assembled}
-use Rattle.rv_asm.proofs.Choices.{size_within, longest_length, chosen_length, forms_length, label_stands, words_count, target_known}
+use Rattle.rv_asm.proofs.Choices.{size_within, longest_length, forms_length, label_stands, words_count, target_known}
 use Rattle.rv_asm.proofs.Emitted.{stands}
 use Rattle.rv_asm.proofs.Layouts.{start_first, start_step}
 
@@ -96,13 +95,13 @@ label_of items l = label_place (forms_of items) items 0 l
 -- item k's words stand at its place
 stands_here : (items : List Item) (k : ℕ) (i : Item) → slice_get items k ≡ Some i
     → HasWords (words_of items) (start (forms_of items) items k)
-        (instrs_of (get_or (forms_of items) k Far) (start (forms_of items) items k) (target_place (label_of items) i) i)
+    (instrs_of (get_or (forms_of items) k Far) (start (forms_of items) items k) (target_place (label_of items) i) i)
 unfolding words_of label_of
 stands_here items k i h =
     let P = label_place (forms_of items) items 0 in
     let z : 0 + start (forms_of items) items k ≡ start (forms_of items) items k = omega arith in
     subst (λ p. HasWords (words_from P 0 (forms_of items) items) p (instrs_of (get_or (forms_of items) k Far) p (target_place P i) i)) z
-        (stands P [] (forms_of items) items k i Far (forms_length items) h)
+    (stands P [] (forms_of items) items k i Far (forms_length items) h)
 
 label_of_stands : (items : List Item) (l d : ℕ) → AreApart items → slice_get items d ≡ Some (Label l) → label_of items l ≡ start (forms_of items) items d
 unfolding label_of
@@ -118,8 +117,8 @@ form_at items k d l i apart h t g =
     let z : 0 + start (longest items) items k ≡ start (longest items) items k = omega arith in
     chosen_at P 0 items k i Far h ∙ (ap (λ p. shortest p (target_place P i)) z ∙ ap (shortest (start (longest items) items k)) place)
 
-pub assembled : (items : List Item) → AreApart items → longest_size items < 2 ^ 28 → Assembled items (words_of items)
-assembled items apart room = record {
+pub assembled : (items : List Item) → IsAssemblable items → Assembled items (words_of items)
+assembled items able = record {
   form = λ k. get_or (forms_of items) k Far;
   place = start (forms_of items) items;
   first = start_first (forms_of items) items;
@@ -141,12 +140,12 @@ assembled items apart room = record {
         subst (HasWords (words_of items) (at k)) (no_target i (form k) (at k) (target_place (label_of items) i) (at d) e) (stands_here items k i h)
     met k d i h m (Some l) e =
         let there : slice_get items d ≡ Some (Label l) = subst (λ o. IsMetAt items o d) e m in
-        let place = target_known (label_of items) i l e ∙ label_of_stands items l d apart there in
+        let place = target_known (label_of items) i l e ∙ label_of_stands items l d able.apart there in
         subst (λ t. HasWords (words_of items) (at k) (instrs_of (form k) (at k) t i)) place (stands_here items k i h)
 
     in_reach : (k d l : ℕ) (i : Item) → slice_get items k ≡ Some i → target_of i ≡ Some l → slice_get items d ≡ Some (Label l) → Reaches (form k) (at k) (at d)
     in_reach k d l i h t g =
         let a = start_at_most (longest items) items k in
         let b = start_at_most (longest items) items d in
-        subst (λ f. Reaches f (at k) (at d)) (sym (form_at items k d l i apart h t g))
-            (reaches (start (longest items) items k) (start (longest items) items d) (at k) (at d) (distance_closer (forms_of items) items k d) (omega (arith, a, b, room)))
+        subst (λ f. Reaches f (at k) (at d)) (sym (form_at items k d l i able.apart h t g))
+        (reaches (start (longest items) items k) (start (longest items) items d) (at k) (at d) (distance_closer (forms_of items) items k d) (omega (arith, a, b, able.room)))

@@ -1,10 +1,10 @@
 -- Which form each branch, jump and call has, and where each item stands. Places count words.
-use Rattle.std.specs.Prelude.{◌≡◌, ℕ, zero, suc, ◌+◌, ◌-◌, ◌≤◌, ◌<◌, ◌^◌, List, [], ◌∷◌, map, Bool, true, false, nat_eq, nat_lt, if◌then◌else◌, Option, Some, None}
+use Rattle.std.specs.Prelude.{ℕ, zero, suc, ◌+◌, ◌-◌, ◌<◌, ◌^◌, List, [], ◌∷◌, map, Bool, false, nat_eq, nat_lt, if◌then◌else◌, Option, Some, None}
 use Rattle.rv_asm.specs.declared.form.Form.{Form}
 use Rattle.rv_asm.specs.declared.form.Form.TheVariants.{Short, Near, Far}
 use Rattle.rv_asm.specs.declared.item.Item.{Item}
 use Rattle.rv_asm.specs.declared.item.Item.TheVariants.{Label, Instr, Jump, Call, Branch}
-use Rattle.rv_asm.specs.Items.{target_of}
+use Rattle.rv_asm.specs.Items.{target_of, AreApart, AreThere}
 
 -- the words of a jump
 abbrev pub jump_size : Form → ℕ
@@ -73,6 +73,12 @@ longest items = map (λ _. Far) items
 -- the words of all items in their longest forms: the caller keeps them below 2 ^ 28, so that AUIPC and JALR reach
 abbrev pub longest_size : List Item → ℕ
 longest_size items = size (longest items) items
+
+-- what can be assembled: no label stands twice, each that an item goes to stands somewhere, and the longest forms reach
+pub record IsAssemblable (items : List Item) : Type 0 where
+  pub apart : AreApart items
+  pub there : AreThere items
+  pub room : longest_size items < 2 ^ 28
 
 -- the forms of items from place p on, where places are those of the longest forms: in the forms that are chosen, nothing is further
 abbrev pub chosen : (ℕ → ℕ) → ℕ → List Item → List Form

@@ -1,5 +1,5 @@
 -- Labelled lists: where branches, jumps and calls go.
-use Rattle.std.specs.Prelude.{◌≡◌, ℕ, List, Option, Some, None, slice_get,}
+use Rattle.std.specs.Prelude.{◌≡◌, ℕ, List, Option, Some, None, slice_get}
 use Rattle.rv_asm.specs.declared.item.Item.{Item}
 use Rattle.rv_asm.specs.declared.item.Item.TheVariants.{Label, Instr, Jump, Call, Branch}
 
@@ -18,4 +18,4 @@ pub record AreApart (items : List Item) : Type 0 where
 -- each label that an item goes to stands somewhere
 pub record AreThere (items : List Item) : Type 0 where
   pub place : (k l : ℕ) (i : Item) → slice_get items k ≡ Some i → target_of i ≡ Some l
-    → (d : ℕ) × (slice_get items d ≡ Some (Label l))
+      → (d : ℕ) × (slice_get items d ≡ Some (Label l))

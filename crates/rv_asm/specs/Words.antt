@@ -1,5 +1,5 @@
 -- The words of a labelled list.
-use Rattle.std.specs.Prelude.{◌≡◌, ℕ, suc, ◌+◌, ◌-◌, ◌*◌, ◌/◌, ◌%◌, ◌^◌, List, [], ◌∷◌, ◌++◌, map, length, Option, Some, None, slice_get,}
+use Rattle.std.specs.Prelude.{◌≡◌, ℕ, suc, ◌+◌, ◌-◌, ◌*◌, ◌/◌, ◌%◌, ◌^◌, List, [], ◌∷◌, ◌++◌, map, length, Option, Some, None, slice_get}
 use Rattle.rv_isa.specs.declared.instruction.BranchOp.{BranchOp}
 use Rattle.rv_isa.specs.declared.instruction.BranchOp.TheVariants.{Beq, Bne, Blt, Bge, Bltu, Bgeu}
 use Rattle.rv_isa.specs.declared.instruction.Instr.{Instr}
@@ -10,7 +10,7 @@ use Rattle.rv_asm.specs.declared.form.Form.TheVariants.{Short, Near, Far}
 use Rattle.rv_asm.specs.declared.item.Item.{Item}
 use Rattle.rv_asm.specs.declared.item.Item.TheVariants as item
 use Rattle.rv_asm.specs.Items.{target_of}
-use Rattle.rv_asm.specs.Forms.{size_of, start, size, label_place, target_place, forms_of, Reaches}
+use Rattle.rv_asm.specs.Forms.{size_of, label_place, target_place, forms_of, Reaches}
 
 -- the condition that holds where this one does not
 abbrev pub opposite : BranchOp → BranchOp
@@ -74,6 +74,6 @@ pub record Assembled (items : List Item) (ws : List ℕ) : Type 0 where
   pub next : (k : ℕ) (i : Item) → slice_get items k ≡ Some i → place (suc k) ≡ place k + size_of (form k) i
   pub last : place (length items) ≡ length ws
   pub words : (k d : ℕ) (i : Item) → slice_get items k ≡ Some i → IsMetAt items (target_of i) d
-    → HasWords ws (place k) (instrs_of (form k) (place k) (place d) i)
+      → HasWords ws (place k) (instrs_of (form k) (place k) (place d) i)
   pub reach : (k d l : ℕ) (i : Item) → slice_get items k ≡ Some i → target_of i ≡ Some l → slice_get items d ≡ Some (item.Label l)
-    → Reaches (form k) (place k) (place d)
+      → Reaches (form k) (place k) (place d)

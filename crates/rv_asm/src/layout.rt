@@ -1,11 +1,28 @@
 //! Where the labels of a list stand, and which form each of its items has.
 ghost use Rattle.std.specs.Prelude.{
-    ◌≡◌, ℕ, ◌+◌, ◌<◌, ◌≤◌, ◌^◌, IfOk, OnOk, Some, slice_get, length,
+  ◌≡◌,
+  ℕ,
+  ◌+◌,
+  ◌<◌,
+  ◌≤◌,
+  ◌^◌,
+  IfOk,
+  OnOk,
+  Some,
+  slice_get,
+  length,
 };
 ghost use Rattle.rv_asm.specs.declared.item.Item.TheVariants as ItemVariants;
 ghost use Rattle.rv_asm.specs.Items.{AreApart, target_of};
 ghost use Rattle.rv_asm.specs.Forms.{
-    size_of, size, start, longest, longest_size, chosen, shortest, target_place,
+  size_of,
+  size,
+  start,
+  longest,
+  longest_size,
+  chosen,
+  shortest,
+  target_place,
 };
 ghost use Rattle.rv_asm.specs.Tables.{HasRoom, Holds, IsWithin, entry, marked};
 
@@ -50,7 +67,7 @@ pub(crate) fn size(forms: &[Form], items: &[Item]) -> u32
 }
 
 /// How many entries a table of the labels of this list has.
-fn table_length(items: &[Item]) -> usize
+pub(crate) fn table_length(items: &[Item]) -> usize
     ensures { (k l : ℕ) → slice_get items.now k ≡ Some (ItemVariants.Label l) → l < result }
 {
     let mut entries = 0usize;

@@ -5,6 +5,7 @@
 mod assembler;
 pub mod form;
 pub mod item;
+mod labels;
 pub mod laws;
 mod layout;
 mod words;
@@ -12,3 +13,4 @@ mod words;
 pub use crate::assembler::{assemble, word_count};
 pub use crate::form::Form;
 pub use crate::item::{Item, Label};
+pub use crate::labels::is_assemblable;

@@ -1,12 +1,25 @@
 //! The words of items at their places.
 ghost use Rattle.std.specs.Prelude.{
-    ◌≡◌, ◌+◌, ◌<◌, ◌^◌, ◌++◌, OnOk, [], length, map,
+  ◌≡◌,
+  ◌+◌,
+  ◌<◌,
+  ◌^◌,
+  ◌++◌,
+  OnOk,
+  [],
+  length,
+  map,
 };
 ghost use Rattle.rv_isa.specs.Table.{word_of};
 ghost use Rattle.rv_asm.specs.Forms.{size};
 ghost use Rattle.rv_asm.specs.Tables.{entry};
 ghost use Rattle.rv_asm.specs.Words.{
-    branch_instrs, instrs_of, jump_instrs, offset, opposite, words_from,
+  branch_instrs,
+  instrs_of,
+  jump_instrs,
+  offset,
+  opposite,
+  words_from,
 };
 
 use crate::form::Form;

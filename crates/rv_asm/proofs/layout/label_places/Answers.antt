@@ -1,5 +1,4 @@
 use Rattle.std.proofs.Common.{◌+◌, ◌<◌, length, arith, sym}
-use Rattle.std.proofs.lemmas.Option.{slice_get_read}
 use Rattle.rv_asm.specs.declared.form.Form.TheVariants.{Short}
 use Rattle.rv_asm.proofs.Layouts.{size_step, start_first, start_step, is_within, has_room_still, holds_further}
 use Rattle.rv_asm.proofs.layout.label_places.Goals as goal

@@ -4,6 +4,7 @@ use Rattle.rv_isa.specs.declared.instruction.BranchOp.{BranchOp}
 use Rattle.rv_isa.specs.declared.instruction.BranchOp.TheVariants.{Beq, Bne, Blt, Bge, Bltu, Bgeu}
 use Rattle.rv_isa.specs.declared.instruction.Instr.{Instr}
 use Rattle.rv_isa.specs.declared.instruction.Instr.TheVariants as instr
+use Rattle.rv_isa.specs.Registers.{zero_register, ra}
 use Rattle.rv_isa.specs.Table.{word_of}
 use Rattle.rv_asm.specs.declared.form.Form.{Form}
 use Rattle.rv_asm.specs.declared.form.Form.TheVariants.{Short, Near, Far}
@@ -34,15 +35,15 @@ jump_instrs Far rd p t =
 
 abbrev pub branch_instrs : Form → BranchOp → ℕ → ℕ → ℕ → ℕ → List Instr
 branch_instrs Short op a b p t = instr.Branch op a b (offset 13 p t) ∷ []
-branch_instrs Near op a b p t = instr.Branch (opposite op) a b 8 ∷ jump_instrs Near 0 (p + 1) t
-branch_instrs Far op a b p t = instr.Branch (opposite op) a b 12 ∷ jump_instrs Far 0 (p + 1) t
+branch_instrs Near op a b p t = instr.Branch (opposite op) a b 8 ∷ jump_instrs Near zero_register (p + 1) t
+branch_instrs Far op a b p t = instr.Branch (opposite op) a b 12 ∷ jump_instrs Far zero_register (p + 1) t
 
 -- the instructions of an item at place p whose label is at place t
 abbrev pub instrs_of : Form → ℕ → ℕ → Item → List Instr
 instrs_of f p t (item.Label _) = []
 instrs_of f p t (item.Instr i) = i ∷ []
-instrs_of f p t (item.Jump _) = jump_instrs f 0 p t
-instrs_of f p t (item.Call _) = jump_instrs f 1 p t
+instrs_of f p t (item.Jump _) = jump_instrs f zero_register p t
+instrs_of f p t (item.Call _) = jump_instrs f ra p t
 instrs_of f p t (item.Branch op a b _) = branch_instrs f op a b p t
 
 -- the words of items from place p on

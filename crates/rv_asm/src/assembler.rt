@@ -3,10 +3,10 @@ ghost use Rattle.std.specs.Prelude.{◌≡◌, IfOk, length};
 ghost use Rattle.rv_asm.specs.Forms.{forms_of, IsAssemblable};
 ghost use Rattle.rv_asm.specs.Words.{words_of};
 
+use crate::emission::put_items;
 use crate::form::Form;
 use crate::item::Item;
 use crate::layout::{chosen_forms, label_places, longest_forms, size};
-use crate::words::put_items;
 use std::alloc::{AllocError, Global};
 
 /// The form of each item.

@@ -3,12 +3,12 @@
 #![tactic(auto)]
 
 mod assembler;
+mod emission;
 pub mod form;
 pub mod item;
 mod labels;
 pub mod laws;
 mod layout;
-mod words;
 
 pub use crate::assembler::{assemble, word_count};
 pub use crate::form::Form;

@@ -2,7 +2,7 @@ use Rattle.std.proofs.Common.{◌≡◌, ◌+◌, ◌++◌, drop}
 use Rattle.rv_asm.specs.Forms.{size}
 use Rattle.rv_asm.specs.Tables.{entry}
 use Rattle.rv_asm.specs.Words.{words_from}
-use Rattle.rv_asm.proofs.words.put_items.Given as goal
+use Rattle.rv_asm.proofs.emission.put_items.Given as goal
 
 abbrev pub invariant-loop-index : goal.invariant-loop-index
 invariant-loop-index l = record {

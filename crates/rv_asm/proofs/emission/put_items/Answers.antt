@@ -7,7 +7,7 @@ use Rattle.rv_asm.specs.declared.form.Form.TheVariants.{Short}
 use Rattle.rv_asm.specs.Tables.{entry}
 use Rattle.rv_asm.proofs.Emitted.{words_step}
 use Rattle.rv_asm.proofs.Layouts.{size_step}
-use Rattle.rv_asm.proofs.words.put_items.Goals as goal
+use Rattle.rv_asm.proofs.emission.put_items.Goals as goal
 
 pub loop-index-preserved : goal.loop-index-preserved
 loop-index-preserved c =

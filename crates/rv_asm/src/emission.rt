@@ -110,7 +110,7 @@ fn put_branch(
                 rs2,
                 imm: BranchOffset::new(if form == Form::Near { 8 } else { 12 }),
             }))?;
-            put_jump(words, form, Reg::new(0), from + 1, to)?;
+            put_jump(words, form, Reg::ZERO, from + 1, to)?;
         }
     }
     Ok(())
@@ -130,8 +130,8 @@ fn put_item(
     match *item {
         Item::Label(_) => {}
         Item::Instr(instr) => words.push(encode(instr))?,
-        Item::Jump { .. } => put_jump(words, form, Reg::new(0), from, to)?,
-        Item::Call { .. } => put_jump(words, form, Reg::new(1), from, to)?,
+        Item::Jump { .. } => put_jump(words, form, Reg::ZERO, from, to)?,
+        Item::Call { .. } => put_jump(words, form, Reg::RA, from, to)?,
         Item::Branch { op, rs1, rs2, .. } => put_branch(words, form, op, rs1, rs2, from, to)?,
     }
     Ok(())

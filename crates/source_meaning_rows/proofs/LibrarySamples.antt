@@ -110,11 +110,15 @@ abbrev pub declared_from : ℕ → List Variable → List DeclaredVariable
 declared_from x [] = []
 declared_from x (v ∷ vs) = without_value x ∷ declared_from (suc x) vs
 
--- a program of `main` alone, at line 1, which declares its variables first, and in which a call of it takes its room
-abbrev pub program_of : List StaticObject → List Variable → List Statement → Program
-program_of statics variables body =
-    let f : Function = record { line = 1; type_number = 0; parameters = none; variables = variables; body = statements_in (declaration (declared_from 0 variables) ∷ body); room = 0 } in
+-- a program of `main` alone, at line 1, in which a call of it takes its room
+abbrev pub program_declaring : List StaticObject → List Variable → List Statement → Program
+program_declaring statics variables body =
+    let f : Function = record { line = 1; type_number = 0; parameters = none; variables = variables; body = statements_in body; room = 0 } in
     record { structures = []; statics = statics; function_types = one main_type; functions = one (record f { room = room statics 0 int f }); main = 0 }
+
+-- the same, which declares its variables first
+abbrev pub program_of : List StaticObject → List Variable → List Statement → Program
+program_of statics variables body = program_declaring statics variables (declaration (declared_from 0 variables) ∷ body)
 
 -- the default budgets with a heap of one page, so that its places are few
 abbrev pub small_heap : BudgetSizes

@@ -11,8 +11,8 @@ use Rattle.obj_memory.specs.declared.int_type.IntType.TheVariants.{Char}
 use Rattle.obj_memory.specs.declared.operator.BinaryOperator.TheVariants.{Add, Equal, Less}
 use Rattle.sb_base.specs.Budgets.{default_sizes}
 use Rattle.source_meaning.specs.Meaning.{meaning}
-use Rattle.source_meaning_rows.proofs.Samples.{address, assign, binary, cast, compare, computing, content, deref, five, index, int, integer_kind, library, lvalue, main_alone, member, number, object_variable, one, parenthesized, part, plain, plain_variable, pointer, read, seen, set_plain, six, static_object, stopped, with_value}
-use Rattle.std.proofs.Common.{Some, [], refl, true, ◌≡◌}
+use Rattle.source_meaning_rows.proofs.Samples.{address, assign, binary, cast, compare, computing, content, deref, five, index, int, integer_kind, library, lvalue, main_alone, member, number, object_variable, one, parenthesized, part, plain, plain_variable, pointer, read, seen, set_plain, six, static_object, stopped, with_value, without_value}
+use Rattle.std.proofs.Common.{Some, [], refl, true, ◌≡◌, ◌∷◌}
 use Rattle.std.specs.Prelude.{codes}
 
 statement_1 : Statement
@@ -45,12 +45,15 @@ program = main_alone
     (plain_variable pointer)
     (plain_variable int))
     448
-    (six statement_1
-    (declaration (one (with_value 2 (cast 1 pointer (address 1 (lvalue 1 (Structure 8) (tree.automatic 1)))))))
-    (declaration (one (with_value 3 (cast 1 pointer (address 1 (lvalue 1 (Structure 8) (tree.automatic 0)))))))
-    statement_3
-    statement_4
-    (return (Some (read (deref 2 int (read (member 2 pointer 0 (lvalue 2 (Structure 8) (tree.automatic 1)))))))))
+    ((declaration (without_value 0 ∷ without_value 1 ∷ []))
+    ∷ statement_1
+    ∷ (declaration (one (with_value 2 (cast 1 pointer (address 1 (lvalue 1 (Structure 8) (tree.automatic 1)))))))
+    ∷ (declaration (one (with_value 3 (cast 1 pointer (address 1 (lvalue 1 (Structure 8) (tree.automatic 0)))))))
+    ∷ (declaration (without_value 4 ∷ []))
+    ∷ statement_3
+    ∷ statement_4
+    ∷ (return (Some (read (deref 2 int (read (member 2 pointer 0 (lvalue 2 (Structure 8) (tree.automatic 1))))))))
+    ∷ [])
 
 run : seen (meaning program default_sizes [] 20) ≡ stopped (codes "1") (codes "sbcets: spatial violation at line 2\n") 120
 unfolding program statement_1 statement_2 statement_3 statement_4 computing

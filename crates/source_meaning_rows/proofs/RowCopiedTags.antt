@@ -15,8 +15,8 @@ use Rattle.obj_memory.specs.declared.operator.BinaryOperator.TheVariants.{Less, 
 use Rattle.obj_memory.specs.declared.value.Scalar.TheVariants.{Integer}
 use Rattle.sb_base.specs.Budgets.{default_sizes}
 use Rattle.source_meaning.specs.Meaning.{meaning}
-use Rattle.source_meaning_rows.proofs.LibrarySamples.{call, memcpy, perform, program_of}
-use Rattle.source_meaning_rows.proofs.Samples.{at, computing, int, lvalue, number, object_variable, one, plain_variable, pointer, read, six}
+use Rattle.source_meaning_rows.proofs.LibrarySamples.{call, memcpy, perform, program_declaring}
+use Rattle.source_meaning_rows.proofs.Samples.{at, computing, int, lvalue, number, object_variable, one, plain_variable, pointer, read, six, with_value, without_value}
 use Rattle.std.proofs.Common.{◌≡◌, ℕ, [], ◌∷◌, refl, true, false, Some, None}
 use Rattle.std.specs.Prelude.{codes}
 
@@ -44,17 +44,19 @@ set_index e = at 2 int (tree.assign_plain (record { variable = 5; parentheses = 
 
 -- a pointer to characters with the address of an object
 characters : (pointer_variable object : ℕ) → Statement
-characters x n = declaration (one (PlainInitialization x (at 2 pointer (tree.cast (address 2 n)))))
+characters x n = declaration (one (with_value x (at 2 pointer (tree.cast (address 2 n)))))
 
 program : Program
-program = program_of
+program = program_declaring
     (one (record { kind = int; is_literal = false; function = None; parts = one (record { offset = 0; content = value_content (number 1 66) }) }))
     (six (object_variable (Structure 8)) (object_variable (Structure 8)) (object_variable (Structure 8)) (plain_variable pointer) (plain_variable pointer) (plain_variable int))
-    (perform (at 1 pointer (tree.assign (member 1 0) ((at 1 pointer (tree.address ((lvalue 1 int (tree.static 0))))))))
+    (declaration (without_value 0 ∷ without_value 1 ∷ without_value 2 ∷ [])
+    ∷ perform (at 1 pointer (tree.assign (member 1 0) ((at 1 pointer (tree.address ((lvalue 1 int (tree.static 0))))))))
     ∷ perform (memcpy (address 1 1) (address 1 0) 8)
     ∷ perform (call Putchar int (one (read (target 1 (read (member 1 1))))))
     ∷ characters 3 2
     ∷ characters 4 0
+    ∷ declaration (without_value 5 ∷ [])
     ∷ for 2 (first_expression (set_index (number 2 0))) (Some (at 2 int (tree.binary Less (i) (number 2 8))))
     (Some (set_index (at 2 int (tree.binary Add (i) (number 2 1)))))
     ((perform (at 2 (OfScalar (Integer Char)) (tree.assign (byte 3) ((read (byte 4)))))))

@@ -1,6 +1,7 @@
 -- `int main(void){putchar(72);putchar(105);return 7;}`: hi and status 7. Work: 4 statements (the body is one), 5 nodes, 3
 -- calls, 2 bytes.
 -- The text is rows/first.c; gcc 12.2.0 gives the same output and status.
+use Rattle.c_tree.specs.Tree.{expressions_in}
 use Rattle.behaviours.specs.Shown.{Status}
 use Rattle.c_tree.specs.Programs.{Program}
 use Rattle.c_tree.specs.Statements.{Statement, expression_statement, return}
@@ -13,7 +14,7 @@ use Rattle.source_meaning_rows.proofs.Samples.{at, computing, int, main_alone, n
 use Rattle.std.proofs.Common.{◌≡◌, ℕ, [], ◌∷◌, refl, true, Some, None}
 
 put : ℕ → Statement
-put n = expression_statement (at 1 int (tree.library Putchar (one (number 1 n))))
+put n = expression_statement (at 1 int (tree.library Putchar (expressions_in (one (number 1 n)))))
 
 program : Program
 program = main_alone none none 168 (three (put 72) (put 105) (return (Some (number 1 7))))

@@ -51,12 +51,12 @@ unfolding ending program p b computing
 free_static = refl
 
 -- `free((void*)1)`: no tag
-free_untagged : ending (free (at 1 pointer (Cast (number 1 1)))) ≡ Some (Status 123)
+free_untagged : ending (free (at 1 pointer (tree.cast (number 1 1)))) ≡ Some (Status 123)
 unfolding ending program p b computing
 free_untagged = refl
 
 -- `free((void*)main)`: a function
-free_function : ending (free (at 1 pointer (Cast ((at 1 pointer (Function 0)))))) ≡ Some (Status 123)
+free_function : ending (free (at 1 pointer (tree.cast ((at 1 pointer (tree.function 0)))))) ≡ Some (Status 123)
 unfolding ending program p b computing
 free_function = refl
 
@@ -86,7 +86,7 @@ unfolding ending program p b computing
 realloc_static = refl
 
 -- `realloc((void*)1,8)`
-realloc_untagged : ending (realloc (at 1 pointer (Cast (number 1 1))) 8) ≡ Some (Status 123)
+realloc_untagged : ending (realloc (at 1 pointer (tree.cast (number 1 1))) 8) ≡ Some (Status 123)
 unfolding ending program p b computing
 realloc_untagged = refl
 

@@ -14,7 +14,7 @@ use Rattle.obj_memory.specs.declared.operator.BinaryOperator.TheVariants.{Add}
 use Rattle.obj_memory.specs.declared.value.Scalar.TheVariants.{Integer}
 use Rattle.sb_base.specs.Budgets.{default_sizes}
 use Rattle.source_meaning.specs.Meaning.{meaning}
-use Rattle.source_meaning_rows.proofs.LibrarySamples.{call, malloc, perform, plain, program_of, realloc, set}
+use Rattle.source_meaning_rows.proofs.LibrarySamples.{call, malloc, perform, plain, program_declaring, realloc, set}
 use Rattle.source_meaning_rows.proofs.Samples.{at, computing, convert, int, lvalue, none, number, one, plain_variable, pointer, read, two, with_value}
 use Rattle.std.proofs.Common.{◌≡◌, ℕ, [], ◌∷◌, refl, true, Some}
 use Rattle.std.specs.Prelude.{codes}
@@ -34,7 +34,7 @@ put : Expression → Statement
 put e = perform (call Putchar int (one e))
 
 program : Program
-program = program_of none (two (plain_variable pointer) (plain_variable pointer))
+program = program_declaring none (two (plain_variable pointer) (plain_variable pointer))
     (declaration (one (with_value 0 (malloc 4)))
     ∷ assign p 3 88
     ∷ set 0 (realloc p 40)

@@ -1,6 +1,7 @@
 -- `int main(void){char s[4]="hi";int a[2]={[1]=7};return s[1]+a[0];}`
 -- A string is stored byte by byte, the final 0 too where it fits. Work: the call and the body 2; the objects placed 5
--- and 9; the first initializer 5, 4 bytes and a node, the second 9; the return 8. The text is
+-- and 9; the first initializer 8, 4 bytes that become zero, a node and 3 bytes
+-- written, the second 9; the return 8. The text is
 -- rows/initializer_accesses.c; gcc 12.2.0 gives the same output and status.
 use Rattle.c_tree.specs.Programs.{Program}
 use Rattle.c_tree.specs.Statements.{Statement, declaration, return, literal_content}
@@ -34,7 +35,7 @@ unfolding program statement_1 computing
 run = refl
 
 counted : counts (meaning program default_sizes [] 20) ≡
-    record { turns = 1; work = 38; accesses = writes 0x10000000 1 ∷ writes 0x10000001 1 ∷ writes 0x10000002 1 ∷ writes 0x10000014 4 ∷ reads 0x10000001 1 ∷ reads 0x10000010 4 ∷ [] }
+    record { turns = 1; work = 41; accesses = writes 0x10000000 1 ∷ writes 0x10000001 1 ∷ writes 0x10000002 1 ∷ writes 0x10000014 4 ∷ reads 0x10000001 1 ∷ reads 0x10000010 4 ∷ [] }
 unfolding program statement_1 computing
 counted = refl
 

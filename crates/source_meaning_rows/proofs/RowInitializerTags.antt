@@ -11,8 +11,8 @@ use Rattle.obj_memory.specs.declared.int_type.IntType.TheVariants.{Int}
 use Rattle.obj_memory.specs.declared.operator.BinaryOperator.TheVariants.{Add, Equal, Less}
 use Rattle.sb_base.specs.Budgets.{default_sizes}
 use Rattle.source_meaning.specs.Meaning.{meaning}
-use Rattle.source_meaning_rows.proofs.Samples.{address, binary, block_of, compare, computing, conditional, content, convert, decay, deref, index, int, lvalue, main_alone, number, object_variable, one, part, plain, plain_variable, pointer, read, seen, set_plain, static_object, step_plain, stopped, three, two, with_parts, with_value}
-use Rattle.std.proofs.Common.{Some, [], refl, true, ◌≡◌}
+use Rattle.source_meaning_rows.proofs.Samples.{address, binary, block_of, compare, computing, conditional, content, convert, decay, deref, index, int, lvalue, main_alone, number, object_variable, one, part, plain, plain_variable, pointer, read, seen, set_plain, static_object, step_plain, stopped, three, two, with_parts, with_value, without_value}
+use Rattle.std.proofs.Common.{Some, [], refl, true, ◌≡◌, ◌∷◌}
 use Rattle.std.specs.Prelude.{codes}
 
 statement_1 : Statement
@@ -39,7 +39,11 @@ program = main_alone
     (one (static_object int (one (part 0 (content (number 1 7))))))
     (three (plain_variable int) (plain_variable int) (object_variable (Array 16)))
     408
-    (three (declaration (one (with_value 1 (number 1 0)))) statement_5 (return (Some (plain 1 int 1))))
+    ((declaration (without_value 0 ∷ []))
+    ∷ (declaration (one (with_value 1 (number 1 0))))
+    ∷ statement_5
+    ∷ (return (Some (plain 1 int 1)))
+    ∷ [])
 
 run : seen (meaning program default_sizes [] 20) ≡ stopped [] (codes "sbcets: spatial violation at line 1\n") 120
 unfolding program statement_1 statement_2 statement_3 statement_4 statement_5 computing

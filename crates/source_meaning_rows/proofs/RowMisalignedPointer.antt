@@ -8,7 +8,7 @@ use Rattle.c_tree.specs.declared.expression.Kind.TheVariants.{Array}
 use Rattle.c_tree.specs.declared.expression.OffsetForm.TheVariants.{PointerPlusIndex}
 use Rattle.sb_base.specs.Budgets.{default_sizes}
 use Rattle.source_meaning.specs.Meaning.{meaning}
-use Rattle.source_meaning_rows.proofs.Samples.{address, assign, cast, computing, content, decay, deref, int, lvalue, main_alone, number, object_variable, offset, one, parenthesized, part, plain, plain_variable, pointer, read, reads, seen, static_object, stopped, three, two, with_value, writes}
+use Rattle.source_meaning_rows.proofs.Samples.{address, assign, cast, computing, content, decay, deref, int, lvalue, main_alone, number, object_variable, offset, one, parenthesized, part, plain, plain_variable, pointer, read, reads, seen, static_object, stopped, three, two, with_value, writes, without_value}
 use Rattle.std.proofs.Common.{Some, [], refl, true, ◌∷◌, ◌≡◌}
 use Rattle.std.specs.Prelude.{codes}
 
@@ -20,9 +20,11 @@ program = main_alone
     (one (static_object int (one (part 0 (content (number 1 9))))))
     (two (object_variable (Array 16)) (plain_variable pointer))
     288
-    (three statement_1
-    (expression_statement (assign 1 (deref 1 pointer (plain 1 pointer 1)) (address 1 (lvalue 1 int (tree.static 0)))))
-    (return (Some (read (deref 1 int (read (deref 1 pointer (plain 1 pointer 1))))))))
+    ((declaration (without_value 0 ∷ []))
+    ∷ statement_1
+    ∷ (expression_statement (assign 1 (deref 1 pointer (plain 1 pointer 1)) (address 1 (lvalue 1 int (tree.static 0)))))
+    ∷ (return (Some (read (deref 1 int (read (deref 1 pointer (plain 1 pointer 1)))))))
+    ∷ [])
 
 run : seen (meaning program default_sizes [] 20) ≡ stopped [] (codes "sbcets: spatial violation at line 1\n") 120
 unfolding program statement_1 computing

@@ -13,7 +13,7 @@ use Rattle.c_tree.specs.declared.expression.Routine.TheVariants.{Putchar}
 use Rattle.obj_memory.specs.declared.operator.BinaryOperator.TheVariants.{Add, Equal}
 use Rattle.sb_base.specs.Budgets.{default_sizes}
 use Rattle.source_meaning.specs.Meaning.{meaning}
-use Rattle.source_meaning_rows.proofs.Samples.{address, arrow, assign, binary, cast, compare, computing, content, convert, decay, deref, four, int, library, lvalue, main_alone, member, number, object_variable, offset, one, parenthesized, part, plain, plain_variable, pointer, read, seen, static_object, stopped, with_value}
+use Rattle.source_meaning_rows.proofs.Samples.{address, arrow, assign, binary, cast, compare, computing, content, convert, decay, deref, four, int, library, lvalue, main_alone, member, number, object_variable, offset, one, parenthesized, part, plain, plain_variable, pointer, read, seen, static_object, stopped, with_value, without_value}
 use Rattle.std.proofs.Common.{Some, [], refl, true, ◌∷◌, ◌≡◌}
 use Rattle.std.specs.Prelude.{codes}
 
@@ -37,16 +37,18 @@ program = main_alone
     (one (static_object int (one (part 0 (content (number 1 66))))))
     (four (object_variable (Structure 8)) (object_variable (Array 24)) (plain_variable pointer) (plain_variable pointer))
     408
-    (statement_1 ∷
-    statement_2 ∷
-    statement_3 ∷
-    expression_statement (assign 2 (deref 2 (Structure 8) (plain 2 pointer 2)) (read (lvalue 2 (Structure 8) (tree.automatic 0)))) ∷
-    expression_statement (library 2 int Putchar (one (read (deref 2 int (read (arrow 2 pointer 0 (plain 2 pointer 2))))))) ∷
-    statement_4 ∷
-    expression_statement (assign 2 (member 2 pointer 0 (lvalue 2 (Structure 8) (tree.automatic 0))) (convert pointer (number 2 0))) ∷
-    expression_statement (assign 2 (lvalue 2 (Structure 8) (tree.automatic 0)) (read (deref 2 (Structure 8) (plain 2 pointer 3)))) ∷
-    statement_5 ∷
-    return (Some (read (deref 3 int (read (member 3 pointer 0 (lvalue 3 (Structure 8) (tree.automatic 0))))))) ∷ [])
+    ((declaration (without_value 0 ∷ without_value 1 ∷ []))
+    ∷ statement_1
+    ∷ statement_2
+    ∷ statement_3
+    ∷ (expression_statement (assign 2 (deref 2 (Structure 8) (plain 2 pointer 2)) (read (lvalue 2 (Structure 8) (tree.automatic 0)))))
+    ∷ (expression_statement (library 2 int Putchar (one (read (deref 2 int (read (arrow 2 pointer 0 (plain 2 pointer 2))))))))
+    ∷ statement_4
+    ∷ (expression_statement (assign 2 (member 2 pointer 0 (lvalue 2 (Structure 8) (tree.automatic 0))) (convert pointer (number 2 0))))
+    ∷ (expression_statement (assign 2 (lvalue 2 (Structure 8) (tree.automatic 0)) (read (deref 2 (Structure 8) (plain 2 pointer 3)))))
+    ∷ statement_5
+    ∷ (return (Some (read (deref 3 int (read (member 3 pointer 0 (lvalue 3 (Structure 8) (tree.automatic 0))))))))
+    ∷ [])
 
 run : seen (meaning program default_sizes [] 20) ≡ stopped (codes "B1") (codes "sbcets: spatial violation at line 3\n") 120
 unfolding program statement_1 statement_2 statement_3 statement_4 statement_5 computing

@@ -12,7 +12,7 @@ use Rattle.obj_memory.specs.declared.operator.BinaryOperator.TheVariants.{Equal}
 use Rattle.obj_memory.specs.declared.value.Scalar.TheVariants.{Integer}
 use Rattle.sb_base.specs.Budgets.{default_sizes}
 use Rattle.source_meaning.specs.Meaning.{meaning}
-use Rattle.source_meaning_rows.proofs.LibrarySamples.{compare, malloc, null, perform, plain, program_of, realloc}
+use Rattle.source_meaning_rows.proofs.LibrarySamples.{compare, malloc, null, perform, plain, program_declaring, realloc}
 use Rattle.source_meaning_rows.proofs.Samples.{at, computing, convert, four, int, lvalue, none, number, one, plain_variable, pointer, read, with_value}
 use Rattle.std.proofs.Common.{◌≡◌, [], refl, true, Some, None}
 
@@ -23,7 +23,7 @@ target : Lvalue
 target = lvalue 1 (OfScalar (Integer Char)) (tree.deref (p))
 
 program : Program
-program = program_of none (one (plain_variable pointer))
+program = program_declaring none (one (plain_variable pointer))
     (four
     (declaration (one (with_value 0 (malloc 1))))
     (perform (at 1 (OfScalar (Integer Char)) (tree.assign (target) ((convert (OfScalar (Integer Char)) (number 1 5))))))

@@ -1,5 +1,6 @@
 -- `int main(void){char*p=malloc(2);free(p);printf("a%s",p);return 0;}`
 -- All strings are scanned before anything is put out. The text is rows/print_dead.c.
+use Rattle.c_tree.specs.Tree.{expressions_in}
 use Rattle.c_tree.specs.Programs.{Program}
 use Rattle.c_tree.specs.Statements.{expression_statement, declaration, return}
 use Rattle.c_tree.specs.Tree as tree
@@ -20,7 +21,7 @@ program = main_alone none
     (four
     (declaration (one (with_value 0 (library 1 pointer Malloc (one (convert (integer_kind UnsignedLong) (number 1 2)))))))
     (expression_statement (library 1 Void Free (one (plain 1 pointer 0))))
-    (expression_statement (at 1 int (tree.printf (codes "a%s" ++ 0 ∷ []) (one (plain 1 pointer 0)))))
+    (expression_statement (at 1 int (tree.printf (codes "a%s" ++ 0 ∷ []) (expressions_in (one (plain 1 pointer 0))))))
     (return (Some (number 1 0))))
 
 run : seen (meaning program default_sizes [] 20) ≡ stopped [] (codes "sbcets: temporal violation at line 1\n") 121

@@ -1,5 +1,6 @@
 -- `int main(void){char*p;char*q;p=malloc(N);q=realloc(p,M);return E;}` for N, M and E as named, in a heap of 4096 bytes: where a
 -- block is placed that replaces another, and what is left where it has no place.
+use Rattle.c_tree.specs.Tree as tree
 use Rattle.behaviours.specs.Shown.{End, Status}
 use Rattle.c_tree.specs.Programs.{Program}
 use Rattle.c_tree.specs.Statements.{return}
@@ -28,7 +29,7 @@ ending : (n m : ℕ) → BudgetSizes → Expression → Option End
 ending n m budgets e = (meaning (program n m e) budgets [] 1).shown.ending
 
 -- `q=realloc(p,16)` of `p=malloc(16)`: the new block stands behind the old one, which lives until then. `return q-p;`
-moves : ending 16 16 (small_heap) (at 1 (OfScalar (Integer Int)) (Convert ((at 1 (OfScalar (Integer Long)) (Difference 1 (q) (p)))))) ≡ Some (Status 16)
+moves : ending 16 16 (small_heap) (at 1 (OfScalar (Integer Int)) (tree.convert ((at 1 (OfScalar (Integer Long)) (tree.difference 1 (q) (p)))))) ≡ Some (Status 16)
 unfolding ending program p q computing
 moves = refl
 

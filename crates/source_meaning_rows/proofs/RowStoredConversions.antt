@@ -17,7 +17,7 @@ use Rattle.obj_memory.specs.declared.operator.UnaryOperator.TheVariants.{Negate}
 use Rattle.sb_base.specs.Budgets.{default_sizes}
 use Rattle.source_meaning.specs.Meaning.{meaning}
 use Rattle.source_meaning_rows.proofs.Hexadecimal.{hex_digits, put_digits, put_number, put_type}
-use Rattle.source_meaning_rows.proofs.Samples.{call, change_plain, compound, computing, content, convert, defined, exited, five, four, function_type, int, integer_kind, lvalue, main_type, none, number, one, part, plain, plain_variable, program_of, read, seen, set_plain, static, static_object, three, two, unary, without_value}
+use Rattle.source_meaning_rows.proofs.Samples.{call, change_plain, compound, computing, content, convert, defined, exited, five, four, function_type, int, integer_kind, lvalue, main_type, none, number, one, part, plain, plain_variable, program_of, read, seen, set_plain, static_object, three, two, unary, without_value}
 use Rattle.std.proofs.Common.{Some, [], refl, true, ◌∷◌, ◌≡◌}
 use Rattle.std.specs.Prelude.{codes}
 
@@ -86,7 +86,7 @@ program : Program
 program = program_of
     (three hex_digits
     (static_object (integer_kind SignedChar) (one (part 0 (content (convert (integer_kind SignedChar) (number 3 200))))))
-    (static
+    (static_object
     (integer_kind UnsignedShort)
     (one (part 0 (content (convert (integer_kind UnsignedShort) (unary 3 Negate (number 3 1))))))))
     (four main_type put_type

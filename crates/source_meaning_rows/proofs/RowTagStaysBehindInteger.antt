@@ -9,8 +9,8 @@ use Rattle.c_tree.specs.declared.expression.Kind.TheVariants.{Array}
 use Rattle.obj_memory.specs.declared.int_type.IntType.TheVariants.{Long}
 use Rattle.sb_base.specs.Budgets.{default_sizes}
 use Rattle.source_meaning.specs.Meaning.{meaning}
-use Rattle.source_meaning_rows.proofs.Samples.{address, assign, cast, computing, content, decay, deref, exited, four, index, int, integer_kind, lvalue, main_alone, number, object_variable, one, part, plain, plain_variable, pointer, read, seen, static_object, two, with_value}
-use Rattle.std.proofs.Common.{Some, [], refl, true, ◌≡◌}
+use Rattle.source_meaning_rows.proofs.Samples.{address, assign, cast, computing, content, decay, deref, exited, four, index, int, integer_kind, lvalue, main_alone, number, object_variable, one, part, plain, plain_variable, pointer, read, seen, static_object, two, with_value, without_value}
+use Rattle.std.proofs.Common.{Some, [], refl, true, ◌≡◌, ◌∷◌}
 
 statement_1 : Statement
 statement_1 = expression_statement (assign 1 (index 1 pointer (decay (lvalue 1 (Array 8) (tree.automatic 0))) (number 1 0)) (address 1 (lvalue 1 int (tree.static 0))))
@@ -26,11 +26,12 @@ program = main_alone
     (one (static_object int (one (part 0 (content (number 1 5))))))
     (two (object_variable (Array 8)) (plain_variable pointer))
     288
-    (four
-    (declaration (one (with_value 1 (cast 1 pointer (decay (lvalue 1 (Array 8) (tree.automatic 0)))))))
-    statement_1
-    statement_2
-    statement_3)
+    ((declaration (without_value 0 ∷ []))
+    ∷ (declaration (one (with_value 1 (cast 1 pointer (decay (lvalue 1 (Array 8) (tree.automatic 0)))))))
+    ∷ statement_1
+    ∷ statement_2
+    ∷ statement_3
+    ∷ [])
 
 run : seen (meaning program default_sizes [] 20) ≡ exited [] 5
 unfolding program statement_1 statement_2 statement_3 computing

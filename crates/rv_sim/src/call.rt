@@ -2,8 +2,10 @@
 //! (System V ABI for RISC-V, "Integer Calling Convention"; the numbers are those of Linux).
 ghost use Rattle.std.specs.Prelude.{◌≡◌, ℕ, List, Option, None, Some};
 ghost use Rattle.sb_outside.specs.Content.{gained};
+ghost use Rattle.sb_outside.specs.Rest.{ForEveryInput};
 ghost use Rattle.rv_sim.specs.Run.{Configuration};
 ghost use Rattle.rv_sim.specs.Seen.{IsSeen, CountsInput, CountsOutput};
+ghost use Rattle.rv_sim.specs.State.{register};
 ghost use Rattle.rv_sim.specs.Step.{gives};
 ghost use Rattle.rv_sim.specs.Turns.{ReadOrFault, WrittenOrFault, CalledOrFault, FaultKeeps};
 
@@ -41,13 +43,13 @@ pub fn answer_call<I: Source, O: Sink, E: Sink>(
     output: &mut O,
     errors: &mut E,
 ) -> Option<Stop>
-    ensures told { (o e : Option (List ℕ)) (c : Configuration) →
-        IsSeen o e state.old (I.rest input.old) (O.taken output.old) (E.taken errors.old) c →
-        CalledOrFault o e result c state.new (I.rest input.new) (O.taken output.new) (E.taken errors.new) }
+    ensures told { ForEveryInput (I.rest input.old) (I.rest input.new) (λ was rest. (o e : Option (List ℕ)) (c : Configuration) →
+        IsSeen o e state.old was (O.taken output.old) (E.taken errors.old) c →
+        CalledOrFault o e result c state.new rest (O.taken output.new) (E.taken errors.new)) }
     ensures fault { FaultKeeps result state.old state.new }
     ensures no_limit { result ≡ Some Stop.Limit → ⊥ }
-    ensures input_counts { CountsInput result (I.faults input.old) (I.faults input.new) }
-    ensures output_counts { CountsOutput result (O.faults output.old) (O.faults output.new) (E.faults errors.old) (E.faults errors.new) }
+    ensures input_counts { CountsInput result state.new (I.faults input.old) (I.faults input.new) }
+    ensures output_counts { CountsOutput result state.new (O.faults output.old) (O.faults output.new) (E.faults errors.old) (E.faults errors.new) }
 {
     match state.register(Reg::new(A7)) {
         READ => read(state, input),
@@ -79,11 +81,12 @@ fn answer(state: &mut State, value: u64)
 // One byte, or none at the end of the input.
 #[tactic(auto, unfolding(crate::specs::Run::read_call))]
 fn read<I: Source>(state: &mut State, input: &mut I) -> Option<Stop>
-    ensures told { (c : Configuration) → state.old ≡ c.state → I.rest input.old ≡ Some c.input →
-        ReadOrFault result c state.new (I.rest input.new) }
+    requires { register state.old 17 ≡ 63 }
+    ensures told { ForEveryInput (I.rest input.old) (I.rest input.new) (λ was rest. (c : Configuration) → state.old ≡ c.state → was ≡ c.input →
+        ReadOrFault result c state.new rest) }
     ensures fault { FaultKeeps result state.old state.new }
     ensures no_limit { result ≡ Some Stop.Limit → ⊥ }
-    ensures counts { CountsInput result (I.faults input.old) (I.faults input.new) }
+    ensures counts { CountsInput result state.new (I.faults input.old) (I.faults input.new) }
     ensures no_output_fault { result ≡ Some Stop.OutputFault → ⊥ }
 {
     let descriptor = state.register(Reg::new(A0));
@@ -116,12 +119,13 @@ fn read<I: Source>(state: &mut State, input: &mut I) -> Option<Stop>
 // All of the buffer.
 #[tactic(auto, using(sb_outside::proofs::Gains::gained_gained), unfolding(crate::specs::Run::write_call))]
 fn write<O: Sink, E: Sink>(state: &mut State, output: &mut O, errors: &mut E) -> Option<Stop>
+    requires { register state.old 17 ≡ 64 }
     ensures told { (o e : Option (List ℕ)) (c : Configuration) →
         state.old ≡ c.state → O.taken output.old ≡ gained o c.output → E.taken errors.old ≡ gained e c.errors →
         WrittenOrFault o e result c state.new (O.taken output.new) (E.taken errors.new) }
     ensures fault { FaultKeeps result state.old state.new }
     ensures no_limit { result ≡ Some Stop.Limit → ⊥ }
-    ensures counts { CountsOutput result (O.faults output.old) (O.faults output.new) (E.faults errors.old) (E.faults errors.new) }
+    ensures counts { CountsOutput result state.new (O.faults output.old) (O.faults output.new) (E.faults errors.old) (E.faults errors.new) }
     ensures no_input_fault { result ≡ Some Stop.InputFault → ⊥ }
 {
     let descriptor = state.register(Reg::new(A0));

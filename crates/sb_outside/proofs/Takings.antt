@@ -3,7 +3,7 @@ use Rattle.std.proofs.Common.{◌≡◌, ℕ, List, [], ◌∷◌, ◌++◌, Opt
 use Rattle.std.specs.Prelude.{IfOk, slice_get, drop}
 use Rattle.sb_outside.specs.declared.source.Failed.{Failed}
 use Rattle.sb_outside.specs.Content.{Takes, given_by}
-use Rattle.sb_outside.specs.Rest.{Rest, Told, Untold, Ended, MayGive, HasTaken, GivesSome}
+use Rattle.sb_outside.specs.Rest.{Rest, Told, Untold, Ended, MayGive, HasTaken, ForEveryInput, GivesSome}
 
 pub gives_some : (rest : Rest) → GivesSome rest
 gives_some (Told bytes) = record { bytes = bytes; given = refl }
@@ -66,3 +66,21 @@ took_first Ended new None more t given =
 pub took_rest : (old new : Rest) (first : Option ℕ) (more : List ℕ) → Takes old new (Ok first) → MayGive new more → drop 1 (given_by (Ok first) ++ more) ≡ more
 took_rest old new (Some byte) more t given = refl
 took_rest old new None more t given = none_left more (sym (took_first old new None more t given))
+
+-- where nothing was taken
+pub untaken : (rest : Rest) (P : List ℕ → List ℕ → Type 0) → ((left : List ℕ) → P left left) → ForEveryInput rest rest P
+untaken rest P each = record { taken = []; took = taken_nothing rest; holds = λ left given. each left }
+
+pub map_inputs : (before now : Rest) (P Q : List ℕ → List ℕ → Type 0) → ((was rest : List ℕ) → P was rest → Q was rest) → ForEveryInput before now P → ForEveryInput before now Q
+map_inputs before now P Q each f = record { taken = f.taken; took = f.took; holds = λ rest given. each (f.taken ++ rest) rest (f.holds rest given) }
+
+-- one taking after another
+pub then_inputs : (before between now : Rest) (P Q R : List ℕ → List ℕ → Type 0) → ((was left rest : List ℕ) → P was left → Q left rest → R was rest) → ForEveryInput before between P → ForEveryInput between now Q → ForEveryInput before now R
+then_inputs before between now P Q R each f t = record {
+  taken = f.taken ++ t.taken;
+  took = taken_more before between now f.taken t.taken f.took t.took;
+  holds = λ rest given.
+      let left = t.taken ++ rest in
+      let r = each (f.taken ++ left) left rest (f.holds left (t.took.behind rest given)) (t.holds rest given) in
+      subst (λ was. R was rest) (sym (append_assoc f.taken t.taken rest)) r;
+}

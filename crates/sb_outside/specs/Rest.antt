@@ -23,6 +23,14 @@ MayGive Ended bytes = bytes ≡ []
 pub record HasTaken (before now : Rest) (taken : List ℕ) : Type 0 where
   pub behind : (bytes : List ℕ) → MayGive now bytes → MayGive before (taken ++ bytes)
 
+-- Some bytes were taken between two moments of a source, and, whatever it may give now, P holds of that with these bytes in
+-- front, and of it alone. So P speaks of each list of input that begins with what was taken, and ends there where the end was
+-- met.
+pub record ForEveryInput (before now : Rest) (P : (was rest : List ℕ) → Type 0) : Type 0 where
+  pub taken : List ℕ
+  pub took : HasTaken before now taken
+  pub holds : (rest : List ℕ) → MayGive now rest → P (taken ++ rest) rest
+
 -- some bytes it may give
 pub record GivesSome (rest : Rest) : Type 0 where
   pub bytes : List ℕ

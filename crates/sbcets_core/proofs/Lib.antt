@@ -1,7 +1,7 @@
 pub mod Cases
 pub mod Complete
 pub mod Composition
-pub mod Counts
+pub mod Answering
 pub mod Execution
 pub mod Judging
 pub mod Listed

@@ -8,6 +8,9 @@ It has the four segments of an image of sbcets (docs/FORMATS.md).
 import struct
 import sys
 
+if len(sys.argv) != 2 or sys.argv[1].startswith("-"):
+    sys.exit(__doc__)
+
 CODE = struct.pack(
     "<9I",
     0x010002B7,  # lui t0, 0x1000

@@ -54,6 +54,8 @@ def measured(program, path):
 
 
 def main():
+    if len(sys.argv) != 2 or sys.argv[1].startswith("-"):
+        sys.exit("usage: python3 bench/parse_growth.py PROGRAM   (crates/sbcets_cli/out/sbcets_cli)")
     program = sys.argv[1]
     with tempfile.TemporaryDirectory() as folder:
         for shape in (functions, statements, terms, empty_statements, typedef_names):

@@ -58,6 +58,8 @@ def least(program, path):
 
 
 def main():
+    if len(sys.argv) != 2 or sys.argv[1].startswith("-"):
+        sys.exit("usage: python3 bench/parse_stack.py PROGRAM   (crates/sbcets_cli/out/sbcets_cli)")
     program = sys.argv[1]
     with tempfile.TemporaryDirectory() as folder:
         path = os.path.join(folder, "text.c")

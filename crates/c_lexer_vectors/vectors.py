@@ -6,6 +6,8 @@ and the value of an integer constant and the value of a character constant come 
 string literal from its `-emit-llvm`, each with `-pedantic-errors -Werror` for `riscv64-linux-gnu`: what is refused
 there, has an escape sequence that C99 does not list, or is a floating constant is a fault at the token's first byte. So
 is a byte that clang calls unknown, and the start of a comment that it calls unterminated.
+
+usage: python3 crates/c_lexer_vectors/vectors.py make
 """
 
 import os
@@ -146,6 +148,8 @@ def lines_of(text):
 
 
 def main():
+    if sys.argv[1:] != ["make"]:
+        sys.exit(__doc__)
     here = os.path.dirname(os.path.abspath(__file__))
     texts = list(dict.fromkeys(TEXTS + list(random_texts())))
     assert all("%%" not in t for t in texts)

@@ -7,6 +7,8 @@ of names that are not declared. Other texts are left out, and named on the error
 
 Behind these rows come those of DIFFERENCES, of which the compilers say something else, or the same for another reason than the
 grammar. Their verdicts are written there, each with its reason.
+
+usage: python3 crates/c_parser_vectors/vectors.py make
 """
 
 import itertools
@@ -537,6 +539,8 @@ def differences():
 
 
 def main():
+    if sys.argv[1:] != ["make"]:
+        sys.exit(__doc__)
     here = os.path.dirname(os.path.abspath(__file__))
     same, other = list(agreed()), list(differences())
     rows = same + other

@@ -5,6 +5,8 @@ The tokens of a text are those of `gcc -E -std=c99 -pedantic-errors` and of `cla
 regular expression TOKEN. A macro's tokens stand there on the line of its use, which line markers and newlines tell. A text
 in which the two differ is refused here. A fault is the first error of gcc, whose message tells its kind; of if-sections
 that are left open, which gcc tells from the innermost one, it is the outermost.
+
+usage: python3 crates/c_pre_vectors/vectors.py make
 """
 
 import os
@@ -166,6 +168,8 @@ def too_many():
 
 
 def main():
+    if sys.argv[1:] != ["make"]:
+        sys.exit(__doc__)
     here = os.path.dirname(os.path.abspath(__file__))
     rows = []
     for text in dict.fromkeys(TEXTS + list(random_texts())):

@@ -6,6 +6,8 @@ its edges; words that are no instruction of RV64IM are listed below. The texts c
 `riscv64-linux-gnu-objdump -D -b binary -m riscv:rv64 -M numeric,no-aliases`, each word by itself at the address
 4 * (its line, from 0). Of objdump's line the word and the text are kept, without its note after '#', with one space
 after the name. A word that objdump takes for an instruction outside RV64IM, as one of 16 bits, gives `unknown`.
+
+usage: python3 crates/rv_isa_vectors/vectors.py make
 """
 
 import os
@@ -114,6 +116,8 @@ def text_of(folder, word, line):
 
 
 def main():
+    if sys.argv[1:] != ["make"]:
+        sys.exit(__doc__)
     here = os.path.dirname(os.path.abspath(__file__))
     with tempfile.TemporaryDirectory() as folder:
         words = assembled(folder, list(instructions())) + [int(w, 16) for w in OTHERS]
@@ -124,4 +128,5 @@ def main():
     print(len(words), "words;", run(TOOL + "objdump", "--version").splitlines()[0], file=sys.stderr)
 
 
-main()
+if __name__ == "__main__":
+    sys.exit(main())

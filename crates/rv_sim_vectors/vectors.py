@@ -5,6 +5,8 @@ A program of every operation on registers and immediates, each on all the values
 by `riscv64-linux-gnu-as -march=rv64im`, linked, and run by `qemu-riscv64`; it writes its results. Each line has the
 name of an operation, the word that the assembler gives `NAME a2,a0,a1` or `NAME a2,a0,IMMEDIATE`, the operands in a0
 and a1, and the result in a2, in hexadecimal digits. Where there is an immediate, a1 is zero.
+
+usage: python3 crates/rv_sim_vectors/vectors.py make
 """
 
 import os
@@ -81,6 +83,8 @@ def results_of(folder):
 
 
 def main():
+    if sys.argv[1:] != ["make"]:
+        sys.exit(__doc__)
     here = os.path.dirname(os.path.abspath(__file__))
     with tempfile.TemporaryDirectory() as folder:
         words, results = words_of(folder), results_of(folder)
@@ -93,4 +97,5 @@ def main():
     print(len(rows), "cases;", *(t.decode() for t in tools), file=sys.stderr)
 
 
-main()
+if __name__ == "__main__":
+    sys.exit(main())

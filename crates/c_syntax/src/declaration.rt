@@ -1,8 +1,8 @@
 //! Trees of declarations and initializers (C99 6.7, 6.7.8).
 
-use crate::containers::{Boxed, Items};
 use crate::place::{Place, Spelled};
 use crate::tree::{Declarator, Expression, Specifier};
+use tree_containers::{Boxed, Items};
 
 /// A designator (C99 6.7.8).
 #[derive(Drop)]

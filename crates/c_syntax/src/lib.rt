@@ -1,7 +1,6 @@
 //! Syntax trees of the C subset, the words that a tree is written with, and which trees are well formed (C99 6.5 to 6.9).
 #![tactic(auto)]
 
-pub mod containers;
 pub mod declaration;
 pub mod declarators;
 mod formed;
@@ -17,7 +16,6 @@ mod statement_words;
 pub mod tree;
 mod tree_words;
 
-pub use crate::containers::{Boxed, Items};
 pub use crate::declaration::{
     Declaration, Designation, Designator, InitDeclarator, InitDeclarators, Initializer,
     InitializerItem,
@@ -30,3 +28,4 @@ pub use crate::statement_words::words;
 pub use crate::tree::{
     Arguments, Declarator, Enumerator, Expression, Member, Parameters, Specifier, TypedDeclarator,
 };
+pub use tree_containers::{Boxed, Items};

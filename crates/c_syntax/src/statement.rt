@@ -4,10 +4,10 @@ ghost use Rattle.std.specs.Prelude.{◌≡◌};
 ghost use Rattle.c_syntax.specs.Formed as formed;
 ghost use Rattle.c_syntax.specs.StatementsView as views;
 
-use crate::containers::{Boxed, Items};
 use crate::declaration::Declaration;
 use crate::place::Place;
 use crate::tree::{Declarator, Expression, Specifier};
+use tree_containers::{Boxed, Items};
 
 /// `{ items }` (C99 6.8.2).
 #[cycle(statements)]

@@ -1,9 +1,9 @@
 //! Trees of expressions, declarators and specifiers, which contain each other (C99 6.5, 6.7). A node has the places of
 //! its own tokens in the order of the text; what its variant fixes is not kept.
 
-use crate::containers::{Boxed, Items};
 use crate::place::{Place, Spelled};
 use c_lexer::{Keyword, Punctuator};
+use tree_containers::{Boxed, Items};
 
 /// An expression (C99 6.5, without compound literals).
 #[cycle(trees)]

@@ -1,31 +1,32 @@
 -- Little endian numbers.
-use Rattle.std.proofs.Common.{◌≡◌, ℕ, zero, suc, ◌+◌, ◌*◌, ◌/◌, ◌%◌, ◌^◌, ◌<◌, List, [], ◌∷◌, length, get_or, refl, ap, ◌∙◌, arith}
-use Rattle.std.proofs.lemmas.Nat.{mod-pow-add, pow-add}
-use Rattle.obj_memory.specs.Access.{little_bytes, little_number}
+use Rattle.std.proofs.Common.{◌≡◌, ℕ, zero, suc, ◌+◌, ◌*◌, ◌/◌, ◌%◌, ◌^◌, ◌<◌, List, [], ◌++◌, get_or, refl, ap, ◌∙◌, sym, arith}
+use Rattle.std.proofs.lemmas.List.{append-nil}
+use Rattle.std.proofs.Math.Nat.{div-one}
+use Rattle.std.specs.Int.{byte_at, bytes_low_first}
+use Rattle.byteorder.specs.Endian.{little_bytes, little_number, little_from}
+use Rattle.byteorder.specs.Numbers.{little_from-bytes}
+use Rattle.byteorder.proofs.Bytes.{pow256}
 
-pub length-little_bytes : (k n : ℕ) → length (little_bytes k n) ≡ k
-length-little_bytes zero n = refl
-length-little_bytes (suc k) n = ap suc (length-little_bytes k (n / 256))
+pub little_number-bytes : (k n : ℕ) → little_number k (little_bytes k n) ≡ n % 2 ^ (8 * k)
+little_number-bytes k n =
+    let all = append-nil (little_bytes k n) in
+    sym (ap (little_number k) all) ∙ little_from-bytes k 0 n [] ∙ ap (λ i. i % 256 ^ k) (div-one n) ∙ ap (λ i. n % i) (pow256 k)
 
-pub little_number-bytes : (k n : ℕ) → little_number (little_bytes k n) ≡ n % 2 ^ (8 * k)
-little_number-bytes zero n = grind arith
-little_number-bytes (suc k) n =
-    let size : 8 * k + 8 ≡ 8 * suc k = omega arith in
-    let split = mod-pow-add n (8 * k) 8 in
-    let e : n % 256 + 256 * little_number (little_bytes k (n / 256)) ≡ n % 2 ^ (8 * k + 8) =
-    omega (arith, split, little_number-bytes k (n / 256)) in
-    e ∙ ap (λ i. n % 2 ^ i) size
+byte_below : (i n : ℕ) → byte_at i n < 256
+byte_below zero n = omega arith
+byte_below (suc i) n = omega arith
+
+bytes_below : (j k n i : ℕ) → get_or (bytes_low_first j k n) i 0 < 256
+bytes_below j zero n i = omega arith
+bytes_below j (suc k) n zero = byte_below j n
+bytes_below j (suc k) n (suc i) = bytes_below (suc j) k n i
 
 pub little_bytes_below : (k n i : ℕ) → get_or (little_bytes k n) i 0 < 256
-little_bytes_below zero n i = omega arith
-little_bytes_below (suc k) n zero = grind arith
-little_bytes_below (suc k) n (suc i) = little_bytes_below k (n / 256) i
+little_bytes_below k n i = bytes_below 0 k n i
 
-pub little_number_below : (bs : List ℕ) → ((i : ℕ) → get_or bs i 0 < 256) → little_number bs < 2 ^ (8 * length bs)
-little_number_below [] h = grind arith
-little_number_below (b ∷ bs) h =
-    let first : b < 256 = h 0 in
-    let rest = little_number_below bs (λ i. h (suc i)) in
-    let eight : 8 * suc (length bs) ≡ 8 * length bs + 8 = omega arith in
-    let size : 2 ^ (8 * suc (length bs)) ≡ 2 ^ (8 * length bs) * 2 ^ 8 = ap (λ n. 2 ^ n) eight ∙ pow-add 2 (8 * length bs) 8 in
-    omega (arith, first, rest, size)
+zeros_from : (i n : ℕ) (bs : List ℕ) → ((k : ℕ) → get_or bs k 0 ≡ 0) → little_from i n bs ≡ 0
+zeros_from i zero bs h = refl
+zeros_from i (suc n) bs h = omega (arith, h i, zeros_from (suc i) n bs h)
+
+pub zeros_number : (n : ℕ) (bs : List ℕ) → ((k : ℕ) → get_or bs k 0 ≡ 0) → little_number n bs ≡ 0
+zeros_number n bs h = zeros_from 0 n bs h

@@ -8,11 +8,13 @@ use Rattle.obj_memory.specs.declared.value.Scalar.{Scalar}
 use Rattle.obj_memory.specs.declared.value.Scalar.TheVariants.{Integer, Pointer}
 use Rattle.obj_memory.specs.Integers.{size_of, fit}
 use Rattle.obj_memory.specs.Objects.{ObjectState, Objects, no_object, object_at, new_object, with_new, with_dead, with_zeroed}
-use Rattle.obj_memory.specs.Access.{is_aligned, bytes_at, tag_at, little_number, read_value}
+use Rattle.obj_memory.specs.Access.{is_aligned, bytes_at, tag_at, read_value}
+use Rattle.byteorder.specs.Endian.{little_number}
 use Rattle.obj_memory.specs.Sound.{KeepsObjects, AreDisjoint, DoNotMeet}
 use Rattle.obj_memory.proofs.Listed.{at_set, at_added, every_replicate, every_take, every_drop}
 use Rattle.obj_memory.proofs.Reading.{object_set, object_set_other}
 use Rattle.obj_memory.proofs.Words.{fit_zero}
+use Rattle.obj_memory.proofs.Bytes.{zeros_number}
 
 -- a new object stands at the end
 added_last : (objects : Objects) (x : ObjectState) → object_at (objects ++ (x ∷ [])) (length objects) ≡ x
@@ -46,13 +48,6 @@ unfolding with_zeroed
 zeroed_other n m objects h = object_set_other objects n m _ h
 
 -- zero bytes
-zeros_number : (bs : List ℕ) → ((k : ℕ) → get_or bs k 0 ≡ 0) → little_number bs ≡ 0
-zeros_number [] h = refl
-zeros_number (b ∷ bs) h =
-    let first : b ≡ 0 = h 0 in
-    let rest : little_number bs ≡ 0 = zeros_number bs (λ k. h (suc k)) in
-    omega (arith, first, rest)
-
 pub record HasZeros (o : ObjectState) : Type 0 where
   pub bytes : (k : ℕ) → get_or o.bytes k 0 ≡ 0
   pub tags : (k : ℕ) → get_or o.tags k Untagged ≡ Untagged
@@ -61,13 +56,13 @@ zeros_read : (s : Scalar) (p : Place) (objects : Objects) → HasZeros (object_a
 unfolding read_value
 zeros_read (Integer t) p objects z =
     let o = object_at objects p.object in
-    let number : little_number (bytes_at (size_of t) p objects) ≡ 0 =
-    zeros_number _ (every_take (λ b. b ≡ 0) 0 (size_of t) (drop p.offset o.bytes) refl (every_drop (λ b. b ≡ 0) 0 p.offset o.bytes z.bytes)) in
+    let number : little_number (size_of t) (bytes_at (size_of t) p objects) ≡ 0 =
+    zeros_number (size_of t) _ (every_take (λ b. b ≡ 0) 0 (size_of t) (drop p.offset o.bytes) refl (every_drop (λ b. b ≡ 0) 0 p.offset o.bytes z.bytes)) in
     ap (λ n. record { word = fit t n; tag = Untagged }) number ∙ ap (λ n. record { word = n; tag = Untagged }) (fit_zero t)
 zeros_read Pointer p objects z =
     let o = object_at objects p.object in
-    let number : little_number (bytes_at 8 p objects) ≡ 0 =
-    zeros_number _ (every_take (λ b. b ≡ 0) 0 8 (drop p.offset o.bytes) refl (every_drop (λ b. b ≡ 0) 0 p.offset o.bytes z.bytes)) in
+    let number : little_number 8 (bytes_at 8 p objects) ≡ 0 =
+    zeros_number 8 _ (every_take (λ b. b ≡ 0) 0 8 (drop p.offset o.bytes) refl (every_drop (λ b. b ≡ 0) 0 p.offset o.bytes z.bytes)) in
     let tag : tag_at p objects ≡ Untagged =
     elim (is_aligned p.offset) as (λ b. (if b then get_or o.tags (p.offset / 8) Untagged else Untagged) ≡ Untagged) [
       | true ↦ z.tags (p.offset / 8)

@@ -13,11 +13,13 @@ use Rattle.obj_memory.specs.declared.value.Scalar.{Scalar}
 use Rattle.obj_memory.specs.declared.value.Scalar.TheVariants.{Integer, Pointer}
 use Rattle.obj_memory.specs.Integers.{size_of, fit}
 use Rattle.obj_memory.specs.Objects.{ObjectState, Objects, no_object, object_at}
-use Rattle.obj_memory.specs.Access.{tag_of, is_aligned, bytes_at, tag_at, little_bytes, little_number, overwrite, scalar_size, read_value, write_bytes, write_tag, write_value, kept_value}
+use Rattle.obj_memory.specs.Access.{tag_of, is_aligned, bytes_at, tag_at, overwrite, scalar_size, read_value, write_bytes, write_tag, write_value, kept_value}
+use Rattle.byteorder.specs.Endian.{little_bytes, little_number}
+use Rattle.byteorder.specs.Numbers.{length-bytes_low_first, little_from-lt}
 use Rattle.obj_memory.specs.Sound.{KeepsObjects, IsSound, IsPlace, AreApart, IsSoundTag}
 use Rattle.obj_memory.specs.Sound.AreApart.{InOthers, Before, Behind}
 use Rattle.obj_memory.proofs.Listed.{at_set, overwrite-read, overwrite-other}
-use Rattle.obj_memory.proofs.Bytes.{little_bytes_below, length-little_bytes, little_number-bytes, little_number_below}
+use Rattle.obj_memory.proofs.Bytes.{little_bytes_below, little_number-bytes}
 use Rattle.obj_memory.proofs.Words.{fit_bytes, fit_below}
 use Rattle.obj_memory.proofs.Soundness.{bytes_at_below, length-bytes_at, sound_bytes}
 use Rattle.obj_memory.proofs.Keeping.{keeps_bytes}
@@ -145,14 +147,14 @@ integer_apart : (t : IntType) (v : Value) (p q : Place) (n : ℕ) (objects : Obj
     → bytes_at n q (write_bytes (little_bytes (size_of t) v.word) p objects) ≡ bytes_at n q objects
 integer_apart t v p q n objects h place apart =
     let new = little_bytes (size_of t) v.word in
-    let long : length new ≡ size_of t = length-little_bytes (size_of t) v.word in
+    let long : length new ≡ size_of t = length-bytes_low_first 0 (size_of t) v.word in
     bytes_apart new p q n objects h (subst (λ k. IsPlace objects p k) (sym long) place) (subst (λ k. AreApart p k q n) (sym long) apart)
 
 pointer_apart : (v : Value) (p q : Place) (n : ℕ) (objects : Objects) → IsSound objects → IsPlace objects p 8 → AreApart p 8 q n
     → bytes_at n q (write_tag v.tag p (write_bytes (little_bytes 8 v.word) p objects)) ≡ bytes_at n q objects
 pointer_apart v p q n objects h place apart =
     let new = little_bytes 8 v.word in
-    let long : length new ≡ 8 = length-little_bytes 8 v.word in
+    let long : length new ≡ 8 = length-bytes_low_first 0 8 v.word in
     bytes_after_tag v.tag p q n (write_bytes new p objects)
     ∙ bytes_apart new p q n objects h (subst (λ k. IsPlace objects p k) (sym long) place) (subst (λ k. AreApart p k q n) (sym long) apart)
 
@@ -162,21 +164,21 @@ pub read_written : (s : Scalar) (v : Value) (p : Place) (objects : Objects) → 
 unfolding read_value write_value kept_value
 read_written (Integer t) v p objects h place small =
     let new = little_bytes (size_of t) v.word in
-    let long : length new ≡ size_of t = length-little_bytes (size_of t) v.word in
+    let long : length new ≡ size_of t = length-bytes_low_first 0 (size_of t) v.word in
     let same : bytes_at (size_of t) p (write_bytes new p objects) ≡ new =
     subst (λ n. bytes_at n p (write_bytes new p objects) ≡ new) long
     (bytes_written new p objects h (subst (λ n. IsPlace objects p n) (sym long) place)) in
-    ap (λ n. record { word = fit t n; tag = Untagged }) (ap little_number same ∙ little_number-bytes (size_of t) v.word)
+    ap (λ n. record { word = fit t n; tag = Untagged }) (ap (little_number (size_of t)) same ∙ little_number-bytes (size_of t) v.word)
     ∙ ap (λ n. record { word = n; tag = Untagged }) (fit_bytes t v.word)
 read_written Pointer v p objects h place small =
     let new = little_bytes 8 v.word in
     let after = write_bytes new p objects in
-    let long : length new ≡ 8 = length-little_bytes 8 v.word in
+    let long : length new ≡ 8 = length-bytes_low_first 0 8 v.word in
     let same : bytes_at 8 p after ≡ new =
     subst (λ n. bytes_at n p after ≡ new) long (bytes_written new p objects h (subst (λ n. IsPlace objects p n) (sym long) place)) in
     let bytes : bytes_at 8 p (write_tag v.tag p after) ≡ new = bytes_after_tag v.tag p p 8 after ∙ same in
-    let number : little_number (bytes_at 8 p (write_tag v.tag p after)) ≡ v.word =
-    ap little_number bytes ∙ little_number-bytes 8 v.word ∙ mod-eq_of_lt small in
+    let number : little_number 8 (bytes_at 8 p (write_tag v.tag p after)) ≡ v.word =
+    ap (little_number 8) bytes ∙ little_number-bytes 8 v.word ∙ mod-eq_of_lt small in
     let sound : IsSound after = sound_bytes new p objects h (subst (λ n. IsPlace objects p n) (sym long) place) (little_bytes_below 8 v.word) in
     let there : IsPlace after p 8 = place_kept objects after p 8 (keeps_bytes new p objects) place in
     ap (λ n. record { word = n; tag = tag_at p (write_tag v.tag p after) }) number
@@ -186,25 +188,23 @@ pub read_apart : (s : Scalar) (v : Value) (p : Place) (r : Scalar) (q : Place) (
     → AreApart p (scalar_size s) q (scalar_size r) → read_value r q (write_value s v p objects) ≡ read_value r q objects
 unfolding read_value write_value
 read_apart (Integer t) v p (Integer u) q objects h place apart =
-    ap (λ bs. record { word = fit u (little_number bs); tag = Untagged }) (integer_apart t v p q (size_of u) objects h place apart)
+    ap (λ bs. record { word = fit u (little_number (size_of u) bs); tag = Untagged }) (integer_apart t v p q (size_of u) objects h place apart)
 read_apart (Integer t) v p Pointer q objects h place apart =
-    ap (λ bs. record { word = little_number bs; tag = tag_at q (write_bytes (little_bytes (size_of t) v.word) p objects) }) (integer_apart t v p q 8 objects h place apart)
-    ∙ ap (λ x. record { word = little_number (bytes_at 8 q objects); tag = x }) (tags_after_bytes (little_bytes (size_of t) v.word) p q objects)
+    ap (λ bs. record { word = little_number 8 bs; tag = tag_at q (write_bytes (little_bytes (size_of t) v.word) p objects) }) (integer_apart t v p q 8 objects h place apart)
+    ∙ ap (λ x. record { word = little_number 8 (bytes_at 8 q objects); tag = x }) (tags_after_bytes (little_bytes (size_of t) v.word) p q objects)
 read_apart Pointer v p (Integer u) q objects h place apart =
-    ap (λ bs. record { word = fit u (little_number bs); tag = Untagged }) (pointer_apart v p q (size_of u) objects h place apart)
+    ap (λ bs. record { word = fit u (little_number (size_of u) bs); tag = Untagged }) (pointer_apart v p q (size_of u) objects h place apart)
 read_apart Pointer v p Pointer q objects h place apart =
     let after = write_bytes (little_bytes 8 v.word) p objects in
-    ap (λ bs. record { word = little_number bs; tag = tag_at q (write_tag v.tag p after) }) (pointer_apart v p q 8 objects h place apart)
-    ∙ ap (λ x. record { word = little_number (bytes_at 8 q objects); tag = x })
+    ap (λ bs. record { word = little_number 8 bs; tag = tag_at q (write_tag v.tag p after) }) (pointer_apart v p q 8 objects h place apart)
+    ∙ ap (λ x. record { word = little_number 8 (bytes_at 8 q objects); tag = x })
     (tag_apart v.tag p q after apart ∙ tags_after_bytes (little_bytes 8 v.word) p q objects)
 
 -- a value that is read
 pub read_below : (s : Scalar) (p : Place) (objects : Objects) → IsSound objects → IsPlace objects p (scalar_size s) → (read_value s p objects).word < 2 ^ 64
 unfolding read_value
 read_below (Integer t) p objects h place = fit_below t _
-read_below Pointer p objects h place =
-    let long : 8 * length (bytes_at 8 p objects) ≡ 64 = ap (λ n. 8 * n) (length-bytes_at 8 p objects h place) in
-    subst (λ n. little_number (bytes_at 8 p objects) < 2 ^ n) long (little_number_below (bytes_at 8 p objects) (bytes_at_below 8 p objects h))
+read_below Pointer p objects h place = little_from-lt 0 8 (bytes_at 8 p objects) (bytes_at_below 8 p objects h)
 
 pub sound_read : (s : Scalar) (p : Place) (objects : Objects) → IsSound objects → IsSoundTag objects (read_value s p objects).tag
 unfolding read_value
@@ -263,7 +263,7 @@ unfolding write_value
 tag_after_pointer v p objects h place aligned =
     let new = little_bytes 8 v.word in
     let after = write_bytes new p objects in
-    let there = subst (λ n. IsPlace objects p n) (sym (length-little_bytes 8 v.word)) place in
+    let there = subst (λ n. IsPlace objects p n) (sym (length-bytes_low_first 0 8 v.word)) place in
     let sound : IsSound after = sound_bytes new p objects h there (little_bytes_below 8 v.word) in
     let written = tag_written v.tag p after sound (place_kept objects after p 8 (keeps_bytes new p objects) place) in
     let test : is_aligned p.offset ≡ true = eq-eqb _ _ aligned in

@@ -10,9 +10,11 @@ use Rattle.obj_memory.specs.declared.value.Scalar.{Scalar}
 use Rattle.obj_memory.specs.declared.value.Scalar.TheVariants.{Integer, Pointer}
 use Rattle.obj_memory.specs.Integers.{size_of}
 use Rattle.obj_memory.specs.Objects.{ObjectState, Objects, no_object, object_at, new_object, with_new, with_dead, with_zeroed}
-use Rattle.obj_memory.specs.Access.{is_aligned, is_word_in, bytes_at, little_bytes, scalar_size, overwrite, moved_tags, write_bytes, write_tag, write_value, move_range}
+use Rattle.obj_memory.specs.Access.{is_aligned, is_word_in, bytes_at, scalar_size, overwrite, moved_tags, write_bytes, write_tag, write_value, move_range}
 use Rattle.obj_memory.specs.Sound.{Continues, IsSoundTag, IsSoundObject, IsSound, IsPlace}
-use Rattle.obj_memory.proofs.Bytes.{length-little_bytes, little_bytes_below}
+use Rattle.byteorder.specs.Endian.{little_bytes}
+use Rattle.byteorder.specs.Numbers.{length-bytes_low_first}
+use Rattle.obj_memory.proofs.Bytes.{little_bytes_below}
 use Rattle.obj_memory.proofs.Listed.{at_set, at_added, every_overwrite, every_replicate, every_take, every_drop, length-overwrite}
 use Rattle.obj_memory.proofs.Continuing.{IsLater, continues_set, continues_added, continues_bytes}
 
@@ -125,12 +127,12 @@ pub sound_value : (s : Scalar) (v : Value) (p : Place) (objects : Objects) → I
 unfolding write_value
 sound_value (Integer t) v p objects h place sound =
     sound_bytes (little_bytes (size_of t) v.word) p objects h
-    (subst (λ n. IsPlace objects p n) (sym (length-little_bytes (size_of t) v.word)) place) (little_bytes_below (size_of t) v.word)
+    (subst (λ n. IsPlace objects p n) (sym (length-bytes_low_first 0 (size_of t) v.word)) place) (little_bytes_below (size_of t) v.word)
 sound_value Pointer v p objects h place sound =
     let after = write_bytes (little_bytes 8 v.word) p objects in
     sound_tag v.tag p after
     (sound_bytes (little_bytes 8 v.word) p objects h
-    (subst (λ n. IsPlace objects p n) (sym (length-little_bytes 8 v.word)) place) (little_bytes_below 8 v.word))
+    (subst (λ n. IsPlace objects p n) (sym (length-bytes_low_first 0 8 v.word)) place) (little_bytes_below 8 v.word))
     (sound_tag_continues objects after (continues_bytes _ p objects) v.tag sound)
 
 pub length-moved_tags : (size start source : ℕ) (from : List Tag) (word : ℕ) (ts : List Tag) → length (moved_tags size start source from word ts) ≡ length ts

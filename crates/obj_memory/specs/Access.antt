@@ -1,6 +1,7 @@
 -- Reads and writes. Numbers are little endian. A pointer at a multiple of 8 has its tag in the word there; at any other
 -- place it is bytes alone.
-use Rattle.std.specs.Prelude.{ℕ, zero, suc, ◌+◌, ◌-◌, ◌*◌, ◌/◌, ◌%◌, Bool, ◌&&◌, ◌==◌, nat_le, if◌then◌else◌, List, [], ◌∷◌, ◌++◌, length, take, drop, get_or, set}
+use Rattle.std.specs.Prelude.{ℕ, ◌+◌, ◌-◌, ◌*◌, ◌/◌, ◌%◌, Bool, ◌&&◌, ◌==◌, nat_le, if◌then◌else◌, List, [], ◌∷◌, ◌++◌, length, take, drop, get_or, set}
+use Rattle.byteorder.specs.Endian.{little_bytes, little_number}
 use Rattle.obj_memory.specs.declared.value.Tag.{Tag}
 use Rattle.obj_memory.specs.declared.value.Tag.TheVariants.{Untagged}
 use Rattle.obj_memory.specs.declared.value.Value.{Value}
@@ -9,15 +10,6 @@ use Rattle.obj_memory.specs.declared.value.Scalar.{Scalar}
 use Rattle.obj_memory.specs.declared.value.Scalar.TheVariants.{Integer, Pointer}
 use Rattle.obj_memory.specs.Integers.{size_of, fit}
 use Rattle.obj_memory.specs.Objects.{Objects, object_at}
-
--- the number of some bytes, the lowest first, and the bytes of a number
-abbrev pub little_number : List ℕ → ℕ
-little_number [] = 0
-little_number (b ∷ bs) = b + 256 * little_number bs
-
-abbrev pub little_bytes : (count number : ℕ) → List ℕ
-little_bytes zero n = []
-little_bytes (suc k) n = n % 256 ∷ little_bytes k (n / 256)
 
 -- a list with other elements from a place on
 abbrev pub overwrite : {A : Type 0} → (start : ℕ) → (new old : List A) → List A
@@ -46,8 +38,8 @@ scalar_size Pointer = 8
 
 -- what is read of a scalar: its bytes, and of a pointer the tag of the word there
 unfoldable pub read_value : Scalar → Place → Objects → Value
-read_value (Integer t) p objects = record { word = fit t (little_number (bytes_at (size_of t) p objects)); tag = Untagged }
-read_value Pointer p objects = record { word = little_number (bytes_at 8 p objects); tag = tag_at p objects }
+read_value (Integer t) p objects = record { word = fit t (little_number (size_of t) (bytes_at (size_of t) p objects)); tag = Untagged }
+read_value Pointer p objects = record { word = little_number 8 (bytes_at 8 p objects); tag = tag_at p objects }
 
 -- bytes written, which leaves the tags
 unfoldable pub write_bytes : List ℕ → Place → Objects → Objects

@@ -1,9 +1,10 @@
 -- Integer types (C99 6.2.5) and their conversions (6.3.1). A value of an integer type is held as a word: its number modulo
 -- 2 ^ 64. So a negative number has ones in all upper bits, any other zeros, and every conversion between integer types is
 -- `fit` of the word to the new type, whatever the old one was.
-use Rattle.std.specs.Prelude.{ℕ, ◌+◌, ◌-◌, ◌%◌, ◌^◌, Bool, true, false, nat_lt, nat_le, if◌then◌else◌}
+use Rattle.std.specs.Prelude.{ℕ, Bool, true, false, nat_lt, nat_le, if◌then◌else◌}
 use Rattle.obj_memory.specs.declared.int_type.IntType.{IntType}
 use Rattle.obj_memory.specs.declared.int_type.IntType.TheVariants.{Char, SignedChar, UnsignedChar, Short, UnsignedShort, Int, UnsignedInt, Long, UnsignedLong, LongLong, UnsignedLongLong}
+use Rattle.words.specs.TwosComplement.{low_bits, sign_extended}
 
 -- the number of bytes (LP64)
 unfoldable pub size_of : IntType → ℕ
@@ -93,22 +94,16 @@ balanced_type s t =
 unfoldable pub common_type : IntType → IntType → IntType
 common_type s t = balanced_type (promoted s) (promoted t)
 
--- the low bits of a number, read as a number with a sign, as a word
-abbrev pub signed : (bits x : ℕ) → ℕ
-signed bits x =
-    let low = x % 2 ^ bits in
-    if nat_lt low (2 ^ (bits - 1)) then low else low + (2 ^ 64 - 2 ^ bits)
-
--- a number converted to a type (6.3.1.3): modulo 2 ^ n at n bits, and with the sign of the type
+-- a number converted to a type (6.3.1.3): modulo 2 ^ n at n bits, and with the sign bit of a signed type copied upward
 unfoldable pub fit : IntType → ℕ → ℕ
-fit Char x = x % 2 ^ 8
-fit SignedChar x = signed 8 x
-fit UnsignedChar x = x % 2 ^ 8
-fit Short x = signed 16 x
-fit UnsignedShort x = x % 2 ^ 16
-fit Int x = signed 32 x
-fit UnsignedInt x = x % 2 ^ 32
-fit Long x = x % 2 ^ 64
-fit UnsignedLong x = x % 2 ^ 64
-fit LongLong x = x % 2 ^ 64
-fit UnsignedLongLong x = x % 2 ^ 64
+fit Char x = low_bits 8 x
+fit SignedChar x = sign_extended 8 64 (low_bits 8 x)
+fit UnsignedChar x = low_bits 8 x
+fit Short x = sign_extended 16 64 (low_bits 16 x)
+fit UnsignedShort x = low_bits 16 x
+fit Int x = sign_extended 32 64 (low_bits 32 x)
+fit UnsignedInt x = low_bits 32 x
+fit Long x = low_bits 64 x
+fit UnsignedLong x = low_bits 64 x
+fit LongLong x = low_bits 64 x
+fit UnsignedLongLong x = low_bits 64 x

@@ -1,72 +1,63 @@
--- The operators on integers, on words (C99 6.5.3.3, 6.5.5 to 6.5.12). What C99 leaves open is settled so: numbers wrap in
--- two's complement, a shift goes by the amount modulo the width, a right shift keeps the sign, and the least number
--- divided by -1 is itself, with remainder 0.
-use Rattle.std.specs.Prelude.{ℕ, ◌+◌, ◌-◌, ◌*◌, ◌/◌, ◌%◌, ◌^◌, Bool, true, false, ◌&&◌, not, ◌==◌, nat_lt, nat_le, if◌then◌else◌, Option, Some, None, bit_and, bit_or, bit_xor}
+-- The operators on integers, on words (C99 6.5.3.3, 6.5.5 to 6.5.12): each is an operation on words of 64 bits, then
+-- `fit` to the type. What C99 leaves open is settled so: numbers wrap in two's complement, a shift goes by the amount
+-- modulo the width, a right shift keeps the sign, and the least number divided by -1 is itself, with remainder 0.
+use Rattle.std.specs.Prelude.{ℕ, ◌/◌, ◌%◌, ◌^◌, Bool, true, false, not, ◌==◌, nat_lt, if◌then◌else◌, Option, Some, None, bit_and, bit_or, bit_xor}
 use Rattle.obj_memory.specs.declared.int_type.IntType.{IntType}
 use Rattle.obj_memory.specs.declared.operator.UnaryOperator.{UnaryOperator}
 use Rattle.obj_memory.specs.declared.operator.UnaryOperator.TheVariants.{Plus, Negate, Complement, Not}
 use Rattle.obj_memory.specs.declared.operator.BinaryOperator.{BinaryOperator}
 use Rattle.obj_memory.specs.declared.operator.BinaryOperator.TheVariants.{Add, Subtract, Multiply, Divide, Remainder, ShiftLeft, ShiftRight, BitAnd, BitXor, BitOr, Less, Greater, LessOrEqual, GreaterOrEqual, Equal, NotEqual}
 use Rattle.obj_memory.specs.Integers.{fit, is_signed, size_of}
+use Rattle.words.specs.TwosComplement as words
+use Rattle.words.specs.Operations.{sum, difference, product, complement, shifted_left, shifted_right_signed, is_less_signed, signed_quotient, signed_remainder}
 
--- whether the number of a word is negative, its negative, and its absolute value
-abbrev pub is_negative : ℕ → Bool
-is_negative x = nat_le (2 ^ 63) x
-
+-- the word of the negative
 abbrev pub negated : ℕ → ℕ
-negated x = 2 ^ 64 - x
-
-abbrev pub magnitude : ℕ → ℕ
-magnitude x = if is_negative x then negated x else x
+negated x = words.negated 64 x
 
 -- truth as an int (6.5.8 paragraph 6)
 abbrev pub one_if : Bool → ℕ
 one_if b = if b then 1 else 0
 
--- whether x is below y: signed words are in the order of the words with the sign bit turned
+-- whether x is below y
 abbrev pub is_less : (has_sign : Bool) → (x y : ℕ) → Bool
-is_less true x y = nat_lt ((x + 2 ^ 63) % 2 ^ 64) ((y + 2 ^ 63) % 2 ^ 64)
+is_less true x y = is_less_signed 64 x y
 is_less false x y = nat_lt x y
 
--- the quotient without its fraction (6.5.5 paragraph 6), negative where just one operand is
+-- the quotient without its fraction, and its remainder (6.5.5 paragraph 6)
 abbrev pub quotient : (has_sign : Bool) → (x y : ℕ) → ℕ
-quotient true x y =
-    let q = magnitude x / magnitude y in
-    if x / 2 ^ 63 == y / 2 ^ 63 then q else negated q
+quotient true x y = signed_quotient 64 x y
 quotient false x y = x / y
 
--- the remainder, with the sign of the dividend
 abbrev pub remainder : (has_sign : Bool) → (x y : ℕ) → ℕ
-remainder true x y =
-    let r = magnitude x % magnitude y in
-    if is_negative x then negated r else r
+remainder true x y = signed_remainder 64 x y
 remainder false x y = x % y
 
 -- by how many bits a shift goes: modulo the width of the promoted left operand
 unfoldable pub shift_amount : IntType → ℕ → ℕ
 shift_amount t y = if size_of t == 8 then y % 64 else y % 32
 
--- a shift to the right, copies of the sign shifted in
+-- a shift to the right
 abbrev pub shift_right : (has_sign : Bool) → (x bits : ℕ) → ℕ
-shift_right has_sign x bits =
-    if has_sign && is_negative x then 2 ^ 64 - 1 - (2 ^ 64 - 1 - x) / 2 ^ bits else x / 2 ^ bits
+shift_right true x bits = shifted_right_signed 64 x bits
+shift_right false x bits = x / 2 ^ bits
 
 -- the value of a unary operator at an operand of a promoted type
 unfoldable pub unary_value : UnaryOperator → IntType → ℕ → ℕ
 unary_value Plus t x = fit t x
 unary_value Negate t x = fit t (negated x)
-unary_value Complement t x = fit t (2 ^ 64 - 1 - x)
+unary_value Complement t x = fit t (complement 64 x)
 unary_value Not t x = one_if (x == 0)
 
 -- the value of a binary operator at operands of one type, of a shift at a left operand of this type, or none where the
 -- divisor is zero
 unfoldable pub binary_value : BinaryOperator → IntType → (x y : ℕ) → Option ℕ
-binary_value Add t x y = Some (fit t (x + y))
-binary_value Subtract t x y = Some (fit t (x + negated y))
-binary_value Multiply t x y = Some (fit t (x * y))
+binary_value Add t x y = Some (fit t (sum 64 x y))
+binary_value Subtract t x y = Some (fit t (difference 64 x y))
+binary_value Multiply t x y = Some (fit t (product 64 x y))
 binary_value Divide t x y = if y == 0 then None else Some (fit t (quotient (is_signed t) x y))
 binary_value Remainder t x y = if y == 0 then None else Some (fit t (remainder (is_signed t) x y))
-binary_value ShiftLeft t x y = Some (fit t (x * 2 ^ shift_amount t y))
+binary_value ShiftLeft t x y = Some (fit t (shifted_left 64 x (shift_amount t y)))
 binary_value ShiftRight t x y = Some (shift_right (is_signed t) x (shift_amount t y))
 binary_value BitAnd t x y = Some (bit_and x y)
 binary_value BitXor t x y = Some (bit_xor x y)

@@ -1,8 +1,9 @@
 //! Integer types (C99 6.2.5), their sizes (LP64 of the RISC-V psABI) and conversions (C99 6.3.1).
 //! An integer is held as a word, its number modulo 2^64.
 
-ghost use Rattle.std.specs.Prelude.{◌≡◌, ℕ, ◌≤◌, ◌<◌, ◌^◌};
-ghost use Rattle.obj_memory.specs.Integers.{signed};
+ghost use Rattle.std.specs.Prelude.{◌≡◌, ◌≤◌};
+
+use words::sign_extend;
 
 /// An integer type. Plain `char` is unsigned, and an enumeration is `Int`.
 #[derive(Clone, Copy, Debug, PartialEq, Eq)]
@@ -149,42 +150,20 @@ impl IntType {
         }
     }
 
-    /// A number converted to this type (C99 6.3.1.3). The number comes modulo 2^64, whatever type it
-    /// has.
+    /// A number converted to this type (C99 6.3.1.3). The number comes modulo 2^64, whatever type it has.
     #[tactic(auto, unfolding(crate::specs::Integers::fit))]
     pub fn fit(self, word: u64) -> u64
         ensures { result ≡ fit self word }
     {
         match self {
             IntType::Char | IntType::UnsignedChar => word % 0x100,
-            IntType::SignedChar => signed8(word),
-            IntType::Short => signed16(word),
+            IntType::SignedChar => sign_extend(8, word % 0x100),
+            IntType::Short => sign_extend(16, word % 0x1_0000),
             IntType::UnsignedShort => word % 0x1_0000,
-            IntType::Int => signed32(word),
+            IntType::Int => sign_extend(32, word % 0x1_0000_0000),
             IntType::UnsignedInt => word % 0x1_0000_0000,
             IntType::Long | IntType::UnsignedLong | IntType::LongLong | IntType::UnsignedLongLong =>
                 word,
         }
     }
-}
-
-// The low 8 bits, with their sign.
-fn signed8(word: u64) -> u64
-    ensures { result ≡ signed 8 word }
-{
-    i64::from(((word % 0x100) as u8).cast_signed()).cast_unsigned()
-}
-
-// The low 16 bits, with their sign.
-fn signed16(word: u64) -> u64
-    ensures { result ≡ signed 16 word }
-{
-    i64::from(((word % 0x1_0000) as u16).cast_signed()).cast_unsigned()
-}
-
-// The low 32 bits, with their sign.
-fn signed32(word: u64) -> u64
-    ensures { result ≡ signed 32 word }
-{
-    i64::from(((word % 0x1_0000_0000) as u32).cast_signed()).cast_unsigned()
 }

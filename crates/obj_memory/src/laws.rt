@@ -17,7 +17,8 @@ ghost use Rattle.obj_memory.specs.Integers.{fit, size_of};
 ghost use Rattle.obj_memory.specs.Operators.{unary_value, binary_value};
 ghost use Rattle.obj_memory.specs.Objects.{Objects, object_at, new_object, with_new, with_dead, with_zeroed, pointer_to};
 ghost use Rattle.obj_memory.specs.Judgement.{judge, named, moved, narrowed};
-ghost use Rattle.obj_memory.specs.Access.{scalar_size, overwrite, little_bytes, read_value, write_value, kept_value, write_bytes, bytes_at, tag_at, tag_of, move_range};
+ghost use Rattle.obj_memory.specs.Access.{scalar_size, overwrite, read_value, write_value, kept_value, write_bytes, bytes_at, tag_at, tag_of, move_range};
+ghost use Rattle.byteorder.specs.Endian.{little_bytes};
 ghost use Rattle.obj_memory.specs.Heap.{is_allocated, is_live_block, block_count, block_room, has_room, least_place};
 ghost use Rattle.obj_memory.specs.Sound.{IsSound, IsSoundTag, IsPlace, IsAllowed, IsPartOf, KeepsObjects, Continues, AreApart, AreDisjoint, DoNotMeet, HasRoom, IsBlockPlace};
 

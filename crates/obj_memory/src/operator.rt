@@ -3,10 +3,10 @@
 //! modulo the width, a right shift keeps the sign, and the least number divided by -1 is itself.
 
 ghost use Rattle.std.specs.Prelude.{◌≡◌, ℕ, ◌+◌, ◌-◌, ◌*◌, ◌/◌, ◌%◌, ◌^◌, ◌<◌, ◌≤◌};
-ghost use Rattle.obj_memory.specs.Integers.{is_signed};
-ghost use Rattle.obj_memory.specs.Operators.{magnitude, negated, is_less, quotient, remainder, shift_amount, shift_right};
+ghost use Rattle.obj_memory.specs.Operators.{is_less, quotient, remainder, shift_amount, shift_right};
 
 use crate::int_type::IntType;
+use words::{is_less_signed, shift_right_signed, signed_quotient, signed_remainder};
 
 /// A unary operator on one operand of a promoted type (C99 6.5.3.3).
 #[derive(Clone, Copy, Debug, PartialEq, Eq)]
@@ -91,7 +91,7 @@ impl BinaryOperator {
             BinaryOperator::Subtract => operand_type.fit(left.wrapping_sub(right)),
             BinaryOperator::Multiply => operand_type.fit(left.wrapping_mul(right)),
             BinaryOperator::Divide | BinaryOperator::Remainder if right == 0 => return None,
-            BinaryOperator::Divide => operand_type.fit(divide(has_sign, left, right)),
+            BinaryOperator::Divide => operand_type.fit(quotient(has_sign, left, right)),
             BinaryOperator::Remainder => operand_type.fit(remainder(has_sign, left, right)),
             BinaryOperator::ShiftLeft => operand_type.fit(left << amount),
             BinaryOperator::ShiftRight => shift_right(has_sign, left, amount),
@@ -114,71 +114,53 @@ fn is_less(has_sign: bool, left: u64, right: u64) -> bool
     ensures { result ≡ is_less has_sign left right }
 {
     if has_sign {
-        left.wrapping_add(1 << 63) < right.wrapping_add(1 << 63)
+        is_less_signed(left, right)
     } else {
         left < right
     }
 }
 
-fn magnitude(word: u64) -> u64
-    ensures { result ≡ magnitude word }
-{
-    if word < 1 << 63 {
-        word
-    } else {
-        0u64.wrapping_sub(word)
-    }
-}
-
-fn divide(has_sign: bool, left: u64, right: u64) -> u64
+fn quotient(has_sign: bool, left: u64, right: u64) -> u64
     requires { 0 < right }
-    ensures { result ≡ quotient has_sign left right % 2 ^ 64 }
+    ensures { result ≡ quotient has_sign left right }
 {
-    if !has_sign {
-        return left / right;
-    }
-    let quotient = magnitude(left) / magnitude(right);
-    if left >> 63 == right >> 63 {
-        quotient
+    if has_sign {
+        signed_quotient(left, right)
     } else {
-        0u64.wrapping_sub(quotient)
+        left / right
     }
 }
 
 fn remainder(has_sign: bool, left: u64, right: u64) -> u64
     requires { 0 < right }
-    ensures { result ≡ remainder has_sign left right % 2 ^ 64 }
+    ensures { result ≡ remainder has_sign left right }
 {
-    if !has_sign {
-        return left % right;
-    }
-    let remainder = magnitude(left) % magnitude(right);
-    if left < 1 << 63 {
-        remainder
+    if has_sign {
+        signed_remainder(left, right)
     } else {
-        0u64.wrapping_sub(remainder)
+        left % right
     }
 }
 
 // By how many bits a shift of this type goes.
 #[tactic(auto, unfolding(crate::specs::Operators::shift_amount))]
-fn shift_amount(operand_type: IntType, amount: u64) -> u64
+fn shift_amount(operand_type: IntType, amount: u64) -> u32
     ensures value { result ≡ shift_amount operand_type amount }
     ensures small { result < 64 }
 {
     if operand_type.size() == 8 {
-        amount % 64
+        (amount % 64) as u32
     } else {
-        amount % 32
+        (amount % 32) as u32
     }
 }
 
-fn shift_right(has_sign: bool, word: u64, bits: u64) -> u64
+fn shift_right(has_sign: bool, word: u64, bits: u32) -> u64
     requires { bits < 64 }
     ensures { result ≡ shift_right has_sign word bits }
 {
-    if has_sign && word >= 1 << 63 {
-        !(!word >> bits)
+    if has_sign {
+        shift_right_signed(word, bits)
     } else {
         word >> bits
     }

@@ -14,10 +14,10 @@ use Rattle.std.specs.formers.vec.Vec as vec
 use Rattle.std.specs.declared.alloc.Global.{Global}
 use Rattle.std.specs.contracts.alloc.Global as global
 use Rattle.std.specs.contracts.impls.GlobalAllocator.TheImpl.{ghosts}
-use Rattle.c_syntax.specs.declared.containers.Items.TheInside.{Inside}
-use Rattle.c_syntax.specs.declared.containers.Items.TheView.{view, invariant}
-use Rattle.c_syntax.specs.contracts.containers.Items as C
-use Rattle.c_syntax.specs.contracts.containers.Items.TheInside as I
+use Rattle.tree_containers.specs.declared.items.Items.TheInside.{Inside}
+use Rattle.tree_containers.specs.declared.items.Items.TheView.{view, invariant}
+use Rattle.tree_containers.specs.contracts.items.Items as C
+use Rattle.tree_containers.specs.contracts.items.Items.TheInside as I
 
 -- it holds a list of values
 abbrev pub the_former : Former {0} → Former {0}

@@ -17,10 +17,10 @@ use Rattle.std.specs.contracts.boxed.Box as box
 use Rattle.std.specs.declared.alloc.Global.{Global}
 use Rattle.std.specs.contracts.alloc.Global as global
 use Rattle.std.specs.contracts.impls.GlobalAllocator.TheImpl.{ghosts}
-use Rattle.c_syntax.specs.declared.containers.Boxed.TheInside.{Inside}
-use Rattle.c_syntax.specs.declared.containers.Boxed.TheView.{view, invariant}
-use Rattle.c_syntax.specs.contracts.containers.Boxed as C
-use Rattle.c_syntax.specs.contracts.containers.Boxed.TheInside as I
+use Rattle.tree_containers.specs.declared.boxed.Boxed.TheInside.{Inside}
+use Rattle.tree_containers.specs.declared.boxed.Boxed.TheView.{view, invariant}
+use Rattle.tree_containers.specs.contracts.boxed.Boxed as C
+use Rattle.tree_containers.specs.contracts.boxed.Boxed.TheInside as I
 
 -- it holds one value
 abbrev pub the_former : Former {0} → Former {0}

@@ -1,5 +1,4 @@
-//! A `Box` and a `Vec` that contracts see as what they hold, without where it lies in memory, so that equal trees are
-//! equal values.
+//! A `Box` that contracts see as what it holds, without where it lies in memory, so that equal trees are equal values.
 
 ghost use Rattle.std.specs.Prelude.{◌≡◌, IfOk};
 
@@ -37,38 +36,5 @@ impl<T: Drop> Boxed<T> {
         Ok(Boxed {
             inner: Box::new(alloc, value)?,
         })
-    }
-}
-
-/// A list of values. Contracts see the list.
-#[derive(Drop)]
-pub struct Items<T> {
-    items: Vec<T>,
-}
-
-impl<T> Model for Items<T> {
-    ghost use Rattle.std.specs.Prelude.{List};
-    ghost use Rattle.std.specs.Coded.{coded_list};
-
-    ghost Value = { List T };
-
-    ghost coded = { coded_list T.code };
-
-    ghost view = { λ list. list.items.items };
-}
-
-impl<T> Items<T> {
-    /// The list of what the vector has.
-    pub fn from_vec(items: Vec<T>) -> Items<T>
-        ensures { result ≡ items.items }
-    {
-        Items { items }
-    }
-
-    /// The values in order.
-    pub fn as_slice(&self) -> &[T]
-        ensures { result.now ≡ self.now }
-    {
-        self.items.as_slice()
     }
 }

@@ -1,0 +1,3 @@
+pub mod TwosComplement
+pub mod Operations
+pub mod Division

@@ -1,4 +1,5 @@
 pub mod Faults
+pub mod Limits
 pub mod Lines
 pub mod Headers
 pub mod Names
@@ -9,3 +10,4 @@ pub mod Sections
 pub mod Reading
 pub mod Pending
 pub mod Outcomes
+pub mod Origin

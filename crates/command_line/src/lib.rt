@@ -14,5 +14,5 @@ mod number;
 mod program;
 mod words;
 
-pub use command::{BudgetNumbers, Command, WordsFault};
+pub use command::{Command, WordsFault};
 pub use words::command_of;

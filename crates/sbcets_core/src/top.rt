@@ -1,7 +1,7 @@
 //! The call that does all that the program does.
 ghost use Rattle.std.specs.Prelude.{◌≡◌, ◌≤◌, [], None, Some, Err, IfOk};
 ghost use Rattle.command_line.specs.Asked.{asked_of};
-ghost use Rattle.sbcets_core.specs.Commanded.{are_budgets, has_budgets, commanded};
+ghost use Rattle.sbcets_core.specs.Commanded.{commanded};
 ghost use Rattle.sbcets_core.specs.Commands.{outside_of};
 ghost use Rattle.sbcets_core.specs.Counting.{CommandCounts, counts_of};
 ghost use Rattle.sbcets_core.specs.Top.{Answers, Does, Finishes, IsComplete};
@@ -9,8 +9,7 @@ ghost use Rattle.sbcets_core.specs.Top.{Answers, Does, Finishes, IsComplete};
 use crate::commands::{build, go, run};
 use crate::outcome::Outcome;
 use crate::report::report;
-use command_line::{BudgetNumbers, Command, WordsFault, command_of};
-use sb_base::Budgets;
+use command_line::{Command, WordsFault, command_of};
 use sb_outside::{Files, Sink, Source};
 use std::alloc::Global;
 
@@ -94,38 +93,11 @@ fn do_command<F: Files, I: Source, O: Sink, E: Sink>(
     }
 }
 
-// The command that the words ask for, with budgets in their ranges.
+// The command that the words ask for.
 #[tactic(auto, unfolding(crate::specs::Commanded::commanded))]
 fn command<'a>(alloc: Global, words: &'a [String]) -> Result<Command<'a>, WordsFault>
     ensures ok { IfOk result (λ command. commanded words.entry.now ≡ Some (asked_of command)) }
     ensures usage { result ≡ Err WordsFault.Usage → commanded words.entry.now ≡ None }
 {
-    let command = command_of(alloc, words)?;
-    if has_budgets(&command) {
-        Ok(command)
-    } else {
-        Err(WordsFault::Usage)
-    }
-}
-
-fn has_budgets(command: &Command) -> bool
-    ensures { result ≡ has_budgets (asked_of command.now) }
-{
-    match command {
-        Command::Build { budgets, .. } | Command::Go { budgets, .. } => are_budgets(*budgets),
-        Command::Run { .. } => true,
-    }
-}
-
-fn are_budgets(numbers: BudgetNumbers) -> bool
-    ensures { result ≡ are_budgets numbers }
-{
-    let BudgetNumbers {
-        heap,
-        stack,
-        calls,
-        blocks,
-        keys,
-    } = numbers;
-    Budgets::new(heap, stack, calls, blocks, keys).is_ok()
+    command_of(alloc, words)
 }

@@ -3,7 +3,7 @@ use Rattle.std.proofs.Common.{◌≡◌, ℕ, zero, suc, ◌+◌, ◌%◌, ◌<�
 use Rattle.std.proofs.Math.Nat.{eq-or-lt_of_le}
 use Rattle.addr_map.specs.declared.region.Region.{Region}
 use Rattle.addr_map.specs.declared.region.Region.TheVariants.{Rows, Code, Globals, Stack, Heap, Shadow, Locks, FreeLocks, Blocks, Calls, Cells}
-use Rattle.addr_map.specs.Places.{MapSizes, AreMapped, whole_pages, order_of, region_size, region_start, region_end}
+use Rattle.addr_map.specs.Places.{MapSizes, AreMapped, whole_pages, order_of, region_size, region_start, region_end, code_begin, code_size, objects_begin, spaces_begin}
 
 pages_below : (n bound : ℕ) → n + 4095 ≤ bound → whole_pages n ≤ bound
 pages_below n bound h = omega (arith, h)
@@ -11,23 +11,23 @@ pages_below n bound h = omega (arith, h)
 pages_whole : (n : ℕ) → whole_pages n % 4096 ≡ 0
 pages_whole n = omega arith
 
-globals_small : (m : MapSizes) → AreMapped m → region_size m Globals ≤ 4194304
+globals_small : (m : MapSizes) → AreMapped m → region_size m Globals ≤ 0x400000
 unfolding region_size
 globals_small m h = omega (arith, h.globals)
 
-shadow_small : (m : MapSizes) → AreMapped m → region_size m Shadow ≤ 134217728
+shadow_small : (m : MapSizes) → AreMapped m → region_size m Shadow ≤ 0x8000000
 unfolding region_size
 shadow_small m h = omega (arith, h.globals, h.budgets.stack.greatest, h.budgets.heap.greatest)
 
-locks_small : (m : MapSizes) → AreMapped m → region_size m Locks ≤ 4194304
+locks_small : (m : MapSizes) → AreMapped m → region_size m Locks ≤ 0x400000
 unfolding region_size
 locks_small m h = omega (arith, h.budgets.stack.greatest, h.budgets.blocks)
 
-free_locks_small : (m : MapSizes) → AreMapped m → region_size m FreeLocks ≤ 4194304
+free_locks_small : (m : MapSizes) → AreMapped m → region_size m FreeLocks ≤ 0x400000
 unfolding region_size
 free_locks_small m h = omega (arith, h.budgets.stack.greatest, h.budgets.blocks)
 
-blocks_small : (m : MapSizes) → AreMapped m → region_size m Blocks ≤ 4194304
+blocks_small : (m : MapSizes) → AreMapped m → region_size m Blocks ≤ 0x400000
 unfolding region_size
 blocks_small m h = omega (arith, h.budgets.blocks)
 
@@ -114,11 +114,11 @@ next_at (suc (suc (suc (suc (suc (suc (suc (suc zero)))))))) h = refl
 next_at (suc (suc (suc (suc (suc (suc (suc (suc (suc zero))))))))) h = refl
 next_at (suc (suc (suc (suc (suc (suc (suc (suc (suc (suc k)))))))))) h = absurd (omega arith)
 
-size_of_rows : (m : MapSizes) → region_size m Rows ≡ 983040
+size_of_rows : (m : MapSizes) → region_size m Rows ≡ 0xf0000
 unfolding region_size
 size_of_rows m = refl
 
-size_of_code : (m : MapSizes) → region_size m Code ≡ 8388608
+size_of_code : (m : MapSizes) → region_size m Code ≡ 0x800000
 unfolding region_size
 size_of_code m = refl
 
@@ -154,8 +154,8 @@ order_at (suc (suc (suc (suc (suc (suc (suc (suc (suc (suc k)))))))))) h = absur
 
 before_next : (m : MapSizes) → AreMapped m → (r : Region) → order_of r < 10 → region_end m r ≤ region_start m (next r)
 unfolding next region_start
-before_next m h Rows lt = let s : region_size m Rows ≡ 983040 = size_of_rows m in omega (arith, s)
-before_next m h Code lt = let s : region_size m Code ≡ 8388608 = size_of_code m in omega (arith, s)
+before_next m h Rows lt = let s : region_size m Rows ≡ 0xf0000 = size_of_rows m in omega (arith, s)
+before_next m h Code lt = let s : region_size m Code ≡ 0x800000 = size_of_code m in omega (arith, s)
 before_next m h Globals lt = omega arith
 before_next m h Stack lt = omega arith
 before_next m h Heap lt =
@@ -212,17 +212,48 @@ starts_whole = start_whole
 pub ends_whole : (m : MapSizes) → AreMapped m → (r : Region) → region_end m r % 4096 ≡ 0
 ends_whole m h r = omega (arith, start_whole m h r, size_whole m h r)
 
-cells_low : (m : MapSizes) → AreMapped m → region_end m Cells < 1610612736
+cells_low : (m : MapSizes) → AreMapped m → region_end m Cells < 0x60000000
 unfolding region_start
 cells_low m h =
     let s : region_size m Calls ≡ m.budgets.calls = size_of_calls m in
     let t : region_size m Cells ≡ 4096 = size_of_cells m in
     omega (arith, shadow_small m h, locks_small m h, free_locks_small m h, blocks_small m h, s, t, h.budgets.calls.greatest)
 
-pub ends_low : (m : MapSizes) → AreMapped m → (r : Region) → region_end m r < 1610612736
+pub ends_low : (m : MapSizes) → AreMapped m → (r : Region) → region_end m r < 0x60000000
 unfolding region_at
 ends_low m h r = go (eq-or-lt_of_le (order_small r))
   where
-    go : (order_of r ≡ 10) ⊎ (order_of r < 10) → region_end m r < 1610612736
-    go (inl last) = subst (λ q. region_end m q < 1610612736) (sym (ap region_at last) ∙ region_of_order r) (cells_low m h)
+    go : (order_of r ≡ 10) ⊎ (order_of r < 10) → region_end m r < 0x60000000
+    go (inl last) = subst (λ q. region_end m q < 0x60000000) (sym (ap region_at last) ∙ region_of_order r) (cells_low m h)
     go (inr before) = let first = in_order m h r Cells before in omega (arith, first, cells_low m h)
+
+-- object space holds the objects and nothing else
+globals_first : (m : MapSizes) → region_start m Globals ≡ objects_begin
+unfolding region_start
+globals_first m = refl
+
+spaces_first : (m : MapSizes) → region_start m Shadow ≡ spaces_begin
+unfolding region_start
+spaces_first m = refl
+
+from : (m : MapSizes) → AreMapped m → (r s : Region) → order_of r ≤ order_of s → region_start m r ≤ region_start m s
+from m h r s le = go (eq-or-lt_of_le le)
+  where
+    go : (order_of r ≡ order_of s) ⊎ (order_of r < order_of s) → region_start m r ≤ region_start m s
+    go (inl same) = subst (λ q. region_start m r ≤ region_start m q) (sym (region_of_order r) ∙ ap region_at same ∙ region_of_order s) (omega arith)
+    go (inr before) = omega (arith, in_order m h r s before)
+
+pub objects_inside : (m : MapSizes) → AreMapped m → (r : Region) → order_of Globals ≤ order_of r → order_of r ≤ order_of Heap
+    → (objects_begin ≤ region_start m r) × (region_end m r ≤ spaces_begin)
+objects_inside m h r least greatest =
+    (omega (arith, from m h Globals r least, globals_first m), omega (arith, in_order m h r Shadow (omega arith), spaces_first m))
+
+pub others_before : (m : MapSizes) → AreMapped m → (r : Region) → order_of r < order_of Globals → region_end m r ≤ objects_begin
+others_before m h r lt = omega (arith, in_order m h r Globals lt, globals_first m)
+
+pub others_behind : (m : MapSizes) → AreMapped m → (r : Region) → order_of Heap < order_of r → spaces_begin ≤ region_start m r
+others_behind m h r lt = omega (arith, from m h Shadow r (omega arith), spaces_first m)
+
+pub code_fixed : (m : MapSizes) → (region_start m Code ≡ code_begin) × (region_end m Code ≡ code_begin + code_size)
+unfolding region_start region_size
+code_fixed m = (refl, refl)

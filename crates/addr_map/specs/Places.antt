@@ -1,19 +1,48 @@
 -- Where the regions of a compiled program's memory stand.
-use Rattle.std.specs.Prelude.{ℕ, ◌+◌, ◌-◌, ◌*◌, ◌/◌, ◌≤◌, nat_le, if◌then◌else◌, Result, Ok, Err}
+use Rattle.std.specs.Prelude.{ℕ, ◌+◌, ◌-◌, ◌*◌, ◌/◌, ◌≤◌, Bool, ◌&&◌, nat_lt, nat_le, if◌then◌else◌, Result, Ok, Err}
 use Rattle.sb_base.specs.Budgets.{BudgetSizes, AreInRange}
 use Rattle.addr_map.specs.declared.region.Region.{Region}
 use Rattle.addr_map.specs.declared.region.Region.TheVariants.{Rows, Code, Globals, Stack, Heap, Shadow, Locks, FreeLocks, Blocks, Calls, Cells}
 use Rattle.addr_map.specs.declared.map.TooLarge.{TooLarge}
+
+-- the first address of the functions' jump rows, of compiled code, of object space, and of the runtime's spaces behind it
+abbrev pub functions_begin : ℕ
+functions_begin = 0x10000
+
+abbrev pub code_begin : ℕ
+code_begin = 0x100000
+
+abbrev pub objects_begin : ℕ
+objects_begin = 0x10000000
+
+abbrev pub spaces_begin : ℕ
+spaces_begin = 0x40000000
+
+-- the bytes of compiled code, of which a program may use less
+abbrev pub code_size : ℕ
+code_size = 0x800000
+
+-- whether an address is one of compiled code, and whether it is one of object space
+abbrev pub is_code_address : ℕ → Bool
+is_code_address a = nat_le code_begin a && nat_lt a (code_begin + code_size)
+
+abbrev pub is_object_address : ℕ → Bool
+is_object_address a = nat_le objects_begin a && nat_lt a spaces_begin
+
+-- whether an access is the program's own: of object space, by an instruction of compiled code. Those of the runtime, whose
+-- instructions stand below, and those of its spaces are not.
+abbrev pub is_program_access : (pc address : ℕ) → Bool
+is_program_access pc address = is_code_address pc && is_object_address address
 
 -- what a map depends on: the budgets, and the bytes of the objects of static storage duration
 pub record MapSizes : Type 0 where
   pub budgets : BudgetSizes
   pub global_bytes : ℕ
 
--- the map of these sizes, unless the static objects take more than 4194304 bytes
+-- the map of these sizes, unless the static objects take more than 4 MiB
 unfoldable pub mapped : BudgetSizes → ℕ → Result MapSizes TooLarge
 mapped budgets global_bytes =
-    if nat_le global_bytes 4194304
+    if nat_le global_bytes 0x400000
     then Ok (record { budgets = budgets; global_bytes = global_bytes })
     else Err (record { 0 = global_bytes })
 
@@ -31,8 +60,8 @@ lock_count m = 1 + m.budgets.stack / 16 + m.budgets.blocks
 
 -- the bytes of a region. Shadow has an entry of 32 bytes for each word of 8, a word for each page, and one more
 unfoldable pub region_size : MapSizes → Region → ℕ
-region_size m Rows = 983040
-region_size m Code = 8388608
+region_size m Rows = code_begin - functions_begin
+region_size m Code = code_size
 region_size m Globals = whole_pages m.global_bytes
 region_size m Stack = m.budgets.stack
 region_size m Heap = m.budgets.heap
@@ -45,18 +74,18 @@ region_size m Cells = 4096
 
 -- the first address of a region
 unfoldable pub region_start : MapSizes → Region → ℕ
-region_start m Rows = 65536
-region_start m Code = 1048576
-region_start m Globals = 268435456
-region_start m Stack = 268435456 + region_size m Globals
-region_start m Heap = 268435456 + region_size m Globals + region_size m Stack
-region_start m Shadow = 1073741824
-region_start m Locks = 1073741824 + region_size m Shadow
-region_start m FreeLocks = 1073741824 + region_size m Shadow + region_size m Locks
-region_start m Blocks = 1073741824 + region_size m Shadow + region_size m Locks + region_size m FreeLocks
-region_start m Calls = 1073741824 + region_size m Shadow + region_size m Locks + region_size m FreeLocks + region_size m Blocks
+region_start m Rows = functions_begin
+region_start m Code = code_begin
+region_start m Globals = objects_begin
+region_start m Stack = objects_begin + region_size m Globals
+region_start m Heap = objects_begin + region_size m Globals + region_size m Stack
+region_start m Shadow = spaces_begin
+region_start m Locks = spaces_begin + region_size m Shadow
+region_start m FreeLocks = spaces_begin + region_size m Shadow + region_size m Locks
+region_start m Blocks = spaces_begin + region_size m Shadow + region_size m Locks + region_size m FreeLocks
+region_start m Calls = spaces_begin + region_size m Shadow + region_size m Locks + region_size m FreeLocks + region_size m Blocks
 region_start m Cells =
-    1073741824 + region_size m Shadow + region_size m Locks + region_size m FreeLocks + region_size m Blocks + region_size m Calls
+    spaces_begin + region_size m Shadow + region_size m Locks + region_size m FreeLocks + region_size m Blocks + region_size m Calls
 
 -- its last address, one below the first where it is empty
 abbrev pub region_last : MapSizes → Region → ℕ
@@ -68,7 +97,7 @@ region_end m r = region_start m r + region_size m r
 
 -- the address of a function by its number: that of its jump row
 unfoldable pub function_address : ℕ → ℕ
-function_address number = 65536 + 16 * number
+function_address number = functions_begin + 16 * number
 
 -- the place of a region in the order of addresses
 abbrev pub order_of : Region → ℕ
@@ -87,4 +116,4 @@ order_of Cells = 10
 -- the sizes of a map
 pub record AreMapped (m : MapSizes) : Type 0 where
   pub budgets : AreInRange m.budgets
-  pub globals : m.global_bytes ≤ 4194304
+  pub globals : m.global_bytes ≤ 0x400000

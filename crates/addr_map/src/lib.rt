@@ -2,8 +2,8 @@
 //!
 //! | Region | First address | Bytes |
 //! |---|---|---|
-//! | `Rows` | 0x10000 | 983040: a jump row of 16 bytes for each function, then the runtime |
-//! | `Code` | 0x100000 | 8388608: compiled code |
+//! | `Rows` | 0x10000 | 0xf0000: a jump row of 16 bytes for each function, then the runtime |
+//! | `Code` | 0x100000 | 0x800000: compiled code |
 //! | `Globals` | 0x10000000 | the objects of static storage duration, in whole pages of 4096 bytes |
 //! | `Stack` | behind `Globals` | the budget `stack`: automatic objects |
 //! | `Heap` | behind `Stack` | the budget `heap`: allocated objects |

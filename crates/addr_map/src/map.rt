@@ -1,25 +1,29 @@
 //! The map from regions to addresses.
 
 ghost use Rattle.std.specs.Prelude.{◌≡◌, ℕ, ◌+◌, ◌*◌, ◌/◌, ◌-◌, ◌≤◌, ◌<◌, ◌^◌};
-ghost use Rattle.addr_map.specs.Places.{whole_pages, function_address};
+ghost use Rattle.addr_map.specs.Places.{spaces_begin, whole_pages, function_address};
 
 use crate::region::Region;
 use sb_base::Budgets;
 use std::marker::Model;
 
 /// The largest number of bytes of `Globals`.
-pub const MAX_GLOBAL_BYTES: u64 = 4_194_304;
+pub const MAX_GLOBAL_BYTES: u64 = 0x40_0000;
 
 const PAGE: u64 = 4096;
 
-// Where the jump rows, the objects and the runtime's spaces begin.
+// Where the jump rows, compiled code, the objects and the runtime's spaces begin, and the bytes of compiled code.
 const FUNCTIONS: u64 = 0x1_0000;
+
+const CODE: u64 = 0x10_0000;
+
+const CODE_SIZE: u64 = 0x80_0000;
 
 const OBJECTS: u64 = 0x1000_0000;
 
 const SPACES: u64 = 0x4000_0000;
 
-/// Why there is no map: the objects of static storage duration take more than 4194304 bytes, this many.
+/// Why there is no map: the objects of static storage duration take more than 4 MiB, this many bytes.
 #[derive(Clone, Copy, Debug, PartialEq, Eq)]
 pub struct TooLarge(pub u64);
 
@@ -38,7 +42,7 @@ impl Model for AddrMap {
 
     ghost view = { λ m. record { budgets = m.budgets; global_bytes = m.global_bytes } };
 
-    ghost invariant = { λ m. m.global_bytes ≤ 4194304 };
+    ghost invariant = { λ m. m.global_bytes ≤ 0x400000 };
 
     ghost inverse = { λ s. record { budgets = s.budgets; global_bytes = s.global_bytes } };
 }
@@ -47,7 +51,7 @@ impl AddrMap {
     ghost use Rattle.addr_map.specs.Places.{mapped, region_size, region_start, region_last, lock_count};
 
     /// The map for these budgets and so many bytes of static objects, which need not be whole pages.
-    /// `TooLarge` exactly above 4194304 bytes.
+    /// `TooLarge` exactly above 4 MiB.
     #[tactic(auto, unfolding(crate::specs::Places::mapped))]
     pub fn new(budgets: &Budgets, global_bytes: u64) -> Result<AddrMap, TooLarge>
         ensures { result ≡ mapped budgets.now global_bytes }
@@ -71,7 +75,7 @@ impl AddrMap {
     /// The bytes of the static objects, as given.
     pub fn global_bytes(&self) -> u64
         ensures value { result ≡ self.now.global_bytes }
-        ensures small { result ≤ 4194304 }
+        ensures small { result ≤ 0x400000 }
     {
         self.global_bytes
     }
@@ -93,7 +97,7 @@ impl AddrMap {
     {
         match which {
             Region::Rows => FUNCTIONS,
-            Region::Code => 0x10_0000,
+            Region::Code => CODE,
             Region::Globals => OBJECTS,
             Region::Stack => OBJECTS + self.size(Region::Globals),
             Region::Heap => OBJECTS + self.size(Region::Globals) + self.size(Region::Stack),
@@ -111,9 +115,9 @@ impl AddrMap {
     // The first address behind the lock words.
     fn behind_locks(&self) -> u64
         ensures value { result
-            ≡ 1073741824 + region_size self.now Region.Shadow + region_size self.now Region.Locks + region_size self.now Region.FreeLocks }
+            ≡ spaces_begin + region_size self.now Region.Shadow + region_size self.now Region.Locks + region_size self.now Region.FreeLocks }
         ensures some { 0 < result }
-        ensures small { result ≤ 1073741824 + 3 * 2 ^ 27 }
+        ensures small { result ≤ spaces_begin + 3 * 2 ^ 27 }
     {
         SPACES + self.size(Region::Shadow) + self.size(Region::Locks) + self.size(Region::FreeLocks)
     }
@@ -125,8 +129,8 @@ impl AddrMap {
         ensures small { result ≤ 2 ^ 27 }
     {
         match which {
-            Region::Rows => 983_040,
-            Region::Code => 8_388_608,
+            Region::Rows => CODE - FUNCTIONS,
+            Region::Code => CODE_SIZE,
             Region::Globals => whole_pages(self.global_bytes),
             Region::Stack => self.budgets.stack(),
             Region::Heap => self.budgets.heap(),

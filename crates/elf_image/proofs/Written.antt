@@ -8,7 +8,7 @@ use Rattle.elf_image.specs.declared.fault.ImageFault.TheVariants.{Truncated, Too
 use Rattle.elf_image.specs.declared.header.FileHeader.{FileHeader}
 use Rattle.elf_image.specs.declared.header.ProgramHeader.{ProgramHeader}
 use Rattle.elf_image.specs.Layout.{file_header, program_header, loads, loads_of, segment_of, content_of}
-use Rattle.elf_image.specs.Tests.{◌then◌, ◌unless◌, header_fault, count_fault, load_fault, loads_fault, memory_size, size_fault, overlap_fault, entry_fault, content_fault, image_fault}
+use Rattle.elf_image.specs.Tests.{◌then◌, ◌unless◌, header_fault, count_fault, load_fault, loads_fault, memory_size, size_fault, overlap_fault, entry_fault, content_fault, headers_fault, image_fault}
 use Rattle.elf_image.specs.Writing.{Piece, Pieces, zeros, header_bytes, u32_bytes, u64_bytes, load_bytes, padded, code_offset, objects_offset, runtime_offset, image_size, image_bytes, content, PiecesFit}
 use Rattle.elf_image.proofs.Pages.{length-header_bytes, length-load_bytes, length-image_bytes, rows_at, code_at, objects_at, runtime_at}
 
@@ -198,16 +198,17 @@ header_passes size entry h = passes Truncated _ (le-leb 288 size h)
 
 -- pieces that fit are written as an image
 pub written_is_image : (p : Pieces) → PiecesFit p → image_fault (image_bytes p) ≡ None
-unfolding image_fault
+unfolding headers_fault image_fault
 written_is_image p f =
     let s = pieces_small p f in
     let bytes = image_bytes p in
     let long = length-image_bytes p in
-    then_all _ _ (passes Truncated _ (le-leb 64 (length bytes) (omega arith)))
+    then_all _ _
+    (then_all _ _ (passes Truncated _ (le-leb 64 (length bytes) (omega arith)))
     (then_all _ _ (ap (header_fault (length bytes)) (header_is p s) ∙ header_passes (length bytes) p.entry (omega arith))
-    (then_all _ _ (ap (λ hs. count_fault (length hs)) (loads_are p s))
+    (ap (λ hs. count_fault (length hs)) (loads_are p s))))
     (then_all _ _ (ap (loads_fault (length bytes)) (loads_are p s) ∙ loads_pass p f)
-    (ap content_fault (content_is p s) ∙ f.together))))
+    (ap content_fault (content_is p s) ∙ f.together))
 
 -- and that image is the one that they are
 pub written_is_content : (p : Pieces) → PiecesFit p → content_of (image_bytes p) ≡ content p

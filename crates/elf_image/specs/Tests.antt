@@ -93,14 +93,18 @@ entry_fault entry segments = Range unless ((entry % 4 == 0) && may_run_at entry 
 abbrev pub content_fault : Content → Option ImageFault
 content_fault c = size_fault c.segments then overlap_fault c.segments then entry_fault c.entry c.segments
 
--- The first test that bytes fail. The first of all is that there is a file header, of 64 bytes.
-unfoldable pub image_fault : List ℕ → Option ImageFault
-image_fault bytes =
+-- The first of the tests before any segment that bytes fail: that there is a file header, of 64 bytes, its tests, and the
+-- number of segments.
+unfoldable pub headers_fault : List ℕ → Option ImageFault
+headers_fault bytes =
     (Truncated unless nat_le 64 (length bytes)) then
     header_fault (length bytes) (file_header bytes) then
-    count_fault (length (loads_of bytes)) then
-    loads_fault (length bytes) (loads_of bytes) then
-    content_fault (content_of bytes)
+    count_fault (length (loads_of bytes))
+
+-- The first test that bytes fail.
+unfoldable pub image_fault : List ℕ → Option ImageFault
+image_fault bytes =
+    headers_fault bytes then loads_fault (length bytes) (loads_of bytes) then content_fault (content_of bytes)
 
 -- an error is want of memory, or the first fault
 abbrev pub Fails : ReadError → Option ImageFault → Type 0
@@ -117,7 +121,9 @@ abbrev pub IsAdded : {X : Type 0} → (old new : List SegmentContent) → List �
 IsAdded old new bytes hs (Ok x) = (loads_fault (length bytes) hs ≡ None) × (new ≡ old ++ map (segment_of bytes) hs)
 IsAdded old new bytes hs (Err e) = Fails e (loads_fault (length bytes) hs)
 
--- what a reader answers of these bytes: their image where they pass each test, else the first test that fails
+-- what a reader answers of these bytes: their image where they pass each test, else the first test that fails. Memory is
+-- taken for the segments alone, so its want is answered only where the tests before them pass.
 abbrev pub IsAnswer : {X : Type 0} → (X → Content) → List ℕ → Result X ReadError → Type 0
 IsAnswer view bytes (Ok x) = (image_fault bytes ≡ None) × (view x ≡ content_of bytes)
-IsAnswer view bytes (Err e) = Fails e (image_fault bytes)
+IsAnswer view bytes (Err errors.Memory) = headers_fault bytes ≡ None
+IsAnswer view bytes (Err (errors.Fault f)) = image_fault bytes ≡ Some f

@@ -1,3 +1,4 @@
 pub mod Decoding
 pub mod Table
 pub mod Word
+pub mod Registers

@@ -5,7 +5,7 @@
 use crate::operand::{BranchOffset, Imm12, Imm20, JumpOffset, Reg, ShiftAmount, ShiftAmount32};
 
 /// The condition of a branch, on the registers `rs1` and `rs2` in this order.
-#[derive(Clone, Copy, Debug, PartialEq, Eq)]
+#[derive(Clone, Copy, PartialEq, Eq)]
 pub enum BranchOp {
     /// BEQ: equal.
     Beq,
@@ -22,7 +22,7 @@ pub enum BranchOp {
 }
 
 /// The size that a load reads, and how it fills the 64 bits of `rd`.
-#[derive(Clone, Copy, Debug, PartialEq, Eq)]
+#[derive(Clone, Copy, PartialEq, Eq)]
 pub enum LoadOp {
     /// LB: 1 byte, sign-extended.
     Lb,
@@ -41,7 +41,7 @@ pub enum LoadOp {
 }
 
 /// The size that a store writes, of the bytes of `rs2`.
-#[derive(Clone, Copy, Debug, PartialEq, Eq)]
+#[derive(Clone, Copy, PartialEq, Eq)]
 pub enum StoreOp {
     /// SB: the low byte.
     Sb,
@@ -54,7 +54,7 @@ pub enum StoreOp {
 }
 
 /// An operation on `rs1` and a sign-extended immediate.
-#[derive(Clone, Copy, Debug, PartialEq, Eq)]
+#[derive(Clone, Copy, PartialEq, Eq)]
 pub enum ImmOp {
     /// ADDI: sum.
     Addi,
@@ -71,7 +71,7 @@ pub enum ImmOp {
 }
 
 /// A shift of 64 bits by an immediate.
-#[derive(Clone, Copy, Debug, PartialEq, Eq)]
+#[derive(Clone, Copy, PartialEq, Eq)]
 pub enum ShiftOp {
     /// SLLI: to the left.
     Slli,
@@ -82,7 +82,7 @@ pub enum ShiftOp {
 }
 
 /// A shift of the low 32 bits by an immediate; the 32 bits that result are sign-extended.
-#[derive(Clone, Copy, Debug, PartialEq, Eq)]
+#[derive(Clone, Copy, PartialEq, Eq)]
 pub enum ShiftOp32 {
     /// SLLIW: to the left.
     Slliw,
@@ -93,7 +93,7 @@ pub enum ShiftOp32 {
 }
 
 /// An operation on the 64 bits of `rs1` and `rs2` in this order. A shift goes by the low 6 bits of `rs2`.
-#[derive(Clone, Copy, Debug, PartialEq, Eq)]
+#[derive(Clone, Copy, PartialEq, Eq)]
 pub enum RegOp {
     /// ADD: sum.
     Add,
@@ -135,7 +135,7 @@ pub enum RegOp {
 
 /// An operation on the low 32 bits of `rs1` and `rs2` in this order; the 32 bits that result are
 /// sign-extended. A shift goes by the low 5 bits of `rs2`.
-#[derive(Clone, Copy, Debug, PartialEq, Eq)]
+#[derive(Clone, Copy, PartialEq, Eq)]
 pub enum RegOp32 {
     /// ADDW: sum.
     Addw,
@@ -161,7 +161,7 @@ pub enum RegOp32 {
 
 /// One instruction of RV64IM. Fields have the manual's names: `rd` is the destination register,
 /// `rs1` and `rs2` are the sources, `imm` is the immediate and `shamt` the shift amount.
-#[derive(Clone, Copy, Debug, PartialEq, Eq)]
+#[derive(Clone, Copy, PartialEq, Eq)]
 pub enum Instr {
     /// LUI: load the upper immediate.
     Lui {

@@ -1,13 +1,15 @@
 //! The operands of instructions. In a clause each of them is the number in its field: a register its number, an
 //! immediate its bits in two's complement, with the zeros that its format leaves out.
-ghost use Rattle.std.specs.Prelude.{◌≡◌, ℕ, ◌+◌, ◌-◌, ◌*◌, ◌/◌, ◌%◌, ◌^◌, ◌<◌, ◌≤◌};
+ghost use Rattle.std.specs.Prelude.{◌≡◌, [], ◌∷◌, ℕ, ◌+◌, ◌-◌, ◌*◌, ◌/◌, ◌%◌, ◌^◌, ◌<◌, ◌≤◌};
+ghost use Rattle.rv_isa.specs.Registers.{zero_register, ra, sp, a0, a1, a2, a7};
 ghost use Rattle.rv_isa.specs.Word.{sext};
 
 use std::marker::Model;
+use words::sign_extend;
 
 /// One of the integer registers x0 to x31 (RISC-V unprivileged ISA manual, "Programmers' Model for
 /// Base Integer ISA").
-#[derive(Clone, Copy, Debug, PartialEq, Eq)]
+#[derive(Clone, Copy, PartialEq, Eq)]
 pub struct Reg {
     number: u8,
 }
@@ -23,6 +25,42 @@ impl Model for Reg {
 }
 
 impl Reg {
+    /// `zero`, x0: zero, whatever is written to it (RISC-V ELF psABI, "Integer Register Convention").
+    pub const ZERO: Reg = Reg { number: 0 };
+
+    /// `ra`, x1: the return address.
+    pub const RA: Reg = Reg { number: 1 };
+
+    /// `sp`, x2: the stack pointer.
+    pub const SP: Reg = Reg { number: 2 };
+
+    /// `a0`, x10: the first argument and the result.
+    pub const A0: Reg = Reg { number: 10 };
+
+    /// `a1`, x11: the second argument.
+    pub const A1: Reg = Reg { number: 11 };
+
+    /// `a2`, x12: the third argument.
+    pub const A2: Reg = Reg { number: 12 };
+
+    /// `a7`, x17: the number of an environment call.
+    pub const A7: Reg = Reg { number: 17 };
+
+    /// The registers that have names here, in the order of their numbers.
+    pub fn named() -> [Reg; 7]
+        ensures { result ≡ zero_register ∷ ra ∷ sp ∷ a0 ∷ a1 ∷ a2 ∷ a7 ∷ [] }
+    {
+        [
+            Self::ZERO,
+            Self::RA,
+            Self::SP,
+            Self::A0,
+            Self::A1,
+            Self::A2,
+            Self::A7,
+        ]
+    }
+
     /// The register x`number`, for a number below 32.
     pub fn new(number: u8) -> Self
         requires { number < 2 ^ 5 }
@@ -51,7 +89,7 @@ impl Reg {
 
 /// The 12 bits of an immediate of the I or S format (RISC-V unprivileged ISA manual, "Immediate
 /// Encoding Variants"): -2048 to 2047 in two's complement.
-#[derive(Clone, Copy, Debug, PartialEq, Eq)]
+#[derive(Clone, Copy, PartialEq, Eq)]
 pub struct Imm12 {
     bits: u16,
 }
@@ -96,18 +134,13 @@ impl Imm12 {
     pub fn sign_extended(self) -> u64
         ensures { result ≡ sext 12 self }
     {
-        let bits = u64::from(self.bits);
-        if bits < 0x800 {
-            bits
-        } else {
-            bits + 0xfffffffffffff000
-        }
+        sign_extend(12, u64::from(self.bits))
     }
 }
 
 /// The upper 20 bits of an immediate of the U format, whose low 12 bits are zero (RISC-V unprivileged
 /// ISA manual, "Immediate Encoding Variants").
-#[derive(Clone, Copy, Debug, PartialEq, Eq)]
+#[derive(Clone, Copy, PartialEq, Eq)]
 pub struct Imm20 {
     bits: u32,
 }
@@ -153,18 +186,13 @@ impl Imm20 {
     pub fn sign_extended(self) -> u64
         ensures { result ≡ sext 32 (self * 2 ^ 12) }
     {
-        let bits = u64::from(self.bits) << 12;
-        if bits < 0x80000000 {
-            bits
-        } else {
-            bits + 0xffffffff00000000
-        }
+        sign_extend(32, u64::from(self.bits) << 12)
     }
 }
 
 /// How far a branch goes, in bytes: an even number of 13 bits, -4096 to 4094 in two's complement
 /// (B format; RISC-V unprivileged ISA manual, "Conditional Branches").
-#[derive(Clone, Copy, Debug, PartialEq, Eq)]
+#[derive(Clone, Copy, PartialEq, Eq)]
 pub struct BranchOffset {
     bits: u16,
 }
@@ -202,18 +230,13 @@ impl BranchOffset {
     pub fn sign_extended(self) -> u64
         ensures { result ≡ sext 13 self }
     {
-        let bits = u64::from(self.bits);
-        if bits < 0x1000 {
-            bits
-        } else {
-            bits + 0xffffffffffffe000
-        }
+        sign_extend(13, u64::from(self.bits))
     }
 }
 
 /// How far JAL goes, in bytes: an even number of 21 bits, -1048576 to 1048574 in two's complement
 /// (J format; RISC-V unprivileged ISA manual, "Unconditional Jumps").
-#[derive(Clone, Copy, Debug, PartialEq, Eq)]
+#[derive(Clone, Copy, PartialEq, Eq)]
 pub struct JumpOffset {
     bits: u32,
 }
@@ -251,18 +274,13 @@ impl JumpOffset {
     pub fn sign_extended(self) -> u64
         ensures { result ≡ sext 21 self }
     {
-        let bits = u64::from(self.bits);
-        if bits < 0x100000 {
-            bits
-        } else {
-            bits + 0xffffffffffe00000
-        }
+        sign_extend(21, u64::from(self.bits))
     }
 }
 
 /// By how many bits a register of 64 bits is shifted: 0 to 63 (field shamt; RISC-V unprivileged ISA
 /// manual, "RV64I", "Integer Register-Immediate Instructions").
-#[derive(Clone, Copy, Debug, PartialEq, Eq)]
+#[derive(Clone, Copy, PartialEq, Eq)]
 pub struct ShiftAmount {
     bits: u8,
 }
@@ -306,7 +324,7 @@ impl ShiftAmount {
 
 /// By how many bits a word of 32 bits is shifted: 0 to 31 (field shamt of the instructions that end
 /// in W).
-#[derive(Clone, Copy, Debug, PartialEq, Eq)]
+#[derive(Clone, Copy, PartialEq, Eq)]
 pub struct ShiftAmount32 {
     bits: u8,
 }

@@ -4,3 +4,4 @@ pub mod Runs
 mod Sample
 pub mod Steps
 pub mod Stores
+pub mod Words

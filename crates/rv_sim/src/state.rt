@@ -1,8 +1,7 @@
 //! The state of the machine, and one step of it.
 
 use crate::arithmetic::{
-    extend8, extend16, extend32, is_taken, low32, of_registers, of_registers32, shifted, shifted32,
-    with_immediate,
+    extend32, is_taken, low32, of_registers, of_registers32, shifted, shifted32, with_immediate,
 };
 use crate::memory::{Segment, buffer_at, fetch_word, has_room, load_number, store_number};
 use crate::trap::{Action, TrapKind};
@@ -12,6 +11,7 @@ use rv_isa::{
     ShiftAmount, ShiftAmount32, ShiftOp, ShiftOp32, StoreOp, decode,
 };
 use std::marker::Model;
+use words::sign_extend;
 
 /// The address of the next instruction, the registers x0 to x31, and memory.
 #[derive(Drop)]
@@ -373,9 +373,9 @@ fn extend_loaded(op: LoadOp, number: u64) -> u64
     ensures { result ≡ extended op number }
 {
     match op {
-        LoadOp::Lb => extend8(number as u8),
-        LoadOp::Lh => extend16(number as u16),
-        LoadOp::Lw => extend32(number as u32),
+        LoadOp::Lb => sign_extend(8, number),
+        LoadOp::Lh => sign_extend(16, number),
+        LoadOp::Lw => sign_extend(32, number),
         LoadOp::Ld | LoadOp::Lbu | LoadOp::Lhu | LoadOp::Lwu => number,
     }
 }

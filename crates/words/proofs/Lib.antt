@@ -1,7 +1,8 @@
-pub mod Powers
-pub mod Signs
-pub mod Extended
+pub mod Bits
 pub mod Division
-pub mod Order
+pub mod Extended
 pub mod Narrowing
+pub mod Order
+pub mod Powers
 pub mod Shifts
+pub mod Signs

@@ -59,8 +59,9 @@ pub fn low_bits_go_by_low_bits()
     ensures xor { (k x y : ℕ) → low_bits k (bit_xor x y) ≡ bit_xor (low_bits k x) (low_bits k y) }
 {}
 
-/// On words of k bits that are extended by copies of their sign bits, m bits give the signed order of k bits,
-/// the remainder and the shift to the right extended, and in the low k bits the quotient.
+/// On words of k bits that are extended by copies of their sign bits, m bits give the signed order of k bits;
+/// extended the remainder, the shift to the right and the bitwise operations; and in the low k bits the
+/// quotient.
 pub fn extended_operands_give_extended_results()
     ensures order { (k m x y : ℕ) → IsExtendable k m x → IsExtendable k m y
         → is_less_signed m (sign_extended k m x) (sign_extended k m y) ≡ is_less_signed k x y }
@@ -68,6 +69,12 @@ pub fn extended_operands_give_extended_results()
         → signed_remainder m (sign_extended k m x) (sign_extended k m y) ≡ sign_extended k m (signed_remainder k x y) }
     ensures shift { (k m x by : ℕ) → IsExtendable k m x
         → shifted_right_signed m (sign_extended k m x) by ≡ sign_extended k m (shifted_right_signed k x by) }
+    ensures and { (k m x y : ℕ) → IsExtendable k m x → IsExtendable k m y
+        → bit_and (sign_extended k m x) (sign_extended k m y) ≡ sign_extended k m (bit_and x y) }
+    ensures or { (k m x y : ℕ) → IsExtendable k m x → IsExtendable k m y
+        → bit_or (sign_extended k m x) (sign_extended k m y) ≡ sign_extended k m (bit_or x y) }
+    ensures xor { (k m x y : ℕ) → IsExtendable k m x → IsExtendable k m y
+        → bit_xor (sign_extended k m x) (sign_extended k m y) ≡ sign_extended k m (bit_xor x y) }
     ensures quotient { (k m x y : ℕ) → IsExtendable k m x → IsExtendable k m y
         → low_bits k (signed_quotient m (sign_extended k m x) (sign_extended k m y)) ≡ signed_quotient k x y }
 {}

@@ -83,7 +83,7 @@ module _ (P : Token → Type 0) (moves : (line : ℕ) (t : Token) → P t → P 
   by_name macros hidden None r m e = absurd (cc)
   by_name macros hidden (Some name) r m e = by_member (member name hidden) name (macros name) r (m.lists name) e
 
-  turning : {A : Type 0} (x : HidingToken) (o : Option (Name × Tokens)) (room : ℕ) (follow : List HidingToken) (go : ℕ → List HidingToken → Trace ℕ) → ((r : Name × Tokens) → o ≡ Some r → AllByRecursion P r.1) → P x.token → AllHiding follow → ((room : ℕ) (ys : List HidingToken) → AllHiding ys → TraceIs (go room ys) (λ _. Unit {0})) → TraceIs (turn x o room follow go) (λ _. Unit {0})
+  turning : (x : HidingToken) (o : Option (Name × Tokens)) (room : ℕ) (follow : List HidingToken) (go : ℕ → List HidingToken → Trace ℕ) → ((r : Name × Tokens) → o ≡ Some r → AllByRecursion P r.1) → P x.token → AllHiding follow → ((room : ℕ) (ys : List HidingToken) → AllHiding ys → TraceIs (go room ys) (λ _. Unit {0})) → TraceIs (turn x o room follow go) (λ _. Unit {0})
   turning x None room follow go f here behind next =
       bind (gives x.token) (λ _. go room follow) (λ _. Unit {0}) (λ _. Unit {0}) (record { given = (here, tt); end = tt }) (λ _ _. next room follow behind)
   turning x (Some r) room follow go f here behind next =
@@ -96,7 +96,7 @@ module _ (P : Token → Type 0) (moves : (line : ℕ) (t : Token) → P t → P 
   expanding zero macros room tokens m a = is_quiet room _ tt
   expanding (suc turns) macros room [] m a = is_quiet room _ tt
   expanding (suc turns) macros room (x ∷ follow) m a =
-      turning {A = ℕ} x (replacement macros x) room follow (expand_by turns macros) (λ r e. by_name macros x.hidden (name_of x.token.word) r m e) a.0 a.1 (λ left ys all. expanding turns macros left ys m all)
+      turning x (replacement macros x) room follow (expand_by turns macros) (λ r e. by_name macros x.hidden (name_of x.token.word) r m e) a.0 a.1 (λ left ys all. expanding turns macros left ys m all)
 
   -- states
   record StateIs (s : State) : Type 0 where
@@ -284,6 +284,6 @@ pub all_come : (text out : Tokens) → expanded_tokens text ≡ Ok out → All (
 all_come text out e =
     All-from_recursion (ComesFrom text) out
     (expanded_all (ComesFrom text) (moved text)
-        (λ header. among (header_tokens header) (ComesFrom text) (λ t stands. comes text t (inr (header, stands))))
-        text out e
-        (among text (ComesFrom text) (λ t stands. comes text t (inl stands))))
+    (λ header. among (header_tokens header) (ComesFrom text) (λ t stands. comes text t (inr (header, stands))))
+    text out e
+    (among text (ComesFrom text) (λ t stands. comes text t (inl stands))))

@@ -12,6 +12,7 @@ ghost use Rattle.c_pre.specs.Reading as spec;
 ghost use Rattle.c_pre.specs.Pending.{inner_first};
 ghost use Rattle.c_pre.specs.Outcomes.{Follows, Steps, state_of, line_of_kind};
 
+use crate::MAX_REPLACEMENT_TOKENS;
 use crate::definition::Definition;
 use crate::directive::LineKind;
 use crate::expansion::{MacroTable, expand_line};
@@ -21,7 +22,6 @@ use crate::headers::Headers;
 use crate::lines::line_len;
 use crate::name::MacroName;
 use crate::section::IfSection;
-use crate::MAX_REPLACEMENT_TOKENS;
 use c_lexer::Token;
 use indexmap::IndexMap;
 use sb_base::Line;

@@ -9,7 +9,8 @@ use Rattle.rv_sim.specs.declared.stop.Stop.{Stop}
 use Rattle.rv_sim.specs.declared.stop.Stop.TheVariants.{Exited, Trap, Limit, InputFault, OutputFault}
 use Rattle.rv_sim.specs.Memory.{bytes_at, may_write}
 use Rattle.rv_sim.specs.State.{MachineState, register}
-use Rattle.rv_sim.specs.Run.{Configuration, Turn, a0, a1, a2, a7, answered, exited, received, trapped, with_byte, turned, turn, calls, read_call, write_call}
+use Rattle.rv_isa.specs.Registers.{a0, a1, a2, a7}
+use Rattle.rv_sim.specs.Run.{Configuration, Turn, answered, exited, received, trapped, with_byte, turned, turn, calls, read_call, write_call}
 use Rattle.rv_sim.specs.Seen.{KeepsPart, Asks, ByFault, SendsTo}
 use Rattle.rv_sim.specs.Step.{gives}
 use Rattle.rv_sim.specs.Turns.{IsRead, ReadOrFault, WrittenOrFault, CalledOrFault, TurnedOrFault}

@@ -8,7 +8,8 @@ use Rattle.rv_sim.specs.declared.stop.Stop.TheVariants.{Exited, Trap, Limit, Inp
 use Rattle.rv_sim.specs.Memory.{bytes_at, may_write}
 use Rattle.rv_sim.specs.State.{MachineState, register}
 use Rattle.rv_sim.specs.Step.{step}
-use Rattle.rv_sim.specs.Run.{Configuration, a0, a1, a2, a7, runs, calls}
+use Rattle.rv_isa.specs.Registers.{a0, a1, a2, a7}
+use Rattle.rv_sim.specs.Run.{Configuration, runs, calls}
 
 -- The state, the rest of the input and what the two sinks have taken are those of a moment, where o and e are what the
 -- sinks had taken when nothing was shown. A sink that does not tell its content is None throughout.

@@ -1,6 +1,7 @@
 use Rattle.std.proofs.Common.{◌≡◌, rules}
 use Rattle.sb_outside.proofs.Takings.{untaken, map_inputs}
-use Rattle.rv_sim.specs.Run.{a7, calls}
+use Rattle.rv_isa.specs.Registers.{a7}
+use Rattle.rv_sim.specs.Run.{calls}
 use Rattle.rv_sim.specs.State.{register}
 use Rattle.rv_sim.proofs.Calls.{by_read, by_write}
 use Rattle.rv_sim.proofs.call.answer_call.Goals as goal

@@ -2,7 +2,8 @@ use Rattle.std.proofs.Common.{◌≡◌, List, [], ◌∷◌, true, false, Some,
 use Rattle.std.specs.Prelude.{slice_get, drop}
 use Rattle.sb_outside.proofs.Takings.{untaken, took, took_first, took_rest}
 use Rattle.rv_sim.specs.Memory.{may_write}
-use Rattle.rv_sim.specs.Run.{a0, a1, a2, with_byte, read_call}
+use Rattle.rv_isa.specs.Registers.{a0, a1, a2}
+use Rattle.rv_sim.specs.Run.{with_byte, read_call}
 use Rattle.rv_sim.specs.State.{register}
 use Rattle.rv_sim.specs.Step.{gives}
 use Rattle.rv_sim.proofs.Calls.{asks_byte, read_none, read_some}

@@ -1,5 +1,5 @@
 use Rattle.std.proofs.Common.{◌≡◌, true, is_err, Some, arith, refl, inl, inr}
-use Rattle.rv_sim.specs.Run.{a0, a1, a2}
+use Rattle.rv_isa.specs.Registers.{a0, a1, a2}
 use Rattle.rv_sim.specs.State.{register}
 use Rattle.rv_sim.specs.Memory.{bytes_at}
 use Rattle.rv_sim.proofs.Calls.{sends, sends_to, cut_output, cut_errors, on_err}

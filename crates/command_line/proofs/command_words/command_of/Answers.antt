@@ -6,7 +6,7 @@ use Rattle.command_line.specs.declared.command.WordsFault.{WordsFault}
 use Rattle.command_line.specs.declared.command.WordsFault.TheVariants.{Usage}
 use Rattle.clap.specs.Words.{app_of, kind_of}
 use Rattle.command_line.proofs.Whole.{refused_is, taken_is}
-use Rattle.command_line.proofs.words.command_of.Goals as goal
+use Rattle.command_line.proofs.command_words.command_of.Goals as goal
 
 pub returns-in_err-matches-clause-usage : goal.returns-in_err-matches-clause-usage
 returns-in_err-matches-clause-usage g c = λ usage.
@@ -21,8 +21,8 @@ returns-in-Some-clause-ok g c =
     c.in_ok-matches.ensures.kinds c.in_ok-matches.ensures.matches in
     sym taken ∙ sym c.in-Some.ensures.asked
 
-pub returns-in-None-clause-usage : goal.returns-in-None-clause-usage
-returns-in-None-clause-usage g c = λ usage.
+pub returns-clause-usage : goal.returns-clause-usage
+returns-clause-usage g c = λ usage.
     let taken = taken_is (app_of c.in_ok-program.field-0) (map g.S.AsStr.text c.args.words.now) c.in_ok-matches.matches c.in_ok-program.ensures
     c.in_ok-matches.ensures.kinds c.in_ok-matches.ensures.matches in
     sym taken ∙ sym c.in-None.ensures.asked

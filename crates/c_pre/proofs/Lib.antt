@@ -5,6 +5,7 @@ pub mod Tables
 pub mod Turns
 pub mod LineReading
 pub mod Origins
+pub mod Skipping
 pub mod Cutting
 pub mod Wholes
 pub mod Including

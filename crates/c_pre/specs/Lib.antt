@@ -7,6 +7,7 @@ pub mod Trace
 pub mod Expansion
 pub mod Directives
 pub mod Sections
+pub mod Groups
 pub mod Reading
 pub mod Pending
 pub mod Outcomes

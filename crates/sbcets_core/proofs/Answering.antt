@@ -31,20 +31,20 @@ answers command outcome answer image before outside counts told faults does quie
     let P : Outcome → Type 0 = λ o. Answers command o image before (finished outside counts told faults) in
     ⊎_elim
     (λ f. subst P (sym f.0)
-        (in_full command outcome image before (finished outside counts told faults)
-        (record {
-          between = outside.streams.errors;
-          does = does;
-          counts = subst (λ k. CommandCounts outcome before.counts (record counts { errors = k })) (sym f.1.counts) quiet;
-          line = f.1.line;
-        })))
+    (in_full command outcome image before (finished outside counts told faults)
+    (record {
+      between = outside.streams.errors;
+      does = does;
+      counts = subst (λ k. CommandCounts outcome before.counts (record counts { errors = k })) (sym f.1.counts) quiet;
+      line = f.1.line;
+    })))
     (λ f. subst P (sym f.0)
-        (inr (record {
-          outcome = outcome;
-          between = outside.streams.errors;
-          faults = counts.errors;
-          does = does;
-          counts = quiet;
-          cut = f.1;
-        })))
+    (inr (record {
+      outcome = outcome;
+      between = outside.streams.errors;
+      faults = counts.errors;
+      does = does;
+      counts = quiet;
+      cut = f.1;
+    })))
     finish

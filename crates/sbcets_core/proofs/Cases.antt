@@ -147,7 +147,7 @@ stop_counts (stops.Exited code) state i i' o o' e e' p q = (p, q.0, q.1)
 stop_counts (stops.Trap kind pc) state i i' o o' e e' p q = (p, q.0, q.1)
 
 ran_quiet : (before after : Counts) → after.reads ≡ before.reads → after.writes ≡ before.writes → after.input ≡ before.input → after.output ≡ before.output → after.errors ≡ before.errors → after ≡ before
-ran_quiet before after r w i o e = cc
+ran_quiet before after r w i o e = λ j. record { reads = r j; writes = w j; input = i j; output = o j; errors = e j }
 
 pub ran_counts : (stop : Stop) (limit : ℕ) (before after : Counts) → after.reads ≡ before.reads → after.writes ≡ before.writes → StopCounts stop before.input after.input before.output after.output before.errors after.errors → CommandCounts (outcome_of stop limit) before after
 ran_counts stops.InputFault limit before after r w c = ran_quiet (record before { input = next_count before.input }) after r w c.0 c.1 c.2

@@ -10,6 +10,7 @@ pub mod Meant
 pub mod Pieces
 pub mod Prefixes
 pub mod Running
+pub mod Spelling
 pub mod Steps
 pub mod Theorem
 pub mod Trees

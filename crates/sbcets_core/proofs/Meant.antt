@@ -17,13 +17,13 @@ exit_meant name limit code image before after went =
     let s = start_of (content_of image) in
     map_inputs _ _ _ _
     (λ input rest ran.
-        let ended : (behaviour s input limit).shown.ending ≡ Some (Status code) = ap end_of ran.0 in
-        let same = (went.built.faithful.faithful input).ends_as_source limit (Status code) ended in
-        record {
-          ending = ap (λ (x : Shown). x.ending) same ∙ ended;
-          output = ran.1.output_is ∙ sym (ap (λ (x : Shown). gained before.streams.output x.output) same);
-          errors = ran.1.errors_is ∙ sym (ap (λ (x : Shown). gained before.streams.errors x.errors) same);
-        })
+    let ended : (behaviour s input limit).shown.ending ≡ Some (Status code) = ap end_of ran.0 in
+    let same = (went.built.faithful.faithful input).ends_as_source limit (Status code) ended in
+    record {
+      ending = ap (λ (x : Shown). x.ending) same ∙ ended;
+      output = ran.1.output_is ∙ sym (ap (λ (x : Shown). gained before.streams.output x.output) same);
+      errors = ran.1.errors_is ∙ sym (ap (λ (x : Shown). gained before.streams.errors x.errors) same);
+    })
     went.run.run
 
 pub limit_meant : (name : List ℕ) (limit : ℕ) (image : List ℕ) (before after : Outside) (went : Went name limit image stops.Limit before after) → ForEveryInput before.streams.input after.streams.input (λ input rest. GoesAsMeant went.built.program input limit before.streams after.streams)
@@ -32,13 +32,13 @@ limit_meant name limit image before after went =
     let s = start_of (content_of image) in
     map_inputs _ _ _ _
     (λ input rest ran.
-        let first = (went.built.faithful.faithful input).never_ahead limit in
-        record {
-          output = (behaviour s input limit).shown.output;
-          output_is = ran.1.output_is;
-          output_first = first.output;
-          errors = (behaviour s input limit).shown.errors;
-          errors_is = ran.1.errors_is;
-          errors_first = first.errors;
-        })
+    let first = (went.built.faithful.faithful input).never_ahead limit in
+    record {
+      output = (behaviour s input limit).shown.output;
+      output_is = ran.1.output_is;
+      output_first = first.output;
+      errors = (behaviour s input limit).shown.errors;
+      errors_is = ran.1.errors_is;
+      errors_first = first.errors;
+    })
     went.run.run

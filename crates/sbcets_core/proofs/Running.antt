@@ -35,7 +35,7 @@ from_start : (start state : MachineState) (limit : ℕ) (stop : Stop) (before af
 from_start start state limit stop before after told =
     map_inputs before.input after.input _ (IsRunFrom start limit stop state before after)
     (λ input rest run. run before.output before.errors (begun start input)
-        (record { state_is = refl; rest_is = refl; output_is = sym (gained_nil before.output); errors_is = sym (gained_nil before.errors) }))
+    (record { state_is = refl; rest_is = refl; output_is = sym (gained_nil before.output); errors_is = sym (gained_nil before.errors) }))
     (told refl)
 
 pub runs_image : (image : List ℕ) (content : Content) (machine : Simulation) (state : MachineState) (limit : ℕ) (stop : Stop) (before after : Streams) → image_fault image ≡ None → content ≡ content_of image → machine ≡ record { state = start_of content; stopped = None } → Told machine limit stop state before after → RunsImage image limit stop before after

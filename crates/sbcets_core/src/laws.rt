@@ -1,6 +1,8 @@
 //! Laws of the definitions that the top call's clauses cite, each as the contract of a function that
 //! does nothing.
-ghost use Rattle.std.specs.Prelude.{◌≡◌, ℕ, List, [], Option, Some, Ok, Err};
+ghost use Rattle.sbcets_core.specs.Hexadecimal.{spelled_number};
+ghost use Rattle.sbcets_core.specs.Outcomes.{hexadecimal};
+ghost use Rattle.std.specs.Prelude.{◌≡◌, ◌<◌, ◌^◌, ℕ, List, [], Option, Some, Ok, Err};
 ghost use Rattle.sb_outside.specs.Rest.{ForEveryInput};
 ghost use Rattle.sbcets_core.specs.declared.outcome.Outcome.{Outcome};
 ghost use Rattle.sbcets_core.specs.declared.outcome.Outcome.TheVariants.{Built};
@@ -59,4 +61,9 @@ pub fn a_source_without_a_tree_is_refused()
 /// no tree is refused for that before.)
 pub fn the_first_unfit_token_is_refused()
     ensures { (tokens unfit : List Token) → program_of tokens ≡ Err unfit → IsFirstUnfit tokens unfit }
+{}
+
+/// The hexadecimal digits in which the tool's line tells an address spell just that number.
+pub fn hexadecimal_digits_spell_their_number()
+    ensures { (n : ℕ) → n < 2 ^ 64 → spelled_number (hexadecimal n) ≡ n }
 {}

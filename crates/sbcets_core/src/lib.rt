@@ -19,4 +19,4 @@ mod top;
 pub use compiler::{MAX_SOURCE, compile};
 pub use outcome::{Outcome, ReadFault};
 pub use refusal::{Counted, RefusedWord, SourceRefusal};
-pub use top::sbcets;
+pub use top::{finish, sbcets};

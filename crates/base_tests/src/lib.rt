@@ -4,10 +4,10 @@
 #[cfg(test)]
 mod budgets_and_endings;
 #[cfg(test)]
+mod command_words;
+#[cfg(test)]
 mod images;
 #[cfg(test)]
 mod outside;
 #[cfg(test)]
 mod regions;
-#[cfg(test)]
-mod words;

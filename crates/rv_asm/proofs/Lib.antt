@@ -1,0 +1,5 @@
+mod Choices
+mod Emitted
+mod Layouts
+mod Meeting
+mod Standing

@@ -1,0 +1,4 @@
+pub mod Forms
+pub mod Items
+pub mod Tables
+pub mod Words

@@ -1,5 +1,6 @@
 pub mod Extents
 pub mod Layout
+pub mod Members
 pub mod Kinds
 pub mod Format
 pub mod Tree

@@ -1,6 +1,7 @@
 pub mod State
 pub mod Places
 pub mod Actions
+pub mod Structures
 pub mod Heap
 pub mod Bytes
 pub mod Memory

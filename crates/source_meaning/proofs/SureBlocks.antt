@@ -7,41 +7,41 @@ use Rattle.obj_memory.specs.Sound.{Continues}
 use Rattle.obj_memory.proofs.Soundness.{sound_tag_continues}
 use Rattle.c_tree.specs.declared.expression.Kind.{Kind}
 use Rattle.c_tree.specs.declared.program.Variable.{Variable}
-use Rattle.c_tree.specs.Programs.{StaticObject}
 use Rattle.c_tree.specs.Blocks.{no_variable, closed, is_among, opened, block_objects}
 use Rattle.source_meaning.specs.State.{Home, NoObject, InObject, State, Outcome, Gives, Ended, Paused, Run, on, ◌>>=◌, ◌>>◌, done, stop, choose, change, skip, Setting, Env}
 use Rattle.source_meaning.specs.Statements.{Completion, Normal, Broken, Continued, Returned}
 use Rattle.source_meaning.specs.Places.{stack_end}
 use Rattle.source_meaning.specs.Actions.{take_key}
 use Rattle.source_meaning.specs.Blocks.{pass_or_stop, objects_end, has_objects, place_variables, without_homes, test_keys, over, homes_over, Block, place_block, enter_block, leave_block, scoped}
-use Rattle.source_meaning.proofs.Naming.{object_kind}
+use Rattle.source_meaning.proofs.Naming.{Scope, object_kind}
 use Rattle.source_meaning.specs.Keeping.{AllLie, LivesOn}
 use Rattle.source_meaning.proofs.ActionsAct.{continues_without}
 use Rattle.source_meaning.proofs.Separating.{separate_without, separate_back}
 use Rattle.source_meaning.proofs.Holding.{all_lie_on, lives_then, IsHeld, held_on}
-use Rattle.source_meaning.proofs.Sure.{HasHome, Context, IsGood, AreTagged, Leaves, Stops, stops_same, stops_then, After, Sure, Any, IsTagged, stable_tagged}
+use Rattle.source_meaning.proofs.Sure.{HasHome, Context, IsGood, AreTagged, Leaves, Stops, stops_same, stops_then, After, Sure, Any, ArgumentIs, argument_on, stable_tagged}
 use Rattle.source_meaning.proofs.SureTree.{Calling}
 use Rattle.source_meaning.proofs.Laying.{PlacedHome, placed_home, AllFrom, placed_from, without_sound, without_low, without_lives, EndsBut, ends_but_then, ends_without, Placed, PlacesBy, places}
 
--- the value of a return has a sound tag
-abbrev pub CompletionIs : Completion → Objects → Type 0
-CompletionIs Normal o = Unit {0}
-CompletionIs Broken o = Unit {0}
-CompletionIs Continued o = Unit {0}
-CompletionIs (Returned v) o = IsTagged v o
+-- the value of a return is a result of the function's kind
+abbrev pub CompletionIs : (result : Kind) → Completion → Objects → Type 0
+CompletionIs result Normal o = Unit {0}
+CompletionIs result Broken o = Unit {0}
+CompletionIs result Continued o = Unit {0}
+CompletionIs result (Returned v) o = ArgumentIs result v o
 
-pub completion_on : (f : Completion) (old new : Objects) → Continues old new → CompletionIs f old → CompletionIs f new
-completion_on Normal old new c h = tt
-completion_on Broken old new c h = tt
-completion_on Continued old new c h = tt
-completion_on (Returned v) old new c h = sound_tag_continues old new c v.tag h
+pub completion_on : (result : Kind) (f : Completion) (old new : Objects) → Continues old new → CompletionIs result f old → CompletionIs result f new
+completion_on result Normal old new c h = tt
+completion_on result Broken old new c h = tt
+completion_on result Continued old new c h = tt
+completion_on result (Returned v) old new c h = argument_on result v old new c h
 
-abbrev pub context_of : List StaticObject → (boundary : ℕ) → (all variables : List Variable) → Context
-context_of statics boundary all variables = record { scope = record { statics = statics; all = all; variables = variables }; boundary = boundary }
+-- where some variables can be named
+abbrev pub context_of : Scope → (boundary : ℕ) → (all variables : List Variable) → Context
+context_of base boundary all variables = record { scope = record base { all = all; variables = variables }; boundary = boundary }
 
 -- calls keep objects sound, whatever variables have homes; and all of the object stack lies below the heap
-pub record Inside (statics : List StaticObject) (boundary : ℕ) (env : Env) : Type 0 where
-  pub calling : (variables : List Variable) → Calling (context_of statics boundary env.variables variables) env
+pub record Inside (base : Scope) (boundary : ℕ) (env : Env) : Type 0 where
+  pub calling : (variables : List Variable) → Calling (context_of base boundary env.variables variables) env
   pub most : stack_end env.setting ≤ boundary
   pub low : boundary ≤ 1610612736
 
@@ -119,12 +119,12 @@ names_same numbers first (d ∷ ds) [] none x kind e = absurd (cc)
 names_same numbers first (d ∷ ds) (v ∷ vs) none zero kind e = first_same (is_among numbers first) d v (neither _ _ none).0 kind e
 names_same numbers first (d ∷ ds) (v ∷ vs) none (suc x) kind e = names_same numbers (suc first) ds vs (neither _ _ none).1 x kind e
 
-module _ (statics : List StaticObject) (boundary : ℕ) (all vars : List Variable) (numbers : List ℕ) where
+module _ (base : Scope) (boundary : ℕ) (all vars : List Variable) (numbers : List ℕ) where
   abbrev sc : Context
-  sc = context_of statics boundary all vars
+  sc = context_of base boundary all vars
 
   abbrev inner : Context
-  inner = context_of statics boundary all (opened numbers 0 all vars)
+  inner = context_of base boundary all (opened numbers 0 all vars)
 
   -- the objects of the block
   abbrev own : List Variable
@@ -218,12 +218,12 @@ module _ (statics : List StaticObject) (boundary : ℕ) (all vars : List Variabl
       (left_good s good b.homes s2 h.good (lives_then s.objects s1.objects s2.objects up.lives h.lives) up.new
       (ends_but_then s.objects s1.objects s2.objects b.homes up.ends h.lives.continues h.ended))
 
-  completed : (s : State) → IsGood sc s → (b : Block) (s1 : State) → IsEntered s b s1 → (o : Outcome Completion) → After inner s1 CompletionIs o → After sc s CompletionIs (on o (λ completion. change (leave_block b) >> done completion))
-  completed s good b s1 up (Gives f s2) h = (left_by s good b s1 s2 up h.0, completion_on f s2.objects (without_homes b.homes s2.objects) (continues_without b.homes s2.objects) h.1)
+  completed : (s : State) → IsGood sc s → (b : Block) (s1 : State) → IsEntered s b s1 → (o : Outcome Completion) → After inner s1 (CompletionIs base.result) o → After sc s (CompletionIs base.result) (on o (λ completion. change (leave_block b) >> done completion))
+  completed s good b s1 up (Gives f s2) h = (left_by s good b s1 s2 up h.0, completion_on base.result f s2.objects (without_homes b.homes s2.objects) (continues_without b.homes s2.objects) h.1)
   completed s good b s1 up (Ended e s2) h = stops_then s.objects s1.objects s2 up.lives h
   completed s good b s1 up (Paused s2) h = stops_then s.objects s1.objects s2 up.lives h
 
-  entered_by : (s : State) → IsGood sc s → (o : Outcome Block) → EntersBy s o → (body : Run Completion) → Sure inner Any body CompletionIs → After sc s CompletionIs (on o (λ b. body >>= (λ completion. change (leave_block b) >> done completion)))
+  entered_by : (s : State) → IsGood sc s → (o : Outcome Block) → EntersBy s o → (body : Run Completion) → Sure inner Any body (CompletionIs base.result) → After sc s (CompletionIs base.result) (on o (λ b. body >>= (λ completion. change (leave_block b) >> done completion)))
   entered_by s good (Gives b s1) up body h = completed s good b s1 up (body s1) (h.by s1 up.good tt)
   entered_by s good (Ended e s1) up body h = up
   entered_by s good (Paused s1) up body h = absurd up
@@ -248,15 +248,15 @@ module _ (statics : List StaticObject) (boundary : ℕ) (all vars : List Variabl
     ended = h.ended;
   }
 
-  after_outside : (s : State) → IsGood sc s → (o : Outcome Completion) → After inner s CompletionIs o → After sc s CompletionIs o
+  after_outside : (s : State) → IsGood sc s → (o : Outcome Completion) → After inner s (CompletionIs base.result) o → After sc s (CompletionIs base.result) o
   after_outside s good (Gives f s') h = (leaves_outside s s' good h.0, h.1)
   after_outside s good (Ended e s') h = h
   after_outside s good (Paused s') h = h
 
-  scoped_by : (g : Setting) → stack_end g ≤ boundary → boundary ≤ 1610612736 → (line : ℕ) (body : Run Completion) → Sure inner Any body CompletionIs → (b : Bool) → has_objects own ≡ b
-      → Sure sc Any (choose b (enter_block g own line >>= (λ b. body >>= (λ completion. change (leave_block b) >> done completion))) body) CompletionIs
+  scoped_by : (g : Setting) → stack_end g ≤ boundary → boundary ≤ 1610612736 → (line : ℕ) (body : Run Completion) → Sure inner Any body (CompletionIs base.result) → (b : Bool) → has_objects own ≡ b
+      → Sure sc Any (choose b (enter_block g own line >>= (λ b. body >>= (λ completion. change (leave_block b) >> done completion))) body) (CompletionIs base.result)
   scoped_by g most low line body h true e = record { by = λ s good p. entered_by s good (enter_block g own line s) (enters g most low line s good) body h }
   scoped_by g most low line body h false e = record { by = λ s good p. after_outside s good (body s) (h.by s (good_inside s e good) tt) }
 
-  pub scoped_sure : (g : Setting) → stack_end g ≤ boundary → boundary ≤ 1610612736 → (line : ℕ) (body : Run Completion) → Sure inner Any body CompletionIs → Sure sc Any (scoped g own line body) CompletionIs
+  pub scoped_sure : (g : Setting) → stack_end g ≤ boundary → boundary ≤ 1610612736 → (line : ℕ) (body : Run Completion) → Sure inner Any body (CompletionIs base.result) → Sure sc Any (scoped g own line body) (CompletionIs base.result)
   scoped_sure g most low line body h = scoped_by g most low line body h (has_objects own) refl

@@ -15,7 +15,7 @@ use Rattle.c_tree.specs.Tree.{Expression, expression, Expressions, no_expression
 use Rattle.source_meaning.specs.State.{Rvalue, Run, ◌>>=◌, ◌>>◌, done, stop, choose, read_state, tally, Header, Env}
 use Rattle.addr_map.specs.Places.{function_address}
 use Rattle.source_meaning.specs.Actions.{integer, is_zero, scalar_of, integer_type, converted, offset_value, difference_value, operate, updated, plain_value, set_plain, update_plain, update, read_lvalue, write_lvalue, home_pointer, each_value}
-use Rattle.source_meaning.specs.Structures.{give, as_rvalue, values_of, take_value, write_rvalue, read_rvalue, member_of}
+use Rattle.source_meaning.specs.Structures.{give, as_rvalue, as_pointer, values_of, take_value, write_rvalue, read_rvalue, member_of}
 use Rattle.source_meaning.specs.Library.{routine}
 use Rattle.source_meaning.specs.Printing.{print_formatted}
 
@@ -88,11 +88,11 @@ abbrev mutual
   value env (read p) kind line = do
     q ← place env p
     read_rvalue (lvalue_kind p) (is_judged p) q (lvalue_line p)
-  value env (decay p) kind line = place env p
-  value env (address p) kind line = counted (place env p)
+  value env (decay p) kind line = as_pointer (place env p)
+  value env (address p) kind line = counted (as_pointer (place env p))
   value env (parenthesized a) kind line = counted (evaluate env a)
-  value env (deref_function a) kind line = counted (evaluate env a)
-  value env (address_function a) kind line = counted (evaluate env a)
+  value env (deref_function a) kind line = counted (as_pointer (evaluate env a))
+  value env (address_function a) kind line = counted (as_pointer (evaluate env a))
   value env (cast a) kind line = counted (do
     v ← evaluate env a
     give (converted kind v.value))
@@ -175,7 +175,7 @@ abbrev mutual
   pub node_place : Env → LvalueNode → Run Rvalue
   node_place env (automatic x) = counted (as_rvalue (read_state (home_pointer x)))
   node_place env (static n) = counted (as_rvalue (read_state (λ s. pointer_to n s.objects)))
-  node_place env (deref a) = counted (evaluate env a)
+  node_place env (deref a) = counted (as_pointer (evaluate env a))
   node_place env (index form size a b) = counted (do
     x ← evaluate env a
     y ← evaluate env b

@@ -68,12 +68,3 @@ IsNoStructure Void = Unit {0}
 IsNoStructure (OfScalar k) = Unit {0}
 IsNoStructure (Structure n) = ⊥
 IsNoStructure (Array n) = Unit {0}
-
--- no function takes or gives a structure or union
-abbrev pub AreNoStructures : List Kind → Type 0
-AreNoStructures [] = Unit {0}
-AreNoStructures (k ∷ ks) = IsNoStructure k × AreNoStructures ks
-
-abbrev pub PassNoStructures : List FunctionType → Type 0
-PassNoStructures [] = Unit {0}
-PassNoStructures (t ∷ ts) = IsNoStructure t.result × AreNoStructures t.parameters × PassNoStructures ts

@@ -25,6 +25,12 @@ as_rvalue r = do
   v ← r
   give v
 
+-- the same of a run that gives a pointer
+abbrev pub as_pointer : Run Rvalue → Run Rvalue
+as_pointer r = do
+  v ← r
+  give v.value
+
 abbrev pub values_of : List Rvalue → List Value
 values_of vs = map (λ v. v.value) vs
 
@@ -86,10 +92,10 @@ write_rvalue (Array n) is_judged p line v = done v
 
 -- a part of contents, which is no access: a scalar, or a structure from an offset on
 abbrev pub part_of : Kind → ObjectState → Value → Rvalue
-part_of Void c q = record { value = q; contents = Some c }
+part_of Void c q = rvalue (integer 0)
 part_of (OfScalar k) c q = rvalue (read_value k (record { object = 0; offset = q.word }) (c ∷ []))
 part_of (Structure n) c q = record { value = q; contents = Some c }
-part_of (Array n) c q = record { value = q; contents = Some c }
+part_of (Array n) c q = rvalue (integer 0)
 
 -- what an lvalue of a kind holds (6.3.2.1 paragraph 2), or a member of a value
 abbrev pub read_part : Option ObjectState → Kind → (is_judged : Bool) → Value → (line : ℕ) → Run Rvalue

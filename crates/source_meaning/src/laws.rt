@@ -15,8 +15,9 @@ ghost use Rattle.c_tree.specs.declared.expression.Routine.{Routine};
 ghost use Rattle.c_tree.specs.declared.program.Variable.{Variable};
 ghost use Rattle.c_tree.specs.Programs.{Function, Program};
 ghost use Rattle.c_tree.specs.ValidProgram.{is_valid_program};
-ghost use Rattle.source_meaning.specs.State.{State, Gives, Run, Header, Setting, change};
+ghost use Rattle.source_meaning.specs.State.{State, Rvalue, Gives, Run, Header, Setting, change};
 ghost use Rattle.source_meaning.specs.Actions.{located, read_lvalue, write_lvalue, read_scalar, write_scalar, updated, update, update_plain, set_plain, move_bytes, make_object, put_bytes, take_key};
+ghost use Rattle.source_meaning.specs.Structures.{read_rvalue, take_value, write_rvalue};
 ghost use Rattle.source_meaning.specs.Expressions.{callee};
 ghost use Rattle.source_meaning.specs.Initializers.{zero_variable, store_bytes};
 ghost use Rattle.source_meaning.specs.Library.{routine};
@@ -26,7 +27,7 @@ ghost use Rattle.source_meaning.specs.Calls.{Caller, back_to, calls, set_up};
 ghost use Rattle.source_meaning.specs.Meaning.{meaning, outcome, initial_objects, setting_of};
 ghost use Rattle.source_meaning.specs.Acting.{IsAction, RunsAlike, state_of};
 ghost use Rattle.source_meaning.specs.Turns.{Grows};
-ghost use Rattle.source_meaning.specs.Keeping.{IsDirect, IsSoundState, PassNoStructures};
+ghost use Rattle.source_meaning.specs.Keeping.{IsDirect, IsSoundState};
 
 /// More turns show more of the same: what is shown never shrinks, no work and no turn is taken back, and
 /// a run that ended stays as it is.
@@ -50,7 +51,7 @@ pub fn objects_continue_along_a_run()
 /// of an object.
 pub fn runs_keep_objects_sound()
     ensures { (p : Program) (budgets : BudgetSizes) → AreMapped (setting_of p budgets).sizes
-        → is_valid_program p ≡ true → PassNoStructures p.function_types → (input : List ℕ) (t : ℕ)
+        → is_valid_program p ≡ true → (input : List ℕ) (t : ℕ)
         → IsSoundState (state_of (outcome p budgets input t)) }
 {}
 
@@ -72,6 +73,10 @@ pub fn accesses_are_actions()
     ensures read_lvalue { (kind : Kind) (j : Bool) (p : Value) (line : ℕ) → IsAction (read_lvalue kind j p line) }
     ensures write_lvalue { (kind : Kind) (j : Bool) (p : Value) (line : ℕ) (v : Value)
         → IsAction (write_lvalue kind j p line v) }
+    ensures read_rvalue { (kind : Kind) (j : Bool) (q : Rvalue) (line : ℕ) → IsAction (read_rvalue kind j q line) }
+    ensures write_rvalue { (kind : Kind) (j : Bool) (p : Value) (line : ℕ) (v : Rvalue)
+        → IsAction (write_rvalue kind j p line v) }
+    ensures taken { (kind : Kind) (line : ℕ) (v : Rvalue) → IsAction (take_value kind line v) }
     ensures updated { (u : Update) (k : Scalar) (right : Value) (line : ℕ) (old : Value)
         → IsAction (updated u k right line old) }
     ensures update { (u : Update) (k : Scalar) (j : Bool) (p : Value) (line : ℕ) (right : Value) (at : ℕ) (f : Fixity)
@@ -89,7 +94,7 @@ pub fn routines_and_calls_are_actions()
     ensures print { (format : List ℕ) (vs : List Value) (line : ℕ) → IsAction (print_formatted format vs line) }
     ensures callee { (functions : List Header) (type_number : ℕ) (v : Value) (line : ℕ)
         → IsAction (callee functions type_number v line) }
-    ensures set_up { (g : Setting) (f : Header) (vs : List Value) (line : ℕ) → IsAction (set_up g f vs line) }
+    ensures set_up { (g : Setting) (f : Header) (vs : List Rvalue) (line : ℕ) → IsAction (set_up g f vs line) }
     ensures back { (c : Caller) → IsAction (change (back_to c)) }
     ensures enter { (g : Setting) (vs : List Variable) (line : ℕ) → IsAction (enter_block g vs line) }
     ensures leave { (b : Block) → IsAction (change (leave_block b)) }
@@ -97,6 +102,6 @@ pub fn routines_and_calls_are_actions()
 
 /// And so does every call, with all that it leads to: the work that was done before plays no part.
 pub fn calls_do_the_same_at_any_work()
-    ensures { (functions : List Function) (g : Setting) (limit n f : ℕ) (vs : List Value) (line : ℕ)
+    ensures { (functions : List Function) (g : Setting) (limit n f : ℕ) (vs : List Rvalue) (line : ℕ)
         → RunsAlike (calls functions g limit n f vs line) }
 {}

@@ -1,4 +1,4 @@
-use Rattle.source_meaning.proofs.ActionsAct.{acts_located, acts_read_scalar, acts_write_scalar, acts_move_bytes, acts_read_lvalue, acts_write_lvalue, acts_updated, acts_update, acts_set_plain, acts_update_plain, acts_zero_variable, acts_store_bytes}
+use Rattle.source_meaning.proofs.ActionsAct.{acts_located, acts_read_scalar, acts_write_scalar, acts_move_bytes, acts_read_lvalue, acts_write_lvalue, acts_read_rvalue, acts_write_rvalue, acts_take_value, acts_updated, acts_update, acts_set_plain, acts_update_plain, acts_zero_variable, acts_store_bytes}
 use Rattle.source_meaning.proofs.laws.accesses_are_actions.Goals as goal
 use Rattle.source_meaning.specs.Actions.{updated}
 
@@ -10,6 +10,9 @@ returns c = record {
   moved = acts_move_bytes;
   read_lvalue = acts_read_lvalue;
   write_lvalue = acts_write_lvalue;
+  read_rvalue = acts_read_rvalue;
+  write_rvalue = acts_write_rvalue;
+  taken = acts_take_value;
   updated = acts_updated;
   update = λ u k j p line right at f. acts_update k j p line u right at f;
   plain = acts_set_plain;

@@ -1,4 +1,5 @@
 -- What a call lays out: the objects of its variables, which are new, and which die at its return.
+use Rattle.source_meaning.specs.Good.{AreLow, EndsMade, HasHome, IsHeld, object_kind}
 use Rattle.std.proofs.Common.{◌≡◌, ℕ, zero, suc, ◌+◌, ◌%◌, ◌≤◌, ◌<◌, ◌⊎◌, inl, inr, List, [], ◌∷◌, Bool, true, false, Some, None, length, if◌then◌else◌, refl, sym, ap, ◌∙◌, subst, arith, nat_eq}
 use Rattle.std.proofs.lemmas.Bool.{cases_lt, eqb-true, eqb-false}
 use Rattle.obj_memory.specs.declared.object.Storage.{Storage}
@@ -17,11 +18,9 @@ use Rattle.source_meaning.specs.State.{State, Outcome, Gives, Ended, Paused, on,
 use Rattle.c_tree.specs.Kinds.{size_of_kind}
 use Rattle.source_meaning.specs.Calls.{}
 use Rattle.source_meaning.specs.Blocks.{objects_end, place_object, place_variables, without_homes}
-use Rattle.source_meaning.proofs.Naming.{object_kind}
 use Rattle.source_meaning.specs.Keeping.{LivesOn, AreSeparate}
-use Rattle.source_meaning.proofs.Separating.{separate_automatic, EndsMade, ends_same, live_before}
-use Rattle.source_meaning.proofs.Holding.{live_made, beyond, length-dead, length-new, lives_same, lives_then, lives_new, IsHeld, held_on}
-use Rattle.source_meaning.proofs.Sure.{HasHome, AreLow}
+use Rattle.source_meaning.proofs.Separating.{separate_automatic, ends_same, live_before}
+use Rattle.source_meaning.proofs.Holding.{live_made, beyond, length-dead, length-new, lives_same, lives_then, lives_new, held_on}
 
 -- objects that are low
 

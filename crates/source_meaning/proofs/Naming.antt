@@ -1,6 +1,7 @@
 -- What accesses that are not judged rest on. They name an object or a structure value, so the names must be of objects that
 -- are there, members must lie in what has them, and a structure value is used where it is made. Every program that types
 -- has this.
+use Rattle.source_meaning.specs.Good.{Basis, OnName, OnPointer, OnValue, basis_of, object_kind, signature_in, static_kind}
 use Rattle.std.specs.Prelude.{◌≡◌, ℕ, zero, suc, ◌+◌, ◌≤◌, false, if◌then◌else◌, List, [], ◌∷◌, ◌++◌, map, get_or, Option, Some, None, length}
 use Rattle.c_tree.specs.declared.expression.Kind.{Kind}
 use Rattle.c_tree.specs.declared.expression.Kind.TheVariants.{Void, Scalar as OfScalar, Structure, Array}
@@ -10,50 +11,10 @@ use Rattle.c_tree.specs.Statements.{First, nothing, first_expression, first_decl
 use Rattle.c_tree.specs.declared.program.Variable.{Variable}
 use Rattle.c_tree.specs.Programs.{FunctionType, Function, StaticObject, Program}
 use Rattle.c_tree.specs.Kinds.{size_of_kind, Signature}
-use Rattle.c_tree.specs.Valid.{no_signature}
+use Rattle.c_tree.specs.Valid.{Scope, within, no_signature}
 use Rattle.source_meaning.specs.Keeping.{IsNoStructure}
 use Rattle.c_tree.specs.Blocks.{opened, all_of, body_variables, block_variables, switch_variables, first_variables}
 use Rattle.c_tree.specs.ValidProgram.{name_variables, signatures_of}
-
--- what names can be of: the static objects, what functions and types of functions take and give, what the function gives, and the variables of a function, of which an object can be named where its block is entered
-pub record Scope : Type 0 where
-  pub statics : List StaticObject
-  pub all : List Variable
-  pub variables : List Variable
-  pub functions : List Signature
-  pub types : List Signature
-  pub result : Kind
-
-abbrev pub static_kind : List StaticObject → ℕ → Option Kind
-static_kind [] n = None
-static_kind (o ∷ os) zero = Some o.kind
-static_kind (o ∷ os) (suc n) = static_kind os n
-
--- the kind of a variable that is an object
-abbrev pub object_kind : List Variable → ℕ → Option Kind
-object_kind [] x = None
-object_kind (v ∷ vs) zero = if v.is_object then Some v.kind else None
-object_kind (v ∷ vs) (suc x) = object_kind vs x
-
--- what an lvalue rests on: the name of an object, a pointer, or a structure value
-pub data Basis : Type 0 where
-  OnName : Basis
-  OnPointer : Basis
-  OnValue : Basis
-
-abbrev mutual
-  pub basis_of : Lvalue → Basis
-  basis_of (lvalue kind line node) = node_basis node
-
-  pub node_basis : LvalueNode → Basis
-  node_basis (automatic x) = OnName
-  node_basis (static n) = OnName
-  node_basis (deref a) = OnPointer
-  node_basis (index form size a b) = OnPointer
-  node_basis (member p offset size) = basis_of p
-  node_basis (arrow a offset size) = OnPointer
-  node_basis (member_of_value a offset size) = OnValue
-  node_basis (parenthesized_lvalue p) = basis_of p
 
 -- what rests on a structure value is no lvalue that can be written (C99 6.5.16 paragraph 2)
 abbrev pub IsWritable : Basis → Type 0
@@ -72,9 +33,6 @@ IsStructureWith Void bytes = ⊥
 IsStructureWith (OfScalar k) bytes = ⊥
 IsStructureWith (Structure n) bytes = bytes ≤ n
 IsStructureWith (Array n) bytes = ⊥
-
-abbrev pub signature_in : List Signature → ℕ → Signature
-signature_in list n = get_or list n no_signature
 
 abbrev mutual
   pub Names : Scope → Expression → Type 0
@@ -168,24 +126,20 @@ abbrev pub ReturnNames : Scope → Option Expression → Type 0
 ReturnNames sc None = sc.result ≡ Void
 ReturnNames sc (Some e) = Names sc e × (kind_of e ≡ sc.result)
 
--- in a block that declares some variables
-abbrev pub entering : Scope → (numbers : List ℕ) → Scope
-entering sc numbers = record sc { variables = opened numbers 0 sc.all sc.variables }
-
 abbrev mutual
   pub StatementNames : Scope → Statement → Type 0
   StatementNames sc (expression_statement e) = Names sc e
   StatementNames sc empty = Unit {0}
   StatementNames sc (declaration ds) = DeclaredName sc ds
-  StatementNames sc (block line body) = StatementsName (entering sc (block_variables body)) body
+  StatementNames sc (block line body) = StatementsName (within sc (block_variables body)) body
   StatementNames sc (if_then e body) = Names sc e × StatementNames sc body
   StatementNames sc (if_else e body other) = Names sc e × StatementNames sc body × StatementNames sc other
   StatementNames sc (while_do e body) = Names sc e × StatementNames sc body
   StatementNames sc (do_while body e) = StatementNames sc body × Names sc e
   StatementNames sc (for line first condition next body) =
-      FirstNames (entering sc (first_variables first)) first × NamesIfAny (entering sc (first_variables first)) condition
-      × NamesIfAny (entering sc (first_variables first)) next × StatementNames (entering sc (first_variables first)) body
-  StatementNames sc (switch e line is) = Names sc e × ItemsName (entering sc (switch_variables is)) is
+      FirstNames (within sc (first_variables first)) first × NamesIfAny (within sc (first_variables first)) condition
+      × NamesIfAny (within sc (first_variables first)) next × StatementNames (within sc (first_variables first)) body
+  StatementNames sc (switch e line is) = Names sc e × ItemsName (within sc (switch_variables is)) is
   StatementNames sc break = Unit {0}
   StatementNames sc continue = Unit {0}
   StatementNames sc (return e) = ReturnNames sc e
@@ -202,7 +156,7 @@ abbrev mutual
 
 -- what all functions of a program have in common
 pub record ProgramNames : Type 0 where
-  pub statics : List StaticObject
+  pub statics : List Kind
   pub functions : List Signature
   pub types : List Signature
 
@@ -240,7 +194,7 @@ abbrev pub function_signatures : List Signature → List Function → List Signa
 function_signatures types fs = map (λ f. signature_in types f.type_number) fs
 
 abbrev pub names_of : Program → ProgramNames
-names_of p = record { statics = p.statics; functions = function_signatures (signatures_of p) p.functions; types = signatures_of p }
+names_of p = record { statics = map (λ o. o.kind) p.statics; functions = function_signatures (signatures_of p) p.functions; types = signatures_of p }
 
 -- a program names what is there
 pub record NamesObjects (p : Program) : Type 0 where

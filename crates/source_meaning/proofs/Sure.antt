@@ -1,5 +1,7 @@
 -- Runs that keep objects sound: from a good state they come to a good one, with what is known of the value that they give;
 -- where they end or pause, objects and accesses are kept.
+use Rattle.source_meaning.specs.Good.{After, Any, AreLow, AreTagged, ArgumentIs, ArgumentsAre, Basis, Context, EndsMade, HasContents, IsGood, IsGoodBy, IsHeld, IsTagged, Leaves, LvalueIs, OnName, OnPointer, OnValue, RvalueReach, Stops, StructureIs, Sure, TakenIs, ValueIs, object_kind, static_kind}
+use Rattle.c_tree.specs.Valid.{Scope}
 use Rattle.std.proofs.Common.{◌≡◌, ℕ, ◌+◌, ◌≤◌, zero, suc, List, [], ◌∷◌, Bool, true, false, Option, Some, None, get_or, refl, sym, ◌∙◌, subst, arith}
 use Rattle.behaviours.specs.Shown.{Access}
 use Rattle.sb_base.specs.declared.ending.Ending.{Ending}
@@ -16,65 +18,11 @@ use Rattle.c_tree.specs.Kinds.{size_of_kind}
 use Rattle.source_meaning.specs.Actions.{integer}
 use Rattle.source_meaning.specs.Structures.{rvalue, give, as_rvalue, as_pointer, values_of}
 use Rattle.source_meaning.specs.Expressions.{counted_as, counted}
-use Rattle.source_meaning.proofs.Naming.{Scope, static_kind, object_kind, Basis, OnName, OnPointer, OnValue, IsWritable}
+use Rattle.source_meaning.proofs.Naming.{IsWritable}
 use Rattle.source_meaning.specs.Keeping.{IsNoStructure}
 use Rattle.source_meaning.specs.Keeping.{IsKept, LivesOn, IsDirect, IsNamed, AreSeparate}
-use Rattle.source_meaning.proofs.Separating.{separate_kept, EndsMade, ends_as_many, ends_same, ends_then}
-use Rattle.source_meaning.proofs.Holding.{all_lie_on, lives_same, lives_then, lives_kept, named_on, IsHeld, held_on}
-
--- the home of a variable that is an object
-pub record HasHome (frame : List Home) (objects : Objects) (x : ℕ) (kind : Kind) : Type 0 where
-  pub object : ℕ
-  pub home : get_or frame x NoObject ≡ InObject object
-  pub held : IsHeld objects object kind
-
-abbrev pub AreLow : Objects → Type 0
-AreLow objects = (n : ℕ) → (object_at objects n).address + (object_at objects n).size ≤ 1610612736
-
-abbrev pub AreTagged : List Value → Objects → Type 0
-AreTagged values objects = (x : ℕ) → IsSoundTag objects (get_or values x (integer 0)).tag
-
--- the names of a function, and the address at which automatic objects end and allocated ones begin
-pub record Context : Type 0 where
-  pub scope : Scope
-  pub boundary : ℕ
-
-pub record IsGoodBy (sc : Context) (objects : Objects) (frame : List Home) (values : List Value) (accesses : List Access) (stacked : ℕ) : Type 0 where
-  pub kept : IsKept objects accesses
-  pub low : AreLow objects
-  pub statics : (n : ℕ) (kind : Kind) → static_kind sc.scope.statics n ≡ Some kind → IsHeld objects n kind
-  pub homes : (x : ℕ) (kind : Kind) → object_kind sc.scope.variables x ≡ Some kind → HasHome frame objects x kind
-  pub plain : AreTagged values objects
-  pub separate : AreSeparate sc.boundary stacked objects
-
-abbrev pub IsGood : Context → State → Type 0
-IsGood sc s = IsGoodBy sc s.objects s.frame s.plain s.accesses s.stacked
-
--- a good state is left for another, in which the same names are of the same objects
-pub record Leaves (sc : Context) (s s' : State) : Type 0 where
-  pub good : IsGood sc s'
-  pub lives : LivesOn s.objects s'.objects
-  pub frame : s'.frame ≡ s.frame
-  pub ended : EndsMade s.objects s'.objects
-
--- where a run ends or pauses, objects and accesses are kept
-pub record Stops (old : Objects) (s' : State) : Type 0 where
-  pub kept : IsKept s'.objects s'.accesses
-  pub low : AreLow s'.objects
-  pub lives : LivesOn old s'.objects
-  pub apart : AreDisjoint s'.objects
-
-abbrev pub After : {A : Type 0} → Context → State → (A → Objects → Type 0) → Outcome A → Type 0
-After sc s Q (Gives a s') = Leaves sc s s' × Q a s'.objects
-After sc s Q (Ended e s') = Stops s.objects s'
-After sc s Q (Paused s') = Stops s.objects s'
-
-pub record Sure {A : Type 0} (sc : Context) (P : Objects → Type 0) (r : Run A) (Q : A → Objects → Type 0) : Type 0 where
-  pub by : (s : State) → IsGood sc s → P s.objects → After sc s Q (r s)
-
--- nothing is known
-abbrev pub Any : Objects → Type 0
-Any objects = Unit {0}
+use Rattle.source_meaning.proofs.Separating.{separate_kept, ends_as_many, ends_same, ends_then}
+use Rattle.source_meaning.proofs.Holding.{all_lie_on, lives_same, lives_then, lives_kept, named_on, held_on}
 
 abbrev pub IsStable : (Objects → Type 0) → Type 0
 IsStable P = (old new : Objects) → LivesOn old new → P old → P new
@@ -208,9 +156,6 @@ sure_objects {sc = sc} f k c sound q = record {
 
 -- values
 
-abbrev pub IsTagged : Value → Objects → Type 0
-IsTagged v objects = IsSoundTag objects v.tag
-
 abbrev pub DirectIf : Kind → Value → Objects → Type 0
 DirectIf Void v objects = Unit {0}
 DirectIf (OfScalar k) v objects = Unit {0}
@@ -222,48 +167,7 @@ pub record PlaceValueIs (kind : Kind) (v : Value) (objects : Objects) : Type 0 w
   pub tag : IsSoundTag objects v.tag
   pub structure : DirectIf kind v objects
 
--- contents are sound, and have some bytes from an offset on
-pub record HasContents (size offset : ℕ) (c : ObjectState) (objects : Objects) : Type 0 where
-  pub sound : IsSoundObject objects c
-  pub room : offset + size ≤ c.size
-
--- the value of a structure of some bytes: a pointer to them, or its contents
-abbrev pub StructureIs : (size : ℕ) → Option ObjectState → Value → Objects → Type 0
-StructureIs n None v o = IsDirect o v n
-StructureIs n (Some c) v o = HasContents n v.word c o
-
-abbrev pub OfKind : Kind → Rvalue → Objects → Type 0
-OfKind Void v o = v.contents ≡ None
-OfKind (OfScalar k) v o = v.contents ≡ None
-OfKind (Structure n) v o = StructureIs n v.contents v.value o
-OfKind (Array n) v o = v.contents ≡ None
-
--- what an expression of a kind gives: its tag is sound, and of a structure its bytes are there
-pub record ValueIs (kind : Kind) (v : Rvalue) (objects : Objects) : Type 0 where
-  pub tag : IsSoundTag objects v.value.tag
-  pub structure : OfKind kind v objects
-
 -- an argument or a result of a kind: a structure has its contents
-
-abbrev pub TakenIs : (size : ℕ) → Option ObjectState → Value → Objects → Type 0
-TakenIs n None v o = ⊥
-TakenIs n (Some c) v o = HasContents n v.word c o
-
-abbrev pub TakenOf : Kind → Rvalue → Objects → Type 0
-TakenOf Void v o = v.contents ≡ None
-TakenOf (OfScalar k) v o = v.contents ≡ None
-TakenOf (Structure n) v o = TakenIs n v.contents v.value o
-TakenOf (Array n) v o = v.contents ≡ None
-
-pub record ArgumentIs (kind : Kind) (v : Rvalue) (objects : Objects) : Type 0 where
-  pub tag : IsSoundTag objects v.value.tag
-  pub structure : TakenOf kind v objects
-
-abbrev pub ArgumentsAre : List Kind → List Rvalue → Objects → Type 0
-ArgumentsAre [] [] o = Unit {0}
-ArgumentsAre [] (v ∷ vs) o = ⊥
-ArgumentsAre (k ∷ ks) [] o = ⊥
-ArgumentsAre (k ∷ ks) (v ∷ vs) o = ArgumentIs k v o × ArgumentsAre ks vs o
 
 -- a scalar, as an expression gives it
 abbrev pub GivesScalar : Rvalue → Objects → Type 0
@@ -273,15 +177,6 @@ abbrev pub ReachBy : Basis → (size : ℕ) → Value → Objects → Type 0
 ReachBy OnName size v objects = IsNamed objects v size
 ReachBy OnPointer size v objects = Unit {0}
 ReachBy OnValue size v objects = IsDirect objects v size
-
-abbrev pub RvalueReach : Basis → (size : ℕ) → Option ObjectState → Value → Objects → Type 0
-RvalueReach OnName size c v o = (c ≡ None) × IsNamed o v size
-RvalueReach OnPointer size c v o = c ≡ None
-RvalueReach OnValue size c v o = StructureIs size c v o
-
-pub record LvalueIs (b : Basis) (kind : Kind) (q : Rvalue) (objects : Objects) : Type 0 where
-  pub tag : IsSoundTag objects q.value.tag
-  pub reach : RvalueReach b (size_of_kind kind) q.contents q.value objects
 
 pub stable_tag : (v : Value) → IsStable (IsTagged v)
 stable_tag v old new l h = sound_tag_continues old new l.continues v.tag h

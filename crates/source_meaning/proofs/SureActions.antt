@@ -1,4 +1,5 @@
 -- The actions keep objects sound.
+use Rattle.source_meaning.specs.Good.{After, Any, AreTagged, Basis, Context, IsGood, IsTagged, OnName, OnPointer, OnValue, Sure}
 use Rattle.std.proofs.Common.{◌≡◌, ℕ, zero, suc, ◌+◌, ◌-◌, ◌*◌, ◌%◌, ◌^◌, List, [], ◌∷◌, Bool, true, false, Option, Some, None, get_or, set, refl, sym, ◌∙◌, subst, arith, nat_lt}
 use Rattle.behaviours.specs.Shown.{AccessKind, Read, Write}
 use Rattle.sb_base.specs.declared.ending.Ending.TheVariants.{Keys}
@@ -37,11 +38,10 @@ use Rattle.source_meaning.specs.State.{State, stop, choose, change, Header, Sett
 use Rattle.source_meaning.specs.Actions.{integer, converted_to, converted, offset_value, value_or_divide, operate, updated, given, plain_value, set_plain, update_plain, place_or_stop, located, note, read_scalar, write_scalar, move_bytes, load, store, update, copy_structure, read_lvalue, write_lvalue, put_bytes, take_key}
 use Rattle.source_meaning.specs.Expressions.{callee_by, callee}
 use Rattle.source_meaning.specs.Initializers.{zero_object, zero_home, zero_variable}
-use Rattle.source_meaning.proofs.Naming.{Basis, OnName, OnPointer, OnValue}
 use Rattle.source_meaning.specs.Keeping.{LiesInObject, IsDirect}
 use Rattle.source_meaning.proofs.Separating.{ends_same}
 use Rattle.source_meaning.proofs.Holding.{all_lie_more, lives_same, direct_named, direct_allowed, allowed_lies, judged_direct, direct_kept}
-use Rattle.source_meaning.proofs.Sure.{Context, IsGood, AreTagged, stops_same, After, Sure, Any, sure_on, sure_weak, sure_post, sure_frame, sure_done, sure_skip, sure_stop, sure_read, sure_tally, sure_choose, sure_objects, IsTagged, PlaceValueIs, PlaceIs, ReachBy, stable_tag}
+use Rattle.source_meaning.proofs.Sure.{stops_same, sure_on, sure_weak, sure_post, sure_frame, sure_done, sure_skip, sure_stop, sure_read, sure_tally, sure_choose, sure_objects, PlaceValueIs, PlaceIs, ReachBy, stable_tag}
 
 -- values
 

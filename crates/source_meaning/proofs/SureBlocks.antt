@@ -1,4 +1,6 @@
 -- A block keeps objects sound: its own are new, and die where it is left, and the names around it are good again.
+use Rattle.source_meaning.specs.Good.{After, Any, AreTagged, ArgumentIs, Calling, CompletionIs, Context, HasHome, IsGood, IsHeld, Leaves, Stops, Sure, context_of, object_kind}
+use Rattle.c_tree.specs.Valid.{Scope}
 use Rattle.std.proofs.Common.{◌≡◌, ℕ, zero, suc, ◌+◌, ◌≤◌, List, [], ◌∷◌, map, Bool, true, false, ◌||◌, Some, None, length, get_or, if◌then◌else◌, refl, sym, ap, ◌∙◌, subst, arith, nat_le, nat_lt}
 use Rattle.std.proofs.lemmas.Bool.{leb-true}
 use Rattle.sb_base.specs.declared.ending.Ending.TheVariants.{Stack, Keys}
@@ -13,37 +15,18 @@ use Rattle.source_meaning.specs.Statements.{Completion, Normal, Broken, Continue
 use Rattle.source_meaning.specs.Places.{stack_end}
 use Rattle.source_meaning.specs.Actions.{take_key}
 use Rattle.source_meaning.specs.Blocks.{pass_or_stop, objects_end, has_objects, place_variables, without_homes, test_keys, over, homes_over, Block, place_block, enter_block, leave_block, scoped}
-use Rattle.source_meaning.proofs.Naming.{Scope, object_kind}
 use Rattle.source_meaning.specs.Keeping.{AllLie, LivesOn}
 use Rattle.source_meaning.proofs.ActionsAct.{continues_without}
 use Rattle.source_meaning.proofs.Separating.{separate_without, separate_back}
-use Rattle.source_meaning.proofs.Holding.{all_lie_on, lives_then, IsHeld, held_on}
-use Rattle.source_meaning.proofs.Sure.{HasHome, Context, IsGood, AreTagged, Leaves, Stops, stops_same, stops_then, After, Sure, Any, ArgumentIs, argument_on, stable_tagged}
-use Rattle.source_meaning.proofs.SureTree.{Calling}
+use Rattle.source_meaning.proofs.Holding.{all_lie_on, lives_then, held_on}
+use Rattle.source_meaning.proofs.Sure.{stops_same, stops_then, argument_on, stable_tagged}
 use Rattle.source_meaning.proofs.Laying.{PlacedHome, placed_home, AllFrom, placed_from, without_sound, without_low, without_lives, EndsBut, ends_but_then, ends_without, Placed, PlacesBy, places}
-
--- the value of a return is a result of the function's kind
-abbrev pub CompletionIs : (result : Kind) → Completion → Objects → Type 0
-CompletionIs result Normal o = Unit {0}
-CompletionIs result Broken o = Unit {0}
-CompletionIs result Continued o = Unit {0}
-CompletionIs result (Returned v) o = ArgumentIs result v o
 
 pub completion_on : (result : Kind) (f : Completion) (old new : Objects) → Continues old new → CompletionIs result f old → CompletionIs result f new
 completion_on result Normal old new c h = tt
 completion_on result Broken old new c h = tt
 completion_on result Continued old new c h = tt
 completion_on result (Returned v) old new c h = argument_on result v old new c h
-
--- where some variables can be named
-abbrev pub context_of : Scope → (boundary : ℕ) → (all variables : List Variable) → Context
-context_of base boundary all variables = record { scope = record base { all = all; variables = variables }; boundary = boundary }
-
--- calls keep objects sound, whatever variables have homes; and all of the object stack lies below the heap
-pub record Inside (base : Scope) (boundary : ℕ) (env : Env) : Type 0 where
-  pub calling : (variables : List Variable) → Calling (context_of base boundary env.variables variables) env
-  pub most : stack_end env.setting ≤ boundary
-  pub low : boundary ≤ 1610612736
 
 -- the homes of variables
 

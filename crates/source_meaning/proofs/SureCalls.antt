@@ -1,4 +1,5 @@
 -- Calls keep objects sound: those of the callee are new, and die at its return, and the caller's names are good again.
+use Rattle.source_meaning.specs.Good.{After, Any, AreLow, AreTagged, ArgumentIs, ArgumentsAre, Calling, CompletionIs, Context, Inside, IsGood, IsHeld, IsTagged, Leaves, OnName, Stops, Sure, signature_in, static_kind}
 use Rattle.std.proofs.Common.{◌≡◌, ℕ, zero, suc, ◌+◌, ◌≤◌, List, [], ◌∷◌, ◌++◌, map, Bool, true, false, Some, length, if◌then◌else◌, refl, sym, ap, ◌∙◌, subst, arith, nat_le, nat_lt}
 use Rattle.std.proofs.lemmas.Bool.{leb-true}
 use Rattle.sb_base.specs.declared.ending.Ending.TheVariants.{Stack, Keys}
@@ -21,16 +22,14 @@ use Rattle.source_meaning.specs.Expressions.{counted}
 use Rattle.source_meaning.specs.Statements.{in_order, each_of}
 use Rattle.source_meaning.specs.Calls.{header_of, body_objects, call_tests, parameter_values, plain_values, plain_count, parameter_count, write_parameter, write_parameters, lay_out, set_up, caller, back_to, returned_by, result_of, enter_begun, enter}
 use Rattle.source_meaning.specs.Blocks.{pass_or_stop, objects_end, has_objects, place_variables, without_homes, test_space, test_keys}
-use Rattle.source_meaning.proofs.Naming.{signature_in, static_kind, OnName, ProgramNames, FunctionNames, kinds_in, scope_of}
+use Rattle.source_meaning.proofs.Naming.{ProgramNames, FunctionNames, kinds_in, scope_of}
 use Rattle.source_meaning.specs.Keeping.{AllLie, IsKept, LivesOn, AreSeparate}
 use Rattle.source_meaning.proofs.ActionsAct.{continues_without}
 use Rattle.source_meaning.proofs.Separating.{separate_without, separate_back}
-use Rattle.source_meaning.proofs.Holding.{all_lie_on, lives_same, lives_then, IsHeld, held_on, held_named}
-use Rattle.source_meaning.proofs.Sure.{Context, IsGood, AreTagged, AreLow, Leaves, Stops, stops_then, After, Sure, Any, IsStable, sure_on, sure_weak, sure_any, sure_post, sure_frame, sure_done, sure_skip, sure_read, sure_counted, IsTagged, PlaceIs, ArgumentIs, ArgumentsAre, argument_on, argument_value, stable_tagged, stable_arguments}
+use Rattle.source_meaning.proofs.Holding.{all_lie_on, lives_same, lives_then, held_on, held_named}
+use Rattle.source_meaning.proofs.Sure.{stops_then, IsStable, sure_on, sure_weak, sure_any, sure_post, sure_frame, sure_done, sure_skip, sure_read, sure_counted, PlaceIs, argument_on, argument_value, stable_tagged, stable_arguments}
 use Rattle.source_meaning.proofs.SureStructures.{sure_write_rvalue, zero_argument}
-use Rattle.source_meaning.proofs.SureTree.{Calling}
 use Rattle.source_meaning.proofs.SureFlow.{sure_begin_turn, row_sure}
-use Rattle.source_meaning.proofs.SureBlocks.{CompletionIs, Inside}
 use Rattle.c_tree.specs.Blocks.{all_of, body_variables}
 use Rattle.source_meaning.proofs.Laying.{PlacedHome, Placed, placed_homes, placed_on, AllFrom, placed_from, without_sound, without_low, without_lives, EndsBut, ends_but_then, ends_without, PlacesBy, places}
 

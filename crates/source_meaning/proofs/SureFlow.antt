@@ -1,4 +1,6 @@
 -- Statements keep objects sound.
+use Rattle.source_meaning.specs.Good.{Any, ArgumentIs, Calling, CompletionIs, Context, Inside, Sure, context_of}
+use Rattle.c_tree.specs.Valid.{Scope}
 use Rattle.std.proofs.Common.{ℕ, zero, suc, ◌+◌, List, [], ◌∷◌, map, Bool, true, false, Option, Some, None, refl, sym, subst, nat_lt}
 use Rattle.std.specs.Prelude.{length}
 use Rattle.obj_memory.specs.Objects.{Objects}
@@ -10,17 +12,17 @@ use Rattle.source_meaning.specs.Statements.{Normal, Broken, Continued, Returned}
 use Rattle.source_meaning.specs.State.{Run, done, pause, choose, change, Env}
 use Rattle.source_meaning.specs.Actions.{integer, begin_turn}
 use Rattle.source_meaning.specs.Statements.{next_after, in_order, holds, perform, perform_first, after_body, turns, turns_before, LabeledRun, run_labeled, is_case_of, is_default, labels_from, items_at, items_from, labels_of, compared, or_default, run_items, after_switch, run_switch, in_block, execute, each_of, items_of}
-use Rattle.source_meaning.proofs.Naming.{Scope, NamesIfAny, FirstNames, StatementNames, StatementsName, ItemsName}
+use Rattle.source_meaning.proofs.Naming.{NamesIfAny, FirstNames, StatementNames, StatementsName, ItemsName}
 use Rattle.c_tree.specs.declared.program.Variable.{Variable}
 use Rattle.c_tree.specs.declared.expression.Kind.{Kind}
 use Rattle.source_meaning.specs.Keeping.{IsNoStructure}
 use Rattle.source_meaning.specs.Structures.{rvalue}
 use Rattle.c_tree.specs.Blocks.{opened, block_variables, switch_variables, first_variables}
-use Rattle.source_meaning.proofs.SureBlocks.{CompletionIs, context_of, Inside, scoped_sure}
+use Rattle.source_meaning.proofs.SureBlocks.{scoped_sure}
 use Rattle.source_meaning.proofs.Separating.{ends_same}
 use Rattle.source_meaning.proofs.Holding.{lives_same}
-use Rattle.source_meaning.proofs.Sure.{Context, Sure, Any, sure_on, sure_any, sure_done, sure_skip, sure_pause, sure_tally, sure_counted, sure_choose, ArgumentIs, argument_is}
-use Rattle.source_meaning.proofs.SureTree.{Calling, evaluate_sure, argument_sure, initialize_all_sure}
+use Rattle.source_meaning.proofs.Sure.{sure_on, sure_any, sure_done, sure_skip, sure_pause, sure_tally, sure_counted, sure_choose, argument_is}
+use Rattle.source_meaning.proofs.SureTree.{evaluate_sure, argument_sure, initialize_all_sure}
 
 -- the items of a switch
 abbrev AllSure : Context → Kind → List LabeledRun → Type 0

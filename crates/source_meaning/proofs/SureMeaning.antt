@@ -1,4 +1,5 @@
 -- A program that names what is there keeps its objects sound, and its accesses are of bytes of objects.
+use Rattle.source_meaning.specs.Good.{After, Any, AreLow, AreTagged, ArgumentIs, ArgumentsAre, Calling, Context, Inside, IsGood, IsHeld, Sure, context_of, signature_in, static_kind}
 use Rattle.std.proofs.Common.{◌≡◌, ℕ, zero, suc, ◌+◌, ◌/◌, ◌%◌, ◌≤◌, ◌<◌, List, [], ◌∷◌, map, Bool, true, false, Option, Some, None, length, get_or, replicate, refl, sym, ap, ◌∙◌, subst, arith, inl, inr, ◌⊎◌, ◌≢◌}
 use Rattle.std.proofs.lemmas.Bool.{cases_lt, eqb-true}
 use Rattle.std.proofs.lemmas.List.{length-replicate}
@@ -21,19 +22,18 @@ use Rattle.source_meaning.specs.Initializers.{store_parts}
 use Rattle.c_tree.specs.ValidProgram.{name_variables, signature_of}
 use Rattle.source_meaning.specs.Expressions.{has_type, header_at}
 use Rattle.c_tree.specs.Blocks.{all_of}
-use Rattle.source_meaning.proofs.SureBlocks.{context_of, Inside}
 use Rattle.source_meaning.specs.Places.{statics_first, stack_first, stack_end, heap_first}
 use Rattle.c_tree.specs.Kinds.{size_of_kind, Signature}
 use Rattle.c_tree.specs.declared.expression.Kind.TheVariants.{Void}
-use Rattle.source_meaning.specs.Calls.{header_of, result_of, enter, enter_found, function_at, calls}
+use Rattle.source_meaning.specs.Calls.{header_of, env_of, result_of, enter, enter_found, function_at, calls}
 use Rattle.source_meaning.specs.Meaning.{placed_statics, statics_end, setting_of, fresh, static_env, store_statics, objects_after, initial_objects, start, line_of, outcome}
 use Rattle.source_meaning.specs.Acting.{state_of}
-use Rattle.source_meaning.proofs.Naming.{signature_in, static_kind, ProgramNames, scope_of, FunctionNames, FunctionsName, file_scope, PartsName, StaticsName, function_signatures, names_of, NamesObjects}
+use Rattle.source_meaning.proofs.Naming.{ProgramNames, scope_of, FunctionNames, FunctionsName, file_scope, PartsName, StaticsName, function_signatures, names_of, NamesObjects}
 use Rattle.source_meaning.specs.Keeping.{IsNamed, AreSeparate, IsSoundState}
 use Rattle.source_meaning.proofs.Separating.{separate_back}
-use Rattle.source_meaning.proofs.Holding.{live_made, IsHeld, held_named}
-use Rattle.source_meaning.proofs.Sure.{Context, IsGood, AreLow, AreTagged, After, Sure, Any, sure_on, sure_any, sure_skip, sure_stop, sure_pause, sure_read, ArgumentIs, ArgumentsAre}
-use Rattle.source_meaning.proofs.SureTree.{Calling, parts_sure}
+use Rattle.source_meaning.proofs.Holding.{live_made, held_named}
+use Rattle.source_meaning.proofs.Sure.{sure_on, sure_any, sure_skip, sure_stop, sure_pause, sure_read}
+use Rattle.source_meaning.proofs.SureTree.{parts_sure}
 use Rattle.source_meaning.proofs.SureCalls.{enter_sure}
 use Rattle.source_meaning.proofs.SureLibrary.{sure_routine}
 use Rattle.source_meaning.proofs.SureBytes.{sure_print}
@@ -111,6 +111,9 @@ module _ (u : ProgramNames) (functions : List Function) (names : FunctionsName u
       found_sure n (calls_sure n) sc same level (signature_in u.functions f) (function_at functions f) (found_names u functions names f)
       (subst (λ l. SignatureIs u.types (signature_in l f) (function_at functions f)) (sym of.signatures) (signature_found u.types functions f)) vs line
 
+abbrev kinds_of_statics : List StaticObject → List Kind
+kinds_of_statics os = map (λ o. o.kind) os
+
 -- the static objects as they are placed
 
 record IsFresh (first : ℕ) (bound : ℕ) (o : ObjectState) : Type 0 where
@@ -155,7 +158,7 @@ held_first address kind other rest e =
     let same : kind ≡ other = some_kind kind other e in
     record { made = omega arith; live = refl; held = refl; size = ap size_of_kind same }
 
-placed_held : (first : ℕ) (os : List StaticObject) (offset n : ℕ) (kind : Kind) → static_kind os n ≡ Some kind → IsHeld (placed_statics first os offset) n kind
+placed_held : (first : ℕ) (os : List StaticObject) (offset n : ℕ) (kind : Kind) → static_kind (kinds_of_statics os) n ≡ Some kind → IsHeld (placed_statics first os offset) n kind
 placed_held first [] offset n kind e = absurd (cc)
 placed_held first (o ∷ os) offset zero kind e = held_first (first + rounded_up 16 offset) o.kind kind _ e
 placed_held first (o ∷ os) offset (suc n) kind e =
@@ -174,13 +177,13 @@ pause_calls g mapped sc least typed = record { call = λ f vs line. sure_pause; 
 module _ (g : Setting) (mapped : AreMapped g.sizes) (u : ProgramNames) (typed : (f type : ℕ) → has_type (header_at g.functions f) type ≡ true → signature_in u.functions f ≡ signature_in u.types type) where
   -- the static objects from a number on
   abbrev AreFrom : (n : ℕ) → List StaticObject → Type 0
-  AreFrom n os = (k : ℕ) → static_kind u.statics (n + k) ≡ static_kind os k
+  AreFrom n os = (k : ℕ) → static_kind u.statics (n + k) ≡ static_kind (kinds_of_statics os) k
 
   first_kind : (n : ℕ) (o : StaticObject) (os : List StaticObject) → AreFrom n (o ∷ os) → static_kind u.statics n ≡ Some o.kind
   first_kind n o os h = let same : n + 0 ≡ n = omega arith in subst (λ k. static_kind u.statics k ≡ Some o.kind) same (h 0)
 
   rest_kinds : (n : ℕ) (o : StaticObject) (os : List StaticObject) → AreFrom n (o ∷ os) → AreFrom (n + 1) os
-  rest_kinds n o os h = λ k. let same : n + suc k ≡ n + 1 + k = omega arith in subst (λ i. static_kind u.statics i ≡ static_kind os k) same (h (suc k))
+  rest_kinds n o os h = λ k. let same : n + suc k ≡ n + 1 + k = omega arith in subst (λ i. static_kind u.statics i ≡ static_kind (kinds_of_statics os) k) same (h (suc k))
 
   part_stored : (p : Value) (o : StaticObject) (b : Bool) → name_variables o.parts ≡ b → (name_variables o.parts ≡ false → PartsName (static_context u g).scope (size_of_kind o.kind) o.parts)
       → Sure (static_context u g) (λ objects. IsSoundTag objects p.tag × IsNamed objects p (size_of_kind o.kind)) (choose b skip (store_parts (static_env g) p o.parts)) (λ _. Any)
@@ -296,11 +299,11 @@ module _ (p : Program) (budgets : BudgetSizes) (mapped : AreMapped (setting_of p
         top = under;
       })
 
-  start_good : (input : List ℕ) → GoodStart (names_of p) (setting_of p budgets) input (initial_objects p (setting_of p budgets))
+  pub start_good : (input : List ℕ) → GoodStart (names_of p) (setting_of p budgets) input (initial_objects p (setting_of p budgets))
   start_good input =
       let g = setting_of p budgets in
       stored (names_of p) g input placed placed_good (λ _. Any) _
-      ((store_sure g mapped (names_of p) typed_start 0 p.statics (λ k. let same : 0 + k ≡ k = omega arith in ap (static_kind p.statics) same) names.statics).by
+      ((store_sure g mapped (names_of p) typed_start 0 p.statics (λ k. let same : 0 + k ≡ k = omega arith in ap (static_kind (kinds_of_statics p.statics)) same) names.statics).by
       (fresh g placed []) placed_good tt)
 
   pub run_sound : (input : List ℕ) (t : ℕ) → IsSoundState (state_of (outcome p budgets input t))
@@ -310,3 +313,21 @@ module _ (p : Program) (budgets : BudgetSizes) (mapped : AreMapped (setting_of p
       sound_after (static_context u g) (start p g input) (ArgumentIs (signature_in u.functions p.main).result) (outcome p budgets input t)
       ((calls_sure u p.functions names.functions g is_setting mapped t (t + 1) (static_context u g) refl refl p.main [] (line_of (function_at p.functions p.main))).by
       (start p g input) (start_good input) (subst (λ ks. ArgumentsAre ks [] (start p g input).objects) (sym names.main) tt))
+
+  pub calls_good : (limit n : ℕ) (sc : Context) → sc.scope.statics ≡ (names_of p).statics → sc.boundary ≡ heap_first (setting_of p budgets) → (f : ℕ) (vs : List Rvalue) (line : ℕ)
+      → Sure sc (ArgumentsAre (signature_in (names_of p).functions f).parameters vs) (calls p.functions (setting_of p budgets) limit n f vs line) (ArgumentIs (signature_in (names_of p).functions f).result)
+  calls_good limit n = calls_sure (names_of p) p.functions names.functions (setting_of p budgets) is_setting mapped limit n
+
+  pub inside_good : (limit n : ℕ) (f : Function) → Inside (scope_of (names_of p) f) (heap_first (setting_of p budgets)) (env_of p.functions (setting_of p budgets) limit n (all_of f))
+  inside_good limit n f =
+      let g = setting_of p budgets in
+      record {
+        calling = λ variables. record {
+          call = calls_good limit n (context_of (scope_of (names_of p) f) (heap_first g) (all_of f) variables) refl refl;
+          library = sure_routine g mapped (omega arith);
+          print = sure_print;
+          typed = typed_start;
+        };
+        most = stack_below g mapped;
+        low = heap_low g mapped;
+      }

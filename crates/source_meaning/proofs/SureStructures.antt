@@ -1,4 +1,5 @@
 -- Structures by value keep objects sound: contents are sound, and have all bytes of the structure.
+use Rattle.source_meaning.specs.Good.{Any, ArgumentIs, Basis, Context, HasContents, IsGood, IsTagged, LvalueIs, OnName, OnPointer, OnValue, RvalueReach, StructureIs, Sure, ValueIs}
 use Rattle.std.proofs.Common.{◌≡◌, ℕ, ◌+◌, ◌*◌, ◌/◌, ◌%◌, ◌<◌, ◌≤◌, List, [], ◌∷◌, Bool, true, false, ◌==◌, if◌then◌else◌, Option, Some, None, length, get_or, take, drop, refl, sym, ap, ◌∙◌, subst, arith, length-take, length-drop}
 use Rattle.obj_memory.specs.declared.value.Tag.TheVariants.{Untagged}
 use Rattle.obj_memory.specs.declared.value.Value.{Value}
@@ -20,10 +21,9 @@ use Rattle.source_meaning.specs.State.{Rvalue}
 use Rattle.source_meaning.specs.Actions.{integer}
 use Rattle.source_meaning.specs.Structures.{rvalue, give, moved_into, contents_of, with_contents, put_range, put_contents, taken, take_value, copy_value, write_rvalue, part_of, read_part, read_rvalue, zero_of}
 use Rattle.source_meaning.specs.Keeping.{IsDirect}
-use Rattle.source_meaning.proofs.Naming.{Basis, OnName, OnPointer, OnValue}
 use Rattle.source_meaning.proofs.ActionsAct.{continues_put}
 use Rattle.source_meaning.proofs.Holding.{direct_kept}
-use Rattle.source_meaning.proofs.Sure.{Context, IsGood, Sure, Any, IsStable, sure_on, sure_weak, sure_if_good, sure_any, sure_post, sure_frame, sure_done, sure_read, stable_tag, sure_tally, sure_objects, IsTagged, HasContents, StructureIs, ValueIs, ArgumentIs, PlaceIs, ReachBy, RvalueReach, LvalueIs, place_value}
+use Rattle.source_meaning.proofs.Sure.{IsStable, sure_on, sure_weak, sure_if_good, sure_any, sure_post, sure_frame, sure_done, sure_read, stable_tag, sure_tally, sure_objects, PlaceIs, ReachBy, place_value}
 use Rattle.source_meaning.proofs.SureActions.{on_pointer, sure_located, sure_store, sure_read_lvalue, sure_copy, IsFound}
 
 -- contents

@@ -1,4 +1,5 @@
 -- Expressions, lvalues and initializers keep objects sound, and an lvalue that rests on a name is of bytes of a live object.
+use Rattle.source_meaning.specs.Good.{After, Any, AreTagged, ArgumentIs, ArgumentsAre, Basis, Calling, Context, HasContents, IsGood, IsTagged, LvalueIs, OfKind, OnName, OnPointer, OnValue, RvalueReach, StructureIs, Sure, ValueIs, basis_of, giving, node_basis, object_kind, signature_in, static_kind}
 use Rattle.std.proofs.Common.{◌≡◌, ℕ, zero, suc, ◌+◌, ◌≤◌, Bool, true, false, ◌&&◌, ◌==◌, List, [], ◌∷◌, Option, Some, None, length, refl, sym, subst, arith}
 use Rattle.obj_memory.specs.declared.int_type.IntType.TheVariants.{Char}
 use Rattle.obj_memory.specs.declared.value.Tag.{Tag}
@@ -29,27 +30,12 @@ use Rattle.source_meaning.specs.Expressions.{header_at, has_type, callee_by, cal
 use Rattle.source_meaning.specs.Initializers.{store_bytes, store_content, store_parts, initialize, initialize_all}
 use Rattle.source_meaning.specs.Library.{routine}
 use Rattle.source_meaning.specs.Printing.{print_formatted}
-use Rattle.source_meaning.proofs.Naming.{signature_in, Basis, OnName, OnPointer, OnValue, basis_of, node_basis, IsScalar, IsStructureWith, ValueNames, LvalueNames, PlaceNames, RowNames, Names, ContentNames, PartsName, InitializerNames, DeclaredName, static_kind, object_kind}
+use Rattle.source_meaning.proofs.Naming.{IsScalar, IsStructureWith, ValueNames, LvalueNames, PlaceNames, RowNames, Names, ContentNames, PartsName, InitializerNames, DeclaredName}
 use Rattle.source_meaning.specs.Keeping.{IsDirect, IsNamed}
 use Rattle.source_meaning.proofs.Holding.{direct_less, direct_narrowed, named_less, named_narrowed, named_on, held_named}
-use Rattle.source_meaning.proofs.Sure.{Context, IsGood, AreTagged, After, Sure, Any, IsStable, sure_on, sure_weak, sure_if_good, sure_any, sure_post, sure_frame, sure_beside, sure_done, sure_value, sure_skip, sure_stop, sure_read, sure_tally, sure_counted_as, sure_counted, sure_choose, IsTagged, HasContents, StructureIs, OfKind, ValueIs, ArgumentIs, ArgumentsAre, GivesScalar, PlaceIs, ReachBy, RvalueReach, LvalueIs, writable_place, stable_place, stable_tag, stable_argument, argument_value, arguments_tagged, plainly, of_kind, sure_give, as_sure, pointer_sure}
+use Rattle.source_meaning.proofs.Sure.{IsStable, sure_on, sure_weak, sure_if_good, sure_any, sure_post, sure_frame, sure_beside, sure_done, sure_value, sure_skip, sure_stop, sure_read, sure_tally, sure_counted_as, sure_counted, sure_choose, GivesScalar, PlaceIs, ReachBy, writable_place, stable_place, stable_tag, stable_argument, argument_value, arguments_tagged, plainly, of_kind, sure_give, as_sure, pointer_sure}
 use Rattle.source_meaning.proofs.SureStructures.{sure_read_rvalue, sure_write_rvalue, take_sure}
 use Rattle.source_meaning.proofs.SureActions.{converted_tagged, offset_tagged, sure_operate, on_pointer, sure_store, sure_update, sure_set_plain, sure_update_plain, sure_zero_variable}
-
--- what a function of a number takes and gives
-abbrev pub taking : Context → ℕ → List Kind
-taking sc f = (signature_in sc.scope.functions f).parameters
-
-abbrev pub giving : Context → ℕ → Kind
-giving sc f = (signature_in sc.scope.functions f).result
-
--- what the calls of an environment do
-pub record Calling (sc : Context) (env : Env) : Type 0 where
-  pub call : (f : ℕ) (vs : List Rvalue) (line : ℕ) → Sure sc (ArgumentsAre (taking sc f) vs) (env.call f vs line) (ArgumentIs (giving sc f))
-  pub library : (r : Routine) (vs : List Value) (line : ℕ) → Sure sc (AreTagged vs) (routine env.setting r vs line) IsTagged
-  pub print : (format : List ℕ) (vs : List Value) (line : ℕ) → Sure sc (AreTagged vs) (print_formatted format vs line) IsTagged
-  -- a function that has a type takes and gives what the type says
-  pub typed : (f type : ℕ) → has_type (header_at env.setting.functions f) type ≡ true → signature_in sc.scope.functions f ≡ signature_in sc.scope.types type
 
 -- lvalues
 
@@ -237,7 +223,7 @@ module _ {sc : Context} {env : Env} (c : Calling sc env) where
     node_sure (parenthesized_lvalue p) kind h =
         subst (λ k. Sure sc Any (counted (place env p)) (LvalueIs (basis_of p) k)) (sym h.1) (sure_counted (place_sure p h.0))
 
-    values_sure : (es : Expressions) → RowNames sc.scope es → Sure sc Any (each_value (values env es)) (ArgumentsAre (kinds_of es))
+    pub values_sure : (es : Expressions) → RowNames sc.scope es → Sure sc Any (each_value (values env es)) (ArgumentsAre (kinds_of es))
     values_sure no_expressions h = sure_done (λ o p. tt)
     values_sure (expressions a es) h =
         sure_on (sure_on (evaluate_sure a h.0) (λ v. take_sure (kind_of a) (line_of a) v)) (λ v.

@@ -1,4 +1,6 @@
 -- A valid program names what is there.
+use Rattle.source_meaning.specs.Good.{basis_of, node_basis, object_kind, signature_in, static_kind}
+use Rattle.c_tree.specs.Valid.{Scope}
 use Rattle.std.proofs.Common.{◌≡◌, ℕ, ◌+◌, ◌^◌, ◌≤◌, nat_le, List, [], ◌∷◌, Bool, true, false, ◌&&◌, ◌==◌, not, zero, suc, None, if◌then◌else◌, Some, get_or, refl, sym, ap, ◌∙◌, subst, arith}
 use Rattle.std.proofs.lemmas.Bool.{eqb-true, leb-true}
 use Rattle.obj_memory.specs.declared.int_type.IntType.{IntType}
@@ -17,7 +19,7 @@ use Rattle.c_tree.specs.Kinds.{is_size, is_step_operator, integer, pointer, int_
 use Rattle.c_tree.specs.Valid.{is_constant, is_plain, is_operand, is_conversion, is_right_of, is_update, is_step, is_call, no_signature, is_lvalue, is_lvalue_node, is_member, is_valid, is_node, are_valid, is_valid_lvalue, is_valid_lvalue_node}
 use Rattle.c_tree.specs.declared.program.Variable.{Variable}
 use Rattle.c_tree.specs.Valid as valid
-use Rattle.source_meaning.proofs.Naming.{signature_in, Scope, static_kind, object_kind, basis_of, node_basis, IsWritable, IsScalar, IsStructureWith, Names, ValueNames, LvalueNames, PlaceNames, RowNames}
+use Rattle.source_meaning.proofs.Naming.{IsWritable, IsScalar, IsStructureWith, Names, ValueNames, LvalueNames, PlaceNames, RowNames}
 use Rattle.source_meaning.specs.Keeping.{IsNoStructure}
 
 -- tests that hold

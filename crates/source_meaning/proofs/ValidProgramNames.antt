@@ -1,4 +1,6 @@
 -- The same of statements and of programs.
+use Rattle.source_meaning.specs.Good.{signature_in, static_kind}
+use Rattle.c_tree.specs.Valid.{Scope}
 use Rattle.std.proofs.Common.{◌≡◌, ℕ, zero, suc, ◌+◌, List, [], ◌∷◌, ◌++◌, map, Bool, true, false, ◌==◌, Option, Some, None, length, get_or, if◌then◌else◌, refl, sym, ap, ◌∙◌, subst, arith, nat_le, nat_lt}
 use Rattle.std.specs.List.{list_all}
 use Rattle.std.proofs.lemmas.Bool.{eqb-true, leb-true, ltb-true, lt-ltb}
@@ -14,11 +16,11 @@ use Rattle.c_tree.specs.Valid as valid
 use Rattle.c_tree.specs.Valid.{has_number, within, is_valid, is_condition, is_plain}
 use Rattle.c_tree.specs.ValidProgram.{content_size, is_content, is_part, are_parts, is_initializer, are_declared, is_first, is_condition_if, is_expression_if, is_return, Inside, in_loop, in_switch, is_statement, are_statements, are_items, is_function_type, are_all_different, signature_of, signatures_of, signature_at, scope_in, function_scope, are_parameters, is_function, are_functions, name_variables, variables_of_function, static_scope, is_function_number, is_static_object, is_main, is_main_signature, is_valid_program}
 use Rattle.c_tree.specs.Blocks.{opened, all_of, body_variables, block_variables, switch_variables, first_variables}
-use Rattle.source_meaning.proofs.Naming.{signature_in, Scope, static_kind, Names, NamesIfAny, ContentNames, PartsName, InitializerNames, DeclaredName, FirstNames, ReturnNames, entering, StatementNames, StatementsName, ItemsName, kinds_in, names_of, FunctionNames, FunctionsName, file_scope, StaticsName, NamesObjects}
+use Rattle.source_meaning.proofs.Naming.{Names, NamesIfAny, ContentNames, PartsName, InitializerNames, DeclaredName, FirstNames, ReturnNames, StatementNames, StatementsName, ItemsName, kinds_in, names_of, FunctionNames, FunctionsName, file_scope, StaticsName, NamesObjects}
 use Rattle.source_meaning.proofs.ValidNames.{both, three, five, six, never, same_kind, Agree, object_named, names}
 
 -- a block that declares some variables
-within_agree : {scope : valid.Scope} {sc : Scope} (numbers : List ℕ) → Agree scope sc → Agree (within scope numbers) (entering sc numbers)
+within_agree : {scope : valid.Scope} {sc : Scope} (numbers : List ℕ) → Agree scope sc → Agree (within scope numbers) (within sc numbers)
 within_agree {scope = scope} numbers g = record {
   static = g.static;
   all = g.all;
@@ -51,7 +53,7 @@ module _ {scope : valid.Scope} {sc : Scope} (g : Agree scope sc) where
       let e = both v.is_object (are_parts scope (size_of_kind v.kind) parts) h in
       (v.kind, object_named g x e.0, parts_names (size_of_kind v.kind) parts e.1)
 
-  declared_names : (ds : List DeclaredVariable) → are_declared scope ds ≡ true → DeclaredName sc ds
+  pub declared_names : (ds : List DeclaredVariable) → are_declared scope ds ≡ true → DeclaredName sc ds
   declared_names [] h = tt
   declared_names (d ∷ ds) h = let e = both (is_initializer scope d.variable d.initializer) (are_declared scope ds) h in (initializer_names d.variable d.initializer e.0, declared_names ds e.1)
 
@@ -115,28 +117,25 @@ mutual
 later : (n m : ℕ) → nat_lt (suc n) (suc m) ≡ true → nat_lt n m ≡ true
 later n m e = lt-ltb n m (let lt = ltb-true (suc n) (suc m) e in omega arith)
 
-length-kinds : (os : List StaticObject) → length (map (λ (o : StaticObject). o.kind) os) ≡ length os
-length-kinds [] = refl
-length-kinds (o ∷ os) = let rest = length-kinds os in omega (arith, rest)
-
-static_at : (os : List StaticObject) (n : ℕ) (k : Kind) → nat_lt n (length os) ≡ true → is_kind (get_or (map (λ (o : StaticObject). o.kind) os) n Void) k ≡ true → static_kind os n ≡ Some k
+static_at : (ks : List Kind) (n : ℕ) (k : Kind) → nat_lt n (length ks) ≡ true → is_kind (get_or ks n Void) k ≡ true → static_kind ks n ≡ Some k
 static_at [] n k lt e = let never = ltb-true n 0 lt in absurd (omega arith)
-static_at (o ∷ os) zero k lt e = ap Some (same_kind o.kind k e)
-static_at (o ∷ os) (suc n) k lt e = static_at os n k (later n (length os) lt) e
+static_at (j ∷ ks) zero k lt e = ap Some (same_kind j k e)
+static_at (j ∷ ks) (suc n) k lt e = static_at ks n k (later n (length ks) lt) e
+
+-- a scope of validity names what is there
+pub agree_same : (scope : Scope) → Agree scope scope
+agree_same scope = record {
+  static = λ n k e. let q = both (nat_lt n (length scope.statics)) _ e in static_at scope.statics n k q.0 q.1;
+  all = refl;
+  variables = refl;
+  functions = refl;
+  types = refl;
+  result = refl;
+}
 
 module _ (p : Program) where
-  agree : (all variables : List Variable) (result : Kind)
-      → Agree (scope_in p all variables result) (record { statics = p.statics; all = all; variables = variables; functions = (names_of p).functions; types = (names_of p).types; result = result })
-  agree all variables result = record {
-    static = λ n k e.
-        let q = both (nat_lt n (length (map (λ (o : StaticObject). o.kind) p.statics))) _ e in
-        static_at p.statics n k (subst (λ m. nat_lt n m ≡ true) (length-kinds p.statics) q.0) q.1;
-    all = refl;
-    variables = refl;
-    functions = refl;
-    types = refl;
-    result = refl;
-  }
+  agree : (all variables : List Variable) (result : Kind) → Agree (scope_in p all variables result) (scope_in p all variables result)
+  agree all variables result = agree_same (scope_in p all variables result)
 
   parameter_kinds : (vs : List Variable) (ks : List Kind) → are_parameters vs ks ≡ true → kinds_in vs ≡ ks
   parameter_kinds [] [] e = refl

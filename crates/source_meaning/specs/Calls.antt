@@ -171,3 +171,8 @@ calls functions g limit (suc n) = λ f vs line.
     enter_found
     (record { setting = g; variables = []; limit = limit; depth = suc n; call = calls functions g limit n })
     (function_at functions f) vs line
+
+-- what every part of a function with these variables may look at, where calls in it are nested at most n deep
+abbrev pub env_of : List Function → Setting → (limit n : ℕ) → List Variable → Env
+env_of functions g limit n variables =
+    record { setting = g; variables = variables; limit = limit; depth = suc n; call = calls functions g limit n }

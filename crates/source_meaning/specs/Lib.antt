@@ -17,3 +17,4 @@ pub mod Meaning
 pub mod Acting
 pub mod Turns
 pub mod Keeping
+pub mod Good

@@ -4,6 +4,9 @@ ghost use Rattle.std.specs.Prelude.{◌≡◌, ℕ, List, Bool, true, false};
 ghost use Rattle.behaviours.specs.Behaviour.{IsSource};
 ghost use Rattle.sb_base.specs.Budgets.{BudgetSizes};
 ghost use Rattle.addr_map.specs.Places.{AreMapped};
+ghost use Rattle.obj_memory.specs.declared.int_type.IntType.{IntType};
+ghost use Rattle.obj_memory.specs.declared.object.Storage.{Storage};
+ghost use Rattle.obj_memory.specs.declared.operator.BinaryOperator.{BinaryOperator};
 ghost use Rattle.obj_memory.specs.declared.value.Value.{Value};
 ghost use Rattle.obj_memory.specs.declared.value.Scalar.{Scalar};
 ghost use Rattle.obj_memory.specs.declared.value.Place.{Place};
@@ -14,19 +17,27 @@ ghost use Rattle.c_tree.specs.declared.expression.Fixity.{Fixity};
 ghost use Rattle.c_tree.specs.declared.expression.Routine.{Routine};
 ghost use Rattle.c_tree.specs.declared.program.Variable.{Variable};
 ghost use Rattle.c_tree.specs.Programs.{Function, Program};
-ghost use Rattle.c_tree.specs.ValidProgram.{is_valid_program};
-ghost use Rattle.source_meaning.specs.State.{State, Rvalue, Gives, Run, Header, Setting, change};
-ghost use Rattle.source_meaning.specs.Actions.{located, read_lvalue, write_lvalue, read_scalar, write_scalar, updated, update, update_plain, set_plain, move_bytes, make_object, put_bytes, take_key};
+ghost use Rattle.c_tree.specs.ValidProgram.{are_declared, function_scope, Inside as Surrounding, is_statement, is_valid_program};
+ghost use Rattle.source_meaning.specs.State.{Env, State, Rvalue, Gives, Run, Header, Setting, change};
+ghost use Rattle.source_meaning.specs.Actions.{located, read_lvalue, write_lvalue, read_scalar, write_scalar, updated, update, update_plain, set_plain, move_bytes, make_object, put_bytes, take_key, each_value, operate, load, store};
 ghost use Rattle.source_meaning.specs.Structures.{read_rvalue, take_value, write_rvalue};
-ghost use Rattle.source_meaning.specs.Expressions.{callee};
+ghost use Rattle.source_meaning.specs.Expressions.{callee, evaluate, place, values};
 ghost use Rattle.source_meaning.specs.Initializers.{zero_variable, store_bytes};
 ghost use Rattle.source_meaning.specs.Library.{routine};
 ghost use Rattle.source_meaning.specs.Printing.{print_formatted};
 ghost use Rattle.source_meaning.specs.Blocks.{Block, enter_block, leave_block};
-ghost use Rattle.source_meaning.specs.Calls.{Caller, back_to, calls, set_up};
-ghost use Rattle.source_meaning.specs.Meaning.{meaning, outcome, initial_objects, setting_of};
+ghost use Rattle.source_meaning.specs.Calls.{Caller, back_to, calls, env_of, set_up};
+ghost use Rattle.source_meaning.specs.Meaning.{meaning, outcome, initial_objects, setting_of, start};
 ghost use Rattle.source_meaning.specs.Acting.{IsAction, RunsAlike, state_of};
 ghost use Rattle.source_meaning.specs.Turns.{Grows};
+ghost use Rattle.c_tree.specs.Tree.{Expression, Expressions, Lvalue, kind_of, kinds_of, lvalue_kind};
+ghost use Rattle.c_tree.specs.Statements.{DeclaredVariable, Statement};
+ghost use Rattle.c_tree.specs.Blocks.{all_of};
+ghost use Rattle.c_tree.specs.Valid.{Scope, are_valid, is_valid, is_valid_lvalue};
+ghost use Rattle.source_meaning.specs.Initializers.{initialize_all};
+ghost use Rattle.source_meaning.specs.Places.{heap_first};
+ghost use Rattle.source_meaning.specs.Statements.{execute};
+ghost use Rattle.source_meaning.specs.Good.{Any, ArgumentIs, ArgumentsAre, basis_of, Calling, CompletionIs, Context, context_of, file_scope, Inside, IsGood, LvalueIs, signature_in, Sure, ValueIs};
 ghost use Rattle.source_meaning.specs.Keeping.{IsDirect, IsSoundState};
 
 /// More turns show more of the same: what is shown never shrinks, no work and no turn is taken back, and
@@ -81,6 +92,12 @@ pub fn accesses_are_actions()
         → IsAction (updated u k right line old) }
     ensures update { (u : Update) (k : Scalar) (j : Bool) (p : Value) (line : ℕ) (right : Value) (at : ℕ) (f : Fixity)
         → IsAction (update k j p line (updated u k right at) f) }
+    ensures operate { (op : BinaryOperator) (t : IntType) (x y : Value) (line : ℕ) → IsAction (operate op t x y line) }
+    ensures load { (k : Scalar) (j : Bool) (p : Value) (line : ℕ) → IsAction (load k j p line) }
+    ensures store { (k : Scalar) (j : Bool) (p : Value) (line : ℕ) (v : Value) → IsAction (store k j p line v) }
+    ensures make { (storage : Storage) (address size : ℕ) → IsAction (make_object storage address size) }
+    ensures put { (bytes : List ℕ) → IsAction (put_bytes bytes) }
+    ensures key { (g : Setting) (line : ℕ) → IsAction (take_key g line) }
     ensures plain { (x : ℕ) (v : Value) → IsAction (set_plain x v) }
     ensures update_plain { (u : Update) (k : Scalar) (x : ℕ) (right : Value) (at : ℕ) (f : Fixity)
         → IsAction (update_plain x (updated u k right at) f) }
@@ -104,4 +121,43 @@ pub fn routines_and_calls_are_actions()
 pub fn calls_do_the_same_at_any_work()
     ensures { (functions : List Function) (g : Setting) (limit n f : ℕ) (vs : List Rvalue) (line : ℕ)
         → RunsAlike (calls functions g limit n f vs line) }
+{}
+
+/// From a good state every expression, lvalue and list of arguments of a valid program comes to good states with a sound
+/// value, and so does an initializer: at each step, also within a turn. An lvalue that rests on a name is of a live object.
+pub fn expressions_keep_states_good()
+    ensures value { (sc : Context) (env : Env) → Calling sc env → (e : Expression) → is_valid sc.scope e ≡ true
+        → Sure sc Any (evaluate env e) (ValueIs (kind_of e)) }
+    ensures lvalue { (sc : Context) (env : Env) → Calling sc env → (p : Lvalue) → is_valid_lvalue sc.scope p ≡ true
+        → Sure sc Any (place env p) (LvalueIs (basis_of p) (lvalue_kind p)) }
+    ensures arguments { (sc : Context) (env : Env) → Calling sc env → (es : Expressions) → are_valid sc.scope es ≡ true
+        → Sure sc Any (each_value (values env es)) (ArgumentsAre (kinds_of es)) }
+    ensures initializers { (sc : Context) (env : Env) → Calling sc env → (ds : List DeclaredVariable)
+        → are_declared sc.scope ds ≡ true → Sure sc Any (initialize_all env ds) (λ _. Any) }
+{}
+
+/// So does every statement, wherever it stands, and leaves the names around it as they were.
+pub fn statements_keep_states_good()
+    ensures { (base : Scope) (boundary : ℕ) (env : Env) → Inside base boundary env → (vs : List Variable)
+        (within : Surrounding) (s : Statement)
+        → is_statement (context_of base boundary env.variables vs).scope within s ≡ true
+        → Sure (context_of base boundary env.variables vs) Any (execute env s) (CompletionIs base.result) }
+{}
+
+/// So does every call of a valid program, and its first state is good: what the two laws above ask of calls.
+pub fn calls_keep_states_good()
+    ensures call { (p : Program) (budgets : BudgetSizes) → AreMapped (setting_of p budgets).sizes → is_valid_program p ≡ true
+        → (limit n : ℕ) (sc : Context) → sc.scope.statics ≡ (file_scope p).statics
+        → sc.boundary ≡ heap_first (setting_of p budgets) → (f : ℕ) (vs : List Rvalue) (line : ℕ)
+        → Sure sc (ArgumentsAre (signature_in (file_scope p).functions f).parameters vs)
+        (calls p.functions (setting_of p budgets) limit n f vs line)
+        (ArgumentIs (signature_in (file_scope p).functions f).result) }
+    ensures inside { (p : Program) (budgets : BudgetSizes) → AreMapped (setting_of p budgets).sizes
+        → is_valid_program p ≡ true → (limit n : ℕ) (f : Function)
+        → Inside (function_scope p f) (heap_first (setting_of p budgets))
+        (env_of p.functions (setting_of p budgets) limit n (all_of f)) }
+    ensures start { (p : Program) (budgets : BudgetSizes) → AreMapped (setting_of p budgets).sizes
+        → is_valid_program p ≡ true → (input : List ℕ)
+        → IsGood (record { scope = file_scope p; boundary = heap_first (setting_of p budgets) })
+        (start p (setting_of p budgets) input) }
 {}

@@ -26,3 +26,4 @@ pub mod ValidNames
 pub mod ValidProgramNames
 pub mod RunsAlike
 pub mod LiveAccesses
+pub mod JudgingTests

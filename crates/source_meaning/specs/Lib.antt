@@ -18,3 +18,4 @@ pub mod Acting
 pub mod Turns
 pub mod Keeping
 pub mod Good
+pub mod Judging

@@ -38,6 +38,7 @@ ghost use Rattle.source_meaning.specs.Initializers.{initialize_all};
 ghost use Rattle.source_meaning.specs.Places.{heap_first};
 ghost use Rattle.source_meaning.specs.Statements.{execute};
 ghost use Rattle.source_meaning.specs.Good.{Any, ArgumentIs, ArgumentsAre, basis_of, Calling, CompletionIs, Context, context_of, file_scope, Inside, IsGood, LvalueIs, signature_in, Sure, ValueIs};
+ghost use Rattle.source_meaning.specs.Judging.{tested};
 ghost use Rattle.source_meaning.specs.Keeping.{IsDirect, IsSoundState};
 
 /// More turns show more of the same: what is shown never shrinks, no work and no turn is taken back, and
@@ -160,4 +161,10 @@ pub fn calls_keep_states_good()
         → is_valid_program p ≡ true → (input : List ℕ)
         → IsGood (record { scope = file_scope p; boundary = heap_first (setting_of p budgets) })
         (start p (setting_of p budgets) input) }
+{}
+
+/// A judged access is two tests, one after the other, of the bounds and of the life of the object, and then an access
+/// that names its object.
+pub fn judgement_is_two_tests()
+    ensures { (size : ℕ) (v : Value) (line : ℕ) (s : State) → located true size v line s ≡ tested size v line s }
 {}

@@ -20,7 +20,7 @@ function_pick : Function
 function_pick = defined 1 0 (plain_variable int ∷ object_variable (Structure 16) ∷ object_variable (Structure 16) ∷
     []) [] 464
     (return (Some (conditional 1 (plain 1 int 0) (read (lvalue 1 (Structure 16) (automatic 1))) (read (lvalue 1
-        (Structure 16) (automatic 2)))))
+    (Structure 16) (automatic 2)))))
     ∷ [])
 
 function_main : Function
@@ -29,20 +29,20 @@ function_main = defined 2 1 [] (object_variable (Structure 16) ∷ object_variab
     (declaration (without_value 0 ∷ [])
     ∷ declaration (without_value 1 ∷ [])
     ∷ expression_statement (assign 2 (member 2 pointer 0 (lvalue 2 (Structure 16) (automatic 0))) (address 2 (lvalue 2
-        int (static 0))))
+    int (static 0))))
     ∷ expression_statement (assign 2 (member 2 int 8 (lvalue 2 (Structure 16) (automatic 0))) (number 2 1))
     ∷ expression_statement (assign 2 (member 2 pointer 0 (lvalue 2 (Structure 16) (automatic 1))) (address 2 (lvalue 2
-        int (static 1))))
+    int (static 1))))
     ∷ expression_statement (assign 2 (member 2 int 8 (lvalue 2 (Structure 16) (automatic 1))) (number 2 2))
     ∷ declaration (with_parts 2 (part 0 (content (call 2 (Structure 16) 0 (number 2 0 ∷ read (lvalue 2 (Structure 16)
-        (automatic 0)) ∷ read (lvalue 2 (Structure 16) (automatic 1)) ∷ []))) ∷ []) ∷ [])
+    (automatic 0)) ∷ read (lvalue 2 (Structure 16) (automatic 1)) ∷ []))) ∷ []) ∷ [])
     ∷ declaration (with_value 3 (read (member_of_value 2 int 8 (parenthesized (conditional 2 (number 2 1) (read
-        (lvalue 2 (Structure 16) (automatic 0))) (read (lvalue 2 (Structure 16) (automatic 1))))))) ∷ [])
+    (lvalue 2 (Structure 16) (automatic 0))) (read (lvalue 2 (Structure 16) (automatic 1))))))) ∷ [])
     ∷ return (Some (binary 3 Add (binary 3 Add (binary 3 Add (binary 3 Multiply (read (deref 3 int (read (member 3
-        pointer 0 (lvalue 3 (Structure 16) (automatic 2)))))) (number 3 10)) (read (deref 3 int (read (member_of_value
-        3 pointer 0 (call 3 (Structure 16) 0 (number 3 1 ∷ read (lvalue 3 (Structure 16) (automatic 0)) ∷ read (lvalue
-        3 (Structure 16) (automatic 1)) ∷ []))))))) (read (member 3 int 8 (lvalue 3 (Structure 16) (automatic 2)))))
-        (plain 3 int 3)))
+    pointer 0 (lvalue 3 (Structure 16) (automatic 2)))))) (number 3 10)) (read (deref 3 int (read (member_of_value
+    3 pointer 0 (call 3 (Structure 16) 0 (number 3 1 ∷ read (lvalue 3 (Structure 16) (automatic 0)) ∷ read (lvalue
+    3 (Structure 16) (automatic 1)) ∷ []))))))) (read (member 3 int 8 (lvalue 3 (Structure 16) (automatic 2)))))
+    (plain 3 int 3)))
     ∷ [])
 
 program : Program
@@ -53,7 +53,7 @@ program = program_with
     ∷ static_object int (part 0 (content (number 1 6)) ∷ [])
     ∷ [])
     (function_type (Takes ∷ IntegerWord Int ∷ Takes ∷ StructureWord 0 ∷ Takes ∷ StructureWord 0 ∷ Gives ∷
-        StructureWord 0 ∷ []) (int ∷ (Structure 16) ∷ (Structure 16) ∷ []) (Structure 16)
+    StructureWord 0 ∷ []) (int ∷ (Structure 16) ∷ (Structure 16) ∷ []) (Structure 16)
     ∷ function_type (Gives ∷ IntegerWord Int ∷ []) ([]) int
     ∷ [])
     (function_pick ∷ function_main ∷ [])

@@ -23,7 +23,7 @@ function_f = defined 1 0 [] (object_variable (Structure 2) ∷ []) 288
 function_main : Function
 function_main = defined 1 1 [] [] 288
     (return (Some (convert int (read (index 1 (integer_kind Char) (decay (member_of_value 1 (Array 2) 0 (call 1
-        (Structure 2) 0 []))) (number 1 0)))))
+    (Structure 2) 0 []))) (number 1 0)))))
     ∷ [])
 
 program : Program

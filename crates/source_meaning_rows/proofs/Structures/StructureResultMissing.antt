@@ -24,9 +24,9 @@ function_main : Function
 function_main = defined 1 1 [] (object_variable (Structure 16) ∷ []) 448
     (declaration (with_parts 0 (part 0 (content (call 1 (Structure 16) 0 [])) ∷ []) ∷ [])
     ∷ expression_statement (library 1 int Putchar (binary 1 Add (number 1 48) (parenthesized (compare 1 Equal (read
-        (member 1 pointer 8 (lvalue 1 (Structure 16) (automatic 0)))) (convert pointer (number 1 0)))) ∷ []))
+    (member 1 pointer 8 (lvalue 1 (Structure 16) (automatic 0)))) (convert pointer (number 1 0)))) ∷ []))
     ∷ return (Some (binary 1 Add (read (member 1 int 0 (lvalue 1 (Structure 16) (automatic 0)))) (read
-        (member_of_value 1 int 0 (call 1 (Structure 16) 0 [])))))
+    (member_of_value 1 int 0 (call 1 (Structure 16) 0 [])))))
     ∷ [])
 
 program : Program

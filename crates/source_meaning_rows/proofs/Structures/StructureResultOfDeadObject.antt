@@ -20,7 +20,7 @@ function_f = defined 1 0 [] (object_variable int ∷ object_variable (Structure 
     (declaration (with_parts 0 (part 0 (content (number 1 1)) ∷ []) ∷ [])
     ∷ declaration (without_value 1 ∷ [])
     ∷ expression_statement (assign 1 (member 1 pointer 0 (lvalue 1 (Structure 8) (automatic 1))) (address 1 (lvalue 1
-        int (automatic 0))))
+    int (automatic 0))))
     ∷ return (Some (read (lvalue 1 (Structure 8) (automatic 1))))
     ∷ [])
 

@@ -24,10 +24,10 @@ function_f = defined 1 0 (plain_variable pointer ∷ []) [] 320
 function_main : Function
 function_main = defined 2 1 [] (plain_variable pointer ∷ []) 408
     (declaration (with_value 0 (library 2 pointer Malloc (convert (integer_kind UnsignedLong) (number 2 16) ∷ [])) ∷
-        [])
+    [])
     ∷ expression_statement (assign 2 (arrow 2 int 0 (plain 2 pointer 0)) (number 2 66))
     ∷ expression_statement (library 2 int Putchar (read (member_of_value 2 int 0 (call 2 (Structure 16) 0 (plain 2
-        pointer 0 ∷ []))) ∷ []))
+    pointer 0 ∷ []))) ∷ []))
     ∷ expression_statement (library 2 Void Free (plain 2 pointer 0 ∷ []))
     ∷ return (Some (read (member_of_value 3 int 0 (call 3 (Structure 16) 0 (plain 3 pointer 0 ∷ [])))))
     ∷ [])
@@ -38,7 +38,7 @@ program = program_with
     ∷ [])
     []
     (function_type (Takes ∷ PointerWord ∷ StructureWord 0 ∷ Gives ∷ StructureWord 0 ∷ []) (pointer ∷ []) (Structure
-        16)
+    16)
     ∷ function_type (Gives ∷ IntegerWord Int ∷ []) ([]) int
     ∷ [])
     (function_f ∷ function_main ∷ [])

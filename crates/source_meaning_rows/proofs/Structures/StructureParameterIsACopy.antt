@@ -18,9 +18,9 @@ function_f : Function
 function_f = defined 1 0 (object_variable (Structure 16) ∷ []) [] 280
     (expression_statement (assign 1 (member 1 int 0 (lvalue 1 (Structure 16) (automatic 0))) (number 1 9))
     ∷ expression_statement (assign 1 (deref 1 int (read (member 1 pointer 8 (lvalue 1 (Structure 16) (automatic 0)))))
-        (read (member 1 int 0 (lvalue 1 (Structure 16) (automatic 0)))))
+    (read (member 1 int 0 (lvalue 1 (Structure 16) (automatic 0)))))
     ∷ expression_statement (assign 1 (member 1 pointer 8 (lvalue 1 (Structure 16) (automatic 0))) (address 1 (member 1
-        int 0 (lvalue 1 (Structure 16) (automatic 0)))))
+    int 0 (lvalue 1 (Structure 16) (automatic 0)))))
     ∷ return (Some (read (deref 1 int (read (member 1 pointer 8 (lvalue 1 (Structure 16) (automatic 0)))))))
     ∷ [])
 
@@ -29,11 +29,11 @@ function_main = defined 1 1 [] (object_variable (Structure 16) ∷ plain_variabl
     (declaration (without_value 0 ∷ [])
     ∷ expression_statement (assign 1 (member 1 int 0 (lvalue 1 (Structure 16) (automatic 0))) (number 1 2))
     ∷ expression_statement (assign 1 (member 1 pointer 8 (lvalue 1 (Structure 16) (automatic 0))) (address 1 (lvalue 1
-        int (static 0))))
+    int (static 0))))
     ∷ declaration (with_value 1 (call 1 int 0 (read (lvalue 1 (Structure 16) (automatic 0)) ∷ [])) ∷ [])
     ∷ return (Some (binary 1 Add (binary 1 Add (binary 1 Multiply (plain 1 int 1) (number 1 10)) (read (member 1 int 0
-        (lvalue 1 (Structure 16) (automatic 0))))) (read (deref 1 int (read (member 1 pointer 8 (lvalue 1 (Structure
-        16) (automatic 0))))))))
+    (lvalue 1 (Structure 16) (automatic 0))))) (read (deref 1 int (read (member 1 pointer 8 (lvalue 1 (Structure
+    16) (automatic 0))))))))
     ∷ [])
 
 program : Program

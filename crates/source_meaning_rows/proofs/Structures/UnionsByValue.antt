@@ -17,8 +17,8 @@ use Rattle.std.proofs.Common.{◌∷◌, [], Some, ◌≡◌, refl, true}
 function_f : Function
 function_f = defined 1 0 (object_variable (Structure 8) ∷ []) [] 400
     (expression_statement (assign 1 (member 1 (integer_kind Long) 0 (lvalue 1 (Structure 8) (automatic 0))) (binary 1
-        Add (read (member 1 (integer_kind Long) 0 (lvalue 1 (Structure 8) (automatic 0)))) (convert (integer_kind
-        Long) (number 1 0))))
+    Add (read (member 1 (integer_kind Long) 0 (lvalue 1 (Structure 8) (automatic 0)))) (convert (integer_kind
+    Long) (number 1 0))))
     ∷ return (Some (read (lvalue 1 (Structure 8) (automatic 0))))
     ∷ [])
 
@@ -26,9 +26,9 @@ function_main : Function
 function_main = defined 1 1 [] (object_variable (Structure 8) ∷ []) 408
     (declaration (without_value 0 ∷ [])
     ∷ expression_statement (assign 1 (member 1 pointer 0 (lvalue 1 (Structure 8) (automatic 0))) (address 1 (lvalue 1
-        int (static 0))))
+    int (static 0))))
     ∷ return (Some (read (deref 1 int (read (member_of_value 1 pointer 0 (call 1 (Structure 8) 0 (read (lvalue 1
-        (Structure 8) (automatic 0)) ∷ [])))))))
+    (Structure 8) (automatic 0)) ∷ [])))))))
     ∷ [])
 
 program : Program

@@ -17,7 +17,7 @@ use Rattle.std.proofs.Common.{◌∷◌, [], Some, ◌≡◌, refl, true}
 function_f : Function
 function_f = defined 1 0 (object_variable (Structure 16) ∷ plain_variable int ∷ []) [] 472
     (expression_statement (assign 1 (member 1 int 0 (lvalue 1 (Structure 16) (automatic 0))) (binary 1 Add (read
-        (member 1 int 0 (lvalue 1 (Structure 16) (automatic 0)))) (plain 1 int 1)))
+    (member 1 int 0 (lvalue 1 (Structure 16) (automatic 0)))) (plain 1 int 1)))
     ∷ return (Some (read (lvalue 1 (Structure 16) (automatic 0))))
     ∷ [])
 
@@ -27,12 +27,12 @@ function_main = defined 1 1 [] (plain_variable pointer ∷ object_variable (Stru
     ∷ declaration (without_value 1 ∷ [])
     ∷ expression_statement (assign 1 (member 1 int 0 (lvalue 1 (Structure 16) (automatic 1))) (number 1 1))
     ∷ expression_statement (assign 1 (member 1 pointer 8 (lvalue 1 (Structure 16) (automatic 1))) (address 1 (lvalue 1
-        int (static 0))))
+    int (static 0))))
     ∷ expression_statement (assign 1 (lvalue 1 (Structure 16) (automatic 1)) (call_through 1 (Structure 16) 0 (plain 1
-        pointer 0) (call_through 1 (Structure 16) 0 (plain 1 pointer 0) (read (lvalue 1 (Structure 16) (automatic 1))
-        ∷ number 1 2 ∷ []) ∷ number 1 3 ∷ [])))
+    pointer 0) (call_through 1 (Structure 16) 0 (plain 1 pointer 0) (read (lvalue 1 (Structure 16) (automatic 1))
+    ∷ number 1 2 ∷ []) ∷ number 1 3 ∷ [])))
     ∷ return (Some (binary 1 Add (binary 1 Multiply (read (member 1 int 0 (lvalue 1 (Structure 16) (automatic 1))))
-        (number 1 10)) (read (deref 1 int (read (member 1 pointer 8 (lvalue 1 (Structure 16) (automatic 1))))))))
+    (number 1 10)) (read (deref 1 int (read (member 1 pointer 8 (lvalue 1 (Structure 16) (automatic 1))))))))
     ∷ [])
 
 program : Program
@@ -42,7 +42,7 @@ program = program_with
     (static_object int (part 0 (content (number 1 8)) ∷ [])
     ∷ [])
     (function_type (Takes ∷ StructureWord 0 ∷ Takes ∷ IntegerWord Int ∷ Gives ∷ StructureWord 0 ∷ []) ((Structure 16)
-        ∷ int ∷ []) (Structure 16)
+    ∷ int ∷ []) (Structure 16)
     ∷ function_type (Gives ∷ IntegerWord Int ∷ []) ([]) int
     ∷ [])
     (function_f ∷ function_main ∷ [])

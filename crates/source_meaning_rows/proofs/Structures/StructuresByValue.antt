@@ -24,7 +24,7 @@ function_mk : Function
 function_mk = defined 1 0 (plain_variable int ∷ []) (object_variable (Structure 16) ∷ []) 400
     (declaration (without_value 1 ∷ [])
     ∷ expression_statement (assign 1 (member 1 pointer 0 (lvalue 1 (Structure 16) (automatic 1))) (address 1 (lvalue 1
-        int (static 0))))
+    int (static 0))))
     ∷ expression_statement (assign 1 (member 1 int 8 (lvalue 1 (Structure 16) (automatic 1))) (plain 1 int 0))
     ∷ return (Some (read (lvalue 1 (Structure 16) (automatic 1))))
     ∷ [])
@@ -32,8 +32,8 @@ function_mk = defined 1 0 (plain_variable int ∷ []) (object_variable (Structur
 function_use : Function
 function_use = defined 1 1 (object_variable (Structure 16) ∷ []) [] 320
     (expression_statement (assign 1 (member 1 int 8 (lvalue 1 (Structure 16) (automatic 0))) (binary 1 Add (read
-        (member 1 int 8 (lvalue 1 (Structure 16) (automatic 0)))) (read (deref 1 int (read (member 1 pointer 0 (lvalue
-        1 (Structure 16) (automatic 0))))))))
+    (member 1 int 8 (lvalue 1 (Structure 16) (automatic 0)))) (read (deref 1 int (read (member 1 pointer 0 (lvalue
+    1 (Structure 16) (automatic 0))))))))
     ∷ return (Some (read (member 1 int 8 (lvalue 1 (Structure 16) (automatic 0)))))
     ∷ [])
 
@@ -42,7 +42,7 @@ function_main = defined 2 2 [] (object_variable (Structure 16) ∷ plain_variabl
     (declaration (with_parts 0 (part 0 (content (call 2 (Structure 16) 0 (number 2 1 ∷ []))) ∷ []) ∷ [])
     ∷ declaration (with_value 1 (call 2 int 1 (read (lvalue 2 (Structure 16) (automatic 0)) ∷ [])) ∷ [])
     ∷ return (Some (binary 2 Add (binary 2 Multiply (plain 2 int 1) (number 2 10)) (read (member 2 int 8 (lvalue 2
-        (Structure 16) (automatic 0))))))
+    (Structure 16) (automatic 0))))))
     ∷ [])
 
 program : Program
@@ -62,9 +62,13 @@ run : seen (meaning program default_sizes [] 20) ≡ exited [] 71
 unfolding program function_mk function_use function_main computing
 run = refl
 
-counted : counts (meaning program default_sizes [] 20) ≡ record { turns = 3; work = 177; accesses = writes 0x10001010
-    8 ∷ writes 0x10001018 4 ∷ reads 0x10001018 4 ∷ reads 0x10001010 8 ∷ reads 0x10000000 4 ∷ writes 0x10001018 4 ∷
-    reads 0x10001018 4 ∷ reads 0x10001008 4 ∷ [] }
+counted : counts (meaning program default_sizes [] 20) ≡ record {
+  turns = 3;
+  work = 177;
+  accesses = writes 0x10001010
+      8 ∷ writes 0x10001018 4 ∷ reads 0x10001018 4 ∷ reads 0x10001010 8 ∷ reads 0x10000000 4 ∷ writes 0x10001018 4 ∷
+      reads 0x10001018 4 ∷ reads 0x10001008 4 ∷ [];
+}
 unfolding program function_mk function_use function_main computing
 counted = refl
 

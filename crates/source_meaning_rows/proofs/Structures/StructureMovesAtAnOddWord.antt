@@ -28,16 +28,16 @@ function_main : Function
 function_main = defined 2 1 [] (object_variable (Structure 8) ∷ plain_variable pointer ∷ []) 608
     (declaration (without_value 0 ∷ [])
     ∷ declaration (with_value 1 (cast 2 pointer (parenthesized (offset 2 PointerPlusIndex 1 (decay (lvalue 2 (Array
-        32) (static 1))) (number 2 4)))) ∷ [])
+    32) (static 1))) (number 2 4)))) ∷ [])
     ∷ expression_statement (assign 2 (member 2 pointer 0 (lvalue 2 (Structure 8) (automatic 0))) (address 2 (lvalue 2
-        int (static 0))))
+    int (static 0))))
     ∷ expression_statement (assign 2 (deref 2 (Structure 8) (plain 2 pointer 1)) (read (lvalue 2 (Structure 8)
-        (automatic 0))))
+    (automatic 0))))
     ∷ expression_statement (library 2 int Putchar (binary 2 Add (number 2 48) (read (deref 2 int (read
-        (member_of_value 2 pointer 0 (call 2 (Structure 8) 0 (read (lvalue 2 (Structure 8) (automatic 0)) ∷ [])))))) ∷
-        []))
+    (member_of_value 2 pointer 0 (call 2 (Structure 8) 0 (read (lvalue 2 (Structure 8) (automatic 0)) ∷ [])))))) ∷
+    []))
     ∷ return (Some (read (deref 3 int (read (member_of_value 3 pointer 0 (call 3 (Structure 8) 0 (read (deref 3
-        (Structure 8) (plain 3 pointer 1)) ∷ [])))))))
+    (Structure 8) (plain 3 pointer 1)) ∷ [])))))))
     ∷ [])
 
 program : Program

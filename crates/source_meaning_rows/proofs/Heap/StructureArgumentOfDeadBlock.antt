@@ -20,13 +20,13 @@ use Rattle.std.specs.Prelude.{codes}
 function_f : Function
 function_f = defined 1 0 (object_variable (Structure 16) ∷ []) [] 280
     (return (Some (read (index 1 int (decay (member 1 (Array 16) 0 (lvalue 1 (Structure 16) (automatic 0)))) (number 1
-        3))))
+    3))))
     ∷ [])
 
 function_main : Function
 function_main = defined 1 1 [] (plain_variable pointer ∷ []) 288
     (declaration (with_value 0 (library 1 pointer Malloc (convert (integer_kind UnsignedLong) (number 1 16) ∷ [])) ∷
-        [])
+    [])
     ∷ expression_statement (library 1 Void Free (plain 1 pointer 0 ∷ []))
     ∷ return (Some (call 2 int 0 (read (deref 3 (Structure 16) (plain 3 pointer 0)) ∷ [])))
     ∷ [])

@@ -23,9 +23,9 @@ function_f = defined 1 0 (plain_variable int ∷ []) (object_variable (Structure
     (declaration (without_value 1 ∷ [])
     ∷ expression_statement (assign 1 (member 1 int 0 (lvalue 1 (Structure 24) (automatic 1))) (plain 1 int 0))
     ∷ expression_statement (assign 1 (member 1 pointer 0 (member 1 (Structure 16) 8 (lvalue 1 (Structure 24)
-        (automatic 1)))) (address 1 (lvalue 1 int (static 0))))
+    (automatic 1)))) (address 1 (lvalue 1 int (static 0))))
     ∷ expression_statement (assign 1 (member 1 int 8 (member 1 (Structure 16) 8 (lvalue 1 (Structure 24) (automatic
-        1)))) (binary 1 Add (plain 1 int 0) (number 1 1)))
+    1)))) (binary 1 Add (plain 1 int 0) (number 1 1)))
     ∷ return (Some (read (lvalue 1 (Structure 24) (automatic 1))))
     ∷ [])
 
@@ -33,18 +33,18 @@ function_main : Function
 function_main = defined 2 1 [] (object_variable (Structure 24) ∷ object_variable (Structure 16) ∷ []) 928
     (declaration (without_value 0 ∷ [])
     ∷ expression_statement (assign 2 (lvalue 2 (Structure 24) (automatic 0)) (call 2 (Structure 24) 0 (number 2 3 ∷
-        [])))
+    [])))
     ∷ declaration (with_parts 1 (part 0 (content (read (member_of_value 2 (Structure 16) 8 (call 2 (Structure 24) 0
-        (number 2 4 ∷ []))))) ∷ []) ∷ [])
+    (number 2 4 ∷ []))))) ∷ []) ∷ [])
     ∷ expression_statement (library 2 int Putchar (binary 2 Add (number 2 48) (read (member 2 int 0 (lvalue 2
-        (Structure 24) (automatic 0)))) ∷ []))
+    (Structure 24) (automatic 0)))) ∷ []))
     ∷ expression_statement (library 2 int Putchar (binary 2 Add (number 2 48) (read (deref 2 int (read (member 2
-        pointer 0 (member 2 (Structure 16) 8 (lvalue 2 (Structure 24) (automatic 0))))))) ∷ []))
+    pointer 0 (member 2 (Structure 16) 8 (lvalue 2 (Structure 24) (automatic 0))))))) ∷ []))
     ∷ expression_statement (library 2 int Putchar (binary 2 Add (number 2 48) (read (member 2 int 8 (lvalue 2
-        (Structure 16) (automatic 1)))) ∷ []))
+    (Structure 16) (automatic 1)))) ∷ []))
     ∷ return (Some (binary 2 Add (binary 2 Add (read (deref 2 int (read (member 2 pointer 0 (lvalue 2 (Structure 16)
-        (automatic 1)))))) (read (member_of_value 2 int 0 (call 2 (Structure 24) 0 (number 2 5 ∷ []))))) (read (member
-        2 int 8 (member_of_value 2 (Structure 16) 8 (call 2 (Structure 24) 0 (number 2 6 ∷ [])))))))
+    (automatic 1)))))) (read (member_of_value 2 int 0 (call 2 (Structure 24) 0 (number 2 5 ∷ []))))) (read (member
+    2 int 8 (member_of_value 2 (Structure 16) 8 (call 2 (Structure 24) 0 (number 2 6 ∷ [])))))))
     ∷ [])
 
 program : Program

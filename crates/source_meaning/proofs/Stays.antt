@@ -1,4 +1,5 @@
 -- An expression that does not assign a plain variable leaves it as it was, and keeps all homes.
+use Rattle.source_meaning.specs.Staying.{IsKeptAt, KeptBy, Stays}
 use Rattle.std.proofs.Common.{◌≡◌, ℕ, zero, suc, ◌+◌, List, [], ◌∷◌, Bool, true, false, ◌||◌, ◌==◌, Option, Some, None, get_or, map, refl, sym, ap, ◌∙◌, nat_lt}
 use Rattle.std.proofs.lemmas.Bool.{eqb-false}
 use Rattle.std.proofs.lemmas.List.{get_or-set_other}
@@ -13,6 +14,7 @@ use Rattle.c_tree.specs.declared.expression.Update.{Update}
 use Rattle.c_tree.specs.declared.expression.Kind.{Kind}
 use Rattle.obj_memory.specs.declared.value.Scalar.{Scalar}
 use Rattle.c_tree.specs.Tree.{Expression, expression, Expressions, no_expressions, expressions, Lvalue, lvalue, Node, constant, function, plain, read, decay, address, parenthesized, deref_function, address_function, cast, convert, unary, binary, offset_by, difference, logical_and, logical_or, comma, conditional, assign, assign_plain, compound, change_plain, step, step_plain, call, call_through, library, printf, LvalueNode, automatic, static, deref, index, member, arrow, member_of_value, parenthesized_lvalue, kind_of, line_of, lvalue_kind, lvalue_line}
+use Rattle.c_tree.specs.declared.program.Variable.{Variable}
 use Rattle.c_tree.specs.Programs.{FunctionType, Function, StaticObject, Program}
 use Rattle.source_meaning.specs.Statements.{Completion}
 use Rattle.source_meaning.specs.State.{State, Rvalue, Outcome, Gives, Ended, Paused, Run, on, ◌>>=◌, ◌>>◌, done, pause, choose, read_state, change, Setting, Env}
@@ -21,24 +23,11 @@ use Rattle.source_meaning.specs.Structures.{rvalue, give, as_rvalue, as_pointer,
 use Rattle.source_meaning.specs.Expressions.{counted_as, counted, nodes_of, function_pointer, is_judged, evaluate, value, place, node_place, values}
 use Rattle.source_meaning.specs.Statements.{in_order, each_of}
 use Rattle.c_tree.specs.Blocks.{all_of}
-use Rattle.source_meaning.specs.Calls.{header_of, set_up, caller, back_to, returned_by, result_of, enter_found, function_at, calls}
+use Rattle.source_meaning.specs.Calls.{header_of, set_up, caller, back_to, returned_by, result_of, enter_found, function_at, calls, env_of}
 use Rattle.c_tree.specs.Walk.{assigns, lvalue_assigns, any_assigns}
 use Rattle.source_meaning.proofs.Local.{KeepsBy, IsLocal, local_tally}
 use Rattle.source_meaning.proofs.ActionsAct.{local_operate, local_updated, local_update, local_read_rvalue, local_write_rvalue, local_take_value, local_callee}
 use Rattle.source_meaning.proofs.LibraryActs.{local_routine, local_print}
-
--- where a run gives a value, the variable is as before, and so are all homes
-pub record IsKeptAt (y : ℕ) (s s' : State) : Type 0 where
-  pub plain : plain_value y s' ≡ plain_value y s
-  pub frame : s'.frame ≡ s.frame
-
-abbrev pub KeptBy : {A : Type 0} → ℕ → State → Outcome A → Type 0
-KeptBy y s (Gives a s') = IsKeptAt y s s'
-KeptBy y s (Ended e s') = Unit {0}
-KeptBy y s (Paused s') = Unit {0}
-
-pub record Stays {A : Type 0} (y : ℕ) (r : Run A) : Type 0 where
-  pub stays : (s : State) → KeptBy y s (r s)
 
 from_by : {A : Type 0} (y : ℕ) (s s1 : State) (o : Outcome A) → IsKeptAt y s s1 → KeptBy y s1 o → KeptBy y s o
 from_by y s s1 (Gives a s') p q = record { plain = q.plain ∙ p.plain; frame = q.frame ∙ p.frame }
@@ -222,3 +211,10 @@ pub calls_stay : (y : ℕ) (functions : List Function) (g : Setting) (limit n f 
 calls_stay y functions g limit zero f vs line = record { stays = λ s. tt }
 calls_stay y functions g limit (suc n) f vs line =
     enter_stays y (record { setting = g; variables = []; limit = limit; depth = suc n; call = calls functions g limit n }) (function_at functions f) vs line
+
+-- in the body of a function
+pub expression_stays : (functions : List Function) (g : Setting) (limit n : ℕ) (variables : List Variable) (y : ℕ) (e : Expression) → assigns y e ≡ false → Stays y (evaluate (env_of functions g limit n variables) e)
+expression_stays functions g limit n variables y e = evaluate_stays (env_of functions g limit n variables) y (calls_stay y functions g limit n) e
+
+pub lvalue_stays : (functions : List Function) (g : Setting) (limit n : ℕ) (variables : List Variable) (y : ℕ) (p : Lvalue) → lvalue_assigns y p ≡ false → Stays y (place (env_of functions g limit n variables) p)
+lvalue_stays functions g limit n variables y p = place_stays (env_of functions g limit n variables) y (calls_stay y functions g limit n) p

@@ -31,7 +31,8 @@ use Rattle.source_meaning.proofs.Sure.{stops_then, IsStable, sure_on, sure_weak,
 use Rattle.source_meaning.proofs.SureStructures.{sure_write_rvalue, zero_argument}
 use Rattle.source_meaning.proofs.SureFlow.{sure_begin_turn, row_sure}
 use Rattle.c_tree.specs.Blocks.{all_of, body_variables}
-use Rattle.source_meaning.proofs.Laying.{PlacedHome, Placed, placed_homes, placed_on, AllFrom, placed_from, without_sound, without_low, without_lives, EndsBut, ends_but_then, ends_without, PlacesBy, places}
+use Rattle.source_meaning.proofs.Laying.{PlacedHome, Placed, placed_homes, placed_on, placed_from, without_sound, without_low, without_lives, ends_but_then, ends_without, PlacesBy, places}
+use Rattle.source_meaning.specs.Good.{AllFrom, EndsBut}
 
 -- plain values at entry
 

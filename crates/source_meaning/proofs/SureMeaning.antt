@@ -257,9 +257,9 @@ placed_disjoint first os = record { apart = λ m n other lm ln. by m n other (li
 -- the whole
 
 sound_after : {A : Type 0} (sc : Context) (s : State) (Q : A → Objects → Type 0) (o : Outcome A) → After sc s Q o → IsSoundState (state_of o)
-sound_after sc s Q (Gives a s') h = record { kept = h.0.good.kept; apart = h.0.good.separate.apart }
-sound_after sc s Q (Ended e s') h = record { kept = h.kept; apart = h.apart }
-sound_after sc s Q (Paused s') h = record { kept = h.kept; apart = h.apart }
+sound_after sc s Q (Gives a s') h = record { kept = h.0.good.kept; apart = h.0.good.separate.apart; low = h.0.good.low }
+sound_after sc s Q (Ended e s') h = record { kept = h.kept; apart = h.apart; low = h.low }
+sound_after sc s Q (Paused s') h = record { kept = h.kept; apart = h.apart; low = h.low }
 
 statics_fit : (p : Program) (budgets : BudgetSizes) → statics_first (setting_of p budgets) + statics_end p.statics 0 ≤ stack_first (setting_of p budgets)
 unfolding region_start region_size

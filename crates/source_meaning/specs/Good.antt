@@ -1,6 +1,6 @@
 -- Good states, and what every part of a run makes of them: objects and tags are sound, each variable whose block is entered has its
 -- home in a live object, and what an expression or an lvalue gives is sound.
-use Rattle.std.specs.Prelude.{◌≡◌, ℕ, zero, suc, ◌+◌, ◌<◌, ◌≤◌, Bool, true, false, if◌then◌else◌, List, [], ◌∷◌, Option, Some, None, length, get_or}
+use Rattle.std.specs.Prelude.{◌≡◌, ◌⊎◌, ℕ, zero, suc, ◌+◌, ◌<◌, ◌≤◌, Bool, true, false, if◌then◌else◌, List, [], ◌∷◌, Option, Some, None, length, get_or}
 use Rattle.behaviours.specs.Shown.{Access}
 use Rattle.sb_base.specs.declared.ending.Ending.{Ending}
 use Rattle.obj_memory.specs.declared.value.Value.{Value}
@@ -23,6 +23,8 @@ use Rattle.source_meaning.specs.Library.{routine}
 use Rattle.source_meaning.specs.Printing.{print_formatted}
 use Rattle.source_meaning.specs.Expressions.{header_at, has_type}
 use Rattle.source_meaning.specs.Statements.{Completion, Normal, Broken, Continued, Returned}
+use Rattle.c_tree.specs.Blocks.{opened}
+use Rattle.source_meaning.specs.Blocks.{Block}
 use Rattle.source_meaning.specs.Keeping.{IsKept, LivesOn, IsDirect, IsNamed, AreSeparate}
 
 -- names
@@ -215,3 +217,33 @@ pub record Inside (base : Scope) (boundary : ℕ) (env : Env) : Type 0 where
   pub calling : (variables : List Variable) → Calling (context_of base boundary env.variables variables) env
   pub most : stack_end env.setting ≤ boundary
   pub low : boundary ≤ 1610612736
+
+-- blocks
+
+-- some homes are in objects with numbers from one on
+abbrev pub AllFrom : (n : ℕ) → List Home → Type 0
+AllFrom n [] = Unit {0}
+AllFrom n (NoObject ∷ hs) = AllFrom n hs
+AllFrom n (InObject k ∷ hs) = (n ≤ k) × AllFrom n hs
+
+abbrev pub IsIn : (n : ℕ) → List Home → Type 0
+IsIn n [] = ⊥
+IsIn n (NoObject ∷ hs) = IsIn n hs
+IsIn n (InObject k ∷ hs) = (n ≡ k) ⊎ IsIn n hs
+
+-- objects that are made, and still live, are blocks of the heap, or in one of some homes
+abbrev pub EndsBut : (old new : Objects) → List Home → Type 0
+EndsBut old new homes = (n : ℕ) → length old ≤ n → (object_at new n).is_live ≡ true → (is_allocated (object_at new n).storage ≡ true) ⊎ IsIn n homes
+
+-- a block that declares some variables is entered: these have homes too, in objects that are new
+pub record IsEntered (base : Scope) (boundary : ℕ) (all vars : List Variable) (numbers : List ℕ) (s : State) (b : Block) (s' : State) : Type 0 where
+  pub block : b ≡ record { homes = b.homes; frame = s.frame; stacked = s.stacked }
+  pub good : IsGood (context_of base boundary all (opened numbers 0 all vars)) s'
+  pub lives : LivesOn s.objects s'.objects
+  pub new : AllFrom (length s.objects) b.homes
+  pub ends : EndsBut s.objects s'.objects b.homes
+
+abbrev pub EntersBy : Scope → (boundary : ℕ) → (all vars : List Variable) → (numbers : List ℕ) → State → Outcome Block → Type 0
+EntersBy base boundary all vars numbers s (Gives b s') = IsEntered base boundary all vars numbers s b s'
+EntersBy base boundary all vars numbers s (Ended e s') = Stops s.objects s'
+EntersBy base boundary all vars numbers s (Paused s') = ⊥

@@ -28,10 +28,11 @@ pub record IsKept (objects : Objects) (accesses : List Access) : Type 0 where
   pub sound : IsSound objects
   pub lie : AllLie objects accesses
 
--- what holds of the objects and accesses of a state that a run came to
+-- what holds of the objects and accesses of a state that a run came to; all objects end at 0x60000000 at most, where the heap does
 pub record IsSoundState (s : State) : Type 0 where
   pub kept : IsKept s.objects s.accesses
   pub apart : AreDisjoint s.objects
+  pub low : (n : ℕ) → (object_at s.objects n).address + (object_at s.objects n).size ≤ 1610612736
 
 -- objects live on that no `free` ends
 pub record LivesOn (old new : Objects) : Type 0 where

@@ -19,3 +19,4 @@ pub mod Turns
 pub mod Keeping
 pub mod Good
 pub mod Judging
+pub mod Staying

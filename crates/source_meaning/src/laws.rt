@@ -1,6 +1,6 @@
 //! Laws of the definitions, each as the contract of a function that does nothing: layers above rest on
 //! them.
-ghost use Rattle.std.specs.Prelude.{◌≡◌, ℕ, List, Bool, true, false};
+ghost use Rattle.std.specs.Prelude.{◌≡◌, ◌≤◌, ℕ, List, Bool, true, false};
 ghost use Rattle.behaviours.specs.Behaviour.{IsSource};
 ghost use Rattle.sb_base.specs.Budgets.{BudgetSizes};
 ghost use Rattle.addr_map.specs.Places.{AreMapped};
@@ -32,12 +32,14 @@ ghost use Rattle.source_meaning.specs.Acting.{IsAction, RunsAlike, state_of};
 ghost use Rattle.source_meaning.specs.Turns.{Grows};
 ghost use Rattle.c_tree.specs.Tree.{Expression, Expressions, Lvalue, kind_of, kinds_of, lvalue_kind};
 ghost use Rattle.c_tree.specs.Statements.{DeclaredVariable, Statement};
-ghost use Rattle.c_tree.specs.Blocks.{all_of};
+ghost use Rattle.c_tree.specs.Blocks.{all_of, block_objects, opened};
+ghost use Rattle.c_tree.specs.Walk.{assigns, lvalue_assigns};
+ghost use Rattle.source_meaning.specs.Staying.{Stays};
 ghost use Rattle.c_tree.specs.Valid.{Scope, are_valid, is_valid, is_valid_lvalue};
 ghost use Rattle.source_meaning.specs.Initializers.{initialize_all};
-ghost use Rattle.source_meaning.specs.Places.{heap_first};
+ghost use Rattle.source_meaning.specs.Places.{heap_first, stack_end};
 ghost use Rattle.source_meaning.specs.Statements.{execute};
-ghost use Rattle.source_meaning.specs.Good.{Any, ArgumentIs, ArgumentsAre, basis_of, Calling, CompletionIs, Context, context_of, file_scope, Inside, IsGood, LvalueIs, signature_in, Sure, ValueIs};
+ghost use Rattle.source_meaning.specs.Good.{EntersBy, IsEntered, Leaves, Any, ArgumentIs, ArgumentsAre, basis_of, Calling, CompletionIs, Context, context_of, file_scope, Inside, IsGood, LvalueIs, signature_in, Sure, ValueIs};
 ghost use Rattle.source_meaning.specs.Judging.{tested};
 ghost use Rattle.source_meaning.specs.Keeping.{IsDirect, IsSoundState};
 
@@ -167,4 +169,29 @@ pub fn calls_keep_states_good()
 /// that names its object.
 pub fn judgement_is_two_tests()
     ensures { (size : ℕ) (v : Value) (line : ℕ) (s : State) → located true size v line s ≡ tested size v line s }
+{}
+
+/// A block that is entered from a good state is ended in it, or leaves a good one in which its variables have homes too; where
+/// it is left, the names around it are good again.
+pub fn blocks_keep_states_good()
+    ensures enter { (base : Scope) (boundary : ℕ) (all vars : List Variable) (numbers : List ℕ) (g : Setting)
+        → stack_end g ≤ boundary → boundary ≤ 1610612736 → (line : ℕ) (s : State)
+        → IsGood (context_of base boundary all vars) s
+        → EntersBy base boundary all vars numbers s (enter_block g (block_objects all numbers) line s) }
+    ensures leave { (base : Scope) (boundary : ℕ) (all vars : List Variable) (numbers : List ℕ) (s : State)
+        → IsGood (context_of base boundary all vars) s → (b : Block) (s1 s2 : State)
+        → IsEntered base boundary all vars numbers s b s1
+        → Leaves (context_of base boundary all (opened numbers 0 all vars)) s1 s2
+        → Leaves (context_of base boundary all vars) s (leave_block b s2) }
+{}
+
+/// A plain variable that an expression or an lvalue does not assign, and every home, is as before; a call gives the caller all of
+/// its variables back.
+pub fn unassigned_variables_stay()
+    ensures expression { (functions : List Function) (g : Setting) (limit n : ℕ) (variables : List Variable) (y : ℕ)
+        (e : Expression) → assigns y e ≡ false → Stays y (evaluate (env_of functions g limit n variables) e) }
+    ensures lvalue { (functions : List Function) (g : Setting) (limit n : ℕ) (variables : List Variable) (y : ℕ)
+        (p : Lvalue) → lvalue_assigns y p ≡ false → Stays y (place (env_of functions g limit n variables) p) }
+    ensures call { (y : ℕ) (functions : List Function) (g : Setting) (limit n f : ℕ) (vs : List Rvalue) (line : ℕ)
+        → Stays y (calls functions g limit n f vs line) }
 {}

@@ -3,6 +3,7 @@ pub mod Complete
 pub mod Composition
 pub mod Answering
 pub mod Execution
+pub mod FirstPath
 pub mod Judging
 pub mod Listed
 pub mod Machine
@@ -14,4 +15,6 @@ pub mod Spelling
 pub mod Steps
 pub mod Theorem
 pub mod Trees
+pub mod TypedTrees
+pub mod ValidTrees
 pub mod Words

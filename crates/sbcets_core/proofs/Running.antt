@@ -1,5 +1,5 @@
 -- The run of an image by the machine that loads it.
-use Rattle.std.proofs.Common.{◌≡◌, ℕ, zero, suc, List, ◌++◌, Option, Some, None, refl, sym, ap, ◌∙◌, subst}
+use Rattle.std.proofs.Common.{◌≡◌, ℕ, List, ◌++◌, Option, Some, None, refl, sym, ap, ◌∙◌, subst}
 use Rattle.behaviours.specs.Shown.{Fault, Shown}
 use Rattle.elf_image.specs.Content.{Content}
 use Rattle.elf_image.specs.Layout.{content_of}
@@ -17,7 +17,8 @@ use Rattle.sb_outside.specs.Rest.{ForEveryInput}
 use Rattle.sb_outside.proofs.Gains.{gained_nil}
 use Rattle.sb_outside.proofs.Takings.{gives_some, map_inputs}
 use Rattle.sbcets_core.specs.Source.{SourceProgram}
-use Rattle.sbcets_core.specs.Meaning.{meaning}
+use Rattle.sb_base.specs.Budgets.{default_sizes}
+use Rattle.sbcets_core.proofs.TypedTrees.{tree_of, is_typed_tree, defaults_in_range, ends_no_fault}
 use Rattle.sbcets_core.specs.Faithful.{IsFaithfulImage}
 use Rattle.sbcets_core.specs.Accepted.{IsBuiltFrom}
 use Rattle.sbcets_core.specs.Commands.{Streams, RunsImage}
@@ -50,18 +51,12 @@ runs_image image content machine state limit stop before after readable same loa
       run = from_start (start_of (content_of image)) state limit stop before after told_of;
     }
 
--- no program of the source ends in a fault
-no_fault : (program : SourceProgram) (input : List ℕ) (n : ℕ) → (meaning program input n).shown.ending ≡ Some Fault → ⊥
-unfolding meaning
-no_fault program input zero e = cc
-no_fault program input (suc n) e = cc
-
 no_trap : (program : SourceProgram) (image input : List ℕ) (n : ℕ) (kind : TrapKind) (pc : ℕ) → IsFaithfulImage program image → (runs n (begun (start_of (content_of image)) input)).1 ≡ Some (stops.Trap kind pc) → ⊥
 unfolding behaviour
 no_trap program image input n kind pc f e =
     let s = start_of (content_of image) in
     let ended : (behaviour s input n).shown.ending ≡ Some Fault = ap end_of e in
-    no_fault program input n (ap (λ (x : Shown). x.ending) ((f.faithful input).ends_as_source n Fault ended) ∙ ended)
+    ends_no_fault program input n (ap (λ (x : Shown). x.ending) ((f.faithful (tree_of program) default_sizes (is_typed_tree program) defaults_in_range input).ends_as_source n Fault ended) ∙ ended)
 
 -- an image that was built never traps
 pub never_traps : (source image : List ℕ) (limit : ℕ) (kind : TrapKind) (pc : ℕ) (before after : Streams) → IsBuiltFrom source image → RunsImage image limit (stops.Trap kind pc) before after → ⊥

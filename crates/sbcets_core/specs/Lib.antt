@@ -14,3 +14,4 @@ pub mod Parting
 pub mod Source
 pub mod Top
 pub mod Trees
+pub mod TypedProgram

@@ -1,7 +1,7 @@
 #!/bin/sh
 # Prints the output and the status that gcc gives for each text that `determined` names, on the input NAME.in where there
 # is one: those whose run ends without a violation, and whose result C99 determines where integers wrap and plain char is
-# unsigned. The rows of crates/source_meaning/proofs were compared with gcc (Debian 12.2.0-14+deb12u1) 12.2.0.
+# unsigned. The rows of crates/source_meaning_rows/proofs were compared with gcc (Debian 12.2.0-14+deb12u1) 12.2.0.
 set -eu
 cd "$(dirname "$0")"
 made=$(mktemp -d)

@@ -1,1 +1,2 @@
 pub mod Alignments
+pub mod Layouts

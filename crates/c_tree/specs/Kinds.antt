@@ -1,5 +1,5 @@
 -- Kinds of values, and what operators and library routines take and give (C99 6.5, 7.19 to 7.21).
-use Rattle.std.specs.Prelude.{ℕ, ◌+◌, Bool, true, false, ◌&&◌, ◌||◌, ◌==◌, nat_le, List, [], ◌∷◌}
+use Rattle.std.specs.Prelude.{ℕ, ◌+◌, ◌^◌, Bool, true, false, ◌&&◌, ◌||◌, ◌==◌, nat_le, List, [], ◌∷◌}
 use Rattle.obj_memory.specs.declared.int_type.IntType.{IntType}
 use Rattle.obj_memory.specs.declared.int_type.IntType.TheVariants.{Char, SignedChar, UnsignedChar, Short, UnsignedShort, Int, UnsignedInt, Long, UnsignedLong, LongLong, UnsignedLongLong}
 use Rattle.obj_memory.specs.declared.operator.BinaryOperator.{BinaryOperator}
@@ -59,6 +59,13 @@ size_of_kind (kind.Scalar s) = scalar_size s
 size_of_kind (kind.Structure size) = size
 size_of_kind (kind.Array size) = size
 
+-- an object, a member and an element have from 1 to 2^32 bytes
+abbrev pub is_size : ℕ → Bool
+is_size n = nat_le 1 n && nat_le n (2 ^ 32)
+
+abbrev pub has_size : Kind → Bool
+has_size k = is_size (size_of_kind k)
+
 abbrev pub is_integer : Kind → Bool
 is_integer (kind.Scalar (Integer t)) = true
 is_integer _ = false
@@ -112,6 +119,12 @@ class_of LessOrEqual = Comparison
 class_of GreaterOrEqual = Comparison
 class_of Equal = Comparison
 class_of NotEqual = Comparison
+
+-- `+` and `-`, by which `++` and `--` step (6.5.2.4, 6.5.3.1)
+abbrev pub is_step_operator : BinaryOperator → Bool
+is_step_operator Add = true
+is_step_operator Subtract = true
+is_step_operator op = false
 
 -- operands of two kinds and a result of a third, of an operator (6.5.5 to 6.5.12)
 abbrev pub are_operands : OperatorClass → (left right result : Kind) → Bool

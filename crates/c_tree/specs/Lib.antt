@@ -1,7 +1,15 @@
 pub mod Extents
 pub mod Layout
+pub mod Members
 pub mod Kinds
+pub mod Format
+pub mod Tree
+pub mod Statements
+pub mod Programs
+pub mod View
+pub mod Walk
+pub mod Blocks
 pub mod Room
 pub mod Valid
-pub mod Format
+pub mod TypesAgree
 pub mod ValidProgram

@@ -11,12 +11,16 @@ use std::marker::Model;
 pub enum TypeWord {
     /// `void`
     Void,
-    /// An integer type; an enumeration is `int` (6.7.2.2).
+    /// An integer type.
     Integer(IntType),
+    /// An enumeration, by the number of its declaration; its values are ints (6.7.2.2).
+    Enumeration(usize),
     /// "pointer to"
     Pointer,
     /// "array of so many", and the bytes of all its elements, at most 2^32 + 1 of them counted.
     Array { count: u64, bytes: u64 },
+    /// "array of an unknown size of" (6.7.5.2 paragraph 4)
+    OpenArray,
     /// A structure or union, by the number of its declaration.
     Structure(usize),
     /// "constant" (6.7.3)

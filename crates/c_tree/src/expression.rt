@@ -3,7 +3,7 @@
 
 use obj_memory::{BinaryOperator, IntType, Scalar, UnaryOperator};
 use sb_base::Line;
-use std::alloc::Global;
+use tree_containers::{Boxed, Items};
 
 /// What kind of value an expression gives, or of object an lvalue designates.
 #[derive(Clone, Copy, Debug, PartialEq, Eq)]
@@ -12,7 +12,7 @@ pub enum Kind {
     Void,
     /// An integer or a pointer.
     Scalar(Scalar),
-    /// A structure or union of so many bytes. Its value is a pointer to the place that it was read from.
+    /// A structure or union of so many bytes.
     Structure(u64),
     /// An array of so many bytes. Only lvalues have it.
     Array(u64),
@@ -102,56 +102,58 @@ pub enum Node {
     /// The name of a plain variable, by its number in the function.
     Plain(usize),
     /// What an lvalue holds (6.3.2.1).
-    Read(Box<Lvalue>),
+    Read(Boxed<Lvalue>),
     /// The pointer to the first byte of an array (6.3.2.1).
-    Decay(Box<Lvalue>),
+    Decay(Boxed<Lvalue>),
     /// `&L` (6.5.3.2).
-    Address(Box<Lvalue>),
+    Address(Boxed<Lvalue>),
     /// `(E)` (6.5.1).
-    Parenthesized(Box<Expression>),
-    /// `*E` or `&E`, where E is a pointer to a function or its name: the same pointer (6.5.3.2).
-    FunctionDesignator(Box<Expression>),
+    Parenthesized(Boxed<Expression>),
+    /// `*E`, where E is a pointer to a function: the function, which is that pointer again (6.5.3.2, 6.3.2.1).
+    DerefFunction(Boxed<Expression>),
+    /// `&E`, where E is the name of a function or `*` of a pointer to one: that pointer (6.5.3.2).
+    AddressFunction(Boxed<Expression>),
     /// `(T)E`: a conversion to the kind of the node (6.5.4).
-    Cast(Box<Expression>),
+    Cast(Boxed<Expression>),
     /// An implicit conversion to the kind of the node (6.3).
-    Convert(Box<Expression>),
+    Convert(Boxed<Expression>),
     /// `+E`, `-E`, `~E` of a promoted operand, and `!E` of any scalar (6.5.3.3).
-    Unary(UnaryOperator, Box<Expression>),
+    Unary(UnaryOperator, Boxed<Expression>),
     /// An operator on integers of one type, of a shift at a promoted left operand; a comparison of two pointers too (6.5.5 to
     /// 6.5.12).
-    Binary(BinaryOperator, Box<Expression>, Box<Expression>),
-    /// A pointer and an index, and the bytes of an element (6.5.6).
-    Offset(OffsetForm, u64, Box<Expression>, Box<Expression>),
+    Binary(BinaryOperator, Boxed<Expression>, Boxed<Expression>),
+    /// A pointer and an index, and the bytes of an element (6.5.6). The index counts as it stands, without a conversion.
+    Offset(OffsetForm, u64, Boxed<Expression>, Boxed<Expression>),
     /// `P - Q` of two pointers, and the bytes of an element (6.5.6).
-    Difference(u64, Box<Expression>, Box<Expression>),
+    Difference(u64, Boxed<Expression>, Boxed<Expression>),
     /// `E && F` (6.5.13).
-    And(Box<Expression>, Box<Expression>),
+    And(Boxed<Expression>, Boxed<Expression>),
     /// `E || F` (6.5.14).
-    Or(Box<Expression>, Box<Expression>),
+    Or(Boxed<Expression>, Boxed<Expression>),
     /// `E , F` (6.5.17).
-    Comma(Box<Expression>, Box<Expression>),
+    Comma(Boxed<Expression>, Boxed<Expression>),
     /// `C ? E : F` (6.5.15).
-    Conditional(Box<Expression>, Box<Expression>, Box<Expression>),
+    Conditional(Boxed<Expression>, Boxed<Expression>, Boxed<Expression>),
     /// `L = E`, of a scalar, or of a structure or union that is moved with its tags (6.5.16.1).
-    Assign(Box<Lvalue>, Box<Expression>),
+    Assign(Boxed<Lvalue>, Boxed<Expression>),
     /// `x = E` of a plain variable.
-    SetPlain(PlainName, Box<Expression>),
+    SetPlain(PlainName, Boxed<Expression>),
     /// `L op= E` (6.5.16.2).
-    Compound(Update, Box<Lvalue>, Box<Expression>),
+    Compound(Update, Boxed<Lvalue>, Boxed<Expression>),
     /// `x op= E` of a plain variable.
-    ChangePlain(Update, PlainName, Box<Expression>),
+    ChangePlain(Update, PlainName, Boxed<Expression>),
     /// `++` or `--` of an lvalue: the update by 1 (6.5.2.4, 6.5.3.1).
-    Step(Update, Fixity, Box<Lvalue>),
+    Step(Update, Fixity, Boxed<Lvalue>),
     /// `++` or `--` of a plain variable.
     StepPlain(Update, Fixity, PlainName),
     /// `f(E, ..)` with the plain name of a function of the source, by its number (6.5.2.2).
-    Call(usize, Vec<Expression>),
+    Call(usize, Items<Expression>),
     /// A call through a pointer to a function of the type with this number.
-    CallThrough(usize, Box<Expression>, Vec<Expression>),
+    CallThrough(usize, Boxed<Expression>, Items<Expression>),
     /// A call of a library routine.
-    Library(Routine, Vec<Expression>),
+    Library(Routine, Items<Expression>),
     /// A call of `printf`: the bytes of its format, and the arguments behind it (7.19.6.1).
-    Printf(Vec<u8>, Vec<Expression>),
+    Printf(Items<u8>, Items<Expression>),
 }
 
 /// An lvalue (C99 6.3.2.1) that designates an object or a part of one.
@@ -175,15 +177,15 @@ pub enum LvalueNode {
     /// The name of a static object, or a string literal, by its number.
     Static(usize),
     /// `*E` (6.5.3.2).
-    Deref(Box<Expression>),
+    Deref(Boxed<Expression>),
     /// `E[F]`, and the bytes of an element (6.5.2.1).
-    Index(OffsetForm, u64, Box<Expression>, Box<Expression>),
+    Index(OffsetForm, u64, Boxed<Expression>, Boxed<Expression>),
     /// `L.m`: the offset and the bytes of m (6.5.2.3).
-    Member(Box<Lvalue>, u64, u64),
+    Member(Boxed<Lvalue>, u64, u64),
     /// `E->m`: the offset and the bytes of m (6.5.2.3).
-    Arrow(Box<Expression>, u64, u64),
+    Arrow(Boxed<Expression>, u64, u64),
     /// `E.m`, where E is a structure value and no lvalue: the offset and the bytes of m (6.5.2.3).
-    MemberOfValue(Box<Expression>, u64, u64),
+    MemberOfValue(Boxed<Expression>, u64, u64),
     /// `(L)` (6.5.1).
-    Parenthesized(Box<Lvalue>),
+    Parenthesized(Boxed<Lvalue>),
 }

@@ -84,14 +84,15 @@ impl Extent {
         }
     }
 
-    /// That of a type, where it is complete, among structures and unions that have these. `void`, functions and
-    /// structures without one are not complete (6.2.5).
+    /// That of a type, where it is complete, among structures and unions that have these. `void`, functions, arrays
+    /// of an unknown size and structures without one are not complete (6.2.5).
     #[tactic(auto, unfolding(crate::specs::Extents::extent_of))]
     pub fn of_type(structures: &[Option<Extent>], words: &[TypeWord]) -> Option<Extent>
         ensures { result ≡ extent_of structures.now words.now }
     {
         match words {
             [TypeWord::Integer(t), ..] => Some(Extent::of_integer(*t)),
+            [TypeWord::Enumeration(_), ..] => Some(Extent::of_integer(IntType::Int)),
             [TypeWord::Pointer, ..] => Some(Extent::of_pointer()),
             [TypeWord::Structure(n), ..] => Extent::of_structure(structures, *n),
             [TypeWord::Const, behind @ ..] => Extent::of_type(structures, behind),

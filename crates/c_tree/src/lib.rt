@@ -4,6 +4,7 @@
 pub mod c_type;
 pub mod expression;
 pub mod format;
+pub mod laws;
 pub mod layout;
 pub mod program;
 pub mod statement;
@@ -16,5 +17,5 @@ pub use crate::format::{Directive, Piece};
 pub use crate::layout::{Extent, MAX_SIZE, array_size, member_offsets, structure_of, union_of};
 pub use crate::program::{Function, FunctionType, Program, StaticObject, Variable};
 pub use crate::statement::{
-    CaseLabel, Content, First, Initialization, Part, Statement, SwitchItem,
+    CaseLabel, Content, DeclaredVariable, First, Initializer, Part, Statement, SwitchItem,
 };

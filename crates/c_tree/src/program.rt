@@ -2,9 +2,10 @@
 
 use crate::c_type::CType;
 use crate::expression::Kind;
+use crate::layout::Extent;
 use crate::statement::{Part, Statement};
 use sb_base::Line;
-use std::alloc::Global;
+use tree_containers::Items;
 
 /// A parameter or automatic variable of a function.
 #[derive(Clone, Copy, Debug, PartialEq, Eq)]
@@ -21,7 +22,7 @@ pub struct FunctionType {
     /// The type itself.
     pub c_type: CType,
     /// What its parameters hold, arrays and functions adjusted to pointers.
-    pub parameters: Vec<Kind>,
+    pub parameters: Items<Kind>,
     /// What its functions give.
     pub result: Kind,
 }
@@ -34,11 +35,11 @@ pub struct Function {
     /// The number of its type among the function types of the program.
     pub type_number: usize,
     /// Its parameters, which have the first numbers of its variables.
-    pub parameters: Vec<Variable>,
+    pub parameters: Items<Variable>,
     /// Its automatic variables in order of declaration, which have the next numbers.
-    pub variables: Vec<Variable>,
+    pub variables: Items<Variable>,
     /// The statements and declarations of its block.
-    pub body: Vec<Statement>,
+    pub body: Items<Statement>,
     /// The bytes of the budget `calls` that a call of it takes.
     pub room: u64,
 }
@@ -50,19 +51,23 @@ pub struct StaticObject {
     pub kind: Kind,
     /// Whether it is a string literal, which has no name.
     pub is_literal: bool,
+    /// The number of the function in whose block it stands, where it stands in one.
+    pub function: Option<usize>,
     /// Its initializer.
-    pub parts: Vec<Part>,
+    pub parts: Items<Part>,
 }
 
 /// A program.
 #[derive(Drop)]
 pub struct Program {
+    /// The sizes and alignments of the structures and unions, by number, where they are complete.
+    pub structures: Items<Option<Extent>>,
     /// The static objects in the order in which their names or their tokens stand.
-    pub statics: Vec<StaticObject>,
+    pub statics: Items<StaticObject>,
     /// The types of functions, all different.
-    pub function_types: Vec<FunctionType>,
+    pub function_types: Items<FunctionType>,
     /// The functions in the order of their definitions.
-    pub functions: Vec<Function>,
+    pub functions: Items<Function>,
     /// The number of `main`.
     pub main: usize,
 }

@@ -1,9 +1,11 @@
 //! Typed statements and initializers (C99 6.7.8, 6.8).
 
 use crate::expression::Expression;
-use std::alloc::Global;
+use sb_base::Line;
+use tree_containers::{Boxed, Items};
 
-/// A part of an initializer (6.7.8): what stands from an offset on in the object.
+/// A part of an initializer (6.7.8): what stands from an offset on in the object. Typing removes a part that a later one
+/// overrides (6.7.8 paragraph 19).
 #[derive(Drop)]
 pub struct Part {
     pub offset: u64,
@@ -16,16 +18,25 @@ pub enum Content {
     /// A scalar, or a structure or union that is moved.
     Value(Expression),
     /// The bytes of a string literal that fills an array, its final 0 too where it fits.
-    Literal(Vec<u8>),
+    Literal(Items<u8>),
 }
 
-/// The initializer of a variable, by its number in the function.
+/// The initializer of a variable.
 #[derive(Drop)]
-pub enum Initialization {
+pub enum Initializer {
     /// Of a plain variable.
-    Plain(usize, Expression),
+    Plain(Expression),
     /// Of an automatic object: all its bytes become zero, then the parts are stored in their order.
-    Object(usize, Vec<Part>),
+    Object(Items<Part>),
+}
+
+/// A variable that a declaration declares, by its number in the function (6.7).
+#[derive(Drop)]
+pub struct DeclaredVariable {
+    /// Its number in the function.
+    pub variable: usize,
+    /// Its initializer, where it has one.
+    pub initializer: Option<Initializer>,
 }
 
 /// The first part of a `for` (6.8.5.3).
@@ -33,7 +44,7 @@ pub enum Initialization {
 pub enum First {
     Nothing,
     Expression(Expression),
-    Declaration(Vec<Initialization>),
+    Declaration(Items<DeclaredVariable>),
 }
 
 /// A label of a switch (6.8.1).
@@ -53,20 +64,22 @@ pub enum Statement {
     Expression(Expression),
     /// `;`
     Empty,
-    /// A declaration in a block: the initializers of its variables in order. It counts as no statement.
-    Declaration(Vec<Initialization>),
-    /// `{ .. }`
-    Block(Vec<Statement>),
-    /// `if (E) S`, and with `else S`
-    If(Expression, Box<Statement>, Option<Box<Statement>>),
+    /// A declaration in a block: all its automatic variables in order. It counts as no statement.
+    Declaration(Items<DeclaredVariable>),
+    /// `{ .. }`, with the line of its `{`.
+    Block(Line, Items<Statement>),
+    /// `if (E) S`
+    If(Expression, Boxed<Statement>),
+    /// `if (E) S else S`
+    IfElse(Expression, Boxed<Statement>, Boxed<Statement>),
     /// `while (E) S`
-    While(Expression, Box<Statement>),
+    While(Expression, Boxed<Statement>),
     /// `do S while (E);`
-    DoWhile(Box<Statement>, Expression),
-    /// `for (..; E; E) S`: the first part, the condition, the step and the body.
-    For(First, Option<Expression>, Option<Expression>, Box<Statement>),
-    /// `switch (E) { .. }`: the items of its block.
-    Switch(Expression, Vec<SwitchItem>),
+    DoWhile(Boxed<Statement>, Expression),
+    /// `for (..; E; E) S`: the line of the word, the first part, the condition, the step and the body.
+    For(Line, First, Option<Expression>, Option<Expression>, Boxed<Statement>),
+    /// `switch (E) { .. }`: the value, the line of `{`, and the items of its block.
+    Switch(Expression, Line, Items<SwitchItem>),
     /// `break;`
     Break,
     /// `continue;`
@@ -79,6 +92,6 @@ pub enum Statement {
 #[derive(Drop)]
 #[cycle(statement)]
 pub struct SwitchItem {
-    pub labels: Vec<CaseLabel>,
+    pub labels: Items<CaseLabel>,
     pub statement: Statement,
 }

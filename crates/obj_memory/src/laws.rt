@@ -13,8 +13,8 @@ ghost use Rattle.obj_memory.specs.declared.object.Storage.TheVariants.{Allocated
 ghost use Rattle.obj_memory.specs.declared.value.Tag.TheVariants.{Untagged};
 ghost use Rattle.obj_memory.specs.declared.value.Scalar.TheVariants.{Integer, Pointer};
 ghost use Rattle.obj_memory.specs.declared.judgement.Verdict.TheVariants.{Inside};
-ghost use Rattle.obj_memory.specs.Integers.{fit, size_of};
-ghost use Rattle.obj_memory.specs.Operators.{unary_value, binary_value};
+ghost use Rattle.obj_memory.specs.Integers.{fit, is_signed, size_of};
+ghost use Rattle.obj_memory.specs.Operators.{shift_right, unary_value, binary_value};
 ghost use Rattle.obj_memory.specs.Objects.{Objects, object_at, new_object, with_new, with_dead, with_zeroed, pointer_to};
 ghost use Rattle.obj_memory.specs.Judgement.{judge, named, moved, narrowed};
 ghost use Rattle.obj_memory.specs.Access.{scalar_size, overwrite, read_value, write_value, kept_value, write_bytes, bytes_at, tag_at, tag_of, move_range};
@@ -36,6 +36,15 @@ pub fn operators_give_words()
     ensures unary { (op : UnaryOperator) (t : IntType) (x : ℕ) → unary_value op t x < 2 ^ 64 }
     ensures binary { (op : BinaryOperator) (t : IntType) (x y : ℕ) → x < 2 ^ 64 → y < 2 ^ 64
         → IfSome (binary_value op t x y) (λ z. z < 2 ^ 64) }
+{}
+
+/// What an operator gives at words of a type is a word of that type, so bitwise operators and shifts to the
+/// right, which convert nothing, need no conversion. The amount of a shift may be of any type.
+pub fn operators_stay_in_their_type()
+    ensures value { (op : BinaryOperator) (t : IntType) (x y : ℕ) → fit t x ≡ x → fit t y ≡ y
+        → IfSome (binary_value op t x y) (λ z. fit t z ≡ z) }
+    ensures shift { (t : IntType) (x by : ℕ) → fit t x ≡ x
+        → fit t (shift_right (is_signed t) x by) ≡ shift_right (is_signed t) x by }
 {}
 
 /// At the place of a write its value is read, as the scalar there keeps it, and what was read at a

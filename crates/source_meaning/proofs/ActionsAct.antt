@@ -27,16 +27,17 @@ use Rattle.c_tree.specs.declared.expression.Update.{Update}
 use Rattle.c_tree.specs.declared.expression.Update.TheVariants.{Arithmetic, Forward, Back}
 use Rattle.c_tree.specs.declared.expression.Fixity.{Fixity}
 use Rattle.c_tree.specs.declared.program.Variable.{Variable}
-use Rattle.source_meaning.specs.declared.home.Home.{Home}
-use Rattle.source_meaning.specs.declared.home.Home.TheVariants.{PlainValue, InObject}
+use Rattle.source_meaning.specs.State.{Home}
+use Rattle.source_meaning.specs.State.{NoObject, InObject}
 use Rattle.source_meaning.specs.State.{Run, change, Header, Setting}
 use Rattle.c_tree.specs.Kinds.{size_of_kind}
 use Rattle.source_meaning.specs.Actions.{integer, value_or_divide, operate, updated, given, set_plain, update_plain, place_or_stop, located, note, read_scalar, write_scalar, move_bytes, load, store, update, load_structure, copy_structure, read_lvalue, write_lvalue, make_object, put_bytes, take_key}
 use Rattle.source_meaning.specs.Expressions.{callee_by, callee}
 use Rattle.source_meaning.specs.Initializers.{zero_object, zero_home, zero_variable, store_bytes}
-use Rattle.source_meaning.specs.Calls.{pass_or_stop, test_charge, test_stack, test_keys, call_tests, first_of, rest_of, set_plain_values, place_object, place_variables, write_parameter, write_parameters, lay_out, set_up, Caller, without_homes, back_to}
+use Rattle.source_meaning.specs.Calls.{body_objects, test_charge, call_tests, first_of, rest_of, set_plain_values, write_parameter, write_parameters, lay_out, set_up, Caller, back_to}
+use Rattle.source_meaning.specs.Blocks.{pass_or_stop, place_object, place_variables, without_homes, test_space, test_keys, homes_over, Block, place_block, enter_block, leave_block}
 use Rattle.source_meaning.specs.Acting.{IsAction}
-use Rattle.source_meaning.proofs.Acting.{acts_on, acts_then, acts_done, acts_skip, acts_stop, acts_choose, acts_tally, acts_change, acts_private, changes, basic}
+use Rattle.source_meaning.proofs.Acting.{acts_on, acts_then, acts_done, acts_skip, acts_stop, acts_choose, acts_tally, acts_change, acts_private, changes, basic, acts_read}
 use Rattle.source_meaning.proofs.Local.{IsLocal, local_on, local_then, local_done, local_skip, local_stop, local_choose, local_tally, local_changes, local_basic}
 
 -- accesses
@@ -182,7 +183,7 @@ local_zero_object : (o : ℕ) → IsLocal (zero_object o)
 local_zero_object o = search (local_basic, local_changes) depth 9
 
 local_zero_home : (home : Home) → IsLocal (zero_home home)
-local_zero_home PlainValue = local_skip
+local_zero_home NoObject = local_skip
 local_zero_home (InObject o) = local_zero_object o
 
 pub local_zero_variable : (x : ℕ) → IsLocal (zero_variable x)
@@ -242,18 +243,18 @@ acts_pass_or_stop : (b : Bool) (e : Ending) → IsAction (pass_or_stop b e)
 acts_pass_or_stop true e = acts_skip
 acts_pass_or_stop false e = acts_stop
 
+acts_test_space : (g : Setting) (vs : List Variable) (line : ℕ) → IsAction (test_space g vs line)
+acts_test_space g vs line = search (basic, acts_pass_or_stop)
+
+acts_test_keys : (g : Setting) (vs : List Variable) (line : ℕ) → IsAction (test_keys g vs line)
+acts_test_keys g vs line = acts_choose _ (acts_take_key g line) acts_skip
+
 module _ (g : Setting) (f : Header) (line : ℕ) where
   acts_test_charge : IsAction (test_charge g f line)
   acts_test_charge = search (basic, acts_pass_or_stop)
 
-  acts_test_stack : IsAction (test_stack g f line)
-  acts_test_stack = search (basic, acts_pass_or_stop)
-
-  acts_test_keys : IsAction (test_keys g f line)
-  acts_test_keys = acts_choose _ (acts_take_key g line) acts_skip
-
   pub acts_call_tests : IsAction (call_tests g f line)
-  acts_call_tests = acts_then acts_test_charge (acts_then acts_test_stack acts_test_keys)
+  acts_call_tests = acts_then acts_test_charge (acts_then (acts_test_space g (body_objects f) line) (acts_test_keys g (body_objects f) line))
 
 acts_place_object : (size : ℕ) → IsAction (place_object size)
 acts_place_object size = search (basic, changes, acts_make_object) depth 9
@@ -264,7 +265,7 @@ acts_place_variables (v ∷ vs) =
     acts_on (acts_choose v.is_object (acts_place_object (size_of_kind v.kind)) acts_done) (λ home. acts_on (acts_place_variables vs) (λ homes. acts_done))
 
 acts_write_parameter : (kind : Kind) (home : Home) (line : ℕ) (v : Value) → IsAction (write_parameter kind home line v)
-acts_write_parameter kind PlainValue line v = acts_skip
+acts_write_parameter kind NoObject line v = acts_skip
 acts_write_parameter kind (InObject o) line v = search (basic, acts_write_lvalue)
 
 acts_write_parameters : (ps : List Variable) (homes : List Home) (line : ℕ) (vs : List Value) → IsAction (write_parameters ps homes line vs)
@@ -284,9 +285,22 @@ acts_set_up g f vs line = acts_then (acts_tally 1) (acts_then (acts_call_tests g
 
 pub continues_without : (homes : List Home) (objects : Objects) → Continues objects (without_homes homes objects)
 continues_without [] objects = continues_same objects
-continues_without (PlainValue ∷ homes) objects = continues_without homes objects
+continues_without (NoObject ∷ homes) objects = continues_without homes objects
 continues_without (InObject o ∷ homes) objects =
     continues_then objects (with_dead o objects) (without_homes homes (with_dead o objects)) (continues_dead o objects) (continues_without homes (with_dead o objects))
 
 pub acts_back_to : (c : Caller) → IsAction (change (back_to c))
 acts_back_to c = acts_change (λ k s. refl) (λ s. refl) (λ s. refl) (λ s. refl) (λ s. refl) (λ s. refl) (λ s. omega arith) (λ s. continues_without s.frame s.objects)
+
+-- blocks
+
+acts_place_block : (vs : List Variable) → IsAction (place_block vs)
+acts_place_block vs =
+    acts_on (acts_read {f = λ s. s.frame} (λ k s. refl)) (λ frame. acts_on (acts_read {f = λ s. s.stacked} (λ k s. refl)) (λ top. acts_on (acts_place_variables vs) (λ homes.
+    acts_on (acts_private {f = λ z. record z { frame = homes_over frame homes }} (λ k s. refl) (λ s. refl) (λ s. refl) (λ s. refl) (λ s. refl) (λ s. refl) (λ s. refl) (λ s. refl)) (λ _. acts_done {a = record { homes = homes; frame = frame; stacked = top }}))))
+
+pub acts_enter_block : (g : Setting) (vs : List Variable) (line : ℕ) → IsAction (enter_block g vs line)
+acts_enter_block g vs line = acts_then (acts_test_space g vs line) (acts_then (acts_test_keys g vs line) (acts_place_block vs))
+
+pub acts_leave_block : (b : Block) → IsAction (change (leave_block b))
+acts_leave_block b = acts_change (λ k s. refl) (λ s. refl) (λ s. refl) (λ s. refl) (λ s. refl) (λ s. refl) (λ s. omega arith) (λ s. continues_without b.homes s.objects)

@@ -11,12 +11,13 @@ use Rattle.obj_memory.proofs.Continuing.{continues_then, continues_new, continue
 use Rattle.obj_memory.proofs.Making.{new_last, dead_other, dead_is_dead}
 use Rattle.c_tree.specs.declared.expression.Kind.{Kind}
 use Rattle.c_tree.specs.declared.program.Variable.{Variable}
-use Rattle.source_meaning.specs.declared.home.Home.{Home}
-use Rattle.source_meaning.specs.declared.home.Home.TheVariants.{PlainValue, InObject}
+use Rattle.source_meaning.specs.State.{Home}
+use Rattle.source_meaning.specs.State.{NoObject, InObject}
 use Rattle.source_meaning.specs.State.{State, Outcome, Gives, Ended, Paused, on, done, choose}
 use Rattle.c_tree.specs.Kinds.{size_of_kind}
-use Rattle.source_meaning.specs.Calls.{objects_end, place_object, place_variables, without_homes}
-use Rattle.source_meaning.specs.Naming.{object_kind}
+use Rattle.source_meaning.specs.Calls.{}
+use Rattle.source_meaning.specs.Blocks.{objects_end, place_object, place_variables, without_homes}
+use Rattle.source_meaning.proofs.Naming.{object_kind}
 use Rattle.source_meaning.specs.Keeping.{LivesOn, AreSeparate}
 use Rattle.source_meaning.proofs.Separating.{separate_automatic, EndsMade, ends_same, live_before}
 use Rattle.source_meaning.proofs.Holding.{live_made, beyond, length-dead, length-new, lives_same, lives_then, lives_new, IsHeld, held_on}
@@ -85,9 +86,9 @@ held_new storage address kind objects held =
 -- the homes of some variables: each that is an object is in an object of its own with a number from n on
 
 abbrev pub PlacedHome : (n : ℕ) → (is_object : Bool) → Kind → Home → Objects → Type 0
-PlacedHome n true kind PlainValue o = ⊥
+PlacedHome n true kind NoObject o = ⊥
 PlacedHome n true kind (InObject k) o = (n ≤ k) × IsHeld o k kind
-PlacedHome n false kind PlainValue o = Unit {0}
+PlacedHome n false kind NoObject o = Unit {0}
 PlacedHome n false kind (InObject k) o = ⊥
 
 abbrev pub Placed : (n : ℕ) → List Variable → List Home → Objects → Type 0
@@ -99,8 +100,8 @@ Placed n (v ∷ vs) (h ∷ hs) o = PlacedHome n v.is_object v.kind h o × Placed
 some_only : (a b : Kind) → Some a ≡ Some b → a ≡ b
 some_only a b e = cc
 
-placed_home : (n : ℕ) (b : Bool) (v : Variable) → v.is_object ≡ b → (h : Home) (hs : List Home) (o : Objects) → PlacedHome n b v.kind h o → (kind : Kind) → (if b then Some v.kind else None) ≡ Some kind → HasHome (h ∷ hs) o 0 kind
-placed_home n true v e PlainValue hs o p kind k = absurd p
+pub placed_home : (n : ℕ) (b : Bool) (v : Variable) → v.is_object ≡ b → (h : Home) (hs : List Home) (o : Objects) → PlacedHome n b v.kind h o → (kind : Kind) → (if b then Some v.kind else None) ≡ Some kind → HasHome (h ∷ hs) o 0 kind
+placed_home n true v e NoObject hs o p kind k = absurd p
 placed_home n true v e (InObject i) hs o p kind k = record { object = i; home = refl; held = subst (λ x. IsHeld o i x) (some_only v.kind kind k) p.1 }
 placed_home n false v e h hs o p kind k = absurd (cc)
 
@@ -113,9 +114,9 @@ placed_homes n (v ∷ vs) (h ∷ hs) o p (suc x) kind e =
     record { object = home.object; home = home.home; held = home.held }
 
 placed_home_on : (n : ℕ) (b : Bool) (kind : Kind) (h : Home) (old new : Objects) → LivesOn old new → PlacedHome n b kind h old → PlacedHome n b kind h new
-placed_home_on n true kind PlainValue old new l p = p
+placed_home_on n true kind NoObject old new l p = p
 placed_home_on n true kind (InObject k) old new l p = (p.0, held_on old new l k kind p.1)
-placed_home_on n false kind PlainValue old new l p = tt
+placed_home_on n false kind NoObject old new l p = tt
 placed_home_on n false kind (InObject k) old new l p = p
 
 pub placed_on : (n : ℕ) (vs : List Variable) (homes : List Home) (old new : Objects) → LivesOn old new → Placed n vs homes old → Placed n vs homes new
@@ -125,9 +126,9 @@ placed_on n (v ∷ vs) [] old new l p = p
 placed_on n (v ∷ vs) (h ∷ hs) old new l p = (placed_home_on n v.is_object v.kind h old new l p.0, placed_on n vs hs old new l p.1)
 
 placed_home_less : (n m : ℕ) → m ≤ n → (b : Bool) (kind : Kind) (h : Home) (o : Objects) → PlacedHome n b kind h o → PlacedHome m b kind h o
-placed_home_less n m le true kind PlainValue o p = p
+placed_home_less n m le true kind NoObject o p = p
 placed_home_less n m le true kind (InObject k) o p = (omega (arith, le, p.0), p.1)
-placed_home_less n m le false kind PlainValue o p = tt
+placed_home_less n m le false kind NoObject o p = tt
 placed_home_less n m le false kind (InObject k) o p = p
 
 placed_less : (n m : ℕ) → m ≤ n → (vs : List Variable) (homes : List Home) (o : Objects) → Placed n vs homes o → Placed m vs homes o
@@ -140,13 +141,13 @@ placed_less n m le (v ∷ vs) (h ∷ hs) o p = (placed_home_less n m le v.is_obj
 
 abbrev pub AllFrom : (n : ℕ) → List Home → Type 0
 AllFrom n [] = Unit {0}
-AllFrom n (PlainValue ∷ hs) = AllFrom n hs
+AllFrom n (NoObject ∷ hs) = AllFrom n hs
 AllFrom n (InObject k ∷ hs) = (n ≤ k) × AllFrom n hs
 
 placed_home_from : (n : ℕ) (b : Bool) (kind : Kind) (h : Home) (hs : List Home) (o : Objects) → PlacedHome n b kind h o → AllFrom n hs → AllFrom n (h ∷ hs)
-placed_home_from n true kind PlainValue hs o p q = absurd p
+placed_home_from n true kind NoObject hs o p q = absurd p
 placed_home_from n true kind (InObject k) hs o p q = (p.0, q)
-placed_home_from n false kind PlainValue hs o p q = q
+placed_home_from n false kind NoObject hs o p q = q
 placed_home_from n false kind (InObject k) hs o p q = absurd p
 
 pub placed_from : (n : ℕ) (vs : List Variable) (homes : List Home) (o : Objects) → Placed n vs homes o → AllFrom n homes
@@ -157,18 +158,18 @@ placed_from n (v ∷ vs) (h ∷ hs) o p = placed_home_from n v.is_object v.kind 
 
 pub without_other : (n : ℕ) (homes : List Home) (objects : Objects) → AllFrom n homes → (m : ℕ) → m < n → object_at (without_homes homes objects) m ≡ object_at objects m
 without_other n [] objects h m lt = refl
-without_other n (PlainValue ∷ hs) objects h m lt = without_other n hs objects h m lt
+without_other n (NoObject ∷ hs) objects h m lt = without_other n hs objects h m lt
 without_other n (InObject k ∷ hs) objects h m lt =
     without_other n hs (with_dead k objects) h.1 m lt ∙ dead_other k m objects (λ e. let le = h.0 in absurd (omega (arith, e, le, lt)))
 
 pub without_sound : (homes : List Home) (objects : Objects) → IsSound objects → IsSound (without_homes homes objects)
 without_sound [] objects h = h
-without_sound (PlainValue ∷ hs) objects h = without_sound hs objects h
+without_sound (NoObject ∷ hs) objects h = without_sound hs objects h
 without_sound (InObject k ∷ hs) objects h = without_sound hs (with_dead k objects) (sound_dead k objects h)
 
 pub without_low : (homes : List Home) (objects : Objects) → AreLow objects → AreLow (without_homes homes objects)
 without_low [] objects h = h
-without_low (PlainValue ∷ hs) objects h = without_low hs objects h
+without_low (NoObject ∷ hs) objects h = without_low hs objects h
 without_low (InObject k ∷ hs) objects h = without_low hs (with_dead k objects) (low_dead k objects h)
 
 -- objects of the caller live on, since only those that are made in the call die
@@ -182,7 +183,7 @@ without_lives old objects homes l from c = record {
 
 abbrev pub IsIn : (n : ℕ) → List Home → Type 0
 IsIn n [] = ⊥
-IsIn n (PlainValue ∷ hs) = IsIn n hs
+IsIn n (NoObject ∷ hs) = IsIn n hs
 IsIn n (InObject k ∷ hs) = (n ≡ k) ⊎ IsIn n hs
 
 abbrev pub EndsBut : (old new : Objects) → List Home → Type 0
@@ -222,19 +223,19 @@ dead_stays k n objects dead = by (nat_eq n k) refl
 
 without_stays : (homes : List Home) (n : ℕ) (objects : Objects) → (object_at objects n).is_live ≡ false → (object_at (without_homes homes objects) n).is_live ≡ false
 without_stays [] n objects dead = dead
-without_stays (PlainValue ∷ hs) n objects dead = without_stays hs n objects dead
+without_stays (NoObject ∷ hs) n objects dead = without_stays hs n objects dead
 without_stays (InObject k ∷ hs) n objects dead = without_stays hs n (with_dead k objects) (dead_stays k n objects dead)
 
 without_dead : (homes : List Home) (n : ℕ) (objects : Objects) → IsIn n homes → (object_at (without_homes homes objects) n).is_live ≡ false
 without_dead [] n objects h = absurd h
-without_dead (PlainValue ∷ hs) n objects h = without_dead hs n objects h
+without_dead (NoObject ∷ hs) n objects h = without_dead hs n objects h
 without_dead (InObject k ∷ hs) n objects (inl same) =
     without_stays hs n (with_dead k objects) (subst (λ m. (object_at (with_dead k objects) m).is_live ≡ false) (sym same) (dead_is_dead k objects))
 without_dead (InObject k ∷ hs) n objects (inr h) = without_dead hs n (with_dead k objects) h
 
 length-without : (homes : List Home) (objects : Objects) → length (without_homes homes objects) ≡ length objects
 length-without [] objects = refl
-length-without (PlainValue ∷ hs) objects = length-without hs objects
+length-without (NoObject ∷ hs) objects = length-without hs objects
 length-without (InObject k ∷ hs) objects = length-without hs (with_dead k objects) ∙ length-dead k objects
 
 pub ends_without : (old objects : Objects) (homes : List Home) → Continues objects (without_homes homes objects) → EndsBut old objects homes → EndsMade old (without_homes homes objects)
@@ -299,7 +300,7 @@ behind_object boundary kind vs s s1 e a w (Ended x s2) h = h
 behind_object boundary kind vs s s1 e a w (Paused s2) h = h
 
 behind_plain : (boundary : ℕ) (kind : Kind) (vs : List Variable) (s : State) → (o : Outcome (List Home)) → PlacesBy boundary s (length s.objects) vs o
-    → PlacesBy boundary s (length s.objects) (record { kind = kind; is_object = false } ∷ vs) (on o (λ homes. done (PlainValue ∷ homes)))
+    → PlacesBy boundary s (length s.objects) (record { kind = kind; is_object = false } ∷ vs) (on o (λ homes. done (NoObject ∷ homes)))
 behind_plain boundary kind vs s (Gives homes s2) h =
     (record { sound = h.0.sound; low = h.0.low; lives = h.0.lives; placed = (tt, h.0.placed); separate = h.0.separate; ends = h.0.ends }, h.1, h.2)
 behind_plain boundary kind vs s (Ended x s2) h = h
@@ -307,7 +308,7 @@ behind_plain boundary kind vs s (Paused s2) h = h
 
 places_one : (boundary : ℕ) → boundary ≤ 1610612736 → (kind : Kind) (b : Bool) (vs : List Variable) → PlacesRest boundary vs → (s : State) → IsSound s.objects → AreLow s.objects → AreSeparate boundary s.stacked s.objects
     → objects_end vs (if b then rounded_up 16 s.stacked + size_of_kind kind else s.stacked) ≤ boundary
-    → PlacesBy boundary s (length s.objects) (record { kind = kind; is_object = b } ∷ vs) (on (choose b (place_object (size_of_kind kind)) (done PlainValue) s) (λ home s1. on (place_variables vs s1) (λ homes. done (home ∷ homes))))
+    → PlacesBy boundary s (length s.objects) (record { kind = kind; is_object = b } ∷ vs) (on (choose b (place_object (size_of_kind kind)) (done NoObject) s) (λ home s1. on (place_variables vs s1) (λ homes. done (home ∷ homes))))
 places_one boundary least kind true vs rest s sound low separate fits =
     let top = rounded_up 16 s.stacked in
     let s1 : State = record s { stacked = top + size_of_kind kind; work = s.work + (1 + size_of_kind kind); objects = with_new Automatic top (size_of_kind kind) s.objects } in

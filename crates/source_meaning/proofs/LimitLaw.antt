@@ -4,10 +4,11 @@ use Rattle.std.proofs.lemmas.Bool.{ltb-true, ltb-false}
 use Rattle.behaviours.specs.Behaviour.{IsSource}
 use Rattle.sb_base.specs.Budgets.{BudgetSizes}
 use Rattle.obj_memory.specs.declared.value.Value.{Value}
-use Rattle.c_tree.specs.declared.program.Program.{Program}
-use Rattle.c_tree.specs.declared.program.Function.{Function}
-use Rattle.source_meaning.specs.declared.completion.Completion.{Completion}
-use Rattle.source_meaning.specs.declared.completion.Completion.TheVariants.{Normal, Broken, Continued, Returned}
+use Rattle.c_tree.specs.declared.program.Variable.{Variable}
+use Rattle.c_tree.specs.Blocks.{all_of}
+use Rattle.c_tree.specs.Programs.{FunctionType, Function, StaticObject, Program}
+use Rattle.source_meaning.specs.Statements.{Completion}
+use Rattle.source_meaning.specs.Statements.{Normal, Broken, Continued, Returned}
 use Rattle.source_meaning.specs.State.{State, Outcome, Gives, Ended, Paused, Run, on, ◌>>=◌, done, Setting}
 use Rattle.source_meaning.specs.Actions.{begin_turn}
 use Rattle.source_meaning.specs.Statements.{after_body, turns, turns_before}
@@ -69,9 +70,9 @@ module _ (g : Setting) (limit : ℕ) where
         (λ m e _. pauses_on (pauses_less left m (omega arith) b) (λ x. pauses_after m x _ (pauses_on (pauses_less left m (omega arith) c) (λ again. pauses_choose m again (pauses_turns_before n m (omega arith) (omega arith)) (pauses_done m Normal)))))
 
   module _ (depth : ℕ) (call : ℕ → List Value → ℕ → Run Value) where
-    pauses_related : (left : ℕ) → left < depth → ((f : ℕ) (vs : List Value) (line : ℕ) → PausesAt limit left (call f vs line))
-        → Related (record { setting = g; limit = limit; depth = depth; call = call }) (record { setting = g; limit = limit; depth = depth; call = call }) (λ A r r'. PausesAt limit left r)
-    pauses_related left below calls' = record {
+    pauses_related : (variables : List Variable) (left : ℕ) → left < depth → ((f : ℕ) (vs : List Value) (line : ℕ) → PausesAt limit left (call f vs line))
+        → Related (record { setting = g; variables = variables; limit = limit; depth = depth; call = call }) (record { setting = g; variables = variables; limit = limit; depth = depth; call = call }) (λ A r r'. PausesAt limit left r)
+    pauses_related variables left below calls' = record {
       on = pauses_on;
       action = pauses_action limit left;
       turn = pauses_turn left;
@@ -81,18 +82,18 @@ module _ (g : Setting) (limit : ℕ) where
     }
 
     pauses_begun : (left : ℕ) → left < depth → ((f : ℕ) (vs : List Value) (line : ℕ) → PausesAt limit left (call f vs line)) → (f : Function) (vs : List Value) (line : ℕ)
-        → PausesAt limit left (enter_begun (record { setting = g; limit = limit; depth = depth; call = call }) f vs line)
-    pauses_begun left below calls' = begun_related g limit limit depth depth call call (λ A r r'. PausesAt limit left r) (pauses_related left below calls')
+        → PausesAt limit left (enter_begun (record { setting = g; variables = all_of f; limit = limit; depth = depth; call = call }) f vs line)
+    pauses_begun left below calls' f = begun_related g (all_of f) limit limit depth depth call call (λ A r r'. PausesAt limit left r) (pauses_related (all_of f) left below calls') f
 
     later_begun : ((f : ℕ) (vs : List Value) (line : ℕ) → LeadsTo (call f vs line) (call f vs line)) → (f : Function) (vs : List Value) (line : ℕ)
-        → GoesLater (enter_begun (record { setting = g; limit = limit; depth = depth; call = call }) f vs line)
+        → GoesLater (enter_begun (record { setting = g; variables = all_of f; limit = limit; depth = depth; call = call }) f vs line)
     later_begun leads f vs line =
-        (begun_related g limit limit depth depth call call (λ A r r'. LeadsTo r r') (leads_related g limit limit depth depth call call (omega arith) (omega arith) leads) f vs line).later
+        (begun_related g (all_of f) limit limit depth depth call call (λ A r r'. LeadsTo r r') (leads_related g (all_of f) limit limit depth depth call call (omega arith) (omega arith) leads) f vs line).later
 
 module _ (functions : List Function) (g : Setting) (limit : ℕ) where
   pauses_found : (n : ℕ) (o : Option Function) (vs : List Value) (line : ℕ)
       → ((m : ℕ) → n ≡ suc m → (f : ℕ) (vs : List Value) (line : ℕ) → PausesAt limit m (calls functions g limit n f vs line))
-      → PausesAt limit n (enter_found (record { setting = g; limit = limit; depth = suc n; call = calls functions g limit n }) o vs line)
+      → PausesAt limit n (enter_found (record { setting = g; variables = []; limit = limit; depth = suc n; call = calls functions g limit n }) o vs line)
   pauses_found n None vs line h = pauses_action limit n acts_stop
   pauses_found n (Some f) vs line h =
       pauses_begin g limit n _
@@ -115,6 +116,6 @@ is_source p budgets input = record {
   begun = λ t e.
       let g = setting_of p budgets in
       let deep : t + 1 ≡ suc t = omega arith in
-      begun_all t _ (subst (λ n. IsWithin t (calls p.functions.items g t n p.main [] (line_of (function_at p.functions.items p.main)) (start p g input))) (sym deep)
-      ((pauses_calls p.functions.items g t t p.main [] (line_of (function_at p.functions.items p.main))).within (start p g input) (omega arith) (omega arith))) e;
+      begun_all t _ (subst (λ n. IsWithin t (calls p.functions g t n p.main [] (line_of (function_at p.functions p.main)) (start p g input))) (sym deep)
+      ((pauses_calls p.functions g t t p.main [] (line_of (function_at p.functions p.main))).within (start p g input) (omega arith) (omega arith))) e;
 }

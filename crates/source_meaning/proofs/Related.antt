@@ -1,6 +1,7 @@
 -- A relation between the runs of two environments that holds of their actions, turns, loops and calls holds of expressions,
 -- lvalues and initializers.
-use Rattle.std.proofs.Common.{◌≡◌, ℕ, List, [], ◌∷◌, Bool, true, false, refl}
+use Rattle.c_tree.specs.declared.program.Variable.{Variable}
+use Rattle.std.proofs.Common.{◌≡◌, ℕ, ◌+◌, length, Option, Some, None, List, [], ◌∷◌, Bool, true, false, refl}
 use Rattle.std.specs.Prelude.{not}
 use Rattle.obj_memory.specs.declared.value.Value.{Value}
 use Rattle.obj_memory.specs.Objects.{pointer_to}
@@ -8,19 +9,13 @@ use Rattle.obj_memory.specs.Judgement.{narrowed}
 use Rattle.obj_memory.specs.Operators.{one_if, unary_value}
 use Rattle.c_tree.specs.declared.expression.Fixity.TheVariants.{Prefix}
 use Rattle.c_tree.specs.declared.expression.Kind.{Kind}
-use Rattle.c_tree.specs.declared.expression.Expression.{Expression}
-use Rattle.c_tree.specs.declared.expression.Node.{Node, Constant, Function, Plain, Read', Decay', Address', Parenthesized', FunctionDesignator', Cast', Convert', Unary', Binary', Offset', Difference', And', Or', Comma', Conditional', Assign', SetPlain', Compound', ChangePlain', Step', StepPlain, Call', CallThrough', Library', Printf', Row_of-Expression, end_of-Expression, more_of-Expression}
-use Rattle.c_tree.specs.declared.expression.LvalueNode.{LvalueNode, Automatic, Static, Deref', Index', Member', Arrow', MemberOfValue', Parenthesized' as ParenthesizedLvalue'}
-use Rattle.c_tree.specs.declared.statement.Part.{Part}
-use Rattle.c_tree.specs.declared.statement.Content.{Content}
-use Rattle.c_tree.specs.declared.statement.Content.TheVariants.{Value as ValueOf, Literal}
-use Rattle.c_tree.specs.declared.statement.Initialization.{Initialization}
-use Rattle.c_tree.specs.declared.statement.Initialization.TheVariants.{Plain as PlainInitialization, Object}
-use Rattle.source_meaning.specs.declared.completion.Completion.{Completion}
+use Rattle.c_tree.specs.Tree.{Expression, expression, Expressions, no_expressions, expressions, Lvalue, lvalue, Node, constant, function, plain, read, decay, address, parenthesized, deref_function, address_function, cast, convert, unary, binary, offset_by, difference, logical_and, logical_or, comma, conditional, assign, assign_plain, compound, change_plain, step, step_plain, call, call_through, library, printf, LvalueNode, automatic, static, deref, index, member, arrow, member_of_value, parenthesized_lvalue, kind_of, line_of, lvalue_kind, lvalue_line}
+use Rattle.c_tree.specs.Statements.{Part, Content, value_content, literal_content, Initializer, of_plain, of_object, DeclaredVariable}
+use Rattle.source_meaning.specs.Statements.{Completion}
 use Rattle.source_meaning.specs.State.{State, Run, ◌>>=◌, done, choose, read_state, Setting, Env}
 use Rattle.c_tree.specs.Kinds.{size_of_kind}
 use Rattle.source_meaning.specs.Actions.{integer, is_zero, scalar_of, integer_type, converted, offset_value, difference_value, updated, plain_value, home_pointer, each_value, begin_turn}
-use Rattle.source_meaning.specs.Expressions.{counted_as, counted, nodes_of, function_pointer, is_judged, value, place, values, evaluate}
+use Rattle.source_meaning.specs.Expressions.{counted_as, counted, nodes_of, function_pointer, is_judged, value, place, values, evaluate, node_place}
 use Rattle.source_meaning.specs.Initializers.{store_content, store_parts, initialize, initialize_all}
 use Rattle.source_meaning.specs.Statements.{turns, turns_before}
 use Rattle.source_meaning.specs.Acting.{at_work, IsAction}
@@ -38,14 +33,14 @@ pub record Related (env env' : Env) (R : (A : Type 0) → Run A → Run A → Ty
   pub loop_before : {condition condition' : Run Bool} {body body' : Run Completion} → R _ condition condition' → R _ body body'
       → R _ (turns_before env.depth env.limit condition body) (turns_before env'.depth env'.limit condition' body')
 
-module _ (g : Setting) (limit limit' depth depth' : ℕ) (call call' : ℕ → List Value → ℕ → Run Value)
+module _ (g : Setting) (variables : List Variable) (limit limit' depth depth' : ℕ) (runs runs' : ℕ → List Value → ℕ → Run Value)
     (R : (A : Type 0) → Run A → Run A → Type 0)
-    (h : Related (record { setting = g; limit = limit; depth = depth; call = call }) (record { setting = g; limit = limit'; depth = depth'; call = call' }) R) where
+    (h : Related (record { setting = g; variables = variables; limit = limit; depth = depth; call = runs }) (record { setting = g; variables = variables; limit = limit'; depth = depth'; call = runs' }) R) where
   abbrev env : Env
-  env = record { setting = g; limit = limit; depth = depth; call = call }
+  env = record { setting = g; variables = variables; limit = limit; depth = depth; call = runs }
 
   abbrev env' : Env
-  env' = record { setting = g; limit = limit'; depth = depth'; call = call' }
+  env' = record { setting = g; variables = variables; limit = limit'; depth = depth'; call = runs' }
 
   choose_related : {A : Type 0} (b : Bool) {r r' q q' : Run A} → R _ r q → R _ r' q' → R _ (choose b r r') (choose b q q')
   choose_related true p q = p
@@ -64,89 +59,94 @@ module _ (g : Setting) (limit limit' depth depth' : ℕ) (call call' : ℕ → L
   read_related f e = h.action (acts_read e)
 
   mutual
+    pub evaluate_related : (e : Expression) → R _ (evaluate env e) (evaluate env' e)
+    evaluate_related (expression kind line node) = value_related node kind line
+
     pub value_related : (n : Node) (kind : Kind) (line : ℕ) → R _ (value env n kind line) (value env' n kind line)
-    value_related (Constant w) kind line = counted_related (done_related (integer w))
-    value_related (Function f) kind line = counted_related (done_related (function_pointer f))
-    value_related (Plain x) kind line = counted_related (read_related (plain_value x) (λ k s. refl))
-    value_related (Read' _ pk pl p) kind line = h.on (place_related p) (λ q. h.action (acts_read_lvalue pk (is_judged p) q pl))
-    value_related (Decay' _ pk pl p) kind line = place_related p
-    value_related (Address' _ pk pl p) kind line = counted_related (place_related p)
-    value_related (Parenthesized' _ ak al a) kind line = counted_related (value_related a ak al)
-    value_related (FunctionDesignator' _ ak al a) kind line = counted_related (value_related a ak al)
-    value_related (Cast' _ ak al a) kind line = counted_related (h.on (value_related a ak al) (λ v. done_related (converted kind v)))
-    value_related (Convert' _ ak al a) kind line = h.on (value_related a ak al) (λ v. done_related (converted kind v))
-    value_related (Unary' op _ ak al a) kind line =
-        counted_related (h.on (value_related a ak al) (λ v. done_related (integer (unary_value op (integer_type (scalar_of ak)) v.word))))
-    value_related (Binary' op _ ak al a _ bk bl b) kind line =
-        counted_related (h.on (value_related a ak al) (λ x. h.on (value_related b bk bl) (λ y. h.action (acts_operate op (integer_type (scalar_of ak)) x y line))))
-    value_related (Offset' form size _ ak al a _ bk bl b) kind line =
-        counted_related (h.on (value_related a ak al) (λ x. h.on (value_related b bk bl) (λ y. done_related (offset_value form size x y))))
-    value_related (Difference' size _ ak al a _ bk bl b) kind line =
-        counted_related (h.on (value_related a ak al) (λ x. h.on (value_related b bk bl) (λ y. done_related (difference_value size x y))))
-    value_related (And' _ ak al a _ bk bl b) kind line =
-        counted_related (h.on (value_related a ak al) (λ x. choose_related (is_zero x) (done_related (integer 0)) (h.on (value_related b bk bl) (λ y. done_related (integer (one_if (not (is_zero y))))))))
-    value_related (Or' _ ak al a _ bk bl b) kind line =
-        counted_related (h.on (value_related a ak al) (λ x. choose_related (is_zero x) (h.on (value_related b bk bl) (λ y. done_related (integer (one_if (not (is_zero y)))))) (done_related (integer 1))))
-    value_related (Comma' _ ak al a _ bk bl b) kind line = counted_related (h.on (value_related a ak al) (λ _. value_related b bk bl))
-    value_related (Conditional' _ ak al a _ bk bl b _ ck cl c) kind line =
-        counted_related (h.on (value_related a ak al) (λ x. choose_related (is_zero x) (value_related c ck cl) (value_related b bk bl)))
-    value_related (Assign' _ pk pl p _ ak al a) kind line =
-        counted_related (h.on (place_related p) (λ q. h.on (value_related a ak al) (λ v. h.action (acts_write_lvalue pk (is_judged p) q pl v))))
-    value_related (SetPlain' x _ ak al a) kind line =
-        counted_as_related (nodes_of x) (h.on (value_related a ak al) (λ v. h.on (h.action (acts_set_plain x.variable v)) (λ _. done_related v)))
-    value_related (Compound' u _ pk pl p _ ak al a) kind line =
-        counted_related (h.on (place_related p) (λ q. h.on (value_related a ak al) (λ y.
-        h.action (acts_update (scalar_of pk) (is_judged p) q pl u y line Prefix))))
-    value_related (ChangePlain' u x _ ak al a) kind line =
-        counted_as_related (nodes_of x) (h.on (value_related a ak al) (λ y.
+    value_related (constant w) kind line = counted_related (done_related (integer w))
+    value_related (function f) kind line = counted_related (done_related (function_pointer f))
+    value_related (plain x) kind line = counted_related (read_related (plain_value x) (λ k s. refl))
+    value_related (read p) kind line = h.on (place_related p) (λ q. h.action (acts_read_lvalue (lvalue_kind p) (is_judged p) q (lvalue_line p)))
+    value_related (decay p) kind line = place_related p
+    value_related (address p) kind line = counted_related (place_related p)
+    value_related (parenthesized a) kind line = counted_related (evaluate_related a)
+    value_related (deref_function a) kind line = counted_related (evaluate_related a)
+    value_related (address_function a) kind line = counted_related (evaluate_related a)
+    value_related (cast a) kind line = counted_related (h.on (evaluate_related a) (λ v. done_related (converted kind v)))
+    value_related (convert a) kind line = h.on (evaluate_related a) (λ v. done_related (converted kind v))
+    value_related (unary op a) kind line =
+        counted_related (h.on (evaluate_related a) (λ v. done_related (integer (unary_value op (integer_type (scalar_of (kind_of a))) v.word))))
+    value_related (binary op a b) kind line =
+        counted_related (h.on (evaluate_related a) (λ x. h.on (evaluate_related b) (λ y. h.action (acts_operate op (integer_type (scalar_of (kind_of a))) x y line))))
+    value_related (offset_by form size a b) kind line =
+        counted_related (h.on (evaluate_related a) (λ x. h.on (evaluate_related b) (λ y. done_related (offset_value form size x y))))
+    value_related (difference size a b) kind line =
+        counted_related (h.on (evaluate_related a) (λ x. h.on (evaluate_related b) (λ y. done_related (difference_value size x y))))
+    value_related (logical_and a b) kind line =
+        counted_related (h.on (evaluate_related a) (λ x. choose_related (is_zero x) (done_related (integer 0)) (h.on (evaluate_related b) (λ y. done_related (integer (one_if (not (is_zero y))))))))
+    value_related (logical_or a b) kind line =
+        counted_related (h.on (evaluate_related a) (λ x. choose_related (is_zero x) (h.on (evaluate_related b) (λ y. done_related (integer (one_if (not (is_zero y)))))) (done_related (integer 1))))
+    value_related (comma a b) kind line = counted_related (h.on (evaluate_related a) (λ _. evaluate_related b))
+    value_related (conditional a b c) kind line =
+        counted_related (h.on (evaluate_related a) (λ x. choose_related (is_zero x) (evaluate_related c) (evaluate_related b)))
+    value_related (assign p a) kind line =
+        counted_related (h.on (place_related p) (λ q. h.on (evaluate_related a) (λ v. h.action (acts_write_lvalue (lvalue_kind p) (is_judged p) q (lvalue_line p) v))))
+    value_related (assign_plain x a) kind line =
+        counted_as_related (nodes_of x) (h.on (evaluate_related a) (λ v. h.on (h.action (acts_set_plain x.variable v)) (λ _. done_related v)))
+    value_related (compound u p a) kind line =
+        counted_related (h.on (place_related p) (λ q. h.on (evaluate_related a) (λ y.
+        h.action (acts_update (scalar_of (lvalue_kind p)) (is_judged p) q (lvalue_line p) u y line Prefix))))
+    value_related (change_plain u x a) kind line =
+        counted_as_related (nodes_of x) (h.on (evaluate_related a) (λ y.
         h.action (acts_update_plain x.variable (updated u (scalar_of kind) y line) Prefix (acts_updated u (scalar_of kind) y line))))
-    value_related (Step' u fixity _ pk pl p) kind line =
+    value_related (step u fixity p) kind line =
         counted_related (h.on (place_related p) (λ q.
-        h.action (acts_update (scalar_of pk) (is_judged p) q pl u (integer 1) line fixity)))
-    value_related (StepPlain u fixity x) kind line =
+        h.action (acts_update (scalar_of (lvalue_kind p)) (is_judged p) q (lvalue_line p) u (integer 1) line fixity)))
+    value_related (step_plain u fixity x) kind line =
         counted_as_related (nodes_of x) (h.action (acts_update_plain x.variable (updated u (scalar_of kind) (integer 1) line) fixity (acts_updated u (scalar_of kind) (integer 1) line)))
-    value_related (Call' f shape args) kind line = counted_related (h.on (values_related args) (λ vs. h.call f vs line))
-    value_related (CallThrough' type_number _ ak al a shape args) kind line =
-        counted_related (h.on (value_related a ak al) (λ v. h.on (values_related args) (λ vs. h.on (h.action (acts_callee g.functions type_number v line)) (λ f. h.call f vs line))))
-    value_related (Library' name shape args) kind line =
+    value_related (call f args) kind line = counted_related (h.on (values_related args) (λ vs. h.call f vs line))
+    value_related (call_through type_number a args) kind line =
+        counted_related (h.on (evaluate_related a) (λ v. h.on (values_related args) (λ vs. h.on (h.action (acts_callee g.functions type_number v line)) (λ f. h.call f vs line))))
+    value_related (library name args) kind line =
         counted_related (h.on (values_related args) (λ vs. h.on (h.action (acts_tally 1)) (λ _. h.action (acts_routine g name vs line))))
-    value_related (Printf' format shape args) kind line =
-        counted_related (h.on (h.action (acts_tally 1)) (λ _. h.on (values_related args) (λ vs. h.on (h.action (acts_tally 1)) (λ _. h.action (acts_print format.items vs line)))))
+    value_related (printf format args) kind line =
+        counted_related (h.on (h.action (acts_tally 1)) (λ _. h.on (values_related args) (λ vs. h.on (h.action (acts_tally 1)) (λ _. h.action (acts_print format vs line)))))
 
-    pub place_related : (n : LvalueNode) → R _ (place env n) (place env' n)
-    place_related (Automatic x) = counted_related (read_related (home_pointer x) (λ k s. refl))
-    place_related (Static n) = counted_related (read_related (λ s. pointer_to n s.objects) (λ k s. refl))
-    place_related (Deref' _ ak al a) = counted_related (value_related a ak al)
-    place_related (Index' form size _ ak al a _ bk bl b) =
-        counted_related (h.on (value_related a ak al) (λ x. h.on (value_related b bk bl) (λ y. done_related (offset_value form size x y))))
-    place_related (Member' _ pk pl p offset size) = counted_related (h.on (place_related p) (λ q. done_related (narrowed offset size q)))
-    place_related (Arrow' _ ak al a offset size) = counted_related (h.on (value_related a ak al) (λ v. done_related (narrowed offset size v)))
-    place_related (MemberOfValue' _ ak al a offset size) = counted_related (h.on (value_related a ak al) (λ v. done_related (narrowed offset size v)))
-    place_related (ParenthesizedLvalue' _ pk pl p) = counted_related (place_related p)
+    pub place_related : (p : Lvalue) → R _ (place env p) (place env' p)
+    place_related (lvalue kind line node) = node_related node
 
-    values_related : {n : _} (row : Row_of-Expression n) → R _ (each_value (values env row)) (each_value (values env' row))
-    values_related end_of-Expression = done_related []
-    values_related (more_of-Expression ak al a rest) = h.on (value_related a ak al) (λ v. h.on (values_related rest) (λ vs. done_related (v ∷ vs)))
+    node_related : (n : LvalueNode) → R _ (node_place env n) (node_place env' n)
+    node_related (automatic x) = counted_related (read_related (home_pointer x) (λ k s. refl))
+    node_related (static n) = counted_related (read_related (λ s. pointer_to n s.objects) (λ k s. refl))
+    node_related (deref a) = counted_related (evaluate_related a)
+    node_related (index form size a b) =
+        counted_related (h.on (evaluate_related a) (λ x. h.on (evaluate_related b) (λ y. done_related (offset_value form size x y))))
+    node_related (member p offset size) = counted_related (h.on (place_related p) (λ q. done_related (narrowed offset size q)))
+    node_related (arrow a offset size) = counted_related (h.on (evaluate_related a) (λ v. done_related (narrowed offset size v)))
+    node_related (member_of_value a offset size) = counted_related (h.on (evaluate_related a) (λ v. done_related (narrowed offset size v)))
+    node_related (parenthesized_lvalue p) = counted_related (place_related p)
 
-  pub evaluate_related : (e : Expression) → R _ (evaluate env e) (evaluate env' e)
-  evaluate_related e = value_related e.node e.kind e.line
+    values_related : (es : Expressions) → R _ (each_value (values env es)) (each_value (values env' es))
+    values_related no_expressions = done_related []
+    values_related (expressions e es) = h.on (evaluate_related e) (λ v. h.on (values_related es) (λ vs. done_related (v ∷ vs)))
 
   -- initializers
 
   content_related : (p : Value) (offset : ℕ) (content : Content) → R _ (store_content env p offset content) (store_content env' p offset content)
-  content_related p offset (ValueOf e) =
-      h.on (evaluate_related e) (λ v. h.on (h.action (acts_write_lvalue e.kind false (narrowed offset (size_of_kind e.kind) p) e.line v)) (λ _. h.action acts_skip))
-  content_related p offset (Literal bytes) = h.on (h.action (acts_tally 1)) (λ _. h.action (acts_store_bytes p offset bytes.items))
+  content_related p offset (value_content e) =
+      h.on (evaluate_related e) (λ v. h.on (h.action (acts_write_lvalue (kind_of e) false (narrowed offset (size_of_kind (kind_of e)) p) (line_of e) v)) (λ _. h.action acts_skip))
+  content_related p offset (literal_content bytes) = h.on (h.action (acts_tally (1 + length bytes))) (λ _. h.action (acts_store_bytes p offset bytes))
 
   pub parts_related : (p : Value) (parts : List Part) → R _ (store_parts env p parts) (store_parts env' p parts)
   parts_related p [] = h.action acts_skip
   parts_related p (q ∷ qs) = h.on (content_related p q.offset q.content) (λ _. parts_related p qs)
 
-  initialize_related : (i : Initialization) → R _ (initialize env i) (initialize env' i)
-  initialize_related (PlainInitialization x e) = h.on (evaluate_related e) (λ v. h.action (acts_set_plain x v))
-  initialize_related (Object x parts) =
-      h.on (h.action (acts_zero_variable x)) (λ _. h.on (read_related (home_pointer x) (λ k s. refl)) (λ p. parts_related p parts.items))
+  initialize_related : (x : ℕ) (i : Option Initializer) → R _ (initialize env x i) (initialize env' x i)
+  initialize_related x None = h.action acts_skip
+  initialize_related x (Some (of_plain e)) = h.on (evaluate_related e) (λ v. h.action (acts_set_plain x v))
+  initialize_related x (Some (of_object parts)) =
+      h.on (h.action (acts_zero_variable x)) (λ _. h.on (read_related (home_pointer x) (λ k s. refl)) (λ p. parts_related p parts))
 
-  pub initialize_all_related : (is : List Initialization) → R _ (initialize_all env is) (initialize_all env' is)
+  pub initialize_all_related : (ds : List DeclaredVariable) → R _ (initialize_all env ds) (initialize_all env' ds)
   initialize_all_related [] = h.action acts_skip
-  initialize_all_related (i ∷ is) = h.on (initialize_related i) (λ _. initialize_all_related is)
+  initialize_all_related (d ∷ ds) = h.on (initialize_related d.variable d.initializer) (λ _. initialize_all_related ds)

@@ -2,34 +2,35 @@
 use Rattle.std.proofs.Common.{◌≡◌, ℕ, List, [], ◌∷◌, ◌++◌, map, Bool, true, false, Option, Some, None, refl, ap, ◌∙◌, subst}
 use Rattle.std.specs.Prelude.{not, length}
 use Rattle.obj_memory.specs.declared.value.Value.{Value}
-use Rattle.c_tree.specs.declared.expression.Expression.{Expression}
-use Rattle.c_tree.specs.declared.program.Function.{Function}
-use Rattle.c_tree.specs.declared.statement.First.{First}
-use Rattle.c_tree.specs.declared.statement.First.TheVariants.{Nothing, Expression as FirstExpression, Declaration as FirstDeclaration}
+use Rattle.c_tree.specs.Tree.{Expression, kind_of, line_of}
+use Rattle.c_tree.specs.Programs.{FunctionType, Function, StaticObject, Program}
+use Rattle.c_tree.specs.Statements.{First, nothing, first_expression, first_declaration, Statement, expression_statement, empty, declaration, block, if_then, if_else, while_do, do_while, for, switch, break, continue, return, Statements, no_statements, statements, SwitchItems, no_items, items}
 use Rattle.c_tree.specs.declared.statement.CaseLabel.{CaseLabel}
-use Rattle.c_tree.specs.declared.statement.Statement.{Statement, Expression as ExpressionStatement, Empty, Declaration, Block', If', While', DoWhile', For', Switch', Break, Continue, Return, Row_of-Statement, end_of-Statement, more_of-Statement, Held-Statement-If-2, None', Some', Row_of-SwitchItem, end_of-SwitchItem, more_of-SwitchItem}
-use Rattle.source_meaning.specs.declared.completion.Completion.{Completion}
-use Rattle.source_meaning.specs.declared.completion.Completion.TheVariants.{Normal, Broken, Continued, Returned}
+use Rattle.source_meaning.specs.Statements.{Completion}
+use Rattle.source_meaning.specs.Statements.{Normal, Broken, Continued, Returned}
 use Rattle.source_meaning.specs.State.{Run, done, choose, tally, Setting, Env}
 use Rattle.source_meaning.specs.Actions.{integer, is_zero}
 use Rattle.source_meaning.specs.Expressions.{counted, evaluate}
-use Rattle.source_meaning.specs.Statements.{next_after, in_order, holds, perform, perform_first, LabeledRun, run_labeled, is_case_of, is_default, labels_from, items_at, items_from, labels_of, compared, or_default, run_items, after_switch, switch, execute, otherwise, each_of, items_of}
+use Rattle.source_meaning.specs.Statements.{next_after, in_order, holds, perform, perform_first, LabeledRun, run_labeled, is_case_of, is_default, labels_from, items_at, items_from, labels_of, compared, or_default, run_items, after_switch, run_switch, execute, each_of, items_of}
 use Rattle.source_meaning.specs.Calls.{header_of, returned_by, enter_begun, enter_found}
+use Rattle.c_tree.specs.declared.program.Variable.{Variable}
+use Rattle.c_tree.specs.Blocks.{all_of, block_objects, block_variables, switch_variables, first_variables}
+use Rattle.source_meaning.specs.Blocks.{has_objects, scoped}
 use Rattle.source_meaning.proofs.Acting.{acts_done, acts_skip, acts_stop, acts_tally, acts_read}
-use Rattle.source_meaning.proofs.ActionsAct.{acts_set_up, acts_back_to}
+use Rattle.source_meaning.proofs.ActionsAct.{acts_set_up, acts_back_to, acts_enter_block, acts_leave_block}
 use Rattle.source_meaning.proofs.Related.{Related, evaluate_related, initialize_all_related}
 
-module _ (g : Setting) (limit limit' depth depth' : ℕ) (call call' : ℕ → List Value → ℕ → Run Value)
+module _ (g : Setting) (variables : List Variable) (limit limit' depth depth' : ℕ) (call call' : ℕ → List Value → ℕ → Run Value)
     (R : (A : Type 0) → Run A → Run A → Type 0)
-    (h : Related (record { setting = g; limit = limit; depth = depth; call = call }) (record { setting = g; limit = limit'; depth = depth'; call = call' }) R) where
+    (h : Related (record { setting = g; variables = variables; limit = limit; depth = depth; call = call }) (record { setting = g; variables = variables; limit = limit'; depth = depth'; call = call' }) R) where
   abbrev env : Env
-  env = record { setting = g; limit = limit; depth = depth; call = call }
+  env = record { setting = g; variables = variables; limit = limit; depth = depth; call = call }
 
   abbrev env' : Env
-  env' = record { setting = g; limit = limit'; depth = depth'; call = call' }
+  env' = record { setting = g; variables = variables; limit = limit'; depth = depth'; call = call' }
 
   evaluated : (e : Expression) → R _ (evaluate env e) (evaluate env' e)
-  evaluated = evaluate_related g limit limit' depth depth' call call' R h
+  evaluated = evaluate_related g variables limit limit' depth depth' call call' R h
 
   choose_related : {A : Type 0} (b : Bool) {r r' q q' : Run A} → R _ r q → R _ r' q' → R _ (choose b r r') (choose b q q')
   choose_related true p q = p
@@ -56,9 +57,9 @@ module _ (g : Setting) (limit limit' depth depth' : ℕ) (call call' : ℕ → L
   perform_related (Some e) = h.on (evaluated e) (λ v. h.action acts_skip)
 
   first_related : (f : First) → R _ (perform_first env f) (perform_first env' f)
-  first_related Nothing = h.action acts_skip
-  first_related (FirstExpression e) = perform_related (Some e)
-  first_related (FirstDeclaration is) = initialize_all_related g limit limit' depth depth' call call' R h is.items
+  first_related nothing = h.action acts_skip
+  first_related (first_expression e) = perform_related (Some e)
+  first_related (first_declaration ds) = initialize_all_related g variables limit limit' depth depth' call call' R h ds
 
   -- the items of a switch one by one: the same labels, and statements that are related
   abbrev SameItem : LabeledRun → LabeledRun → Type 0
@@ -119,51 +120,57 @@ module _ (g : Setting) (limit limit' depth depth' : ℕ) (call call' : ℕ → L
   run_related (Some a) None f = absurd f
   run_related (Some a) (Some b) f = items_related a b f
 
-  switch_related : (word : ℕ) (is js : List LabeledRun) → SameItems is js → R _ (switch word is) (switch word js)
+  switch_related : (word : ℕ) (is js : List LabeledRun) → SameItems is js → R _ (run_switch word is) (run_switch word js)
   switch_related word is js same =
       h.on (tally_related _ _ (ap (compared word) (labels_same is js same))) (λ _.
       h.on (run_related _ _ (default_related _ _ (found_from (is_case_of word) is js same) is js same)) (λ completion. done_related (after_switch completion)))
 
+  scoped_related : (vs : List Variable) (line : ℕ) {r r' : Run Completion} → R _ r r' → R _ (scoped g vs line r) (scoped g vs line r')
+  scoped_related vs line p =
+      choose_related (has_objects vs) (h.on (h.action (acts_enter_block g vs line)) (λ b. h.on p (λ completion. h.on (h.action (acts_leave_block b)) (λ _. done_related completion)))) p
+
   mutual
     pub execute_related : (s : Statement) → R _ (execute env s) (execute env' s)
-    execute_related (ExpressionStatement e) = counted_related (h.on (evaluated e) (λ _. done_related Normal))
-    execute_related Empty = counted_related (done_related Normal)
-    execute_related (Declaration is) = h.on (initialize_all_related g limit limit' depth depth' call call' R h is.items) (λ _. done_related Normal)
-    execute_related (Block' shape body) = counted_related (row_related body)
-    execute_related (If' e _ body other) =
-        counted_related (h.on (holds_related (Some e)) (λ is_taken. choose_related is_taken (execute_related body) (otherwise_related other)))
-    execute_related (While' e _ body) = counted_related (h.loop (holds_related (Some e)) (execute_related body) (h.action acts_skip))
-    execute_related (DoWhile' _ body e) = counted_related (h.loop_before (holds_related (Some e)) (execute_related body))
-    execute_related (For' first condition step _ body) =
-        counted_related (h.on (first_related first) (λ _. h.loop (holds_related condition) (execute_related body) (perform_related step)))
-    execute_related (Switch' e shape items) =
-        counted_related (h.on (evaluated e) (λ v. counted_related (switch_related v.word _ _ (switch_items_related items))))
-    execute_related Break = counted_related (done_related Broken)
-    execute_related Continue = counted_related (done_related Continued)
-    execute_related (Return None) = counted_related (done_related (Returned (integer 0)))
-    execute_related (Return (Some e)) = counted_related (h.on (evaluated e) (λ v. done_related (Returned v)))
+    execute_related (expression_statement e) = counted_related (h.on (evaluated e) (λ _. done_related Normal))
+    execute_related empty = counted_related (done_related Normal)
+    execute_related (declaration ds) = h.on (initialize_all_related g variables limit limit' depth depth' call call' R h ds) (λ _. done_related Normal)
+    execute_related (block line body) = counted_related (scoped_related (block_objects variables (block_variables body)) line (row_related body))
+    execute_related (if_then e body) = counted_related (h.on (holds_related (Some e)) (λ is_taken. choose_related is_taken (execute_related body) (done_related Normal)))
+    execute_related (if_else e body other) =
+        counted_related (h.on (holds_related (Some e)) (λ is_taken. choose_related is_taken (execute_related body) (execute_related other)))
+    execute_related (while_do e body) = counted_related (h.loop (holds_related (Some e)) (execute_related body) (h.action acts_skip))
+    execute_related (do_while body e) = counted_related (h.loop_before (holds_related (Some e)) (execute_related body))
+    execute_related (for line first condition step body) =
+        counted_related (scoped_related (block_objects variables (first_variables first)) line
+        (h.on (first_related first) (λ _. h.loop (holds_related condition) (execute_related body) (perform_related step))))
+    execute_related (switch e line is) =
+        counted_related (h.on (evaluated e) (λ v. counted_related (scoped_related (block_objects variables (switch_variables is)) line (switch_related v.word _ _ (switch_items_related is)))))
+    execute_related break = counted_related (done_related Broken)
+    execute_related continue = counted_related (done_related Continued)
+    execute_related (return None) = counted_related (done_related (Returned (integer 0)))
+    execute_related (return (Some e)) = counted_related (h.on (evaluated e) (λ v. done_related (Returned v)))
 
-    otherwise_related : (o : Held-Statement-If-2) → R _ (otherwise env o) (otherwise env' o)
-    otherwise_related None' = done_related Normal
-    otherwise_related (Some' _ body) = execute_related body
+    row_related : (ss : Statements) → R _ (in_order (each_of env ss)) (in_order (each_of env' ss))
+    row_related no_statements = done_related Normal
+    row_related (statements s ss) = h.on (execute_related s) (λ completion. next_related completion (row_related ss))
 
-    row_related : {n : _} (row : Row_of-Statement n) → R _ (in_order (each_of env row)) (in_order (each_of env' row))
-    row_related end_of-Statement = done_related Normal
-    row_related (more_of-Statement s rest) = h.on (execute_related s) (λ completion. next_related completion (row_related rest))
-
-    switch_items_related : {n : _} (row : Row_of-SwitchItem n) → SameItems (items_of env row) (items_of env' row)
-    switch_items_related end_of-SwitchItem = tt
-    switch_items_related (more_of-SwitchItem labels s rest) = ((refl, execute_related s), switch_items_related rest)
-
-  body_related : (body : List Statement) → R _ (in_order (map (execute env) body)) (in_order (map (execute env') body))
-  body_related [] = done_related Normal
-  body_related (s ∷ ss) = h.on (execute_related s) (λ completion. next_related completion (body_related ss))
+    switch_items_related : (is : SwitchItems) → SameItems (items_of env is) (items_of env' is)
+    switch_items_related no_items = tt
+    switch_items_related (items labels s is) = ((refl, execute_related s), switch_items_related is)
 
   pub begun_related : (f : Function) (vs : List Value) (line : ℕ) → R _ (enter_begun env f vs line) (enter_begun env' f vs line)
   begun_related f vs line =
       h.on (h.action (acts_read (λ k s. refl))) (λ c. h.on (h.action (acts_set_up g (header_of f) vs line)) (λ _.
-      h.on (counted_related (body_related f.body.items)) (λ completion. h.on (h.action (acts_back_to c)) (λ _. done_related (returned_by completion)))))
+      h.on (counted_related (row_related f.body)) (λ completion. h.on (h.action (acts_back_to c)) (λ _. done_related (returned_by completion)))))
 
-  pub found_related : (o : Option Function) (vs : List Value) (line : ℕ) → R _ (enter_found env o vs line) (enter_found env' o vs line)
+module _ (g : Setting) (variables : List Variable) (limit limit' depth depth' : ℕ) (call call' : ℕ → List Value → ℕ → Run Value)
+    (R : (A : Type 0) → Run A → Run A → Type 0)
+    (h : Related (record { setting = g; variables = variables; limit = limit; depth = depth; call = call }) (record { setting = g; variables = variables; limit = limit'; depth = depth'; call = call' }) R) where
+  -- over the variables of another function
+  elsewhere : (others : List Variable) → Related (record { setting = g; variables = others; limit = limit; depth = depth; call = call }) (record { setting = g; variables = others; limit = limit'; depth = depth'; call = call' }) R
+  elsewhere others = record { on = h.on; action = h.action; turn = h.turn; call = h.call; loop = h.loop; loop_before = h.loop_before }
+
+  pub found_related : (o : Option Function) (vs : List Value) (line : ℕ)
+      → R _ (enter_found (record { setting = g; variables = variables; limit = limit; depth = depth; call = call }) o vs line) (enter_found (record { setting = g; variables = variables; limit = limit'; depth = depth'; call = call' }) o vs line)
   found_related None vs line = h.action acts_stop
-  found_related (Some f) vs line = h.on h.turn (λ _. begun_related f vs line)
+  found_related (Some f) vs line = h.on h.turn (λ _. begun_related g (all_of f) limit limit' depth depth' call call' R (elsewhere (all_of f)) f vs line)

@@ -1,9 +1,9 @@
 -- Every run, with its loops and calls, does the same at any count of work, and adds as much.
-use Rattle.std.proofs.Common.{◌≡◌, ℕ, zero, suc, ◌+◌, Bool, true, false, refl, ap, ◌∙◌, arith, nat_lt, List}
+use Rattle.std.proofs.Common.{[], ◌≡◌, ℕ, zero, suc, ◌+◌, Bool, true, false, refl, ap, ◌∙◌, arith, nat_lt, List}
 use Rattle.obj_memory.specs.declared.value.Value.{Value}
-use Rattle.c_tree.specs.declared.program.Function.{Function}
-use Rattle.source_meaning.specs.declared.completion.Completion.{Completion}
-use Rattle.source_meaning.specs.declared.completion.Completion.TheVariants.{Normal, Broken, Continued, Returned}
+use Rattle.c_tree.specs.Programs.{FunctionType, Function, StaticObject, Program}
+use Rattle.source_meaning.specs.Statements.{Completion}
+use Rattle.source_meaning.specs.Statements.{Normal, Broken, Continued, Returned}
 use Rattle.source_meaning.specs.State.{State, Outcome, Gives, Ended, Paused, Run, on, ◌>>=◌, pause, choose, change, Setting}
 use Rattle.source_meaning.specs.Actions.{begin_turn}
 use Rattle.source_meaning.specs.Statements.{after_body, turns, turns_before}
@@ -73,7 +73,7 @@ module _ (limit : ℕ) {condition : Run Bool} {body : Run Completion} (c : RunsA
       alike_on (alike_turn limit) (λ _. alike_on b (λ x. alike_after x (alike_on c (λ again. alike_choose again (alike_turns_before n) (alike_action acts_done)))))
 
 alike_related : (g : Setting) (limit depth : ℕ) (call : ℕ → List Value → ℕ → Run Value) → ((f : ℕ) (vs : List Value) (line : ℕ) → RunsAlike (call f vs line))
-    → Related (record { setting = g; limit = limit; depth = depth; call = call }) (record { setting = g; limit = limit; depth = depth; call = call }) (λ A r r'. RunsAlike r)
+    → Related (record { setting = g; variables = []; limit = limit; depth = depth; call = call }) (record { setting = g; variables = []; limit = limit; depth = depth; call = call }) (λ A r r'. RunsAlike r)
 alike_related g limit depth call h = record {
   on = alike_on;
   action = alike_action;
@@ -86,5 +86,5 @@ alike_related g limit depth call h = record {
 pub alike_calls : (functions : List Function) (g : Setting) (limit n f : ℕ) (vs : List Value) (line : ℕ) → RunsAlike (calls functions g limit n f vs line)
 alike_calls functions g limit zero f vs line = alike_pause
 alike_calls functions g limit (suc n) f vs line =
-    found_related g limit limit (suc n) (suc n) (calls functions g limit n) (calls functions g limit n) (λ A r r'. RunsAlike r)
+    found_related g [] limit limit (suc n) (suc n) (calls functions g limit n) (calls functions g limit n) (λ A r r'. RunsAlike r)
     (alike_related g limit (suc n) (calls functions g limit n) (alike_calls functions g limit n)) (function_at functions f) vs line

@@ -8,9 +8,10 @@ use Rattle.obj_memory.specs.Objects.{ObjectState, Objects, object_at, new_object
 use Rattle.obj_memory.specs.Heap.{is_allocated}
 use Rattle.obj_memory.specs.Sound.{KeepsObjects, DoNotMeet, Continues}
 use Rattle.obj_memory.proofs.Making.{new_last, new_other, dead_is_dead, dead_other, disjoint_kept, disjoint_dead, disjoint_new}
-use Rattle.source_meaning.specs.declared.home.Home.{Home}
-use Rattle.source_meaning.specs.declared.home.Home.TheVariants.{PlainValue, InObject}
-use Rattle.source_meaning.specs.Calls.{without_homes}
+use Rattle.source_meaning.specs.State.{Home}
+use Rattle.source_meaning.specs.State.{NoObject, InObject}
+use Rattle.source_meaning.specs.Calls.{}
+use Rattle.source_meaning.specs.Blocks.{without_homes}
 use Rattle.source_meaning.specs.Keeping.{AreSeparate}
 use Rattle.source_meaning.proofs.Holding.{length-new, live_made}
 
@@ -53,7 +54,7 @@ separate_dead boundary top m objects h = record {
 
 pub separate_without : (boundary top : ℕ) (homes : List Home) (objects : Objects) → AreSeparate boundary top objects → AreSeparate boundary top (without_homes homes objects)
 separate_without boundary top [] objects h = h
-separate_without boundary top (PlainValue ∷ hs) objects h = separate_without boundary top hs objects h
+separate_without boundary top (NoObject ∷ hs) objects h = separate_without boundary top hs objects h
 separate_without boundary top (InObject k ∷ hs) objects h = separate_without boundary top hs (with_dead k objects) (separate_dead boundary top k objects h)
 
 -- a new object

@@ -1,5 +1,5 @@
 -- An expression that does not assign a plain variable leaves it as it was, and keeps all homes.
-use Rattle.std.proofs.Common.{◌≡◌, ℕ, zero, suc, ◌+◌, List, ◌∷◌, Bool, true, false, ◌||◌, ◌==◌, Option, Some, None, get_or, map, refl, sym, ap, ◌∙◌, nat_lt}
+use Rattle.std.proofs.Common.{◌≡◌, ℕ, zero, suc, ◌+◌, List, [], ◌∷◌, Bool, true, false, ◌||◌, ◌==◌, Option, Some, None, get_or, map, refl, sym, ap, ◌∙◌, nat_lt}
 use Rattle.std.proofs.lemmas.Bool.{eqb-false}
 use Rattle.std.proofs.lemmas.List.{get_or-set_other}
 use Rattle.std.specs.Prelude.{not}
@@ -12,16 +12,16 @@ use Rattle.c_tree.specs.declared.expression.Fixity.TheVariants.{Prefix}
 use Rattle.c_tree.specs.declared.expression.Update.{Update}
 use Rattle.c_tree.specs.declared.expression.Kind.{Kind}
 use Rattle.obj_memory.specs.declared.value.Scalar.{Scalar}
-use Rattle.c_tree.specs.declared.expression.Node.{Node, Constant, Function as FunctionName, Plain, Read', Decay', Address', Parenthesized', FunctionDesignator', Cast', Convert', Unary', Binary', Offset', Difference', And', Or', Comma', Conditional', Assign', SetPlain', Compound', ChangePlain', Step', StepPlain, Call', CallThrough', Library', Printf', Row_of-Expression, end_of-Expression, more_of-Expression}
-use Rattle.c_tree.specs.declared.expression.LvalueNode.{LvalueNode, Automatic, Static, Deref', Index', Member', Arrow', MemberOfValue', Parenthesized' as ParenthesizedLvalue'}
-use Rattle.c_tree.specs.declared.program.Function.{Function}
-use Rattle.source_meaning.specs.declared.completion.Completion.{Completion}
+use Rattle.c_tree.specs.Tree.{Expression, expression, Expressions, no_expressions, expressions, Lvalue, lvalue, Node, constant, function, plain, read, decay, address, parenthesized, deref_function, address_function, cast, convert, unary, binary, offset_by, difference, logical_and, logical_or, comma, conditional, assign, assign_plain, compound, change_plain, step, step_plain, call, call_through, library, printf, LvalueNode, automatic, static, deref, index, member, arrow, member_of_value, parenthesized_lvalue, kind_of, line_of, lvalue_kind, lvalue_line}
+use Rattle.c_tree.specs.Programs.{FunctionType, Function, StaticObject, Program}
+use Rattle.source_meaning.specs.Statements.{Completion}
 use Rattle.source_meaning.specs.State.{State, Outcome, Gives, Ended, Paused, Run, on, ◌>>=◌, ◌>>◌, done, pause, choose, read_state, change, Setting, Env}
 use Rattle.source_meaning.specs.Actions.{integer, is_zero, scalar_of, integer_type, converted, offset_value, difference_value, updated, plain_value, set_plain, update_plain, given, home_pointer, each_value, begin_turn}
-use Rattle.source_meaning.specs.Expressions.{counted_as, counted, nodes_of, function_pointer, is_judged, value, place, values}
-use Rattle.source_meaning.specs.Statements.{in_order, execute}
+use Rattle.source_meaning.specs.Expressions.{counted_as, counted, nodes_of, function_pointer, is_judged, evaluate, value, place, node_place, values}
+use Rattle.source_meaning.specs.Statements.{in_order, each_of}
+use Rattle.c_tree.specs.Blocks.{all_of}
 use Rattle.source_meaning.specs.Calls.{header_of, set_up, caller, back_to, returned_by, enter_found, function_at, calls}
-use Rattle.source_meaning.specs.Assigns.{assigns, lvalue_assigns, row_assigns}
+use Rattle.c_tree.specs.Walk.{assigns, lvalue_assigns, any_assigns}
 use Rattle.source_meaning.proofs.Local.{KeepsBy, IsLocal, local_tally}
 use Rattle.source_meaning.proofs.ActionsAct.{local_operate, local_updated, local_update, local_read_lvalue, local_write_lvalue, local_callee}
 use Rattle.source_meaning.proofs.LibraryActs.{local_routine, local_print}
@@ -88,87 +88,100 @@ neither : (a b : Bool) → (a || b) ≡ false → (a ≡ false) × (b ≡ false)
 neither true b e = absurd (cc)
 neither false b e = (refl, e)
 
-none_of : (a b c : Bool) → (a || b || c) ≡ false → (a ≡ false) × (b ≡ false) × (c ≡ false)
-none_of a b c e = let p = neither (a || b) c e in let q = neither a b p.0 in (q.0, q.1, p.1)
+only : (a : Bool) → (a || false) ≡ false → a ≡ false
+only a e = (neither a false e).0
+
+either : (a b : Bool) → (a || (b || false)) ≡ false → (a ≡ false) × (b ≡ false)
+either a b e = let p = neither a (b || false) e in (p.0, only b p.1)
+
+none_of : (a b c : Bool) → (a || (b || (c || false))) ≡ false → (a ≡ false) × (b ≡ false) × (c ≡ false)
+none_of a b c e = let p = neither a (b || (c || false)) e in let q = either b c p.1 in (p.0, q.0, q.1)
 
 module _ (env : Env) (y : ℕ) (call_stays : (f : ℕ) (vs : List Value) (line : ℕ) → Stays y (env.call f vs line)) where
   mutual
-    pub value_stays : (n : Node) (kind : Kind) (line : ℕ) → assigns y n ≡ false → Stays y (value env n kind line)
-    value_stays (Constant w) kind line e = stays_counted (stays_done {a = integer w})
-    value_stays (FunctionName f) kind line e = stays_counted (stays_done {a = function_pointer f})
-    value_stays (Plain x) kind line e = stays_counted (stays_read {f = plain_value x})
-    value_stays (Read' _ pk pl p) kind line e = stays_on (place_stays p e) (λ q. stays_local (local_read_lvalue pk (is_judged p) q pl))
-    value_stays (Decay' _ pk pl p) kind line e = place_stays p e
-    value_stays (Address' _ pk pl p) kind line e = stays_counted (place_stays p e)
-    value_stays (Parenthesized' _ ak al a) kind line e = stays_counted (value_stays a ak al e)
-    value_stays (FunctionDesignator' _ ak al a) kind line e = stays_counted (value_stays a ak al e)
-    value_stays (Cast' _ ak al a) kind line e = stays_counted (stays_on (value_stays a ak al e) (λ v. stays_done {a = converted kind v}))
-    value_stays (Convert' _ ak al a) kind line e = stays_on (value_stays a ak al e) (λ v. stays_done {a = converted kind v})
-    value_stays (Unary' op _ ak al a) kind line e =
-        stays_counted (stays_on (value_stays a ak al e) (λ v. stays_done {a = integer (unary_value op (integer_type (scalar_of ak)) v.word)}))
-    value_stays (Binary' op _ ak al a _ bk bl b) kind line e =
-        let h = neither (assigns y a) (assigns y b) e in
-        stays_counted (stays_on (value_stays a ak al h.0) (λ v. stays_on (value_stays b bk bl h.1) (λ w. stays_local (local_operate op (integer_type (scalar_of ak)) v w line))))
-    value_stays (Offset' form size _ ak al a _ bk bl b) kind line e =
-        let h = neither (assigns y a) (assigns y b) e in
-        stays_counted (stays_on (value_stays a ak al h.0) (λ v. stays_on (value_stays b bk bl h.1) (λ w. stays_done {a = offset_value form size v w})))
-    value_stays (Difference' size _ ak al a _ bk bl b) kind line e =
-        let h = neither (assigns y a) (assigns y b) e in
-        stays_counted (stays_on (value_stays a ak al h.0) (λ v. stays_on (value_stays b bk bl h.1) (λ w. stays_done {a = difference_value size v w})))
-    value_stays (And' _ ak al a _ bk bl b) kind line e =
-        let h = neither (assigns y a) (assigns y b) e in
-        stays_counted (stays_on (value_stays a ak al h.0) (λ v. stays_choose (is_zero v) (stays_done {a = integer 0}) (stays_on (value_stays b bk bl h.1) (λ w. stays_done {a = integer (one_if (not (is_zero w)))}))))
-    value_stays (Or' _ ak al a _ bk bl b) kind line e =
-        let h = neither (assigns y a) (assigns y b) e in
-        stays_counted (stays_on (value_stays a ak al h.0) (λ v. stays_choose (is_zero v) (stays_on (value_stays b bk bl h.1) (λ w. stays_done {a = integer (one_if (not (is_zero w)))})) (stays_done {a = integer 1})))
-    value_stays (Comma' _ ak al a _ bk bl b) kind line e =
-        let h = neither (assigns y a) (assigns y b) e in stays_counted (stays_on (value_stays a ak al h.0) (λ v. value_stays b bk bl h.1))
-    value_stays (Conditional' _ ak al a _ bk bl b _ ck cl c) kind line e =
+    pub evaluate_stays : (e : Expression) → assigns y e ≡ false → Stays y (evaluate env e)
+    evaluate_stays (expression kind line node) e = value_stays node kind line e
+
+    pub value_stays : (n : Node) (kind : Kind) (line : ℕ) → assigns y (expression kind line n) ≡ false → Stays y (value env n kind line)
+    value_stays (constant w) kind line e = stays_counted (stays_done {a = integer w})
+    value_stays (function f) kind line e = stays_counted (stays_done {a = function_pointer f})
+    value_stays (plain x) kind line e = stays_counted (stays_read {f = plain_value x})
+    value_stays (read p) kind line e = stays_on (place_stays p (only _ e)) (λ q. stays_local (local_read_lvalue (lvalue_kind p) (is_judged p) q (lvalue_line p)))
+    value_stays (decay p) kind line e = place_stays p (only _ e)
+    value_stays (address p) kind line e = stays_counted (place_stays p (only _ e))
+    value_stays (parenthesized a) kind line e = stays_counted (evaluate_stays a (only _ e))
+    value_stays (deref_function a) kind line e = stays_counted (evaluate_stays a (only _ e))
+    value_stays (address_function a) kind line e = stays_counted (evaluate_stays a (only _ e))
+    value_stays (cast a) kind line e = stays_counted (stays_on (evaluate_stays a (only _ e)) (λ v. stays_done {a = converted kind v}))
+    value_stays (convert a) kind line e = stays_on (evaluate_stays a (only _ e)) (λ v. stays_done {a = converted kind v})
+    value_stays (unary op a) kind line e =
+        stays_counted (stays_on (evaluate_stays a (only _ e)) (λ v. stays_done {a = integer (unary_value op (integer_type (scalar_of (kind_of a))) v.word)}))
+    value_stays (binary op a b) kind line e =
+        let h = either (assigns y a) (assigns y b) e in
+        stays_counted (stays_on (evaluate_stays a h.0) (λ v. stays_on (evaluate_stays b h.1) (λ w. stays_local (local_operate op (integer_type (scalar_of (kind_of a))) v w line))))
+    value_stays (offset_by form size a b) kind line e =
+        let h = either (assigns y a) (assigns y b) e in
+        stays_counted (stays_on (evaluate_stays a h.0) (λ v. stays_on (evaluate_stays b h.1) (λ w. stays_done {a = offset_value form size v w})))
+    value_stays (difference size a b) kind line e =
+        let h = either (assigns y a) (assigns y b) e in
+        stays_counted (stays_on (evaluate_stays a h.0) (λ v. stays_on (evaluate_stays b h.1) (λ w. stays_done {a = difference_value size v w})))
+    value_stays (logical_and a b) kind line e =
+        let h = either (assigns y a) (assigns y b) e in
+        stays_counted (stays_on (evaluate_stays a h.0) (λ v. stays_choose (is_zero v) (stays_done {a = integer 0}) (stays_on (evaluate_stays b h.1) (λ w. stays_done {a = integer (one_if (not (is_zero w)))}))))
+    value_stays (logical_or a b) kind line e =
+        let h = either (assigns y a) (assigns y b) e in
+        stays_counted (stays_on (evaluate_stays a h.0) (λ v. stays_choose (is_zero v) (stays_on (evaluate_stays b h.1) (λ w. stays_done {a = integer (one_if (not (is_zero w)))})) (stays_done {a = integer 1})))
+    value_stays (comma a b) kind line e =
+        let h = either (assigns y a) (assigns y b) e in stays_counted (stays_on (evaluate_stays a h.0) (λ v. evaluate_stays b h.1))
+    value_stays (conditional a b c) kind line e =
         let h = none_of (assigns y a) (assigns y b) (assigns y c) e in
-        stays_counted (stays_on (value_stays a ak al h.0) (λ v. stays_choose (is_zero v) (value_stays c ck cl h.2) (value_stays b bk bl h.1)))
-    value_stays (Assign' _ pk pl p _ ak al a) kind line e =
-        let h = neither (lvalue_assigns y p) (assigns y a) e in
-        stays_counted (stays_on (place_stays p h.0) (λ q. stays_on (value_stays a ak al h.1) (λ v. stays_local (local_write_lvalue pk (is_judged p) q pl v))))
-    value_stays (SetPlain' x _ ak al a) kind line e =
-        let h = neither (x.variable == y) (assigns y a) e in
-        stays_counted_as (nodes_of x) (stays_on (value_stays a ak al h.1) (λ v. stays_on (stays_set x.variable y v h.0) (λ _. stays_done {a = v})))
-    value_stays (Compound' u _ pk pl p _ ak al a) kind line e =
-        let h = neither (lvalue_assigns y p) (assigns y a) e in
-        stays_counted (stays_on (place_stays p h.0) (λ q. stays_on (value_stays a ak al h.1) (λ v.
-        stays_local (local_update (scalar_of pk) (is_judged p) q pl (updated u (scalar_of pk) v line) Prefix (local_updated u (scalar_of pk) v line)))))
-    value_stays (ChangePlain' u x _ ak al a) kind line e =
-        let h = neither (x.variable == y) (assigns y a) e in
-        stays_counted_as (nodes_of x) (stays_on (value_stays a ak al h.1) (λ v. stays_update x.variable y h.0 u (scalar_of kind) v line Prefix))
-    value_stays (Step' u fixity _ pk pl p) kind line e =
-        stays_counted (stays_on (place_stays p e) (λ q.
-        stays_local (local_update (scalar_of pk) (is_judged p) q pl (updated u (scalar_of pk) (integer 1) line) fixity (local_updated u (scalar_of pk) (integer 1) line))))
-    value_stays (StepPlain u fixity x) kind line e = stays_counted_as (nodes_of x) (stays_update x.variable y e u (scalar_of kind) (integer 1) line fixity)
-    value_stays (Call' f shape args) kind line e = stays_counted (stays_on (values_stay args e) (λ vs. call_stays f vs line))
-    value_stays (CallThrough' type_number _ ak al a shape args) kind line e =
-        let h = neither (assigns y a) (row_assigns y args) e in
-        stays_counted (stays_on (value_stays a ak al h.0) (λ v. stays_on (values_stay args h.1) (λ vs.
+        stays_counted (stays_on (evaluate_stays a h.0) (λ v. stays_choose (is_zero v) (evaluate_stays c h.2) (evaluate_stays b h.1)))
+    value_stays (assign p a) kind line e =
+        let h = either (lvalue_assigns y p) (assigns y a) e in
+        stays_counted (stays_on (place_stays p h.0) (λ q. stays_on (evaluate_stays a h.1) (λ v. stays_local (local_write_lvalue (lvalue_kind p) (is_judged p) q (lvalue_line p) v))))
+    value_stays (assign_plain x a) kind line e =
+        let h = either (x.variable == y) (assigns y a) e in
+        stays_counted_as (nodes_of x) (stays_on (evaluate_stays a h.1) (λ v. stays_on (stays_set x.variable y v h.0) (λ _. stays_done {a = v})))
+    value_stays (compound u p a) kind line e =
+        let h = either (lvalue_assigns y p) (assigns y a) e in
+        stays_counted (stays_on (place_stays p h.0) (λ q. stays_on (evaluate_stays a h.1) (λ v.
+        stays_local (local_update (scalar_of (lvalue_kind p)) (is_judged p) q (lvalue_line p) (updated u (scalar_of (lvalue_kind p)) v line) Prefix (local_updated u (scalar_of (lvalue_kind p)) v line)))))
+    value_stays (change_plain u x a) kind line e =
+        let h = either (x.variable == y) (assigns y a) e in
+        stays_counted_as (nodes_of x) (stays_on (evaluate_stays a h.1) (λ v. stays_update x.variable y h.0 u (scalar_of kind) v line Prefix))
+    value_stays (step u fixity p) kind line e =
+        stays_counted (stays_on (place_stays p (only _ e)) (λ q.
+        stays_local (local_update (scalar_of (lvalue_kind p)) (is_judged p) q (lvalue_line p) (updated u (scalar_of (lvalue_kind p)) (integer 1) line) fixity (local_updated u (scalar_of (lvalue_kind p)) (integer 1) line))))
+    value_stays (step_plain u fixity x) kind line e = stays_counted_as (nodes_of x) (stays_update x.variable y (only _ e) u (scalar_of kind) (integer 1) line fixity)
+    value_stays (call f args) kind line e = stays_counted (stays_on (values_stay args e) (λ vs. call_stays f vs line))
+    value_stays (call_through type_number a args) kind line e =
+        let h = neither (assigns y a) (any_assigns y args) e in
+        stays_counted (stays_on (evaluate_stays a h.0) (λ v. stays_on (values_stay args h.1) (λ vs.
         stays_on (stays_local (local_callee env.setting.functions type_number v line)) (λ f. call_stays f vs line))))
-    value_stays (Library' name shape args) kind line e =
+    value_stays (library name args) kind line e =
         stays_counted (stays_on (values_stay args e) (λ vs. stays_on (stays_local (local_tally 1)) (λ _. stays_local (local_routine env.setting name vs line))))
-    value_stays (Printf' format shape args) kind line e =
-        stays_counted (stays_on (stays_local (local_tally 1)) (λ _. stays_on (values_stay args e) (λ vs. stays_on (stays_local (local_tally 1)) (λ _. stays_local (local_print format.items vs line)))))
+    value_stays (printf format args) kind line e =
+        stays_counted (stays_on (stays_local (local_tally 1)) (λ _. stays_on (values_stay args e) (λ vs. stays_on (stays_local (local_tally 1)) (λ _. stays_local (local_print format vs line)))))
 
-    pub place_stays : (p : LvalueNode) → lvalue_assigns y p ≡ false → Stays y (place env p)
-    place_stays (Automatic x) e = stays_counted (stays_read {f = home_pointer x})
-    place_stays (Static n) e = stays_counted (stays_read {f = λ s. pointer_to n s.objects})
-    place_stays (Deref' _ ak al a) e = stays_counted (value_stays a ak al e)
-    place_stays (Index' form size _ ak al a _ bk bl b) e =
-        let h = neither (assigns y a) (assigns y b) e in
-        stays_counted (stays_on (value_stays a ak al h.0) (λ v. stays_on (value_stays b bk bl h.1) (λ w. stays_done {a = offset_value form size v w})))
-    place_stays (Member' _ pk pl p offset size) e = stays_counted (stays_on (place_stays p e) (λ q. stays_done {a = narrowed offset size q}))
-    place_stays (Arrow' _ ak al a offset size) e = stays_counted (stays_on (value_stays a ak al e) (λ v. stays_done {a = narrowed offset size v}))
-    place_stays (MemberOfValue' _ ak al a offset size) e = stays_counted (stays_on (value_stays a ak al e) (λ v. stays_done {a = narrowed offset size v}))
-    place_stays (ParenthesizedLvalue' _ pk pl p) e = stays_counted (place_stays p e)
+    pub place_stays : (p : Lvalue) → lvalue_assigns y p ≡ false → Stays y (place env p)
+    place_stays (lvalue kind line node) e = node_stays node kind line e
 
-    values_stay : {n : _} (row : Row_of-Expression n) → row_assigns y row ≡ false → Stays y (each_value (values env row))
-    values_stay end_of-Expression e = stays_done
-    values_stay (more_of-Expression ak al a rest) e =
-        let h = neither (assigns y a) (row_assigns y rest) e in stays_on (value_stays a ak al h.0) (λ v. stays_on (values_stay rest h.1) (λ vs. stays_done {a = v ∷ vs}))
+    node_stays : (n : LvalueNode) (kind : Kind) (line : ℕ) → lvalue_assigns y (lvalue kind line n) ≡ false → Stays y (node_place env n)
+    node_stays (automatic x) kind line e = stays_counted (stays_read {f = home_pointer x})
+    node_stays (static n) kind line e = stays_counted (stays_read {f = λ s. pointer_to n s.objects})
+    node_stays (deref a) kind line e = stays_counted (evaluate_stays a (only _ e))
+    node_stays (index form size a b) kind line e =
+        let h = either (assigns y a) (assigns y b) e in
+        stays_counted (stays_on (evaluate_stays a h.0) (λ v. stays_on (evaluate_stays b h.1) (λ w. stays_done {a = offset_value form size v w})))
+    node_stays (member p offset size) kind line e = stays_counted (stays_on (place_stays p (only _ e)) (λ q. stays_done {a = narrowed offset size q}))
+    node_stays (arrow a offset size) kind line e = stays_counted (stays_on (evaluate_stays a (only _ e)) (λ v. stays_done {a = narrowed offset size v}))
+    node_stays (member_of_value a offset size) kind line e = stays_counted (stays_on (evaluate_stays a (only _ e)) (λ v. stays_done {a = narrowed offset size v}))
+    node_stays (parenthesized_lvalue p) kind line e = stays_counted (place_stays p (only _ e))
+
+    values_stay : (es : Expressions) → any_assigns y es ≡ false → Stays y (each_value (values env es))
+    values_stay no_expressions e = stays_done
+    values_stay (expressions a es) e =
+        let h = neither (assigns y a) (any_assigns y es) e in stays_on (evaluate_stays a h.0) (λ v. stays_on (values_stay es h.1) (λ vs. stays_done {a = v ∷ vs}))
 
 -- a call gives the caller its variables back
 
@@ -193,9 +206,9 @@ begin_stays y limit = record { stays = λ s. (turn_stays y (nat_lt s.turns limit
 enter_stays : (y : ℕ) (env : Env) (o : Option Function) (vs : List Value) (line : ℕ) → Stays y (enter_found env o vs line)
 enter_stays y env None vs line = record { stays = λ s. tt }
 enter_stays y env (Some f) vs line =
-    stays_on (begin_stays y env.limit) (λ _. record { stays = λ s. entered_kept y s (set_up env.setting (header_of f) vs line s) (counted (in_order (map (execute env) f.body.items))) })
+    stays_on (begin_stays y env.limit) (λ _. record { stays = λ s. entered_kept y s (set_up env.setting (header_of f) vs line s) (counted (in_order (each_of (record env { variables = all_of f }) f.body))) })
 
 pub calls_stay : (y : ℕ) (functions : List Function) (g : Setting) (limit n f : ℕ) (vs : List Value) (line : ℕ) → Stays y (calls functions g limit n f vs line)
 calls_stay y functions g limit zero f vs line = record { stays = λ s. tt }
 calls_stay y functions g limit (suc n) f vs line =
-    enter_stays y (record { setting = g; limit = limit; depth = suc n; call = calls functions g limit n }) (function_at functions f) vs line
+    enter_stays y (record { setting = g; variables = []; limit = limit; depth = suc n; call = calls functions g limit n }) (function_at functions f) vs line

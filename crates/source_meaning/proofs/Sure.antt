@@ -9,13 +9,14 @@ use Rattle.obj_memory.specs.Sound.{IsSound, IsSoundTag, KeepsObjects, Continues,
 use Rattle.obj_memory.proofs.Soundness.{sound_tag_continues}
 use Rattle.c_tree.specs.declared.expression.Kind.{Kind}
 use Rattle.c_tree.specs.declared.expression.Kind.TheVariants.{Void, Scalar as OfScalar, Structure, Array}
-use Rattle.source_meaning.specs.declared.home.Home.{Home}
-use Rattle.source_meaning.specs.declared.home.Home.TheVariants.{PlainValue, InObject}
+use Rattle.source_meaning.specs.State.{Home}
+use Rattle.source_meaning.specs.State.{NoObject, InObject}
 use Rattle.source_meaning.specs.State.{State, Outcome, Gives, Ended, Paused, Run, on, ◌>>=◌, done, stop, pause, choose, read_state, change, skip, tally}
 use Rattle.c_tree.specs.Kinds.{size_of_kind}
 use Rattle.source_meaning.specs.Actions.{integer}
 use Rattle.source_meaning.specs.Expressions.{counted_as, counted}
-use Rattle.source_meaning.specs.Naming.{Scope, static_kind, object_kind, Basis, OnName, OnPointer, OnValue, IsWritable, IsNoStructure}
+use Rattle.source_meaning.proofs.Naming.{Scope, static_kind, object_kind, Basis, OnName, OnPointer, OnValue, IsWritable}
+use Rattle.source_meaning.specs.Keeping.{IsNoStructure}
 use Rattle.source_meaning.specs.Keeping.{IsKept, LivesOn, IsDirect, IsNamed, AreSeparate}
 use Rattle.source_meaning.proofs.Separating.{separate_kept, EndsMade, ends_as_many, ends_same, ends_then}
 use Rattle.source_meaning.proofs.Holding.{all_lie_on, lives_same, lives_then, lives_kept, named_on, IsHeld, held_on}
@@ -23,7 +24,7 @@ use Rattle.source_meaning.proofs.Holding.{all_lie_on, lives_same, lives_then, li
 -- the home of a variable that is an object
 pub record HasHome (frame : List Home) (objects : Objects) (x : ℕ) (kind : Kind) : Type 0 where
   pub object : ℕ
-  pub home : get_or frame x PlainValue ≡ InObject object
+  pub home : get_or frame x NoObject ≡ InObject object
   pub held : IsHeld objects object kind
 
 abbrev pub AreLow : Objects → Type 0

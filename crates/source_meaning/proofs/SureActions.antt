@@ -31,13 +31,13 @@ use Rattle.c_tree.specs.declared.expression.Fixity.{Fixity}
 use Rattle.c_tree.specs.declared.expression.Fixity.TheVariants.{Prefix, Postfix}
 use Rattle.c_tree.specs.declared.expression.OffsetForm.{OffsetForm}
 use Rattle.c_tree.specs.declared.expression.OffsetForm.TheVariants.{PointerPlusIndex, IndexPlusPointer, PointerMinusIndex}
-use Rattle.source_meaning.specs.declared.home.Home.{Home}
-use Rattle.source_meaning.specs.declared.home.Home.TheVariants.{PlainValue, InObject}
+use Rattle.source_meaning.specs.State.{Home}
+use Rattle.source_meaning.specs.State.{NoObject, InObject}
 use Rattle.source_meaning.specs.State.{State, stop, choose, change, Header, Setting}
 use Rattle.source_meaning.specs.Actions.{integer, converted_to, converted, offset_value, value_or_divide, operate, updated, given, plain_value, set_plain, update_plain, place_or_stop, located, note, read_scalar, write_scalar, move_bytes, load, store, update, copy_structure, read_lvalue, write_lvalue, put_bytes, take_key}
 use Rattle.source_meaning.specs.Expressions.{callee_by, callee}
 use Rattle.source_meaning.specs.Initializers.{zero_object, zero_home, zero_variable}
-use Rattle.source_meaning.specs.Naming.{Basis, OnName, OnPointer, OnValue}
+use Rattle.source_meaning.proofs.Naming.{Basis, OnName, OnPointer, OnValue}
 use Rattle.source_meaning.specs.Keeping.{LiesInObject, IsDirect}
 use Rattle.source_meaning.proofs.Separating.{ends_same}
 use Rattle.source_meaning.proofs.Holding.{all_lie_more, lives_same, direct_named, direct_allowed, allowed_lies, judged_direct, direct_kept}
@@ -282,8 +282,8 @@ sure_zero_object o =
     sure_on (sure_tally size) (λ _. sure_objects (with_zeroed o) (keeps_zeroed o) (continues_zeroed o) (λ objects h sound. sound_zeroed o objects sound) (λ objects h. tt)))
 
 sure_zero_home : {sc : Context} (home : Home) → Sure sc Any (zero_home home) (λ _. Any)
-sure_zero_home PlainValue = sure_skip
+sure_zero_home NoObject = sure_skip
 sure_zero_home (InObject o) = sure_zero_object o
 
 pub sure_zero_variable : {sc : Context} (x : ℕ) → Sure sc Any (zero_variable x) (λ _. Any)
-sure_zero_variable x = sure_on (sure_read {Q = λ _. Any} {f = λ s. get_or s.frame x PlainValue} (λ s good h. tt)) sure_zero_home
+sure_zero_variable x = sure_on (sure_read {Q = λ _. Any} {f = λ s. get_or s.frame x NoObject} (λ s good h. tt)) sure_zero_home

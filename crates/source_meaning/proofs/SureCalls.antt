@@ -9,19 +9,20 @@ use Rattle.obj_memory.proofs.Soundness.{sound_tag_continues}
 use Rattle.obj_memory.proofs.Judging.{sound_pointer}
 use Rattle.c_tree.specs.declared.expression.Kind.{Kind}
 use Rattle.c_tree.specs.declared.program.Variable.{Variable}
-use Rattle.c_tree.specs.declared.program.Function.{Function}
-use Rattle.c_tree.specs.declared.program.StaticObject.{StaticObject}
-use Rattle.source_meaning.specs.declared.home.Home.{Home}
-use Rattle.source_meaning.specs.declared.home.Home.TheVariants.{PlainValue, InObject}
-use Rattle.source_meaning.specs.declared.completion.Completion.{Completion}
-use Rattle.source_meaning.specs.declared.completion.Completion.TheVariants.{Normal, Broken, Continued, Returned}
+use Rattle.c_tree.specs.Programs.{FunctionType, Function, StaticObject, Program}
+use Rattle.source_meaning.specs.State.{Home}
+use Rattle.source_meaning.specs.State.{NoObject, InObject}
+use Rattle.source_meaning.specs.Statements.{Completion}
+use Rattle.source_meaning.specs.Statements.{Normal, Broken, Continued, Returned}
 use Rattle.source_meaning.specs.State.{State, Outcome, Gives, Ended, Paused, on, ◌>>=◌, ◌>>◌, done, stop, choose, change, skip, Header, Setting, Env}
 use Rattle.source_meaning.specs.Places.{stack_end}
 use Rattle.source_meaning.specs.Actions.{integer, home_value, take_key}
 use Rattle.source_meaning.specs.Expressions.{counted}
-use Rattle.source_meaning.specs.Statements.{in_order, execute}
-use Rattle.source_meaning.specs.Calls.{header_of, variables_of, pass_or_stop, test_stack, test_keys, call_tests, objects_end, has_objects, first_of, rest_of, parameter_values, plain_values, plain_count, parameter_count, place_variables, write_parameter, write_parameters, lay_out, set_up, caller, without_homes, back_to, returned_by, enter_begun, enter}
-use Rattle.source_meaning.specs.Naming.{static_kind, OnName, IsNoStructure, TakeNoStructure, FunctionNames, scope_of}
+use Rattle.source_meaning.specs.Statements.{in_order, each_of}
+use Rattle.source_meaning.specs.Calls.{header_of, body_objects, call_tests, first_of, rest_of, parameter_values, plain_values, plain_count, parameter_count, write_parameter, write_parameters, lay_out, set_up, caller, back_to, returned_by, enter_begun, enter}
+use Rattle.source_meaning.specs.Blocks.{pass_or_stop, objects_end, has_objects, place_variables, without_homes, test_space, test_keys}
+use Rattle.source_meaning.proofs.Naming.{static_kind, OnName, TakeNoStructure, FunctionNames, scope_of}
+use Rattle.source_meaning.specs.Keeping.{IsNoStructure}
 use Rattle.source_meaning.specs.Keeping.{AllLie, IsKept, LivesOn, AreSeparate}
 use Rattle.source_meaning.proofs.ActionsAct.{continues_without}
 use Rattle.source_meaning.proofs.Separating.{separate_without, separate_back}
@@ -29,7 +30,9 @@ use Rattle.source_meaning.proofs.Holding.{all_lie_on, lives_same, lives_then, Is
 use Rattle.source_meaning.proofs.Sure.{Context, IsGood, AreTagged, AreLow, Leaves, Stops, stops_then, After, Sure, Any, IsStable, sure_on, sure_weak, sure_any, sure_post, sure_frame, sure_done, sure_skip, sure_read, sure_counted, IsTagged, LvalueIs, stable_tagged, value_is}
 use Rattle.source_meaning.proofs.SureActions.{sure_write_lvalue}
 use Rattle.source_meaning.proofs.SureTree.{Calling}
-use Rattle.source_meaning.proofs.SureFlow.{CompletionIs, sure_begin_turn, body_sure}
+use Rattle.source_meaning.proofs.SureFlow.{sure_begin_turn, row_sure}
+use Rattle.source_meaning.proofs.SureBlocks.{CompletionIs, Inside}
+use Rattle.c_tree.specs.Blocks.{all_of, body_variables}
 use Rattle.source_meaning.proofs.Laying.{PlacedHome, Placed, placed_homes, placed_on, AllFrom, placed_from, without_sound, without_low, without_lives, EndsBut, ends_but_then, ends_without, PlacesBy, places}
 
 -- plain values at entry
@@ -72,24 +75,24 @@ TestsBy bound vs s (Ended e s') = Untouched s s'
 TestsBy bound vs s (Paused s') = ⊥
 
 module _ (g : Setting) (h : Header) (line : ℕ) where
-  key_passes : (s : State) → objects_end (variables_of h) s.stacked ≤ stack_end g → (b : Bool) → TestsBy (stack_end g) (variables_of h) s (choose b (change (λ s. record s { keys = s.keys + 1 })) (stop (Keys line)) s)
+  key_passes : (s : State) → objects_end (body_objects h) s.stacked ≤ stack_end g → (b : Bool) → TestsBy (stack_end g) (body_objects h) s (choose b (change (λ s. record s { keys = s.keys + 1 })) (stop (Keys line)) s)
   key_passes s fits true = ((refl, refl, refl), fits)
   key_passes s fits false = (refl, refl, refl)
 
-  keys_pass : (s : State) → objects_end (variables_of h) s.stacked ≤ stack_end g → (b : Bool) → TestsBy (stack_end g) (variables_of h) s (choose b (take_key g line) skip s)
+  keys_pass : (s : State) → objects_end (body_objects h) s.stacked ≤ stack_end g → (b : Bool) → TestsBy (stack_end g) (body_objects h) s (choose b (take_key g line) skip s)
   keys_pass s fits true = key_passes s fits (nat_lt s.keys g.sizes.budgets.keys)
   keys_pass s fits false = ((refl, refl, refl), fits)
 
-  stack_passes : (s : State) (b : Bool) → nat_le (objects_end (variables_of h) s.stacked) (stack_end g) ≡ b
-      → TestsBy (stack_end g) (variables_of h) s (on (pass_or_stop b (Stack line) s) (λ _ s. test_keys g h line s))
-  stack_passes s true e = keys_pass s (leb-true _ _ e) (has_objects (variables_of h))
+  stack_passes : (s : State) (b : Bool) → nat_le (objects_end (body_objects h) s.stacked) (stack_end g) ≡ b
+      → TestsBy (stack_end g) (body_objects h) s (on (pass_or_stop b (Stack line) s) (λ _ s. test_keys g (body_objects h) line s))
+  stack_passes s true e = keys_pass s (leb-true _ _ e) (has_objects (body_objects h))
   stack_passes s false e = (refl, refl, refl)
 
-  charge_passes : (s : State) (b : Bool) → TestsBy (stack_end g) (variables_of h) s (on (pass_or_stop b (Stack line) s) (λ _ s. (test_stack g h line >> test_keys g h line) s))
-  charge_passes s true = stack_passes s (nat_le (objects_end (variables_of h) s.stacked) (stack_end g)) refl
+  charge_passes : (s : State) (b : Bool) → TestsBy (stack_end g) (body_objects h) s (on (pass_or_stop b (Stack line) s) (λ _ s. (test_space g (body_objects h) line >> test_keys g (body_objects h) line) s))
+  charge_passes s true = stack_passes s (nat_le (objects_end (body_objects h) s.stacked) (stack_end g)) refl
   charge_passes s false = (refl, refl, refl)
 
-  tests_pass : (s : State) → TestsBy (stack_end g) (variables_of h) s (call_tests g h line s)
+  tests_pass : (s : State) → TestsBy (stack_end g) (body_objects h) s (call_tests g h line s)
   tests_pass s = charge_passes s (nat_le (s.charged + h.room) g.sizes.budgets.calls)
 
 -- parameters that are objects
@@ -106,7 +109,7 @@ stable_rest n rest ps homes vs old new l p = (placed_on n (ps ++ rest) homes old
 
 module _ {sc : Context} (n : ℕ) (rest : List Variable) where
   parameter_sure : (b : Bool) (kind : Kind) → IsNoStructure kind → (home : Home) (line : ℕ) (v : Value) → Sure sc (λ o. PlacedHome n b kind home o × IsTagged v o) (write_parameter kind home line v) (λ _. Any)
-  parameter_sure b kind none PlainValue line v = sure_done (λ o p. tt)
+  parameter_sure b kind none NoObject line v = sure_done (λ o p. tt)
   parameter_sure b kind none (InObject k) line v =
       sure_on (sure_read {Q = λ q o. LvalueIs OnName kind q o × IsTagged v o} {f = λ s. home_value (InObject k) s.objects} (λ s good p. (held_lvalue k kind s.objects (held_home n b kind k s.objects p.0), p.1))) (λ q.
       sure_on (sure_weak (λ o x. (x.0, value_is kind v o none x.1)) (sure_write_lvalue OnName kind q line v)) (λ w. sure_any sure_skip))
@@ -151,32 +154,32 @@ module _ (statics : List StaticObject) (f : Function) (names : FunctionNames sta
 
   module _ (outer : Context) (same : outer.scope.statics ≡ statics) (level : outer.boundary ≡ boundary) (vs : List Value) (line : ℕ) where
     laid : (s : State) → IsGood outer s → AreTagged vs s.objects → (s1 : State) → s1.objects ≡ s.objects → s1.accesses ≡ s.accesses → s1.plain ≡ plain_values head vs
-        → (o : Outcome (List Home)) → PlacesBy boundary s1 (length s1.objects) (variables_of head) o
+        → (o : Outcome (List Home)) → PlacesBy boundary s1 (length s1.objects) (body_objects head) o
         → SetsUpBy inner s.objects (on o (λ homes. change (λ s. record s { frame = homes }) >> write_parameters head.parameters homes line vs))
     laid s good tagged s1 e a w (Gives homes s2) h =
         let lives = subst (λ o. LivesOn o s2.objects) e h.0.lives in
         let s3 : State = record s2 { frame = homes } in
-        let placed = subst (λ n. Placed n (variables_of head) homes s2.objects) (ap length e) h.0.placed in
+        let placed = subst (λ n. Placed n (body_objects head) homes s2.objects) (ap length e) h.0.placed in
         let ends = subst (λ x. EndsBut x s2.objects homes) e h.0.ends in
         let entry : IsGood inner s3 = record {
           kept = record { sound = h.0.sound; lie = subst (λ x. AllLie s2.objects x) (sym (h.1 ∙ a)) (all_lie_on s.objects s2.objects lives.continues s.accesses good.kept.lie) };
           low = h.0.low;
           statics = λ n kind k. held_on s.objects s2.objects lives n kind (good.statics n kind (subst (λ x. static_kind x n ≡ Some kind) (sym same) k));
-          homes = placed_homes (length s.objects) (variables_of head) homes s2.objects placed;
+          homes = placed_homes (length s.objects) (body_objects head) homes s2.objects placed;
           plain = subst (λ x. AreTagged x s2.objects) (sym (h.2 ∙ w)) (both_tagged (parameter_values head.parameters vs) (map (λ _. integer 0) head.variables) s2.objects
               (parameters_tagged head.parameters vs s2.objects (stable_tagged vs s.objects s2.objects lives tagged)) (zeros_tagged head.variables s2.objects));
           separate = h.0.separate;
         } in
-        written s s3 lives (placed_from (length s.objects) (variables_of head) homes s2.objects placed) ends (write_parameters head.parameters homes line vs s3)
-        ((parameters_sure (length s.objects) head.variables head.parameters names.parameters homes line vs).by s3 entry (placed, stable_tagged vs s.objects s2.objects lives tagged))
+        written s s3 lives (placed_from (length s.objects) (body_objects head) homes s2.objects placed) ends (write_parameters head.parameters homes line vs s3)
+        ((parameters_sure (length s.objects) head.entered head.parameters names.parameters homes line vs).by s3 entry (placed, stable_tagged vs s.objects s2.objects lives tagged))
     laid s good tagged s1 e a w (Ended x s2) h = absurd h
     laid s good tagged s1 e a w (Paused s2) h = absurd h
 
-    tested : (s : State) → IsGood outer s → AreTagged vs s.objects → (o : Outcome (Unit {0})) → TestsBy (stack_end g) (variables_of head) s o → SetsUpBy inner s.objects (on o (λ _. lay_out head vs line))
+    tested : (s : State) → IsGood outer s → AreTagged vs s.objects → (o : Outcome (Unit {0})) → TestsBy (stack_end g) (body_objects head) s o → SetsUpBy inner s.objects (on o (λ _. lay_out head vs line))
     tested s good tagged (Gives a s1) h =
         let s2 : State = record s1 { charged = s1.charged + head.room; work = s1.work + (parameter_count head.parameters + plain_count head.variables); plain = plain_values head vs } in
-        laid s good tagged s2 h.0.0 h.0.1 refl (place_variables (variables_of head) s2)
-        (places boundary low (variables_of head) s2 (subst IsSound (sym h.0.0) good.kept.sound) (subst AreLow (sym h.0.0) good.low)
+        laid s good tagged s2 h.0.0 h.0.1 refl (place_variables (body_objects head) s2)
+        (places boundary low (body_objects head) s2 (subst IsSound (sym h.0.0) good.kept.sound) (subst AreLow (sym h.0.0) good.low)
         (subst (λ o. AreSeparate boundary s1.stacked o) (sym h.0.0) (subst (λ t. AreSeparate boundary t s.objects) (sym h.0.2) (subst (λ b. AreSeparate b s.stacked s.objects) level good.separate)))
         (omega (arith, h.1, most)))
     tested s good tagged (Ended x s1) h = record {
@@ -232,21 +235,25 @@ module _ (statics : List StaticObject) (f : Function) (names : FunctionNames sta
     returns_by s good s1 up (Ended e s2) h = stops_then s.objects s1.objects s2 up.lives h
     returns_by s good s1 up (Paused s2) h = stops_then s.objects s1.objects s2 up.lives h
 
-    module _ (env : Env) (c : Calling inner env) where
+    module _ (env : Env) (i : Inside statics boundary (record env { variables = all_of f })) where
+      abbrev here : Env
+      here = record env { variables = all_of f }
+
       runs_by : (s : State) → IsGood outer s → (o : Outcome (Unit {0})) → SetsUpBy inner s.objects o
-          → After outer s IsTagged (on o (λ _. counted (in_order (map (execute env) f.body.items)) >>= (λ completion. change (back_to (caller s)) >> done (returned_by completion))))
+          → After outer s IsTagged (on o (λ _. counted (in_order (each_of here f.body)) >>= (λ completion. change (back_to (caller s)) >> done (returned_by completion))))
       runs_by s good (Gives a s1) h =
-          returns_by s good s1 h (counted (in_order (map (execute env) f.body.items)) s1) ((sure_counted (body_sure c f.body.items names.body)).by s1 h.good tt)
+          returns_by s good s1 h (counted (in_order (each_of here f.body)) s1) ((sure_counted (row_sure i (f.parameters ++ body_variables f) f.body names.body)).by s1 h.good tt)
       runs_by s good (Ended e s1) h = h
       runs_by s good (Paused s1) h = h
 
-module _ (statics : List StaticObject) (f : Function) (names : FunctionNames statics f) (env : Env) (boundary : ℕ) (most : stack_end env.setting ≤ boundary) (low : boundary ≤ 1610612736) (c : Calling (record { scope = scope_of statics f; boundary = boundary }) env)
+module _ (statics : List StaticObject) (f : Function) (names : FunctionNames statics f) (env : Env) (boundary : ℕ) (i : Inside statics boundary (record env { variables = all_of f }))
     (outer : Context) (same : outer.scope.statics ≡ statics) (level : outer.boundary ≡ boundary) where
-  pub begun_sure : (vs : List Value) (line : ℕ) → Sure outer (AreTagged vs) (enter_begun env f vs line) IsTagged
+  pub begun_sure : (vs : List Value) (line : ℕ) → Sure outer (AreTagged vs) (enter_begun (record env { variables = all_of f }) f vs line) IsTagged
   begun_sure vs line = record {
     by = λ s good tagged.
-        runs_by statics f names env.setting boundary most low outer same level vs line env c s good (set_up env.setting (header_of f) vs line s) (set_up_by statics f names env.setting boundary most low outer same level vs line s good tagged);
+        runs_by statics f names env.setting boundary i.most i.low outer same level vs line env i s good (set_up env.setting (header_of f) vs line s)
+        (set_up_by statics f names env.setting boundary i.most i.low outer same level vs line s good tagged);
   }
 
-  pub enter_sure : (vs : List Value) (line : ℕ) → Sure outer (AreTagged vs) (enter env f vs line) IsTagged
+  pub enter_sure : (vs : List Value) (line : ℕ) → Sure outer (AreTagged vs) (enter (record env { variables = all_of f }) f vs line) IsTagged
   enter_sure vs line = sure_on (sure_begin_turn env.limit) (λ _. begun_sure vs line)

@@ -2,28 +2,23 @@
 use Rattle.std.proofs.Common.{ℕ, zero, suc, ◌+◌, List, [], ◌∷◌, map, Bool, true, false, Option, Some, None, refl, nat_lt}
 use Rattle.std.specs.Prelude.{length}
 use Rattle.obj_memory.specs.Objects.{Objects}
-use Rattle.c_tree.specs.declared.expression.Expression.{Expression}
-use Rattle.c_tree.specs.declared.statement.First.{First}
-use Rattle.c_tree.specs.declared.statement.First.TheVariants.{Nothing, Expression as FirstExpression, Declaration as FirstDeclaration}
+use Rattle.c_tree.specs.Tree.{Expression, kind_of, line_of}
+use Rattle.c_tree.specs.Statements.{First, nothing, first_expression, first_declaration, Statement, expression_statement, empty, declaration, block, if_then, if_else, while_do, do_while, for, switch, break, continue, return, Statements, no_statements, statements, SwitchItems, no_items, items}
 use Rattle.c_tree.specs.declared.statement.CaseLabel.{CaseLabel}
-use Rattle.c_tree.specs.declared.statement.Statement.{Statement, Expression as ExpressionStatement, Empty, Declaration, Block', If', While', DoWhile', For', Switch', Break, Continue, Return, Row_of-Statement, end_of-Statement, more_of-Statement, Held-Statement-If-2, None', Some', Row_of-SwitchItem, end_of-SwitchItem, more_of-SwitchItem}
-use Rattle.source_meaning.specs.declared.completion.Completion.{Completion}
-use Rattle.source_meaning.specs.declared.completion.Completion.TheVariants.{Normal, Broken, Continued, Returned}
+use Rattle.source_meaning.specs.Statements.{Completion}
+use Rattle.source_meaning.specs.Statements.{Normal, Broken, Continued, Returned}
 use Rattle.source_meaning.specs.State.{Run, done, pause, choose, change, Env}
 use Rattle.source_meaning.specs.Actions.{begin_turn}
-use Rattle.source_meaning.specs.Statements.{next_after, in_order, holds, perform, perform_first, after_body, turns, turns_before, LabeledRun, run_labeled, is_case_of, is_default, labels_from, items_at, items_from, labels_of, compared, or_default, run_items, after_switch, switch, execute, otherwise, each_of, items_of}
-use Rattle.source_meaning.specs.Naming.{NamesIfAny, FirstNames, StatementNames, OtherwiseNames, StatementsName, ItemsName, AllName}
+use Rattle.source_meaning.specs.Statements.{next_after, in_order, holds, perform, perform_first, after_body, turns, turns_before, LabeledRun, run_labeled, is_case_of, is_default, labels_from, items_at, items_from, labels_of, compared, or_default, run_items, after_switch, run_switch, in_block, execute, each_of, items_of}
+use Rattle.source_meaning.proofs.Naming.{NamesIfAny, FirstNames, StatementNames, StatementsName, ItemsName}
+use Rattle.c_tree.specs.declared.program.Variable.{Variable}
+use Rattle.c_tree.specs.Programs.{StaticObject}
+use Rattle.c_tree.specs.Blocks.{opened, block_variables, switch_variables, first_variables}
+use Rattle.source_meaning.proofs.SureBlocks.{CompletionIs, context_of, Inside, scoped_sure}
 use Rattle.source_meaning.proofs.Separating.{ends_same}
 use Rattle.source_meaning.proofs.Holding.{lives_same}
 use Rattle.source_meaning.proofs.Sure.{Context, Sure, Any, sure_on, sure_any, sure_done, sure_skip, sure_pause, sure_tally, sure_counted, sure_choose, IsTagged}
 use Rattle.source_meaning.proofs.SureTree.{Calling, evaluate_sure, initialize_all_sure}
-
--- the value of a return has a sound tag
-abbrev pub CompletionIs : Completion → Objects → Type 0
-CompletionIs Normal o = Unit {0}
-CompletionIs Broken o = Unit {0}
-CompletionIs Continued o = Unit {0}
-CompletionIs (Returned v) o = IsTagged v o
 
 -- the items of a switch
 abbrev AllSure : Context → List LabeledRun → Type 0
@@ -96,7 +91,7 @@ module _ (sc : Context) where
   run_sure None h = sure_done (λ o p. tt)
   run_sure (Some is) h = items_sure is h
 
-  switch_sure : (word : ℕ) (all : List LabeledRun) → AllSure sc all → Sure sc Any (switch word all) CompletionIs
+  switch_sure : (word : ℕ) (all : List LabeledRun) → AllSure sc all → Sure sc Any (run_switch word all) CompletionIs
   switch_sure word all h =
       sure_on (sure_tally (compared word (labels_of all))) (λ _.
       sure_on (run_sure (or_default (items_from (is_case_of word) all) all) (default_sure (items_from (is_case_of word) all) (from_sure (is_case_of word) all h) all h)) switched_sure)
@@ -111,39 +106,46 @@ module _ {sc : Context} {env : Env} (c : Calling sc env) where
   perform_sure (Some e) h = sure_on (evaluate_sure c e h) (λ v. sure_any sure_skip)
 
   first_sure : (f : First) → FirstNames sc.scope f → Sure sc Any (perform_first env f) (λ _. Any)
-  first_sure Nothing h = sure_skip
-  first_sure (FirstExpression e) h = perform_sure (Some e) h
-  first_sure (FirstDeclaration is) h = initialize_all_sure c is.items h
+  first_sure nothing h = sure_skip
+  first_sure (first_expression e) h = perform_sure (Some e) h
+  first_sure (first_declaration ds) h = initialize_all_sure c ds h
+
+module _ {statics : List StaticObject} {boundary : ℕ} {env : Env} (i : Inside statics boundary env) where
+  -- where some variables can be named
+  abbrev at : List Variable → Context
+  at variables = context_of statics boundary env.variables variables
+
+  blocked : (vs : List Variable) (numbers : List ℕ) (line : ℕ) {body : Run Completion} → Sure (at (opened numbers 0 env.variables vs)) Any body CompletionIs → Sure (at vs) Any (in_block env numbers line body) CompletionIs
+  blocked vs numbers line {body = body} h = scoped_sure statics boundary env.variables vs numbers env.setting i.most i.low line body h
 
   mutual
-    pub execute_sure : (s : Statement) → StatementNames sc.scope s → Sure sc Any (execute env s) CompletionIs
-    execute_sure (ExpressionStatement e) h = sure_counted (sure_on (evaluate_sure c e h) (λ v. sure_done (λ o p. tt)))
-    execute_sure Empty h = sure_counted (sure_done (λ o p. tt))
-    execute_sure (Declaration is) h = sure_on (initialize_all_sure c is.items h) (λ _. sure_done (λ o p. tt))
-    execute_sure (Block' shape body) h = sure_counted (row_sure body h)
-    execute_sure (If' e _ body other) h = sure_counted (sure_on (holds_sure (Some e) h.0) (λ b. sure_choose b (execute_sure body h.1) (otherwise_sure other h.2)))
-    execute_sure (While' e _ body) h = sure_counted (turns_sure env.limit (holds_sure (Some e) h.0) (execute_sure body h.1) sure_skip env.depth)
-    execute_sure (DoWhile' _ body e) h = sure_counted (turns_before_sure env.limit (holds_sure (Some e) h.1) (execute_sure body h.0) sure_skip env.depth)
-    execute_sure (For' first condition step _ body) h =
-        sure_counted (sure_on (first_sure first h.0) (λ _. turns_sure env.limit (holds_sure condition h.1) (execute_sure body h.3) (perform_sure step h.2) env.depth))
-    execute_sure (Switch' e shape items) h = sure_counted (sure_on (evaluate_sure c e h.0) (λ v. sure_any (sure_counted (switch_sure sc v.word (items_of env items) (switch_items_sure items h.1)))))
-    execute_sure Break h = sure_counted (sure_done (λ o p. tt))
-    execute_sure Continue h = sure_counted (sure_done (λ o p. tt))
-    execute_sure (Return None) h = sure_counted (sure_done (λ o p. tt))
-    execute_sure (Return (Some e)) h = sure_counted (sure_on (evaluate_sure c e h) (λ v. sure_done {a = Returned v} (λ o x. x.tag)))
+    pub execute_sure : (vs : List Variable) (s : Statement) → StatementNames (at vs).scope s → Sure (at vs) Any (execute env s) CompletionIs
+    execute_sure vs (expression_statement e) h = sure_counted (sure_on (evaluate_sure (i.calling vs) e h) (λ v. sure_done (λ o p. tt)))
+    execute_sure vs empty h = sure_counted (sure_done (λ o p. tt))
+    execute_sure vs (declaration ds) h = sure_on (initialize_all_sure (i.calling vs) ds h) (λ _. sure_done (λ o p. tt))
+    execute_sure vs (block line body) h = sure_counted (blocked vs (block_variables body) line (row_sure (opened (block_variables body) 0 env.variables vs) body h))
+    execute_sure vs (if_then e body) h = sure_counted (sure_on (holds_sure (i.calling vs) (Some e) h.0) (λ b. sure_choose b (execute_sure vs body h.1) (sure_done (λ o p. tt))))
+    execute_sure vs (if_else e body other) h =
+        sure_counted (sure_on (holds_sure (i.calling vs) (Some e) h.0) (λ b. sure_choose b (execute_sure vs body h.1) (execute_sure vs other h.2)))
+    execute_sure vs (while_do e body) h = sure_counted (turns_sure env.limit (holds_sure (i.calling vs) (Some e) h.0) (execute_sure vs body h.1) sure_skip env.depth)
+    execute_sure vs (do_while body e) h = sure_counted (turns_before_sure env.limit (holds_sure (i.calling vs) (Some e) h.1) (execute_sure vs body h.0) sure_skip env.depth)
+    execute_sure vs (for line first condition next body) h =
+        let d = opened (first_variables first) 0 env.variables vs in
+        sure_counted (blocked vs (first_variables first) line
+        (sure_on (first_sure (i.calling d) first h.0) (λ _. turns_sure env.limit (holds_sure (i.calling d) condition h.1) (execute_sure d body h.3) (perform_sure (i.calling d) next h.2) env.depth)))
+    execute_sure vs (switch e line is) h =
+        let d = opened (switch_variables is) 0 env.variables vs in
+        sure_counted (sure_on (evaluate_sure (i.calling vs) e h.0) (λ v.
+        sure_any (sure_counted (blocked vs (switch_variables is) line (switch_sure (at d) v.word (items_of env is) (switch_items_sure d is h.1))))))
+    execute_sure vs break h = sure_counted (sure_done (λ o p. tt))
+    execute_sure vs continue h = sure_counted (sure_done (λ o p. tt))
+    execute_sure vs (return None) h = sure_counted (sure_done (λ o p. tt))
+    execute_sure vs (return (Some e)) h = sure_counted (sure_on (evaluate_sure (i.calling vs) e h) (λ v. sure_done {a = Returned v} (λ o x. x.tag)))
 
-    otherwise_sure : (other : Held-Statement-If-2) → OtherwiseNames sc.scope other → Sure sc Any (otherwise env other) CompletionIs
-    otherwise_sure None' h = sure_done (λ o p. tt)
-    otherwise_sure (Some' _ body) h = execute_sure body h
+    pub row_sure : (vs : List Variable) (ss : Statements) → StatementsName (at vs).scope ss → Sure (at vs) Any (in_order (each_of env ss)) CompletionIs
+    row_sure vs no_statements h = sure_done (λ o p. tt)
+    row_sure vs (statements s ss) h = sure_on (execute_sure vs s h.0) (λ x. next_sure x (row_sure vs ss h.1))
 
-    row_sure : {n : _} (row : Row_of-Statement n) → StatementsName sc.scope row → Sure sc Any (in_order (each_of env row)) CompletionIs
-    row_sure end_of-Statement h = sure_done (λ o p. tt)
-    row_sure (more_of-Statement s rest) h = sure_on (execute_sure s h.0) (λ x. next_sure x (row_sure rest h.1))
-
-    switch_items_sure : {n : _} (row : Row_of-SwitchItem n) → ItemsName sc.scope row → AllSure sc (items_of env row)
-    switch_items_sure end_of-SwitchItem h = tt
-    switch_items_sure (more_of-SwitchItem labels s rest) h = (execute_sure s h.0, switch_items_sure rest h.1)
-
-  pub body_sure : (body : List Statement) → AllName sc.scope body → Sure sc Any (in_order (map (execute env) body)) CompletionIs
-  body_sure [] h = sure_done (λ o p. tt)
-  body_sure (s ∷ ss) h = sure_on (execute_sure s h.0) (λ x. next_sure x (body_sure ss h.1))
+    switch_items_sure : (vs : List Variable) (is : SwitchItems) → ItemsName (at vs).scope is → AllSure (at vs) (items_of env is)
+    switch_items_sure vs no_items h = tt
+    switch_items_sure vs (items labels s is) h = (execute_sure vs s h.0, switch_items_sure vs is h.1)

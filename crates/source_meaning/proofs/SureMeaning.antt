@@ -1,5 +1,5 @@
 -- A program that names what is there keeps its objects sound, and its accesses are of bytes of objects.
-use Rattle.std.proofs.Common.{◌≡◌, ℕ, zero, suc, ◌+◌, ◌/◌, ◌%◌, ◌≤◌, ◌<◌, List, [], ◌∷◌, true, false, Option, Some, None, length, get_or, replicate, refl, sym, ap, ◌∙◌, subst, arith, inl, inr, ◌⊎◌, ◌≢◌}
+use Rattle.std.proofs.Common.{◌≡◌, ℕ, zero, suc, ◌+◌, ◌/◌, ◌%◌, ◌≤◌, ◌<◌, List, [], ◌∷◌, Bool, true, false, Option, Some, None, length, get_or, replicate, refl, sym, ap, ◌∙◌, subst, arith, inl, inr, ◌⊎◌, ◌≢◌}
 use Rattle.std.proofs.lemmas.Bool.{cases_lt}
 use Rattle.std.proofs.lemmas.List.{length-replicate}
 use Rattle.addr_map.specs.Places.{AreMapped, region_start, region_size}
@@ -15,20 +15,22 @@ use Rattle.obj_memory.specs.Sound.{IsSound, IsSoundObject, IsSoundTag, AreDisjoi
 use Rattle.obj_memory.proofs.Listed.{every_replicate}
 use Rattle.obj_memory.proofs.Judging.{sound_pointer}
 use Rattle.c_tree.specs.declared.expression.Kind.{Kind}
-use Rattle.c_tree.specs.declared.program.Function.{Function}
-use Rattle.c_tree.specs.declared.program.StaticObject.{StaticObject}
-use Rattle.c_tree.specs.declared.program.Program.{Program}
-use Rattle.source_meaning.specs.State.{State, Outcome, Gives, Ended, Paused, Setting}
+use Rattle.c_tree.specs.Programs.{FunctionType, Function, StaticObject, Program}
+use Rattle.source_meaning.specs.State.{State, Outcome, Gives, Ended, Paused, choose, skip, Setting, Env}
+use Rattle.source_meaning.specs.Initializers.{store_parts}
+use Rattle.c_tree.specs.ValidProgram.{name_variables}
+use Rattle.c_tree.specs.Blocks.{all_of}
+use Rattle.source_meaning.proofs.SureBlocks.{context_of, Inside}
 use Rattle.source_meaning.specs.Places.{statics_first, stack_first, stack_end, heap_first}
 use Rattle.c_tree.specs.Kinds.{size_of_kind}
 use Rattle.source_meaning.specs.Calls.{enter_found, function_at, calls}
 use Rattle.source_meaning.specs.Meaning.{placed_statics, statics_end, setting_of, fresh, static_env, store_statics, objects_after, initial_objects, start, line_of, outcome}
 use Rattle.source_meaning.specs.Acting.{state_of}
-use Rattle.source_meaning.specs.Naming.{static_kind, FunctionNames, FunctionsName, StaticsName, NamesObjects, scope_of}
+use Rattle.source_meaning.proofs.Naming.{static_kind, FunctionNames, FunctionsName, file_scope, PartsName, StaticsName, NamesObjects}
 use Rattle.source_meaning.specs.Keeping.{IsNamed, AreSeparate, IsSoundState}
 use Rattle.source_meaning.proofs.Separating.{separate_back}
 use Rattle.source_meaning.proofs.Holding.{live_made, IsHeld, held_named}
-use Rattle.source_meaning.proofs.Sure.{Context, IsGood, AreLow, AreTagged, After, Sure, Any, sure_on, sure_skip, sure_stop, sure_pause, sure_read, IsTagged}
+use Rattle.source_meaning.proofs.Sure.{Context, IsGood, AreLow, AreTagged, After, Sure, Any, sure_on, sure_any, sure_skip, sure_stop, sure_pause, sure_read, IsTagged}
 use Rattle.source_meaning.proofs.SureTree.{Calling, parts_sure}
 use Rattle.source_meaning.proofs.SureCalls.{enter_sure}
 use Rattle.source_meaning.proofs.SureLibrary.{sure_routine}
@@ -57,11 +59,20 @@ module _ (statics : List StaticObject) (functions : List Function) (names : Func
   CallsSure n = (sc : Context) → sc.scope.statics ≡ statics → sc.boundary ≡ heap_first g → (f : ℕ) (vs : List Value) (line : ℕ) → Sure sc (AreTagged vs) (calls functions g limit n f vs line) IsTagged
 
   found_sure : (n : ℕ) → CallsSure n → (sc : Context) → sc.scope.statics ≡ statics → sc.boundary ≡ heap_first g → (o : Option Function) → NamesFound statics o → (vs : List Value) (line : ℕ)
-      → Sure sc (AreTagged vs) (enter_found (record { setting = g; limit = limit; depth = suc n; call = calls functions g limit n }) o vs line) IsTagged
+      → Sure sc (AreTagged vs) (enter_found (record { setting = g; variables = []; limit = limit; depth = suc n; call = calls functions g limit n }) o vs line) IsTagged
   found_sure n deeper sc same level None h vs line = sure_stop
   found_sure n deeper sc same level (Some f) h vs line =
-      enter_sure statics f h (record { setting = g; limit = limit; depth = suc n; call = calls functions g limit n }) (heap_first g) (stack_below g mapped) (heap_low g mapped)
-      (record { call = deeper (record { scope = scope_of statics f; boundary = heap_first g }) refl refl; library = sure_routine g mapped (omega arith); print = sure_print }) sc same level vs line
+      let env : Env = record { setting = g; variables = []; limit = limit; depth = suc n; call = calls functions g limit n } in
+      let inside : Inside statics (heap_first g) (record env { variables = all_of f }) = record {
+        calling = λ variables. record {
+          call = deeper (context_of statics (heap_first g) (all_of f) variables) refl refl;
+          library = sure_routine g mapped (omega arith);
+          print = sure_print;
+        };
+        most = stack_below g mapped;
+        low = heap_low g mapped;
+      } in
+      enter_sure statics f h env (heap_first g) inside sc same level vs line
 
   pub calls_sure : (n : ℕ) → CallsSure n
   calls_sure zero sc same level f vs line = sure_pause
@@ -121,7 +132,7 @@ placed_held first (o ∷ os) offset (suc n) kind e =
 -- their initializers
 
 abbrev static_context : List StaticObject → Setting → Context
-static_context statics g = record { scope = record { statics = statics; variables = [] }; boundary = heap_first g }
+static_context statics g = record { scope = file_scope statics; boundary = heap_first g }
 
 pause_calls : (g : Setting) → AreMapped g.sizes → (sc : Context) → sc.boundary ≤ heap_first g → Calling sc (static_env g)
 pause_calls g mapped sc least = record { call = λ f vs line. sure_pause; library = sure_routine g mapped least; print = sure_print }
@@ -137,12 +148,17 @@ module _ (g : Setting) (mapped : AreMapped g.sizes) (statics : List StaticObject
   rest_kinds : (n : ℕ) (o : StaticObject) (os : List StaticObject) → AreFrom n (o ∷ os) → AreFrom (n + 1) os
   rest_kinds n o os h = λ k. let same : n + suc k ≡ n + 1 + k = omega arith in subst (λ i. static_kind statics i ≡ static_kind os k) same (h (suc k))
 
+  part_stored : (p : Value) (o : StaticObject) (b : Bool) → name_variables o.parts ≡ b → (name_variables o.parts ≡ false → PartsName (static_context statics g).scope (size_of_kind o.kind) o.parts)
+      → Sure (static_context statics g) (λ objects. IsSoundTag objects p.tag × IsNamed objects p (size_of_kind o.kind)) (choose b skip (store_parts (static_env g) p o.parts)) (λ _. Any)
+  part_stored p o true e names = sure_any sure_skip
+  part_stored p o false e names = parts_sure (pause_calls g mapped (static_context statics g) (omega arith)) p (size_of_kind o.kind) o.parts (names e)
+
   store_sure : (n : ℕ) (os : List StaticObject) → AreFrom n os → StaticsName (static_context statics g).scope os → Sure (static_context statics g) Any (store_statics (static_env g) n os) (λ _. Any)
   store_sure n [] from names = sure_skip
   store_sure n (o ∷ os) from names =
       sure_on (sure_read {Q = λ p objects. IsSoundTag objects p.tag × IsNamed objects p (size_of_kind o.kind)} {f = λ s. pointer_to n s.objects} (λ s good p.
       let h = good.statics n o.kind (first_kind n o os from) in (sound_pointer n s.objects h.made, held_named s.objects n o.kind h))) (λ p.
-      sure_on (parts_sure (pause_calls g mapped (static_context statics g) (omega arith)) p (size_of_kind o.kind) o.parts.items names.0) (λ _.
+      sure_on (part_stored p o (name_variables o.parts) refl names.0) (λ _.
       store_sure (n + 1) os (rest_kinds n o os from) names.1))
 
 abbrev GoodStart : List StaticObject → Setting → (input : List ℕ) → Objects → Type 0
@@ -208,7 +224,7 @@ sound_after sc s Q (Gives a s') h = record { kept = h.0.good.kept; apart = h.0.g
 sound_after sc s Q (Ended e s') h = record { kept = h.kept; apart = h.apart }
 sound_after sc s Q (Paused s') h = record { kept = h.kept; apart = h.apart }
 
-statics_fit : (p : Program) (budgets : BudgetSizes) → statics_first (setting_of p budgets) + statics_end p.statics.items 0 ≤ stack_first (setting_of p budgets)
+statics_fit : (p : Program) (budgets : BudgetSizes) → statics_first (setting_of p budgets) + statics_end p.statics 0 ≤ stack_first (setting_of p budgets)
 unfolding region_start region_size
 statics_fit p budgets = omega arith
 
@@ -217,34 +233,34 @@ stack_low g mapped = let below = stack_below g mapped in omega (arith, below)
 
 module _ (p : Program) (budgets : BudgetSizes) (mapped : AreMapped (setting_of p budgets).sizes) (names : NamesObjects p) where
   abbrev placed : Objects
-  placed = placed_statics (statics_first (setting_of p budgets)) p.statics.items 0
+  placed = placed_statics (statics_first (setting_of p budgets)) p.statics 0
 
-  placed_good : GoodStart p.statics.items (setting_of p budgets) [] placed
+  placed_good : GoodStart p.statics (setting_of p budgets) [] placed
   placed_good =
       let g = setting_of p budgets in
       let whole = starts_whole g.sizes mapped Globals in
       let under = stack_low g mapped in
       let low = heap_low g mapped in
-      let fresh_at = placed_fresh (statics_first g) (stack_first g) (omega (arith, whole)) p.statics.items 0 (statics_fit p budgets) in
-      good_start p.statics.items g [] placed
-      (record { at = λ n. fresh_sound (statics_first g) (stack_first g) placed _ (fresh_at n) }) (λ n. let end = (fresh_at n).end in omega (arith, end, under, low)) (placed_held (statics_first g) p.statics.items 0)
+      let fresh_at = placed_fresh (statics_first g) (stack_first g) (omega (arith, whole)) p.statics 0 (statics_fit p budgets) in
+      good_start p.statics g [] placed
+      (record { at = λ n. fresh_sound (statics_first g) (stack_first g) placed _ (fresh_at n) }) (λ n. let end = (fresh_at n).end in omega (arith, end, under, low)) (placed_held (statics_first g) p.statics 0)
       (record {
-        apart = placed_disjoint (statics_first g) p.statics.items;
+        apart = placed_disjoint (statics_first g) p.statics;
         below = λ n live held. (fresh_at n).end;
         above = λ n live block. absurd (let both : true ≡ false = sym block ∙ (fresh_at n).static in cc);
         top = under;
       })
 
-  start_good : (input : List ℕ) → GoodStart p.statics.items (setting_of p budgets) input (initial_objects p (setting_of p budgets))
+  start_good : (input : List ℕ) → GoodStart p.statics (setting_of p budgets) input (initial_objects p (setting_of p budgets))
   start_good input =
       let g = setting_of p budgets in
-      stored p.statics.items g input placed placed_good (λ _. Any) _
-      ((store_sure g mapped p.statics.items 0 p.statics.items (λ k. let same : 0 + k ≡ k = omega arith in ap (static_kind p.statics.items) same) names.statics).by
+      stored p.statics g input placed placed_good (λ _. Any) _
+      ((store_sure g mapped p.statics 0 p.statics (λ k. let same : 0 + k ≡ k = omega arith in ap (static_kind p.statics) same) names.statics).by
       (fresh g placed []) placed_good tt)
 
   pub run_sound : (input : List ℕ) (t : ℕ) → IsSoundState (state_of (outcome p budgets input t))
   run_sound input t =
       let g = setting_of p budgets in
-      sound_after (static_context p.statics.items g) (start p g input) IsTagged (outcome p budgets input t)
-      ((calls_sure p.statics.items p.functions.items names.functions g mapped t (t + 1) (static_context p.statics.items g) refl refl p.main [] (line_of (function_at p.functions.items p.main))).by
+      sound_after (static_context p.statics g) (start p g input) IsTagged (outcome p budgets input t)
+      ((calls_sure p.statics p.functions names.functions g mapped t (t + 1) (static_context p.statics g) refl refl p.main [] (line_of (function_at p.functions p.main))).by
       (start p g input) (start_good input) (λ x. tt))

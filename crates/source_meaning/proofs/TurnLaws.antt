@@ -8,10 +8,10 @@ use Rattle.sb_base.specs.declared.ending.Ending.TheVariants.{Exit}
 use Rattle.sb_base.specs.Budgets.{BudgetSizes}
 use Rattle.obj_memory.specs.declared.value.Value.{Value}
 use Rattle.obj_memory.specs.Sound.{Continues}
-use Rattle.c_tree.specs.declared.program.Program.{Program}
-use Rattle.c_tree.specs.declared.program.Function.{Function}
-use Rattle.source_meaning.specs.declared.completion.Completion.{Completion}
-use Rattle.source_meaning.specs.declared.completion.Completion.TheVariants.{Normal, Broken, Continued, Returned}
+use Rattle.c_tree.specs.declared.program.Variable.{Variable}
+use Rattle.c_tree.specs.Programs.{FunctionType, Function, StaticObject, Program}
+use Rattle.source_meaning.specs.Statements.{Completion}
+use Rattle.source_meaning.specs.Statements.{Normal, Broken, Continued, Returned}
 use Rattle.source_meaning.specs.State.{State, Outcome, Gives, Ended, Paused, Run, pause, choose, change, Setting}
 use Rattle.source_meaning.specs.Actions.{begin_turn, int_of}
 use Rattle.source_meaning.specs.Statements.{after_body, turns, turns_before}
@@ -87,10 +87,10 @@ module _ (limit limit' : ℕ) (le : limit ≤ limit') {condition condition' : Ru
   leads_turns_before (suc n) (suc m) le' =
       leads_on (leads_begin limit limit' le) (λ _. leads_on b (λ x. leads_after x (leads_on c (λ again. leads_choose again (leads_turns_before n m (omega arith)) (leads_action acts_done)))))
 
-pub leads_related : (g : Setting) (limit limit' depth depth' : ℕ) (call call' : ℕ → List Value → ℕ → Run Value) → limit ≤ limit' → depth ≤ depth'
+pub leads_related : (g : Setting) (variables : List Variable) (limit limit' depth depth' : ℕ) (call call' : ℕ → List Value → ℕ → Run Value) → limit ≤ limit' → depth ≤ depth'
     → ((f : ℕ) (vs : List Value) (line : ℕ) → LeadsTo (call f vs line) (call' f vs line))
-    → Related (record { setting = g; limit = limit; depth = depth; call = call }) (record { setting = g; limit = limit'; depth = depth'; call = call' }) (λ A r r'. LeadsTo r r')
-leads_related g limit limit' depth depth' call call' le deeper leads = record {
+    → Related (record { setting = g; variables = variables; limit = limit; depth = depth; call = call }) (record { setting = g; variables = variables; limit = limit'; depth = depth'; call = call' }) (λ A r r'. LeadsTo r r')
+leads_related g variables limit limit' depth depth' call call' le deeper leads = record {
   on = leads_on;
   action = leads_action;
   turn = leads_begin limit limit' le;
@@ -104,9 +104,9 @@ leads_related g limit limit' depth depth' call call' le deeper leads = record {
 module _ (functions : List Function) (g : Setting) where
   leads_found : (limit limit' depth depth' : ℕ) (call call' : ℕ → List Value → ℕ → Run Value) → limit ≤ limit' → depth ≤ depth'
       → ((f : ℕ) (vs : List Value) (line : ℕ) → LeadsTo (call f vs line) (call' f vs line)) → (o : Option Function) (vs : List Value) (line : ℕ)
-      → LeadsTo (enter_found (record { setting = g; limit = limit; depth = depth; call = call }) o vs line) (enter_found (record { setting = g; limit = limit'; depth = depth'; call = call' }) o vs line)
+      → LeadsTo (enter_found (record { setting = g; variables = []; limit = limit; depth = depth; call = call }) o vs line) (enter_found (record { setting = g; variables = []; limit = limit'; depth = depth'; call = call' }) o vs line)
   leads_found limit limit' depth depth' call call' le deeper leads =
-      found_related g limit limit' depth depth' call call' (λ A r r'. LeadsTo r r') (leads_related g limit limit' depth depth' call call' le deeper leads)
+      found_related g [] limit limit' depth depth' call call' (λ A r r'. LeadsTo r r') (leads_related g [] limit limit' depth depth' call call' le deeper leads)
 
   pub leads_itself : (limit n f : ℕ) (vs : List Value) (line : ℕ) → LeadsTo (calls functions g limit n f vs line) (calls functions g limit n f vs line)
   leads_itself limit zero f vs line = leads_pause later_pause
@@ -150,11 +150,11 @@ pub more_turns : (p : Program) (budgets : BudgetSizes) (input : List ℕ) → Gr
 more_turns p budgets input = record {
   at = λ t u le.
       let g = setting_of p budgets in
-      on_below _ _ ((leads_calls p.functions.items g t u le (t + 1) (u + 1) (omega arith) p.main [] (line_of (function_at p.functions.items p.main))).below (start p g input));
+      on_below _ _ ((leads_calls p.functions g t u le (t + 1) (u + 1) (omega arith) p.main [] (line_of (function_at p.functions p.main))).below (start p g input));
 }
 
 pub objects_continue : (p : Program) (budgets : BudgetSizes) (input : List ℕ) (t : ℕ)
     → Continues (initial_objects p (setting_of p budgets)) (state_of (outcome p budgets input t)).objects
 objects_continue p budgets input t =
     let g = setting_of p budgets in
-    ((later_calls p.functions.items g t (t + 1) p.main [] (line_of (function_at p.functions.items p.main))).later (start p g input)).objects
+    ((later_calls p.functions g t (t + 1) p.main [] (line_of (function_at p.functions p.main))).later (start p g input)).objects

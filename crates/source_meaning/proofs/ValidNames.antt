@@ -1,5 +1,5 @@
 -- A valid program names what is there.
-use Rattle.std.proofs.Common.{◌≡◌, ℕ, ◌+◌, ◌≤◌, List, [], ◌∷◌, Bool, true, false, ◌&&◌, ◌==◌, not, Some, get_or, refl, sym, ap, ◌∙◌, subst, arith}
+use Rattle.std.proofs.Common.{◌≡◌, ℕ, ◌+◌, ◌^◌, ◌≤◌, nat_le, List, [], ◌∷◌, Bool, true, false, ◌&&◌, ◌==◌, not, zero, suc, None, if◌then◌else◌, Some, get_or, refl, sym, ap, ◌∙◌, subst, arith}
 use Rattle.std.proofs.lemmas.Bool.{eqb-true, leb-true}
 use Rattle.obj_memory.specs.declared.int_type.IntType.{IntType}
 use Rattle.obj_memory.specs.declared.int_type.IntType.TheVariants.{Char, SignedChar, UnsignedChar, Short, UnsignedShort, Int, UnsignedInt, Long, UnsignedLong, LongLong, UnsignedLongLong}
@@ -12,12 +12,13 @@ use Rattle.c_tree.specs.declared.expression.Update.{Update}
 use Rattle.c_tree.specs.declared.expression.Update.TheVariants as update
 use Rattle.c_tree.specs.declared.expression.Routine.{Routine}
 use Rattle.c_tree.specs.declared.expression.Routine.TheVariants.{Malloc, Calloc, Free, Realloc, Memcpy, Memmove, Memset, Memcmp, Strlen, Strcmp, Strcpy, Strncpy, Strcat, Strchr, Putchar, Getchar, Puts, Exit, Abort}
-use Rattle.c_tree.specs.declared.expression.Node.{Node, Constant, Function as FunctionName, Plain, Read', Decay', Address', Parenthesized', FunctionDesignator', Cast', Convert', Unary', Binary', Offset', Difference', And', Or', Comma', Conditional', Assign', SetPlain', Compound', ChangePlain', Step', StepPlain, Call', CallThrough', Library', Printf', Row_of-Expression, end_of-Expression, more_of-Expression}
-use Rattle.c_tree.specs.declared.expression.LvalueNode.{LvalueNode, Automatic, Static, Deref', Index', Member', Arrow', MemberOfValue', Parenthesized' as ParenthesizedLvalue'}
-use Rattle.c_tree.specs.Kinds.{integer, pointer, int_number, is_int_type, is_kind, are_kinds, size_of_kind, is_integer, is_promoted_type, is_promoted, is_scalar, is_value, is_array, has_member, OperatorClass, Arithmetic, Shift, Comparison, class_of, are_operands, Signature, routine_signature}
-use Rattle.c_tree.specs.Valid.{is_constant, is_plain, is_operand, is_conversion, is_right_of, is_update, is_step, is_call, no_signature, is_lvalue, is_valid, are_valid, is_valid_lvalue, is_valid_expression}
+use Rattle.c_tree.specs.Tree.{Expression, expression, Expressions, no_expressions, expressions, Lvalue, lvalue, Node, constant, function, plain, read, decay, address, parenthesized, deref_function, address_function, cast, convert, unary, binary, offset_by, difference, logical_and, logical_or, comma, conditional, assign, assign_plain, compound, change_plain, step, step_plain, call, call_through, library, printf, LvalueNode, automatic, static, deref, index, member, arrow, member_of_value, parenthesized_lvalue, kind_of, line_of, lvalue_kind, lvalue_line, kinds_of}
+use Rattle.c_tree.specs.Kinds.{is_size, is_step_operator, integer, pointer, int_number, is_int_type, is_kind, are_kinds, size_of_kind, is_integer, is_promoted_type, is_promoted, is_scalar, is_value, is_array, has_member, OperatorClass, Arithmetic, Shift, Comparison, class_of, are_operands, Signature, routine_signature}
+use Rattle.c_tree.specs.Valid.{is_constant, is_plain, is_operand, is_conversion, is_right_of, is_update, is_step, is_call, no_signature, is_lvalue, is_lvalue_node, is_member, is_valid, is_node, are_valid, is_valid_lvalue, is_valid_lvalue_node}
+use Rattle.c_tree.specs.declared.program.Variable.{Variable}
 use Rattle.c_tree.specs.Valid as valid
-use Rattle.source_meaning.specs.Naming.{Scope, static_kind, object_kind, basis_of, IsWritable, IsNoStructure, IsScalar, IsStructureWith, ValueNames, LvalueNames, RowNames}
+use Rattle.source_meaning.proofs.Naming.{Scope, static_kind, object_kind, basis_of, node_basis, IsWritable, IsScalar, IsStructureWith, Names, ValueNames, LvalueNames, PlaceNames, RowNames}
+use Rattle.source_meaning.specs.Keeping.{IsNoStructure}
 
 -- tests that hold
 
@@ -34,8 +35,11 @@ four a b c d e = let p = both (a && b && c) d e in let q = three a b c p.0 in (q
 pub five : (a b c d f : Bool) → (a && b && c && d && f) ≡ true → (a ≡ true) × (b ≡ true) × (c ≡ true) × (d ≡ true) × (f ≡ true)
 five a b c d f e = let p = both (a && b && c && d) f e in let q = four a b c d p.0 in (q.0, q.1, q.2, q.3, p.1)
 
-six : (a b c d f g : Bool) → (a && b && c && d && f && g) ≡ true → (a ≡ true) × (b ≡ true) × (c ≡ true) × (d ≡ true) × (f ≡ true) × (g ≡ true)
+pub six : (a b c d f g : Bool) → (a && b && c && d && f && g) ≡ true → (a ≡ true) × (b ≡ true) × (c ≡ true) × (d ≡ true) × (f ≡ true) × (g ≡ true)
 six a b c d f g e = let p = both (a && b && c && d && f) g e in let q = five a b c d f p.0 in (q.0, q.1, q.2, q.3, q.4, p.1)
+
+seven : (a b c d f g i : Bool) → (a && b && c && d && f && g && i) ≡ true → (a ≡ true) × (b ≡ true) × (c ≡ true) × (d ≡ true) × (f ≡ true) × (g ≡ true) × (i ≡ true)
+seven a b c d f g i e = let p = both (a && b && c && d && f && g) i e in let q = six a b c d f g p.0 in (q.0, q.1, q.2, q.3, q.4, q.5, p.1)
 
 pub never : {A : Type 0} → false ≡ true → A
 never e = absurd (cc)
@@ -163,11 +167,11 @@ scalar_like k t e h = subst IsScalar (sym (same_kind k t e)) h
 
 scalar_update : (u : Update) (k right : Kind) → is_update u k right ≡ true → IsScalar k
 scalar_update (update.Arithmetic op t) k right e = scalar_integer k (three (is_integer k) (is_promoted_type t) (is_right_of (class_of op) t right) e).0
-scalar_update (update.Forward size) k right e = scalar_like k pointer (both (is_kind k pointer) _ e).0 tt
-scalar_update (update.Back size) k right e = scalar_like k pointer (both (is_kind k pointer) _ e).0 tt
+scalar_update (update.Forward size) k right e = scalar_like k pointer (three (is_kind k pointer) _ _ e).0 tt
+scalar_update (update.Back size) k right e = scalar_like k pointer (three (is_kind k pointer) _ _ e).0 tt
 
 scalar_step : (u : Update) (k : Kind) → is_step u k ≡ true → IsScalar k
-scalar_step (update.Arithmetic op t) k e = scalar_update (update.Arithmetic op t) k (integer t) e
+scalar_step (update.Arithmetic op t) k e = scalar_update (update.Arithmetic op t) k (integer t) (both (is_step_operator op) _ e).1
 scalar_step (update.Forward size) k e = scalar_update (update.Forward size) k (integer Int) e
 scalar_step (update.Back size) k e = scalar_update (update.Back size) k (integer Int) e
 
@@ -200,99 +204,126 @@ structure_size (Array n) bytes h = absurd h
 no_more : (n m : ℕ) → (n == m) ≡ true → n ≤ m
 no_more n m e = let same = eqb-true n m e in omega arith
 
-writable : (p : LvalueNode) → is_lvalue p ≡ true → IsWritable (basis_of p)
-writable (Automatic x) e = tt
-writable (Static n) e = tt
-writable (Deref' _ ak al a) e = tt
-writable (Index' form size _ ak al a _ bk bl b) e = tt
-writable (Member' _ pk pl p offset size) e = writable p e
-writable (Arrow' _ ak al a offset size) e = tt
-writable (MemberOfValue' _ ak al a offset size) e = never e
-writable (ParenthesizedLvalue' _ pk pl p) e = writable p e
+mutual
+  writable : (p : Lvalue) → is_lvalue p ≡ true → IsWritable (basis_of p)
+  writable (lvalue kind line node) e = node_writable node e
+
+  node_writable : (n : LvalueNode) → is_lvalue_node n ≡ true → IsWritable (node_basis n)
+  node_writable (automatic x) e = tt
+  node_writable (static n) e = tt
+  node_writable (deref a) e = tt
+  node_writable (index form size a b) e = tt
+  node_writable (member p offset size) e = writable p e
+  node_writable (arrow a offset size) e = tt
+  node_writable (member_of_value a offset size) e = never e
+  node_writable (parenthesized_lvalue p) e = writable p e
 
 -- what a scope of validity and one of names have in common
 pub record Agree (scope : valid.Scope) (sc : Scope) : Type 0 where
   pub static : (n : ℕ) (k : Kind) → valid.is_static scope n k ≡ true → static_kind sc.statics n ≡ Some k
-  pub object : (x : ℕ) → (valid.variable_at scope x).is_object ≡ true → object_kind sc.variables x ≡ Some (valid.variable_at scope x).kind
+  pub all : scope.all ≡ sc.all
+  pub variables : scope.variables ≡ sc.variables
   pub function : (f : ℕ) → IsNoStructure (get_or scope.functions f no_signature).result
   pub type : (n : ℕ) → IsNoStructure (get_or scope.types n no_signature).result
 
+object_by : (v : Variable) (b : Bool) → v.is_object ≡ b → b ≡ true → (if v.is_object then Some v.kind else None) ≡ Some v.kind
+object_by v true e h = subst (λ c. (if c then Some v.kind else None) ≡ Some v.kind) (sym e) refl
+object_by v false e h = never h
+
+object_at : (vs : List Variable) (x : ℕ) → (valid.at_number vs x).is_object ≡ true → object_kind vs x ≡ Some (valid.at_number vs x).kind
+object_at [] x e = never e
+object_at (v ∷ vs) zero e = object_by v v.is_object refl e
+object_at (v ∷ vs) (suc x) e = object_at vs x e
+
+pub object_named : {scope : valid.Scope} {sc : Scope} → Agree scope sc → (x : ℕ) → (valid.variable_at scope x).is_object ≡ true → object_kind sc.variables x ≡ Some (valid.variable_at scope x).kind
+object_named {scope = scope} g x e = subst (λ vs. object_kind vs x ≡ Some (valid.variable_at scope x).kind) g.variables (object_at scope.variables x e)
+
 module _ {scope : valid.Scope} {sc : Scope} (g : Agree scope sc) where
   mutual
-    pub value_names : (n : Node) (k : Kind) → is_valid scope n k ≡ true → ValueNames sc n k
-    value_names (Constant w) k e = none_constant w k e
-    value_names (FunctionName f) k e = none_like k pointer (both _ (is_kind k pointer) e).1 tt
-    value_names (Plain x) k e = none_plain scope x k e
-    value_names (Read' _ t line l) k e =
-        let h = three (is_valid_lvalue scope l t) (is_kind k t) (is_value k) e in (lvalue_names l t h.0, same_kind k t h.1)
-    value_names (Decay' _ t line l) k e =
-        let h = three (is_valid_lvalue scope l t) (is_array t) (is_kind k pointer) e in (lvalue_names l t h.0, none_like k pointer h.2 tt)
-    value_names (Address' _ t line l) k e =
-        let h = three (is_valid_lvalue scope l t) (is_lvalue l) (is_kind k pointer) e in (lvalue_names l t h.0, none_like k pointer h.2 tt)
-    value_names (Parenthesized' _ t line a) k e = let h = both (is_valid scope a t) (is_kind k t) e in (value_names a t h.0, same_kind k t h.1)
-    value_names (FunctionDesignator' _ t line a) k e =
-        let h = three (is_valid scope a t) (is_kind t pointer) (is_kind k pointer) e in (value_names a t h.0, none_like k pointer h.2 tt)
-    value_names (Cast' _ t line a) k e = let h = both (is_valid scope a t) (is_conversion t k) e in (value_names a t h.0, none_conversion t k h.1)
-    value_names (Convert' _ t line a) k e = let h = both (is_valid scope a t) (is_conversion t k) e in (value_names a t h.0, none_conversion t k h.1)
-    value_names (Unary' op _ t line a) k e = let h = both (is_valid scope a t) (is_operand op t k) e in (value_names a t h.0, none_operand op t k h.1)
-    value_names (Binary' op _ t line a _ t' line' b) k e =
-        let h = three (is_valid scope a t) (is_valid scope b t') (are_operands (class_of op) t t' k) e in (value_names a t h.0, value_names b t' h.1, none_operands (class_of op) t t' k h.2)
-    value_names (Offset' form size _ t line a _ t' line' b) k e =
-        let h = four (is_valid scope a t) (is_valid scope b t') _ (is_kind k pointer) e in (value_names a t h.0, value_names b t' h.1, none_like k pointer h.3 tt)
-    value_names (Difference' size _ t line a _ t' line' b) k e =
-        let h = six (is_valid scope a t) (is_valid scope b t') _ _ _ (is_kind k (integer Long)) e in (value_names a t h.0, value_names b t' h.1, none_like k (integer Long) h.5 tt)
-    value_names (And' _ t line a _ t' line' b) k e =
-        let h = five (is_valid scope a t) (is_valid scope b t') _ _ (is_kind k (integer Int)) e in (value_names a t h.0, value_names b t' h.1, none_like k (integer Int) h.4 tt)
-    value_names (Or' _ t line a _ t' line' b) k e =
-        let h = five (is_valid scope a t) (is_valid scope b t') _ _ (is_kind k (integer Int)) e in (value_names a t h.0, value_names b t' h.1, none_like k (integer Int) h.4 tt)
-    value_names (Comma' _ t line a _ t' line' b) k e =
-        let h = three (is_valid scope a t) (is_valid scope b t') (is_kind k t') e in (value_names a t h.0, value_names b t' h.1, same_kind k t' h.2)
-    value_names (Conditional' _ t line a _ t' line' b _ t'' line'' c) k e =
-        let h = six (is_valid scope a t) (is_scalar t) (is_valid scope b t') (is_valid scope c t'') (is_kind k t') (is_kind k t'') e in
-        (value_names a t h.0, value_names b t' h.2, value_names c t'' h.3, same_kind k t' h.4, same_kind k t'' h.5)
-    value_names (Assign' _ t line l _ t' line' a) k e =
-        let h = six (is_valid_lvalue scope l t) (is_lvalue l) (is_valid scope a t') (is_kind t t') (is_kind k t) (is_value k) e in
-        (lvalue_names l t h.0, writable l h.1, value_names a t' h.2, same_kind t t' h.3, same_kind k t h.4)
-    value_names (SetPlain' x _ t line a) k e =
-        let h = three (is_valid scope a t) (is_plain scope x.variable t) (is_kind k t) e in (value_names a t h.0, none_like k t h.2 (none_plain scope x.variable t h.1))
-    value_names (Compound' u _ t line l _ t' line' a) k e =
-        let h = five (is_valid_lvalue scope l t) (is_lvalue l) (is_valid scope a t') (is_update u t t') (is_kind k t) e in
-        (lvalue_names l t h.0, writable l h.1, scalar_update u t t' h.3, value_names a t' h.2, none_like k t h.4 (none_of_scalar t (scalar_update u t t' h.3)))
-    value_names (ChangePlain' u x _ t line a) k e =
-        let h = three (is_valid scope a t) (is_plain scope x.variable k) (is_update u k t) e in (value_names a t h.0, none_plain scope x.variable k h.1)
-    value_names (Step' u fixity _ t line l) k e =
-        let h = four (is_valid_lvalue scope l t) (is_lvalue l) (is_step u t) (is_kind k t) e in
-        (lvalue_names l t h.0, writable l h.1, scalar_step u t h.2, none_like k t h.3 (none_of_scalar t (scalar_step u t h.2)))
-    value_names (StepPlain u fixity x) k e = none_plain scope x.variable k (both (is_plain scope x.variable k) (is_step u k) e).0
-    value_names (Call' f shape args) k e =
-        let h = three (are_valid scope args) _ (is_call (get_or scope.functions f no_signature) (valid.kinds args) k) e in
-        (row_names args h.0, none_call (get_or scope.functions f no_signature) (valid.kinds args) k (g.function f) h.2)
-    value_names (CallThrough' type_number _ t line a shape args) k e =
-        let h = five (is_valid scope a t) _ (are_valid scope args) _ (is_call (get_or scope.types type_number no_signature) (valid.kinds args) k) e in
-        (value_names a t h.0, row_names args h.2, none_call (get_or scope.types type_number no_signature) (valid.kinds args) k (g.type type_number) h.4)
-    value_names (Library' r shape args) k e =
-        let h = both (are_valid scope args) (is_call (routine_signature r) (valid.kinds args) k) e in (row_names args h.0, none_call (routine_signature r) (valid.kinds args) k (none_routine r) h.1)
-    value_names (Printf' format shape args) k e =
+    pub names : (e : Expression) → is_valid scope e ≡ true → Names sc e
+    names (expression kind line node) e = value_names node kind e
+
+    pub value_names : (n : Node) (k : Kind) → is_node scope n k ≡ true → ValueNames sc n k
+    value_names (constant w) k e = none_constant w k e
+    value_names (function f) k e = none_like k pointer (both _ (is_kind k pointer) e).1 tt
+    value_names (plain x) k e = none_plain scope x k e
+    value_names (read l) k e =
+        let h = three (is_valid_lvalue scope l) (is_kind k (lvalue_kind l)) (is_value k) e in (lvalue_names l h.0, same_kind k (lvalue_kind l) h.1)
+    value_names (decay l) k e =
+        let h = four (is_valid_lvalue scope l) (is_lvalue l) (is_array (lvalue_kind l)) (is_kind k pointer) e in (lvalue_names l h.0, none_like k pointer h.3 tt)
+    value_names (address l) k e =
+        let h = three (is_valid_lvalue scope l) (is_lvalue l) (is_kind k pointer) e in (lvalue_names l h.0, none_like k pointer h.2 tt)
+    value_names (parenthesized a) k e = let h = both (is_valid scope a) (is_kind k (kind_of a)) e in (names a h.0, same_kind k (kind_of a) h.1)
+    value_names (deref_function a) k e =
+        let h = three (is_valid scope a) (is_kind (kind_of a) pointer) (is_kind k pointer) e in (names a h.0, none_like k pointer h.2 tt)
+    value_names (address_function a) k e =
+        let h = three (is_valid scope a) (is_kind (kind_of a) pointer) (is_kind k pointer) e in (names a h.0, none_like k pointer h.2 tt)
+    value_names (cast a) k e = let h = both (is_valid scope a) (is_conversion (kind_of a) k) e in (names a h.0, none_conversion (kind_of a) k h.1)
+    value_names (convert a) k e = let h = three (is_valid scope a) (is_conversion (kind_of a) k) _ e in (names a h.0, none_conversion (kind_of a) k h.1)
+    value_names (unary op a) k e = let h = both (is_valid scope a) (is_operand op (kind_of a) k) e in (names a h.0, none_operand op (kind_of a) k h.1)
+    value_names (binary op a b) k e =
+        let h = three (is_valid scope a) (is_valid scope b) (are_operands (class_of op) (kind_of a) (kind_of b) k) e in (names a h.0, names b h.1, none_operands (class_of op) (kind_of a) (kind_of b) k h.2)
+    value_names (offset_by form size a b) k e =
+        let h = six (is_valid scope a) (is_valid scope b) _ _ _ (is_kind k pointer) e in (names a h.0, names b h.1, none_like k pointer h.5 tt)
+    value_names (difference size a b) k e =
+        let h = six (is_valid scope a) (is_valid scope b) _ _ _ (is_kind k (integer Long)) e in (names a h.0, names b h.1, none_like k (integer Long) h.5 tt)
+    value_names (logical_and a b) k e =
+        let h = five (is_valid scope a) (is_valid scope b) _ _ (is_kind k (integer Int)) e in (names a h.0, names b h.1, none_like k (integer Int) h.4 tt)
+    value_names (logical_or a b) k e =
+        let h = five (is_valid scope a) (is_valid scope b) _ _ (is_kind k (integer Int)) e in (names a h.0, names b h.1, none_like k (integer Int) h.4 tt)
+    value_names (comma a b) k e =
+        let h = three (is_valid scope a) (is_valid scope b) (is_kind k (kind_of b)) e in (names a h.0, names b h.1, same_kind k (kind_of b) h.2)
+    value_names (conditional a b c) k e =
+        let h = six (is_valid scope a) (is_scalar (kind_of a)) (is_valid scope b) (is_valid scope c) (is_kind k (kind_of b)) (is_kind k (kind_of c)) e in
+        (names a h.0, names b h.2, names c h.3, same_kind k (kind_of b) h.4, same_kind k (kind_of c) h.5)
+    value_names (assign l a) k e =
+        let h = six (is_valid_lvalue scope l) (is_lvalue l) (is_valid scope a) (is_kind (lvalue_kind l) (kind_of a)) (is_kind k (lvalue_kind l)) (is_value k) e in
+        (lvalue_names l h.0, writable l h.1, names a h.2, same_kind (lvalue_kind l) (kind_of a) h.3, same_kind k (lvalue_kind l) h.4)
+    value_names (assign_plain x a) k e =
+        let h = three (is_valid scope a) (is_plain scope x.variable (kind_of a)) (is_kind k (kind_of a)) e in (names a h.0, none_like k (kind_of a) h.2 (none_plain scope x.variable (kind_of a) h.1))
+    value_names (compound u l a) k e =
+        let h = five (is_valid_lvalue scope l) (is_lvalue l) (is_valid scope a) (is_update u (lvalue_kind l) (kind_of a)) (is_kind k (lvalue_kind l)) e in
+        (lvalue_names l h.0, writable l h.1, scalar_update u (lvalue_kind l) (kind_of a) h.3, names a h.2, none_like k (lvalue_kind l) h.4 (none_of_scalar (lvalue_kind l) (scalar_update u (lvalue_kind l) (kind_of a) h.3)))
+    value_names (change_plain u x a) k e =
+        let h = three (is_valid scope a) (is_plain scope x.variable k) (is_update u k (kind_of a)) e in (names a h.0, none_plain scope x.variable k h.1)
+    value_names (step u fixity l) k e =
+        let h = four (is_valid_lvalue scope l) (is_lvalue l) (is_step u (lvalue_kind l)) (is_kind k (lvalue_kind l)) e in
+        (lvalue_names l h.0, writable l h.1, scalar_step u (lvalue_kind l) h.2, none_like k (lvalue_kind l) h.3 (none_of_scalar (lvalue_kind l) (scalar_step u (lvalue_kind l) h.2)))
+    value_names (step_plain u fixity x) k e = none_plain scope x.variable k (both (is_plain scope x.variable k) (is_step u k) e).0
+    value_names (call f args) k e =
+        let h = three (are_valid scope args) _ (is_call (get_or scope.functions f no_signature) (kinds_of args) k) e in
+        (row_names args h.0, none_call (get_or scope.functions f no_signature) (kinds_of args) k (g.function f) h.2)
+    value_names (call_through type_number a args) k e =
+        let h = five (is_valid scope a) _ (are_valid scope args) _ (is_call (get_or scope.types type_number no_signature) (kinds_of args) k) e in
+        (names a h.0, row_names args h.2, none_call (get_or scope.types type_number no_signature) (kinds_of args) k (g.type type_number) h.4)
+    value_names (library r args) k e =
+        let h = both (are_valid scope args) (is_call (routine_signature r) (kinds_of args) k) e in (row_names args h.0, none_call (routine_signature r) (kinds_of args) k (none_routine r) h.1)
+    value_names (printf format args) k e =
         let h = three (are_valid scope args) _ (is_kind k (integer Int)) e in (row_names args h.0, none_like k (integer Int) h.2 tt)
 
-    pub row_names : {n : _} (row : Row_of-Expression n) → are_valid scope row ≡ true → RowNames sc row
-    row_names end_of-Expression e = tt
-    row_names (more_of-Expression k line a rest) e = let h = both (is_valid scope a k) (are_valid scope rest) e in (value_names a k h.0, row_names rest h.1)
+    pub row_names : (es : Expressions) → are_valid scope es ≡ true → RowNames sc es
+    row_names no_expressions e = tt
+    row_names (expressions a es) e = let h = both (is_valid scope a) (are_valid scope es) e in (names a h.0, row_names es h.1)
 
-    pub lvalue_names : (p : LvalueNode) (k : Kind) → is_valid_lvalue scope p k ≡ true → LvalueNames sc p k
-    lvalue_names (Automatic x) k e =
+    pub lvalue_names : (p : Lvalue) → is_valid_lvalue scope p ≡ true → LvalueNames sc p
+    lvalue_names (lvalue kind line node) e = place_names node kind e
+
+    place_names : (n : LvalueNode) (k : Kind) → is_valid_lvalue_node scope n k ≡ true → PlaceNames sc n k
+    place_names (automatic x) k e =
         let v = valid.variable_at scope x in
         let h = both v.is_object (is_kind v.kind k) e in
-        g.object x h.0 ∙ ap Some (same_kind v.kind k h.1)
-    lvalue_names (Static n) k e = g.static n k e
-    lvalue_names (Deref' _ t line a) k e = value_names a t (three (is_valid scope a t) _ _ e).0
-    lvalue_names (Index' form size _ t line a _ t' line' b) k e =
-        let h = six (is_valid scope a t) (is_valid scope b t') _ _ _ _ e in (value_names a t h.0, value_names b t' h.1)
-    lvalue_names (Member' _ t line p offset size) k e =
-        let h = three (is_valid_lvalue scope p t) (has_member t offset size) (size_of_kind k == size) e in
-        (lvalue_names p t h.0, structure_size t (offset + size) (member_fits t offset size h.1), no_more (size_of_kind k) size h.2)
-    lvalue_names (Arrow' _ t line a offset size) k e = value_names a t (three (is_valid scope a t) _ _ e).0
-    lvalue_names (MemberOfValue' _ t line a offset size) k e =
-        let h = three (is_valid scope a t) (has_member t offset size) (size_of_kind k == size) e in
-        (value_names a t h.0, member_fits t offset size h.1, no_more (size_of_kind k) size h.2)
-    lvalue_names (ParenthesizedLvalue' _ t line p) k e = let h = both (is_valid_lvalue scope p t) (is_kind k t) e in (lvalue_names p t h.0, same_kind k t h.1)
+        object_named g x h.0 ∙ ap Some (same_kind v.kind k h.1)
+    place_names (static n) k e = g.static n k e
+    place_names (deref a) k e = names a (three (is_valid scope a) _ _ e).0
+    place_names (index form size a b) k e =
+        let h = seven (is_valid scope a) (is_valid scope b) _ _ _ _ _ e in (names a h.0, names b h.1)
+    place_names (member p at size) k e =
+        let h = three (is_valid_lvalue scope p) (has_member (lvalue_kind p) at size) (is_member k at size) e in
+        let m = three (size_of_kind k == size) (is_size size) (nat_le (at + size) (2 ^ 32)) h.2 in
+        (lvalue_names p h.0, structure_size (lvalue_kind p) (at + size) (member_fits (lvalue_kind p) at size h.1), no_more (size_of_kind k) size m.0)
+    place_names (arrow a at size) k e = names a (three (is_valid scope a) _ _ e).0
+    place_names (member_of_value a at size) k e =
+        let h = three (is_valid scope a) (has_member (kind_of a) at size) (is_member k at size) e in
+        let m = three (size_of_kind k == size) (is_size size) (nat_le (at + size) (2 ^ 32)) h.2 in
+        (names a h.0, member_fits (kind_of a) at size h.1, no_more (size_of_kind k) size m.0)
+    place_names (parenthesized_lvalue p) k e = let h = both (is_valid_lvalue scope p) (is_kind k (lvalue_kind p)) e in (lvalue_names p h.0, same_kind k (lvalue_kind p) h.1)

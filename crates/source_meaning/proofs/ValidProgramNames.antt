@@ -1,41 +1,40 @@
 -- The same of statements and of programs.
-use Rattle.std.proofs.Common.{◌≡◌, ℕ, zero, suc, ◌+◌, List, [], ◌∷◌, ◌++◌, map, Bool, true, false, ◌==◌, Option, Some, None, length, get_or, if◌then◌else◌, refl, sym, ap, subst, arith, nat_le, nat_lt}
+use Rattle.std.proofs.Common.{◌≡◌, ℕ, zero, suc, ◌+◌, List, [], ◌∷◌, ◌++◌, map, Bool, true, false, ◌==◌, Option, Some, None, length, get_or, if◌then◌else◌, refl, sym, ap, ◌∙◌, subst, arith, nat_le, nat_lt}
 use Rattle.std.specs.List.{list_all}
 use Rattle.std.proofs.lemmas.Bool.{leb-true, ltb-true, lt-ltb}
 use Rattle.c_tree.specs.declared.expression.Kind.{Kind}
 use Rattle.c_tree.specs.declared.expression.Kind.TheVariants.{Void}
-use Rattle.c_tree.specs.declared.expression.Expression.{Expression}
+use Rattle.c_tree.specs.Tree.{Expression, kind_of, line_of}
 use Rattle.c_tree.specs.declared.program.Variable.{Variable}
-use Rattle.c_tree.specs.declared.program.Function.{Function}
-use Rattle.c_tree.specs.declared.program.FunctionType.{FunctionType}
-use Rattle.c_tree.specs.declared.program.StaticObject.{StaticObject}
-use Rattle.c_tree.specs.declared.program.Program.{Program}
-use Rattle.c_tree.specs.declared.statement.Part.{Part}
-use Rattle.c_tree.specs.declared.statement.Content.{Content}
-use Rattle.c_tree.specs.declared.statement.Content.TheVariants.{Value as ValueOf, Literal}
-use Rattle.c_tree.specs.declared.statement.Initialization.{Initialization}
-use Rattle.c_tree.specs.declared.statement.Initialization.TheVariants.{Plain as PlainInitialization, Object}
-use Rattle.c_tree.specs.declared.statement.First.{First}
-use Rattle.c_tree.specs.declared.statement.First.TheVariants.{Nothing, Expression as FirstExpression, Declaration as FirstDeclaration}
-use Rattle.c_tree.specs.declared.statement.Statement.{Statement, Expression as ExpressionStatement, Empty, Declaration, Block', If', While', DoWhile', For', Switch', Break, Continue, Return, Row_of-Statement, end_of-Statement, more_of-Statement, Held-Statement-If-2, None', Some', Row_of-SwitchItem, end_of-SwitchItem, more_of-SwitchItem}
-use Rattle.c_tree.specs.Kinds.{is_kind, size_of_kind, is_scalar, is_value, Signature}
+use Rattle.c_tree.specs.Programs.{FunctionType, Function, StaticObject, Program}
+use Rattle.c_tree.specs.Statements.{Part, Content, value_content, literal_content, Initializer, of_plain, of_object, DeclaredVariable}
+use Rattle.c_tree.specs.Statements.{First, nothing, first_expression, first_declaration, Statement, expression_statement, empty, declaration, block, if_then, if_else, while_do, do_while, for, switch, break, continue, return, Statements, no_statements, statements, SwitchItems, no_items, items}
+use Rattle.c_tree.specs.Kinds.{has_size, is_kind, size_of_kind, is_scalar, is_value, Signature}
 use Rattle.c_tree.specs.Valid as valid
-use Rattle.c_tree.specs.Valid.{no_signature, no_variable, is_valid_expression, is_condition, is_plain}
-use Rattle.c_tree.specs.ValidProgram.{content_size, is_content, is_part, are_parts, is_initialization, are_initializations, is_first, is_condition_if, is_expression_if, is_return, Inside, in_loop, in_switch, is_statement, is_else, are_statements, are_items, signature_of, signatures_of, at_number, scope_in, function_scope, are_parameters, is_function, is_static_object, is_main, is_valid_program}
-use Rattle.c_tree.specs.Room.{room}
-use Rattle.source_meaning.specs.Naming.{Scope, static_kind, object_kind, IsNoStructure, Names, NamesIfAny, ContentNames, PartsName, InitializationNames, InitializationsName, FirstNames, StatementNames, OtherwiseNames, StatementsName, ItemsName, AllName, TakeNoStructure, AreNoStructures, PassNoStructures, FunctionNames, FunctionsName, StaticsName, NamesObjects}
-use Rattle.source_meaning.proofs.ValidNames.{both, three, four, five, never, same_kind, none_like, Agree, value_names}
+use Rattle.c_tree.specs.Valid.{no_signature, within, is_valid, is_condition, is_plain}
+use Rattle.c_tree.specs.ValidProgram.{content_size, is_content, is_part, are_parts, is_initializer, are_declared, is_first, is_condition_if, is_expression_if, is_return, Inside, in_loop, in_switch, is_statement, are_statements, are_items, is_function_type, are_all_different, signature_of, signatures_of, signature_at, scope_in, function_scope, are_parameters, is_function, are_functions, name_variables, variables_of_function, static_scope, is_function_number, is_static_object, is_main, is_valid_program}
+use Rattle.c_tree.specs.Blocks.{opened, all_of, body_variables, block_variables, switch_variables, first_variables}
+use Rattle.source_meaning.proofs.Naming.{Scope, static_kind, Names, NamesIfAny, ContentNames, PartsName, InitializerNames, DeclaredName, FirstNames, entering, StatementNames, StatementsName, ItemsName, TakeNoStructure, FunctionNames, FunctionsName, file_scope, StaticsName, NamesObjects}
+use Rattle.source_meaning.specs.Keeping.{IsNoStructure, AreNoStructures, PassNoStructures}
+use Rattle.source_meaning.proofs.ValidNames.{both, three, five, six, never, same_kind, none_like, Agree, object_named, names}
+
+-- a block that declares some variables
+within_agree : {scope : valid.Scope} {sc : Scope} (numbers : List ℕ) → Agree scope sc → Agree (within scope numbers) (entering sc numbers)
+within_agree {scope = scope} numbers g = record {
+  static = g.static;
+  all = g.all;
+  variables = ap (λ vs. opened numbers 0 vs scope.variables) g.all ∙ ap (opened numbers 0 _) g.variables;
+  function = g.function;
+  type = g.type;
+}
 
 module _ {scope : valid.Scope} {sc : Scope} (g : Agree scope sc) where
-  names : (e : Expression) → is_valid_expression scope e ≡ true → Names sc e
-  names e h = value_names g e.node e.kind h
-
   condition_names : (e : Expression) → is_condition scope e ≡ true → Names sc e
-  condition_names e h = names e (both (is_valid_expression scope e) (is_scalar e.kind) h).0
+  condition_names e h = names g e (both (is_valid scope e) (is_scalar (kind_of e)) h).0
 
   content_names : (size offset : ℕ) (content : Content) → is_content scope content ≡ true → nat_le (offset + content_size content) size ≡ true → ContentNames sc size offset content
-  content_names size offset (ValueOf e) h fits = (names e (both (is_valid_expression scope e) (is_value e.kind) h).0, leb-true (offset + size_of_kind e.kind) size fits)
-  content_names size offset (Literal bytes) h fits = leb-true (offset + length bytes.items) size fits
+  content_names size offset (value_content e) h fits = (names g e (both (is_valid scope e) (is_value (kind_of e)) h).0, leb-true (offset + size_of_kind (kind_of e)) size fits)
+  content_names size offset (literal_content bytes) h fits = leb-true (offset + length bytes) size fits
 
   pub parts_names : (size : ℕ) (parts : List Part) → are_parts scope size parts ≡ true → PartsName sc size parts
   parts_names size [] h = tt
@@ -44,21 +43,22 @@ module _ {scope : valid.Scope} {sc : Scope} (g : Agree scope sc) where
       let q = both (is_content scope p.content) (nat_le (p.offset + content_size p.content) size) e.0 in
       (content_names size p.offset p.content q.0 q.1, parts_names size ps e.1)
 
-  initialization_names : (i : Initialization) → is_initialization scope i ≡ true → InitializationNames sc i
-  initialization_names (PlainInitialization x e) h = names e (both (is_valid_expression scope e) (is_plain scope x e.kind) h).0
-  initialization_names (Object x parts) h =
+  initializer_names : (x : ℕ) (i : Option Initializer) → is_initializer scope x i ≡ true → InitializerNames sc x i
+  initializer_names x None h = tt
+  initializer_names x (Some (of_plain e)) h = names g e (both (is_valid scope e) (is_plain scope x (kind_of e)) h).0
+  initializer_names x (Some (of_object parts)) h =
       let v = valid.variable_at scope x in
-      let e = both v.is_object (are_parts scope (size_of_kind v.kind) parts.items) h in
-      (v.kind, g.object x e.0, parts_names (size_of_kind v.kind) parts.items e.1)
+      let e = both v.is_object (are_parts scope (size_of_kind v.kind) parts) h in
+      (v.kind, object_named g x e.0, parts_names (size_of_kind v.kind) parts e.1)
 
-  initializations_names : (is : List Initialization) → are_initializations scope is ≡ true → InitializationsName sc is
-  initializations_names [] h = tt
-  initializations_names (i ∷ is) h = let e = both (is_initialization scope i) (are_initializations scope is) h in (initialization_names i e.0, initializations_names is e.1)
+  declared_names : (ds : List DeclaredVariable) → are_declared scope ds ≡ true → DeclaredName sc ds
+  declared_names [] h = tt
+  declared_names (d ∷ ds) h = let e = both (is_initializer scope d.variable d.initializer) (are_declared scope ds) h in (initializer_names d.variable d.initializer e.0, declared_names ds e.1)
 
   first_names : (f : First) → is_first scope f ≡ true → FirstNames sc f
-  first_names Nothing h = tt
-  first_names (FirstExpression e) h = names e h
-  first_names (FirstDeclaration is) h = initializations_names is.items h
+  first_names nothing h = tt
+  first_names (first_expression e) h = names g e h
+  first_names (first_declaration ds) h = declared_names ds h
 
   condition_if : (e : Option Expression) → is_condition_if scope e ≡ true → NamesIfAny sc e
   condition_if None h = tt
@@ -66,46 +66,48 @@ module _ {scope : valid.Scope} {sc : Scope} (g : Agree scope sc) where
 
   expression_if : (e : Option Expression) → is_expression_if scope e ≡ true → NamesIfAny sc e
   expression_if None h = tt
-  expression_if (Some e) h = names e h
+  expression_if (Some e) h = names g e h
 
   return_names : (e : Option Expression) → is_return scope e ≡ true → NamesIfAny sc e
   return_names None h = tt
-  return_names (Some e) h = names e (three (is_valid_expression scope e) (is_kind e.kind scope.result) (is_value e.kind) h).0
+  return_names (Some e) h = names g e (three (is_valid scope e) (is_kind (kind_of e) scope.result) (is_value (kind_of e)) h).0
 
-  mutual
-    pub statement_names : (inside : Inside) (s : Statement) → is_statement scope inside s ≡ true → StatementNames sc s
-    statement_names inside (ExpressionStatement e) h = names e h
-    statement_names inside Empty h = tt
-    statement_names inside (Declaration is) h = initializations_names is.items h
-    statement_names inside (Block' shape body) h = row_names inside body h
-    statement_names inside (If' e _ s other) h =
-        let q = three (is_condition scope e) (is_statement scope inside s) (is_else scope inside other) h in (condition_names e q.0, statement_names inside s q.1, else_names inside other q.2)
-    statement_names inside (While' e _ s) h = let q = both (is_condition scope e) (is_statement scope in_loop s) h in (condition_names e q.0, statement_names in_loop s q.1)
-    statement_names inside (DoWhile' _ s e) h = let q = both (is_statement scope in_loop s) (is_condition scope e) h in (statement_names in_loop s q.0, condition_names e q.1)
-    statement_names inside (For' start test step _ s) h =
-        let q = four (is_first scope start) (is_condition_if scope test) (is_expression_if scope step) (is_statement scope in_loop s) h in
-        (first_names start q.0, condition_if test q.1, expression_if step q.2, statement_names in_loop s q.3)
-    statement_names inside (Switch' e shape items) h =
-        let q = five (is_valid_expression scope e) _ _ _ (are_items scope (in_switch inside) items) h in (names e q.0, item_names (in_switch inside) items q.4)
-    statement_names inside Break h = tt
-    statement_names inside Continue h = tt
-    statement_names inside (Return e) h = return_names e h
+mutual
+  pub statement_names : {scope : valid.Scope} {sc : Scope} (g : Agree scope sc) (inside : Inside) (s : Statement) → is_statement scope inside s ≡ true → StatementNames sc s
+  statement_names g inside (expression_statement e) h = names g e h
+  statement_names g inside empty h = tt
+  statement_names g inside (declaration ds) h = declared_names g ds h
+  statement_names g inside (block line body) h = row_names (within_agree (block_variables body) g) inside body h
+  statement_names {scope = scope} g inside (if_then e s) h =
+      let q = three (is_condition scope e) (is_statement scope inside s) _ h in (condition_names g e q.0, statement_names g inside s q.1)
+  statement_names {scope = scope} g inside (if_else e s other) h =
+      let q = five (is_condition scope e) (is_statement scope inside s) _ (is_statement scope inside other) _ h in
+      (condition_names g e q.0, statement_names g inside s q.1, statement_names g inside other q.3)
+  statement_names {scope = scope} g inside (while_do e s) h =
+      let q = three (is_condition scope e) (is_statement scope in_loop s) _ h in (condition_names g e q.0, statement_names g in_loop s q.1)
+  statement_names {scope = scope} g inside (do_while s e) h =
+      let q = three (is_statement scope in_loop s) _ (is_condition scope e) h in (statement_names g in_loop s q.0, condition_names g e q.2)
+  statement_names {scope = scope} g inside (for line start test next s) h =
+      let d = within scope (first_variables start) in
+      let a = within_agree (first_variables start) g in
+      let q = five (is_first d start) (is_condition_if d test) (is_expression_if d next) (is_statement d in_loop s) _ h in
+      (first_names a start q.0, condition_if a test q.1, expression_if a next q.2, statement_names a in_loop s q.3)
+  statement_names {scope = scope} g inside (switch e line is) h =
+      let q = five (is_valid scope e) _ _ _ (are_items (within scope (switch_variables is)) (in_switch inside) is) h in
+      (names g e q.0, item_names (within_agree (switch_variables is) g) (in_switch inside) is q.4)
+  statement_names g inside break h = tt
+  statement_names g inside continue h = tt
+  statement_names g inside (return e) h = return_names g e h
 
-    else_names : (inside : Inside) (other : Held-Statement-If-2) → is_else scope inside other ≡ true → OtherwiseNames sc other
-    else_names inside None' h = tt
-    else_names inside (Some' _ s) h = statement_names inside s h
+  pub row_names : {scope : valid.Scope} {sc : Scope} (g : Agree scope sc) (inside : Inside) (ss : Statements) → are_statements scope inside ss ≡ true → StatementsName sc ss
+  row_names g inside no_statements h = tt
+  row_names {scope = scope} g inside (statements s ss) h =
+      let q = both (is_statement scope inside s) (are_statements scope inside ss) h in (statement_names g inside s q.0, row_names g inside ss q.1)
 
-    row_names : {n : _} (inside : Inside) (row : Row_of-Statement n) → are_statements scope inside row ≡ true → StatementsName sc row
-    row_names inside end_of-Statement h = tt
-    row_names inside (more_of-Statement s rest) h = let q = both (is_statement scope inside s) (are_statements scope inside rest) h in (statement_names inside s q.0, row_names inside rest q.1)
-
-    item_names : {n : _} (inside : Inside) (row : Row_of-SwitchItem n) → are_items scope inside row ≡ true → ItemsName sc row
-    item_names inside end_of-SwitchItem h = tt
-    item_names inside (more_of-SwitchItem labels s rest) h = let q = both (is_statement scope inside s) (are_items scope inside rest) h in (statement_names inside s q.0, item_names inside rest q.1)
-
-  pub body_names : (inside : Inside) (body : List Statement) → list_all (is_statement scope inside) body ≡ true → AllName sc body
-  body_names inside [] h = tt
-  body_names inside (s ∷ ss) h = let q = both (is_statement scope inside s) (list_all (is_statement scope inside) ss) h in (statement_names inside s q.0, body_names inside ss q.1)
+  item_names : {scope : valid.Scope} {sc : Scope} (g : Agree scope sc) (inside : Inside) (is : SwitchItems) → are_items scope inside is ≡ true → ItemsName sc is
+  item_names g inside no_items h = tt
+  item_names {scope = scope} g inside (items labels s is) h =
+      let q = both (is_statement scope inside s) (are_items scope inside is) h in (statement_names g inside s q.0, item_names g inside is q.1)
 
 -- the scopes of a program agree
 
@@ -121,44 +123,31 @@ static_at [] n k lt e = let never = ltb-true n 0 lt in absurd (omega arith)
 static_at (o ∷ os) zero k lt e = ap Some (same_kind o.kind k e)
 static_at (o ∷ os) (suc n) k lt e = static_at os n k (later n (length os) lt) e
 
-object_by : (v : Variable) (b : Bool) → v.is_object ≡ b → b ≡ true → (if v.is_object then Some v.kind else None) ≡ Some v.kind
-object_by v true e h = subst (λ c. (if c then Some v.kind else None) ≡ Some v.kind) (sym e) refl
-object_by v false e h = never h
-
-object_at : (vs : List Variable) (x : ℕ) → (get_or vs x no_variable).is_object ≡ true → object_kind vs x ≡ Some (get_or vs x no_variable).kind
-object_at [] x e = never e
-object_at (v ∷ vs) zero e = object_by v v.is_object refl e
-object_at (v ∷ vs) (suc x) e = object_at vs x e
-
-type_none : (ts : List FunctionType) → PassNoStructures ts → (n : ℕ) → IsNoStructure (at_number (map signature_of ts) n).result
+type_none : (ts : List FunctionType) → PassNoStructures ts → (n : ℕ) → IsNoStructure (get_or (map signature_of ts) n no_signature).result
 type_none [] h n = tt
 type_none (t ∷ ts) h zero = h.0
 type_none (t ∷ ts) h (suc n) = type_none ts h.2 n
 
-type_at : (ts : List FunctionType) → PassNoStructures ts → (n : ℕ) → IsNoStructure (get_or (map signature_of ts) n no_signature).result
-type_at [] h n = tt
-type_at (t ∷ ts) h zero = h.0
-type_at (t ∷ ts) h (suc n) = type_at ts h.2 n
-
-taken_none : (ts : List FunctionType) → PassNoStructures ts → (n : ℕ) → AreNoStructures (at_number (map signature_of ts) n).parameters
+taken_none : (ts : List FunctionType) → PassNoStructures ts → (n : ℕ) → AreNoStructures (get_or (map signature_of ts) n no_signature).parameters
 taken_none [] h n = tt
 taken_none (t ∷ ts) h zero = h.1
 taken_none (t ∷ ts) h (suc n) = taken_none ts h.2 n
 
-function_none : (sigs : List Signature) → ((n : ℕ) → IsNoStructure (at_number sigs n).result) → (fs : List Function) (i : ℕ) → IsNoStructure (get_or (map (λ (f : Function). at_number sigs f.type_number) fs) i no_signature).result
+function_none : (sigs : List Signature) → ((n : ℕ) → IsNoStructure (get_or sigs n no_signature).result) → (fs : List Function) (i : ℕ) → IsNoStructure (get_or (map (λ (f : Function). get_or sigs f.type_number no_signature) fs) i no_signature).result
 function_none sigs h [] i = tt
 function_none sigs h (f ∷ fs) zero = h f.type_number
 function_none sigs h (f ∷ fs) (suc i) = function_none sigs h fs i
 
-module _ (p : Program) (none : PassNoStructures p.function_types.items) where
-  agree : (variables : List Variable) (result : Kind) → Agree (scope_in p variables result) (record { statics = p.statics.items; variables = variables })
-  agree variables result = record {
+module _ (p : Program) (none : PassNoStructures p.function_types) where
+  agree : (all variables : List Variable) (result : Kind) → Agree (scope_in p all variables result) (record { statics = p.statics; all = all; variables = variables })
+  agree all variables result = record {
     static = λ n k e.
-        let q = both (nat_lt n (length (map (λ (o : StaticObject). o.kind) p.statics.items))) _ e in
-        static_at p.statics.items n k (subst (λ m. nat_lt n m ≡ true) (length-kinds p.statics.items) q.0) q.1;
-    object = object_at variables;
-    function = function_none (signatures_of p) (type_none p.function_types.items none) p.functions.items;
-    type = type_at p.function_types.items none;
+        let q = both (nat_lt n (length (map (λ (o : StaticObject). o.kind) p.statics))) _ e in
+        static_at p.statics n k (subst (λ m. nat_lt n m ≡ true) (length-kinds p.statics) q.0) q.1;
+    all = refl;
+    variables = refl;
+    function = function_none (signatures_of p) (type_none p.function_types none) p.functions;
+    type = type_none p.function_types none;
   }
 
   parameters_none : (vs : List Variable) (ks : List Kind) → AreNoStructures ks → are_parameters vs ks ≡ true → TakeNoStructure vs
@@ -167,25 +156,31 @@ module _ (p : Program) (none : PassNoStructures p.function_types.items) where
   parameters_none (v ∷ vs) (k ∷ ks) h e =
       let q = three (is_kind v.kind k) (is_value k) (are_parameters vs ks) e in (none_like v.kind k q.0 h.0, parameters_none vs ks h.1 q.2)
 
-  function_names : (f : Function) → is_function p f ≡ true → FunctionNames p.statics.items f
-  function_names f e =
-      let q = five _ (are_parameters f.parameters.items (at_number (signatures_of p) f.type_number).parameters) _ (list_all (is_statement (function_scope p f) (record { may_break = false; may_continue = false })) f.body.items) (f.room == room f) e in
+  function_names : (n : ℕ) (f : Function) → is_function p n f ≡ true → FunctionNames p.statics f
+  function_names n f e =
+      let q = six _ (are_parameters f.parameters (signature_at p f.type_number).parameters) _ _ (are_statements (function_scope p f) (record { may_break = false; may_continue = false }) f.body) _ e in
       record {
-        body = body_names (agree (f.parameters.items ++ f.variables.items) (at_number (signatures_of p) f.type_number).result) (record { may_break = false; may_continue = false }) f.body.items q.3;
-        parameters = parameters_none f.parameters.items _ (taken_none p.function_types.items none f.type_number) q.1;
+        body = row_names (agree (all_of f) (f.parameters ++ body_variables f) (signature_at p f.type_number).result) (record { may_break = false; may_continue = false }) f.body q.4;
+        parameters = parameters_none f.parameters _ (taken_none p.function_types none f.type_number) q.1;
       }
 
-  functions_names : (fs : List Function) → list_all (is_function p) fs ≡ true → FunctionsName p.statics.items fs
-  functions_names [] e = tt
-  functions_names (f ∷ fs) e = let q = both (is_function p f) (list_all (is_function p) fs) e in (function_names f q.0, functions_names fs q.1)
+  functions_names : (n : ℕ) (fs : List Function) → are_functions p n fs ≡ true → FunctionsName p.statics fs
+  functions_names n [] e = tt
+  functions_names n (f ∷ fs) e = let q = both (is_function p n f) (are_functions p (suc n) fs) e in (function_names n f q.0, functions_names (suc n) fs q.1)
 
-  statics_names : (os : List StaticObject) → list_all (is_static_object p) os ≡ true → StaticsName (record { statics = p.statics.items; variables = [] }) os
+  static_parts : (o : StaticObject) → is_static_object p o ≡ true → name_variables o.parts ≡ false → PartsName (file_scope p.statics) (size_of_kind o.kind) o.parts
+  static_parts o h none =
+      let q = three (has_size o.kind) (is_function_number p o.function) (are_parts (static_scope p o) (size_of_kind o.kind) o.parts) h in
+      parts_names (agree [] [] Void) (size_of_kind o.kind) o.parts
+      (subst (λ b. are_parts (let vs = if b then variables_of_function p.functions o.function else [] in scope_in p vs vs Void) (size_of_kind o.kind) o.parts ≡ true) none q.2)
+
+  statics_names : (os : List StaticObject) → list_all (is_static_object p) os ≡ true → StaticsName (file_scope p.statics) os
   statics_names [] e = tt
   statics_names (o ∷ os) e =
-      let q = both (is_static_object p o) (list_all (is_static_object p) os) e in (parts_names (agree [] Void) (size_of_kind o.kind) o.parts.items q.0, statics_names os q.1)
+      let q = both (is_static_object p o) (list_all (is_static_object p) os) e in (static_parts o q.0, statics_names os q.1)
 
   pub valid_names : is_valid_program p ≡ true → NamesObjects p
   unfolding is_valid_program
   valid_names e =
-      let q = three (list_all (is_static_object p) p.statics.items) (list_all (is_function p) p.functions.items) (is_main p) e in
-      record { statics = statics_names p.statics.items q.0; functions = functions_names p.functions.items q.1 }
+      let q = five (list_all (is_function_type p) p.function_types) (are_all_different p.function_types) (list_all (is_static_object p) p.statics) (are_functions p 0 p.functions) (is_main p) e in
+      record { statics = statics_names p.statics q.2; functions = functions_names 0 p.functions q.3 }

@@ -27,9 +27,7 @@ use Rattle.c_tree.specs.declared.expression.OffsetForm.{OffsetForm}
 use Rattle.c_tree.specs.declared.expression.OffsetForm.TheVariants.{PointerPlusIndex, IndexPlusPointer, PointerMinusIndex}
 use Rattle.c_tree.specs.declared.expression.Fixity.{Fixity}
 use Rattle.c_tree.specs.declared.expression.Fixity.TheVariants.{Prefix, Postfix}
-use Rattle.source_meaning.specs.declared.home.Home.{Home}
-use Rattle.source_meaning.specs.declared.home.Home.TheVariants.{PlainValue, InObject}
-use Rattle.source_meaning.specs.State.{State, Run, ◌>>=◌, ◌>>◌, done, stop, pause, choose, read_state, change, tally, Setting}
+use Rattle.source_meaning.specs.State.{State, Home, NoObject, InObject, Run, ◌>>=◌, ◌>>◌, done, stop, pause, choose, read_state, change, tally, Setting}
 
 -- values
 
@@ -230,11 +228,11 @@ put_bytes bytes = do
 
 -- the pointer to the object of a variable
 abbrev pub home_value : Home → Objects → Value
-home_value PlainValue objects = integer 0
+home_value NoObject objects = integer 0
 home_value (InObject o) objects = pointer_to o objects
 
 abbrev pub home_pointer : ℕ → State → Value
-home_pointer x s = home_value (get_or s.frame x PlainValue) s.objects
+home_pointer x s = home_value (get_or s.frame x NoObject) s.objects
 
 -- budgets
 

@@ -1,43 +1,36 @@
 -- Calls (C99 6.5.2.2, 6.9.1). Three-address code has the same runs up to `lay_out`, and `back_to`.
-use Rattle.std.specs.Prelude.{ℕ, zero, suc, ◌+◌, Bool, true, false, ◌||◌, nat_le, if◌then◌else◌, List, [], ◌∷◌, ◌++◌, map, Option, Some, None}
-use Rattle.sb_base.specs.declared.ending.Ending.{Ending}
+use Rattle.std.specs.Prelude.{ℕ, zero, suc, ◌+◌, false, nat_le, if◌then◌else◌, List, [], ◌∷◌, ◌++◌, map, Option, Some, None}
 use Rattle.sb_base.specs.declared.ending.Ending.TheVariants.{Stack, BadCall}
 use Rattle.obj_memory.specs.declared.value.Value.{Value}
-use Rattle.obj_memory.specs.declared.object.Storage.TheVariants.{Automatic}
-use Rattle.obj_memory.specs.Objects.{Objects, with_dead}
-use Rattle.obj_memory.specs.Heap.{rounded_up}
 use Rattle.c_tree.specs.declared.expression.Kind.{Kind}
 use Rattle.c_tree.specs.declared.program.Variable.{Variable}
-use Rattle.c_tree.specs.declared.program.Function.{Function}
-use Rattle.source_meaning.specs.declared.home.Home.{Home}
-use Rattle.source_meaning.specs.declared.home.Home.TheVariants.{PlainValue, InObject}
-use Rattle.source_meaning.specs.declared.completion.Completion.{Completion}
-use Rattle.source_meaning.specs.declared.completion.Completion.TheVariants.{Normal, Broken, Continued, Returned}
-use Rattle.source_meaning.specs.State.{State, Run, ◌>>=◌, ◌>>◌, done, stop, pause, choose, read_state, change, skip, tally, Header, Setting, Env}
-use Rattle.source_meaning.specs.Places.{stack_end}
-use Rattle.c_tree.specs.Kinds.{size_of_kind}
-use Rattle.source_meaning.specs.Actions.{integer, begin_turn, take_key, make_object, home_value, write_lvalue}
+use Rattle.c_tree.specs.Programs.{Function}
+use Rattle.c_tree.specs.Blocks.{all_of, body_variables}
+use Rattle.source_meaning.specs.State.{State, Home, NoObject, InObject, Run, ◌>>=◌, ◌>>◌, done, stop, pause, choose, read_state, change, skip, tally, Header, Setting, Env}
+use Rattle.source_meaning.specs.Actions.{integer, begin_turn, home_value, write_lvalue}
 use Rattle.source_meaning.specs.Expressions.{counted}
-use Rattle.source_meaning.specs.Statements.{in_order, execute}
+use Rattle.source_meaning.specs.Statements.{Completion, Normal, Broken, Continued, Returned, in_order, each_of}
+use Rattle.source_meaning.specs.Blocks.{pass_or_stop, test_space, test_keys, place_variables, without_homes}
 
 abbrev pub header_of : Function → Header
 header_of f = record {
   line = f.line;
   type_number = f.type_number;
-  parameters = f.parameters.items;
-  variables = f.variables.items;
+  parameters = f.parameters;
+  variables = f.variables;
+  entered = body_variables f;
   room = f.room;
 }
 
--- all variables of a function in the order of their numbers
+-- all variables of a function in the order of their numbers, and the same of which only those are objects that belong to the block of
+-- its body, objects among the parameters too
 abbrev pub variables_of : Header → List Variable
 variables_of f = f.parameters ++ f.variables
 
--- the tests of a call, in this order
+abbrev pub body_objects : Header → List Variable
+body_objects f = f.parameters ++ f.entered
 
-abbrev pub pass_or_stop : Bool → Ending → Run (Unit {0})
-pass_or_stop true e = skip
-pass_or_stop false e = stop e
+-- the tests of a call, in this order
 
 -- the charge of all calls is within the budget
 abbrev pub test_charge : Setting → Header → (line : ℕ) → Run (Unit {0})
@@ -45,30 +38,11 @@ test_charge g f line = do
   charged ← read_state (λ s. s.charged)
   pass_or_stop (nat_le (charged + f.room) g.sizes.budgets.calls) (Stack line)
 
--- where the objects of some variables end that are placed from an address on, each at a multiple of 16
-abbrev pub objects_end : List Variable → (top : ℕ) → ℕ
-objects_end [] top = top
-objects_end (v ∷ vs) top = objects_end vs (if v.is_object then rounded_up 16 top + size_of_kind v.kind else top)
-
--- the objects of the call are within the object stack
-abbrev pub test_stack : Setting → Header → (line : ℕ) → Run (Unit {0})
-test_stack g f line = do
-  top ← read_state (λ s. s.stacked)
-  pass_or_stop (nat_le (objects_end (variables_of f) top) (stack_end g)) (Stack line)
-
-abbrev pub has_objects : List Variable → Bool
-has_objects [] = false
-has_objects (v ∷ vs) = v.is_object || has_objects vs
-
--- one key for all objects of the call
-abbrev pub test_keys : Setting → Header → (line : ℕ) → Run (Unit {0})
-test_keys g f line = choose (has_objects (variables_of f)) (take_key g line) skip
-
 abbrev pub call_tests : Setting → Header → (line : ℕ) → Run (Unit {0})
 call_tests g f line = do
   test_charge g f line
-  test_stack g f line
-  test_keys g f line
+  test_space g (body_objects f) line
+  test_keys g (body_objects f) line
 
 -- what a call lays out
 
@@ -103,28 +77,9 @@ set_plain_values f vs = do
   tally (parameter_count f.parameters + plain_count f.variables)
   change (λ s. record s { plain = plain_values f vs })
 
--- an object on top of the object stack
-abbrev pub place_object : (size : ℕ) → Run Home
-place_object size = do
-  top ← read_state (λ s. s.stacked)
-  change (λ s. record s { stacked = rounded_up 16 top + size })
-  o ← make_object Automatic (rounded_up 16 top) size
-  done (InObject o)
-
-abbrev pub place_variable : Variable → Run Home
-place_variable v = choose v.is_object (place_object (size_of_kind v.kind)) (done PlainValue)
-
--- the homes of some variables
-abbrev pub place_variables : List Variable → Run (List Home)
-place_variables [] = done []
-place_variables (v ∷ vs) = do
-  home ← place_variable v
-  homes ← place_variables vs
-  done (home ∷ homes)
-
 -- a parameter that is an object is written, by a direct access
 abbrev pub write_parameter : Kind → Home → (line : ℕ) → Value → Run (Unit {0})
-write_parameter kind PlainValue line v = skip
+write_parameter kind NoObject line v = skip
 write_parameter kind (InObject o) line v = do
   p ← read_state (λ s. home_value (InObject o) s.objects)
   write_lvalue kind false p line v
@@ -141,7 +96,7 @@ abbrev pub lay_out : Header → (arguments : List Value) → (line : ℕ) → Ru
 lay_out f vs line = do
   change (λ s. record s { charged = s.charged + f.room })
   set_plain_values f vs
-  homes ← place_variables (variables_of f)
+  homes ← place_variables (body_objects f)
   change (λ s. record s { frame = homes })
   write_parameters f.parameters homes line vs
 
@@ -162,13 +117,7 @@ pub record Caller : Type 0 where
 abbrev pub caller : State → Caller
 caller s = record { frame = s.frame; plain = s.plain; charged = s.charged; stacked = s.stacked }
 
--- the objects after those of some variables died
-abbrev pub without_homes : List Home → Objects → Objects
-without_homes [] objects = objects
-without_homes (PlainValue ∷ homes) objects = without_homes homes objects
-without_homes (InObject o ∷ homes) objects = without_homes homes (with_dead o objects)
-
--- at the return the objects of the call die, and the top of the object stack and the charge go back
+-- at the return the objects that are still entered die, and the top of the object stack and the charge go back
 abbrev pub back_to : Caller → State → State
 back_to c s = record s {
   objects = without_homes s.frame s.objects;
@@ -190,7 +139,7 @@ abbrev pub enter_begun : Env → Function → (arguments : List Value) → (line
 enter_begun env f vs line = do
   c ← read_state caller
   set_up env.setting (header_of f) vs line
-  completion ← counted (in_order (map (execute env) f.body.items))
+  completion ← counted (in_order (each_of env f.body))
   change (back_to c)
   done (returned_by completion)
 
@@ -199,10 +148,10 @@ enter env f vs line = do
   begin_turn env.limit
   enter_begun env f vs line
 
--- a call of a function that is there, as in every valid program
+-- a call of a function that is there, as in every valid program, over its variables
 abbrev pub enter_found : Env → Option Function → (arguments : List Value) → (line : ℕ) → Run Value
 enter_found env None vs line = stop (BadCall line)
-enter_found env (Some f) vs line = enter env f vs line
+enter_found env (Some f) vs line = enter (record env { variables = all_of f }) f vs line
 
 abbrev pub function_at : List Function → ℕ → Option Function
 function_at [] f = None
@@ -214,5 +163,5 @@ abbrev pub calls : List Function → Setting → (limit n : ℕ) → (function :
 calls functions g limit zero = λ f vs line. pause
 calls functions g limit (suc n) = λ f vs line.
     enter_found
-    (record { setting = g; limit = limit; depth = suc n; call = calls functions g limit n })
+    (record { setting = g; variables = []; limit = limit; depth = suc n; call = calls functions g limit n })
     (function_at functions f) vs line

@@ -7,6 +7,9 @@ use Rattle.obj_memory.specs.declared.value.Value.{Value}
 use Rattle.obj_memory.specs.Objects.{Objects, object_at}
 use Rattle.obj_memory.specs.Heap.{is_allocated}
 use Rattle.obj_memory.specs.Sound.{IsSound, AreDisjoint, Continues}
+use Rattle.c_tree.specs.declared.expression.Kind.{Kind}
+use Rattle.c_tree.specs.declared.expression.Kind.TheVariants.{Void, Scalar as OfScalar, Structure, Array}
+use Rattle.c_tree.specs.Programs.{FunctionType}
 use Rattle.source_meaning.specs.State.{State}
 
 -- the bytes of an access are bytes of one object
@@ -59,3 +62,18 @@ pub record AreSeparate (boundary stacked : ℕ) (objects : Objects) : Type 0 whe
   pub above : (n : ℕ) → (object_at objects n).is_live ≡ true → is_allocated (object_at objects n).storage ≡ true
       → boundary ≤ (object_at objects n).address
   pub top : stacked ≤ boundary
+
+abbrev pub IsNoStructure : Kind → Type 0
+IsNoStructure Void = Unit {0}
+IsNoStructure (OfScalar k) = Unit {0}
+IsNoStructure (Structure n) = ⊥
+IsNoStructure (Array n) = Unit {0}
+
+-- no function takes or gives a structure or union
+abbrev pub AreNoStructures : List Kind → Type 0
+AreNoStructures [] = Unit {0}
+AreNoStructures (k ∷ ks) = IsNoStructure k × AreNoStructures ks
+
+abbrev pub PassNoStructures : List FunctionType → Type 0
+PassNoStructures [] = Unit {0}
+PassNoStructures (t ∷ ts) = IsNoStructure t.result × AreNoStructures t.parameters × PassNoStructures ts

@@ -9,11 +9,10 @@ pub mod Printing
 pub mod Library
 pub mod Expressions
 pub mod Initializers
+pub mod Blocks
 pub mod Statements
 pub mod Calls
 pub mod Meaning
 pub mod Acting
 pub mod Turns
-pub mod Naming
 pub mod Keeping
-pub mod Assigns

@@ -10,10 +10,9 @@ use Rattle.obj_memory.specs.declared.value.Value.{Value}
 use Rattle.obj_memory.specs.declared.object.Storage.TheVariants.{Static}
 use Rattle.obj_memory.specs.Objects.{Objects, new_object, pointer_to}
 use Rattle.obj_memory.specs.Heap.{rounded_up}
-use Rattle.c_tree.specs.declared.program.Function.{Function}
-use Rattle.c_tree.specs.declared.program.StaticObject.{StaticObject}
-use Rattle.c_tree.specs.declared.program.Program.{Program}
-use Rattle.source_meaning.specs.State.{State, Outcome, Gives, Ended, Paused, Run, ◌>>=◌, ◌>>◌, pause, read_state, skip, Setting, Env}
+use Rattle.c_tree.specs.Programs.{Function, StaticObject, Program}
+use Rattle.c_tree.specs.ValidProgram.{name_variables}
+use Rattle.source_meaning.specs.State.{State, Outcome, Gives, Ended, Paused, Run, ◌>>=◌, ◌>>◌, pause, read_state, choose, skip, Setting, Env}
 use Rattle.source_meaning.specs.Places.{statics_first, stack_first}
 use Rattle.c_tree.specs.Kinds.{size_of_kind}
 use Rattle.source_meaning.specs.Actions.{int_of}
@@ -35,8 +34,8 @@ statics_end (o ∷ os) offset = statics_end os (rounded_up 16 offset + size_of_k
 
 abbrev pub setting_of : Program → BudgetSizes → Setting
 setting_of p budgets = record {
-  functions = map header_of p.functions.items;
-  sizes = record { budgets = budgets; global_bytes = statics_end p.statics.items 0 };
+  functions = map header_of p.functions;
+  sizes = record { budgets = budgets; global_bytes = statics_end p.statics 0 };
 }
 
 -- a state at which nothing has been done
@@ -58,27 +57,29 @@ fresh g objects input = record {
 
 -- initializers of static objects make no calls
 abbrev pub static_env : Setting → Env
-static_env g = record { setting = g; limit = 0; depth = 0; call = λ f vs line. pause }
+static_env g = record { setting = g; variables = []; limit = 0; depth = 0; call = λ f vs line. pause }
 
--- the initializers of the static objects from a number on
+-- The initializers of the static objects from a number on. One that names a variable of the function in whose block it stands is no
+-- constant, and stores nothing.
 abbrev pub store_statics : Env → (number : ℕ) → List StaticObject → Run (Unit {0})
 store_statics env n [] = skip
 store_statics env n (o ∷ os) = do
   p ← read_state (λ s. pointer_to n s.objects)
-  store_parts env p o.parts.items
+  choose (name_variables o.parts) skip (store_parts env p o.parts)
   store_statics env (n + 1) os
 
--- the objects after initializers, which neither end nor pause in a valid program
+-- the objects after initializers, which neither end nor pause where all are constant
 abbrev pub objects_after : {A : Type 0} → (placed : Objects) → Outcome A → Objects
 objects_after placed (Gives a s) = s.objects
 objects_after placed (Ended e s) = placed
 objects_after placed (Paused s) = placed
 
--- the static objects as they are before the run: what their initializers do is not shown and no work
+-- the static objects as they are before the run: what their initializers do is not shown and no work. They have the tags of all
+-- stores, also of those that a later one overwrites with other bytes.
 abbrev pub initial_objects : Program → Setting → Objects
 initial_objects p g =
-    let placed = placed_statics (statics_first g) p.statics.items 0 in
-    objects_after placed (store_statics (static_env g) 0 p.statics.items (fresh g placed []))
+    let placed = placed_statics (statics_first g) p.statics 0 in
+    objects_after placed (store_statics (static_env g) 0 p.statics (fresh g placed []))
 
 abbrev pub start : Program → Setting → (input : List ℕ) → State
 start p g input = fresh g (initial_objects p g) input
@@ -93,7 +94,7 @@ line_of (Some f) = f.line
 abbrev pub outcome : Program → BudgetSizes → (input : List ℕ) → (turns : ℕ) → Outcome Value
 outcome p budgets input turns =
     let g = setting_of p budgets in
-    calls p.functions.items g turns (turns + 1) p.main [] (line_of (function_at p.functions.items p.main)) (start p g input)
+    calls p.functions g turns (turns + 1) p.main [] (line_of (function_at p.functions p.main)) (start p g input)
 
 -- the moment of a state, with what is reported and the ending; the bytes of the report are work
 abbrev pub moment_at : State → (report : List ℕ) → Option End → Moment

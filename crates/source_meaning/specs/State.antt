@@ -6,7 +6,12 @@ use Rattle.addr_map.specs.Places.{MapSizes}
 use Rattle.obj_memory.specs.declared.value.Value.{Value}
 use Rattle.obj_memory.specs.Objects.{Objects}
 use Rattle.c_tree.specs.declared.program.Variable.{Variable}
-use Rattle.source_meaning.specs.declared.home.Home.{Home}
+
+-- where a variable of the function that runs is kept: in no object, where it is a plain variable or its block is not entered, or in
+-- the object with a number
+pub data Home : Type 0 where
+  NoObject : Home
+  InObject : (object : ℕ) → Home
 
 -- The objects, the homes of the variables of the function that runs and the plain values of these variables, the rest of
 -- the input and how many bytes were taken of it, the output, the accesses in order, the work done, the turns begun; and of
@@ -77,13 +82,14 @@ skip = λ s. Gives tt s
 abbrev pub tally : ℕ → Run (Unit {0})
 tally n = change (λ s. record s { work = s.work + n })
 
--- what is known of a function without its body: the line of its name, its type, its parameters and variables, and the
--- bytes of the budget `calls` that a call of it takes
+-- what is known of a function without its body: the line of its name, its type, its parameters and its other variables, those of
+-- which the body's block enters, and the bytes of the budget `calls` that a call of it takes
 pub record Header : Type 0 where
   pub line : ℕ
   pub type_number : ℕ
   pub parameters : List Variable
   pub variables : List Variable
+  pub entered : List Variable
   pub room : ℕ
 
 -- what a run stands on: the functions of its program, and the sizes of its memory, with the budgets
@@ -91,10 +97,11 @@ pub record Setting : Type 0 where
   pub functions : List Header
   pub sizes : MapSizes
 
--- what every part of a run may look at: its setting, the limit of turns, how many turns of a loop may follow one another,
--- and what a call of a function does with its arguments at a line
+-- what every part of a run may look at: its setting, the variables of the function that runs, the limit of turns, how many turns of
+-- a loop may follow one another, and what a call of a function does with its arguments at a line
 pub record Env : Type 0 where
   pub setting : Setting
+  pub variables : List Variable
   pub limit : ℕ
   pub depth : ℕ
   pub call : (function : ℕ) → List Value → (line : ℕ) → Run Value

@@ -1,17 +1,24 @@
 -- The meaning of statements (C99 6.8).
 use Rattle.std.specs.Prelude.{ℕ, zero, suc, ◌+◌, Bool, true, false, not, ◌==◌, List, [], ◌∷◌, ◌++◌, map, length, Option, Some, None}
-use Rattle.c_tree.specs.declared.expression.Expression.{Expression}
-use Rattle.c_tree.specs.declared.statement.First.{First}
-use Rattle.c_tree.specs.declared.statement.First.TheVariants.{Nothing, Expression as FirstExpression, Declaration as FirstDeclaration}
 use Rattle.c_tree.specs.declared.statement.CaseLabel.{CaseLabel}
 use Rattle.c_tree.specs.declared.statement.CaseLabel.TheVariants.{Case, Default}
-use Rattle.c_tree.specs.declared.statement.Statement.{Statement, Expression as ExpressionStatement, Empty, Declaration, Block', If', While', DoWhile', For', Switch', Break, Continue, Return, Row_of-Statement, end_of-Statement, more_of-Statement, Held-Statement-If-2, None', Some', Row_of-SwitchItem, end_of-SwitchItem, more_of-SwitchItem}
-use Rattle.source_meaning.specs.declared.completion.Completion.{Completion}
-use Rattle.source_meaning.specs.declared.completion.Completion.TheVariants.{Normal, Broken, Continued, Returned}
+use Rattle.c_tree.specs.Tree.{Expression}
+use Rattle.c_tree.specs.Statements.{First, nothing, first_expression, first_declaration, Statement, expression_statement, empty, declaration, block, if_then, if_else, while_do, do_while, for, switch, break, continue, return, Statements, no_statements, statements, SwitchItems, no_items, items}
+use Rattle.c_tree.specs.Blocks.{block_objects, block_variables, switch_variables, first_variables}
+use Rattle.source_meaning.specs.Blocks.{scoped}
+use Rattle.obj_memory.specs.declared.value.Value.{Value}
 use Rattle.source_meaning.specs.State.{Run, ◌>>=◌, ◌>>◌, done, pause, choose, skip, tally, Env}
 use Rattle.source_meaning.specs.Actions.{begin_turn, integer, is_zero}
 use Rattle.source_meaning.specs.Expressions.{counted, evaluate}
 use Rattle.source_meaning.specs.Initializers.{initialize_all}
+
+-- how a statement completes: by its end, by `break`, by `continue`, or by `return` with the value of its expression, or a word of 0
+-- where it has none (6.8.6)
+pub data Completion : Type 0 where
+  Normal : Completion
+  Broken : Completion
+  Continued : Completion
+  Returned : Value → Completion
 
 -- statements one after another
 
@@ -44,9 +51,9 @@ perform env (Some e) = do
   skip
 
 abbrev pub perform_first : Env → First → Run (Unit {0})
-perform_first env Nothing = skip
-perform_first env (FirstExpression e) = perform env (Some e)
-perform_first env (FirstDeclaration is) = initialize_all env is.items
+perform_first env nothing = skip
+perform_first env (first_expression e) = perform env (Some e)
+perform_first env (first_declaration ds) = initialize_all env ds
 
 -- what follows the body of a loop: the rest of the loop, or what is behind it
 abbrev pub after_body : Completion → Run Completion → Run Completion
@@ -137,51 +144,55 @@ after_switch Broken = Normal
 after_switch Continued = Continued
 after_switch (Returned v) = Returned v
 
-abbrev pub switch : (word : ℕ) → List LabeledRun → Run Completion
-switch word all = do
+abbrev pub run_switch : (word : ℕ) → List LabeledRun → Run Completion
+run_switch word all = do
   tally (compared word (labels_of all))
   completion ← run_items (or_default (items_from (is_case_of word) all) all)
   done (after_switch completion)
 
--- each statement that is reached is work, but a declaration
+-- a run in the block that declares some variables
+abbrev pub in_block : {A : Type 0} → Env → (numbers : List ℕ) → (line : ℕ) → Run A → Run A
+in_block env numbers line body = scoped env.setting (block_objects env.variables numbers) line body
+
+-- Each statement that is reached is work, but a declaration. A block is entered at the line of its `{`; a `for` with a declaration is
+-- one around its loop, at the line of the word (6.8.5 paragraph 5); the block of a switch is entered once its value was found.
 abbrev mutual
   pub execute : Env → Statement → Run Completion
-  execute env (ExpressionStatement e) = counted (do
+  execute env (expression_statement e) = counted (do
     evaluate env e
     done Normal)
-  execute env Empty = counted (done Normal)
-  execute env (Declaration is) = do
-    initialize_all env is.items
+  execute env empty = counted (done Normal)
+  execute env (declaration ds) = do
+    initialize_all env ds
     done Normal
-  execute env (Block' shape body) = counted (in_order (each_of env body))
-  execute env (If' e _ body other) = counted (do
+  execute env (block line body) = counted (in_block env (block_variables body) line (in_order (each_of env body)))
+  execute env (if_then e body) = counted (do
     is_taken ← holds env (Some e)
-    choose is_taken (execute env body) (otherwise env other))
-  execute env (While' e _ body) = counted
+    choose is_taken (execute env body) (done Normal))
+  execute env (if_else e body other) = counted (do
+    is_taken ← holds env (Some e)
+    choose is_taken (execute env body) (execute env other))
+  execute env (while_do e body) = counted
       (turns env.depth env.limit (holds env (Some e)) (execute env body) skip)
-  execute env (DoWhile' _ body e) = counted
+  execute env (do_while body e) = counted
       (turns_before env.depth env.limit (holds env (Some e)) (execute env body))
-  execute env (For' first condition step _ body) = counted (do
+  execute env (for line first condition step body) = counted (in_block env (first_variables first) line (do
     perform_first env first
-    turns env.depth env.limit (holds env condition) (execute env body) (perform env step))
-  execute env (Switch' e shape items) = counted (do
+    turns env.depth env.limit (holds env condition) (execute env body) (perform env step)))
+  execute env (switch e line is) = counted (do
     v ← evaluate env e
-    counted (switch v.word (items_of env items)))
-  execute env Break = counted (done Broken)
-  execute env Continue = counted (done Continued)
-  execute env (Return None) = counted (done (Returned (integer 0)))
-  execute env (Return (Some e)) = counted (do
+    counted (in_block env (switch_variables is) line (run_switch v.word (items_of env is))))
+  execute env break = counted (done Broken)
+  execute env continue = counted (done Continued)
+  execute env (return None) = counted (done (Returned (integer 0)))
+  execute env (return (Some e)) = counted (do
     v ← evaluate env e
     done (Returned v))
 
-  pub otherwise : Env → Held-Statement-If-2 → Run Completion
-  otherwise env None' = done Normal
-  otherwise env (Some' _ body) = execute env body
+  pub each_of : Env → Statements → List (Run Completion)
+  each_of env no_statements = []
+  each_of env (statements s ss) = execute env s ∷ each_of env ss
 
-  pub each_of : {n : _} → Env → Row_of-Statement n → List (Run Completion)
-  each_of env end_of-Statement = []
-  each_of env (more_of-Statement s rest) = execute env s ∷ each_of env rest
-
-  pub items_of : {n : _} → Env → Row_of-SwitchItem n → List LabeledRun
-  items_of env end_of-SwitchItem = []
-  items_of env (more_of-SwitchItem labels s rest) = record { labels = labels.items; run = execute env s } ∷ items_of env rest
+  pub items_of : Env → SwitchItems → List LabeledRun
+  items_of env no_items = []
+  items_of env (items labels s is) = record { labels = labels; run = execute env s } ∷ items_of env is

@@ -12,8 +12,8 @@ ghost use Rattle.c_tree.specs.declared.expression.Kind.{Kind};
 ghost use Rattle.c_tree.specs.declared.expression.Update.{Update};
 ghost use Rattle.c_tree.specs.declared.expression.Fixity.{Fixity};
 ghost use Rattle.c_tree.specs.declared.expression.Routine.{Routine};
-ghost use Rattle.c_tree.specs.declared.program.Function.{Function};
-ghost use Rattle.c_tree.specs.declared.program.Program.{Program};
+ghost use Rattle.c_tree.specs.declared.program.Variable.{Variable};
+ghost use Rattle.c_tree.specs.Programs.{Function, Program};
 ghost use Rattle.c_tree.specs.ValidProgram.{is_valid_program};
 ghost use Rattle.source_meaning.specs.State.{State, Gives, Run, Header, Setting, change};
 ghost use Rattle.source_meaning.specs.Actions.{located, read_lvalue, write_lvalue, read_scalar, write_scalar, updated, update, update_plain, set_plain, move_bytes, make_object, put_bytes, take_key};
@@ -21,12 +21,12 @@ ghost use Rattle.source_meaning.specs.Expressions.{callee};
 ghost use Rattle.source_meaning.specs.Initializers.{zero_variable, store_bytes};
 ghost use Rattle.source_meaning.specs.Library.{routine};
 ghost use Rattle.source_meaning.specs.Printing.{print_formatted};
+ghost use Rattle.source_meaning.specs.Blocks.{Block, enter_block, leave_block};
 ghost use Rattle.source_meaning.specs.Calls.{Caller, back_to, calls, set_up};
 ghost use Rattle.source_meaning.specs.Meaning.{meaning, outcome, initial_objects, setting_of};
 ghost use Rattle.source_meaning.specs.Acting.{IsAction, RunsAlike, state_of};
 ghost use Rattle.source_meaning.specs.Turns.{Grows};
-ghost use Rattle.source_meaning.specs.Naming.{PassNoStructures};
-ghost use Rattle.source_meaning.specs.Keeping.{IsDirect, IsSoundState};
+ghost use Rattle.source_meaning.specs.Keeping.{IsDirect, IsSoundState, PassNoStructures};
 
 /// More turns show more of the same: what is shown never shrinks, no work and no turn is taken back, and
 /// a run that ended stays as it is.
@@ -50,7 +50,7 @@ pub fn objects_continue_along_a_run()
 /// of an object.
 pub fn runs_keep_objects_sound()
     ensures { (p : Program) (budgets : BudgetSizes) → AreMapped (setting_of p budgets).sizes
-        → is_valid_program p ≡ true → PassNoStructures p.function_types.items → (input : List ℕ) (t : ℕ)
+        → is_valid_program p ≡ true → PassNoStructures p.function_types → (input : List ℕ) (t : ℕ)
         → IsSoundState (state_of (outcome p budgets input t)) }
 {}
 
@@ -83,7 +83,7 @@ pub fn accesses_are_actions()
     ensures bytes { (p : Value) (offset : ℕ) (bytes : List ℕ) → IsAction (store_bytes p offset bytes) }
 {}
 
-/// So do the routines of the library, and what a call does before and after its body.
+/// So do the routines of the library, what a call does before and after its body, and a block where it is entered and left.
 pub fn routines_and_calls_are_actions()
     ensures routine { (g : Setting) (r : Routine) (vs : List Value) (line : ℕ) → IsAction (routine g r vs line) }
     ensures print { (format : List ℕ) (vs : List Value) (line : ℕ) → IsAction (print_formatted format vs line) }
@@ -91,6 +91,8 @@ pub fn routines_and_calls_are_actions()
         → IsAction (callee functions type_number v line) }
     ensures set_up { (g : Setting) (f : Header) (vs : List Value) (line : ℕ) → IsAction (set_up g f vs line) }
     ensures back { (c : Caller) → IsAction (change (back_to c)) }
+    ensures enter { (g : Setting) (vs : List Variable) (line : ℕ) → IsAction (enter_block g vs line) }
+    ensures leave { (b : Block) → IsAction (change (leave_block b)) }
 {}
 
 /// And so does every call, with all that it leads to: the work that was done before plays no part.

@@ -4,9 +4,4 @@
 //! expressions, initializers, statements, the library, calls, and the meaning of a program as a behaviour.
 #![tactic(auto)]
 
-pub mod completion;
-pub mod home;
 pub mod laws;
-
-pub use completion::Completion;
-pub use home::Home;

@@ -84,3 +84,11 @@ sign_extended_by_shifts k m x some h = ap (λ n. shifted_right_signed m n (m - k
         let below : w + 1 ≤ 2 ^ (k - 1) = omega (arith, positive_below k w e) in
         let low : w * 2 ^ (m - k) < 2 ^ (m - 1) = omega (arith, top, mul-le-mul_right (2 ^ (m - k)) below) in
         shift_of_positive m (w * 2 ^ (m - k)) (m - k) (is_positive_below m _ low) ∙ shl-shr w (m - k) ∙ sym (extended_positive k m w e)
+
+-- a word shifted to the right is a word
+pub shift_fits : (k x by : ℕ) → x < 2 ^ k → shifted_right_signed k x by < 2 ^ k
+shift_fits k x by fits = cases (is_negative k x) refl
+  where
+    cases : (b : Bool) → is_negative k x ≡ b → shifted_right_signed k x by < 2 ^ k
+    cases true e = omega (arith, shift_of_negative k x by e)
+    cases false e = omega (arith, shift_of_positive k x by e, div-le_self x (2 ^ by))

@@ -1,0 +1,216 @@
+-- What accesses that are not judged rest on. They name an object or a structure value, so the names must be of objects that
+-- are there, members must lie in what has them, and a structure value is used where it is made. Every program that types
+-- has this.
+use Rattle.std.specs.Prelude.{◌≡◌, ℕ, zero, suc, ◌+◌, ◌≤◌, false, if◌then◌else◌, List, [], ◌∷◌, ◌++◌, Option, Some, None, length}
+use Rattle.c_tree.specs.declared.expression.Kind.{Kind}
+use Rattle.c_tree.specs.declared.expression.Kind.TheVariants.{Void, Scalar as OfScalar, Structure, Array}
+use Rattle.c_tree.specs.Tree.{Expression, expression, Expressions, no_expressions, expressions, Lvalue, lvalue, Node, constant, function, plain, read, decay, address, parenthesized, deref_function, address_function, cast, convert, unary, binary, offset_by, difference, logical_and, logical_or, comma, conditional, assign, assign_plain, compound, change_plain, step, step_plain, call, call_through, library, printf, LvalueNode, automatic, static, deref, index, member, arrow, member_of_value, parenthesized_lvalue, kind_of, line_of, lvalue_kind, lvalue_line}
+use Rattle.c_tree.specs.Statements.{Part, Content, value_content, literal_content, Initializer, of_plain, of_object, DeclaredVariable}
+use Rattle.c_tree.specs.Statements.{First, nothing, first_expression, first_declaration, Statement, expression_statement, empty, declaration, block, if_then, if_else, while_do, do_while, for, switch, break, continue, return, Statements, no_statements, statements, SwitchItems, no_items, items}
+use Rattle.c_tree.specs.declared.program.Variable.{Variable}
+use Rattle.c_tree.specs.Programs.{FunctionType, Function, StaticObject, Program}
+use Rattle.c_tree.specs.Kinds.{size_of_kind}
+use Rattle.source_meaning.specs.Keeping.{IsNoStructure}
+use Rattle.c_tree.specs.Blocks.{opened, all_of, body_variables, block_variables, switch_variables, first_variables}
+use Rattle.c_tree.specs.ValidProgram.{name_variables}
+
+-- what names can be of: the static objects, and the variables of a function, of which an object can be named where its block is entered
+pub record Scope : Type 0 where
+  pub statics : List StaticObject
+  pub all : List Variable
+  pub variables : List Variable
+
+abbrev pub static_kind : List StaticObject → ℕ → Option Kind
+static_kind [] n = None
+static_kind (o ∷ os) zero = Some o.kind
+static_kind (o ∷ os) (suc n) = static_kind os n
+
+-- the kind of a variable that is an object
+abbrev pub object_kind : List Variable → ℕ → Option Kind
+object_kind [] x = None
+object_kind (v ∷ vs) zero = if v.is_object then Some v.kind else None
+object_kind (v ∷ vs) (suc x) = object_kind vs x
+
+-- what an lvalue rests on: the name of an object, a pointer, or a structure value
+pub data Basis : Type 0 where
+  OnName : Basis
+  OnPointer : Basis
+  OnValue : Basis
+
+abbrev mutual
+  pub basis_of : Lvalue → Basis
+  basis_of (lvalue kind line node) = node_basis node
+
+  pub node_basis : LvalueNode → Basis
+  node_basis (automatic x) = OnName
+  node_basis (static n) = OnName
+  node_basis (deref a) = OnPointer
+  node_basis (index form size a b) = OnPointer
+  node_basis (member p offset size) = basis_of p
+  node_basis (arrow a offset size) = OnPointer
+  node_basis (member_of_value a offset size) = OnValue
+  node_basis (parenthesized_lvalue p) = basis_of p
+
+-- what rests on a structure value is no lvalue that can be written (C99 6.5.16 paragraph 2)
+abbrev pub IsWritable : Basis → Type 0
+IsWritable OnName = Unit {0}
+IsWritable OnPointer = Unit {0}
+IsWritable OnValue = ⊥
+
+abbrev pub IsScalar : Kind → Type 0
+IsScalar Void = ⊥
+IsScalar (OfScalar k) = Unit {0}
+IsScalar (Structure n) = ⊥
+IsScalar (Array n) = ⊥
+
+abbrev pub IsStructureWith : Kind → (bytes : ℕ) → Type 0
+IsStructureWith Void bytes = ⊥
+IsStructureWith (OfScalar k) bytes = ⊥
+IsStructureWith (Structure n) bytes = bytes ≤ n
+IsStructureWith (Array n) bytes = ⊥
+
+abbrev mutual
+  pub Names : Scope → Expression → Type 0
+  Names sc (expression kind line node) = ValueNames sc node kind
+
+  pub ValueNames : Scope → Node → Kind → Type 0
+  ValueNames sc (constant w) kind = IsNoStructure kind
+  ValueNames sc (function f) kind = IsNoStructure kind
+  ValueNames sc (plain x) kind = IsNoStructure kind
+  ValueNames sc (read p) kind = LvalueNames sc p × (kind ≡ lvalue_kind p)
+  ValueNames sc (decay p) kind = LvalueNames sc p × IsNoStructure kind
+  ValueNames sc (address p) kind = LvalueNames sc p × IsNoStructure kind
+  ValueNames sc (parenthesized a) kind = Names sc a × (kind ≡ kind_of a)
+  ValueNames sc (deref_function a) kind = Names sc a × IsNoStructure kind
+  ValueNames sc (address_function a) kind = Names sc a × IsNoStructure kind
+  ValueNames sc (cast a) kind = Names sc a × IsNoStructure kind
+  ValueNames sc (convert a) kind = Names sc a × IsNoStructure kind
+  ValueNames sc (unary op a) kind = Names sc a × IsNoStructure kind
+  ValueNames sc (binary op a b) kind = Names sc a × Names sc b × IsNoStructure kind
+  ValueNames sc (offset_by form size a b) kind = Names sc a × Names sc b × IsNoStructure kind
+  ValueNames sc (difference size a b) kind = Names sc a × Names sc b × IsNoStructure kind
+  ValueNames sc (logical_and a b) kind = Names sc a × Names sc b × IsNoStructure kind
+  ValueNames sc (logical_or a b) kind = Names sc a × Names sc b × IsNoStructure kind
+  ValueNames sc (comma a b) kind = Names sc a × Names sc b × (kind ≡ kind_of b)
+  ValueNames sc (conditional a b c) kind =
+      Names sc a × Names sc b × Names sc c × (kind ≡ kind_of b) × (kind ≡ kind_of c)
+  ValueNames sc (assign p a) kind =
+      LvalueNames sc p × IsWritable (basis_of p) × Names sc a × (lvalue_kind p ≡ kind_of a) × (kind ≡ lvalue_kind p)
+  ValueNames sc (assign_plain x a) kind = Names sc a × IsNoStructure kind
+  ValueNames sc (compound u p a) kind =
+      LvalueNames sc p × IsWritable (basis_of p) × IsScalar (lvalue_kind p) × Names sc a × IsNoStructure kind
+  ValueNames sc (change_plain u x a) kind = Names sc a × IsNoStructure kind
+  ValueNames sc (step u fixity p) kind = LvalueNames sc p × IsWritable (basis_of p) × IsScalar (lvalue_kind p) × IsNoStructure kind
+  ValueNames sc (step_plain u fixity x) kind = IsNoStructure kind
+  ValueNames sc (call f args) kind = RowNames sc args × IsNoStructure kind
+  ValueNames sc (call_through type_number a args) kind = Names sc a × RowNames sc args × IsNoStructure kind
+  ValueNames sc (library name args) kind = RowNames sc args × IsNoStructure kind
+  ValueNames sc (printf format args) kind = RowNames sc args × IsNoStructure kind
+
+  pub LvalueNames : Scope → Lvalue → Type 0
+  LvalueNames sc (lvalue kind line node) = PlaceNames sc node kind
+
+  pub PlaceNames : Scope → LvalueNode → Kind → Type 0
+  PlaceNames sc (automatic x) kind = object_kind sc.variables x ≡ Some kind
+  PlaceNames sc (static n) kind = static_kind sc.statics n ≡ Some kind
+  PlaceNames sc (deref a) kind = Names sc a
+  PlaceNames sc (index form size a b) kind = Names sc a × Names sc b
+  PlaceNames sc (member p offset size) kind = LvalueNames sc p × (offset + size ≤ size_of_kind (lvalue_kind p)) × (size_of_kind kind ≤ size)
+  PlaceNames sc (arrow a offset size) kind = Names sc a
+  PlaceNames sc (member_of_value a offset size) kind = Names sc a × IsStructureWith (kind_of a) (offset + size) × (size_of_kind kind ≤ size)
+  PlaceNames sc (parenthesized_lvalue p) kind = LvalueNames sc p × (kind ≡ lvalue_kind p)
+
+  pub RowNames : Scope → Expressions → Type 0
+  RowNames sc no_expressions = Unit {0}
+  RowNames sc (expressions e es) = Names sc e × RowNames sc es
+
+abbrev pub NamesIfAny : Scope → Option Expression → Type 0
+NamesIfAny sc None = Unit {0}
+NamesIfAny sc (Some e) = Names sc e
+
+-- initializers
+
+-- a part lies in an object of some bytes
+abbrev pub ContentNames : Scope → (bytes offset : ℕ) → Content → Type 0
+ContentNames sc bytes offset (value_content e) = Names sc e × (offset + size_of_kind (kind_of e) ≤ bytes)
+ContentNames sc bytes offset (literal_content text) = offset + length text ≤ bytes
+
+abbrev pub PartsName : Scope → (bytes : ℕ) → List Part → Type 0
+PartsName sc bytes [] = Unit {0}
+PartsName sc bytes (q ∷ qs) = ContentNames sc bytes q.offset q.content × PartsName sc bytes qs
+
+abbrev pub InitializerNames : Scope → (variable : ℕ) → Option Initializer → Type 0
+InitializerNames sc x None = Unit {0}
+InitializerNames sc x (Some (of_plain e)) = Names sc e
+InitializerNames sc x (Some (of_object parts)) = (kind : Kind) × (object_kind sc.variables x ≡ Some kind) × PartsName sc (size_of_kind kind) parts
+
+abbrev pub DeclaredName : Scope → List DeclaredVariable → Type 0
+DeclaredName sc [] = Unit {0}
+DeclaredName sc (d ∷ ds) = InitializerNames sc d.variable d.initializer × DeclaredName sc ds
+
+abbrev pub FirstNames : Scope → First → Type 0
+FirstNames sc nothing = Unit {0}
+FirstNames sc (first_expression e) = Names sc e
+FirstNames sc (first_declaration ds) = DeclaredName sc ds
+
+-- statements
+
+-- in a block that declares some variables
+abbrev pub entering : Scope → (numbers : List ℕ) → Scope
+entering sc numbers = record sc { variables = opened numbers 0 sc.all sc.variables }
+
+abbrev mutual
+  pub StatementNames : Scope → Statement → Type 0
+  StatementNames sc (expression_statement e) = Names sc e
+  StatementNames sc empty = Unit {0}
+  StatementNames sc (declaration ds) = DeclaredName sc ds
+  StatementNames sc (block line body) = StatementsName (entering sc (block_variables body)) body
+  StatementNames sc (if_then e body) = Names sc e × StatementNames sc body
+  StatementNames sc (if_else e body other) = Names sc e × StatementNames sc body × StatementNames sc other
+  StatementNames sc (while_do e body) = Names sc e × StatementNames sc body
+  StatementNames sc (do_while body e) = StatementNames sc body × Names sc e
+  StatementNames sc (for line first condition next body) =
+      FirstNames (entering sc (first_variables first)) first × NamesIfAny (entering sc (first_variables first)) condition
+      × NamesIfAny (entering sc (first_variables first)) next × StatementNames (entering sc (first_variables first)) body
+  StatementNames sc (switch e line is) = Names sc e × ItemsName (entering sc (switch_variables is)) is
+  StatementNames sc break = Unit {0}
+  StatementNames sc continue = Unit {0}
+  StatementNames sc (return e) = NamesIfAny sc e
+
+  pub StatementsName : Scope → Statements → Type 0
+  StatementsName sc no_statements = Unit {0}
+  StatementsName sc (statements s ss) = StatementNames sc s × StatementsName sc ss
+
+  pub ItemsName : Scope → SwitchItems → Type 0
+  ItemsName sc no_items = Unit {0}
+  ItemsName sc (items labels s is) = StatementNames sc s × ItemsName sc is
+
+-- programs
+
+abbrev pub scope_of : List StaticObject → Function → Scope
+scope_of statics f = record { statics = statics; all = all_of f; variables = f.parameters ++ body_variables f }
+
+abbrev pub TakeNoStructure : List Variable → Type 0
+TakeNoStructure [] = Unit {0}
+TakeNoStructure (p ∷ ps) = IsNoStructure p.kind × TakeNoStructure ps
+
+pub record FunctionNames (statics : List StaticObject) (f : Function) : Type 0 where
+  pub body : StatementsName (scope_of statics f) f.body
+  pub parameters : TakeNoStructure f.parameters
+
+abbrev pub FunctionsName : List StaticObject → List Function → Type 0
+FunctionsName statics [] = Unit {0}
+FunctionsName statics (f ∷ fs) = FunctionNames statics f × FunctionsName statics fs
+
+abbrev pub file_scope : List StaticObject → Scope
+file_scope statics = record { statics = statics; all = []; variables = [] }
+
+-- initializers of static objects that name no variables
+abbrev pub StaticsName : Scope → List StaticObject → Type 0
+StaticsName sc [] = Unit {0}
+StaticsName sc (o ∷ os) = (name_variables o.parts ≡ false → PartsName sc (size_of_kind o.kind) o.parts) × StaticsName sc os
+
+-- a program names what is there
+pub record NamesObjects (p : Program) : Type 0 where
+  pub statics : StaticsName (file_scope p.statics) p.statics
+  pub functions : FunctionsName p.statics p.functions

@@ -1,0 +1,30 @@
+-- `int main(void){int x;free(&x);return 0;}`
+-- The text is rows/free_of_automatic.c.
+use Rattle.c_tree.specs.Programs.{Program}
+use Rattle.c_tree.specs.Statements.{expression_statement, return, declaration}
+use Rattle.c_tree.specs.Tree as tree
+use Rattle.c_tree.specs.ValidProgram.{is_valid_program}
+use Rattle.c_tree.specs.declared.expression.Kind.TheVariants.{Void}
+use Rattle.c_tree.specs.declared.expression.Routine.TheVariants.{Free}
+use Rattle.sb_base.specs.Budgets.{default_sizes}
+use Rattle.source_meaning.specs.Meaning.{meaning}
+use Rattle.source_meaning_rows.proofs.Samples.{address, computing, int, library, lvalue, main_alone, none, number, object_variable, one, seen, stopped, two, without_value}
+use Rattle.std.proofs.Common.{Some, [], refl, true, ◌≡◌, ◌∷◌}
+use Rattle.std.specs.Prelude.{codes}
+
+program : Program
+program = main_alone none
+    (one (object_variable int))
+    208
+    ((declaration (without_value 0 ∷ []))
+    ∷ (expression_statement (library 1 Void Free (one (address 1 (lvalue 1 int (tree.automatic 0))))))
+    ∷ (return (Some (number 1 0)))
+    ∷ [])
+
+run : seen (meaning program default_sizes [] 20) ≡ stopped [] (codes "sbcets: bad free at line 1\n") 123
+unfolding program computing
+run = refl
+
+valid : is_valid_program program ≡ true
+unfolding program computing
+valid = refl

@@ -1,0 +1,33 @@
+-- `int main(void){char*p=malloc(2);free(p);printf("a%s",p);return 0;}`
+-- All strings are scanned before anything is put out. The text is rows/print_dead.c.
+use Rattle.c_tree.specs.Tree.{expressions_in}
+use Rattle.c_tree.specs.Programs.{Program}
+use Rattle.c_tree.specs.Statements.{expression_statement, declaration, return}
+use Rattle.c_tree.specs.Tree as tree
+use Rattle.c_tree.specs.ValidProgram.{is_valid_program}
+use Rattle.c_tree.specs.declared.expression.Kind.TheVariants.{Void}
+use Rattle.c_tree.specs.declared.expression.Routine.TheVariants.{Free, Malloc}
+use Rattle.obj_memory.specs.declared.int_type.IntType.TheVariants.{UnsignedLong}
+use Rattle.sb_base.specs.Budgets.{default_sizes}
+use Rattle.source_meaning.specs.Meaning.{meaning}
+use Rattle.source_meaning_rows.proofs.Samples.{at, computing, convert, four, int, integer_kind, library, main_alone, none, number, one, plain, plain_variable, pointer, seen, stopped, with_value}
+use Rattle.std.proofs.Common.{Some, [], refl, true, ◌++◌, ◌∷◌, ◌≡◌}
+use Rattle.std.specs.Prelude.{codes}
+
+program : Program
+program = main_alone none
+    (one (plain_variable pointer))
+    248
+    (four
+    (declaration (one (with_value 0 (library 1 pointer Malloc (one (convert (integer_kind UnsignedLong) (number 1 2)))))))
+    (expression_statement (library 1 Void Free (one (plain 1 pointer 0))))
+    (expression_statement (at 1 int (tree.printf (codes "a%s" ++ 0 ∷ []) (expressions_in (one (plain 1 pointer 0))))))
+    (return (Some (number 1 0))))
+
+run : seen (meaning program default_sizes [] 20) ≡ stopped [] (codes "sbcets: temporal violation at line 1\n") 121
+unfolding program computing
+run = refl
+
+valid : is_valid_program program ≡ true
+unfolding program computing
+valid = refl

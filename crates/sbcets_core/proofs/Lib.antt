@@ -1,7 +1,7 @@
 pub mod Cases
 pub mod Complete
 pub mod Composition
-pub mod Counts
+pub mod Answering
 pub mod Execution
 pub mod Judging
 pub mod Listed
@@ -10,6 +10,7 @@ pub mod Meant
 pub mod Pieces
 pub mod Prefixes
 pub mod Running
+pub mod Spelling
 pub mod Steps
 pub mod Theorem
 pub mod Trees

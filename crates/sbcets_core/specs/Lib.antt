@@ -4,6 +4,7 @@ pub mod Commanded
 pub mod Commands
 pub mod Counting
 pub mod Faithful
+pub mod Hexadecimal
 pub mod Listed
 pub mod Meaning
 pub mod Meant

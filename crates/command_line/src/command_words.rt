@@ -1,23 +1,16 @@
 //! From words to a command.
 ghost use Rattle.std.specs.Prelude.{◌≡◌, ◌≤◌, ◌^◌, Err, IfOk, IfSome, None, Some, map, option_and_then, option_map};
 ghost use Rattle.clap.specs.Words.{subcommand_rows_of};
-ghost use Rattle.command_line.specs.Asked.{IsLimited, asked_of, budgets_at, build_at, command_at, command_in};
+ghost use Rattle.command_line.specs.Asked.{IsLimited, allowed, asked_of, budgets_at, build_at, command_at, command_in};
 ghost use Rattle.command_line.specs.Asked.{go_at, limit_at, number_at, rows_in, run_at, text_at};
 
-use crate::command::{BudgetNumbers, Command, WordsFault};
+use crate::command::{Command, WordsFault};
 use crate::number::number_of;
 use crate::program::program;
 use clap::ArgMatches;
+use sb_base::Budgets;
 use std::alloc::Global;
 use std::convert::AsStr;
-
-const DEFAULT_BUDGETS: BudgetNumbers = BudgetNumbers {
-    heap: 4_194_304,
-    stack: 1_048_576,
-    calls: 4_194_304,
-    blocks: 16_384,
-    keys: 1 << 62,
-};
 
 const DEFAULT_LIMIT: u64 = 1_000_000_000;
 
@@ -28,8 +21,8 @@ const MAX_LIMIT: u64 = 1 << 62;
 /// 16384 blocks, 2^62 keys, and a limit of 1000000000.
 ///
 /// `WordsFault::Usage` comes exactly where the words are no command, as long as there is memory: where
-/// `clap` refuses them or answers them with help, an option's value is no number, or the limit is
-/// above 2^62. A number is decimal digits with no sign and no leading zero, below 2^64.
+/// `clap` refuses them or answers them with help, an option's value is no number, a budget is out of its
+/// range or no multiple of 4096 (`Budgets::new`), or the limit is above 2^62. A number is decimal digits with no sign and no leading zero, below 2^64.
 /// `WordsFault::Memory` comes where memory runs out, whatever the words are.
 #[tactic(auto, unfolding(crate::specs::Asked::command_in))]
 pub fn command_of<'a, S: AsStr>(alloc: Global, words: &'a [S]) -> Result<Command<'a>, WordsFault>
@@ -38,7 +31,10 @@ pub fn command_of<'a, S: AsStr>(alloc: Global, words: &'a [S]) -> Result<Command
     ensures limited { IfOk result IsLimited }
 {
     let matches = program(alloc)?.try_get_matches_from(words)?;
-    command_asked(&matches).ok_or(WordsFault::Usage)
+    match command_asked(&matches) {
+        Some(command) => Ok(command),
+        None => Err(WordsFault::Usage),
+    }
 }
 
 // The command of the matches: `None` where a number is none, or the limit is too high.
@@ -92,18 +88,28 @@ fn go_asked<'a>(matches: &ArgMatches<'a>) -> Option<Command<'a>>
     })
 }
 
-// The numbers of the five options, or their defaults.
+// The budgets of the five options, or their defaults. `None` also where one is out of its range.
 #[tactic(auto, unfolding(crate::specs::Asked::budgets_at))]
-fn budgets_at(matches: &ArgMatches) -> Option<BudgetNumbers>
+fn budgets_at(matches: &ArgMatches) -> Option<Budgets>
     ensures { result ≡ budgets_at (rows_in matches.now) }
 {
-    Some(BudgetNumbers {
-        heap: number_at(matches, "heap", DEFAULT_BUDGETS.heap)?,
-        stack: number_at(matches, "stack", DEFAULT_BUDGETS.stack)?,
-        calls: number_at(matches, "calls", DEFAULT_BUDGETS.calls)?,
-        blocks: number_at(matches, "blocks", DEFAULT_BUDGETS.blocks)?,
-        keys: number_at(matches, "keys", DEFAULT_BUDGETS.keys)?,
-    })
+    let default = Budgets::default();
+    let heap = number_at(matches, "heap", default.heap())?;
+    let stack = number_at(matches, "stack", default.stack())?;
+    let calls = number_at(matches, "calls", default.calls())?;
+    let blocks = number_at(matches, "blocks", default.blocks())?;
+    let keys = number_at(matches, "keys", default.keys())?;
+    budgets_of(heap, stack, calls, blocks, keys)
+}
+
+// Budgets of these sizes, where each is in its range.
+fn budgets_of(heap: u64, stack: u64, calls: u64, blocks: u64, keys: u64) -> Option<Budgets>
+    ensures { result ≡ allowed (record { heap = heap; stack = stack; calls = calls; blocks = blocks; keys = keys }) }
+{
+    match Budgets::new(heap, stack, calls, blocks, keys) {
+        Ok(budgets) => Some(budgets),
+        Err(_) => None,
+    }
 }
 
 // The number of `--limit`, or the default.

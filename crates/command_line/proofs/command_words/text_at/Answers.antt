@@ -2,7 +2,7 @@ use Rattle.std.proofs.Common.{◌∙◌}
 use Rattle.clap.specs.Words.{found_of}
 use Rattle.clap.proofs.WalkLemmas.{first_value-rows}
 use Rattle.command_line.specs.Asked.{rows_in, text_at}
-use Rattle.command_line.proofs.words.text_at.Goals as goal
+use Rattle.command_line.proofs.command_words.text_at.Goals as goal
 
 pub returns : goal.returns
 unfolding rows_in text_at

@@ -1,6 +1,6 @@
 use Rattle.std.proofs.Common.{◌-◌, ◌+◌, ◌≤◌, vec_len}
 use Rattle.std.specs.Io.KnownBytes.{Consumes}
-use Rattle.sb_outside.proofs.host.read_whole.Given as goal
+use Rattle.sb_outside.proofs.host.read_at_most.Given as goal
 
 -- what was read so far is what the reader has lost
 abbrev pub invariant-loop-bytes : goal.invariant-loop-bytes

@@ -1,7 +1,7 @@
 use Rattle.std.proofs.Common.{◌∙◌}
 use Rattle.command_line.specs.Asked.{command_at}
 use Rattle.command_line.proofs.Matches.{command_of_name}
-use Rattle.command_line.proofs.words.command_asked.Goals as goal
+use Rattle.command_line.proofs.command_words.command_asked.Goals as goal
 
 pub returns-in-build-clause-asked : goal.returns-in-build-clause-asked
 unfolding command_at

@@ -162,7 +162,7 @@ fn ends_with_code_and_report(rt: HostRuntime) {
         assert!(rt; ending.code() == code, "{report}");
         let mut text = [b'.'; 64];
         let count = ending.report_into(&mut text);
-        assert!(rt; text[..count] == *report.as_bytes(), "{report}");
+        assert!(rt; &text[..count] == report.as_bytes(), "{report}");
         assert!(rt; text[count..].iter().all(|byte| *byte == b'.'), "{report}");
     }
 }

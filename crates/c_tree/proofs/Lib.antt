@@ -1,2 +1,3 @@
 pub mod Alignments
 pub mod Layouts
+pub mod Arrays

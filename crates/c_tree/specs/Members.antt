@@ -8,8 +8,8 @@ size_at members k = (get_or members k (record { size = 0; alignment = 1 })).size
 abbrev pub alignment_at : List TypeExtent → ℕ → ℕ
 alignment_at members k = (get_or members k (record { size = 0; alignment = 1 })).alignment
 
--- offsets of the members of a structure of so many bytes: one for each member, at a multiple of its alignment, behind all
--- members before it, and each member ends inside
+-- offsets of the members of a structure of so many bytes: one for each member, at a multiple of its alignment,
+-- behind all members before it, and each member ends inside
 pub record AreLaidOut (members : List TypeExtent) (offsets : List ℕ) (size : ℕ) : Type 0 where
   pub count : length offsets ≡ length members
   pub first : 0 < length members → get_or offsets 0 0 ≡ 0

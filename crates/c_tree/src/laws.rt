@@ -1,7 +1,10 @@
 //! Laws of layout, each as the contract of a function that does nothing: layers above rest on them.
-ghost use Rattle.std.specs.Prelude.{◌≡◌, ℕ, ◌%◌, ◌^◌, ◌<◌, ◌≤◌, List, length, All};
-ghost use Rattle.c_tree.specs.Extents.{TypeExtent, IsExtent};
-ghost use Rattle.c_tree.specs.Layout.{member_offsets, structure_of, union_of};
+ghost use Rattle.std.specs.Prelude.{◌≡◌, ℕ, ◌*◌, ◌%◌, ◌^◌, ◌<◌, ◌≤◌, List, ◌∷◌, length, All, Option, Some, true};
+ghost use Rattle.c_tree.specs.declared.c_type.TypeWord.{TypeWord};
+ghost use Rattle.c_tree.specs.declared.c_type.TypeWord.TheVariants.{Array};
+ghost use Rattle.c_tree.specs.Arrays.{array_word, is_sized};
+ghost use Rattle.c_tree.specs.Extents.{TypeExtent, IsExtent, capped, extent_of};
+ghost use Rattle.c_tree.specs.Layout.{array_size, member_offsets, structure_of, union_of};
 ghost use Rattle.c_tree.specs.Members.{AreLaidOut, size_at, alignment_at};
 
 /// The first member of a structure that is not too large lies at 0, each at a multiple of its alignment and behind
@@ -25,4 +28,19 @@ pub fn unions_hold_their_members()
         → (union_of ms).size % (union_of ms).alignment ≡ 0 }
     ensures alignment { (ms : List TypeExtent) (k : ℕ) → k < length ms
         → alignment_at ms k ≤ (union_of ms).alignment }
+{}
+
+/// An array made of a complete type whose arrays have the bytes of their elements is such a type; of any such array the
+/// bytes are those of its elements, and so is its size (C99 6.5.3.4).
+pub fn arrays_have_the_bytes_of_their_elements()
+    ensures made { (structures : List (Option TypeExtent)) (count : ℕ) (element : List TypeWord) (e : TypeExtent)
+        → extent_of structures element ≡ Some e → is_sized structures element ≡ true
+        → is_sized structures (array_word count e ∷ element) ≡ true }
+    ensures bytes { (structures : List (Option TypeExtent)) (count bytes : ℕ) (element : List TypeWord) (e : TypeExtent)
+        → extent_of structures element ≡ Some e → is_sized structures (Array count bytes ∷ element) ≡ true
+        → bytes ≡ array_size count e.size }
+    ensures extent { (structures : List (Option TypeExtent)) (count bytes : ℕ) (element : List TypeWord) (e : TypeExtent)
+        → extent_of structures element ≡ Some e → is_sized structures (Array count bytes ∷ element) ≡ true
+        → extent_of structures (Array count bytes ∷ element)
+        ≡ Some (record { size = capped (count * e.size); alignment = e.alignment }) }
 {}

@@ -1,5 +1,6 @@
 -- Words of a type: what operators give of them that convert nothing.
-use Rattle.std.proofs.Common.{◌≡◌, ℕ, ◌+◌, ◌-◌, ◌/◌, ◌%◌, ◌^◌, ◌<◌, ◌≤◌, Bool, true, false, if◌then◌else◌, ◌==◌, Some, None, refl, ap, ◌∙◌, sym, subst, arith}
+use Rattle.std.proofs.Common.{◌≡◌, ℕ, ◌+◌, ◌-◌, ◌/◌, ◌%◌, ◌^◌, ◌<◌, ◌≤◌, Bool, true, false, if◌then◌else◌, ◌==◌, Some}
+use Rattle.std.proofs.Common.{None, refl, ap, ◌∙◌, sym, subst, arith}
 use Rattle.std.proofs.Math.Nat.{mod-eq_of_lt, div-le_self}
 use Rattle.std.proofs.lemmas.Nat.{pow_pos, mod_below, and_mod, or_mod, xor_mod}
 use Rattle.std.specs.Int.Bits.{and_lt, or_lt, xor_lt}
@@ -10,9 +11,14 @@ use Rattle.words.proofs.Bits.{extended_and, extended_or, extended_xor}
 use Rattle.words.proofs.Extended.{extended_low}
 use Rattle.words.proofs.Shifts.{extended_shift, shift_fits}
 use Rattle.obj_memory.specs.declared.int_type.IntType.{IntType}
-use Rattle.obj_memory.specs.declared.int_type.IntType.TheVariants.{Char, SignedChar, UnsignedChar, Short, UnsignedShort, Int, UnsignedInt, Long, UnsignedLong, LongLong, UnsignedLongLong}
+use Rattle.obj_memory.specs.declared.int_type.IntType.TheVariants.{Char, SignedChar, UnsignedChar, Short}
+use Rattle.obj_memory.specs.declared.int_type.IntType.TheVariants.{UnsignedShort, Int, UnsignedInt, Long}
+use Rattle.obj_memory.specs.declared.int_type.IntType.TheVariants.{UnsignedLong, LongLong, UnsignedLongLong}
 use Rattle.obj_memory.specs.declared.operator.BinaryOperator.{BinaryOperator}
-use Rattle.obj_memory.specs.declared.operator.BinaryOperator.TheVariants.{Add, Subtract, Multiply, Divide, Remainder, ShiftLeft, ShiftRight, BitAnd, BitXor, BitOr, Less, Greater, LessOrEqual, GreaterOrEqual, Equal, NotEqual}
+use Rattle.obj_memory.specs.declared.operator.BinaryOperator.TheVariants.{Add, Subtract, Multiply, Divide, Remainder}
+use Rattle.obj_memory.specs.declared.operator.BinaryOperator.TheVariants.{ShiftLeft, ShiftRight, BitAnd, BitXor}
+use Rattle.obj_memory.specs.declared.operator.BinaryOperator.TheVariants.{BitOr, Less, Greater, LessOrEqual}
+use Rattle.obj_memory.specs.declared.operator.BinaryOperator.TheVariants.{GreaterOrEqual, Equal, NotEqual}
 use Rattle.obj_memory.specs.Integers.{fit, is_signed}
 use Rattle.obj_memory.specs.Operators.{one_if, quotient, remainder, shift_right, shift_amount, binary_value}
 use Rattle.obj_memory.proofs.Words.{fit_twice, fit_zero}
@@ -42,10 +48,12 @@ signed_bitwise f b k x y some wide g h =
     (record { some = some; wide = wide; fits = b.fits k _ _ v.fits w.fits })
     (sym (ap (λ n. f n (sign_extended k 64 (low_bits k y))) g ∙ ap (f x) h) ∙ b.extended k 64 _ _ v w)
 
-unsigned_bitwise : (f : ℕ → ℕ → ℕ) → IsBitwise f → (k x y : ℕ) → low_bits k x ≡ x → low_bits k y ≡ y → low_bits k (f x y) ≡ f x y
+unsigned_bitwise : (f : ℕ → ℕ → ℕ) → IsBitwise f → (k x y : ℕ) → low_bits k x ≡ x → low_bits k y ≡ y
+    → low_bits k (f x y) ≡ f x y
 unsigned_bitwise f b k x y g h = b.lower x y k ∙ ap (λ n. f n (low_bits k y)) g ∙ ap (f x) h
 
-bitwise_stays : (f : ℕ → ℕ → ℕ) → IsBitwise f → (t : IntType) (x y : ℕ) → fit t x ≡ x → fit t y ≡ y → fit t (f x y) ≡ f x y
+bitwise_stays : (f : ℕ → ℕ → ℕ) → IsBitwise f → (t : IntType) (x y : ℕ) → fit t x ≡ x → fit t y ≡ y
+    → fit t (f x y) ≡ f x y
 unfolding fit
 bitwise_stays f b Char x y g h = unsigned_bitwise f b 8 x y g h
 bitwise_stays f b SignedChar x y g h = signed_bitwise f b 8 x y (omega arith) (omega arith) g h
@@ -80,7 +88,8 @@ long_shift x by g =
     let fits : x < 2 ^ 64 = omega (arith, g) in
     mod-eq_of_lt (shift_fits 64 x by fits)
 
-pub shift_stays : (t : IntType) (x by : ℕ) → fit t x ≡ x → fit t (shift_right (is_signed t) x by) ≡ shift_right (is_signed t) x by
+pub shift_stays : (t : IntType) (x by : ℕ) → fit t x ≡ x → fit t (shift_right (is_signed t) x by)
+    ≡ shift_right (is_signed t) x by
 unfolding fit is_signed
 shift_stays Char x by g = unsigned_shift 8 x by g
 shift_stays SignedChar x by g = signed_shift 8 x by (omega arith) (omega arith) g
@@ -113,18 +122,35 @@ truth_stays : (t : IntType) (b : Bool) → fit t (one_if b) ≡ one_if b
 truth_stays t true = one_stays t
 truth_stays t false = fit_zero t
 
-pub binary_stays : (op : BinaryOperator) (t : IntType) (x y : ℕ) → fit t x ≡ x → fit t y ≡ y → IfSome (binary_value op t x y) (λ z. fit t z ≡ z)
+pub binary_stays : (op : BinaryOperator) (t : IntType) (x y : ℕ) → fit t x ≡ x → fit t y ≡ y
+    → IfSome (binary_value op t x y) (λ z. fit t z ≡ z)
 unfolding binary_value
 binary_stays Add t x y g h = fit_twice t _
 binary_stays Subtract t x y g h = fit_twice t _
 binary_stays Multiply t x y g h = fit_twice t _
-binary_stays Divide t x y g h = elim (y == 0) as (λ b. IfSome (if b then None else Some (fit t (quotient (is_signed t) x y))) (λ z. fit t z ≡ z)) [ true ↦ tt | false ↦ fit_twice t _ ]
-binary_stays Remainder t x y g h = elim (y == 0) as (λ b. IfSome (if b then None else Some (fit t (remainder (is_signed t) x y))) (λ z. fit t z ≡ z)) [ true ↦ tt | false ↦ fit_twice t _ ]
+binary_stays Divide t x y g h = elim (y == 0) as (λ b. IfSome
+    (if b then None else Some (fit t (quotient (is_signed t) x y)))
+    (λ z. fit t z ≡ z)) [ true ↦ tt | false ↦ fit_twice t _ ]
+binary_stays Remainder t x y g h = elim (y == 0) as (λ b. IfSome
+    (if b then None else Some (fit t (remainder (is_signed t) x y)))
+    (λ z. fit t z ≡ z)) [ true ↦ tt | false ↦ fit_twice t _ ]
 binary_stays ShiftLeft t x y g h = fit_twice t _
 binary_stays ShiftRight t x y g h = shift_stays t x _ g
-binary_stays BitAnd t x y g h = bitwise_stays bit_and (record { extended = extended_and; lower = and_mod; fits = and_lt }) t x y g h
-binary_stays BitXor t x y g h = bitwise_stays bit_xor (record { extended = extended_xor; lower = xor_mod; fits = xor_lt }) t x y g h
-binary_stays BitOr t x y g h = bitwise_stays bit_or (record { extended = extended_or; lower = or_mod; fits = or_lt }) t x y g h
+binary_stays BitAnd t x y g h = bitwise_stays bit_and (record {
+  extended = extended_and;
+  lower = and_mod;
+  fits = and_lt;
+}) t x y g h
+binary_stays BitXor t x y g h = bitwise_stays bit_xor (record {
+  extended = extended_xor;
+  lower = xor_mod;
+  fits = xor_lt;
+}) t x y g h
+binary_stays BitOr t x y g h = bitwise_stays bit_or (record {
+  extended = extended_or;
+  lower = or_mod;
+  fits = or_lt;
+}) t x y g h
 binary_stays Less t x y g h = truth_stays t _
 binary_stays Greater t x y g h = truth_stays t _
 binary_stays LessOrEqual t x y g h = truth_stays t _

@@ -34,7 +34,14 @@ impl Model for Object {
 
     ghost Value = { ObjectState };
 
-    ghost view = { λ o. record { storage = o.storage; address = o.address; size = o.size; is_live = o.is_live; bytes = o.bytes.items; tags = o.tags.items } };
+    ghost view = { λ o. record {
+      storage = o.storage;
+      address = o.address;
+      size = o.size;
+      is_live = o.is_live;
+      bytes = o.bytes.items;
+      tags = o.tags.items;
+    } };
 }
 
 impl Object {

@@ -1,22 +1,18 @@
 #!/usr/bin/env python3
-"""Makes the typed trees of the C texts beside it, for the worked rows of crates/source_meaning_rows.
+"""Prints the typed tree that C99 gives a text, as a worked row of crates/source_meaning_rows has it.
 
-For each text NAME.c it writes the file proofs/trees/NAME.antt with the typed program that C99 gives it (6.5 to 6.9, LP64 of the
-psABI, plain char unsigned): each node with its kind and line, the reads, decays and conversions that typing puts in, blocks with
-their variables, initializers as parts by offset, static objects and literals in the order of their tokens, function types by number,
-and the bytes that a call of each function takes. Only what the rows use is typed, and a text outside it is refused. Whether a tree
-is a valid program the rows themselves ask.
+The tree has (6.5 to 6.9, LP64 of the psABI, plain char unsigned) each node with its kind and line, the reads, decays and conversions
+that typing puts in, blocks with their variables, initializers as parts by offset, static objects and literals in the order of their
+tokens, function types by number, and the bytes that a call of each function takes. Only what the rows use is typed, and a text
+outside it is refused. Whether a tree is a valid program the row itself asks. A row is this tree, the text and its reason above it, and
+claims on what its run shows and counts, worked out by hand.
 
-usage: python3 rows/trees.py make            writes all trees
-       python3 rows/trees.py show FILE.c     prints the tree of one text
+usage: python3 rows/trees.py FILE.c
 """
 
 import os
 import re
 import sys
-
-HERE = os.path.dirname(os.path.abspath(__file__))
-TREES = os.path.join(HERE, "..", "crates", "source_meaning_rows", "proofs", "trees")
 
 TOKEN = re.compile(
     r'(?P<space>\s+|//[^\n]*|/\*.*?\*/)|(?P<name>[A-Za-z_]\w*)|(?P<number>\d\w*)|(?P<char>\'(?:[^\'\\]|\\.)+\')'
@@ -1001,8 +997,6 @@ class Typer:
         offset = next(m for m in whole[1].members if m[0] == parts[1])[2]
         if node.token.text == "->":
             return Typed(k, node.line, "arrow", node.line, k, offset, self.value(parts[0]))
-        if self.is_lvalue(parts[0]) and not is_value_member(parts[0]):
-            return Typed(k, node.line, "member", node.line, k, offset, self.lvalue(parts[0]))
         if self.is_lvalue(parts[0]):
             return Typed(k, node.line, "member", node.line, k, offset, self.lvalue(parts[0]))
         return Typed(k, node.line, "member_of_value", node.line, k, offset, self.value(parts[0]))
@@ -1218,10 +1212,6 @@ class Typer:
         return inside(function.body)
 
 
-def is_value_member(node):
-    return False
-
-
 def convert(value, k):
     """An implicit conversion, where the kinds differ (6.3)."""
     return value if value.kind == k or k[0] == "void" else Typed(k, value.line, "convert", k, value)
@@ -1377,7 +1367,7 @@ IMPORTS = [  # module, and the names that a tree may use
 def file_of(name, text):
     functions, program = program_text(name, text)
     blocks = [f"{n} : Function\n{n} = {body}" for n, body in functions]
-    blocks.append(f"unfoldable pub program : Program\nunfolding {' '.join(n for n, _ in functions)}\nprogram = {program}")
+    blocks.append(f"program : Program\nprogram = {program}")
     body = wrapped("\n\n".join(blocks))
     used = set(re.findall(r"[A-Za-z_]\w*|\+\+|∷|\[\]", re.sub(r'"[^"]*"', "", body)))
     uses = [f"use {module}.{{{', '.join(n for n, w in names.items() if w in used)}}}" for module, names in IMPORTS if used & set(names.values())]
@@ -1400,27 +1390,11 @@ def wrapped(text):
     return "\n".join(out)
 
 
-def module_of(name):
-    return "".join(w.capitalize() for w in name.split("_"))
-
-
 def main():
-    if len(sys.argv) == 3 and sys.argv[1] == "show":
-        with open(sys.argv[2]) as f:
-            print(file_of(os.path.basename(sys.argv[2])[:-2], f.read()))
-        return
-    if sys.argv[1:] != ["make"]:
+    if len(sys.argv) != 2 or sys.argv[1].startswith("-"):
         sys.exit(__doc__)
-    os.makedirs(TREES, exist_ok=True)
-    names = sorted(n[:-2] for n in os.listdir(HERE) if n.endswith(".c"))
-    for name in names:
-        with open(os.path.join(HERE, name + ".c")) as f:
-            text = f.read()
-        with open(os.path.join(TREES, module_of(name) + ".antt"), "w") as f:
-            f.write(file_of(name, text))
-    with open(TREES + ".antt", "w") as f:
-        f.writelines(f"pub mod {module_of(n)}\n" for n in names)
-    print(len(names), "trees")
+    with open(sys.argv[1]) as f:
+        print(file_of(os.path.basename(sys.argv[1])[:-2], f.read()))
 
 
 if __name__ == "__main__":

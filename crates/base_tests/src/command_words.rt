@@ -1,6 +1,5 @@
 use command_line::{Command, WordsFault, command_of};
 use sb_base::Budgets;
-use std::alloc::Global;
 use std::test::Fail;
 
 // Sizes of budgets, in the order of `Budgets::new`.
@@ -51,30 +50,18 @@ fn budgets_of(sizes: &Sizes) -> Result<Budgets, Fail> {
     }
 }
 
-// Whether a line is read as this command.
-fn is_read(alloc: Global, line: &str, command: Command) -> Result<bool, Fail> {
-    let words: Vec<&str> = line.split(' ').collect(alloc)?;
-    Ok(command_of(alloc, words.as_slice()) == Ok(command))
-}
-
 #[test]
 fn reads_builds(rt: HostRuntime) -> Result<(), Fail> {
     for (line, sizes) in BUILDS.iter() {
-        let command = Command::Build {
+        let budgets = budgets_of(sizes)?;
+        let words: Vec<&str> = line.split(' ').collect(rt.alloc())?;
+        let answer = command_of(rt.alloc(), words.as_slice());
+        let wanted = Command::Build {
             source: "a.c",
             image: "a.elf",
-            budgets: budgets_of(sizes)?,
+            budgets,
         };
-        assert!(rt; is_read(rt.alloc(), line, command)?, "at {line}");
-    }
-    Ok(())
-}
-
-#[test]
-fn reads_runs(rt: HostRuntime) -> Result<(), Fail> {
-    for &(line, image, limit) in RUNS.iter() {
-        let command = Command::Run { image, limit };
-        assert!(rt; is_read(rt.alloc(), line, command)?, "at {line}");
+        assert!(rt; answer == Ok(wanted), "at {line}");
     }
     Ok(())
 }
@@ -82,12 +69,25 @@ fn reads_runs(rt: HostRuntime) -> Result<(), Fail> {
 #[test]
 fn reads_goes(rt: HostRuntime) -> Result<(), Fail> {
     for (line, sizes, limit) in GOES.iter() {
-        let command = Command::Go {
+        let budgets = budgets_of(sizes)?;
+        let words: Vec<&str> = line.split(' ').collect(rt.alloc())?;
+        let answer = command_of(rt.alloc(), words.as_slice());
+        let wanted = Command::Go {
             source: "a.c",
-            budgets: budgets_of(sizes)?,
+            budgets,
             limit: *limit,
         };
-        assert!(rt; is_read(rt.alloc(), line, command)?, "at {line}");
+        assert!(rt; answer == Ok(wanted), "at {line}");
+    }
+    Ok(())
+}
+
+#[test]
+fn reads_runs(rt: HostRuntime) -> Result<(), Fail> {
+    for &(line, image, limit) in RUNS.iter() {
+        let words: Vec<&str> = line.split(' ').collect(rt.alloc())?;
+        let answer = command_of(rt.alloc(), words.as_slice());
+        assert!(rt; answer == Ok(Command::Run { image, limit }), "at {line}");
     }
     Ok(())
 }

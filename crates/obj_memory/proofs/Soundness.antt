@@ -63,7 +63,7 @@ sound_none = record {
 }
 
 -- zero bytes and no tags
-sound_zeros : (objects : Objects) (o : ObjectState) → o.address % 16 ≡ 0
+pub sound_zeros : (objects : Objects) (o : ObjectState) → o.address % 16 ≡ 0
     → IsSoundObject objects (record o { bytes = replicate o.size 0; tags = replicate (o.size / 8) Untagged })
 sound_zeros objects o h = record {
   aligned = h;
@@ -93,7 +93,7 @@ sound_dead n objects h =
     (record { aligned = s.aligned; bytes = s.bytes; values = s.values; tags = s.tags; tag = s.tag })
 
 -- other bytes in an object
-sound_overwritten : (objects : Objects) (o : ObjectState) (start : ℕ) (new : List ℕ) (tags : List Tag)
+pub sound_overwritten : (objects : Objects) (o : ObjectState) (start : ℕ) (new : List ℕ) (tags : List Tag)
     → IsSoundObject objects o
     → start + length new ≤ o.size → ((k : ℕ) → get_or new k 0 < 256) → length tags ≡ o.size / 8
     → ((k : ℕ) → IsSoundTag objects (get_or tags k Untagged))
@@ -154,7 +154,7 @@ pub length-moved_tags : (size start source : ℕ) (from : List Tag) (word : ℕ)
 length-moved_tags size start source from word [] = refl
 length-moved_tags size start source from word (t ∷ ts) = ap suc (length-moved_tags size start source from (word + 1) ts)
 
-every_moved : (P : Tag → Type 0) (size start source : ℕ) (from : List Tag) → ((k : ℕ) → P (get_or from k Untagged))
+pub every_moved : (P : Tag → Type 0) (size start source : ℕ) (from : List Tag) → ((k : ℕ) → P (get_or from k Untagged))
     → (word : ℕ) (ts : List Tag)
     → ((k : ℕ) → P (get_or ts k Untagged)) → (k : ℕ) → P (get_or (moved_tags size start source from word ts) k Untagged)
 every_moved P size start source from f word [] h k = h k

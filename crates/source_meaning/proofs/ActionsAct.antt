@@ -17,10 +17,10 @@ use Rattle.obj_memory.specs.declared.judgement.Verdict.{Verdict}
 use Rattle.obj_memory.specs.declared.judgement.Verdict.TheVariants.{Outside, Dead, Inside}
 use Rattle.obj_memory.specs.Integers.{fit}
 use Rattle.obj_memory.specs.Operators.{binary_value}
-use Rattle.obj_memory.specs.Objects.{Objects, with_dead}
+use Rattle.obj_memory.specs.Objects.{ObjectState, Objects, object_at, with_dead}
 use Rattle.obj_memory.specs.Judgement.{narrowed}
 use Rattle.obj_memory.specs.Sound.{Continues}
-use Rattle.obj_memory.proofs.Continuing.{continues_same, continues_then, continues_dead}
+use Rattle.obj_memory.proofs.Continuing.{continues_same, continues_then, continues_dead, continues_set}
 use Rattle.c_tree.specs.declared.expression.Kind.{Kind}
 use Rattle.c_tree.specs.declared.expression.Kind.TheVariants.{Void, Scalar as OfScalar, Structure, Array}
 use Rattle.c_tree.specs.declared.expression.Update.{Update}
@@ -31,14 +31,16 @@ use Rattle.source_meaning.specs.State.{Home}
 use Rattle.source_meaning.specs.State.{NoObject, InObject}
 use Rattle.source_meaning.specs.State.{Run, change, Header, Setting}
 use Rattle.c_tree.specs.Kinds.{size_of_kind}
-use Rattle.source_meaning.specs.Actions.{integer, value_or_divide, operate, updated, given, set_plain, update_plain, place_or_stop, located, note, read_scalar, write_scalar, move_bytes, load, store, update, load_structure, copy_structure, read_lvalue, write_lvalue, make_object, put_bytes, take_key}
+use Rattle.source_meaning.specs.Actions.{integer, value_or_divide, operate, updated, given, set_plain, update_plain, place_or_stop, located, note, read_scalar, write_scalar, move_bytes, load, store, update, load_structure, copy_structure, read_lvalue, write_lvalue, make_object, home_value, put_bytes, take_key}
+use Rattle.source_meaning.specs.State.{Rvalue}
+use Rattle.source_meaning.specs.Structures.{moved_into, put_range, put_contents, copy_value, as_rvalue, write_rvalue, read_part, read_rvalue, with_contents, taken, take_value}
 use Rattle.source_meaning.specs.Expressions.{callee_by, callee}
 use Rattle.source_meaning.specs.Initializers.{zero_object, zero_home, zero_variable, store_bytes}
 use Rattle.source_meaning.specs.Calls.{body_objects, test_charge, call_tests, first_of, rest_of, set_plain_values, write_parameter, write_parameters, lay_out, set_up, Caller, back_to}
 use Rattle.source_meaning.specs.Blocks.{pass_or_stop, place_object, place_variables, without_homes, test_space, test_keys, homes_over, Block, place_block, enter_block, leave_block}
 use Rattle.source_meaning.specs.Acting.{IsAction}
 use Rattle.source_meaning.proofs.Acting.{acts_on, acts_then, acts_done, acts_skip, acts_stop, acts_choose, acts_tally, acts_change, acts_private, changes, basic, acts_read}
-use Rattle.source_meaning.proofs.Local.{IsLocal, local_on, local_then, local_done, local_skip, local_stop, local_choose, local_tally, local_changes, local_basic}
+use Rattle.source_meaning.proofs.Local.{IsLocal, local_on, local_then, local_done, local_skip, local_stop, local_choose, local_read, local_tally, local_objects, local_changes, local_basic}
 
 -- accesses
 
@@ -237,6 +239,54 @@ acts_store_bytes p offset bytes = (local_store_bytes p offset bytes).action
 pub acts_update : (k : Scalar) (j : Bool) (p : Value) (line : ℕ) (u : Update) (right : Value) (at : ℕ) (fixity : Fixity) → IsAction (update k j p line (updated u k right at) fixity)
 acts_update k j p line u right at fixity = (local_update k j p line (updated u k right at) fixity (local_updated u k right at)).action
 
+-- structures by value
+
+pub continues_put : (size : ℕ) (d : Place) (source : ℕ) (c : ObjectState) (objects : Objects) → Continues objects (put_range size d source c objects)
+unfolding put_range moved_into
+continues_put size d source c objects = continues_set objects d.object _ (record { storage = refl; address = refl; size = refl; dead = λ h. h })
+
+local_put_contents : (size : ℕ) (d : Place) (source : ℕ) (c : ObjectState) → IsLocal (put_contents size d source c)
+local_put_contents size d source c = local_then (local_tally size) (local_objects (put_range size d source c) (continues_put size d source c))
+
+local_copy_value : (c : Option ObjectState) (size : ℕ) (j : Bool) (p : Value) (line : ℕ) (v : Value) → IsLocal (copy_value c size j p line v)
+local_copy_value None size j p line v = local_copy_structure size j p line v
+local_copy_value (Some c) size j p line v = local_on (local_located j size p line) (λ d. local_put_contents size d v.word c)
+
+pub local_as_rvalue : {r : Run Value} → IsLocal r → IsLocal (as_rvalue r)
+local_as_rvalue h = local_on h (λ v. local_done)
+
+pub local_write_rvalue : (kind : Kind) (j : Bool) (p : Value) (line : ℕ) (v : Rvalue) → IsLocal (write_rvalue kind j p line v)
+local_write_rvalue Void j p line v = local_done
+local_write_rvalue (OfScalar k) j p line v = local_as_rvalue (local_write_lvalue (OfScalar k) j p line v.value)
+local_write_rvalue (Structure n) j p line v = local_then (local_copy_value v.contents n j p line v.value) local_done
+local_write_rvalue (Array n) j p line v = local_done
+
+local_read_part : (c : Option ObjectState) (kind : Kind) (j : Bool) (q : Value) (line : ℕ) → IsLocal (read_part c kind j q line)
+local_read_part None kind j q line = local_as_rvalue (local_read_lvalue kind j q line)
+local_read_part (Some c) kind j q line = local_done
+
+pub local_read_rvalue : (kind : Kind) (j : Bool) (q : Rvalue) (line : ℕ) → IsLocal (read_rvalue kind j q line)
+local_read_rvalue kind j q line = local_read_part q.contents kind j q.value line
+
+local_taken : (c : Option ObjectState) (size : ℕ) (v : Value) (line : ℕ) → IsLocal (taken c size v line)
+local_taken None size v line = local_on (local_located false size v line) (λ p. local_then (local_tally size) (local_read {f = λ s. with_contents size p.offset (object_at s.objects p.object)} (λ k s. refl)))
+local_taken (Some c) size v line = local_then (local_tally size) local_done
+
+pub local_take_value : (kind : Kind) (line : ℕ) (v : Rvalue) → IsLocal (take_value kind line v)
+local_take_value Void line v = local_done
+local_take_value (OfScalar k) line v = local_done
+local_take_value (Structure n) line v = local_taken v.contents n v.value line
+local_take_value (Array n) line v = local_done
+
+pub acts_write_rvalue : (kind : Kind) (j : Bool) (p : Value) (line : ℕ) (v : Rvalue) → IsAction (write_rvalue kind j p line v)
+acts_write_rvalue kind j p line v = (local_write_rvalue kind j p line v).action
+
+pub acts_read_rvalue : (kind : Kind) (j : Bool) (q : Rvalue) (line : ℕ) → IsAction (read_rvalue kind j q line)
+acts_read_rvalue kind j q line = (local_read_rvalue kind j q line).action
+
+pub acts_take_value : (kind : Kind) (line : ℕ) (v : Rvalue) → IsAction (take_value kind line v)
+acts_take_value kind line v = (local_take_value kind line v).action
+
 -- calls
 
 acts_pass_or_stop : (b : Bool) (e : Ending) → IsAction (pass_or_stop b e)
@@ -264,23 +314,24 @@ acts_place_variables [] = acts_done
 acts_place_variables (v ∷ vs) =
     acts_on (acts_choose v.is_object (acts_place_object (size_of_kind v.kind)) acts_done) (λ home. acts_on (acts_place_variables vs) (λ homes. acts_done))
 
-acts_write_parameter : (kind : Kind) (home : Home) (line : ℕ) (v : Value) → IsAction (write_parameter kind home line v)
+acts_write_parameter : (kind : Kind) (home : Home) (line : ℕ) (v : Rvalue) → IsAction (write_parameter kind home line v)
 acts_write_parameter kind NoObject line v = acts_skip
-acts_write_parameter kind (InObject o) line v = search (basic, acts_write_lvalue)
+acts_write_parameter kind (InObject o) line v =
+    acts_on (acts_read {f = λ s. home_value (InObject o) s.objects} (λ k s. refl)) (λ p. acts_then (acts_write_rvalue kind false p line v) acts_skip)
 
-acts_write_parameters : (ps : List Variable) (homes : List Home) (line : ℕ) (vs : List Value) → IsAction (write_parameters ps homes line vs)
+acts_write_parameters : (ps : List Variable) (homes : List Home) (line : ℕ) (vs : List Rvalue) → IsAction (write_parameters ps homes line vs)
 acts_write_parameters [] homes line vs = acts_skip
 acts_write_parameters (p ∷ ps) [] line vs = acts_skip
 acts_write_parameters (p ∷ ps) (home ∷ homes) line vs =
     acts_then (acts_write_parameter p.kind home line (first_of vs)) (acts_write_parameters ps homes line (rest_of vs))
 
-acts_set_plain_values : (f : Header) (vs : List Value) → IsAction (set_plain_values f vs)
+acts_set_plain_values : (f : Header) (vs : List Rvalue) → IsAction (set_plain_values f vs)
 acts_set_plain_values f vs = search (basic, changes)
 
-pub acts_lay_out : (f : Header) (vs : List Value) (line : ℕ) → IsAction (lay_out f vs line)
+pub acts_lay_out : (f : Header) (vs : List Rvalue) (line : ℕ) → IsAction (lay_out f vs line)
 acts_lay_out f vs line = search (basic, changes, acts_set_plain_values, acts_place_variables, acts_write_parameters) depth 12
 
-pub acts_set_up : (g : Setting) (f : Header) (vs : List Value) (line : ℕ) → IsAction (set_up g f vs line)
+pub acts_set_up : (g : Setting) (f : Header) (vs : List Rvalue) (line : ℕ) → IsAction (set_up g f vs line)
 acts_set_up g f vs line = acts_then (acts_tally 1) (acts_then (acts_call_tests g f line) (acts_lay_out f vs line))
 
 pub continues_without : (homes : List Home) (objects : Objects) → Continues objects (without_homes homes objects)

@@ -1,4 +1,5 @@
 -- Objects that live on, and pointers to bytes of live objects.
+use Rattle.source_meaning.specs.Good.{IsHeld}
 use Rattle.std.proofs.Common.{◌≡◌, ℕ, zero, suc, ◌+◌, ◌%◌, ◌^◌, ◌<◌, ◌≤◌, Bool, true, false, List, [], ◌∷◌, ◌++◌, length, refl, sym, ap, ◌∙◌, arith, nat_eq, if◌then◌else◌, ◌⊎◌, inl, inr, length-set, length-append}
 use Rattle.std.proofs.lemmas.Bool.{eqb-true, eqb-false, cases_lt}
 use Rattle.std.proofs.Math.Nat.{mod-eq_of_lt}
@@ -207,13 +208,6 @@ named_on old new l v size h =
       };
       named = ap is_allocated (l.continues.storage d.object d.made) ∙ h.named;
     }
-
--- an object that a name is of
-pub record IsHeld (objects : Objects) (n : ℕ) (kind : Kind) : Type 0 where
-  pub made : n < length objects
-  pub live : (object_at objects n).is_live ≡ true
-  pub held : is_allocated (object_at objects n).storage ≡ false
-  pub size : (object_at objects n).size ≡ size_of_kind kind
 
 pub held_on : (old new : Objects) → LivesOn old new → (n : ℕ) (kind : Kind) → IsHeld old n kind → IsHeld new n kind
 held_on old new l n kind h = record {

@@ -1,4 +1,6 @@
 -- What a call lays out: the objects of its variables, which are new, and which die at its return.
+use Rattle.source_meaning.specs.Good.{AllFrom, IsIn, EndsBut}
+use Rattle.source_meaning.specs.Good.{AreLow, EndsMade, HasHome, IsHeld, object_kind}
 use Rattle.std.proofs.Common.{◌≡◌, ℕ, zero, suc, ◌+◌, ◌%◌, ◌≤◌, ◌<◌, ◌⊎◌, inl, inr, List, [], ◌∷◌, Bool, true, false, Some, None, length, if◌then◌else◌, refl, sym, ap, ◌∙◌, subst, arith, nat_eq}
 use Rattle.std.proofs.lemmas.Bool.{cases_lt, eqb-true, eqb-false}
 use Rattle.obj_memory.specs.declared.object.Storage.{Storage}
@@ -17,11 +19,9 @@ use Rattle.source_meaning.specs.State.{State, Outcome, Gives, Ended, Paused, on,
 use Rattle.c_tree.specs.Kinds.{size_of_kind}
 use Rattle.source_meaning.specs.Calls.{}
 use Rattle.source_meaning.specs.Blocks.{objects_end, place_object, place_variables, without_homes}
-use Rattle.source_meaning.proofs.Naming.{object_kind}
 use Rattle.source_meaning.specs.Keeping.{LivesOn, AreSeparate}
-use Rattle.source_meaning.proofs.Separating.{separate_automatic, EndsMade, ends_same, live_before}
-use Rattle.source_meaning.proofs.Holding.{live_made, beyond, length-dead, length-new, lives_same, lives_then, lives_new, IsHeld, held_on}
-use Rattle.source_meaning.proofs.Sure.{HasHome, AreLow}
+use Rattle.source_meaning.proofs.Separating.{separate_automatic, ends_same, live_before}
+use Rattle.source_meaning.proofs.Holding.{live_made, beyond, length-dead, length-new, lives_same, lives_then, lives_new, held_on}
 
 -- objects that are low
 
@@ -139,11 +139,6 @@ placed_less n m le (v ∷ vs) (h ∷ hs) o p = (placed_home_less n m le v.is_obj
 
 -- the death of these objects leaves all with lower numbers
 
-abbrev pub AllFrom : (n : ℕ) → List Home → Type 0
-AllFrom n [] = Unit {0}
-AllFrom n (NoObject ∷ hs) = AllFrom n hs
-AllFrom n (InObject k ∷ hs) = (n ≤ k) × AllFrom n hs
-
 placed_home_from : (n : ℕ) (b : Bool) (kind : Kind) (h : Home) (hs : List Home) (o : Objects) → PlacedHome n b kind h o → AllFrom n hs → AllFrom n (h ∷ hs)
 placed_home_from n true kind NoObject hs o p q = absurd p
 placed_home_from n true kind (InObject k) hs o p q = (p.0, q)
@@ -180,14 +175,6 @@ without_lives old objects homes l from c = record {
 }
 
 -- objects that are made, and still live, are blocks, or in one of some homes
-
-abbrev pub IsIn : (n : ℕ) → List Home → Type 0
-IsIn n [] = ⊥
-IsIn n (NoObject ∷ hs) = IsIn n hs
-IsIn n (InObject k ∷ hs) = (n ≡ k) ⊎ IsIn n hs
-
-abbrev pub EndsBut : (old new : Objects) → List Home → Type 0
-EndsBut old new homes = (n : ℕ) → length old ≤ n → (object_at new n).is_live ≡ true → (is_allocated (object_at new n).storage ≡ true) ⊎ IsIn n homes
 
 ends_but_same : (objects : Objects) → EndsBut objects objects []
 ends_but_same objects n le live = inl (ends_same objects n le live)

@@ -13,6 +13,7 @@ pub mod Holding
 pub mod Separating
 pub mod Sure
 pub mod SureActions
+pub mod SureStructures
 pub mod SureTree
 pub mod Laying
 pub mod SureBlocks
@@ -25,3 +26,4 @@ pub mod ValidNames
 pub mod ValidProgramNames
 pub mod RunsAlike
 pub mod LiveAccesses
+pub mod JudgingTests

@@ -3,7 +3,7 @@ use Rattle.std.proofs.Common.{◌≡◌, ℕ, zero, suc, ◌+◌, ◌≤◌, ◌
 use Rattle.std.proofs.lemmas.Bool.{ltb-true, ltb-false}
 use Rattle.behaviours.specs.Behaviour.{IsSource}
 use Rattle.sb_base.specs.Budgets.{BudgetSizes}
-use Rattle.obj_memory.specs.declared.value.Value.{Value}
+use Rattle.source_meaning.specs.State.{Rvalue}
 use Rattle.c_tree.specs.declared.program.Variable.{Variable}
 use Rattle.c_tree.specs.Blocks.{all_of}
 use Rattle.c_tree.specs.Programs.{FunctionType, Function, StaticObject, Program}
@@ -69,8 +69,8 @@ module _ (g : Setting) (limit : ℕ) where
         (λ _. later_on b.later (λ x. later_after x _ (later_on c.later (λ again. later_choose again (later_turns_before limit condition body step c.later b.later p.later n) (later_done Normal)))))
         (λ m e _. pauses_on (pauses_less left m (omega arith) b) (λ x. pauses_after m x _ (pauses_on (pauses_less left m (omega arith) c) (λ again. pauses_choose m again (pauses_turns_before n m (omega arith) (omega arith)) (pauses_done m Normal)))))
 
-  module _ (depth : ℕ) (call : ℕ → List Value → ℕ → Run Value) where
-    pauses_related : (variables : List Variable) (left : ℕ) → left < depth → ((f : ℕ) (vs : List Value) (line : ℕ) → PausesAt limit left (call f vs line))
+  module _ (depth : ℕ) (call : ℕ → List Rvalue → ℕ → Run Rvalue) where
+    pauses_related : (variables : List Variable) (left : ℕ) → left < depth → ((f : ℕ) (vs : List Rvalue) (line : ℕ) → PausesAt limit left (call f vs line))
         → Related (record { setting = g; variables = variables; limit = limit; depth = depth; call = call }) (record { setting = g; variables = variables; limit = limit; depth = depth; call = call }) (λ A r r'. PausesAt limit left r)
     pauses_related variables left below calls' = record {
       on = pauses_on;
@@ -81,18 +81,18 @@ module _ (g : Setting) (limit : ℕ) where
       loop_before = λ c b. pauses_turns_before left c b (pauses_action limit left acts_skip) depth left below (omega arith);
     }
 
-    pauses_begun : (left : ℕ) → left < depth → ((f : ℕ) (vs : List Value) (line : ℕ) → PausesAt limit left (call f vs line)) → (f : Function) (vs : List Value) (line : ℕ)
+    pauses_begun : (left : ℕ) → left < depth → ((f : ℕ) (vs : List Rvalue) (line : ℕ) → PausesAt limit left (call f vs line)) → (f : Function) (vs : List Rvalue) (line : ℕ)
         → PausesAt limit left (enter_begun (record { setting = g; variables = all_of f; limit = limit; depth = depth; call = call }) f vs line)
     pauses_begun left below calls' f = begun_related g (all_of f) limit limit depth depth call call (λ A r r'. PausesAt limit left r) (pauses_related (all_of f) left below calls') f
 
-    later_begun : ((f : ℕ) (vs : List Value) (line : ℕ) → LeadsTo (call f vs line) (call f vs line)) → (f : Function) (vs : List Value) (line : ℕ)
+    later_begun : ((f : ℕ) (vs : List Rvalue) (line : ℕ) → LeadsTo (call f vs line) (call f vs line)) → (f : Function) (vs : List Rvalue) (line : ℕ)
         → GoesLater (enter_begun (record { setting = g; variables = all_of f; limit = limit; depth = depth; call = call }) f vs line)
     later_begun leads f vs line =
         (begun_related g (all_of f) limit limit depth depth call call (λ A r r'. LeadsTo r r') (leads_related g (all_of f) limit limit depth depth call call (omega arith) (omega arith) leads) f vs line).later
 
 module _ (functions : List Function) (g : Setting) (limit : ℕ) where
-  pauses_found : (n : ℕ) (o : Option Function) (vs : List Value) (line : ℕ)
-      → ((m : ℕ) → n ≡ suc m → (f : ℕ) (vs : List Value) (line : ℕ) → PausesAt limit m (calls functions g limit n f vs line))
+  pauses_found : (n : ℕ) (o : Option Function) (vs : List Rvalue) (line : ℕ)
+      → ((m : ℕ) → n ≡ suc m → (f : ℕ) (vs : List Rvalue) (line : ℕ) → PausesAt limit m (calls functions g limit n f vs line))
       → PausesAt limit n (enter_found (record { setting = g; variables = []; limit = limit; depth = suc n; call = calls functions g limit n }) o vs line)
   pauses_found n None vs line h = pauses_action limit n acts_stop
   pauses_found n (Some f) vs line h =
@@ -100,13 +100,13 @@ module _ (functions : List Function) (g : Setting) (limit : ℕ) where
       (λ _. later_begun g limit (suc n) (calls functions g limit n) (leads_itself functions g limit n) f vs line)
       (λ m e _. pauses_begun g limit (suc n) (calls functions g limit n) m (omega arith) (h m e) f vs line)
 
-  pauses_calls : (n f : ℕ) (vs : List Value) (line : ℕ) → PausesAt limit n (calls functions g limit (suc n) f vs line)
+  pauses_calls : (n f : ℕ) (vs : List Rvalue) (line : ℕ) → PausesAt limit n (calls functions g limit (suc n) f vs line)
   pauses_calls zero f vs line = pauses_found zero (function_at functions f) vs line (λ m e. absurd (omega arith))
   pauses_calls (suc n) f vs line =
       pauses_found (suc n) (function_at functions f) vs line
       (λ m e f vs line. let same : n ≡ m = omega arith in subst (λ k. PausesAt limit k (calls functions g limit (suc n) f vs line)) same (pauses_calls n f vs line))
 
-begun_all : (limit : ℕ) (o : Outcome Value) → IsWithin limit o → (moment_of o).shown.ending ≡ None → limit ≤ (moment_of o).turns
+begun_all : (limit : ℕ) (o : Outcome Rvalue) → IsWithin limit o → (moment_of o).shown.ending ≡ None → limit ≤ (moment_of o).turns
 begun_all limit (Gives v s) w e = absurd (cc)
 begun_all limit (Ended x s) w e = absurd (cc)
 begun_all limit (Paused s) w e = omega (arith, w)

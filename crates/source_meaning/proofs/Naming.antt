@@ -1,55 +1,20 @@
 -- What accesses that are not judged rest on. They name an object or a structure value, so the names must be of objects that
 -- are there, members must lie in what has them, and a structure value is used where it is made. Every program that types
 -- has this.
-use Rattle.std.specs.Prelude.{◌≡◌, ℕ, zero, suc, ◌+◌, ◌≤◌, false, if◌then◌else◌, List, [], ◌∷◌, ◌++◌, Option, Some, None, length}
+use Rattle.source_meaning.specs.Good.{Basis, OnName, OnPointer, OnValue, basis_of, object_kind, signature_in, static_kind}
+use Rattle.std.specs.Prelude.{◌≡◌, ℕ, zero, suc, ◌+◌, ◌≤◌, false, if◌then◌else◌, List, [], ◌∷◌, ◌++◌, map, get_or, Option, Some, None, length}
 use Rattle.c_tree.specs.declared.expression.Kind.{Kind}
 use Rattle.c_tree.specs.declared.expression.Kind.TheVariants.{Void, Scalar as OfScalar, Structure, Array}
-use Rattle.c_tree.specs.Tree.{Expression, expression, Expressions, no_expressions, expressions, Lvalue, lvalue, Node, constant, function, plain, read, decay, address, parenthesized, deref_function, address_function, cast, convert, unary, binary, offset_by, difference, logical_and, logical_or, comma, conditional, assign, assign_plain, compound, change_plain, step, step_plain, call, call_through, library, printf, LvalueNode, automatic, static, deref, index, member, arrow, member_of_value, parenthesized_lvalue, kind_of, line_of, lvalue_kind, lvalue_line}
+use Rattle.c_tree.specs.Tree.{Expression, expression, Expressions, no_expressions, expressions, Lvalue, lvalue, Node, constant, function, plain, read, decay, address, parenthesized, deref_function, address_function, cast, convert, unary, binary, offset_by, difference, logical_and, logical_or, comma, conditional, assign, assign_plain, compound, change_plain, step, step_plain, call, call_through, library, printf, LvalueNode, automatic, static, deref, index, member, arrow, member_of_value, parenthesized_lvalue, kind_of, line_of, lvalue_kind, lvalue_line, kinds_of}
 use Rattle.c_tree.specs.Statements.{Part, Content, value_content, literal_content, Initializer, of_plain, of_object, DeclaredVariable}
 use Rattle.c_tree.specs.Statements.{First, nothing, first_expression, first_declaration, Statement, expression_statement, empty, declaration, block, if_then, if_else, while_do, do_while, for, switch, break, continue, return, Statements, no_statements, statements, SwitchItems, no_items, items}
 use Rattle.c_tree.specs.declared.program.Variable.{Variable}
 use Rattle.c_tree.specs.Programs.{FunctionType, Function, StaticObject, Program}
-use Rattle.c_tree.specs.Kinds.{size_of_kind}
+use Rattle.c_tree.specs.Kinds.{size_of_kind, Signature}
+use Rattle.c_tree.specs.Valid.{Scope, within, no_signature}
 use Rattle.source_meaning.specs.Keeping.{IsNoStructure}
 use Rattle.c_tree.specs.Blocks.{opened, all_of, body_variables, block_variables, switch_variables, first_variables}
-use Rattle.c_tree.specs.ValidProgram.{name_variables}
-
--- what names can be of: the static objects, and the variables of a function, of which an object can be named where its block is entered
-pub record Scope : Type 0 where
-  pub statics : List StaticObject
-  pub all : List Variable
-  pub variables : List Variable
-
-abbrev pub static_kind : List StaticObject → ℕ → Option Kind
-static_kind [] n = None
-static_kind (o ∷ os) zero = Some o.kind
-static_kind (o ∷ os) (suc n) = static_kind os n
-
--- the kind of a variable that is an object
-abbrev pub object_kind : List Variable → ℕ → Option Kind
-object_kind [] x = None
-object_kind (v ∷ vs) zero = if v.is_object then Some v.kind else None
-object_kind (v ∷ vs) (suc x) = object_kind vs x
-
--- what an lvalue rests on: the name of an object, a pointer, or a structure value
-pub data Basis : Type 0 where
-  OnName : Basis
-  OnPointer : Basis
-  OnValue : Basis
-
-abbrev mutual
-  pub basis_of : Lvalue → Basis
-  basis_of (lvalue kind line node) = node_basis node
-
-  pub node_basis : LvalueNode → Basis
-  node_basis (automatic x) = OnName
-  node_basis (static n) = OnName
-  node_basis (deref a) = OnPointer
-  node_basis (index form size a b) = OnPointer
-  node_basis (member p offset size) = basis_of p
-  node_basis (arrow a offset size) = OnPointer
-  node_basis (member_of_value a offset size) = OnValue
-  node_basis (parenthesized_lvalue p) = basis_of p
+use Rattle.c_tree.specs.ValidProgram.{name_variables, signatures_of}
 
 -- what rests on a structure value is no lvalue that can be written (C99 6.5.16 paragraph 2)
 abbrev pub IsWritable : Basis → Type 0
@@ -102,8 +67,10 @@ abbrev mutual
   ValueNames sc (change_plain u x a) kind = Names sc a × IsNoStructure kind
   ValueNames sc (step u fixity p) kind = LvalueNames sc p × IsWritable (basis_of p) × IsScalar (lvalue_kind p) × IsNoStructure kind
   ValueNames sc (step_plain u fixity x) kind = IsNoStructure kind
-  ValueNames sc (call f args) kind = RowNames sc args × IsNoStructure kind
-  ValueNames sc (call_through type_number a args) kind = Names sc a × RowNames sc args × IsNoStructure kind
+  ValueNames sc (call f args) kind =
+      RowNames sc args × (kinds_of args ≡ (signature_in sc.functions f).parameters) × (kind ≡ (signature_in sc.functions f).result)
+  ValueNames sc (call_through type_number a args) kind =
+      Names sc a × RowNames sc args × (kinds_of args ≡ (signature_in sc.types type_number).parameters) × (kind ≡ (signature_in sc.types type_number).result)
   ValueNames sc (library name args) kind = RowNames sc args × IsNoStructure kind
   ValueNames sc (printf format args) kind = RowNames sc args × IsNoStructure kind
 
@@ -155,27 +122,27 @@ FirstNames sc (first_declaration ds) = DeclaredName sc ds
 
 -- statements
 
--- in a block that declares some variables
-abbrev pub entering : Scope → (numbers : List ℕ) → Scope
-entering sc numbers = record sc { variables = opened numbers 0 sc.all sc.variables }
+abbrev pub ReturnNames : Scope → Option Expression → Type 0
+ReturnNames sc None = sc.result ≡ Void
+ReturnNames sc (Some e) = Names sc e × (kind_of e ≡ sc.result)
 
 abbrev mutual
   pub StatementNames : Scope → Statement → Type 0
   StatementNames sc (expression_statement e) = Names sc e
   StatementNames sc empty = Unit {0}
   StatementNames sc (declaration ds) = DeclaredName sc ds
-  StatementNames sc (block line body) = StatementsName (entering sc (block_variables body)) body
+  StatementNames sc (block line body) = StatementsName (within sc (block_variables body)) body
   StatementNames sc (if_then e body) = Names sc e × StatementNames sc body
   StatementNames sc (if_else e body other) = Names sc e × StatementNames sc body × StatementNames sc other
   StatementNames sc (while_do e body) = Names sc e × StatementNames sc body
   StatementNames sc (do_while body e) = StatementNames sc body × Names sc e
   StatementNames sc (for line first condition next body) =
-      FirstNames (entering sc (first_variables first)) first × NamesIfAny (entering sc (first_variables first)) condition
-      × NamesIfAny (entering sc (first_variables first)) next × StatementNames (entering sc (first_variables first)) body
-  StatementNames sc (switch e line is) = Names sc e × ItemsName (entering sc (switch_variables is)) is
+      FirstNames (within sc (first_variables first)) first × NamesIfAny (within sc (first_variables first)) condition
+      × NamesIfAny (within sc (first_variables first)) next × StatementNames (within sc (first_variables first)) body
+  StatementNames sc (switch e line is) = Names sc e × ItemsName (within sc (switch_variables is)) is
   StatementNames sc break = Unit {0}
   StatementNames sc continue = Unit {0}
-  StatementNames sc (return e) = NamesIfAny sc e
+  StatementNames sc (return e) = ReturnNames sc e
 
   pub StatementsName : Scope → Statements → Type 0
   StatementsName sc no_statements = Unit {0}
@@ -187,30 +154,50 @@ abbrev mutual
 
 -- programs
 
-abbrev pub scope_of : List StaticObject → Function → Scope
-scope_of statics f = record { statics = statics; all = all_of f; variables = f.parameters ++ body_variables f }
+-- what all functions of a program have in common
+pub record ProgramNames : Type 0 where
+  pub statics : List Kind
+  pub functions : List Signature
+  pub types : List Signature
 
-abbrev pub TakeNoStructure : List Variable → Type 0
-TakeNoStructure [] = Unit {0}
-TakeNoStructure (p ∷ ps) = IsNoStructure p.kind × TakeNoStructure ps
+abbrev pub scope_of : ProgramNames → Function → Scope
+scope_of u f = record {
+  statics = u.statics;
+  all = all_of f;
+  variables = f.parameters ++ body_variables f;
+  functions = u.functions;
+  types = u.types;
+  result = (signature_in u.types f.type_number).result;
+}
 
-pub record FunctionNames (statics : List StaticObject) (f : Function) : Type 0 where
-  pub body : StatementsName (scope_of statics f) f.body
-  pub parameters : TakeNoStructure f.parameters
+abbrev pub kinds_in : List Variable → List Kind
+kinds_in vs = map (λ v. v.kind) vs
 
-abbrev pub FunctionsName : List StaticObject → List Function → Type 0
-FunctionsName statics [] = Unit {0}
-FunctionsName statics (f ∷ fs) = FunctionNames statics f × FunctionsName statics fs
+pub record FunctionNames (u : ProgramNames) (f : Function) : Type 0 where
+  pub body : StatementsName (scope_of u f) f.body
+  pub parameters : kinds_in f.parameters ≡ (signature_in u.types f.type_number).parameters
 
-abbrev pub file_scope : List StaticObject → Scope
-file_scope statics = record { statics = statics; all = []; variables = [] }
+abbrev pub FunctionsName : ProgramNames → List Function → Type 0
+FunctionsName u [] = Unit {0}
+FunctionsName u (f ∷ fs) = FunctionNames u f × FunctionsName u fs
+
+abbrev pub file_scope : ProgramNames → Scope
+file_scope u = record { statics = u.statics; all = []; variables = []; functions = u.functions; types = u.types; result = Void }
 
 -- initializers of static objects that name no variables
 abbrev pub StaticsName : Scope → List StaticObject → Type 0
 StaticsName sc [] = Unit {0}
 StaticsName sc (o ∷ os) = (name_variables o.parts ≡ false → PartsName sc (size_of_kind o.kind) o.parts) × StaticsName sc os
 
+-- of each function by its type
+abbrev pub function_signatures : List Signature → List Function → List Signature
+function_signatures types fs = map (λ f. signature_in types f.type_number) fs
+
+abbrev pub names_of : Program → ProgramNames
+names_of p = record { statics = map (λ o. o.kind) p.statics; functions = function_signatures (signatures_of p) p.functions; types = signatures_of p }
+
 -- a program names what is there
 pub record NamesObjects (p : Program) : Type 0 where
-  pub statics : StaticsName (file_scope p.statics) p.statics
-  pub functions : FunctionsName p.statics p.functions
+  pub statics : StaticsName (file_scope (names_of p)) p.statics
+  pub functions : FunctionsName (names_of p) p.functions
+  pub main : (signature_in (names_of p).functions p.main).parameters ≡ []

@@ -8,19 +8,20 @@ use Rattle.c_tree.specs.Statements.{First, nothing, first_expression, first_decl
 use Rattle.c_tree.specs.declared.statement.CaseLabel.{CaseLabel}
 use Rattle.source_meaning.specs.Statements.{Completion}
 use Rattle.source_meaning.specs.Statements.{Normal, Broken, Continued, Returned}
-use Rattle.source_meaning.specs.State.{Run, done, choose, tally, Setting, Env}
+use Rattle.source_meaning.specs.State.{Rvalue, Run, done, choose, tally, Setting, Env}
 use Rattle.source_meaning.specs.Actions.{integer, is_zero}
-use Rattle.source_meaning.specs.Expressions.{counted, evaluate}
+use Rattle.source_meaning.specs.Structures.{rvalue}
+use Rattle.source_meaning.specs.Expressions.{counted, argument, evaluate}
 use Rattle.source_meaning.specs.Statements.{next_after, in_order, holds, perform, perform_first, LabeledRun, run_labeled, is_case_of, is_default, labels_from, items_at, items_from, labels_of, compared, or_default, run_items, after_switch, run_switch, execute, each_of, items_of}
-use Rattle.source_meaning.specs.Calls.{header_of, returned_by, enter_begun, enter_found}
+use Rattle.source_meaning.specs.Calls.{header_of, returned_by, result_of, enter_begun, enter_found}
 use Rattle.c_tree.specs.declared.program.Variable.{Variable}
 use Rattle.c_tree.specs.Blocks.{all_of, block_objects, block_variables, switch_variables, first_variables}
 use Rattle.source_meaning.specs.Blocks.{has_objects, scoped}
 use Rattle.source_meaning.proofs.Acting.{acts_done, acts_skip, acts_stop, acts_tally, acts_read}
 use Rattle.source_meaning.proofs.ActionsAct.{acts_set_up, acts_back_to, acts_enter_block, acts_leave_block}
-use Rattle.source_meaning.proofs.Related.{Related, evaluate_related, initialize_all_related}
+use Rattle.source_meaning.proofs.Related.{Related, evaluate_related, argument_related, initialize_all_related}
 
-module _ (g : Setting) (variables : List Variable) (limit limit' depth depth' : ℕ) (call call' : ℕ → List Value → ℕ → Run Value)
+module _ (g : Setting) (variables : List Variable) (limit limit' depth depth' : ℕ) (call call' : ℕ → List Rvalue → ℕ → Run Rvalue)
     (R : (A : Type 0) → Run A → Run A → Type 0)
     (h : Related (record { setting = g; variables = variables; limit = limit; depth = depth; call = call }) (record { setting = g; variables = variables; limit = limit'; depth = depth'; call = call' }) R) where
   abbrev env : Env
@@ -31,6 +32,9 @@ module _ (g : Setting) (variables : List Variable) (limit limit' depth depth' : 
 
   evaluated : (e : Expression) → R _ (evaluate env e) (evaluate env' e)
   evaluated = evaluate_related g variables limit limit' depth depth' call call' R h
+
+  argued : (e : Expression) → R _ (argument (kind_of e) (line_of e) (evaluate env e)) (argument (kind_of e) (line_of e) (evaluate env' e))
+  argued = argument_related g variables limit limit' depth depth' call call' R h
 
   choose_related : {A : Type 0} (b : Bool) {r r' q q' : Run A} → R _ r q → R _ r' q' → R _ (choose b r r') (choose b q q')
   choose_related true p q = p
@@ -50,7 +54,7 @@ module _ (g : Setting) (variables : List Variable) (limit limit' depth depth' : 
 
   holds_related : (e : Option Expression) → R _ (holds env e) (holds env' e)
   holds_related None = done_related true
-  holds_related (Some e) = h.on (evaluated e) (λ v. done_related (not (is_zero v)))
+  holds_related (Some e) = h.on (evaluated e) (λ v. done_related (not (is_zero v.value)))
 
   perform_related : (e : Option Expression) → R _ (perform env e) (perform env' e)
   perform_related None = h.action acts_skip
@@ -144,11 +148,11 @@ module _ (g : Setting) (variables : List Variable) (limit limit' depth depth' : 
         counted_related (scoped_related (block_objects variables (first_variables first)) line
         (h.on (first_related first) (λ _. h.loop (holds_related condition) (execute_related body) (perform_related step))))
     execute_related (switch e line is) =
-        counted_related (h.on (evaluated e) (λ v. counted_related (scoped_related (block_objects variables (switch_variables is)) line (switch_related v.word _ _ (switch_items_related is)))))
+        counted_related (h.on (evaluated e) (λ v. counted_related (scoped_related (block_objects variables (switch_variables is)) line (switch_related v.value.word _ _ (switch_items_related is)))))
     execute_related break = counted_related (done_related Broken)
     execute_related continue = counted_related (done_related Continued)
-    execute_related (return None) = counted_related (done_related (Returned (integer 0)))
-    execute_related (return (Some e)) = counted_related (h.on (evaluated e) (λ v. done_related (Returned v)))
+    execute_related (return None) = counted_related (done_related (Returned (rvalue (integer 0))))
+    execute_related (return (Some e)) = counted_related (h.on (argued e) (λ v. done_related (Returned v)))
 
     row_related : (ss : Statements) → R _ (in_order (each_of env ss)) (in_order (each_of env' ss))
     row_related no_statements = done_related Normal
@@ -158,19 +162,19 @@ module _ (g : Setting) (variables : List Variable) (limit limit' depth depth' : 
     switch_items_related no_items = tt
     switch_items_related (items labels s is) = ((refl, execute_related s), switch_items_related is)
 
-  pub begun_related : (f : Function) (vs : List Value) (line : ℕ) → R _ (enter_begun env f vs line) (enter_begun env' f vs line)
+  pub begun_related : (f : Function) (vs : List Rvalue) (line : ℕ) → R _ (enter_begun env f vs line) (enter_begun env' f vs line)
   begun_related f vs line =
       h.on (h.action (acts_read (λ k s. refl))) (λ c. h.on (h.action (acts_set_up g (header_of f) vs line)) (λ _.
-      h.on (counted_related (row_related f.body)) (λ completion. h.on (h.action (acts_back_to c)) (λ _. done_related (returned_by completion)))))
+      h.on (counted_related (row_related f.body)) (λ completion. h.on (h.action (acts_back_to c)) (λ _. done_related (returned_by (result_of g f.type_number) completion)))))
 
-module _ (g : Setting) (variables : List Variable) (limit limit' depth depth' : ℕ) (call call' : ℕ → List Value → ℕ → Run Value)
+module _ (g : Setting) (variables : List Variable) (limit limit' depth depth' : ℕ) (call call' : ℕ → List Rvalue → ℕ → Run Rvalue)
     (R : (A : Type 0) → Run A → Run A → Type 0)
     (h : Related (record { setting = g; variables = variables; limit = limit; depth = depth; call = call }) (record { setting = g; variables = variables; limit = limit'; depth = depth'; call = call' }) R) where
   -- over the variables of another function
   elsewhere : (others : List Variable) → Related (record { setting = g; variables = others; limit = limit; depth = depth; call = call }) (record { setting = g; variables = others; limit = limit'; depth = depth'; call = call' }) R
   elsewhere others = record { on = h.on; action = h.action; turn = h.turn; call = h.call; loop = h.loop; loop_before = h.loop_before }
 
-  pub found_related : (o : Option Function) (vs : List Value) (line : ℕ)
+  pub found_related : (o : Option Function) (vs : List Rvalue) (line : ℕ)
       → R _ (enter_found (record { setting = g; variables = variables; limit = limit; depth = depth; call = call }) o vs line) (enter_found (record { setting = g; variables = variables; limit = limit'; depth = depth'; call = call' }) o vs line)
   found_related None vs line = h.action acts_stop
   found_related (Some f) vs line = h.on h.turn (λ _. begun_related g (all_of f) limit limit' depth depth' call call' R (elsewhere (all_of f)) f vs line)

@@ -1,6 +1,6 @@
 -- Every run, with its loops and calls, does the same at any count of work, and adds as much.
 use Rattle.std.proofs.Common.{[], ◌≡◌, ℕ, zero, suc, ◌+◌, Bool, true, false, refl, ap, ◌∙◌, arith, nat_lt, List}
-use Rattle.obj_memory.specs.declared.value.Value.{Value}
+use Rattle.source_meaning.specs.State.{Rvalue}
 use Rattle.c_tree.specs.Programs.{FunctionType, Function, StaticObject, Program}
 use Rattle.source_meaning.specs.Statements.{Completion}
 use Rattle.source_meaning.specs.Statements.{Normal, Broken, Continued, Returned}
@@ -72,7 +72,7 @@ module _ (limit : ℕ) {condition : Run Bool} {body : Run Completion} (c : RunsA
   alike_turns_before (suc n) =
       alike_on (alike_turn limit) (λ _. alike_on b (λ x. alike_after x (alike_on c (λ again. alike_choose again (alike_turns_before n) (alike_action acts_done)))))
 
-alike_related : (g : Setting) (limit depth : ℕ) (call : ℕ → List Value → ℕ → Run Value) → ((f : ℕ) (vs : List Value) (line : ℕ) → RunsAlike (call f vs line))
+alike_related : (g : Setting) (limit depth : ℕ) (call : ℕ → List Rvalue → ℕ → Run Rvalue) → ((f : ℕ) (vs : List Rvalue) (line : ℕ) → RunsAlike (call f vs line))
     → Related (record { setting = g; variables = []; limit = limit; depth = depth; call = call }) (record { setting = g; variables = []; limit = limit; depth = depth; call = call }) (λ A r r'. RunsAlike r)
 alike_related g limit depth call h = record {
   on = alike_on;
@@ -83,7 +83,7 @@ alike_related g limit depth call h = record {
   loop_before = λ c b. alike_turns_before limit c b depth;
 }
 
-pub alike_calls : (functions : List Function) (g : Setting) (limit n f : ℕ) (vs : List Value) (line : ℕ) → RunsAlike (calls functions g limit n f vs line)
+pub alike_calls : (functions : List Function) (g : Setting) (limit n f : ℕ) (vs : List Rvalue) (line : ℕ) → RunsAlike (calls functions g limit n f vs line)
 alike_calls functions g limit zero f vs line = alike_pause
 alike_calls functions g limit (suc n) f vs line =
     found_related g [] limit limit (suc n) (suc n) (calls functions g limit n) (calls functions g limit n) (λ A r r'. RunsAlike r)

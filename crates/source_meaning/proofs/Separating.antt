@@ -1,5 +1,6 @@
 -- Live objects that share no address: automatic and static ones end at the top of the object stack or below, allocated ones
 -- begin behind the object stack.
+use Rattle.source_meaning.specs.Good.{EndsMade}
 use Rattle.std.proofs.Common.{◌≡◌, ℕ, ◌+◌, ◌≤◌, ◌<◌, ◌⊎◌, inl, inr, List, [], ◌∷◌, Bool, true, false, length, refl, sym, ap, ◌∙◌, subst, arith, nat_eq}
 use Rattle.std.proofs.lemmas.Bool.{eqb-true, eqb-false, cases_lt}
 use Rattle.obj_memory.specs.declared.object.Storage.{Storage}
@@ -134,9 +135,6 @@ separate_automatic boundary stacked address size objects h at fits = record {
 }
 
 -- objects that are made, and still live, are blocks
-
-abbrev pub EndsMade : (old new : Objects) → Type 0
-EndsMade old new = (n : ℕ) → length old ≤ n → (object_at new n).is_live ≡ true → is_allocated (object_at new n).storage ≡ true
 
 pub ends_as_many : (old new : Objects) → length new ≡ length old → EndsMade old new
 ends_as_many old new same n le live = absurd (let lt = live_made new n live in omega (arith, lt, same, le))

@@ -1,79 +1,28 @@
 -- Runs that keep objects sound: from a good state they come to a good one, with what is known of the value that they give;
 -- where they end or pause, objects and accesses are kept.
-use Rattle.std.proofs.Common.{◌≡◌, ℕ, ◌+◌, ◌≤◌, List, Bool, true, false, Some, get_or, refl, sym, ◌∙◌, subst, arith}
+use Rattle.source_meaning.specs.Good.{After, Any, AreLow, AreTagged, ArgumentIs, ArgumentsAre, Basis, Context, EndsMade, HasContents, IsGood, IsGoodBy, IsHeld, IsTagged, Leaves, LvalueIs, OnName, OnPointer, OnValue, RvalueReach, Stops, StructureIs, Sure, TakenIs, ValueIs, object_kind, static_kind}
+use Rattle.c_tree.specs.Valid.{Scope}
+use Rattle.std.proofs.Common.{◌≡◌, ℕ, ◌+◌, ◌≤◌, zero, suc, List, [], ◌∷◌, Bool, true, false, Option, Some, None, get_or, refl, sym, ◌∙◌, subst, arith}
 use Rattle.behaviours.specs.Shown.{Access}
 use Rattle.sb_base.specs.declared.ending.Ending.{Ending}
 use Rattle.obj_memory.specs.declared.value.Value.{Value}
-use Rattle.obj_memory.specs.Objects.{Objects, object_at}
-use Rattle.obj_memory.specs.Sound.{IsSound, IsSoundTag, KeepsObjects, Continues, AreDisjoint}
-use Rattle.obj_memory.proofs.Soundness.{sound_tag_continues}
+use Rattle.obj_memory.specs.Objects.{ObjectState, Objects, object_at}
+use Rattle.obj_memory.specs.Sound.{IsSound, IsSoundObject, IsSoundTag, KeepsObjects, Continues, AreDisjoint}
+use Rattle.obj_memory.proofs.Soundness.{sound_tag_continues, sound_object_continues}
 use Rattle.c_tree.specs.declared.expression.Kind.{Kind}
 use Rattle.c_tree.specs.declared.expression.Kind.TheVariants.{Void, Scalar as OfScalar, Structure, Array}
 use Rattle.source_meaning.specs.State.{Home}
 use Rattle.source_meaning.specs.State.{NoObject, InObject}
-use Rattle.source_meaning.specs.State.{State, Outcome, Gives, Ended, Paused, Run, on, ◌>>=◌, done, stop, pause, choose, read_state, change, skip, tally}
+use Rattle.source_meaning.specs.State.{State, Rvalue, Outcome, Gives, Ended, Paused, Run, on, ◌>>=◌, done, stop, pause, choose, read_state, change, skip, tally}
 use Rattle.c_tree.specs.Kinds.{size_of_kind}
 use Rattle.source_meaning.specs.Actions.{integer}
+use Rattle.source_meaning.specs.Structures.{rvalue, give, as_rvalue, as_pointer, values_of}
 use Rattle.source_meaning.specs.Expressions.{counted_as, counted}
-use Rattle.source_meaning.proofs.Naming.{Scope, static_kind, object_kind, Basis, OnName, OnPointer, OnValue, IsWritable}
+use Rattle.source_meaning.proofs.Naming.{IsWritable}
 use Rattle.source_meaning.specs.Keeping.{IsNoStructure}
 use Rattle.source_meaning.specs.Keeping.{IsKept, LivesOn, IsDirect, IsNamed, AreSeparate}
-use Rattle.source_meaning.proofs.Separating.{separate_kept, EndsMade, ends_as_many, ends_same, ends_then}
-use Rattle.source_meaning.proofs.Holding.{all_lie_on, lives_same, lives_then, lives_kept, named_on, IsHeld, held_on}
-
--- the home of a variable that is an object
-pub record HasHome (frame : List Home) (objects : Objects) (x : ℕ) (kind : Kind) : Type 0 where
-  pub object : ℕ
-  pub home : get_or frame x NoObject ≡ InObject object
-  pub held : IsHeld objects object kind
-
-abbrev pub AreLow : Objects → Type 0
-AreLow objects = (n : ℕ) → (object_at objects n).address + (object_at objects n).size ≤ 1610612736
-
-abbrev pub AreTagged : List Value → Objects → Type 0
-AreTagged values objects = (x : ℕ) → IsSoundTag objects (get_or values x (integer 0)).tag
-
--- the names of a function, and the address at which automatic objects end and allocated ones begin
-pub record Context : Type 0 where
-  pub scope : Scope
-  pub boundary : ℕ
-
-pub record IsGoodBy (sc : Context) (objects : Objects) (frame : List Home) (values : List Value) (accesses : List Access) (stacked : ℕ) : Type 0 where
-  pub kept : IsKept objects accesses
-  pub low : AreLow objects
-  pub statics : (n : ℕ) (kind : Kind) → static_kind sc.scope.statics n ≡ Some kind → IsHeld objects n kind
-  pub homes : (x : ℕ) (kind : Kind) → object_kind sc.scope.variables x ≡ Some kind → HasHome frame objects x kind
-  pub plain : AreTagged values objects
-  pub separate : AreSeparate sc.boundary stacked objects
-
-abbrev pub IsGood : Context → State → Type 0
-IsGood sc s = IsGoodBy sc s.objects s.frame s.plain s.accesses s.stacked
-
--- a good state is left for another, in which the same names are of the same objects
-pub record Leaves (sc : Context) (s s' : State) : Type 0 where
-  pub good : IsGood sc s'
-  pub lives : LivesOn s.objects s'.objects
-  pub frame : s'.frame ≡ s.frame
-  pub ended : EndsMade s.objects s'.objects
-
--- where a run ends or pauses, objects and accesses are kept
-pub record Stops (old : Objects) (s' : State) : Type 0 where
-  pub kept : IsKept s'.objects s'.accesses
-  pub low : AreLow s'.objects
-  pub lives : LivesOn old s'.objects
-  pub apart : AreDisjoint s'.objects
-
-abbrev pub After : {A : Type 0} → Context → State → (A → Objects → Type 0) → Outcome A → Type 0
-After sc s Q (Gives a s') = Leaves sc s s' × Q a s'.objects
-After sc s Q (Ended e s') = Stops s.objects s'
-After sc s Q (Paused s') = Stops s.objects s'
-
-pub record Sure {A : Type 0} (sc : Context) (P : Objects → Type 0) (r : Run A) (Q : A → Objects → Type 0) : Type 0 where
-  pub by : (s : State) → IsGood sc s → P s.objects → After sc s Q (r s)
-
--- nothing is known
-abbrev pub Any : Objects → Type 0
-Any objects = Unit {0}
+use Rattle.source_meaning.proofs.Separating.{separate_kept, ends_as_many, ends_same, ends_then}
+use Rattle.source_meaning.proofs.Holding.{all_lie_on, lives_same, lives_then, lives_kept, named_on, held_on}
 
 abbrev pub IsStable : (Objects → Type 0) → Type 0
 IsStable P = (old new : Objects) → LivesOn old new → P old → P new
@@ -207,49 +156,123 @@ sure_objects {sc = sc} f k c sound q = record {
 
 -- values
 
-abbrev pub IsTagged : Value → Objects → Type 0
-IsTagged v objects = IsSoundTag objects v.tag
-
 abbrev pub DirectIf : Kind → Value → Objects → Type 0
 DirectIf Void v objects = Unit {0}
 DirectIf (OfScalar k) v objects = Unit {0}
 DirectIf (Structure n) v objects = IsDirect objects v n
 DirectIf (Array n) v objects = Unit {0}
 
--- the value of a kind: its tag is sound, and a structure value is a pointer to its bytes
-pub record ValueIs (kind : Kind) (v : Value) (objects : Objects) : Type 0 where
+-- a value without contents of a kind: its tag is sound, and a structure value is a pointer to its bytes
+pub record PlaceValueIs (kind : Kind) (v : Value) (objects : Objects) : Type 0 where
   pub tag : IsSoundTag objects v.tag
   pub structure : DirectIf kind v objects
+
+-- an argument or a result of a kind: a structure has its contents
+
+-- a scalar, as an expression gives it
+abbrev pub GivesScalar : Rvalue → Objects → Type 0
+GivesScalar v o = IsTagged v.value o × (v.contents ≡ None)
 
 abbrev pub ReachBy : Basis → (size : ℕ) → Value → Objects → Type 0
 ReachBy OnName size v objects = IsNamed objects v size
 ReachBy OnPointer size v objects = Unit {0}
 ReachBy OnValue size v objects = IsDirect objects v size
 
-pub record LvalueIs (b : Basis) (kind : Kind) (v : Value) (objects : Objects) : Type 0 where
-  pub tag : IsSoundTag objects v.tag
-  pub reach : ReachBy b (size_of_kind kind) v objects
-
 pub stable_tag : (v : Value) → IsStable (IsTagged v)
 stable_tag v old new l h = sound_tag_continues old new l.continues v.tag h
 
-pub stable_lvalue : (b : Basis) → IsWritable b → (kind : Kind) (v : Value) → IsStable (LvalueIs b kind v)
-stable_lvalue OnName w kind v old new l h = record { tag = stable_tag v old new l h.tag; reach = named_on old new l v (size_of_kind kind) h.reach }
-stable_lvalue OnPointer w kind v old new l h = record { tag = stable_tag v old new l h.tag; reach = tt }
-stable_lvalue OnValue w kind v old new l h = absurd w
+-- what a writable lvalue rests on
+abbrev pub PlaceIs : Basis → Kind → Value → Objects → Type 0
+PlaceIs b kind q o = IsTagged q o × ReachBy b (size_of_kind kind) q o
 
-pub value_is : (kind : Kind) (v : Value) (objects : Objects) → IsNoStructure kind → IsSoundTag objects v.tag → ValueIs kind v objects
-value_is Void v objects n h = record { tag = h; structure = tt }
-value_is (OfScalar k) v objects n h = record { tag = h; structure = tt }
+writable_reach : (b : Basis) → IsWritable b → (size : ℕ) (c : Option ObjectState) (v : Value) (o : Objects) → RvalueReach b size c v o → ReachBy b size v o
+writable_reach OnName w size c v o h = h.1
+writable_reach OnPointer w size c v o h = tt
+writable_reach OnValue w size c v o h = absurd w
+
+pub writable_place : (b : Basis) → IsWritable b → (kind : Kind) (q : Rvalue) (o : Objects) → LvalueIs b kind q o → PlaceIs b kind q.value o
+writable_place b w kind q o h = (h.tag, writable_reach b w (size_of_kind kind) q.contents q.value o h.reach)
+
+pub stable_place : (b : Basis) → IsWritable b → (kind : Kind) (v : Value) → IsStable (PlaceIs b kind v)
+stable_place OnName w kind v old new l h = (stable_tag v old new l h.0, named_on old new l v (size_of_kind kind) h.1)
+stable_place OnPointer w kind v old new l h = (stable_tag v old new l h.0, tt)
+stable_place OnValue w kind v old new l h = absurd w
+
+contents_on : (size offset : ℕ) (c : ObjectState) (old new : Objects) → Continues old new → HasContents size offset c old → HasContents size offset c new
+contents_on size offset c old new l h = record { sound = sound_object_continues old new l c h.sound; room = h.room }
+
+taken_on : (n : ℕ) (c : Option ObjectState) (v : Value) (old new : Objects) → Continues old new → TakenIs n c v old → TakenIs n c v new
+taken_on n None v old new l h = h
+taken_on n (Some c) v old new l h = contents_on n v.word c old new l h
+
+pub argument_on : (kind : Kind) (v : Rvalue) (old new : Objects) → Continues old new → ArgumentIs kind v old → ArgumentIs kind v new
+argument_on Void v old new l h = record { tag = sound_tag_continues old new l v.value.tag h.tag; structure = h.structure }
+argument_on (OfScalar k) v old new l h = record { tag = sound_tag_continues old new l v.value.tag h.tag; structure = h.structure }
+argument_on (Structure n) v old new l h = record { tag = sound_tag_continues old new l v.value.tag h.tag; structure = taken_on n v.contents v.value old new l h.structure }
+argument_on (Array n) v old new l h = record { tag = sound_tag_continues old new l v.value.tag h.tag; structure = h.structure }
+
+pub stable_argument : (kind : Kind) (v : Rvalue) → IsStable (ArgumentIs kind v)
+stable_argument kind v old new l h = argument_on kind v old new l.continues h
+
+pub stable_arguments : (ks : List Kind) (vs : List Rvalue) → IsStable (ArgumentsAre ks vs)
+stable_arguments [] [] old new l h = tt
+stable_arguments [] (v ∷ vs) old new l h = h
+stable_arguments (k ∷ ks) [] old new l h = h
+stable_arguments (k ∷ ks) (v ∷ vs) old new l h = (stable_argument k v old new l h.0, stable_arguments ks vs old new l h.1)
+
+taken_structure : (n : ℕ) (c : Option ObjectState) (v : Value) (o : Objects) → TakenIs n c v o → StructureIs n c v o
+taken_structure n None v o h = absurd h
+taken_structure n (Some c) v o h = h
+
+pub argument_value : (kind : Kind) (v : Rvalue) (o : Objects) → ArgumentIs kind v o → ValueIs kind v o
+argument_value Void v o h = record { tag = h.tag; structure = h.structure }
+argument_value (OfScalar k) v o h = record { tag = h.tag; structure = h.structure }
+argument_value (Structure n) v o h = record { tag = h.tag; structure = taken_structure n v.contents v.value o h.structure }
+argument_value (Array n) v o h = record { tag = h.tag; structure = h.structure }
+
+-- the tags of arguments
+pub arguments_tagged : (ks : List Kind) (vs : List Rvalue) (o : Objects) → ArgumentsAre ks vs o → AreTagged (values_of vs) o
+arguments_tagged [] [] o h x = tt
+arguments_tagged [] (v ∷ vs) o h x = absurd h
+arguments_tagged (k ∷ ks) [] o h x = absurd h
+arguments_tagged (k ∷ ks) (v ∷ vs) o h zero = h.0.tag
+arguments_tagged (k ∷ ks) (v ∷ vs) o h (suc x) = arguments_tagged ks vs o h.1 x
+
+-- values of a kind that is no structure
+
+pub value_is : (kind : Kind) (v : Rvalue) (objects : Objects) → IsNoStructure kind → GivesScalar v objects → ValueIs kind v objects
+value_is Void v objects n h = record { tag = h.0; structure = h.1 }
+value_is (OfScalar k) v objects n h = record { tag = h.0; structure = h.1 }
 value_is (Structure m) v objects n h = absurd n
-value_is (Array m) v objects n h = record { tag = h; structure = tt }
+value_is (Array m) v objects n h = record { tag = h.0; structure = h.1 }
+
+pub argument_is : (kind : Kind) (v : Rvalue) (objects : Objects) → IsNoStructure kind → GivesScalar v objects → ArgumentIs kind v objects
+argument_is Void v objects n h = record { tag = h.0; structure = h.1 }
+argument_is (OfScalar k) v objects n h = record { tag = h.0; structure = h.1 }
+argument_is (Structure m) v objects n h = absurd n
+argument_is (Array m) v objects n h = record { tag = h.0; structure = h.1 }
+
+pub place_value : (kind : Kind) (v : Value) (objects : Objects) → PlaceValueIs kind v objects → ValueIs kind (rvalue v) objects
+place_value Void v objects h = record { tag = h.tag; structure = refl }
+place_value (OfScalar k) v objects h = record { tag = h.tag; structure = refl }
+place_value (Structure n) v objects h = record { tag = h.tag; structure = h.structure }
+place_value (Array n) v objects h = record { tag = h.tag; structure = refl }
 
 -- of a kind that is no structure
-pub plainly : {sc : Context} {P : Objects → Type 0} {r : Run Value} {kind : Kind} → IsNoStructure kind → Sure sc P r IsTagged → Sure sc P r (ValueIs kind)
+pub plainly : {sc : Context} {P : Objects → Type 0} {r : Run Rvalue} {kind : Kind} → IsNoStructure kind → Sure sc P r GivesScalar → Sure sc P r (ValueIs kind)
 plainly {kind = kind} n h = sure_post (λ v o t. value_is kind v o n t) h
 
-pub of_kind : {sc : Context} {P : Objects → Type 0} {r : Run Value} {kind other : Kind} → kind ≡ other → Sure sc P r (ValueIs other) → Sure sc P r (ValueIs kind)
+pub of_kind : {sc : Context} {P : Objects → Type 0} {r : Run Rvalue} {kind other : Kind} → kind ≡ other → Sure sc P r (ValueIs other) → Sure sc P r (ValueIs kind)
 of_kind {sc = sc} {P = P} {r = r} e h = subst (λ k. Sure sc P r (ValueIs k)) (sym e) h
+
+pub sure_give : {sc : Context} {P : Objects → Type 0} {v : Value} → ((o : Objects) → P o → IsTagged v o) → Sure sc P (give v) GivesScalar
+sure_give w = sure_done (λ o p. (w o p, refl))
+
+pub as_sure : {sc : Context} {P : Objects → Type 0} {r : Run Value} → Sure sc P r IsTagged → Sure sc P (as_rvalue r) GivesScalar
+as_sure h = sure_on h (λ v. sure_give {v = v} (λ o t. t))
+
+pub pointer_sure : {sc : Context} {P : Objects → Type 0} {r : Run Rvalue} → Sure sc P r (λ v o. IsTagged v.value o) → Sure sc P (as_pointer r) GivesScalar
+pointer_sure h = sure_on h (λ v. sure_give {v = v.value} (λ o t. t))
 
 pub stable_tagged : (vs : List Value) → IsStable (AreTagged vs)
 stable_tagged vs old new l h = λ x. sound_tag_continues old new l.continues _ (h x)

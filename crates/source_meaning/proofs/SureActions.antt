@@ -1,4 +1,5 @@
 -- The actions keep objects sound.
+use Rattle.source_meaning.specs.Good.{After, Any, AreTagged, Basis, Context, IsGood, IsTagged, OnName, OnPointer, OnValue, Sure}
 use Rattle.std.proofs.Common.{◌≡◌, ℕ, zero, suc, ◌+◌, ◌-◌, ◌*◌, ◌%◌, ◌^◌, List, [], ◌∷◌, Bool, true, false, Option, Some, None, get_or, set, refl, sym, ◌∙◌, subst, arith, nat_lt}
 use Rattle.behaviours.specs.Shown.{AccessKind, Read, Write}
 use Rattle.sb_base.specs.declared.ending.Ending.TheVariants.{Keys}
@@ -37,11 +38,10 @@ use Rattle.source_meaning.specs.State.{State, stop, choose, change, Header, Sett
 use Rattle.source_meaning.specs.Actions.{integer, converted_to, converted, offset_value, value_or_divide, operate, updated, given, plain_value, set_plain, update_plain, place_or_stop, located, note, read_scalar, write_scalar, move_bytes, load, store, update, copy_structure, read_lvalue, write_lvalue, put_bytes, take_key}
 use Rattle.source_meaning.specs.Expressions.{callee_by, callee}
 use Rattle.source_meaning.specs.Initializers.{zero_object, zero_home, zero_variable}
-use Rattle.source_meaning.proofs.Naming.{Basis, OnName, OnPointer, OnValue}
 use Rattle.source_meaning.specs.Keeping.{LiesInObject, IsDirect}
 use Rattle.source_meaning.proofs.Separating.{ends_same}
 use Rattle.source_meaning.proofs.Holding.{all_lie_more, lives_same, direct_named, direct_allowed, allowed_lies, judged_direct, direct_kept}
-use Rattle.source_meaning.proofs.Sure.{Context, IsGood, AreTagged, stops_same, After, Sure, Any, sure_on, sure_weak, sure_post, sure_frame, sure_done, sure_skip, sure_stop, sure_read, sure_tally, sure_choose, sure_objects, IsTagged, ValueIs, ReachBy, LvalueIs, stable_tag}
+use Rattle.source_meaning.proofs.Sure.{stops_same, sure_on, sure_weak, sure_post, sure_frame, sure_done, sure_skip, sure_stop, sure_read, sure_tally, sure_choose, sure_objects, PlaceValueIs, PlaceIs, ReachBy, stable_tag}
 
 -- values
 
@@ -184,27 +184,18 @@ sure_update b k q line u right at f =
 
 -- lvalues of any kind
 
-pub sure_read_lvalue : {sc : Context} (b : Basis) (kind : Kind) (q : Value) (line : ℕ) → Sure sc (LvalueIs b kind q) (read_lvalue kind (on_pointer b) q line) (ValueIs kind)
-sure_read_lvalue b Void q line = sure_done (λ o h. record { tag = h.tag; structure = tt })
-sure_read_lvalue b (OfScalar k) q line = sure_post (λ v o h. record { tag = h; structure = tt }) (sure_weak (λ o h. (h.tag, h.reach)) (sure_load b k q line))
+pub sure_read_lvalue : {sc : Context} (b : Basis) (kind : Kind) (q : Value) (line : ℕ) → Sure sc (PlaceIs b kind q) (read_lvalue kind (on_pointer b) q line) (PlaceValueIs kind)
+sure_read_lvalue b Void q line = sure_done (λ o h. record { tag = h.0; structure = tt })
+sure_read_lvalue b (OfScalar k) q line = sure_post (λ v o h. record { tag = h; structure = tt }) (sure_load b k q line)
 sure_read_lvalue b (Structure n) q line =
-    sure_on (sure_weak (λ o h. (h.tag, (h.tag, h.reach))) (sure_located {P = IsTagged q} b n q line)) (λ p. sure_done (λ o h. record { tag = h.0; structure = h.1.1 }))
-sure_read_lvalue b (Array n) q line = sure_done (λ o h. record { tag = h.tag; structure = tt })
+    sure_on (sure_weak (λ o h. (h.0, h)) (sure_located {P = IsTagged q} b n q line)) (λ p. sure_done (λ o h. record { tag = h.0; structure = h.1.1 }))
+sure_read_lvalue b (Array n) q line = sure_done (λ o h. record { tag = h.0; structure = tt })
 
-sure_copy : {sc : Context} (b : Basis) (n : ℕ) (q : Value) (line : ℕ) (v : Value)
+pub sure_copy : {sc : Context} (b : Basis) (n : ℕ) (q : Value) (line : ℕ) (v : Value)
     → Sure sc (λ o. (IsTagged v o × IsDirect o v n) × (IsTagged q o × ReachBy b n q o)) (copy_structure n (on_pointer b) q line v) (λ _ o. IsDirect o q n)
 sure_copy b n q line v =
     sure_on (sure_located b n q line) (λ d.
     sure_on (sure_weak (λ o h. (h.1, h.0)) (sure_located {P = λ o. IsFound q n d o} OnValue n v line)) (λ s. sure_move_bytes n d s q v))
-
-pub sure_write_lvalue : {sc : Context} (b : Basis) (kind : Kind) (q : Value) (line : ℕ) (v : Value) → Sure sc (λ o. LvalueIs b kind q o × ValueIs kind v o) (write_lvalue kind (on_pointer b) q line v) (ValueIs kind)
-sure_write_lvalue b Void q line v = sure_done (λ o h. h.1)
-sure_write_lvalue b (OfScalar k) q line v =
-    sure_on (sure_weak (λ o h. (h.1.tag, (h.0.tag, h.0.reach))) (sure_store b k q line v)) (λ _. sure_done (λ o h. record { tag = h; structure = tt }))
-sure_write_lvalue b (Structure n) q line v =
-    sure_on (sure_weak (λ o h. (h.0.tag, ((h.1.tag, h.1.structure), (h.0.tag, h.0.reach)))) (sure_frame (stable_tag q) (sure_copy b n q line v))) (λ _.
-    sure_done (λ o h. record { tag = h.0; structure = h.1 }))
-sure_write_lvalue b (Array n) q line v = sure_done (λ o h. h.1)
 
 -- plain values
 

@@ -1,4 +1,7 @@
 -- A block keeps objects sound: its own are new, and die where it is left, and the names around it are good again.
+use Rattle.source_meaning.specs.Good.{IsEntered, EntersBy}
+use Rattle.source_meaning.specs.Good.{After, Any, AreTagged, ArgumentIs, Calling, CompletionIs, Context, HasHome, IsGood, IsHeld, Leaves, Stops, Sure, context_of, object_kind}
+use Rattle.c_tree.specs.Valid.{Scope}
 use Rattle.std.proofs.Common.{◌≡◌, ℕ, zero, suc, ◌+◌, ◌≤◌, List, [], ◌∷◌, map, Bool, true, false, ◌||◌, Some, None, length, get_or, if◌then◌else◌, refl, sym, ap, ◌∙◌, subst, arith, nat_le, nat_lt}
 use Rattle.std.proofs.lemmas.Bool.{leb-true}
 use Rattle.sb_base.specs.declared.ending.Ending.TheVariants.{Stack, Keys}
@@ -7,43 +10,25 @@ use Rattle.obj_memory.specs.Sound.{Continues}
 use Rattle.obj_memory.proofs.Soundness.{sound_tag_continues}
 use Rattle.c_tree.specs.declared.expression.Kind.{Kind}
 use Rattle.c_tree.specs.declared.program.Variable.{Variable}
-use Rattle.c_tree.specs.Programs.{StaticObject}
 use Rattle.c_tree.specs.Blocks.{no_variable, closed, is_among, opened, block_objects}
 use Rattle.source_meaning.specs.State.{Home, NoObject, InObject, State, Outcome, Gives, Ended, Paused, Run, on, ◌>>=◌, ◌>>◌, done, stop, choose, change, skip, Setting, Env}
 use Rattle.source_meaning.specs.Statements.{Completion, Normal, Broken, Continued, Returned}
 use Rattle.source_meaning.specs.Places.{stack_end}
 use Rattle.source_meaning.specs.Actions.{take_key}
 use Rattle.source_meaning.specs.Blocks.{pass_or_stop, objects_end, has_objects, place_variables, without_homes, test_keys, over, homes_over, Block, place_block, enter_block, leave_block, scoped}
-use Rattle.source_meaning.proofs.Naming.{object_kind}
 use Rattle.source_meaning.specs.Keeping.{AllLie, LivesOn}
 use Rattle.source_meaning.proofs.ActionsAct.{continues_without}
 use Rattle.source_meaning.proofs.Separating.{separate_without, separate_back}
-use Rattle.source_meaning.proofs.Holding.{all_lie_on, lives_then, IsHeld, held_on}
-use Rattle.source_meaning.proofs.Sure.{HasHome, Context, IsGood, AreTagged, Leaves, Stops, stops_same, stops_then, After, Sure, Any, IsTagged, stable_tagged}
-use Rattle.source_meaning.proofs.SureTree.{Calling}
-use Rattle.source_meaning.proofs.Laying.{PlacedHome, placed_home, AllFrom, placed_from, without_sound, without_low, without_lives, EndsBut, ends_but_then, ends_without, Placed, PlacesBy, places}
+use Rattle.source_meaning.proofs.Holding.{all_lie_on, lives_then, held_on}
+use Rattle.source_meaning.proofs.Sure.{stops_same, stops_then, argument_on, stable_tagged}
+use Rattle.source_meaning.proofs.Laying.{PlacedHome, placed_home, placed_from, without_sound, without_low, without_lives, ends_but_then, ends_without, Placed, PlacesBy, places}
+use Rattle.source_meaning.specs.Good.{AllFrom, EndsBut}
 
--- the value of a return has a sound tag
-abbrev pub CompletionIs : Completion → Objects → Type 0
-CompletionIs Normal o = Unit {0}
-CompletionIs Broken o = Unit {0}
-CompletionIs Continued o = Unit {0}
-CompletionIs (Returned v) o = IsTagged v o
-
-pub completion_on : (f : Completion) (old new : Objects) → Continues old new → CompletionIs f old → CompletionIs f new
-completion_on Normal old new c h = tt
-completion_on Broken old new c h = tt
-completion_on Continued old new c h = tt
-completion_on (Returned v) old new c h = sound_tag_continues old new c v.tag h
-
-abbrev pub context_of : List StaticObject → (boundary : ℕ) → (all variables : List Variable) → Context
-context_of statics boundary all variables = record { scope = record { statics = statics; all = all; variables = variables }; boundary = boundary }
-
--- calls keep objects sound, whatever variables have homes; and all of the object stack lies below the heap
-pub record Inside (statics : List StaticObject) (boundary : ℕ) (env : Env) : Type 0 where
-  pub calling : (variables : List Variable) → Calling (context_of statics boundary env.variables variables) env
-  pub most : stack_end env.setting ≤ boundary
-  pub low : boundary ≤ 1610612736
+pub completion_on : (result : Kind) (f : Completion) (old new : Objects) → Continues old new → CompletionIs result f old → CompletionIs result f new
+completion_on result Normal old new c h = tt
+completion_on result Broken old new c h = tt
+completion_on result Continued old new c h = tt
+completion_on result (Returned v) old new c h = argument_on result v old new c h
 
 -- the homes of variables
 
@@ -119,12 +104,12 @@ names_same numbers first (d ∷ ds) [] none x kind e = absurd (cc)
 names_same numbers first (d ∷ ds) (v ∷ vs) none zero kind e = first_same (is_among numbers first) d v (neither _ _ none).0 kind e
 names_same numbers first (d ∷ ds) (v ∷ vs) none (suc x) kind e = names_same numbers (suc first) ds vs (neither _ _ none).1 x kind e
 
-module _ (statics : List StaticObject) (boundary : ℕ) (all vars : List Variable) (numbers : List ℕ) where
+module _ (base : Scope) (boundary : ℕ) (all vars : List Variable) (numbers : List ℕ) where
   abbrev sc : Context
-  sc = context_of statics boundary all vars
+  sc = context_of base boundary all vars
 
   abbrev inner : Context
-  inner = context_of statics boundary all (opened numbers 0 all vars)
+  inner = context_of base boundary all (opened numbers 0 all vars)
 
   -- the objects of the block
   abbrev own : List Variable
@@ -135,20 +120,14 @@ module _ (statics : List StaticObject) (boundary : ℕ) (all vars : List Variabl
       let home = good.homes x kind e in
       record { object = home.object; home = subst (λ f. get_or f x NoObject ≡ InObject home.object) (sym same) home.home; held = held_on s.objects s'.objects l home.object kind home.held }
 
-  pub record IsEntered (s : State) (b : Block) (s' : State) : Type 0 where
-    pub block : b ≡ record { homes = b.homes; frame = s.frame; stacked = s.stacked }
-    pub good : IsGood inner s'
-    pub lives : LivesOn s.objects s'.objects
-    pub new : AllFrom (length s.objects) b.homes
-    pub ends : EndsBut s.objects s'.objects b.homes
+  abbrev Entered : State → Block → State → Type 0
+  Entered s b s' = IsEntered base boundary all vars numbers s b s'
 
-  abbrev pub EntersBy : State → Outcome Block → Type 0
-  EntersBy s (Gives b s') = IsEntered s b s'
-  EntersBy s (Ended e s') = Stops s.objects s'
-  EntersBy s (Paused s') = ⊥
+  abbrev Enters : State → Outcome Block → Type 0
+  Enters s o = EntersBy base boundary all vars numbers s o
 
   placed_block : (s : State) (k : ℕ) → IsGood sc s → (o : Outcome (List Home)) → PlacesBy boundary (record s { keys = k }) (length s.objects) own o
-      → EntersBy s (on o (λ homes. change (λ z. record z { frame = homes_over s.frame homes }) >> done (record { homes = homes; frame = s.frame; stacked = s.stacked })))
+      → Enters s (on o (λ homes. change (λ z. record z { frame = homes_over s.frame homes }) >> done (record { homes = homes; frame = s.frame; stacked = s.stacked })))
   placed_block s k good (Gives homes s2) h = record {
     block = refl;
     good = record {
@@ -169,24 +148,24 @@ module _ (statics : List StaticObject) (boundary : ℕ) (all vars : List Variabl
   placed_block s k good (Paused s2) h = absurd h
 
   module _ (g : Setting) (most : stack_end g ≤ boundary) (low : boundary ≤ 1610612736) (line : ℕ) where
-    placing : (s : State) (k : ℕ) → IsGood sc s → objects_end own s.stacked ≤ stack_end g → EntersBy s (place_block own (record s { keys = k }))
+    placing : (s : State) (k : ℕ) → IsGood sc s → objects_end own s.stacked ≤ stack_end g → Enters s (place_block own (record s { keys = k }))
     placing s k good fits =
         placed_block s k good (place_variables own (record s { keys = k })) (places boundary low own (record s { keys = k }) good.kept.sound good.low good.separate (omega (arith, fits, most)))
 
-    key_enters : (s : State) → IsGood sc s → objects_end own s.stacked ≤ stack_end g → (b : Bool) → EntersBy s (on (choose b (change (λ s. record s { keys = s.keys + 1 })) (stop (Keys line)) s) (λ _. place_block own))
+    key_enters : (s : State) → IsGood sc s → objects_end own s.stacked ≤ stack_end g → (b : Bool) → Enters s (on (choose b (change (λ s. record s { keys = s.keys + 1 })) (stop (Keys line)) s) (λ _. place_block own))
     key_enters s good fits true = placing s (s.keys + 1) good fits
     key_enters s good fits false = stops_same sc s good
 
-    keys_enter : (s : State) → IsGood sc s → objects_end own s.stacked ≤ stack_end g → (b : Bool) → EntersBy s (on (choose b (take_key g line) skip s) (λ _. place_block own))
+    keys_enter : (s : State) → IsGood sc s → objects_end own s.stacked ≤ stack_end g → (b : Bool) → Enters s (on (choose b (take_key g line) skip s) (λ _. place_block own))
     keys_enter s good fits true = key_enters s good fits (nat_lt s.keys g.sizes.budgets.keys)
     keys_enter s good fits false = placing s s.keys good fits
 
     space_enters : (s : State) → IsGood sc s → (b : Bool) → nat_le (objects_end own s.stacked) (stack_end g) ≡ b
-        → EntersBy s (on (pass_or_stop b (Stack line) s) (λ _. test_keys g own line >> place_block own))
+        → Enters s (on (pass_or_stop b (Stack line) s) (λ _. test_keys g own line >> place_block own))
     space_enters s good true e = keys_enter s good (leb-true _ _ e) (has_objects own)
     space_enters s good false e = stops_same sc s good
 
-    pub enters : (s : State) → IsGood sc s → EntersBy s (enter_block g own line s)
+    pub enters : (s : State) → IsGood sc s → Enters s (enter_block g own line s)
     enters s good = space_enters s good (nat_le (objects_end own s.stacked) (stack_end g)) refl
 
   left_good : (s : State) → IsGood sc s → (homes : List Home) (s2 : State) → IsGood inner s2 → LivesOn s.objects s2.objects → AllFrom (length s.objects) homes → EndsBut s.objects s2.objects homes
@@ -212,18 +191,18 @@ module _ (statics : List StaticObject) (boundary : ℕ) (all vars : List Variabl
       }
 
   -- a block that is left after a part that kept its names
-  pub left_by : (s : State) → IsGood sc s → (b : Block) (s1 s2 : State) → IsEntered s b s1 → Leaves inner s1 s2 → Leaves sc s (leave_block b s2)
+  pub left_by : (s : State) → IsGood sc s → (b : Block) (s1 s2 : State) → Entered s b s1 → Leaves inner s1 s2 → Leaves sc s (leave_block b s2)
   left_by s good b s1 s2 up h =
       subst (λ z. Leaves sc s (leave_block z s2)) (sym up.block)
       (left_good s good b.homes s2 h.good (lives_then s.objects s1.objects s2.objects up.lives h.lives) up.new
       (ends_but_then s.objects s1.objects s2.objects b.homes up.ends h.lives.continues h.ended))
 
-  completed : (s : State) → IsGood sc s → (b : Block) (s1 : State) → IsEntered s b s1 → (o : Outcome Completion) → After inner s1 CompletionIs o → After sc s CompletionIs (on o (λ completion. change (leave_block b) >> done completion))
-  completed s good b s1 up (Gives f s2) h = (left_by s good b s1 s2 up h.0, completion_on f s2.objects (without_homes b.homes s2.objects) (continues_without b.homes s2.objects) h.1)
+  completed : (s : State) → IsGood sc s → (b : Block) (s1 : State) → Entered s b s1 → (o : Outcome Completion) → After inner s1 (CompletionIs base.result) o → After sc s (CompletionIs base.result) (on o (λ completion. change (leave_block b) >> done completion))
+  completed s good b s1 up (Gives f s2) h = (left_by s good b s1 s2 up h.0, completion_on base.result f s2.objects (without_homes b.homes s2.objects) (continues_without b.homes s2.objects) h.1)
   completed s good b s1 up (Ended e s2) h = stops_then s.objects s1.objects s2 up.lives h
   completed s good b s1 up (Paused s2) h = stops_then s.objects s1.objects s2 up.lives h
 
-  entered_by : (s : State) → IsGood sc s → (o : Outcome Block) → EntersBy s o → (body : Run Completion) → Sure inner Any body CompletionIs → After sc s CompletionIs (on o (λ b. body >>= (λ completion. change (leave_block b) >> done completion)))
+  entered_by : (s : State) → IsGood sc s → (o : Outcome Block) → Enters s o → (body : Run Completion) → Sure inner Any body (CompletionIs base.result) → After sc s (CompletionIs base.result) (on o (λ b. body >>= (λ completion. change (leave_block b) >> done completion)))
   entered_by s good (Gives b s1) up body h = completed s good b s1 up (body s1) (h.by s1 up.good tt)
   entered_by s good (Ended e s1) up body h = up
   entered_by s good (Paused s1) up body h = absurd up
@@ -248,15 +227,15 @@ module _ (statics : List StaticObject) (boundary : ℕ) (all vars : List Variabl
     ended = h.ended;
   }
 
-  after_outside : (s : State) → IsGood sc s → (o : Outcome Completion) → After inner s CompletionIs o → After sc s CompletionIs o
+  after_outside : (s : State) → IsGood sc s → (o : Outcome Completion) → After inner s (CompletionIs base.result) o → After sc s (CompletionIs base.result) o
   after_outside s good (Gives f s') h = (leaves_outside s s' good h.0, h.1)
   after_outside s good (Ended e s') h = h
   after_outside s good (Paused s') h = h
 
-  scoped_by : (g : Setting) → stack_end g ≤ boundary → boundary ≤ 1610612736 → (line : ℕ) (body : Run Completion) → Sure inner Any body CompletionIs → (b : Bool) → has_objects own ≡ b
-      → Sure sc Any (choose b (enter_block g own line >>= (λ b. body >>= (λ completion. change (leave_block b) >> done completion))) body) CompletionIs
+  scoped_by : (g : Setting) → stack_end g ≤ boundary → boundary ≤ 1610612736 → (line : ℕ) (body : Run Completion) → Sure inner Any body (CompletionIs base.result) → (b : Bool) → has_objects own ≡ b
+      → Sure sc Any (choose b (enter_block g own line >>= (λ b. body >>= (λ completion. change (leave_block b) >> done completion))) body) (CompletionIs base.result)
   scoped_by g most low line body h true e = record { by = λ s good p. entered_by s good (enter_block g own line s) (enters g most low line s good) body h }
   scoped_by g most low line body h false e = record { by = λ s good p. after_outside s good (body s) (h.by s (good_inside s e good) tt) }
 
-  pub scoped_sure : (g : Setting) → stack_end g ≤ boundary → boundary ≤ 1610612736 → (line : ℕ) (body : Run Completion) → Sure inner Any body CompletionIs → Sure sc Any (scoped g own line body) CompletionIs
+  pub scoped_sure : (g : Setting) → stack_end g ≤ boundary → boundary ≤ 1610612736 → (line : ℕ) (body : Run Completion) → Sure inner Any body (CompletionIs base.result) → Sure sc Any (scoped g own line body) (CompletionIs base.result)
   scoped_sure g most low line body h = scoped_by g most low line body h (has_objects own) refl

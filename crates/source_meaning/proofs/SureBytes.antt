@@ -1,4 +1,5 @@
 -- The routines of the library that look at bytes and set them keep objects sound.
+use Rattle.source_meaning.specs.Good.{AreTagged, Context, IsTagged, OnPointer, Sure}
 use Rattle.std.proofs.Common.{◌≡◌, ℕ, zero, suc, ◌+◌, ◌-◌, ◌*◌, ◌≤◌, ◌<◌, List, [], ◌∷◌, ◌++◌, true, false, ◌==◌, length, get_or, drop, replicate, if◌then◌else◌, sym, subst, arith, length-append}
 use Rattle.std.proofs.lemmas.List.{length-replicate}
 use Rattle.sb_base.specs.declared.ending.Ending.TheVariants.{Spatial}
@@ -27,9 +28,8 @@ use Rattle.source_meaning.specs.Bytes.{look, set_bytes, order}
 use Rattle.source_meaning.specs.Memory.{memmove, memset, pairs_compared, order_of, memcmp}
 use Rattle.source_meaning.specs.Strings.{reach, scan_within, scan, strlen, go_on, compare_within, write_string, strcpy, strncpy, strcat, seek_within}
 use Rattle.source_meaning.specs.Printing.{puts, argument_bytes, formatted, pieces_or_none, print_formatted}
-use Rattle.source_meaning.proofs.Naming.{OnPointer}
 use Rattle.source_meaning.proofs.Holding.{lives_kept}
-use Rattle.source_meaning.proofs.Sure.{Context, AreTagged, Sure, IsStable, sure_on, sure_weak, sure_post, sure_frame, sure_done, sure_stop, sure_read, sure_tally, sure_choose, sure_objects, IsTagged}
+use Rattle.source_meaning.proofs.Sure.{IsStable, sure_on, sure_weak, sure_post, sure_frame, sure_done, sure_stop, sure_read, sure_tally, sure_choose, sure_objects}
 use Rattle.source_meaning.proofs.SureActions.{IsFound, sure_located, sure_move_bytes, sure_put_bytes}
 
 -- bytes

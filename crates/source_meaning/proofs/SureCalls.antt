@@ -1,4 +1,5 @@
 -- Calls keep objects sound: those of the callee are new, and die at its return, and the caller's names are good again.
+use Rattle.source_meaning.specs.Good.{After, Any, AreLow, AreTagged, ArgumentIs, ArgumentsAre, Calling, CompletionIs, Context, Inside, IsGood, IsHeld, IsTagged, Leaves, OnName, Stops, Sure, signature_in, static_kind}
 use Rattle.std.proofs.Common.{◌≡◌, ℕ, zero, suc, ◌+◌, ◌≤◌, List, [], ◌∷◌, ◌++◌, map, Bool, true, false, Some, length, if◌then◌else◌, refl, sym, ap, ◌∙◌, subst, arith, nat_le, nat_lt}
 use Rattle.std.proofs.lemmas.Bool.{leb-true}
 use Rattle.sb_base.specs.declared.ending.Ending.TheVariants.{Stack, Keys}
@@ -14,45 +15,36 @@ use Rattle.source_meaning.specs.State.{Home}
 use Rattle.source_meaning.specs.State.{NoObject, InObject}
 use Rattle.source_meaning.specs.Statements.{Completion}
 use Rattle.source_meaning.specs.Statements.{Normal, Broken, Continued, Returned}
-use Rattle.source_meaning.specs.State.{State, Outcome, Gives, Ended, Paused, on, ◌>>=◌, ◌>>◌, done, stop, choose, change, skip, Header, Setting, Env}
+use Rattle.source_meaning.specs.State.{State, Rvalue, Outcome, Gives, Ended, Paused, on, ◌>>=◌, ◌>>◌, done, stop, choose, change, skip, Header, Setting, Env}
 use Rattle.source_meaning.specs.Places.{stack_end}
 use Rattle.source_meaning.specs.Actions.{integer, home_value, take_key}
 use Rattle.source_meaning.specs.Expressions.{counted}
 use Rattle.source_meaning.specs.Statements.{in_order, each_of}
-use Rattle.source_meaning.specs.Calls.{header_of, body_objects, call_tests, first_of, rest_of, parameter_values, plain_values, plain_count, parameter_count, write_parameter, write_parameters, lay_out, set_up, caller, back_to, returned_by, enter_begun, enter}
+use Rattle.source_meaning.specs.Calls.{header_of, body_objects, call_tests, parameter_values, plain_values, plain_count, parameter_count, write_parameter, write_parameters, lay_out, set_up, caller, back_to, returned_by, result_of, enter_begun, enter}
 use Rattle.source_meaning.specs.Blocks.{pass_or_stop, objects_end, has_objects, place_variables, without_homes, test_space, test_keys}
-use Rattle.source_meaning.proofs.Naming.{static_kind, OnName, TakeNoStructure, FunctionNames, scope_of}
-use Rattle.source_meaning.specs.Keeping.{IsNoStructure}
+use Rattle.source_meaning.proofs.Naming.{ProgramNames, FunctionNames, kinds_in, scope_of}
 use Rattle.source_meaning.specs.Keeping.{AllLie, IsKept, LivesOn, AreSeparate}
 use Rattle.source_meaning.proofs.ActionsAct.{continues_without}
 use Rattle.source_meaning.proofs.Separating.{separate_without, separate_back}
-use Rattle.source_meaning.proofs.Holding.{all_lie_on, lives_same, lives_then, IsHeld, held_on, held_named}
-use Rattle.source_meaning.proofs.Sure.{Context, IsGood, AreTagged, AreLow, Leaves, Stops, stops_then, After, Sure, Any, IsStable, sure_on, sure_weak, sure_any, sure_post, sure_frame, sure_done, sure_skip, sure_read, sure_counted, IsTagged, LvalueIs, stable_tagged, value_is}
-use Rattle.source_meaning.proofs.SureActions.{sure_write_lvalue}
-use Rattle.source_meaning.proofs.SureTree.{Calling}
+use Rattle.source_meaning.proofs.Holding.{all_lie_on, lives_same, lives_then, held_on, held_named}
+use Rattle.source_meaning.proofs.Sure.{stops_then, IsStable, sure_on, sure_weak, sure_any, sure_post, sure_frame, sure_done, sure_skip, sure_read, sure_counted, PlaceIs, argument_on, argument_value, stable_tagged, stable_arguments}
+use Rattle.source_meaning.proofs.SureStructures.{sure_write_rvalue, zero_argument}
 use Rattle.source_meaning.proofs.SureFlow.{sure_begin_turn, row_sure}
-use Rattle.source_meaning.proofs.SureBlocks.{CompletionIs, Inside}
 use Rattle.c_tree.specs.Blocks.{all_of, body_variables}
-use Rattle.source_meaning.proofs.Laying.{PlacedHome, Placed, placed_homes, placed_on, AllFrom, placed_from, without_sound, without_low, without_lives, EndsBut, ends_but_then, ends_without, PlacesBy, places}
+use Rattle.source_meaning.proofs.Laying.{PlacedHome, Placed, placed_homes, placed_on, placed_from, without_sound, without_low, without_lives, ends_but_then, ends_without, PlacesBy, places}
+use Rattle.source_meaning.specs.Good.{AllFrom, EndsBut}
 
 -- plain values at entry
-
-first_tagged : (vs : List Value) (o : Objects) → AreTagged vs o → IsTagged (first_of vs) o
-first_tagged [] o h = tt
-first_tagged (v ∷ vs) o h = h 0
-
-rest_tagged : (vs : List Value) (o : Objects) → AreTagged vs o → AreTagged (rest_of vs) o
-rest_tagged [] o h = λ x. tt
-rest_tagged (v ∷ vs) o h = λ x. h (suc x)
 
 one_tagged : (b : Bool) (v : Value) (o : Objects) → IsTagged v o → IsTagged (if b then integer 0 else v) o
 one_tagged true v o h = tt
 one_tagged false v o h = h
 
-parameters_tagged : (ps : List Variable) (vs : List Value) (o : Objects) → AreTagged vs o → AreTagged (parameter_values ps vs) o
+parameters_tagged : (ps : List Variable) (vs : List Rvalue) (o : Objects) → ArgumentsAre (kinds_in ps) vs o → AreTagged (parameter_values ps vs) o
 parameters_tagged [] vs o h x = tt
-parameters_tagged (p ∷ ps) vs o h zero = one_tagged p.is_object (first_of vs) o (first_tagged vs o h)
-parameters_tagged (p ∷ ps) vs o h (suc x) = parameters_tagged ps (rest_of vs) o (rest_tagged vs o h) x
+parameters_tagged (p ∷ ps) [] o h x = absurd h
+parameters_tagged (p ∷ ps) (v ∷ vs) o h zero = one_tagged p.is_object v.value o h.0.tag
+parameters_tagged (p ∷ ps) (v ∷ vs) o h (suc x) = parameters_tagged ps vs o h.1 x
 
 zeros_tagged : (vs : List Variable) (o : Objects) → AreTagged (map (λ _. integer 0) vs) o
 zeros_tagged [] o x = tt
@@ -101,26 +93,27 @@ held_home : (n : ℕ) (b : Bool) (kind : Kind) (k : ℕ) (o : Objects) → Place
 held_home n true kind k o p = p.1
 held_home n false kind k o p = absurd p
 
-held_lvalue : (k : ℕ) (kind : Kind) (o : Objects) → IsHeld o k kind → LvalueIs OnName kind (pointer_to k o) o
-held_lvalue k kind o h = record { tag = sound_pointer k o h.made; reach = held_named o k kind h }
+held_place : (k : ℕ) (kind : Kind) (o : Objects) → IsHeld o k kind → PlaceIs OnName kind (pointer_to k o) o
+held_place k kind o h = (sound_pointer k o h.made, held_named o k kind h)
 
-stable_rest : (n : ℕ) (rest ps : List Variable) (homes : List Home) (vs : List Value) → IsStable (λ o. Placed n (ps ++ rest) homes o × AreTagged vs o)
-stable_rest n rest ps homes vs old new l p = (placed_on n (ps ++ rest) homes old new l p.0, stable_tagged vs old new l p.1)
+stable_rest : (n : ℕ) (rest ps : List Variable) (homes : List Home) (vs : List Rvalue) → IsStable (λ o. Placed n (ps ++ rest) homes o × ArgumentsAre (kinds_in ps) vs o)
+stable_rest n rest ps homes vs old new l p = (placed_on n (ps ++ rest) homes old new l p.0, stable_arguments (kinds_in ps) vs old new l p.1)
 
 module _ {sc : Context} (n : ℕ) (rest : List Variable) where
-  parameter_sure : (b : Bool) (kind : Kind) → IsNoStructure kind → (home : Home) (line : ℕ) (v : Value) → Sure sc (λ o. PlacedHome n b kind home o × IsTagged v o) (write_parameter kind home line v) (λ _. Any)
-  parameter_sure b kind none NoObject line v = sure_done (λ o p. tt)
-  parameter_sure b kind none (InObject k) line v =
-      sure_on (sure_read {Q = λ q o. LvalueIs OnName kind q o × IsTagged v o} {f = λ s. home_value (InObject k) s.objects} (λ s good p. (held_lvalue k kind s.objects (held_home n b kind k s.objects p.0), p.1))) (λ q.
-      sure_on (sure_weak (λ o x. (x.0, value_is kind v o none x.1)) (sure_write_lvalue OnName kind q line v)) (λ w. sure_any sure_skip))
+  parameter_sure : (b : Bool) (kind : Kind) (home : Home) (line : ℕ) (v : Rvalue) → Sure sc (λ o. PlacedHome n b kind home o × ArgumentIs kind v o) (write_parameter kind home line v) (λ _. Any)
+  parameter_sure b kind NoObject line v = sure_done (λ o p. tt)
+  parameter_sure b kind (InObject k) line v =
+      sure_on (sure_read {Q = λ q o. PlaceIs OnName kind q o × ArgumentIs kind v o} {f = λ s. home_value (InObject k) s.objects} (λ s good p. (held_place k kind s.objects (held_home n b kind k s.objects p.0), p.1))) (λ q.
+      sure_on (sure_weak (λ o x. (x.0, argument_value kind v o x.1)) (sure_write_rvalue OnName kind q line v)) (λ w. sure_any sure_skip))
 
-  parameters_sure : (ps : List Variable) → TakeNoStructure ps → (homes : List Home) (line : ℕ) (vs : List Value) → Sure sc (λ o. Placed n (ps ++ rest) homes o × AreTagged vs o) (write_parameters ps homes line vs) (λ _. Any)
-  parameters_sure [] none homes line vs = sure_done (λ o p. tt)
-  parameters_sure (p ∷ ps) none [] line vs = sure_done (λ o p. tt)
-  parameters_sure (p ∷ ps) none (home ∷ homes) line vs =
-      sure_on (sure_post (λ _ o x. x.0) (sure_weak (λ o x. ((x.0.1, rest_tagged vs o x.1), (x.0.0, first_tagged vs o x.1)))
-      (sure_frame (stable_rest n rest ps homes (rest_of vs)) (parameter_sure p.is_object p.kind none.0 home line (first_of vs))))) (λ _.
-      parameters_sure ps none.1 homes line (rest_of vs))
+  parameters_sure : (ps : List Variable) (homes : List Home) (line : ℕ) (vs : List Rvalue) → Sure sc (λ o. Placed n (ps ++ rest) homes o × ArgumentsAre (kinds_in ps) vs o) (write_parameters ps homes line vs) (λ _. Any)
+  parameters_sure [] homes line vs = sure_done (λ o p. tt)
+  parameters_sure (p ∷ ps) [] line vs = sure_done (λ o p. tt)
+  parameters_sure (p ∷ ps) (home ∷ homes) line [] = record { by = λ s good h. absurd h.1 }
+  parameters_sure (p ∷ ps) (home ∷ homes) line (v ∷ vs) =
+      sure_on (sure_post (λ _ o x. x.0) (sure_weak (λ o x. ((x.0.1, x.1.1), (x.0.0, x.1.0)))
+      (sure_frame (stable_rest n rest ps homes vs) (parameter_sure p.is_object p.kind home line v)))) (λ _.
+      parameters_sure ps homes line vs)
 
 -- what is set up
 
@@ -135,9 +128,9 @@ SetsUpBy sc old (Gives a s') = IsSetUp sc old s'
 SetsUpBy sc old (Ended e s') = Stops old s'
 SetsUpBy sc old (Paused s') = Stops old s'
 
-module _ (statics : List StaticObject) (f : Function) (names : FunctionNames statics f) (g : Setting) (boundary : ℕ) (most : stack_end g ≤ boundary) (low : boundary ≤ 1610612736) where
+module _ (u : ProgramNames) (f : Function) (names : FunctionNames u f) (g : Setting) (boundary : ℕ) (most : stack_end g ≤ boundary) (low : boundary ≤ 1610612736) where
   abbrev inner : Context
-  inner = record { scope = scope_of statics f; boundary = boundary }
+  inner = record { scope = scope_of u f; boundary = boundary }
 
   abbrev head : Header
   head = header_of f
@@ -152,8 +145,8 @@ module _ (statics : List StaticObject) (f : Function) (names : FunctionNames sta
   written s s1 l new ends (Ended e s2) h = stops_then s.objects s1.objects s2 l h
   written s s1 l new ends (Paused s2) h = stops_then s.objects s1.objects s2 l h
 
-  module _ (outer : Context) (same : outer.scope.statics ≡ statics) (level : outer.boundary ≡ boundary) (vs : List Value) (line : ℕ) where
-    laid : (s : State) → IsGood outer s → AreTagged vs s.objects → (s1 : State) → s1.objects ≡ s.objects → s1.accesses ≡ s.accesses → s1.plain ≡ plain_values head vs
+  module _ (outer : Context) (same : outer.scope.statics ≡ u.statics) (level : outer.boundary ≡ boundary) (vs : List Rvalue) (line : ℕ) where
+    laid : (s : State) → IsGood outer s → ArgumentsAre (kinds_in f.parameters) vs s.objects → (s1 : State) → s1.objects ≡ s.objects → s1.accesses ≡ s.accesses → s1.plain ≡ plain_values head vs
         → (o : Outcome (List Home)) → PlacesBy boundary s1 (length s1.objects) (body_objects head) o
         → SetsUpBy inner s.objects (on o (λ homes. change (λ s. record s { frame = homes }) >> write_parameters head.parameters homes line vs))
     laid s good tagged s1 e a w (Gives homes s2) h =
@@ -167,15 +160,15 @@ module _ (statics : List StaticObject) (f : Function) (names : FunctionNames sta
           statics = λ n kind k. held_on s.objects s2.objects lives n kind (good.statics n kind (subst (λ x. static_kind x n ≡ Some kind) (sym same) k));
           homes = placed_homes (length s.objects) (body_objects head) homes s2.objects placed;
           plain = subst (λ x. AreTagged x s2.objects) (sym (h.2 ∙ w)) (both_tagged (parameter_values head.parameters vs) (map (λ _. integer 0) head.variables) s2.objects
-              (parameters_tagged head.parameters vs s2.objects (stable_tagged vs s.objects s2.objects lives tagged)) (zeros_tagged head.variables s2.objects));
+              (parameters_tagged head.parameters vs s2.objects (stable_arguments (kinds_in f.parameters) vs s.objects s2.objects lives tagged)) (zeros_tagged head.variables s2.objects));
           separate = h.0.separate;
         } in
         written s s3 lives (placed_from (length s.objects) (body_objects head) homes s2.objects placed) ends (write_parameters head.parameters homes line vs s3)
-        ((parameters_sure (length s.objects) head.entered head.parameters names.parameters homes line vs).by s3 entry (placed, stable_tagged vs s.objects s2.objects lives tagged))
+        ((parameters_sure (length s.objects) head.entered head.parameters homes line vs).by s3 entry (placed, stable_arguments (kinds_in f.parameters) vs s.objects s2.objects lives tagged))
     laid s good tagged s1 e a w (Ended x s2) h = absurd h
     laid s good tagged s1 e a w (Paused s2) h = absurd h
 
-    tested : (s : State) → IsGood outer s → AreTagged vs s.objects → (o : Outcome (Unit {0})) → TestsBy (stack_end g) (body_objects head) s o → SetsUpBy inner s.objects (on o (λ _. lay_out head vs line))
+    tested : (s : State) → IsGood outer s → ArgumentsAre (kinds_in f.parameters) vs s.objects → (o : Outcome (Unit {0})) → TestsBy (stack_end g) (body_objects head) s o → SetsUpBy inner s.objects (on o (λ _. lay_out head vs line))
     tested s good tagged (Gives a s1) h =
         let s2 : State = record s1 { charged = s1.charged + head.room; work = s1.work + (parameter_count head.parameters + plain_count head.variables); plain = plain_values head vs } in
         laid s good tagged s2 h.0.0 h.0.1 refl (place_variables (body_objects head) s2)
@@ -190,18 +183,21 @@ module _ (statics : List StaticObject) (f : Function) (names : FunctionNames sta
     }
     tested s good tagged (Paused s1) h = absurd h
 
-    set_up_by : (s : State) → IsGood outer s → AreTagged vs s.objects → SetsUpBy inner s.objects (set_up g head vs line s)
+    set_up_by : (s : State) → IsGood outer s → ArgumentsAre (kinds_in f.parameters) vs s.objects → SetsUpBy inner s.objects (set_up g head vs line s)
     set_up_by s good tagged =
         let s1 : State = record s { work = s.work + 1 } in
         tested s1 good tagged (call_tests g head line s1) (tests_pass g head line s1)
 
     -- the return
 
-    returned_tagged : (completion : Completion) (old new : Objects) → Continues old new → CompletionIs completion old → IsTagged (returned_by completion) new
-    returned_tagged Normal old new c h = tt
-    returned_tagged Broken old new c h = tt
-    returned_tagged Continued old new c h = tt
-    returned_tagged (Returned v) old new c h = sound_tag_continues old new c v.tag h
+    returned_is : (result : Kind) (completion : Completion) (old new : Objects) → Continues old new → CompletionIs result completion old → ArgumentIs result (returned_by result completion) new
+    returned_is result Normal old new c h = zero_argument result new
+    returned_is result Broken old new c h = zero_argument result new
+    returned_is result Continued old new c h = zero_argument result new
+    returned_is result (Returned v) old new c h = argument_on result v old new c h
+
+    abbrev given : Kind
+    given = (signature_in u.types f.type_number).result
 
     back_good : (s : State) → IsGood outer s → (s2 : State) → IsGood inner s2 → LivesOn s.objects s2.objects → AllFrom (length s.objects) s2.frame → EndsBut s.objects s2.objects s2.frame → Leaves outer s (back_to (caller s) s2)
     back_good s good s2 after lives new ends =
@@ -225,35 +221,39 @@ module _ (statics : List StaticObject) (f : Function) (names : FunctionNames sta
           ended = ended;
         }
 
-    returns_by : (s : State) → IsGood outer s → (s1 : State) → IsSetUp inner s.objects s1 → (o : Outcome Completion) → After inner s1 CompletionIs o
-        → After outer s IsTagged (on o (λ completion. change (back_to (caller s)) >> done (returned_by completion)))
+    returns_by : (s : State) → IsGood outer s → (s1 : State) → IsSetUp inner s.objects s1 → (o : Outcome Completion) → After inner s1 (CompletionIs given) o
+        → After outer s (ArgumentIs given) (on o (λ completion. change (back_to (caller s)) >> done (returned_by given completion)))
     returns_by s good s1 up (Gives completion s2) h = (
       back_good s good s2 h.0.good (lives_then s.objects s1.objects s2.objects up.lives h.0.lives) (subst (λ x. AllFrom (length s.objects) x) (sym h.0.frame) up.new)
           (subst (λ x. EndsBut s.objects s2.objects x) (sym h.0.frame) (ends_but_then s.objects s1.objects s2.objects s1.frame up.ends h.0.lives.continues h.0.ended)),
-      returned_tagged completion s2.objects (without_homes s2.frame s2.objects) (continues_without s2.frame s2.objects) h.1,
+      returned_is given completion s2.objects (without_homes s2.frame s2.objects) (continues_without s2.frame s2.objects) h.1,
     )
     returns_by s good s1 up (Ended e s2) h = stops_then s.objects s1.objects s2 up.lives h
     returns_by s good s1 up (Paused s2) h = stops_then s.objects s1.objects s2 up.lives h
 
-    module _ (env : Env) (i : Inside statics boundary (record env { variables = all_of f })) where
+    module _ (env : Env) (i : Inside (scope_of u f) boundary (record env { variables = all_of f })) where
       abbrev here : Env
       here = record env { variables = all_of f }
 
       runs_by : (s : State) → IsGood outer s → (o : Outcome (Unit {0})) → SetsUpBy inner s.objects o
-          → After outer s IsTagged (on o (λ _. counted (in_order (each_of here f.body)) >>= (λ completion. change (back_to (caller s)) >> done (returned_by completion))))
+          → After outer s (ArgumentIs given) (on o (λ _. counted (in_order (each_of here f.body)) >>= (λ completion. change (back_to (caller s)) >> done (returned_by given completion))))
       runs_by s good (Gives a s1) h =
           returns_by s good s1 h (counted (in_order (each_of here f.body)) s1) ((sure_counted (row_sure i (f.parameters ++ body_variables f) f.body names.body)).by s1 h.good tt)
       runs_by s good (Ended e s1) h = h
       runs_by s good (Paused s1) h = h
 
-module _ (statics : List StaticObject) (f : Function) (names : FunctionNames statics f) (env : Env) (boundary : ℕ) (i : Inside statics boundary (record env { variables = all_of f }))
-    (outer : Context) (same : outer.scope.statics ≡ statics) (level : outer.boundary ≡ boundary) where
-  pub begun_sure : (vs : List Value) (line : ℕ) → Sure outer (AreTagged vs) (enter_begun (record env { variables = all_of f }) f vs line) IsTagged
-  begun_sure vs line = record {
-    by = λ s good tagged.
-        runs_by statics f names env.setting boundary i.most i.low outer same level vs line env i s good (set_up env.setting (header_of f) vs line s)
-        (set_up_by statics f names env.setting boundary i.most i.low outer same level vs line s good tagged);
-  }
+module _ (u : ProgramNames) (f : Function) (names : FunctionNames u f) (env : Env) (boundary : ℕ) (i : Inside (scope_of u f) boundary (record env { variables = all_of f })) (gives : result_of env.setting f.type_number ≡ (signature_in u.types f.type_number).result)
+    (outer : Context) (same : outer.scope.statics ≡ u.statics) (level : outer.boundary ≡ boundary) where
+  begun_by : (vs : List Rvalue) (line : ℕ) (s : State) → IsGood outer s → ArgumentsAre (kinds_in f.parameters) vs s.objects
+      → After outer s (ArgumentIs (signature_in u.types f.type_number).result) (enter_begun (record env { variables = all_of f }) f vs line s)
+  begun_by vs line s good args =
+      subst (λ k. After outer s (ArgumentIs (signature_in u.types f.type_number).result)
+      (on (set_up env.setting (header_of f) vs line s) (λ _. counted (in_order (each_of (record env { variables = all_of f }) f.body)) >>= (λ completion. change (back_to (caller s)) >> done (returned_by k completion))))) (sym gives)
+      (runs_by u f names env.setting boundary i.most i.low outer same level vs line env i s good (set_up env.setting (header_of f) vs line s)
+      (set_up_by u f names env.setting boundary i.most i.low outer same level vs line s good args))
 
-  pub enter_sure : (vs : List Value) (line : ℕ) → Sure outer (AreTagged vs) (enter (record env { variables = all_of f }) f vs line) IsTagged
+  pub begun_sure : (vs : List Rvalue) (line : ℕ) → Sure outer (ArgumentsAre (kinds_in f.parameters) vs) (enter_begun (record env { variables = all_of f }) f vs line) (ArgumentIs (signature_in u.types f.type_number).result)
+  begun_sure vs line = record { by = λ s good args. begun_by vs line s good args }
+
+  pub enter_sure : (vs : List Rvalue) (line : ℕ) → Sure outer (ArgumentsAre (kinds_in f.parameters) vs) (enter (record env { variables = all_of f }) f vs line) (ArgumentIs (signature_in u.types f.type_number).result)
   enter_sure vs line = sure_on (sure_begin_turn env.limit) (λ _. begun_sure vs line)

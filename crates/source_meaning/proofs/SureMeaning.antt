@@ -1,6 +1,7 @@
 -- A program that names what is there keeps its objects sound, and its accesses are of bytes of objects.
-use Rattle.std.proofs.Common.{◌≡◌, ℕ, zero, suc, ◌+◌, ◌/◌, ◌%◌, ◌≤◌, ◌<◌, List, [], ◌∷◌, Bool, true, false, Option, Some, None, length, get_or, replicate, refl, sym, ap, ◌∙◌, subst, arith, inl, inr, ◌⊎◌, ◌≢◌}
-use Rattle.std.proofs.lemmas.Bool.{cases_lt}
+use Rattle.source_meaning.specs.Good.{After, Any, AreLow, AreTagged, ArgumentIs, ArgumentsAre, Calling, Context, Inside, IsGood, IsHeld, Sure, context_of, signature_in, static_kind}
+use Rattle.std.proofs.Common.{◌≡◌, ℕ, zero, suc, ◌+◌, ◌/◌, ◌%◌, ◌≤◌, ◌<◌, List, [], ◌∷◌, map, Bool, true, false, Option, Some, None, length, get_or, replicate, refl, sym, ap, ◌∙◌, subst, arith, inl, inr, ◌⊎◌, ◌≢◌}
+use Rattle.std.proofs.lemmas.Bool.{cases_lt, eqb-true}
 use Rattle.std.proofs.lemmas.List.{length-replicate}
 use Rattle.addr_map.specs.Places.{AreMapped, region_start, region_size}
 use Rattle.addr_map.specs.declared.region.Region.TheVariants.{Globals, Stack as StackRegion, Heap as HeapRegion}
@@ -16,36 +17,52 @@ use Rattle.obj_memory.proofs.Listed.{every_replicate}
 use Rattle.obj_memory.proofs.Judging.{sound_pointer}
 use Rattle.c_tree.specs.declared.expression.Kind.{Kind}
 use Rattle.c_tree.specs.Programs.{FunctionType, Function, StaticObject, Program}
-use Rattle.source_meaning.specs.State.{State, Outcome, Gives, Ended, Paused, choose, skip, Setting, Env}
+use Rattle.source_meaning.specs.State.{State, Rvalue, Outcome, Gives, Ended, Paused, choose, skip, Setting, Env}
 use Rattle.source_meaning.specs.Initializers.{store_parts}
-use Rattle.c_tree.specs.ValidProgram.{name_variables}
+use Rattle.c_tree.specs.ValidProgram.{name_variables, signature_of}
+use Rattle.source_meaning.specs.Expressions.{has_type, header_at}
 use Rattle.c_tree.specs.Blocks.{all_of}
-use Rattle.source_meaning.proofs.SureBlocks.{context_of, Inside}
 use Rattle.source_meaning.specs.Places.{statics_first, stack_first, stack_end, heap_first}
-use Rattle.c_tree.specs.Kinds.{size_of_kind}
-use Rattle.source_meaning.specs.Calls.{enter_found, function_at, calls}
+use Rattle.c_tree.specs.Kinds.{size_of_kind, Signature}
+use Rattle.c_tree.specs.declared.expression.Kind.TheVariants.{Void}
+use Rattle.source_meaning.specs.Calls.{header_of, env_of, result_of, enter, enter_found, function_at, calls}
 use Rattle.source_meaning.specs.Meaning.{placed_statics, statics_end, setting_of, fresh, static_env, store_statics, objects_after, initial_objects, start, line_of, outcome}
 use Rattle.source_meaning.specs.Acting.{state_of}
-use Rattle.source_meaning.proofs.Naming.{static_kind, FunctionNames, FunctionsName, file_scope, PartsName, StaticsName, NamesObjects}
+use Rattle.source_meaning.proofs.Naming.{ProgramNames, scope_of, FunctionNames, FunctionsName, file_scope, PartsName, StaticsName, function_signatures, names_of, NamesObjects}
 use Rattle.source_meaning.specs.Keeping.{IsNamed, AreSeparate, IsSoundState}
 use Rattle.source_meaning.proofs.Separating.{separate_back}
-use Rattle.source_meaning.proofs.Holding.{live_made, IsHeld, held_named}
-use Rattle.source_meaning.proofs.Sure.{Context, IsGood, AreLow, AreTagged, After, Sure, Any, sure_on, sure_any, sure_skip, sure_stop, sure_pause, sure_read, IsTagged}
-use Rattle.source_meaning.proofs.SureTree.{Calling, parts_sure}
+use Rattle.source_meaning.proofs.Holding.{live_made, held_named}
+use Rattle.source_meaning.proofs.Sure.{sure_on, sure_any, sure_skip, sure_stop, sure_pause, sure_read}
+use Rattle.source_meaning.proofs.SureTree.{parts_sure}
 use Rattle.source_meaning.proofs.SureCalls.{enter_sure}
 use Rattle.source_meaning.proofs.SureLibrary.{sure_routine}
 use Rattle.source_meaning.proofs.SureBytes.{sure_print}
 
 -- calls
 
-abbrev NamesFound : List StaticObject → Option Function → Type 0
-NamesFound statics None = Unit {0}
-NamesFound statics (Some f) = FunctionNames statics f
+abbrev NamesFound : ProgramNames → Option Function → Type 0
+NamesFound u None = Unit {0}
+NamesFound u (Some f) = FunctionNames u f
 
-found_names : (statics : List StaticObject) (fs : List Function) → FunctionsName statics fs → (f : ℕ) → NamesFound statics (function_at fs f)
-found_names statics [] h f = tt
-found_names statics (x ∷ xs) h zero = h.0
-found_names statics (x ∷ xs) h (suc f) = found_names statics xs h.1 f
+found_names : (u : ProgramNames) (fs : List Function) → FunctionsName u fs → (f : ℕ) → NamesFound u (function_at fs f)
+found_names u [] h f = tt
+found_names u (x ∷ xs) h zero = h.0
+found_names u (x ∷ xs) h (suc f) = found_names u xs h.1 f
+
+-- the signature of a function is that of its type
+abbrev SignatureIs : List Signature → Signature → Option Function → Type 0
+SignatureIs types q None = Unit {0}
+SignatureIs types q (Some f) = q ≡ signature_in types f.type_number
+
+signature_found : (types : List Signature) (fs : List Function) (f : ℕ) → SignatureIs types (signature_in (function_signatures types fs) f) (function_at fs f)
+signature_found types [] f = tt
+signature_found types (x ∷ xs) zero = refl
+signature_found types (x ∷ xs) (suc f) = signature_found types xs f
+
+typed_found : (types : List Signature) (fs : List Function) (f type : ℕ) → has_type (header_at (map header_of fs) f) type ≡ true → signature_in (function_signatures types fs) f ≡ signature_in types type
+typed_found types [] f type e = absurd (cc)
+typed_found types (x ∷ xs) zero type e = ap (signature_in types) (eqb-true x.type_number type e)
+typed_found types (x ∷ xs) (suc f) type e = typed_found types xs f type e
 
 -- the boundary is where the heap begins
 stack_below : (g : Setting) → AreMapped g.sizes → stack_end g ≤ heap_first g
@@ -54,29 +71,48 @@ stack_below g mapped = in_order g.sizes mapped StackRegion HeapRegion (omega ari
 heap_low : (g : Setting) → AreMapped g.sizes → heap_first g ≤ 1610612736
 heap_low g mapped = let low = ends_low g.sizes mapped HeapRegion in omega (arith, low)
 
-module _ (statics : List StaticObject) (functions : List Function) (names : FunctionsName statics functions) (g : Setting) (mapped : AreMapped g.sizes) (limit : ℕ) where
-  abbrev CallsSure : ℕ → Type 0
-  CallsSure n = (sc : Context) → sc.scope.statics ≡ statics → sc.boundary ≡ heap_first g → (f : ℕ) (vs : List Value) (line : ℕ) → Sure sc (AreTagged vs) (calls functions g limit n f vs line) IsTagged
+-- the functions of a program in its setting
+pub record IsSettingOf (u : ProgramNames) (functions : List Function) (g : Setting) : Type 0 where
+  pub headers : g.functions ≡ map header_of functions
+  pub signatures : u.functions ≡ function_signatures u.types functions
+  pub results : (type : ℕ) → result_of g type ≡ (signature_in u.types type).result
 
-  found_sure : (n : ℕ) → CallsSure n → (sc : Context) → sc.scope.statics ≡ statics → sc.boundary ≡ heap_first g → (o : Option Function) → NamesFound statics o → (vs : List Value) (line : ℕ)
-      → Sure sc (AreTagged vs) (enter_found (record { setting = g; variables = []; limit = limit; depth = suc n; call = calls functions g limit n }) o vs line) IsTagged
-  found_sure n deeper sc same level None h vs line = sure_stop
-  found_sure n deeper sc same level (Some f) h vs line =
+module _ (u : ProgramNames) (functions : List Function) (names : FunctionsName u functions) (g : Setting) (of : IsSettingOf u functions g) (mapped : AreMapped g.sizes) (limit : ℕ) where
+  abbrev CallsSure : ℕ → Type 0
+  CallsSure n = (sc : Context) → sc.scope.statics ≡ u.statics → sc.boundary ≡ heap_first g → (f : ℕ) (vs : List Rvalue) (line : ℕ)
+      → Sure sc (ArgumentsAre (signature_in u.functions f).parameters vs) (calls functions g limit n f vs line) (ArgumentIs (signature_in u.functions f).result)
+
+  typed : (f type : ℕ) → has_type (header_at g.functions f) type ≡ true → signature_in u.functions f ≡ signature_in u.types type
+  typed f type e =
+      ap (λ l. signature_in l f) of.signatures ∙ typed_found u.types functions f type (subst (λ hs. has_type (header_at hs f) type ≡ true) of.headers e)
+
+  found_sure : (n : ℕ) → CallsSure n → (sc : Context) → sc.scope.statics ≡ u.statics → sc.boundary ≡ heap_first g → (q : Signature) (o : Option Function) → NamesFound u o → SignatureIs u.types q o → (vs : List Rvalue) (line : ℕ)
+      → Sure sc (ArgumentsAre q.parameters vs) (enter_found (record { setting = g; variables = []; limit = limit; depth = suc n; call = calls functions g limit n }) o vs line) (ArgumentIs q.result)
+  found_sure n deeper sc same level q None h e vs line = sure_stop
+  found_sure n deeper sc same level q (Some f) h e vs line =
       let env : Env = record { setting = g; variables = []; limit = limit; depth = suc n; call = calls functions g limit n } in
-      let inside : Inside statics (heap_first g) (record env { variables = all_of f }) = record {
+      let inside : Inside (scope_of u f) (heap_first g) (record env { variables = all_of f }) = record {
         calling = λ variables. record {
-          call = deeper (context_of statics (heap_first g) (all_of f) variables) refl refl;
+          call = deeper (context_of (scope_of u f) (heap_first g) (all_of f) variables) refl refl;
           library = sure_routine g mapped (omega arith);
           print = sure_print;
+          typed = typed;
         };
         most = stack_below g mapped;
         low = heap_low g mapped;
       } in
-      enter_sure statics f h env (heap_first g) inside sc same level vs line
+      subst (λ z. Sure sc (ArgumentsAre z.parameters vs) (enter (record env { variables = all_of f }) f vs line) (ArgumentIs z.result)) (sym e)
+      (subst (λ ks. Sure sc (ArgumentsAre ks vs) (enter (record env { variables = all_of f }) f vs line) (ArgumentIs (signature_in u.types f.type_number).result)) h.parameters
+      (enter_sure u f h env (heap_first g) inside (of.results f.type_number) sc same level vs line))
 
   pub calls_sure : (n : ℕ) → CallsSure n
   calls_sure zero sc same level f vs line = sure_pause
-  calls_sure (suc n) sc same level f vs line = found_sure n (calls_sure n) sc same level (function_at functions f) (found_names statics functions names f) vs line
+  calls_sure (suc n) sc same level f vs line =
+      found_sure n (calls_sure n) sc same level (signature_in u.functions f) (function_at functions f) (found_names u functions names f)
+      (subst (λ l. SignatureIs u.types (signature_in l f) (function_at functions f)) (sym of.signatures) (signature_found u.types functions f)) vs line
+
+abbrev kinds_of_statics : List StaticObject → List Kind
+kinds_of_statics os = map (λ o. o.kind) os
 
 -- the static objects as they are placed
 
@@ -122,7 +158,7 @@ held_first address kind other rest e =
     let same : kind ≡ other = some_kind kind other e in
     record { made = omega arith; live = refl; held = refl; size = ap size_of_kind same }
 
-placed_held : (first : ℕ) (os : List StaticObject) (offset n : ℕ) (kind : Kind) → static_kind os n ≡ Some kind → IsHeld (placed_statics first os offset) n kind
+placed_held : (first : ℕ) (os : List StaticObject) (offset n : ℕ) (kind : Kind) → static_kind (kinds_of_statics os) n ≡ Some kind → IsHeld (placed_statics first os offset) n kind
 placed_held first [] offset n kind e = absurd (cc)
 placed_held first (o ∷ os) offset zero kind e = held_first (first + rounded_up 16 offset) o.kind kind _ e
 placed_held first (o ∷ os) offset (suc n) kind e =
@@ -131,29 +167,30 @@ placed_held first (o ∷ os) offset (suc n) kind e =
 
 -- their initializers
 
-abbrev static_context : List StaticObject → Setting → Context
-static_context statics g = record { scope = file_scope statics; boundary = heap_first g }
+abbrev static_context : ProgramNames → Setting → Context
+static_context u g = record { scope = file_scope u; boundary = heap_first g }
 
-pause_calls : (g : Setting) → AreMapped g.sizes → (sc : Context) → sc.boundary ≤ heap_first g → Calling sc (static_env g)
-pause_calls g mapped sc least = record { call = λ f vs line. sure_pause; library = sure_routine g mapped least; print = sure_print }
+pause_calls : (g : Setting) → AreMapped g.sizes → (sc : Context) → sc.boundary ≤ heap_first g
+    → ((f type : ℕ) → has_type (header_at g.functions f) type ≡ true → signature_in sc.scope.functions f ≡ signature_in sc.scope.types type) → Calling sc (static_env g)
+pause_calls g mapped sc least typed = record { call = λ f vs line. sure_pause; library = sure_routine g mapped least; print = sure_print; typed = typed }
 
-module _ (g : Setting) (mapped : AreMapped g.sizes) (statics : List StaticObject) where
+module _ (g : Setting) (mapped : AreMapped g.sizes) (u : ProgramNames) (typed : (f type : ℕ) → has_type (header_at g.functions f) type ≡ true → signature_in u.functions f ≡ signature_in u.types type) where
   -- the static objects from a number on
   abbrev AreFrom : (n : ℕ) → List StaticObject → Type 0
-  AreFrom n os = (k : ℕ) → static_kind statics (n + k) ≡ static_kind os k
+  AreFrom n os = (k : ℕ) → static_kind u.statics (n + k) ≡ static_kind (kinds_of_statics os) k
 
-  first_kind : (n : ℕ) (o : StaticObject) (os : List StaticObject) → AreFrom n (o ∷ os) → static_kind statics n ≡ Some o.kind
-  first_kind n o os h = let same : n + 0 ≡ n = omega arith in subst (λ k. static_kind statics k ≡ Some o.kind) same (h 0)
+  first_kind : (n : ℕ) (o : StaticObject) (os : List StaticObject) → AreFrom n (o ∷ os) → static_kind u.statics n ≡ Some o.kind
+  first_kind n o os h = let same : n + 0 ≡ n = omega arith in subst (λ k. static_kind u.statics k ≡ Some o.kind) same (h 0)
 
   rest_kinds : (n : ℕ) (o : StaticObject) (os : List StaticObject) → AreFrom n (o ∷ os) → AreFrom (n + 1) os
-  rest_kinds n o os h = λ k. let same : n + suc k ≡ n + 1 + k = omega arith in subst (λ i. static_kind statics i ≡ static_kind os k) same (h (suc k))
+  rest_kinds n o os h = λ k. let same : n + suc k ≡ n + 1 + k = omega arith in subst (λ i. static_kind u.statics i ≡ static_kind (kinds_of_statics os) k) same (h (suc k))
 
-  part_stored : (p : Value) (o : StaticObject) (b : Bool) → name_variables o.parts ≡ b → (name_variables o.parts ≡ false → PartsName (static_context statics g).scope (size_of_kind o.kind) o.parts)
-      → Sure (static_context statics g) (λ objects. IsSoundTag objects p.tag × IsNamed objects p (size_of_kind o.kind)) (choose b skip (store_parts (static_env g) p o.parts)) (λ _. Any)
+  part_stored : (p : Value) (o : StaticObject) (b : Bool) → name_variables o.parts ≡ b → (name_variables o.parts ≡ false → PartsName (static_context u g).scope (size_of_kind o.kind) o.parts)
+      → Sure (static_context u g) (λ objects. IsSoundTag objects p.tag × IsNamed objects p (size_of_kind o.kind)) (choose b skip (store_parts (static_env g) p o.parts)) (λ _. Any)
   part_stored p o true e names = sure_any sure_skip
-  part_stored p o false e names = parts_sure (pause_calls g mapped (static_context statics g) (omega arith)) p (size_of_kind o.kind) o.parts (names e)
+  part_stored p o false e names = parts_sure (pause_calls g mapped (static_context u g) (omega arith) typed) p (size_of_kind o.kind) o.parts (names e)
 
-  store_sure : (n : ℕ) (os : List StaticObject) → AreFrom n os → StaticsName (static_context statics g).scope os → Sure (static_context statics g) Any (store_statics (static_env g) n os) (λ _. Any)
+  store_sure : (n : ℕ) (os : List StaticObject) → AreFrom n os → StaticsName (static_context u g).scope os → Sure (static_context u g) Any (store_statics (static_env g) n os) (λ _. Any)
   store_sure n [] from names = sure_skip
   store_sure n (o ∷ os) from names =
       sure_on (sure_read {Q = λ p objects. IsSoundTag objects p.tag × IsNamed objects p (size_of_kind o.kind)} {f = λ s. pointer_to n s.objects} (λ s good p.
@@ -161,12 +198,12 @@ module _ (g : Setting) (mapped : AreMapped g.sizes) (statics : List StaticObject
       sure_on (part_stored p o (name_variables o.parts) refl names.0) (λ _.
       store_sure (n + 1) os (rest_kinds n o os from) names.1))
 
-abbrev GoodStart : List StaticObject → Setting → (input : List ℕ) → Objects → Type 0
-GoodStart statics g input objects = IsGood (static_context statics g) (fresh g objects input)
+abbrev GoodStart : ProgramNames → Setting → (input : List ℕ) → Objects → Type 0
+GoodStart u g input objects = IsGood (static_context u g) (fresh g objects input)
 
 -- a good state at which nothing has been done, with these objects
-good_start : (statics : List StaticObject) (g : Setting) (input : List ℕ) (objects : Objects) → IsSound objects → AreLow objects → ((n : ℕ) (kind : Kind) → static_kind statics n ≡ Some kind → IsHeld objects n kind) → AreSeparate (heap_first g) (stack_first g) objects → GoodStart statics g input objects
-good_start statics g input objects sound low held separate = record {
+good_start : (u : ProgramNames) (g : Setting) (input : List ℕ) (objects : Objects) → IsSound objects → AreLow objects → ((n : ℕ) (kind : Kind) → static_kind u.statics n ≡ Some kind → IsHeld objects n kind) → AreSeparate (heap_first g) (stack_first g) objects → GoodStart u g input objects
+good_start u g input objects sound low held separate = record {
   kept = record { sound = sound; lie = tt };
   low = low;
   statics = held;
@@ -175,13 +212,13 @@ good_start statics g input objects sound low held separate = record {
   separate = separate;
 }
 
-stored : {A : Type 0} (statics : List StaticObject) (g : Setting) (input : List ℕ) (placed : Objects) → GoodStart statics g [] placed → (Q : A → Objects → Type 0) (o : Outcome A)
-    → After (static_context statics g) (fresh g placed []) Q o → GoodStart statics g input (objects_after placed o)
-stored statics g input placed begun Q (Gives a s) h =
-    good_start statics g input s.objects h.0.good.kept.sound h.0.good.low h.0.good.statics
+stored : {A : Type 0} (u : ProgramNames) (g : Setting) (input : List ℕ) (placed : Objects) → GoodStart u g [] placed → (Q : A → Objects → Type 0) (o : Outcome A)
+    → After (static_context u g) (fresh g placed []) Q o → GoodStart u g input (objects_after placed o)
+stored u g input placed begun Q (Gives a s) h =
+    good_start u g input s.objects h.0.good.kept.sound h.0.good.low h.0.good.statics
     (separate_back (heap_first g) (stack_first g) s.stacked placed s.objects begun.separate h.0.good.separate h.0.lives.continues h.0.ended)
-stored statics g input placed begun Q (Ended e s) h = good_start statics g input placed begun.kept.sound begun.low begun.statics begun.separate
-stored statics g input placed begun Q (Paused s) h = good_start statics g input placed begun.kept.sound begun.low begun.statics begun.separate
+stored u g input placed begun Q (Ended e s) h = good_start u g input placed begun.kept.sound begun.low begun.statics begun.separate
+stored u g input placed begun Q (Paused s) h = good_start u g input placed begun.kept.sound begun.low begun.statics begun.separate
 
 -- the static objects are separate
 
@@ -219,10 +256,10 @@ placed_disjoint first os = record { apart = λ m n other lm ln. by m n other (li
 
 -- the whole
 
-sound_after : (sc : Context) (s : State) (Q : Value → Objects → Type 0) (o : Outcome Value) → After sc s Q o → IsSoundState (state_of o)
-sound_after sc s Q (Gives a s') h = record { kept = h.0.good.kept; apart = h.0.good.separate.apart }
-sound_after sc s Q (Ended e s') h = record { kept = h.kept; apart = h.apart }
-sound_after sc s Q (Paused s') h = record { kept = h.kept; apart = h.apart }
+sound_after : {A : Type 0} (sc : Context) (s : State) (Q : A → Objects → Type 0) (o : Outcome A) → After sc s Q o → IsSoundState (state_of o)
+sound_after sc s Q (Gives a s') h = record { kept = h.0.good.kept; apart = h.0.good.separate.apart; low = h.0.good.low }
+sound_after sc s Q (Ended e s') h = record { kept = h.kept; apart = h.apart; low = h.low }
+sound_after sc s Q (Paused s') h = record { kept = h.kept; apart = h.apart; low = h.low }
 
 statics_fit : (p : Program) (budgets : BudgetSizes) → statics_first (setting_of p budgets) + statics_end p.statics 0 ≤ stack_first (setting_of p budgets)
 unfolding region_start region_size
@@ -232,17 +269,28 @@ stack_low : (g : Setting) → AreMapped g.sizes → stack_first g ≤ heap_first
 stack_low g mapped = let below = stack_below g mapped in omega (arith, below)
 
 module _ (p : Program) (budgets : BudgetSizes) (mapped : AreMapped (setting_of p budgets).sizes) (names : NamesObjects p) where
+  results_of : (ts : List FunctionType) (type : ℕ) → get_or (map (λ (t : FunctionType). t.result) ts) type Void ≡ (signature_in (map signature_of ts) type).result
+  results_of [] type = refl
+  results_of (t ∷ ts) zero = refl
+  results_of (t ∷ ts) (suc type) = results_of ts type
+
+  is_setting : IsSettingOf (names_of p) p.functions (setting_of p budgets)
+  is_setting = record { headers = refl; signatures = refl; results = results_of p.function_types }
+
+  typed_start : (f type : ℕ) → has_type (header_at (setting_of p budgets).functions f) type ≡ true → signature_in (names_of p).functions f ≡ signature_in (names_of p).types type
+  typed_start f type e = typed_found (names_of p).types p.functions f type e
+
   abbrev placed : Objects
   placed = placed_statics (statics_first (setting_of p budgets)) p.statics 0
 
-  placed_good : GoodStart p.statics (setting_of p budgets) [] placed
+  placed_good : GoodStart (names_of p) (setting_of p budgets) [] placed
   placed_good =
       let g = setting_of p budgets in
       let whole = starts_whole g.sizes mapped Globals in
       let under = stack_low g mapped in
       let low = heap_low g mapped in
       let fresh_at = placed_fresh (statics_first g) (stack_first g) (omega (arith, whole)) p.statics 0 (statics_fit p budgets) in
-      good_start p.statics g [] placed
+      good_start (names_of p) g [] placed
       (record { at = λ n. fresh_sound (statics_first g) (stack_first g) placed _ (fresh_at n) }) (λ n. let end = (fresh_at n).end in omega (arith, end, under, low)) (placed_held (statics_first g) p.statics 0)
       (record {
         apart = placed_disjoint (statics_first g) p.statics;
@@ -251,16 +299,35 @@ module _ (p : Program) (budgets : BudgetSizes) (mapped : AreMapped (setting_of p
         top = under;
       })
 
-  start_good : (input : List ℕ) → GoodStart p.statics (setting_of p budgets) input (initial_objects p (setting_of p budgets))
+  pub start_good : (input : List ℕ) → GoodStart (names_of p) (setting_of p budgets) input (initial_objects p (setting_of p budgets))
   start_good input =
       let g = setting_of p budgets in
-      stored p.statics g input placed placed_good (λ _. Any) _
-      ((store_sure g mapped p.statics 0 p.statics (λ k. let same : 0 + k ≡ k = omega arith in ap (static_kind p.statics) same) names.statics).by
+      stored (names_of p) g input placed placed_good (λ _. Any) _
+      ((store_sure g mapped (names_of p) typed_start 0 p.statics (λ k. let same : 0 + k ≡ k = omega arith in ap (static_kind (kinds_of_statics p.statics)) same) names.statics).by
       (fresh g placed []) placed_good tt)
 
   pub run_sound : (input : List ℕ) (t : ℕ) → IsSoundState (state_of (outcome p budgets input t))
   run_sound input t =
       let g = setting_of p budgets in
-      sound_after (static_context p.statics g) (start p g input) IsTagged (outcome p budgets input t)
-      ((calls_sure p.statics p.functions names.functions g mapped t (t + 1) (static_context p.statics g) refl refl p.main [] (line_of (function_at p.functions p.main))).by
-      (start p g input) (start_good input) (λ x. tt))
+      let u = names_of p in
+      sound_after (static_context u g) (start p g input) (ArgumentIs (signature_in u.functions p.main).result) (outcome p budgets input t)
+      ((calls_sure u p.functions names.functions g is_setting mapped t (t + 1) (static_context u g) refl refl p.main [] (line_of (function_at p.functions p.main))).by
+      (start p g input) (start_good input) (subst (λ ks. ArgumentsAre ks [] (start p g input).objects) (sym names.main) tt))
+
+  pub calls_good : (limit n : ℕ) (sc : Context) → sc.scope.statics ≡ (names_of p).statics → sc.boundary ≡ heap_first (setting_of p budgets) → (f : ℕ) (vs : List Rvalue) (line : ℕ)
+      → Sure sc (ArgumentsAre (signature_in (names_of p).functions f).parameters vs) (calls p.functions (setting_of p budgets) limit n f vs line) (ArgumentIs (signature_in (names_of p).functions f).result)
+  calls_good limit n = calls_sure (names_of p) p.functions names.functions (setting_of p budgets) is_setting mapped limit n
+
+  pub inside_good : (limit n : ℕ) (f : Function) → Inside (scope_of (names_of p) f) (heap_first (setting_of p budgets)) (env_of p.functions (setting_of p budgets) limit n (all_of f))
+  inside_good limit n f =
+      let g = setting_of p budgets in
+      record {
+        calling = λ variables. record {
+          call = calls_good limit n (context_of (scope_of (names_of p) f) (heap_first g) (all_of f) variables) refl refl;
+          library = sure_routine g mapped (omega arith);
+          print = sure_print;
+          typed = typed_start;
+        };
+        most = stack_below g mapped;
+        low = heap_low g mapped;
+      }

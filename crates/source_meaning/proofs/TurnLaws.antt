@@ -6,7 +6,7 @@ use Rattle.behaviours.proofs.Moments.{prefix_nil, same_is_earlier}
 use Rattle.sb_base.specs.declared.ending.Ending.{Ending}
 use Rattle.sb_base.specs.declared.ending.Ending.TheVariants.{Exit}
 use Rattle.sb_base.specs.Budgets.{BudgetSizes}
-use Rattle.obj_memory.specs.declared.value.Value.{Value}
+use Rattle.source_meaning.specs.State.{Rvalue}
 use Rattle.obj_memory.specs.Sound.{Continues}
 use Rattle.c_tree.specs.declared.program.Variable.{Variable}
 use Rattle.c_tree.specs.Programs.{FunctionType, Function, StaticObject, Program}
@@ -87,8 +87,8 @@ module _ (limit limit' : ℕ) (le : limit ≤ limit') {condition condition' : Ru
   leads_turns_before (suc n) (suc m) le' =
       leads_on (leads_begin limit limit' le) (λ _. leads_on b (λ x. leads_after x (leads_on c (λ again. leads_choose again (leads_turns_before n m (omega arith)) (leads_action acts_done)))))
 
-pub leads_related : (g : Setting) (variables : List Variable) (limit limit' depth depth' : ℕ) (call call' : ℕ → List Value → ℕ → Run Value) → limit ≤ limit' → depth ≤ depth'
-    → ((f : ℕ) (vs : List Value) (line : ℕ) → LeadsTo (call f vs line) (call' f vs line))
+pub leads_related : (g : Setting) (variables : List Variable) (limit limit' depth depth' : ℕ) (call call' : ℕ → List Rvalue → ℕ → Run Rvalue) → limit ≤ limit' → depth ≤ depth'
+    → ((f : ℕ) (vs : List Rvalue) (line : ℕ) → LeadsTo (call f vs line) (call' f vs line))
     → Related (record { setting = g; variables = variables; limit = limit; depth = depth; call = call }) (record { setting = g; variables = variables; limit = limit'; depth = depth'; call = call' }) (λ A r r'. LeadsTo r r')
 leads_related g variables limit limit' depth depth' call call' le deeper leads = record {
   on = leads_on;
@@ -102,21 +102,21 @@ leads_related g variables limit limit' depth depth' call call' le deeper leads =
 -- calls
 
 module _ (functions : List Function) (g : Setting) where
-  leads_found : (limit limit' depth depth' : ℕ) (call call' : ℕ → List Value → ℕ → Run Value) → limit ≤ limit' → depth ≤ depth'
-      → ((f : ℕ) (vs : List Value) (line : ℕ) → LeadsTo (call f vs line) (call' f vs line)) → (o : Option Function) (vs : List Value) (line : ℕ)
+  leads_found : (limit limit' depth depth' : ℕ) (call call' : ℕ → List Rvalue → ℕ → Run Rvalue) → limit ≤ limit' → depth ≤ depth'
+      → ((f : ℕ) (vs : List Rvalue) (line : ℕ) → LeadsTo (call f vs line) (call' f vs line)) → (o : Option Function) (vs : List Rvalue) (line : ℕ)
       → LeadsTo (enter_found (record { setting = g; variables = []; limit = limit; depth = depth; call = call }) o vs line) (enter_found (record { setting = g; variables = []; limit = limit'; depth = depth'; call = call' }) o vs line)
   leads_found limit limit' depth depth' call call' le deeper leads =
       found_related g [] limit limit' depth depth' call call' (λ A r r'. LeadsTo r r') (leads_related g [] limit limit' depth depth' call call' le deeper leads)
 
-  pub leads_itself : (limit n f : ℕ) (vs : List Value) (line : ℕ) → LeadsTo (calls functions g limit n f vs line) (calls functions g limit n f vs line)
+  pub leads_itself : (limit n f : ℕ) (vs : List Rvalue) (line : ℕ) → LeadsTo (calls functions g limit n f vs line) (calls functions g limit n f vs line)
   leads_itself limit zero f vs line = leads_pause later_pause
   leads_itself limit (suc n) f vs line =
       leads_found limit limit (suc n) (suc n) (calls functions g limit n) (calls functions g limit n) (omega arith) (omega arith) (leads_itself limit n) (function_at functions f) vs line
 
-  pub later_calls : (limit n f : ℕ) (vs : List Value) (line : ℕ) → GoesLater (calls functions g limit n f vs line)
+  pub later_calls : (limit n f : ℕ) (vs : List Rvalue) (line : ℕ) → GoesLater (calls functions g limit n f vs line)
   later_calls limit n f vs line = (leads_itself limit n f vs line).later
 
-  pub leads_calls : (limit limit' : ℕ) → limit ≤ limit' → (n m : ℕ) → n ≤ m → (f : ℕ) (vs : List Value) (line : ℕ)
+  pub leads_calls : (limit limit' : ℕ) → limit ≤ limit' → (n m : ℕ) → n ≤ m → (f : ℕ) (vs : List Rvalue) (line : ℕ)
       → LeadsTo (calls functions g limit n f vs line) (calls functions g limit' m f vs line)
   leads_calls limit limit' le zero m le' f vs line = leads_pause (later_calls limit' m f vs line)
   leads_calls limit limit' le (suc n) zero le' f vs line = absurd (omega arith)
@@ -136,13 +136,13 @@ on_later s s' report ending l = record {
   ended = λ e h. absurd (cc);
 }
 
-on_paused : (s : State) (o : Outcome Value) → Later s (state_of o) → GoesOn (moment_of (Paused s)) (moment_of o)
+on_paused : (s : State) (o : Outcome Rvalue) → Later s (state_of o) → GoesOn (moment_of (Paused s)) (moment_of o)
 on_paused s (Gives v s') l = on_later s s' _ _ l
 on_paused s (Ended e s') l = on_later s s' _ _ l
 on_paused s (Paused s') l = on_later s s' [] None l
 
-on_below : (o o' : Outcome Value) → IsBelow o o' → GoesOn (moment_of o) (moment_of o')
-on_below (Gives v s) o' h = subst (λ x. GoesOn (moment_of (Gives v s)) (moment_of x)) h (on_ended (Exit (int_of v.word)) s)
+on_below : (o o' : Outcome Rvalue) → IsBelow o o' → GoesOn (moment_of o) (moment_of o')
+on_below (Gives v s) o' h = subst (λ x. GoesOn (moment_of (Gives v s)) (moment_of x)) h (on_ended (Exit (int_of v.value.word)) s)
 on_below (Ended e s) o' h = subst (λ x. GoesOn (moment_of (Ended e s)) (moment_of x)) h (on_ended e s)
 on_below (Paused s) o' h = on_paused s o' h
 

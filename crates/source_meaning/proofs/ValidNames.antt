@@ -1,4 +1,6 @@
 -- A valid program names what is there.
+use Rattle.source_meaning.specs.Good.{basis_of, node_basis, object_kind, signature_in, static_kind}
+use Rattle.c_tree.specs.Valid.{Scope}
 use Rattle.std.proofs.Common.{◌≡◌, ℕ, ◌+◌, ◌^◌, ◌≤◌, nat_le, List, [], ◌∷◌, Bool, true, false, ◌&&◌, ◌==◌, not, zero, suc, None, if◌then◌else◌, Some, get_or, refl, sym, ap, ◌∙◌, subst, arith}
 use Rattle.std.proofs.lemmas.Bool.{eqb-true, leb-true}
 use Rattle.obj_memory.specs.declared.int_type.IntType.{IntType}
@@ -17,7 +19,7 @@ use Rattle.c_tree.specs.Kinds.{is_size, is_step_operator, integer, pointer, int_
 use Rattle.c_tree.specs.Valid.{is_constant, is_plain, is_operand, is_conversion, is_right_of, is_update, is_step, is_call, no_signature, is_lvalue, is_lvalue_node, is_member, is_valid, is_node, are_valid, is_valid_lvalue, is_valid_lvalue_node}
 use Rattle.c_tree.specs.declared.program.Variable.{Variable}
 use Rattle.c_tree.specs.Valid as valid
-use Rattle.source_meaning.proofs.Naming.{Scope, static_kind, object_kind, basis_of, node_basis, IsWritable, IsScalar, IsStructureWith, Names, ValueNames, LvalueNames, PlaceNames, RowNames}
+use Rattle.source_meaning.proofs.Naming.{IsWritable, IsScalar, IsStructureWith, Names, ValueNames, LvalueNames, PlaceNames, RowNames}
 use Rattle.source_meaning.specs.Keeping.{IsNoStructure}
 
 -- tests that hold
@@ -92,6 +94,13 @@ same_kind (Array m) (OfScalar (Integer t)) e = never e
 same_kind (Array m) (OfScalar Pointer) e = never e
 same_kind (Array m) (Structure n) e = never e
 same_kind (Array m) (Array n) e = ap Array (eqb-true m n e)
+
+pub same_kinds : (ks ts : List Kind) → are_kinds ks ts ≡ true → ks ≡ ts
+same_kinds [] [] e = refl
+same_kinds [] (t ∷ ts) e = never e
+same_kinds (k ∷ ks) [] e = never e
+same_kinds (k ∷ ks) (t ∷ ts) e =
+    let h = both (is_kind k t) (are_kinds ks ts) e in ap (λ x. x ∷ ks) (same_kind k t h.0) ∙ ap (λ xs. t ∷ xs) (same_kinds ks ts h.1)
 
 -- kinds that are no structures
 
@@ -223,8 +232,9 @@ pub record Agree (scope : valid.Scope) (sc : Scope) : Type 0 where
   pub static : (n : ℕ) (k : Kind) → valid.is_static scope n k ≡ true → static_kind sc.statics n ≡ Some k
   pub all : scope.all ≡ sc.all
   pub variables : scope.variables ≡ sc.variables
-  pub function : (f : ℕ) → IsNoStructure (get_or scope.functions f no_signature).result
-  pub type : (n : ℕ) → IsNoStructure (get_or scope.types n no_signature).result
+  pub functions : scope.functions ≡ sc.functions
+  pub types : scope.types ≡ sc.types
+  pub result : scope.result ≡ sc.result
 
 object_by : (v : Variable) (b : Bool) → v.is_object ≡ b → b ≡ true → (if v.is_object then Some v.kind else None) ≡ Some v.kind
 object_by v true e h = subst (λ c. (if c then Some v.kind else None) ≡ Some v.kind) (sym e) refl
@@ -291,11 +301,19 @@ module _ {scope : valid.Scope} {sc : Scope} (g : Agree scope sc) where
         (lvalue_names l h.0, writable l h.1, scalar_step u (lvalue_kind l) h.2, none_like k (lvalue_kind l) h.3 (none_of_scalar (lvalue_kind l) (scalar_step u (lvalue_kind l) h.2)))
     value_names (step_plain u fixity x) k e = none_plain scope x.variable k (both (is_plain scope x.variable k) (is_step u k) e).0
     value_names (call f args) k e =
-        let h = three (are_valid scope args) _ (is_call (get_or scope.functions f no_signature) (kinds_of args) k) e in
-        (row_names args h.0, none_call (get_or scope.functions f no_signature) (kinds_of args) k (g.function f) h.2)
+        let q = signature_in scope.functions f in
+        let h = three (are_valid scope args) _ (is_call q (kinds_of args) k) e in
+        let c = both (are_kinds (kinds_of args) q.parameters) (is_kind k q.result) h.2 in
+        (row_names args h.0, same_kinds (kinds_of args) q.parameters c.0 ∙ ap (λ l. (signature_in l f).parameters) g.functions, same_kind k q.result c.1 ∙ ap (λ l. (signature_in l f).result) g.functions)
     value_names (call_through type_number a args) k e =
-        let h = five (is_valid scope a) _ (are_valid scope args) _ (is_call (get_or scope.types type_number no_signature) (kinds_of args) k) e in
-        (names a h.0, row_names args h.2, none_call (get_or scope.types type_number no_signature) (kinds_of args) k (g.type type_number) h.4)
+        let q = signature_in scope.types type_number in
+        let h = five (is_valid scope a) _ (are_valid scope args) _ (is_call q (kinds_of args) k) e in
+        let c = both (are_kinds (kinds_of args) q.parameters) (is_kind k q.result) h.4 in (
+          names a h.0,
+          row_names args h.2,
+          same_kinds (kinds_of args) q.parameters c.0 ∙ ap (λ l. (signature_in l type_number).parameters) g.types,
+          same_kind k q.result c.1 ∙ ap (λ l. (signature_in l type_number).result) g.types,
+        )
     value_names (library r args) k e =
         let h = both (are_valid scope args) (is_call (routine_signature r) (kinds_of args) k) e in (row_names args h.0, none_call (routine_signature r) (kinds_of args) k (none_routine r) h.1)
     value_names (printf format args) k e =

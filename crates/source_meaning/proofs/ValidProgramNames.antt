@@ -1,7 +1,9 @@
 -- The same of statements and of programs.
+use Rattle.source_meaning.specs.Good.{signature_in, static_kind}
+use Rattle.c_tree.specs.Valid.{Scope}
 use Rattle.std.proofs.Common.{◌≡◌, ℕ, zero, suc, ◌+◌, List, [], ◌∷◌, ◌++◌, map, Bool, true, false, ◌==◌, Option, Some, None, length, get_or, if◌then◌else◌, refl, sym, ap, ◌∙◌, subst, arith, nat_le, nat_lt}
 use Rattle.std.specs.List.{list_all}
-use Rattle.std.proofs.lemmas.Bool.{leb-true, ltb-true, lt-ltb}
+use Rattle.std.proofs.lemmas.Bool.{eqb-true, leb-true, ltb-true, lt-ltb}
 use Rattle.c_tree.specs.declared.expression.Kind.{Kind}
 use Rattle.c_tree.specs.declared.expression.Kind.TheVariants.{Void}
 use Rattle.c_tree.specs.Tree.{Expression, kind_of, line_of}
@@ -11,21 +13,21 @@ use Rattle.c_tree.specs.Statements.{Part, Content, value_content, literal_conten
 use Rattle.c_tree.specs.Statements.{First, nothing, first_expression, first_declaration, Statement, expression_statement, empty, declaration, block, if_then, if_else, while_do, do_while, for, switch, break, continue, return, Statements, no_statements, statements, SwitchItems, no_items, items}
 use Rattle.c_tree.specs.Kinds.{has_size, is_kind, size_of_kind, is_scalar, is_value, Signature}
 use Rattle.c_tree.specs.Valid as valid
-use Rattle.c_tree.specs.Valid.{no_signature, within, is_valid, is_condition, is_plain}
-use Rattle.c_tree.specs.ValidProgram.{content_size, is_content, is_part, are_parts, is_initializer, are_declared, is_first, is_condition_if, is_expression_if, is_return, Inside, in_loop, in_switch, is_statement, are_statements, are_items, is_function_type, are_all_different, signature_of, signatures_of, signature_at, scope_in, function_scope, are_parameters, is_function, are_functions, name_variables, variables_of_function, static_scope, is_function_number, is_static_object, is_main, is_valid_program}
+use Rattle.c_tree.specs.Valid.{has_number, within, is_valid, is_condition, is_plain}
+use Rattle.c_tree.specs.ValidProgram.{content_size, is_content, is_part, are_parts, is_initializer, are_declared, is_first, is_condition_if, is_expression_if, is_return, Inside, in_loop, in_switch, is_statement, are_statements, are_items, is_function_type, are_all_different, signature_of, signatures_of, signature_at, scope_in, function_scope, are_parameters, is_function, are_functions, name_variables, variables_of_function, static_scope, is_function_number, is_static_object, is_main, is_main_signature, is_valid_program}
 use Rattle.c_tree.specs.Blocks.{opened, all_of, body_variables, block_variables, switch_variables, first_variables}
-use Rattle.source_meaning.proofs.Naming.{Scope, static_kind, Names, NamesIfAny, ContentNames, PartsName, InitializerNames, DeclaredName, FirstNames, entering, StatementNames, StatementsName, ItemsName, TakeNoStructure, FunctionNames, FunctionsName, file_scope, StaticsName, NamesObjects}
-use Rattle.source_meaning.specs.Keeping.{IsNoStructure, AreNoStructures, PassNoStructures}
-use Rattle.source_meaning.proofs.ValidNames.{both, three, five, six, never, same_kind, none_like, Agree, object_named, names}
+use Rattle.source_meaning.proofs.Naming.{Names, NamesIfAny, ContentNames, PartsName, InitializerNames, DeclaredName, FirstNames, ReturnNames, StatementNames, StatementsName, ItemsName, kinds_in, names_of, FunctionNames, FunctionsName, file_scope, StaticsName, NamesObjects}
+use Rattle.source_meaning.proofs.ValidNames.{both, three, five, six, never, same_kind, Agree, object_named, names}
 
 -- a block that declares some variables
-within_agree : {scope : valid.Scope} {sc : Scope} (numbers : List ℕ) → Agree scope sc → Agree (within scope numbers) (entering sc numbers)
+within_agree : {scope : valid.Scope} {sc : Scope} (numbers : List ℕ) → Agree scope sc → Agree (within scope numbers) (within sc numbers)
 within_agree {scope = scope} numbers g = record {
   static = g.static;
   all = g.all;
   variables = ap (λ vs. opened numbers 0 vs scope.variables) g.all ∙ ap (opened numbers 0 _) g.variables;
-  function = g.function;
-  type = g.type;
+  functions = g.functions;
+  types = g.types;
+  result = g.result;
 }
 
 module _ {scope : valid.Scope} {sc : Scope} (g : Agree scope sc) where
@@ -51,7 +53,7 @@ module _ {scope : valid.Scope} {sc : Scope} (g : Agree scope sc) where
       let e = both v.is_object (are_parts scope (size_of_kind v.kind) parts) h in
       (v.kind, object_named g x e.0, parts_names (size_of_kind v.kind) parts e.1)
 
-  declared_names : (ds : List DeclaredVariable) → are_declared scope ds ≡ true → DeclaredName sc ds
+  pub declared_names : (ds : List DeclaredVariable) → are_declared scope ds ≡ true → DeclaredName sc ds
   declared_names [] h = tt
   declared_names (d ∷ ds) h = let e = both (is_initializer scope d.variable d.initializer) (are_declared scope ds) h in (initializer_names d.variable d.initializer e.0, declared_names ds e.1)
 
@@ -68,9 +70,10 @@ module _ {scope : valid.Scope} {sc : Scope} (g : Agree scope sc) where
   expression_if None h = tt
   expression_if (Some e) h = names g e h
 
-  return_names : (e : Option Expression) → is_return scope e ≡ true → NamesIfAny sc e
-  return_names None h = tt
-  return_names (Some e) h = names g e (three (is_valid scope e) (is_kind (kind_of e) scope.result) (is_value (kind_of e)) h).0
+  return_names : (e : Option Expression) → is_return scope e ≡ true → ReturnNames sc e
+  return_names None h = sym g.result ∙ same_kind scope.result Void h
+  return_names (Some e) h =
+      let q = three (is_valid scope e) (is_kind (kind_of e) scope.result) (is_value (kind_of e)) h in (names g e q.0, same_kind (kind_of e) scope.result q.1 ∙ g.result)
 
 mutual
   pub statement_names : {scope : valid.Scope} {sc : Scope} (g : Agree scope sc) (inside : Inside) (s : Statement) → is_statement scope inside s ≡ true → StatementNames sc s
@@ -114,73 +117,64 @@ mutual
 later : (n m : ℕ) → nat_lt (suc n) (suc m) ≡ true → nat_lt n m ≡ true
 later n m e = lt-ltb n m (let lt = ltb-true (suc n) (suc m) e in omega arith)
 
-length-kinds : (os : List StaticObject) → length (map (λ (o : StaticObject). o.kind) os) ≡ length os
-length-kinds [] = refl
-length-kinds (o ∷ os) = let rest = length-kinds os in omega (arith, rest)
-
-static_at : (os : List StaticObject) (n : ℕ) (k : Kind) → nat_lt n (length os) ≡ true → is_kind (get_or (map (λ (o : StaticObject). o.kind) os) n Void) k ≡ true → static_kind os n ≡ Some k
+static_at : (ks : List Kind) (n : ℕ) (k : Kind) → nat_lt n (length ks) ≡ true → is_kind (get_or ks n Void) k ≡ true → static_kind ks n ≡ Some k
 static_at [] n k lt e = let never = ltb-true n 0 lt in absurd (omega arith)
-static_at (o ∷ os) zero k lt e = ap Some (same_kind o.kind k e)
-static_at (o ∷ os) (suc n) k lt e = static_at os n k (later n (length os) lt) e
+static_at (j ∷ ks) zero k lt e = ap Some (same_kind j k e)
+static_at (j ∷ ks) (suc n) k lt e = static_at ks n k (later n (length ks) lt) e
 
-type_none : (ts : List FunctionType) → PassNoStructures ts → (n : ℕ) → IsNoStructure (get_or (map signature_of ts) n no_signature).result
-type_none [] h n = tt
-type_none (t ∷ ts) h zero = h.0
-type_none (t ∷ ts) h (suc n) = type_none ts h.2 n
+-- a scope of validity names what is there
+pub agree_same : (scope : Scope) → Agree scope scope
+agree_same scope = record {
+  static = λ n k e. let q = both (nat_lt n (length scope.statics)) _ e in static_at scope.statics n k q.0 q.1;
+  all = refl;
+  variables = refl;
+  functions = refl;
+  types = refl;
+  result = refl;
+}
 
-taken_none : (ts : List FunctionType) → PassNoStructures ts → (n : ℕ) → AreNoStructures (get_or (map signature_of ts) n no_signature).parameters
-taken_none [] h n = tt
-taken_none (t ∷ ts) h zero = h.1
-taken_none (t ∷ ts) h (suc n) = taken_none ts h.2 n
+module _ (p : Program) where
+  agree : (all variables : List Variable) (result : Kind) → Agree (scope_in p all variables result) (scope_in p all variables result)
+  agree all variables result = agree_same (scope_in p all variables result)
 
-function_none : (sigs : List Signature) → ((n : ℕ) → IsNoStructure (get_or sigs n no_signature).result) → (fs : List Function) (i : ℕ) → IsNoStructure (get_or (map (λ (f : Function). get_or sigs f.type_number no_signature) fs) i no_signature).result
-function_none sigs h [] i = tt
-function_none sigs h (f ∷ fs) zero = h f.type_number
-function_none sigs h (f ∷ fs) (suc i) = function_none sigs h fs i
+  parameter_kinds : (vs : List Variable) (ks : List Kind) → are_parameters vs ks ≡ true → kinds_in vs ≡ ks
+  parameter_kinds [] [] e = refl
+  parameter_kinds [] (k ∷ ks) e = never e
+  parameter_kinds (v ∷ vs) [] e = never e
+  parameter_kinds (v ∷ vs) (k ∷ ks) e =
+      let q = three (is_kind v.kind k) (is_value k) (are_parameters vs ks) e in ap (λ x. x ∷ kinds_in vs) (same_kind v.kind k q.0) ∙ ap (λ xs. k ∷ xs) (parameter_kinds vs ks q.2)
 
-module _ (p : Program) (none : PassNoStructures p.function_types) where
-  agree : (all variables : List Variable) (result : Kind) → Agree (scope_in p all variables result) (record { statics = p.statics; all = all; variables = variables })
-  agree all variables result = record {
-    static = λ n k e.
-        let q = both (nat_lt n (length (map (λ (o : StaticObject). o.kind) p.statics))) _ e in
-        static_at p.statics n k (subst (λ m. nat_lt n m ≡ true) (length-kinds p.statics) q.0) q.1;
-    all = refl;
-    variables = refl;
-    function = function_none (signatures_of p) (type_none p.function_types none) p.functions;
-    type = type_none p.function_types none;
-  }
-
-  parameters_none : (vs : List Variable) (ks : List Kind) → AreNoStructures ks → are_parameters vs ks ≡ true → TakeNoStructure vs
-  parameters_none [] ks h e = tt
-  parameters_none (v ∷ vs) [] h e = never e
-  parameters_none (v ∷ vs) (k ∷ ks) h e =
-      let q = three (is_kind v.kind k) (is_value k) (are_parameters vs ks) e in (none_like v.kind k q.0 h.0, parameters_none vs ks h.1 q.2)
-
-  function_names : (n : ℕ) (f : Function) → is_function p n f ≡ true → FunctionNames p.statics f
+  function_names : (n : ℕ) (f : Function) → is_function p n f ≡ true → FunctionNames (names_of p) f
   function_names n f e =
       let q = six _ (are_parameters f.parameters (signature_at p f.type_number).parameters) _ _ (are_statements (function_scope p f) (record { may_break = false; may_continue = false }) f.body) _ e in
       record {
         body = row_names (agree (all_of f) (f.parameters ++ body_variables f) (signature_at p f.type_number).result) (record { may_break = false; may_continue = false }) f.body q.4;
-        parameters = parameters_none f.parameters _ (taken_none p.function_types none f.type_number) q.1;
+        parameters = parameter_kinds f.parameters (signature_at p f.type_number).parameters q.1;
       }
 
-  functions_names : (n : ℕ) (fs : List Function) → are_functions p n fs ≡ true → FunctionsName p.statics fs
+  functions_names : (n : ℕ) (fs : List Function) → are_functions p n fs ≡ true → FunctionsName (names_of p) fs
   functions_names n [] e = tt
   functions_names n (f ∷ fs) e = let q = both (is_function p n f) (are_functions p (suc n) fs) e in (function_names n f q.0, functions_names (suc n) fs q.1)
 
-  static_parts : (o : StaticObject) → is_static_object p o ≡ true → name_variables o.parts ≡ false → PartsName (file_scope p.statics) (size_of_kind o.kind) o.parts
+  static_parts : (o : StaticObject) → is_static_object p o ≡ true → name_variables o.parts ≡ false → PartsName (file_scope (names_of p)) (size_of_kind o.kind) o.parts
   static_parts o h none =
       let q = three (has_size o.kind) (is_function_number p o.function) (are_parts (static_scope p o) (size_of_kind o.kind) o.parts) h in
       parts_names (agree [] [] Void) (size_of_kind o.kind) o.parts
       (subst (λ b. are_parts (let vs = if b then variables_of_function p.functions o.function else [] in scope_in p vs vs Void) (size_of_kind o.kind) o.parts ≡ true) none q.2)
 
-  statics_names : (os : List StaticObject) → list_all (is_static_object p) os ≡ true → StaticsName (file_scope p.statics) os
+  statics_names : (os : List StaticObject) → list_all (is_static_object p) os ≡ true → StaticsName (file_scope (names_of p)) os
   statics_names [] e = tt
   statics_names (o ∷ os) e =
       let q = both (is_static_object p o) (list_all (is_static_object p) os) e in (static_parts o q.0, statics_names os q.1)
+
+  none_taken : (ks : List Kind) → (length ks == 0) ≡ true → ks ≡ []
+  none_taken [] e = refl
+  none_taken (k ∷ ks) e = let same = eqb-true (length (k ∷ ks)) 0 e in absurd (omega arith)
 
   pub valid_names : is_valid_program p ≡ true → NamesObjects p
   unfolding is_valid_program
   valid_names e =
       let q = five (list_all (is_function_type p) p.function_types) (are_all_different p.function_types) (list_all (is_static_object p) p.statics) (are_functions p 0 p.functions) (is_main p) e in
-      record { statics = statics_names p.statics q.2; functions = functions_names 0 p.functions q.3 }
+      let m = both (has_number p.functions p.main) (is_main_signature (signature_in (names_of p).functions p.main)) q.4 in
+      let t = both _ (length (signature_in (names_of p).functions p.main).parameters == 0) m.1 in
+      record { statics = statics_names p.statics q.2; functions = functions_names 0 p.functions q.3; main = none_taken _ t.1 }

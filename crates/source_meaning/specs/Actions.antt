@@ -249,7 +249,7 @@ take_key g line = do
   choose is_left (change (λ s. record s { keys = s.keys + 1 })) (stop (Keys line))
 
 -- the values of several runs, from left to right
-abbrev pub each_value : List (Run Value) → Run (List Value)
+abbrev pub each_value : {A : Type 0} → List (Run A) → Run (List A)
 each_value [] = done []
 each_value (r ∷ rs) = do
   v ← r

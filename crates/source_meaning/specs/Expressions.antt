@@ -12,9 +12,10 @@ use Rattle.c_tree.specs.declared.expression.Kind.{Kind}
 use Rattle.c_tree.specs.declared.expression.Fixity.TheVariants.{Prefix}
 use Rattle.c_tree.specs.declared.expression.PlainName.{PlainName}
 use Rattle.c_tree.specs.Tree.{Expression, expression, Expressions, no_expressions, expressions, Lvalue, lvalue, Node, constant, function, plain, read, decay, address, parenthesized, deref_function, address_function, cast, convert, unary, binary, offset_by, difference, logical_and, logical_or, comma, conditional, assign, assign_plain, compound, change_plain, step, step_plain, call, call_through, library, printf, LvalueNode, automatic, static, deref, index, member, arrow, member_of_value, parenthesized_lvalue, kind_of, line_of, lvalue_kind, lvalue_line}
-use Rattle.source_meaning.specs.State.{Run, ◌>>=◌, ◌>>◌, done, stop, choose, read_state, tally, Header, Env}
+use Rattle.source_meaning.specs.State.{Rvalue, Run, ◌>>=◌, ◌>>◌, done, stop, choose, read_state, tally, Header, Env}
 use Rattle.addr_map.specs.Places.{function_address}
 use Rattle.source_meaning.specs.Actions.{integer, is_zero, scalar_of, integer_type, converted, offset_value, difference_value, operate, updated, plain_value, set_plain, update_plain, update, read_lvalue, write_lvalue, home_pointer, each_value}
+use Rattle.source_meaning.specs.Structures.{give, as_rvalue, as_pointer, values_of, take_value, write_rvalue, read_rvalue, member_of}
 use Rattle.source_meaning.specs.Library.{routine}
 use Rattle.source_meaning.specs.Printing.{print_formatted}
 
@@ -69,122 +70,128 @@ abbrev mutual
   is_node_judged (member_of_value a at size) = false
   is_node_judged (parenthesized_lvalue p) = is_judged p
 
+-- an expression as an argument
+abbrev pub argument : Kind → (line : ℕ) → Run Rvalue → Run Rvalue
+argument kind line r = do
+  v ← r
+  take_value kind line v
+
 abbrev mutual
-  pub evaluate : Env → Expression → Run Value
+  pub evaluate : Env → Expression → Run Rvalue
   evaluate env (expression kind line node) = value env node kind line
 
   -- a node, whose value has a kind, at a line
-  pub value : Env → Node → Kind → (line : ℕ) → Run Value
-  value env (constant w) kind line = counted (done (integer w))
-  value env (function f) kind line = counted (done (function_pointer f))
-  value env (plain x) kind line = counted (read_state (plain_value x))
+  pub value : Env → Node → Kind → (line : ℕ) → Run Rvalue
+  value env (constant w) kind line = counted (give (integer w))
+  value env (function f) kind line = counted (give (function_pointer f))
+  value env (plain x) kind line = counted (as_rvalue (read_state (plain_value x)))
   value env (read p) kind line = do
     q ← place env p
-    read_lvalue (lvalue_kind p) (is_judged p) q (lvalue_line p)
-  value env (decay p) kind line = place env p
-  value env (address p) kind line = counted (place env p)
+    read_rvalue (lvalue_kind p) (is_judged p) q (lvalue_line p)
+  value env (decay p) kind line = as_pointer (place env p)
+  value env (address p) kind line = counted (as_pointer (place env p))
   value env (parenthesized a) kind line = counted (evaluate env a)
-  value env (deref_function a) kind line = counted (evaluate env a)
-  value env (address_function a) kind line = counted (evaluate env a)
+  value env (deref_function a) kind line = counted (as_pointer (evaluate env a))
+  value env (address_function a) kind line = counted (as_pointer (evaluate env a))
   value env (cast a) kind line = counted (do
     v ← evaluate env a
-    done (converted kind v))
+    give (converted kind v.value))
   value env (convert a) kind line = do
     v ← evaluate env a
-    done (converted kind v)
+    give (converted kind v.value)
   value env (unary op a) kind line = counted (do
     v ← evaluate env a
-    done (integer (unary_value op (integer_type (scalar_of (kind_of a))) v.word)))
+    give (integer (unary_value op (integer_type (scalar_of (kind_of a))) v.value.word)))
   value env (binary op a b) kind line = counted (do
     x ← evaluate env a
     y ← evaluate env b
-    operate op (integer_type (scalar_of (kind_of a))) x y line)
+    as_rvalue (operate op (integer_type (scalar_of (kind_of a))) x.value y.value line))
   value env (offset_by form size a b) kind line = counted (do
     x ← evaluate env a
     y ← evaluate env b
-    done (offset_value form size x y))
+    give (offset_value form size x.value y.value))
   value env (difference size a b) kind line = counted (do
     x ← evaluate env a
     y ← evaluate env b
-    done (difference_value size x y))
+    give (difference_value size x.value y.value))
   value env (logical_and a b) kind line = counted (do
     x ← evaluate env a
-    choose (is_zero x) (done (integer 0)) (do
+    choose (is_zero x.value) (give (integer 0)) (do
       y ← evaluate env b
-      done (integer (one_if (not (is_zero y))))))
+      give (integer (one_if (not (is_zero y.value))))))
   value env (logical_or a b) kind line = counted (do
     x ← evaluate env a
-    choose (is_zero x) (do
+    choose (is_zero x.value) (do
       y ← evaluate env b
-      done (integer (one_if (not (is_zero y))))) (done (integer 1)))
+      give (integer (one_if (not (is_zero y.value))))) (give (integer 1)))
   value env (comma a b) kind line = counted (do
     evaluate env a
     evaluate env b)
   value env (conditional a b c) kind line = counted (do
     x ← evaluate env a
-    choose (is_zero x) (evaluate env c) (evaluate env b))
+    choose (is_zero x.value) (evaluate env c) (evaluate env b))
   value env (assign p a) kind line = counted (do
     q ← place env p
     v ← evaluate env a
-    write_lvalue (lvalue_kind p) (is_judged p) q (lvalue_line p) v)
+    write_rvalue (lvalue_kind p) (is_judged p) q.value (lvalue_line p) v)
   value env (assign_plain x a) kind line = counted_as (nodes_of x) (do
     v ← evaluate env a
-    set_plain x.variable v
-    done v)
+    set_plain x.variable v.value
+    give v.value)
   value env (compound u p a) kind line = counted (do
     q ← place env p
     y ← evaluate env a
-    update (scalar_of (lvalue_kind p)) (is_judged p) q (lvalue_line p) (updated u (scalar_of (lvalue_kind p)) y line) Prefix)
+    as_rvalue (update (scalar_of (lvalue_kind p)) (is_judged p) q.value (lvalue_line p) (updated u (scalar_of (lvalue_kind p)) y.value line) Prefix))
   value env (change_plain u x a) kind line = counted_as (nodes_of x) (do
     y ← evaluate env a
-    update_plain x.variable (updated u (scalar_of kind) y line) Prefix)
+    as_rvalue (update_plain x.variable (updated u (scalar_of kind) y.value line) Prefix))
   value env (step u fixity p) kind line = counted (do
     q ← place env p
-    update (scalar_of (lvalue_kind p)) (is_judged p) q (lvalue_line p) (updated u (scalar_of (lvalue_kind p)) (integer 1) line) fixity)
+    as_rvalue (update (scalar_of (lvalue_kind p)) (is_judged p) q.value (lvalue_line p) (updated u (scalar_of (lvalue_kind p)) (integer 1) line) fixity))
   value env (step_plain u fixity x) kind line = counted_as (nodes_of x)
-      (update_plain x.variable (updated u (scalar_of kind) (integer 1) line) fixity)
+      (as_rvalue (update_plain x.variable (updated u (scalar_of kind) (integer 1) line) fixity))
   value env (call f args) kind line = counted (do
     vs ← each_value (values env args)
     env.call f vs line)
   value env (call_through type_number a args) kind line = counted (do
     v ← evaluate env a
     vs ← each_value (values env args)
-    f ← callee env.setting.functions type_number v line
+    f ← callee env.setting.functions type_number v.value line
     env.call f vs line)
   value env (library name args) kind line = counted (do
     vs ← each_value (values env args)
     tally 1
-    routine env.setting name vs line)
+    as_rvalue (routine env.setting name (values_of vs) line))
   value env (printf format args) kind line = counted (do
     tally 1
     vs ← each_value (values env args)
     tally 1
-    print_formatted format vs line)
+    as_rvalue (print_formatted format (values_of vs) line))
 
   -- an lvalue
-  pub place : Env → Lvalue → Run Value
+  pub place : Env → Lvalue → Run Rvalue
   place env (lvalue kind line node) = node_place env node
 
-  pub node_place : Env → LvalueNode → Run Value
-  node_place env (automatic x) = counted (read_state (home_pointer x))
-  node_place env (static n) = counted (read_state (λ s. pointer_to n s.objects))
-  node_place env (deref a) = counted (evaluate env a)
+  pub node_place : Env → LvalueNode → Run Rvalue
+  node_place env (automatic x) = counted (as_rvalue (read_state (home_pointer x)))
+  node_place env (static n) = counted (as_rvalue (read_state (λ s. pointer_to n s.objects)))
+  node_place env (deref a) = counted (as_pointer (evaluate env a))
   node_place env (index form size a b) = counted (do
     x ← evaluate env a
     y ← evaluate env b
-    done (offset_value form size x y))
+    give (offset_value form size x.value y.value))
   node_place env (member p offset size) = counted (do
     q ← place env p
-    done (narrowed offset size q))
+    done (member_of offset size q))
   node_place env (arrow a offset size) = counted (do
     v ← evaluate env a
-    done (narrowed offset size v))
+    give (narrowed offset size v.value))
   node_place env (member_of_value a offset size) = counted (do
     v ← evaluate env a
-    done (narrowed offset size v))
+    done (member_of offset size v))
   node_place env (parenthesized_lvalue p) = counted (place env p)
 
-  -- what each argument of a call does
-  pub values : Env → Expressions → List (Run Value)
+  -- what each argument of a call does: its value is found, that of a structure with its contents at once
+  pub values : Env → Expressions → List (Run Rvalue)
   values env no_expressions = []
-  values env (expressions e es) = evaluate env e ∷ values env es
+  values env (expressions e es) = argument (kind_of e) (line_of e) (evaluate env e) ∷ values env es

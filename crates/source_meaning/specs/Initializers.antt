@@ -9,7 +9,8 @@ use Rattle.c_tree.specs.Tree.{kind_of, line_of}
 use Rattle.c_tree.specs.Statements.{Part, Content, value_content, literal_content, Initializer, of_plain, of_object, DeclaredVariable}
 use Rattle.source_meaning.specs.State.{Home, NoObject, InObject, Run, ◌>>=◌, ◌>>◌, read_state, change, skip, tally, Env}
 use Rattle.c_tree.specs.Kinds.{size_of_kind}
-use Rattle.source_meaning.specs.Actions.{integer, store, write_lvalue, set_plain, home_pointer}
+use Rattle.source_meaning.specs.Actions.{integer, store, set_plain, home_pointer}
+use Rattle.source_meaning.specs.Structures.{write_rvalue}
 use Rattle.source_meaning.specs.Expressions.{evaluate}
 
 -- all bytes of an object become zero, and its words lose their tags
@@ -39,7 +40,7 @@ store_bytes p offset (b ∷ bs) = do
 abbrev pub store_content : Env → (object : Value) → (offset : ℕ) → Content → Run (Unit {0})
 store_content env p offset (value_content e) = do
   v ← evaluate env e
-  write_lvalue (kind_of e) false (narrowed offset (size_of_kind (kind_of e)) p) (line_of e) v
+  write_rvalue (kind_of e) false (narrowed offset (size_of_kind (kind_of e)) p) (line_of e) v
   skip
 store_content env p offset (literal_content bytes) = do
   tally (1 + length bytes)
@@ -56,7 +57,7 @@ abbrev pub initialize : Env → (variable : ℕ) → Option Initializer → Run 
 initialize env x None = skip
 initialize env x (Some (of_plain e)) = do
   v ← evaluate env e
-  set_plain x v
+  set_plain x v.value
 initialize env x (Some (of_object parts)) = do
   zero_variable x
   p ← read_state (home_pointer x)

@@ -28,10 +28,11 @@ pub record IsKept (objects : Objects) (accesses : List Access) : Type 0 where
   pub sound : IsSound objects
   pub lie : AllLie objects accesses
 
--- what holds of the objects and accesses of a state that a run came to
+-- what holds of the objects and accesses of a state that a run came to; all objects end at 0x60000000 at most, where the heap does
 pub record IsSoundState (s : State) : Type 0 where
   pub kept : IsKept s.objects s.accesses
   pub apart : AreDisjoint s.objects
+  pub low : (n : ℕ) → (object_at s.objects n).address + (object_at s.objects n).size ≤ 1610612736
 
 -- objects live on that no `free` ends
 pub record LivesOn (old new : Objects) : Type 0 where
@@ -68,12 +69,3 @@ IsNoStructure Void = Unit {0}
 IsNoStructure (OfScalar k) = Unit {0}
 IsNoStructure (Structure n) = ⊥
 IsNoStructure (Array n) = Unit {0}
-
--- no function takes or gives a structure or union
-abbrev pub AreNoStructures : List Kind → Type 0
-AreNoStructures [] = Unit {0}
-AreNoStructures (k ∷ ks) = IsNoStructure k × AreNoStructures ks
-
-abbrev pub PassNoStructures : List FunctionType → Type 0
-PassNoStructures [] = Unit {0}
-PassNoStructures (t ∷ ts) = IsNoStructure t.result × AreNoStructures t.parameters × PassNoStructures ts

@@ -1,6 +1,7 @@
 pub mod State
 pub mod Places
 pub mod Actions
+pub mod Structures
 pub mod Heap
 pub mod Bytes
 pub mod Memory
@@ -16,3 +17,6 @@ pub mod Meaning
 pub mod Acting
 pub mod Turns
 pub mod Keeping
+pub mod Good
+pub mod Judging
+pub mod Staying

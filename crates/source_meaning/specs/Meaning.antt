@@ -6,13 +6,12 @@ use Rattle.sb_base.specs.declared.ending.Ending.{Ending}
 use Rattle.sb_base.specs.declared.ending.Ending.TheVariants.{Exit}
 use Rattle.sb_base.specs.Budgets.{BudgetSizes}
 use Rattle.sb_base.specs.Endings.{code_of, report_of}
-use Rattle.obj_memory.specs.declared.value.Value.{Value}
 use Rattle.obj_memory.specs.declared.object.Storage.TheVariants.{Static}
 use Rattle.obj_memory.specs.Objects.{Objects, new_object, pointer_to}
 use Rattle.obj_memory.specs.Heap.{rounded_up}
 use Rattle.c_tree.specs.Programs.{Function, StaticObject, Program}
 use Rattle.c_tree.specs.ValidProgram.{name_variables}
-use Rattle.source_meaning.specs.State.{State, Outcome, Gives, Ended, Paused, Run, ◌>>=◌, ◌>>◌, pause, read_state, choose, skip, Setting, Env}
+use Rattle.source_meaning.specs.State.{State, Rvalue, Outcome, Gives, Ended, Paused, Run, ◌>>=◌, ◌>>◌, pause, read_state, choose, skip, Setting, Env}
 use Rattle.source_meaning.specs.Places.{statics_first, stack_first}
 use Rattle.c_tree.specs.Kinds.{size_of_kind}
 use Rattle.source_meaning.specs.Actions.{int_of}
@@ -35,6 +34,7 @@ statics_end (o ∷ os) offset = statics_end os (rounded_up 16 offset + size_of_k
 abbrev pub setting_of : Program → BudgetSizes → Setting
 setting_of p budgets = record {
   functions = map header_of p.functions;
+  results = map (λ t. t.result) p.function_types;
   sizes = record { budgets = budgets; global_bytes = statics_end p.statics 0 };
 }
 
@@ -91,7 +91,7 @@ line_of None = 0
 line_of (Some f) = f.line
 
 -- what comes of a program in some turns: its first call is that of `main`, at the line of its name
-abbrev pub outcome : Program → BudgetSizes → (input : List ℕ) → (turns : ℕ) → Outcome Value
+abbrev pub outcome : Program → BudgetSizes → (input : List ℕ) → (turns : ℕ) → Outcome Rvalue
 outcome p budgets input turns =
     let g = setting_of p budgets in
     calls p.functions g turns (turns + 1) p.main [] (line_of (function_at p.functions p.main)) (start p g input)
@@ -108,8 +108,8 @@ abbrev pub ended_at : Ending → State → Moment
 ended_at e s = moment_at s (report_of e) (Some (Status (code_of e)))
 
 -- a return from `main` is an exit with its value (C99 5.1.2.2.3)
-abbrev pub moment_of : Outcome Value → Moment
-moment_of (Gives v s) = ended_at (Exit (int_of v.word)) s
+abbrev pub moment_of : Outcome Rvalue → Moment
+moment_of (Gives v s) = ended_at (Exit (int_of v.value.word)) s
 moment_of (Ended e s) = ended_at e s
 moment_of (Paused s) = moment_at s [] None
 

@@ -1,10 +1,11 @@
 -- The state of a run, and runs that give a value, end or pause. Three-address code has the same state.
-use Rattle.std.specs.Prelude.{ℕ, ◌+◌, Bool, true, false, List}
+use Rattle.std.specs.Prelude.{ℕ, ◌+◌, Bool, true, false, List, Option}
 use Rattle.behaviours.specs.Shown.{Access}
 use Rattle.sb_base.specs.declared.ending.Ending.{Ending}
 use Rattle.addr_map.specs.Places.{MapSizes}
 use Rattle.obj_memory.specs.declared.value.Value.{Value}
-use Rattle.obj_memory.specs.Objects.{Objects}
+use Rattle.obj_memory.specs.Objects.{ObjectState, Objects}
+use Rattle.c_tree.specs.declared.expression.Kind.{Kind}
 use Rattle.c_tree.specs.declared.program.Variable.{Variable}
 
 -- where a variable of the function that runs is kept: in no object, where it is a plain variable or its block is not entered, or in
@@ -82,6 +83,12 @@ skip = λ s. Gives tt s
 abbrev pub tally : ℕ → Run (Unit {0})
 tally n = change (λ s. record s { work = s.work + n })
 
+-- what an expression gives: its value, and the contents of a structure or union that stands for no place, of which the value is then an
+-- offset
+pub record Rvalue : Type 0 where
+  pub value : Value
+  pub contents : Option ObjectState
+
 -- what is known of a function without its body: the line of its name, its type, its parameters and its other variables, those of
 -- which the body's block enters, and the bytes of the budget `calls` that a call of it takes
 pub record Header : Type 0 where
@@ -92,9 +99,10 @@ pub record Header : Type 0 where
   pub entered : List Variable
   pub room : ℕ
 
--- what a run stands on: the functions of its program, and the sizes of its memory, with the budgets
+-- what a run stands on: the functions of its program, what the functions of each type give, and the sizes of its memory, with the budgets
 pub record Setting : Type 0 where
   pub functions : List Header
+  pub results : List Kind
   pub sizes : MapSizes
 
 -- what every part of a run may look at: its setting, the variables of the function that runs, the limit of turns, how many turns of
@@ -104,4 +112,4 @@ pub record Env : Type 0 where
   pub variables : List Variable
   pub limit : ℕ
   pub depth : ℕ
-  pub call : (function : ℕ) → List Value → (line : ℕ) → Run Value
+  pub call : (function : ℕ) → List Rvalue → (line : ℕ) → Run Rvalue

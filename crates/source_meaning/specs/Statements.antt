@@ -2,14 +2,14 @@
 use Rattle.std.specs.Prelude.{ℕ, zero, suc, ◌+◌, Bool, true, false, not, ◌==◌, List, [], ◌∷◌, ◌++◌, map, length, Option, Some, None}
 use Rattle.c_tree.specs.declared.statement.CaseLabel.{CaseLabel}
 use Rattle.c_tree.specs.declared.statement.CaseLabel.TheVariants.{Case, Default}
-use Rattle.c_tree.specs.Tree.{Expression}
+use Rattle.c_tree.specs.Tree.{Expression, kind_of, line_of}
 use Rattle.c_tree.specs.Statements.{First, nothing, first_expression, first_declaration, Statement, expression_statement, empty, declaration, block, if_then, if_else, while_do, do_while, for, switch, break, continue, return, Statements, no_statements, statements, SwitchItems, no_items, items}
 use Rattle.c_tree.specs.Blocks.{block_objects, block_variables, switch_variables, first_variables}
 use Rattle.source_meaning.specs.Blocks.{scoped}
-use Rattle.obj_memory.specs.declared.value.Value.{Value}
-use Rattle.source_meaning.specs.State.{Run, ◌>>=◌, ◌>>◌, done, pause, choose, skip, tally, Env}
+use Rattle.source_meaning.specs.State.{Rvalue, Run, ◌>>=◌, ◌>>◌, done, pause, choose, skip, tally, Env}
 use Rattle.source_meaning.specs.Actions.{begin_turn, integer, is_zero}
-use Rattle.source_meaning.specs.Expressions.{counted, evaluate}
+use Rattle.source_meaning.specs.Structures.{rvalue}
+use Rattle.source_meaning.specs.Expressions.{counted, argument, evaluate}
 use Rattle.source_meaning.specs.Initializers.{initialize_all}
 
 -- how a statement completes: by its end, by `break`, by `continue`, or by `return` with the value of its expression, or a word of 0
@@ -18,7 +18,7 @@ pub data Completion : Type 0 where
   Normal : Completion
   Broken : Completion
   Continued : Completion
-  Returned : Value → Completion
+  Returned : Rvalue → Completion
 
 -- statements one after another
 
@@ -42,7 +42,7 @@ abbrev pub holds : Env → Option Expression → Run Bool
 holds env None = done true
 holds env (Some e) = do
   v ← evaluate env e
-  done (not (is_zero v))
+  done (not (is_zero v.value))
 
 abbrev pub perform : Env → Option Expression → Run (Unit {0})
 perform env None = skip
@@ -181,12 +181,12 @@ abbrev mutual
     turns env.depth env.limit (holds env condition) (execute env body) (perform env step)))
   execute env (switch e line is) = counted (do
     v ← evaluate env e
-    counted (in_block env (switch_variables is) line (run_switch v.word (items_of env is))))
+    counted (in_block env (switch_variables is) line (run_switch v.value.word (items_of env is))))
   execute env break = counted (done Broken)
   execute env continue = counted (done Continued)
-  execute env (return None) = counted (done (Returned (integer 0)))
+  execute env (return None) = counted (done (Returned (rvalue (integer 0))))
   execute env (return (Some e)) = counted (do
-    v ← evaluate env e
+    v ← argument (kind_of e) (line_of e) (evaluate env e)
     done (Returned v))
 
   pub each_of : Env → Statements → List (Run Completion)

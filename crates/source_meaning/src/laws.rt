@@ -1,9 +1,12 @@
 //! Laws of the definitions, each as the contract of a function that does nothing: layers above rest on
 //! them.
-ghost use Rattle.std.specs.Prelude.{◌≡◌, ℕ, List, Bool, true, false};
+ghost use Rattle.std.specs.Prelude.{◌≡◌, ◌≤◌, ℕ, List, Bool, true, false};
 ghost use Rattle.behaviours.specs.Behaviour.{IsSource};
 ghost use Rattle.sb_base.specs.Budgets.{BudgetSizes};
 ghost use Rattle.addr_map.specs.Places.{AreMapped};
+ghost use Rattle.obj_memory.specs.declared.int_type.IntType.{IntType};
+ghost use Rattle.obj_memory.specs.declared.object.Storage.{Storage};
+ghost use Rattle.obj_memory.specs.declared.operator.BinaryOperator.{BinaryOperator};
 ghost use Rattle.obj_memory.specs.declared.value.Value.{Value};
 ghost use Rattle.obj_memory.specs.declared.value.Scalar.{Scalar};
 ghost use Rattle.obj_memory.specs.declared.value.Place.{Place};
@@ -14,19 +17,31 @@ ghost use Rattle.c_tree.specs.declared.expression.Fixity.{Fixity};
 ghost use Rattle.c_tree.specs.declared.expression.Routine.{Routine};
 ghost use Rattle.c_tree.specs.declared.program.Variable.{Variable};
 ghost use Rattle.c_tree.specs.Programs.{Function, Program};
-ghost use Rattle.c_tree.specs.ValidProgram.{is_valid_program};
-ghost use Rattle.source_meaning.specs.State.{State, Gives, Run, Header, Setting, change};
-ghost use Rattle.source_meaning.specs.Actions.{located, read_lvalue, write_lvalue, read_scalar, write_scalar, updated, update, update_plain, set_plain, move_bytes, make_object, put_bytes, take_key};
-ghost use Rattle.source_meaning.specs.Expressions.{callee};
+ghost use Rattle.c_tree.specs.ValidProgram.{are_declared, function_scope, Inside as Surrounding, is_statement, is_valid_program};
+ghost use Rattle.source_meaning.specs.State.{Env, State, Rvalue, Gives, Run, Header, Setting, change};
+ghost use Rattle.source_meaning.specs.Actions.{located, read_lvalue, write_lvalue, read_scalar, write_scalar, updated, update, update_plain, set_plain, move_bytes, make_object, put_bytes, take_key, each_value, operate, load, store};
+ghost use Rattle.source_meaning.specs.Structures.{read_rvalue, take_value, write_rvalue};
+ghost use Rattle.source_meaning.specs.Expressions.{callee, evaluate, place, values};
 ghost use Rattle.source_meaning.specs.Initializers.{zero_variable, store_bytes};
 ghost use Rattle.source_meaning.specs.Library.{routine};
 ghost use Rattle.source_meaning.specs.Printing.{print_formatted};
 ghost use Rattle.source_meaning.specs.Blocks.{Block, enter_block, leave_block};
-ghost use Rattle.source_meaning.specs.Calls.{Caller, back_to, calls, set_up};
-ghost use Rattle.source_meaning.specs.Meaning.{meaning, outcome, initial_objects, setting_of};
+ghost use Rattle.source_meaning.specs.Calls.{Caller, back_to, calls, env_of, set_up};
+ghost use Rattle.source_meaning.specs.Meaning.{meaning, outcome, initial_objects, setting_of, start};
 ghost use Rattle.source_meaning.specs.Acting.{IsAction, RunsAlike, state_of};
 ghost use Rattle.source_meaning.specs.Turns.{Grows};
-ghost use Rattle.source_meaning.specs.Keeping.{IsDirect, IsSoundState, PassNoStructures};
+ghost use Rattle.c_tree.specs.Tree.{Expression, Expressions, Lvalue, kind_of, kinds_of, lvalue_kind};
+ghost use Rattle.c_tree.specs.Statements.{DeclaredVariable, Statement};
+ghost use Rattle.c_tree.specs.Blocks.{all_of, block_objects, opened};
+ghost use Rattle.c_tree.specs.Walk.{assigns, lvalue_assigns};
+ghost use Rattle.source_meaning.specs.Staying.{Stays};
+ghost use Rattle.c_tree.specs.Valid.{Scope, are_valid, is_valid, is_valid_lvalue};
+ghost use Rattle.source_meaning.specs.Initializers.{initialize_all};
+ghost use Rattle.source_meaning.specs.Places.{heap_first, stack_end};
+ghost use Rattle.source_meaning.specs.Statements.{execute};
+ghost use Rattle.source_meaning.specs.Good.{EntersBy, IsEntered, Leaves, Any, ArgumentIs, ArgumentsAre, basis_of, Calling, CompletionIs, Context, context_of, file_scope, Inside, IsGood, LvalueIs, signature_in, Sure, ValueIs};
+ghost use Rattle.source_meaning.specs.Judging.{tested};
+ghost use Rattle.source_meaning.specs.Keeping.{IsDirect, IsSoundState};
 
 /// More turns show more of the same: what is shown never shrinks, no work and no turn is taken back, and
 /// a run that ended stays as it is.
@@ -50,7 +65,7 @@ pub fn objects_continue_along_a_run()
 /// of an object.
 pub fn runs_keep_objects_sound()
     ensures { (p : Program) (budgets : BudgetSizes) → AreMapped (setting_of p budgets).sizes
-        → is_valid_program p ≡ true → PassNoStructures p.function_types → (input : List ℕ) (t : ℕ)
+        → is_valid_program p ≡ true → (input : List ℕ) (t : ℕ)
         → IsSoundState (state_of (outcome p budgets input t)) }
 {}
 
@@ -72,10 +87,20 @@ pub fn accesses_are_actions()
     ensures read_lvalue { (kind : Kind) (j : Bool) (p : Value) (line : ℕ) → IsAction (read_lvalue kind j p line) }
     ensures write_lvalue { (kind : Kind) (j : Bool) (p : Value) (line : ℕ) (v : Value)
         → IsAction (write_lvalue kind j p line v) }
+    ensures read_rvalue { (kind : Kind) (j : Bool) (q : Rvalue) (line : ℕ) → IsAction (read_rvalue kind j q line) }
+    ensures write_rvalue { (kind : Kind) (j : Bool) (p : Value) (line : ℕ) (v : Rvalue)
+        → IsAction (write_rvalue kind j p line v) }
+    ensures taken { (kind : Kind) (line : ℕ) (v : Rvalue) → IsAction (take_value kind line v) }
     ensures updated { (u : Update) (k : Scalar) (right : Value) (line : ℕ) (old : Value)
         → IsAction (updated u k right line old) }
     ensures update { (u : Update) (k : Scalar) (j : Bool) (p : Value) (line : ℕ) (right : Value) (at : ℕ) (f : Fixity)
         → IsAction (update k j p line (updated u k right at) f) }
+    ensures operate { (op : BinaryOperator) (t : IntType) (x y : Value) (line : ℕ) → IsAction (operate op t x y line) }
+    ensures load { (k : Scalar) (j : Bool) (p : Value) (line : ℕ) → IsAction (load k j p line) }
+    ensures store { (k : Scalar) (j : Bool) (p : Value) (line : ℕ) (v : Value) → IsAction (store k j p line v) }
+    ensures make { (storage : Storage) (address size : ℕ) → IsAction (make_object storage address size) }
+    ensures put { (bytes : List ℕ) → IsAction (put_bytes bytes) }
+    ensures key { (g : Setting) (line : ℕ) → IsAction (take_key g line) }
     ensures plain { (x : ℕ) (v : Value) → IsAction (set_plain x v) }
     ensures update_plain { (u : Update) (k : Scalar) (x : ℕ) (right : Value) (at : ℕ) (f : Fixity)
         → IsAction (update_plain x (updated u k right at) f) }
@@ -89,7 +114,7 @@ pub fn routines_and_calls_are_actions()
     ensures print { (format : List ℕ) (vs : List Value) (line : ℕ) → IsAction (print_formatted format vs line) }
     ensures callee { (functions : List Header) (type_number : ℕ) (v : Value) (line : ℕ)
         → IsAction (callee functions type_number v line) }
-    ensures set_up { (g : Setting) (f : Header) (vs : List Value) (line : ℕ) → IsAction (set_up g f vs line) }
+    ensures set_up { (g : Setting) (f : Header) (vs : List Rvalue) (line : ℕ) → IsAction (set_up g f vs line) }
     ensures back { (c : Caller) → IsAction (change (back_to c)) }
     ensures enter { (g : Setting) (vs : List Variable) (line : ℕ) → IsAction (enter_block g vs line) }
     ensures leave { (b : Block) → IsAction (change (leave_block b)) }
@@ -97,6 +122,76 @@ pub fn routines_and_calls_are_actions()
 
 /// And so does every call, with all that it leads to: the work that was done before plays no part.
 pub fn calls_do_the_same_at_any_work()
-    ensures { (functions : List Function) (g : Setting) (limit n f : ℕ) (vs : List Value) (line : ℕ)
+    ensures { (functions : List Function) (g : Setting) (limit n f : ℕ) (vs : List Rvalue) (line : ℕ)
         → RunsAlike (calls functions g limit n f vs line) }
+{}
+
+/// From a good state every expression, lvalue and list of arguments of a valid program comes to good states with a sound
+/// value, and so does an initializer: at each step, also within a turn. An lvalue that rests on a name is of a live object.
+pub fn expressions_keep_states_good()
+    ensures value { (sc : Context) (env : Env) → Calling sc env → (e : Expression) → is_valid sc.scope e ≡ true
+        → Sure sc Any (evaluate env e) (ValueIs (kind_of e)) }
+    ensures lvalue { (sc : Context) (env : Env) → Calling sc env → (p : Lvalue) → is_valid_lvalue sc.scope p ≡ true
+        → Sure sc Any (place env p) (LvalueIs (basis_of p) (lvalue_kind p)) }
+    ensures arguments { (sc : Context) (env : Env) → Calling sc env → (es : Expressions) → are_valid sc.scope es ≡ true
+        → Sure sc Any (each_value (values env es)) (ArgumentsAre (kinds_of es)) }
+    ensures initializers { (sc : Context) (env : Env) → Calling sc env → (ds : List DeclaredVariable)
+        → are_declared sc.scope ds ≡ true → Sure sc Any (initialize_all env ds) (λ _. Any) }
+{}
+
+/// So does every statement, wherever it stands, and leaves the names around it as they were.
+pub fn statements_keep_states_good()
+    ensures { (base : Scope) (boundary : ℕ) (env : Env) → Inside base boundary env → (vs : List Variable)
+        (within : Surrounding) (s : Statement)
+        → is_statement (context_of base boundary env.variables vs).scope within s ≡ true
+        → Sure (context_of base boundary env.variables vs) Any (execute env s) (CompletionIs base.result) }
+{}
+
+/// So does every call of a valid program, and its first state is good: what the two laws above ask of calls.
+pub fn calls_keep_states_good()
+    ensures call { (p : Program) (budgets : BudgetSizes) → AreMapped (setting_of p budgets).sizes → is_valid_program p ≡ true
+        → (limit n : ℕ) (sc : Context) → sc.scope.statics ≡ (file_scope p).statics
+        → sc.boundary ≡ heap_first (setting_of p budgets) → (f : ℕ) (vs : List Rvalue) (line : ℕ)
+        → Sure sc (ArgumentsAre (signature_in (file_scope p).functions f).parameters vs)
+        (calls p.functions (setting_of p budgets) limit n f vs line)
+        (ArgumentIs (signature_in (file_scope p).functions f).result) }
+    ensures inside { (p : Program) (budgets : BudgetSizes) → AreMapped (setting_of p budgets).sizes
+        → is_valid_program p ≡ true → (limit n : ℕ) (f : Function)
+        → Inside (function_scope p f) (heap_first (setting_of p budgets))
+        (env_of p.functions (setting_of p budgets) limit n (all_of f)) }
+    ensures start { (p : Program) (budgets : BudgetSizes) → AreMapped (setting_of p budgets).sizes
+        → is_valid_program p ≡ true → (input : List ℕ)
+        → IsGood (record { scope = file_scope p; boundary = heap_first (setting_of p budgets) })
+        (start p (setting_of p budgets) input) }
+{}
+
+/// A judged access is two tests, one after the other, of the bounds and of the life of the object, and then an access
+/// that names its object.
+pub fn judgement_is_two_tests()
+    ensures { (size : ℕ) (v : Value) (line : ℕ) (s : State) → located true size v line s ≡ tested size v line s }
+{}
+
+/// A block that is entered from a good state is ended in it, or leaves a good one in which its variables have homes too; where
+/// it is left, the names around it are good again.
+pub fn blocks_keep_states_good()
+    ensures enter { (base : Scope) (boundary : ℕ) (all vars : List Variable) (numbers : List ℕ) (g : Setting)
+        → stack_end g ≤ boundary → boundary ≤ 1610612736 → (line : ℕ) (s : State)
+        → IsGood (context_of base boundary all vars) s
+        → EntersBy base boundary all vars numbers s (enter_block g (block_objects all numbers) line s) }
+    ensures leave { (base : Scope) (boundary : ℕ) (all vars : List Variable) (numbers : List ℕ) (s : State)
+        → IsGood (context_of base boundary all vars) s → (b : Block) (s1 s2 : State)
+        → IsEntered base boundary all vars numbers s b s1
+        → Leaves (context_of base boundary all (opened numbers 0 all vars)) s1 s2
+        → Leaves (context_of base boundary all vars) s (leave_block b s2) }
+{}
+
+/// A plain variable that an expression or an lvalue does not assign, and every home, is as before; a call gives the caller all of
+/// its variables back.
+pub fn unassigned_variables_stay()
+    ensures expression { (functions : List Function) (g : Setting) (limit n : ℕ) (variables : List Variable) (y : ℕ)
+        (e : Expression) → assigns y e ≡ false → Stays y (evaluate (env_of functions g limit n variables) e) }
+    ensures lvalue { (functions : List Function) (g : Setting) (limit n : ℕ) (variables : List Variable) (y : ℕ)
+        (p : Lvalue) → lvalue_assigns y p ≡ false → Stays y (place (env_of functions g limit n variables) p) }
+    ensures call { (y : ℕ) (functions : List Function) (g : Setting) (limit n f : ℕ) (vs : List Rvalue) (line : ℕ)
+        → Stays y (calls functions g limit n f vs line) }
 {}

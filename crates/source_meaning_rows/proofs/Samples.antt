@@ -12,6 +12,7 @@ use Rattle.sb_base.specs.Endings.{report_at}
 use Rattle.addr_map.specs.Places.{region_size, region_start, function_address}
 use Rattle.c_tree.specs.ValidProgram.{is_valid_program}
 use Rattle.c_tree.specs.Room.{room}
+use Rattle.source_meaning.specs.Structures.{moved_into, put_range}
 use Rattle.obj_memory.specs.declared.int_type.IntType.{IntType}
 use Rattle.obj_memory.specs.declared.int_type.IntType.TheVariants.{Int, Long}
 use Rattle.obj_memory.specs.declared.value.Scalar.TheVariants.{Integer, Pointer}
@@ -41,7 +42,7 @@ use Rattle.behaviours.specs.Behaviour.{Moment}
 
 -- what the meaning computes by: a row names it in its `unfolding` line
 unfoldable pub computing : Unit {0}
-unfolding int_wrap digits size_of is_signed rank fit shift_amount unary_value binary_value new_object with_new with_dead with_zeroed pointer_to judge named moved narrowed read_value write_bytes write_tag write_value move_range block_count is_clear least_place report_at region_size region_start function_address is_valid_program room
+unfolding int_wrap digits size_of is_signed rank fit shift_amount unary_value binary_value new_object with_new with_dead with_zeroed pointer_to judge named moved narrowed read_value write_bytes write_tag write_value move_range block_count is_clear least_place report_at region_size region_start function_address is_valid_program room moved_into put_range
 computing = tt
 
 abbrev pub none : {A : Type 0} → List A

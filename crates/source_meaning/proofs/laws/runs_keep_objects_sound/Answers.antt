@@ -3,4 +3,4 @@ use Rattle.source_meaning.proofs.ValidProgramNames.{valid_names}
 use Rattle.source_meaning.proofs.laws.runs_keep_objects_sound.Goals as goal
 
 pub returns : goal.returns
-returns c = λ p budgets mapped valid none input t. run_sound p budgets mapped (valid_names p none valid) input t
+returns c = λ p budgets mapped valid input t. run_sound p budgets mapped (valid_names p valid) input t

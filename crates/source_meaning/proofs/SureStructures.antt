@@ -1,0 +1,167 @@
+-- Structures by value keep objects sound: contents are sound, and have all bytes of the structure.
+use Rattle.source_meaning.specs.Good.{Any, ArgumentIs, Basis, Context, HasContents, IsGood, IsTagged, LvalueIs, OnName, OnPointer, OnValue, RvalueReach, StructureIs, Sure, ValueIs}
+use Rattle.std.proofs.Common.{◌≡◌, ℕ, ◌+◌, ◌*◌, ◌/◌, ◌%◌, ◌<◌, ◌≤◌, List, [], ◌∷◌, Bool, true, false, ◌==◌, if◌then◌else◌, Option, Some, None, length, get_or, take, drop, refl, sym, ap, ◌∙◌, subst, arith, length-take, length-drop}
+use Rattle.obj_memory.specs.declared.value.Tag.TheVariants.{Untagged}
+use Rattle.obj_memory.specs.declared.value.Value.{Value}
+use Rattle.obj_memory.specs.declared.value.Scalar.{Scalar}
+use Rattle.obj_memory.specs.declared.value.Scalar.TheVariants.{Integer, Pointer}
+use Rattle.obj_memory.specs.declared.value.Place.{Place}
+use Rattle.obj_memory.specs.declared.object.Storage.TheVariants.{Automatic}
+use Rattle.obj_memory.specs.Objects.{ObjectState, Objects, object_at, new_object}
+use Rattle.obj_memory.specs.Access.{scalar_size, is_aligned, moved_tags, read_value}
+use Rattle.obj_memory.specs.Sound.{IsSound, IsSoundObject, IsSoundTag, IsPlace, KeepsObjects}
+use Rattle.obj_memory.proofs.Soundness.{sound_set, sound_zeros, sound_overwritten, length-moved_tags, every_moved}
+use Rattle.obj_memory.proofs.Keeping.{keeps_set}
+use Rattle.obj_memory.proofs.Continuing.{IsLater}
+use Rattle.obj_memory.proofs.Listed.{every_take, every_drop}
+use Rattle.c_tree.specs.declared.expression.Kind.{Kind}
+use Rattle.c_tree.specs.declared.expression.Kind.TheVariants.{Void, Scalar as OfScalar, Structure, Array}
+use Rattle.c_tree.specs.Kinds.{size_of_kind}
+use Rattle.source_meaning.specs.State.{Rvalue}
+use Rattle.source_meaning.specs.Actions.{integer}
+use Rattle.source_meaning.specs.Structures.{rvalue, give, moved_into, contents_of, with_contents, put_range, put_contents, taken, take_value, copy_value, write_rvalue, part_of, read_part, read_rvalue, zero_of}
+use Rattle.source_meaning.specs.Keeping.{IsDirect}
+use Rattle.source_meaning.proofs.ActionsAct.{continues_put}
+use Rattle.source_meaning.proofs.Holding.{direct_kept}
+use Rattle.source_meaning.proofs.Sure.{IsStable, sure_on, sure_weak, sure_if_good, sure_any, sure_post, sure_frame, sure_done, sure_read, stable_tag, sure_tally, sure_objects, PlaceIs, ReachBy, place_value}
+use Rattle.source_meaning.proofs.SureActions.{on_pointer, sure_located, sure_store, sure_read_lvalue, sure_copy, IsFound}
+
+-- contents
+
+fresh_sound : (size : ℕ) (objects : Objects) → IsSoundObject objects (new_object Automatic 0 size)
+unfolding new_object
+fresh_sound size objects = sound_zeros objects (new_object Automatic 0 size) refl
+
+fresh_size : (size : ℕ) → (new_object Automatic 0 size).size ≡ size
+unfolding new_object
+fresh_size size = refl
+
+moved_size : (size start source : ℕ) (from to : ObjectState) → (moved_into size start source from to).size ≡ to.size
+unfolding moved_into
+moved_size size start source from to = refl
+
+pub moved_sound : (size start source : ℕ) (from to : ObjectState) (objects : Objects) → IsSoundObject objects from → IsSoundObject objects to
+    → start + size ≤ to.size → source + size ≤ from.size → IsSoundObject objects (moved_into size start source from to)
+unfolding moved_into
+moved_sound size start source from to objects f t room there =
+    let long : length (take size (drop source from.bytes)) ≡ size = omega (arith, there, f.bytes, length-take size (drop source from.bytes), length-drop source from.bytes) in
+    sound_overwritten objects to start (take size (drop source from.bytes)) _ t (omega (arith, room, long))
+    (every_take (λ b. b < 256) 0 size (drop source from.bytes) (omega arith) (every_drop (λ b. b < 256) 0 source from.bytes f.values))
+    (elim (start % 8 == source % 8) as (λ b. length (if b then moved_tags size start source from.tags 0 to.tags else to.tags) ≡ to.size / 8) [
+      | true ↦ length-moved_tags size start source from.tags 0 to.tags ∙ t.tags
+      | false ↦ t.tags
+    ])
+    (λ k. elim (start % 8 == source % 8) as (λ b. IsSoundTag objects (get_or (if b then moved_tags size start source from.tags 0 to.tags else to.tags) k Untagged)) [
+      | true ↦ every_moved (λ t. IsSoundTag objects t) size start source from.tags f.tag 0 to.tags t.tag k
+      | false ↦ t.tag k
+    ])
+
+contents_sound : (size source : ℕ) (from : ObjectState) (objects : Objects) → IsSoundObject objects from → source + size ≤ from.size → HasContents size 0 (contents_of size source from) objects
+contents_sound size source from objects f there = record {
+  sound = moved_sound size 0 source from (new_object Automatic 0 size) objects f (fresh_sound size objects) (omega (arith, fresh_size size)) there;
+  room = omega (arith, moved_size size 0 source from (new_object Automatic 0 size), fresh_size size);
+}
+
+pub taken_argument : (size source : ℕ) (from : ObjectState) (objects : Objects) → IsSoundObject objects from → source + size ≤ from.size → ArgumentIs (Structure size) (with_contents size source from) objects
+taken_argument size source from objects f there = record { tag = tt; structure = contents_sound size source from objects f there }
+
+pub zero_argument : (kind : Kind) (objects : Objects) → ArgumentIs kind (zero_of kind) objects
+zero_argument Void objects = record { tag = tt; structure = refl }
+zero_argument (OfScalar k) objects = record { tag = tt; structure = refl }
+zero_argument (Structure n) objects = record { tag = tt; structure = record { sound = fresh_sound n objects; room = omega (arith, fresh_size n) } }
+zero_argument (Array n) objects = record { tag = tt; structure = refl }
+
+-- contents that are moved to a place
+
+keeps_put : (size : ℕ) (d : Place) (source : ℕ) (c : ObjectState) (objects : Objects) → KeepsObjects objects (put_range size d source c objects)
+unfolding put_range moved_into
+keeps_put size d source c objects = keeps_set objects d.object _ (record { storage = refl; address = refl; size = refl; live = refl })
+
+later_moved : (size start source : ℕ) (from to : ObjectState) → IsLater to (moved_into size start source from to)
+unfolding moved_into
+later_moved size start source from to = record { storage = refl; address = refl; size = refl; dead = λ x. x }
+
+sound_put : (size : ℕ) (d : Place) (source : ℕ) (c : ObjectState) (objects : Objects) → IsSound objects → IsPlace objects d size → HasContents size source c objects → IsSound (put_range size d source c objects)
+unfolding put_range
+sound_put size d source c objects h p k =
+    sound_set objects d.object _ h (later_moved size d.offset source c (object_at objects d.object)) (moved_sound size d.offset source c (object_at objects d.object) objects k.sound (h.at d.object) p.room k.room)
+
+put_sure : {sc : Context} (size : ℕ) (d : Place) (source : ℕ) (c : ObjectState) (q : Value) → Sure sc (λ o. HasContents size source c o × IsFound q size d o) (put_contents size d source c) (λ _ o. IsDirect o q size)
+put_sure size d source c q =
+    sure_on (sure_tally size) (λ _.
+    sure_objects (put_range size d source c) (keeps_put size d source c) (continues_put size d source c) (λ o h sound. sound_put size d source c o sound h.1.0.place h.0)
+    (λ o h. direct_kept o (put_range size d source c o) q size (keeps_put size d source c o) h.1.1))
+
+copy_sure : {sc : Context} (b : Basis) (c : Option ObjectState) (n : ℕ) (q : Value) (line : ℕ) (v : Value)
+    → Sure sc (λ o. (IsTagged v o × StructureIs n c v o) × (IsTagged q o × ReachBy b n q o)) (copy_value c n (on_pointer b) q line v) (λ _ o. IsDirect o q n)
+copy_sure b None n q line v = sure_copy b n q line v
+copy_sure b (Some c) n q line v = sure_on (sure_weak (λ o h. (h.0.1, h.1)) (sure_located b n q line)) (λ d. put_sure n d v.word c q)
+
+-- an lvalue gets a value
+
+pub sure_write_rvalue : {sc : Context} (b : Basis) (kind : Kind) (q : Value) (line : ℕ) (v : Rvalue) → Sure sc (λ o. PlaceIs b kind q o × ValueIs kind v o) (write_rvalue kind (on_pointer b) q line v) (ValueIs kind)
+sure_write_rvalue b Void q line v = sure_done (λ o h. h.1)
+sure_write_rvalue b (OfScalar k) q line v =
+    sure_on (sure_on (sure_weak (λ o h. (h.1.tag, h.0)) (sure_store b k q line v.value)) (λ _. sure_done {a = v.value} (λ o h. h))) (λ w. sure_done {a = rvalue w} (λ o h. record { tag = h; structure = refl }))
+sure_write_rvalue b (Structure n) q line v =
+    sure_on (sure_weak (λ o h. (h.0.0, ((h.1.tag, h.1.structure), h.0))) (sure_frame (stable_tag q) (copy_sure b v.contents n q line v.value))) (λ _.
+    sure_done {a = rvalue q} (λ o h. record { tag = h.0; structure = h.1 }))
+sure_write_rvalue b (Array n) q line v = sure_done (λ o h. h.1)
+
+-- what an lvalue holds, or a part of contents
+
+part_tag : (k : Scalar) (offset : ℕ) (c : ObjectState) (objects : Objects) → IsSoundObject objects c → IsSoundTag objects (read_value k (record { object = 0; offset = offset }) (c ∷ [])).tag
+unfolding read_value
+part_tag (Integer t) offset c objects h = tt
+part_tag Pointer offset c objects h =
+    elim (is_aligned offset) as (λ b. IsSoundTag objects (if b then get_or c.tags (offset / 8) Untagged else Untagged)) [
+      | true ↦ h.tag (offset / 8)
+      | false ↦ tt
+    ]
+
+part_is : (kind : Kind) (c : ObjectState) (q : Value) (o : Objects) → IsTagged q o → HasContents (size_of_kind kind) q.word c o → ValueIs kind (part_of kind c q) o
+part_is Void c q o t h = record { tag = tt; structure = refl }
+part_is (OfScalar k) c q o t h = record { tag = part_tag k q.word c o h.sound; structure = refl }
+part_is (Structure n) c q o t h = record { tag = t; structure = h }
+part_is (Array n) c q o t h = record { tag = tt; structure = refl }
+
+abbrev ReadsIf : Basis → Kind → Option ObjectState → Value → Objects → Type 0
+ReadsIf b kind c q o = IsTagged q o × RvalueReach b (size_of_kind kind) c q o
+
+no_contents : {A : Type 0} {c : ObjectState} → Some c ≡ None → A
+no_contents e = absurd (cc)
+
+reach_place : (b : Basis) (kind : Kind) (q : Value) (o : Objects) → RvalueReach b (size_of_kind kind) None q o → ReachBy b (size_of_kind kind) q o
+reach_place OnName kind q o h = h.1
+reach_place OnPointer kind q o h = tt
+reach_place OnValue kind q o h = h
+
+reach_contents : (b : Basis) (kind : Kind) (c : ObjectState) (q : Value) (o : Objects) → RvalueReach b (size_of_kind kind) (Some c) q o → HasContents (size_of_kind kind) q.word c o
+reach_contents OnName kind c q o h = no_contents h.0
+reach_contents OnPointer kind c q o h = no_contents h
+reach_contents OnValue kind c q o h = h
+
+part_sure : {sc : Context} (b : Basis) (kind : Kind) (c : Option ObjectState) (q : Value) (line : ℕ) → Sure sc (ReadsIf b kind c q) (read_part c kind (on_pointer b) q line) (ValueIs kind)
+part_sure b kind None q line =
+    sure_on (sure_weak (λ o h. (h.0, reach_place b kind q o h.1)) (sure_read_lvalue b kind q line)) (λ v. sure_done {a = rvalue v} (λ o h. place_value kind v o h))
+part_sure b kind (Some c) q line = sure_done {a = part_of kind c q} (λ o h. part_is kind c q o h.0 (reach_contents b kind c q o h.1))
+
+pub sure_read_rvalue : {sc : Context} (b : Basis) (kind : Kind) (q : Rvalue) (line : ℕ) → Sure sc (LvalueIs b kind q) (read_rvalue kind (on_pointer b) q line) (ValueIs kind)
+sure_read_rvalue b kind q line = sure_weak (λ o h. (h.tag, h.reach)) (part_sure b kind q.contents q.value line)
+
+-- arguments and results
+
+taken_sure : {sc : Context} (c : Option ObjectState) (n : ℕ) (v : Value) (line : ℕ) → Sure sc (λ o. IsTagged v o × StructureIs n c v o) (taken c n v line) (ArgumentIs (Structure n))
+taken_sure None n v line =
+    sure_on (sure_weak (λ o h. (tt, (h.0, h.1))) (sure_located {P = Any} OnValue n v line)) (λ p.
+    sure_on (sure_tally n) (λ _.
+    sure_read {f = λ s. with_contents n p.offset (object_at s.objects p.object)} (λ s good h.
+    taken_argument n p.offset (object_at s.objects p.object) s.objects (good.kept.sound.at p.object) h.1.0.place.room)))
+taken_sure (Some c) n v line =
+    sure_on (sure_tally n) (λ _. sure_done {a = with_contents n v.word c} (λ o h. taken_argument n v.word c o h.1.sound h.1.room))
+
+pub take_sure : {sc : Context} (kind : Kind) (line : ℕ) (v : Rvalue) → Sure sc (ValueIs kind v) (take_value kind line v) (ArgumentIs kind)
+take_sure Void line v = sure_done {a = v} (λ o h. record { tag = h.tag; structure = h.structure })
+take_sure (OfScalar k) line v = sure_done {a = v} (λ o h. record { tag = h.tag; structure = h.structure })
+take_sure (Structure n) line v = sure_weak (λ o h. (h.tag, h.structure)) (taken_sure v.contents n v.value line)
+take_sure (Array n) line v = sure_done {a = v} (λ o h. record { tag = h.tag; structure = h.structure })

@@ -1,0 +1,249 @@
+-- Good states, and what every part of a run makes of them: objects and tags are sound, each variable whose block is entered has its
+-- home in a live object, and what an expression or an lvalue gives is sound.
+use Rattle.std.specs.Prelude.{◌≡◌, ◌⊎◌, ℕ, zero, suc, ◌+◌, ◌<◌, ◌≤◌, Bool, true, false, if◌then◌else◌, List, [], ◌∷◌, Option, Some, None, length, get_or}
+use Rattle.behaviours.specs.Shown.{Access}
+use Rattle.sb_base.specs.declared.ending.Ending.{Ending}
+use Rattle.obj_memory.specs.declared.value.Value.{Value}
+use Rattle.obj_memory.specs.Objects.{ObjectState, Objects, object_at}
+use Rattle.obj_memory.specs.Heap.{is_allocated}
+use Rattle.obj_memory.specs.Sound.{IsSoundObject, IsSoundTag, AreDisjoint}
+use Rattle.c_tree.specs.declared.expression.Kind.{Kind}
+use Rattle.c_tree.specs.declared.expression.Kind.TheVariants.{Void, Scalar as OfScalar, Structure, Array}
+use Rattle.c_tree.specs.declared.expression.Routine.{Routine}
+use Rattle.c_tree.specs.declared.program.Variable.{Variable}
+use Rattle.c_tree.specs.Kinds.{size_of_kind, Signature}
+use Rattle.c_tree.specs.Tree.{Lvalue, lvalue, LvalueNode, automatic, static, deref, index, member, arrow, member_of_value, parenthesized_lvalue}
+use Rattle.c_tree.specs.Programs.{Program}
+use Rattle.c_tree.specs.Valid.{Scope, no_signature}
+use Rattle.c_tree.specs.ValidProgram.{scope_in}
+use Rattle.source_meaning.specs.State.{State, Rvalue, Home, NoObject, InObject, Outcome, Gives, Ended, Paused, Run, Env}
+use Rattle.source_meaning.specs.Places.{stack_end}
+use Rattle.source_meaning.specs.Actions.{integer}
+use Rattle.source_meaning.specs.Library.{routine}
+use Rattle.source_meaning.specs.Printing.{print_formatted}
+use Rattle.source_meaning.specs.Expressions.{header_at, has_type}
+use Rattle.source_meaning.specs.Statements.{Completion, Normal, Broken, Continued, Returned}
+use Rattle.c_tree.specs.Blocks.{opened}
+use Rattle.source_meaning.specs.Blocks.{Block}
+use Rattle.source_meaning.specs.Keeping.{IsKept, LivesOn, IsDirect, IsNamed, AreSeparate}
+
+-- names
+
+abbrev pub static_kind : List Kind → ℕ → Option Kind
+static_kind [] n = None
+static_kind (k ∷ ks) zero = Some k
+static_kind (k ∷ ks) (suc n) = static_kind ks n
+
+-- the kind of a variable that is an object
+abbrev pub object_kind : List Variable → ℕ → Option Kind
+object_kind [] x = None
+object_kind (v ∷ vs) zero = if v.is_object then Some v.kind else None
+object_kind (v ∷ vs) (suc x) = object_kind vs x
+
+-- what an lvalue rests on: the name of an object, a pointer, or a structure value
+pub data Basis : Type 0 where
+  OnName : Basis
+  OnPointer : Basis
+  OnValue : Basis
+
+abbrev mutual
+  pub basis_of : Lvalue → Basis
+  basis_of (lvalue kind line node) = node_basis node
+
+  pub node_basis : LvalueNode → Basis
+  node_basis (automatic x) = OnName
+  node_basis (static n) = OnName
+  node_basis (deref a) = OnPointer
+  node_basis (index form size a b) = OnPointer
+  node_basis (member p offset size) = basis_of p
+  node_basis (arrow a offset size) = OnPointer
+  node_basis (member_of_value a offset size) = OnValue
+  node_basis (parenthesized_lvalue p) = basis_of p
+
+abbrev pub signature_in : List Signature → ℕ → Signature
+signature_in list n = get_or list n no_signature
+
+-- what can be named outside all functions
+abbrev pub file_scope : Program → Scope
+file_scope p = scope_in p [] [] Void
+
+-- states
+
+-- an object that a name is of
+pub record IsHeld (objects : Objects) (n : ℕ) (kind : Kind) : Type 0 where
+  pub made : n < length objects
+  pub live : (object_at objects n).is_live ≡ true
+  pub held : is_allocated (object_at objects n).storage ≡ false
+  pub size : (object_at objects n).size ≡ size_of_kind kind
+
+-- the home of a variable that is an object
+pub record HasHome (frame : List Home) (objects : Objects) (x : ℕ) (kind : Kind) : Type 0 where
+  pub object : ℕ
+  pub home : get_or frame x NoObject ≡ InObject object
+  pub held : IsHeld objects object kind
+
+abbrev pub AreLow : Objects → Type 0
+AreLow objects = (n : ℕ) → (object_at objects n).address + (object_at objects n).size ≤ 1610612736
+
+abbrev pub AreTagged : List Value → Objects → Type 0
+AreTagged values objects = (x : ℕ) → IsSoundTag objects (get_or values x (integer 0)).tag
+
+-- the names of a function, and the address at which automatic objects end and allocated ones begin
+pub record Context : Type 0 where
+  pub scope : Scope
+  pub boundary : ℕ
+
+pub record IsGoodBy (sc : Context) (objects : Objects) (frame : List Home) (values : List Value) (accesses : List Access) (stacked : ℕ) : Type 0 where
+  pub kept : IsKept objects accesses
+  pub low : AreLow objects
+  pub statics : (n : ℕ) (kind : Kind) → static_kind sc.scope.statics n ≡ Some kind → IsHeld objects n kind
+  pub homes : (x : ℕ) (kind : Kind) → object_kind sc.scope.variables x ≡ Some kind → HasHome frame objects x kind
+  pub plain : AreTagged values objects
+  pub separate : AreSeparate sc.boundary stacked objects
+
+abbrev pub IsGood : Context → State → Type 0
+IsGood sc s = IsGoodBy sc s.objects s.frame s.plain s.accesses s.stacked
+
+abbrev pub EndsMade : (old new : Objects) → Type 0
+EndsMade old new = (n : ℕ) → length old ≤ n → (object_at new n).is_live ≡ true → is_allocated (object_at new n).storage ≡ true
+
+-- a good state is left for another, in which the same names are of the same objects
+pub record Leaves (sc : Context) (s s' : State) : Type 0 where
+  pub good : IsGood sc s'
+  pub lives : LivesOn s.objects s'.objects
+  pub frame : s'.frame ≡ s.frame
+  pub ended : EndsMade s.objects s'.objects
+
+-- where a run ends or pauses, objects and accesses are kept
+pub record Stops (old : Objects) (s' : State) : Type 0 where
+  pub kept : IsKept s'.objects s'.accesses
+  pub low : AreLow s'.objects
+  pub lives : LivesOn old s'.objects
+  pub apart : AreDisjoint s'.objects
+
+abbrev pub After : {A : Type 0} → Context → State → (A → Objects → Type 0) → Outcome A → Type 0
+After sc s Q (Gives a s') = Leaves sc s s' × Q a s'.objects
+After sc s Q (Ended e s') = Stops s.objects s'
+After sc s Q (Paused s') = Stops s.objects s'
+
+pub record Sure {A : Type 0} (sc : Context) (P : Objects → Type 0) (r : Run A) (Q : A → Objects → Type 0) : Type 0 where
+  pub by : (s : State) → IsGood sc s → P s.objects → After sc s Q (r s)
+
+-- nothing is known
+abbrev pub Any : Objects → Type 0
+Any objects = Unit {0}
+
+abbrev pub IsTagged : Value → Objects → Type 0
+IsTagged v objects = IsSoundTag objects v.tag
+
+-- contents are sound, and have some bytes from an offset on
+pub record HasContents (size offset : ℕ) (c : ObjectState) (objects : Objects) : Type 0 where
+  pub sound : IsSoundObject objects c
+  pub room : offset + size ≤ c.size
+
+-- the value of a structure of some bytes: a pointer to them, or its contents
+abbrev pub StructureIs : (size : ℕ) → Option ObjectState → Value → Objects → Type 0
+StructureIs n None v o = IsDirect o v n
+StructureIs n (Some c) v o = HasContents n v.word c o
+
+abbrev pub OfKind : Kind → Rvalue → Objects → Type 0
+OfKind Void v o = v.contents ≡ None
+OfKind (OfScalar k) v o = v.contents ≡ None
+OfKind (Structure n) v o = StructureIs n v.contents v.value o
+OfKind (Array n) v o = v.contents ≡ None
+
+-- what an expression of a kind gives: its tag is sound, and of a structure its bytes are there
+pub record ValueIs (kind : Kind) (v : Rvalue) (objects : Objects) : Type 0 where
+  pub tag : IsSoundTag objects v.value.tag
+  pub structure : OfKind kind v objects
+
+abbrev pub TakenIs : (size : ℕ) → Option ObjectState → Value → Objects → Type 0
+TakenIs n None v o = ⊥
+TakenIs n (Some c) v o = HasContents n v.word c o
+
+abbrev pub TakenOf : Kind → Rvalue → Objects → Type 0
+TakenOf Void v o = v.contents ≡ None
+TakenOf (OfScalar k) v o = v.contents ≡ None
+TakenOf (Structure n) v o = TakenIs n v.contents v.value o
+TakenOf (Array n) v o = v.contents ≡ None
+
+pub record ArgumentIs (kind : Kind) (v : Rvalue) (objects : Objects) : Type 0 where
+  pub tag : IsSoundTag objects v.value.tag
+  pub structure : TakenOf kind v objects
+
+abbrev pub ArgumentsAre : List Kind → List Rvalue → Objects → Type 0
+ArgumentsAre [] [] o = Unit {0}
+ArgumentsAre [] (v ∷ vs) o = ⊥
+ArgumentsAre (k ∷ ks) [] o = ⊥
+ArgumentsAre (k ∷ ks) (v ∷ vs) o = ArgumentIs k v o × ArgumentsAre ks vs o
+
+abbrev pub RvalueReach : Basis → (size : ℕ) → Option ObjectState → Value → Objects → Type 0
+RvalueReach OnName size c v o = (c ≡ None) × IsNamed o v size
+RvalueReach OnPointer size c v o = c ≡ None
+RvalueReach OnValue size c v o = StructureIs size c v o
+
+pub record LvalueIs (b : Basis) (kind : Kind) (q : Rvalue) (objects : Objects) : Type 0 where
+  pub tag : IsSoundTag objects q.value.tag
+  pub reach : RvalueReach b (size_of_kind kind) q.contents q.value objects
+
+-- the value of a return is a result of the function's kind
+abbrev pub CompletionIs : (result : Kind) → Completion → Objects → Type 0
+CompletionIs result Normal o = Unit {0}
+CompletionIs result Broken o = Unit {0}
+CompletionIs result Continued o = Unit {0}
+CompletionIs result (Returned v) o = ArgumentIs result v o
+
+-- what a function of a number takes and gives
+abbrev pub taking : Context → ℕ → List Kind
+taking sc f = (signature_in sc.scope.functions f).parameters
+
+abbrev pub giving : Context → ℕ → Kind
+giving sc f = (signature_in sc.scope.functions f).result
+
+-- what the calls of an environment do
+pub record Calling (sc : Context) (env : Env) : Type 0 where
+  pub call : (f : ℕ) (vs : List Rvalue) (line : ℕ) → Sure sc (ArgumentsAre (taking sc f) vs) (env.call f vs line) (ArgumentIs (giving sc f))
+  pub library : (r : Routine) (vs : List Value) (line : ℕ) → Sure sc (AreTagged vs) (routine env.setting r vs line) IsTagged
+  pub print : (format : List ℕ) (vs : List Value) (line : ℕ) → Sure sc (AreTagged vs) (print_formatted format vs line) IsTagged
+  -- a function that has a type takes and gives what the type says
+  pub typed : (f type : ℕ) → has_type (header_at env.setting.functions f) type ≡ true → signature_in sc.scope.functions f ≡ signature_in sc.scope.types type
+
+-- where some variables can be named
+abbrev pub context_of : Scope → (boundary : ℕ) → (all variables : List Variable) → Context
+context_of base boundary all variables = record { scope = record base { all = all; variables = variables }; boundary = boundary }
+
+-- calls keep objects sound, whatever variables have homes; and all of the object stack lies below the heap
+pub record Inside (base : Scope) (boundary : ℕ) (env : Env) : Type 0 where
+  pub calling : (variables : List Variable) → Calling (context_of base boundary env.variables variables) env
+  pub most : stack_end env.setting ≤ boundary
+  pub low : boundary ≤ 1610612736
+
+-- blocks
+
+-- some homes are in objects with numbers from one on
+abbrev pub AllFrom : (n : ℕ) → List Home → Type 0
+AllFrom n [] = Unit {0}
+AllFrom n (NoObject ∷ hs) = AllFrom n hs
+AllFrom n (InObject k ∷ hs) = (n ≤ k) × AllFrom n hs
+
+abbrev pub IsIn : (n : ℕ) → List Home → Type 0
+IsIn n [] = ⊥
+IsIn n (NoObject ∷ hs) = IsIn n hs
+IsIn n (InObject k ∷ hs) = (n ≡ k) ⊎ IsIn n hs
+
+-- objects that are made, and still live, are blocks of the heap, or in one of some homes
+abbrev pub EndsBut : (old new : Objects) → List Home → Type 0
+EndsBut old new homes = (n : ℕ) → length old ≤ n → (object_at new n).is_live ≡ true → (is_allocated (object_at new n).storage ≡ true) ⊎ IsIn n homes
+
+-- a block that declares some variables is entered: these have homes too, in objects that are new
+pub record IsEntered (base : Scope) (boundary : ℕ) (all vars : List Variable) (numbers : List ℕ) (s : State) (b : Block) (s' : State) : Type 0 where
+  pub block : b ≡ record { homes = b.homes; frame = s.frame; stacked = s.stacked }
+  pub good : IsGood (context_of base boundary all (opened numbers 0 all vars)) s'
+  pub lives : LivesOn s.objects s'.objects
+  pub new : AllFrom (length s.objects) b.homes
+  pub ends : EndsBut s.objects s'.objects b.homes
+
+abbrev pub EntersBy : Scope → (boundary : ℕ) → (all vars : List Variable) → (numbers : List ℕ) → State → Outcome Block → Type 0
+EntersBy base boundary all vars numbers s (Gives b s') = IsEntered base boundary all vars numbers s b s'
+EntersBy base boundary all vars numbers s (Ended e s') = Stops s.objects s'
+EntersBy base boundary all vars numbers s (Paused s') = ⊥

@@ -1,0 +1,14 @@
+mod JudgedAfterOperand
+mod JudgedAfterRightSide
+mod LinesOfAccesses
+mod Order
+mod OrderAssign
+mod OrderAssignRead
+mod OrderCompound
+mod OrderOperands
+mod Parentheses
+mod ParenthesizedLvalues
+mod ReportLine
+mod StepCounts
+mod StepObjects
+mod StepPlain

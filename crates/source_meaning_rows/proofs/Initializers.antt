@@ -1,0 +1,9 @@
+mod ArrayInitializers
+mod DeclarationWithoutInitializer
+mod Global
+mod GlobalPointers
+mod InitializerAccesses
+mod InitializerAgain
+mod InitializerTags
+mod StaticLocals
+mod StaticPlace

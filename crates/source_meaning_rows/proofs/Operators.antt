@@ -1,0 +1,16 @@
+mod CharConversions
+mod CompoundOperators
+mod ConditionalTypes
+mod DivideAssignByZero
+mod DivideByZero
+mod Enumeration
+mod ImplicitConversions
+mod IntConversions
+mod LeastByMinusOne
+mod LeastQuotients
+mod MixedSigns
+mod Operators
+mod Shifts
+mod SizeofIsConstant
+mod StoredConversions
+mod UsualConversions

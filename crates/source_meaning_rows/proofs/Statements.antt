@@ -1,0 +1,13 @@
+mod CommaAndVoid
+mod Endless
+mod IfCounts
+mod LoopCounts
+mod NestedLoops
+mod NestedSwitch
+mod ReturnFromLoops
+mod SkippedOperands
+mod SwitchDefaultInTheMiddle
+mod SwitchFallsThrough
+mod SwitchLabels
+mod SwitchUnsigned
+mod SwitchWithoutMatch

@@ -24,17 +24,13 @@ spaces_begin = 0x40000000
 abbrev pub code_size : ℕ
 code_size = 0x800000
 
--- whether an address is one of compiled code, and whether it is one of object space
+-- whether an address is one of compiled code, and whether it is one of object space: the accesses of a program's own are
+-- those that instructions of compiled code make of object space
 abbrev pub is_code_address : ℕ → Bool
 is_code_address a = nat_le code_begin a && nat_lt a (code_begin + code_size)
 
 abbrev pub is_object_address : ℕ → Bool
 is_object_address a = nat_le objects_begin a && nat_lt a spaces_begin
-
--- whether an access is the program's own: of object space, by an instruction of compiled code. Those of the runtime,
--- whose instructions stand below, and those of its spaces are not.
-abbrev pub is_program_access : (pc address : ℕ) → Bool
-is_program_access pc address = is_code_address pc && is_object_address address
 
 -- what a map depends on: the budgets, and the bytes of the objects of static storage duration
 pub record MapSizes : Type 0 where

@@ -6,7 +6,7 @@ use Rattle.obj_memory.specs.Heap.{rounded_up}
 use Rattle.c_tree.specs.declared.expression.Kind.{Kind}
 use Rattle.c_tree.specs.declared.expression.Kind.TheVariants as kind
 use Rattle.c_tree.specs.Tree.{Expression, binary, offset_by, difference, assign, assign_plain, compound, change_plain, call, call_through, library, printf, index, kinds_of}
-use Rattle.c_tree.specs.Statements.{Content, value_content, literal_content, Part, Statements}
+use Rattle.c_tree.specs.Statements.{Content, value_content, literal_content}
 use Rattle.c_tree.specs.Programs.{Function, StaticObject}
 use Rattle.c_tree.specs.Walk.{Visited, visited, visited_lvalue, walk, sum_of, greatest}
 use Rattle.c_tree.specs.Blocks.{each_contents}

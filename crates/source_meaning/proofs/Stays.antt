@@ -1,6 +1,6 @@
 -- An expression that does not assign a plain variable leaves it as it was, and keeps all homes.
 use Rattle.source_meaning.specs.Staying.{IsKeptAt, KeptBy, Stays}
-use Rattle.std.proofs.Common.{◌≡◌, ℕ, zero, suc, ◌+◌, List, [], ◌∷◌, Bool, true, false, ◌||◌, ◌==◌, Option, Some, None, get_or, map, refl, sym, ap, ◌∙◌, nat_lt}
+use Rattle.std.proofs.Common.{◌≡◌, ℕ, zero, suc, ◌+◌, List, [], ◌∷◌, Bool, true, false, ◌||◌, ◌==◌, Option, Some, None, get_or, refl, sym, ap, ◌∙◌, nat_lt}
 use Rattle.std.proofs.lemmas.Bool.{eqb-false}
 use Rattle.std.proofs.lemmas.List.{get_or-set_other}
 use Rattle.std.specs.Prelude.{not}
@@ -15,7 +15,7 @@ use Rattle.c_tree.specs.declared.expression.Kind.{Kind}
 use Rattle.obj_memory.specs.declared.value.Scalar.{Scalar}
 use Rattle.c_tree.specs.Tree.{Expression, expression, Expressions, no_expressions, expressions, Lvalue, lvalue, Node, constant, function, plain, read, decay, address, parenthesized, deref_function, address_function, cast, convert, unary, binary, offset_by, difference, logical_and, logical_or, comma, conditional, assign, assign_plain, compound, change_plain, step, step_plain, call, call_through, library, printf, LvalueNode, automatic, static, deref, index, member, arrow, member_of_value, parenthesized_lvalue, kind_of, line_of, lvalue_kind, lvalue_line}
 use Rattle.c_tree.specs.declared.program.Variable.{Variable}
-use Rattle.c_tree.specs.Programs.{FunctionType, Function, StaticObject, Program}
+use Rattle.c_tree.specs.Programs.{Function}
 use Rattle.source_meaning.specs.Statements.{Completion}
 use Rattle.source_meaning.specs.State.{State, Rvalue, Outcome, Gives, Ended, Paused, Run, on, ◌>>=◌, ◌>>◌, done, pause, choose, read_state, change, Setting, Env}
 use Rattle.source_meaning.specs.Actions.{integer, is_zero, scalar_of, integer_type, converted, offset_value, difference_value, updated, plain_value, set_plain, update_plain, given, home_pointer, each_value, begin_turn}

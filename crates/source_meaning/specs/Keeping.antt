@@ -9,7 +9,6 @@ use Rattle.obj_memory.specs.Heap.{is_allocated}
 use Rattle.obj_memory.specs.Sound.{IsSound, AreDisjoint, Continues}
 use Rattle.c_tree.specs.declared.expression.Kind.{Kind}
 use Rattle.c_tree.specs.declared.expression.Kind.TheVariants.{Void, Scalar as OfScalar, Structure, Array}
-use Rattle.c_tree.specs.Programs.{FunctionType}
 use Rattle.source_meaning.specs.State.{State}
 
 -- the bytes of an access are bytes of one object

@@ -12,3 +12,4 @@ pub mod Room
 pub mod Valid
 pub mod TypesAgree
 pub mod ValidProgram
+pub mod Assigning

@@ -51,10 +51,10 @@ module _ {y : ℕ} where
   pub stays_local : {A : Type 0} {r : Run A} → IsLocal r → Stays y r
   stays_local {r = r} h = record { stays = λ s. local_by y s (r s) (h.keeps s) }
 
-  stays_done : {A : Type 0} {a : A} → Stays y (done a)
+  pub stays_done : {A : Type 0} {a : A} → Stays y (done a)
   stays_done = record { stays = λ s. record { plain = refl; frame = refl } }
 
-  stays_read : {A : Type 0} {f : State → A} → Stays y (read_state f)
+  pub stays_read : {A : Type 0} {f : State → A} → Stays y (read_state f)
   stays_read = record { stays = λ s. record { plain = refl; frame = refl } }
 
   give_stays : {v : Value} → Stays y (give v)
@@ -69,21 +69,21 @@ module _ {y : ℕ} where
   stays_counted_as : {A : Type 0} {r : Run A} (n : ℕ) → Stays y r → Stays y (counted_as n r)
   stays_counted_as n h = stays_on (stays_local (local_tally n)) (λ _. h)
 
-  stays_counted : {A : Type 0} {r : Run A} → Stays y r → Stays y (counted r)
+  pub stays_counted : {A : Type 0} {r : Run A} → Stays y r → Stays y (counted r)
   stays_counted h = stays_on (stays_local (local_tally 1)) (λ _. h)
 
-  stays_choose : {A : Type 0} (b : Bool) {r q : Run A} → Stays y r → Stays y q → Stays y (choose b r q)
+  pub stays_choose : {A : Type 0} (b : Bool) {r q : Run A} → Stays y r → Stays y q → Stays y (choose b r q)
   stays_choose true h g = h
   stays_choose false h g = g
 
-stays_set : (x y : ℕ) (v : Value) → (x == y) ≡ false → Stays y (set_plain x v)
+pub stays_set : (x y : ℕ) (v : Value) → (x == y) ≡ false → Stays y (set_plain x v)
 stays_set x y v other = record { stays = λ s. record { plain = get_or-set_other s.plain x y v (integer 0) (λ e. eqb-false x y other (sym e)); frame = refl } }
 
 stays_update : (x y : ℕ) → (x == y) ≡ false → (u : Update) (k : Scalar) (right : Value) (at : ℕ) (f : Fixity) → Stays y (update_plain x (updated u k right at) f)
 stays_update x y other u k right at f =
     stays_on (stays_read {f = plain_value x}) (λ old. stays_on (stays_local (local_updated u k right at old)) (λ new. stays_on (stays_set x y new other) (λ _. stays_done {a = given f old new})))
 
-neither : (a b : Bool) → (a || b) ≡ false → (a ≡ false) × (b ≡ false)
+pub neither : (a b : Bool) → (a || b) ≡ false → (a ≡ false) × (b ≡ false)
 neither true b e = absurd (cc)
 neither false b e = (refl, e)
 
@@ -199,7 +199,7 @@ turn_stays : (y : ℕ) (b : Bool) → Stays y (choose b (change (λ s. record s 
 turn_stays y true = record { stays = λ s. record { plain = refl; frame = refl } }
 turn_stays y false = record { stays = λ s. tt }
 
-begin_stays : (y limit : ℕ) → Stays y (begin_turn limit)
+pub begin_stays : (y limit : ℕ) → Stays y (begin_turn limit)
 begin_stays y limit = record { stays = λ s. (turn_stays y (nat_lt s.turns limit)).stays s }
 
 enter_stays : (y : ℕ) (env : Env) (o : Option Function) (vs : List Rvalue) (line : ℕ) → Stays y (enter_found env o vs line)

@@ -24,8 +24,8 @@ header_of f = record {
   room = f.room;
 }
 
--- all variables of a function in the order of their numbers, and the same of which only those are objects that belong to the block of
--- its body, objects among the parameters too
+-- all variables of a function in the order of their numbers, and the same of which only those are objects that belong
+-- to the block of its body, objects among the parameters too
 abbrev pub variables_of : Header → List Variable
 variables_of f = f.parameters ++ f.variables
 

@@ -70,8 +70,8 @@ pub fn runs_keep_objects_sound()
         → IsSoundState (state_of (outcome p budgets input t)) }
 {}
 
-/// An access that is made is, at that moment, of bytes of a live object: one that is judged, through a pointer whose tag
-/// is sound, and one that names its object, where that is live.
+/// An access that is made is, at that moment, of bytes of a live object: one that is judged, through a pointer whose
+/// tag is sound, and one that names its object, where that is live.
 pub fn accesses_are_of_live_objects()
     ensures judged { (size : ℕ) (p : Value) (line : ℕ) (s s' : State) (place : Place) → IsSoundTag s.objects p.tag
         → located true size p line s ≡ Gives place s' → IsAllowed s.objects p size place }
@@ -128,9 +128,9 @@ pub fn calls_do_the_same_at_any_work()
         → RunsAlike (calls functions g limit n f vs line) }
 {}
 
-/// From a good state every expression, lvalue and list of arguments of a valid program comes to good states with a sound
-/// value, and so does an initializer: at each step, also within a turn. An lvalue that rests on a name is of a live
-/// object.
+/// From a good state every expression, lvalue and list of arguments of a valid program comes to good states with a
+/// sound value, and so does an initializer: at each step, also within a turn. An lvalue that rests on a name is of a
+/// live object.
 pub fn expressions_keep_states_good()
     ensures value { (sc : Context) (env : Env) → Calling sc env → (e : Expression) → is_valid sc.scope e ≡ true
         → Sure sc Any (evaluate env e) (ValueIs (kind_of e)) }
@@ -174,8 +174,8 @@ pub fn judgement_is_two_tests()
     ensures { (size : ℕ) (v : Value) (line : ℕ) (s : State) → located true size v line s ≡ tested size v line s }
 {}
 
-/// A block that is entered from a good state is ended in it, or leaves a good one in which its variables have homes too; where
-/// it is left, the names around it are good again.
+/// A block that is entered from a good state is ended in it, or leaves a good one in which its variables have homes
+/// too; where it is left, the names around it are good again.
 pub fn blocks_keep_states_good()
     ensures enter { (base : Scope) (boundary : ℕ) (all vars : List Variable) (numbers : List ℕ) (g : Setting)
         → stack_end g ≤ boundary → boundary ≤ 1610612736 → (line : ℕ) (s : State)

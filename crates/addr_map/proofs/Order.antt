@@ -2,8 +2,10 @@
 use Rattle.std.proofs.Common.{◌≡◌, ℕ, zero, suc, ◌+◌, ◌%◌, ◌<◌, ◌≤◌, ◌⊎◌, inl, inr, refl, ap, sym, ◌∙◌, subst, arith}
 use Rattle.std.proofs.Math.Nat.{eq-or-lt_of_le}
 use Rattle.addr_map.specs.declared.region.Region.{Region}
-use Rattle.addr_map.specs.declared.region.Region.TheVariants.{Rows, Code, Globals, Stack, Heap, Shadow, Locks, FreeLocks, Blocks, Calls, Cells}
-use Rattle.addr_map.specs.Places.{MapSizes, AreMapped, whole_pages, order_of, region_size, region_start, region_end, code_begin, code_size, objects_begin, spaces_begin}
+use Rattle.addr_map.specs.declared.region.Region.TheVariants.{Rows, Code, Globals, Stack, Heap, Shadow, Locks}
+use Rattle.addr_map.specs.declared.region.Region.TheVariants.{FreeLocks, Blocks, Calls, Cells}
+use Rattle.addr_map.specs.Places.{MapSizes, AreMapped, whole_pages, order_of, region_size, region_start, region_end}
+use Rattle.addr_map.specs.Places.{code_begin, code_size, objects_begin, spaces_begin}
 
 pages_below : (n bound : ℕ) → n + 4095 ≤ bound → whole_pages n ≤ bound
 pages_below n bound h = omega (arith, h)
@@ -169,7 +171,8 @@ before_next m h Blocks lt = omega arith
 before_next m h Calls lt = omega arith
 before_next m h Cells lt = absurd (omega arith)
 
-at_in_order : (m : MapSizes) → AreMapped m → (i j : ℕ) → i < j → j ≤ 10 → region_end m (region_at i) ≤ region_start m (region_at j)
+at_in_order : (m : MapSizes) → AreMapped m → (i j : ℕ) → i < j → j ≤ 10
+    → region_end m (region_at i) ≤ region_start m (region_at j)
 at_in_order m h i zero lt le = absurd (omega arith)
 at_in_order m h i (suc j) lt le = go (eq-or-lt_of_le ij) (λ below. at_in_order m h i j below (omega arith))
   where
@@ -182,11 +185,13 @@ at_in_order m h i (suc j) lt le = go (eq-or-lt_of_le ij) (λ below. at_in_order 
         subst (λ r. region_end m (region_at j) ≤ region_start m r) (next_at j small)
         (before_next m h (region_at j) (omega (arith, order_at j small, small)))
 
-    go : (i ≡ j) ⊎ (i < j) → (i < j → region_end m (region_at i) ≤ region_start m (region_at j)) → region_end m (region_at i) ≤ region_start m (region_at (suc j))
+    go : (i ≡ j) ⊎ (i < j) → (i < j → region_end m (region_at i) ≤ region_start m (region_at j))
+        → region_end m (region_at i) ≤ region_start m (region_at (suc j))
     go (inl same) earlier = subst (λ k. region_end m (region_at k) ≤ region_start m (region_at (suc j))) (sym same) step
     go (inr below) earlier = omega (arith, earlier below, step)
 
-pub in_order : (m : MapSizes) → AreMapped m → (r s : Region) → order_of r < order_of s → region_end m r ≤ region_start m s
+pub in_order : (m : MapSizes) → AreMapped m → (r s : Region) → order_of r < order_of s
+    → region_end m r ≤ region_start m s
 in_order m h r s lt =
     let at = at_in_order m h (order_of r) (order_of s) lt (order_small s) in
     subst (λ q. region_end m q ≤ region_start m s) (region_of_order r)
@@ -203,8 +208,10 @@ start_whole m h Shadow = refl
 start_whole m h Locks = omega (arith, size_whole m h Shadow)
 start_whole m h FreeLocks = omega (arith, size_whole m h Shadow, size_whole m h Locks)
 start_whole m h Blocks = omega (arith, size_whole m h Shadow, size_whole m h Locks, size_whole m h FreeLocks)
-start_whole m h Calls = omega (arith, size_whole m h Shadow, size_whole m h Locks, size_whole m h FreeLocks, size_whole m h Blocks)
-start_whole m h Cells = omega (arith, size_whole m h Shadow, size_whole m h Locks, size_whole m h FreeLocks, size_whole m h Blocks, size_whole m h Calls)
+start_whole m h Calls = omega
+    (arith, size_whole m h Shadow, size_whole m h Locks, size_whole m h FreeLocks, size_whole m h Blocks)
+start_whole m h Cells = omega
+    (arith, size_whole m h Shadow, size_whole m h Locks, size_whole m h FreeLocks, size_whole m h Blocks, size_whole m h Calls)
 
 pub starts_whole : (m : MapSizes) → AreMapped m → (r : Region) → region_start m r % 4096 ≡ 0
 starts_whole = start_whole
@@ -224,7 +231,8 @@ unfolding region_at
 ends_low m h r = go (eq-or-lt_of_le (order_small r))
   where
     go : (order_of r ≡ 10) ⊎ (order_of r < 10) → region_end m r < 0x60000000
-    go (inl last) = subst (λ q. region_end m q < 0x60000000) (sym (ap region_at last) ∙ region_of_order r) (cells_low m h)
+    go (inl last) = subst (λ q. region_end m q < 0x60000000) (sym (ap region_at last) ∙ region_of_order r)
+        (cells_low m h)
     go (inr before) = let first = in_order m h r Cells before in omega (arith, first, cells_low m h)
 
 -- object space holds the objects and nothing else
@@ -240,18 +248,25 @@ from : (m : MapSizes) → AreMapped m → (r s : Region) → order_of r ≤ orde
 from m h r s le = go (eq-or-lt_of_le le)
   where
     go : (order_of r ≡ order_of s) ⊎ (order_of r < order_of s) → region_start m r ≤ region_start m s
-    go (inl same) = subst (λ q. region_start m r ≤ region_start m q) (sym (region_of_order r) ∙ ap region_at same ∙ region_of_order s) (omega arith)
+    go (inl same) = subst (λ q. region_start m r ≤ region_start m q)
+        (sym (region_of_order r) ∙ ap region_at same ∙ region_of_order s) (omega arith)
     go (inr before) = omega (arith, in_order m h r s before)
 
-pub objects_inside : (m : MapSizes) → AreMapped m → (r : Region) → order_of Globals ≤ order_of r → order_of r ≤ order_of Heap
+pub objects_inside : (m : MapSizes) → AreMapped m → (r : Region) → order_of Globals ≤ order_of r
+    → order_of r ≤ order_of Heap
     → (objects_begin ≤ region_start m r) × (region_end m r ≤ spaces_begin)
-objects_inside m h r least greatest =
-    (omega (arith, from m h Globals r least, globals_first m), omega (arith, in_order m h r Shadow (omega arith), spaces_first m))
+objects_inside m h r least greatest = (
+  omega (arith, from m h Globals r least, globals_first m),
+  omega
+      (arith, in_order m h r Shadow (omega arith), spaces_first m),
+)
 
-pub others_before : (m : MapSizes) → AreMapped m → (r : Region) → order_of r < order_of Globals → region_end m r ≤ objects_begin
+pub others_before : (m : MapSizes) → AreMapped m → (r : Region) → order_of r < order_of Globals
+    → region_end m r ≤ objects_begin
 others_before m h r lt = omega (arith, in_order m h r Globals lt, globals_first m)
 
-pub others_behind : (m : MapSizes) → AreMapped m → (r : Region) → order_of Heap < order_of r → spaces_begin ≤ region_start m r
+pub others_behind : (m : MapSizes) → AreMapped m → (r : Region) → order_of Heap < order_of r
+    → spaces_begin ≤ region_start m r
 others_behind m h r lt = omega (arith, from m h Shadow r (omega arith), spaces_first m)
 
 pub code_fixed : (m : MapSizes) → (region_start m Code ≡ code_begin) × (region_end m Code ≡ code_begin + code_size)

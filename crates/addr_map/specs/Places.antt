@@ -2,10 +2,12 @@
 use Rattle.std.specs.Prelude.{ℕ, ◌+◌, ◌-◌, ◌*◌, ◌/◌, ◌≤◌, Bool, ◌&&◌, nat_lt, nat_le, if◌then◌else◌, Result, Ok, Err}
 use Rattle.sb_base.specs.Budgets.{BudgetSizes, AreInRange}
 use Rattle.addr_map.specs.declared.region.Region.{Region}
-use Rattle.addr_map.specs.declared.region.Region.TheVariants.{Rows, Code, Globals, Stack, Heap, Shadow, Locks, FreeLocks, Blocks, Calls, Cells}
+use Rattle.addr_map.specs.declared.region.Region.TheVariants.{Rows, Code, Globals, Stack, Heap, Shadow, Locks}
+use Rattle.addr_map.specs.declared.region.Region.TheVariants.{FreeLocks, Blocks, Calls, Cells}
 use Rattle.addr_map.specs.declared.map.TooLarge.{TooLarge}
 
--- the first address of the functions' jump rows, of compiled code, of object space, and of the runtime's spaces behind it
+-- the first address of the functions' jump rows, of compiled code, of object space, and of the runtime's spaces
+-- behind it
 abbrev pub functions_begin : ℕ
 functions_begin = 0x10000
 
@@ -29,8 +31,8 @@ is_code_address a = nat_le code_begin a && nat_lt a (code_begin + code_size)
 abbrev pub is_object_address : ℕ → Bool
 is_object_address a = nat_le objects_begin a && nat_lt a spaces_begin
 
--- whether an access is the program's own: of object space, by an instruction of compiled code. Those of the runtime, whose
--- instructions stand below, and those of its spaces are not.
+-- whether an access is the program's own: of object space, by an instruction of compiled code. Those of the runtime,
+-- whose instructions stand below, and those of its spaces are not.
 abbrev pub is_program_access : (pc address : ℕ) → Bool
 is_program_access pc address = is_code_address pc && is_object_address address
 

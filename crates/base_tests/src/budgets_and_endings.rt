@@ -33,44 +33,45 @@ fn size_of(budgets: Budgets, which: Budget) -> u64 {
     }
 }
 
+// A size of a budget, and whether it is allowed.
+const SIZES: [(Budget, u64, bool); 25] = [
+    (Budget::Heap, 0, false),
+    (Budget::Heap, 4095, false),
+    (Budget::Heap, 4096, true),
+    (Budget::Heap, 4097, false),
+    (Budget::Heap, 16_777_216, true),
+    (Budget::Heap, 16_781_312, false),
+    (Budget::Stack, 0, false),
+    (Budget::Stack, 4095, false),
+    (Budget::Stack, 4096, true),
+    (Budget::Stack, 4_194_303, false),
+    (Budget::Stack, 4_194_304, true),
+    (Budget::Stack, 4_198_400, false),
+    (Budget::Calls, 0, false),
+    (Budget::Calls, 4095, false),
+    (Budget::Calls, 4096, true),
+    (Budget::Calls, 10_000, false),
+    (Budget::Calls, 16_777_216, true),
+    (Budget::Calls, 16_781_312, false),
+    (Budget::Blocks, 0, false),
+    (Budget::Blocks, 1, true),
+    (Budget::Blocks, 65_536, true),
+    (Budget::Blocks, 65_537, false),
+    (Budget::Keys, 0, true),
+    (Budget::Keys, 4_611_686_018_427_387_904, true),
+    (Budget::Keys, 4_611_686_018_427_387_905, false),
+];
+
 #[test]
 fn judges_each_size(rt: HostRuntime) {
-    let rows = [
-        (Budget::Heap, 0, false),
-        (Budget::Heap, 4095, false),
-        (Budget::Heap, 4096, true),
-        (Budget::Heap, 4097, false),
-        (Budget::Heap, 16_777_216, true),
-        (Budget::Heap, 16_781_312, false),
-        (Budget::Stack, 0, false),
-        (Budget::Stack, 4095, false),
-        (Budget::Stack, 4096, true),
-        (Budget::Stack, 4_194_303, false),
-        (Budget::Stack, 4_194_304, true),
-        (Budget::Stack, 4_198_400, false),
-        (Budget::Calls, 0, false),
-        (Budget::Calls, 4095, false),
-        (Budget::Calls, 4096, true),
-        (Budget::Calls, 10_000, false),
-        (Budget::Calls, 16_777_216, true),
-        (Budget::Calls, 16_781_312, false),
-        (Budget::Blocks, 0, false),
-        (Budget::Blocks, 1, true),
-        (Budget::Blocks, 65_536, true),
-        (Budget::Blocks, 65_537, false),
-        (Budget::Keys, 0, true),
-        (Budget::Keys, 4_611_686_018_427_387_904, true),
-        (Budget::Keys, 4_611_686_018_427_387_905, false),
-    ];
-    for (which, given, allowed) in rows {
+    for (row, &(which, given, allowed)) in SIZES.iter().enumerate() {
         match with_size(which, given) {
-            Ok(budgets) => {
-                assert!(rt; allowed, "{which:?} {given}");
-                assert_eq!(rt; size_of(budgets, which), given);
-            }
+            Ok(budgets) => assert!(rt; allowed && size_of(budgets, which) == given, "row {row}"),
             Err(fault) => {
-                assert!(rt; !allowed, "{which:?} {given}");
-                assert_eq!(rt; fault, BudgetFault { which, given });
+                assert!(rt;
+                    !allowed && fault == BudgetFault { which, given },
+                    "row {row}"
+                );
             }
         }
     }
@@ -87,18 +88,16 @@ fn names_the_first_fault(rt: HostRuntime) {
     ];
     for (which, heap, stack, calls, blocks) in rows {
         let result = Budgets::new(heap, stack, calls, blocks, u64::MAX);
-        assert_eq!(rt; result.map_err(|fault| fault.which), Err(which));
+        assert!(rt; result.map_err(|fault| fault.which) == Err(which));
     }
 }
 
 #[test]
 fn has_default_sizes(rt: HostRuntime) {
     let budgets = Budgets::default();
-    assert_eq!(rt; budgets.heap(), 4_194_304);
-    assert_eq!(rt; budgets.stack(), 1_048_576);
-    assert_eq!(rt; budgets.calls(), 4_194_304);
-    assert_eq!(rt; budgets.blocks(), 16_384);
-    assert_eq!(rt; budgets.keys(), 4_611_686_018_427_387_904);
+    assert!(rt; budgets.heap() == 4_194_304 && budgets.stack() == 1_048_576);
+    assert!(rt; budgets.calls() == 4_194_304 && budgets.blocks() == 16_384);
+    assert!(rt; budgets.keys() == 4_611_686_018_427_387_904);
 }
 
 #[test]
@@ -160,10 +159,10 @@ fn ends_with_code_and_report(rt: HostRuntime) {
         ),
     ];
     for (ending, code, report) in rows {
-        assert_eq!(rt; ending.code(), code);
+        assert!(rt; ending.code() == code, "{report}");
         let mut text = [b'.'; 64];
         let count = ending.report_into(&mut text);
-        assert_eq!(rt; &text[..count], report.as_bytes());
+        assert!(rt; &text[..count] == report.as_bytes(), "{report}");
         assert!(rt; text[count..].iter().all(|byte| *byte == b'.'), "{report}");
     }
 }

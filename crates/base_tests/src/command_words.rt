@@ -1,27 +1,10 @@
-use command_line::{BudgetNumbers, Command, WordsFault, command_of};
+use command_line::{Command, WordsFault, command_of};
+use sb_base::{BudgetFault, Budgets};
 use std::test::Fail;
 
 type Answer = Result<Command<'static>, WordsFault>;
 
-const PLAIN: BudgetNumbers = BudgetNumbers {
-    heap: 4_194_304,
-    stack: 1_048_576,
-    calls: 4_194_304,
-    blocks: 16_384,
-    keys: 4_611_686_018_427_387_904,
-};
-
-const EACH: BudgetNumbers = BudgetNumbers {
-    heap: 1,
-    stack: 2,
-    calls: 3,
-    blocks: 4,
-    keys: 18_446_744_073_709_551_615,
-};
-
-const ONE_HEAP: BudgetNumbers = BudgetNumbers { heap: 5, ..PLAIN };
-
-const fn build(source: &'static str, image: &'static str, budgets: BudgetNumbers) -> Answer {
+fn build(source: &'static str, image: &'static str, budgets: Budgets) -> Answer {
     Ok(Command::Build {
         source,
         image,
@@ -29,11 +12,11 @@ const fn build(source: &'static str, image: &'static str, budgets: BudgetNumbers
     })
 }
 
-const fn run(image: &'static str, limit: u64) -> Answer {
+fn run(image: &'static str, limit: u64) -> Answer {
     Ok(Command::Run { image, limit })
 }
 
-const fn go(source: &'static str, budgets: BudgetNumbers, limit: u64) -> Answer {
+fn go(source: &'static str, budgets: Budgets, limit: u64) -> Answer {
     Ok(Command::Go {
         source,
         budgets,
@@ -41,18 +24,25 @@ const fn go(source: &'static str, budgets: BudgetNumbers, limit: u64) -> Answer 
     })
 }
 
+fn out_of_range(_fault: BudgetFault) -> &'static str {
+    "a budget is out of its range"
+}
+
 // As clap's documents say: an option stands anywhere before `--`, and once; a value that begins with
 // a hyphen is taken for an option, unless it is written after `=`.
 #[test]
 fn reads_each_line(rt: HostRuntime) -> Result<(), Fail> {
+    let plain = Budgets::default();
+    let each = Budgets::new(4096, 8192, 12_288, 4, 5).map_err(out_of_range)?;
+    let heap = Budgets::new(8192, 1_048_576, 4_194_304, 16_384, 1 << 62).map_err(out_of_range)?;
     let rows = [
-        ("build a.c a.elf", build("a.c", "a.elf", PLAIN)),
+        ("build a.c a.elf", build("a.c", "a.elf", plain)),
         (
-            "build a.c a.elf --heap 1 --stack 2 --calls 3 --blocks 4 --keys 18446744073709551615",
-            build("a.c", "a.elf", EACH),
+            "build a.c a.elf --heap 4096 --stack 8192 --calls 12288 --blocks 4 --keys 5",
+            build("a.c", "a.elf", each),
         ),
-        ("build --heap=5 a.c a.elf", build("a.c", "a.elf", ONE_HEAP)),
-        ("build a.c --heap 5 a.elf", build("a.c", "a.elf", ONE_HEAP)),
+        ("build --heap=8192 a.c a.elf", build("a.c", "a.elf", heap)),
+        ("build a.c --heap 8192 a.elf", build("a.c", "a.elf", heap)),
         ("run a.elf", run("a.elf", 1_000_000_000)),
         ("run a.elf --limit 5", run("a.elf", 5)),
         ("run --limit=5 a.elf", run("a.elf", 5)),
@@ -64,9 +54,9 @@ fn reads_each_line(rt: HostRuntime) -> Result<(), Fail> {
         ("run -- -a.elf", run("-a.elf", 1_000_000_000)),
         ("run -", run("-", 1_000_000_000)),
         ("run run", run("run", 1_000_000_000)),
-        ("go a.c", go("a.c", PLAIN, 1_000_000_000)),
-        ("go a.c --heap 5 --limit 7", go("a.c", ONE_HEAP, 7)),
-        ("go a.c --limit=7 --heap=5", go("a.c", ONE_HEAP, 7)),
+        ("go a.c", go("a.c", plain, 1_000_000_000)),
+        ("go a.c --heap 8192 --limit 7", go("a.c", heap, 7)),
+        ("go a.c --limit=7 --heap=8192", go("a.c", heap, 7)),
     ];
     for (line, answer) in rows {
         let words: Vec<&str> = line.split(' ').collect(rt.alloc())?;
@@ -115,6 +105,14 @@ fn refuses_each_line(rt: HostRuntime) -> Result<(), Fail> {
         "go a.c --keys 100000000000000000000",
         "go a.c --keys 018446744073709551615",
         "go a.c b.c",
+        "go a.c --heap 4095",
+        "go a.c --heap 4097",
+        "go a.c --heap 16781312",
+        "build a.c a.elf --stack 4198400",
+        "build a.c a.elf --calls 16781312",
+        "build a.c a.elf --blocks 0",
+        "build a.c a.elf --blocks 65537",
+        "go a.c --keys 4611686018427387905",
     ];
     for line in lines {
         let words: Vec<&str> = line.split(' ').collect(rt.alloc())?;

@@ -27,10 +27,9 @@ fn places_regions(rt: HostRuntime) {
         assert!(rt; false, "10000 bytes are not too many");
         return;
     };
-    assert_eq!(rt; map.budgets(), budgets);
-    assert_eq!(rt; map.global_bytes(), 10_000);
-    for (which, first, last) in REGIONS {
-        assert_eq!(rt; map.region(which), (first, last), "{which:?}");
+    assert!(rt; map.budgets() == budgets && map.global_bytes() == 10_000);
+    for (row, &(which, first, last)) in REGIONS.iter().enumerate() {
+        assert!(rt; map.region(which) == (first, last), "row {row}");
     }
 }
 
@@ -38,10 +37,8 @@ fn places_regions(rt: HostRuntime) {
 fn refuses_too_large_globals(rt: HostRuntime) {
     let budgets = Budgets::default();
     assert!(rt; AddrMap::new(&budgets, 4_194_304).is_ok());
-    assert_eq!(rt; AddrMap::new(&budgets, 4_194_305), Err(TooLarge(4_194_305)));
-    assert_eq!(rt;
-        AddrMap::new(&budgets, 0).map(|map| map.region(Region::Globals)),
-        Ok((0x1000_0000, 0xfff_ffff))
-    );
-    assert_eq!(rt; function_address(3), 0x1_0030);
+    assert!(rt; AddrMap::new(&budgets, 4_194_305) == Err(TooLarge(4_194_305)));
+    let globals = AddrMap::new(&budgets, 0).map(|map| map.region(Region::Globals));
+    assert!(rt; globals == Ok((0x1000_0000, 0xfff_ffff)));
+    assert!(rt; function_address(3) == 0x1_0030);
 }

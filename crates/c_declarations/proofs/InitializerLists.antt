@@ -1,13 +1,14 @@
 -- Lists of designators and items that grow at their end, and the two forms of an initializer.
-use Rattle.std.proofs.Common.{◌≡◌, ℕ, zero, suc, ◌<◌, ◌-◌, nat_le, Bool, true, false, ◌&&◌, if◌then◌else◌, List, [], ◌∷◌, ◌++◌, map, Ok, Err, refl, sym, ap, ◌∙◌, Option, Some, None, arith}
+use Rattle.std.proofs.Common.{◌≡◌, ℕ, zero, suc, ◌<◌, ◌-◌, nat_le, Bool, true, false, ◌&&◌, if◌then◌else◌, List, [], ◌∷◌, ◌++◌, map, length, Ok, Err, refl, sym, ap, ◌∙◌, Option, Some, None, arith}
 use Rattle.c_lexer.specs.declared.punctuator.Punctuator.TheVariants as p
 use Rattle.c_syntax.specs.declared.place.Place.{Place}
 use Rattle.c_syntax.specs.declared.declaration.Designator as rg
-use Rattle.c_syntax.specs.Tree.{Designator, Initializer}
+use Rattle.c_syntax.specs.Tree.{Designator, Initializer, InitializerItem}
+use Rattle.c_syntax.specs.Tree as t
 use Rattle.c_syntax.specs.View.{behind_comma}
 use Rattle.c_syntax.specs.Words.{Words, punctuator}
-use Rattle.c_syntax.specs.StatementsView.{designator_of, designators_in}
-use Rattle.c_grammar.specs.Reader.{Outcome, Reader, ◌>>=◌, is_punctuator, next_is, next_is_punctuator, behind_commas_to_brace, up_to_brace}
+use Rattle.c_syntax.specs.StatementsView.{designator_of, designators_in, more_items_of}
+use Rattle.c_grammar.specs.Reader.{Outcome, Reader, expect, ◌>>=◌, is_punctuator, next_is, next_is_punctuator, behind_commas_to_brace, up_to_brace}
 use Rattle.c_grammar.specs.Readers.{Readers}
 use Rattle.c_grammar.specs.Nested.{readers}
 use Rattle.c_grammar.specs.InitializerReader.{begins_designator, designator_from, designators_from, item_from, braced_from, value_from, initializer_at, initializers}
@@ -122,3 +123,10 @@ pub value_is : (names : List (List ℕ)) (n m : ℕ) (i : Words) → suc m ≡ n
     → value_from (readers names n) i ≡ initializers names n i
 unfolding initializers
 value_is names n m i e h = ap (λ n. value_from (readers names n) i) (sym e) ∙ sym (at_value names (initializers names m) m i h) ∙ ap (λ n. initializers names n i) e
+
+-- items between braces (C99 6.7.8)
+pub braced_read : (item : Reader InitializerItem) (i i1 i2 i3 i4 : Words) (l r : Place) (x : InitializerItem) (m : List (Place × InitializerItem) × Option Place)
+    → expect p.LeftBrace i ≡ Ok (l, i1) → item i1 ≡ Ok (x, i2) → behind_commas_to_brace item (length i2) i2 ≡ Ok (m, i3) → expect p.RightBrace i3 ≡ Ok (r, i4)
+    → braced_from item i ≡ Ok (t.braced l x (more_items_of m.0) m.1 r, i4)
+unfolding braced_from
+braced_read item i i1 i2 i3 i4 l r x m left one others right = rw (left, one, others, right) refl

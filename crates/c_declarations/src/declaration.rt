@@ -9,6 +9,7 @@ ghost use Rattle.c_syntax.specs.View.{declarator_of, specifiers_in};
 ghost use Rattle.c_syntax.specs.StatementsView.{initialized_of, init_declarator_of, more_init_declarators_in, declaration_of};
 
 use crate::initializer::initializer;
+use c_expressions::leveled::{beside, with_item};
 use c_expressions::nested::{declarator, specifiers};
 use c_grammar::cursor::{Cursor, Fault, next_is};
 use c_grammar::declarator_kind::DeclaratorKind;
@@ -77,7 +78,8 @@ fn init_declarator_behind<'a>(
 ) -> Result<InitDeclarator<'a>, Fault>
     ensures { Reads init_declarator_of (spec.init_declarator_behind levels false names.now (declarator_of declarator.entry) tokens.old.rest.now) result tokens.new.rest.now }
 {
-    let initializer = initialized(alloc, names, tokens, levels)?;
+    let initializer = initialized(alloc, names, tokens, levels);
+    let (declarator, initializer) = beside(declarator, initializer)?;
     Ok(InitDeclarator {
         declarator,
         initializer,
@@ -119,8 +121,8 @@ fn more_init_declarators<'a>(
         let Some(place) = tokens.take(Punctuator::Comma) else {
             return Ok(Items::from_vec(others));
         };
-        let other = init_declarator(alloc, names, tokens, levels)?;
-        others.push((place, other))?;
+        let (before, other) = beside(others, init_declarator(alloc, names, tokens, levels))?;
+        others = with_item(before, (place, other))?;
     }
     Ok(Items::from_vec(others))
 }
@@ -138,8 +140,10 @@ fn typedef_behind<'a>(
     ensures declarator { IfOk result (λ x. x.declarator ≡ declarator.entry) }
     ensures names { IfOk result (λ _. names.new.items ≡ formed.names_after true (declarator_of declarator.entry) names.old.items) }
 {
-    add_typedef_name(names, &declarator)?;
-    let initializer = initialized(alloc, names.as_slice(), tokens, levels)?;
+    let added = add_typedef_name(names, &declarator);
+    let (declarator, ()) = beside(declarator, added)?;
+    let initializer = initialized(alloc, names.as_slice(), tokens, levels);
+    let (declarator, initializer) = beside(declarator, initializer)?;
     Ok(InitDeclarator {
         declarator,
         initializer,
@@ -183,8 +187,8 @@ fn more_typedef_declarators<'a>(
         let Some(place) = tokens.take(Punctuator::Comma) else {
             return Ok(Items::from_vec(others));
         };
-        let other = typedef_declarator(alloc, names, tokens, levels)?;
-        others.push((place, other))?;
+        let (before, other) = beside(others, typedef_declarator(alloc, names, tokens, levels))?;
+        others = with_item(before, (place, other))?;
     }
     Ok(Items::from_vec(others))
 }
@@ -203,9 +207,11 @@ fn plain_declaration_behind<'a>(
     ensures read { Reads declaration_of (spec.declaration_behind levels names.now (specifiers_in specifiers.entry) (declarator_of declarator.entry) tokens.old.rest.now) result tokens.new.rest.now }
     ensures plain { IfOk result (λ x. formed.has_typedef (specifiers_in x.specifiers) ≡ false) }
 {
-    let first = init_declarator_behind(alloc, names, tokens, levels, declarator)?;
-    let others = more_init_declarators(alloc, names, tokens, levels)?;
-    let semicolon = tokens.expect(Punctuator::Semicolon)?;
+    let first = init_declarator_behind(alloc, names, tokens, levels, declarator);
+    let parts = beside(specifiers, first)?;
+    let parts = beside(parts, more_init_declarators(alloc, names, tokens, levels))?;
+    let (parts, semicolon) = beside(parts, tokens.expect(Punctuator::Semicolon))?;
+    let ((specifiers, first), others) = parts;
     Ok(Declaration {
         specifiers,
         declarators: Some(InitDeclarators { first, others }),
@@ -227,9 +233,14 @@ fn typedef_declaration_behind<'a>(
     ensures read { Reads declaration_of (spec.declaration_behind levels names.old.items (specifiers_in specifiers.entry) (declarator_of declarator.entry) tokens.old.rest.now) result tokens.new.rest.now }
     ensures names { IfOk result (λ x. names.new.items ≡ formed.names_after_declaration (declaration_of x) names.old.items) }
 {
-    let first = typedef_behind(alloc, names, tokens, levels, declarator)?;
-    let others = more_typedef_declarators(alloc, names, tokens, levels)?;
-    let semicolon = tokens.expect(Punctuator::Semicolon)?;
+    let first = typedef_behind(alloc, names, tokens, levels, declarator);
+    let parts = beside(specifiers, first)?;
+    let parts = beside(
+        parts,
+        more_typedef_declarators(alloc, names, tokens, levels),
+    )?;
+    let (parts, semicolon) = beside(parts, tokens.expect(Punctuator::Semicolon))?;
+    let ((specifiers, first), others) = parts;
     Ok(Declaration {
         specifiers,
         declarators: Some(InitDeclarators { first, others }),
@@ -275,7 +286,7 @@ pub fn bare_declaration<'a>(
     ensures bare { IfOk result (λ x. x.declarators ≡ None) }
     ensures no_memory { IfErr result (λ f. f ≡ Refused) }
 {
-    let semicolon = tokens.expect(Punctuator::Semicolon)?;
+    let (specifiers, semicolon) = beside(specifiers, tokens.expect(Punctuator::Semicolon))?;
     Ok(Declaration {
         specifiers,
         declarators: None,
@@ -303,7 +314,8 @@ pub fn local<'a>(
         tokens,
         levels as usize + 1,
         DeclaratorKind::Named,
-    )?;
+    );
+    let (specifiers, declarator) = beside(specifiers, declarator)?;
     plain_declaration_behind(
         alloc,
         names,

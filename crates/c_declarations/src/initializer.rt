@@ -10,6 +10,7 @@ ghost use Rattle.c_grammar.specs.Reads.{Reads};
 ghost use Rattle.c_declarations.specs.InitializerSteps.{DeeperInitializers, items_to_brace};
 ghost use Rattle.c_syntax.specs.StatementsView.{designator_of, designators_in, designation_of, initializer_of, item_of};
 
+use c_expressions::leveled::{beside, with_item};
 use c_expressions::nested::expression;
 use c_grammar::cursor::{Cursor, Fault, next_is};
 use c_lexer::{Punctuator, Spelling};
@@ -37,7 +38,7 @@ fn element<'a>(
 {
     let left = tokens.expect(Punctuator::LeftBracket)?;
     let size = expression(alloc, names, tokens, levels, None, 3)?;
-    let right = tokens.expect(Punctuator::RightBracket)?;
+    let (size, right) = beside(size, tokens.expect(Punctuator::RightBracket))?;
     Ok(Designator::Element(left, size.tree, right))
 }
 
@@ -86,8 +87,8 @@ fn designators<'a>(
         if !begins_designator(tokens.rest) {
             return Ok(Items::from_vec(designators));
         }
-        let designator = designator(alloc, names, tokens, levels)?;
-        designators.push(designator)?;
+        let (before, next) = beside(designators, designator(alloc, names, tokens, levels))?;
+        designators = with_item(before, next)?;
     }
     Ok(Items::from_vec(designators))
 }
@@ -106,7 +107,7 @@ fn designation<'a>(
         return Ok(None);
     }
     let designators = designators(alloc, names, tokens, levels)?;
-    let equals = tokens.expect(Punctuator::Assign)?;
+    let (designators, equals) = beside(designators, tokens.expect(Punctuator::Assign))?;
     Ok(Some(Designation {
         designators,
         equals,
@@ -160,7 +161,7 @@ impl<
         ensures { Reads item_of (spec.item_from (readers self.now.names.now self.now.levels) (spec.initializers self.now.names.now self.now.levels) tokens.old.rest.now) result tokens.new.rest.now }
     {
         let designation = designation(self.alloc, self.names, tokens, self.levels)?;
-        let initializer = self.deeper(tokens)?;
+        let (designation, initializer) = beside(designation, self.deeper(tokens))?;
         Ok(InitializerItem {
             designation,
             initializer,
@@ -184,8 +185,8 @@ impl<
             if next_is(tokens.rest, Punctuator::RightBrace) {
                 return Ok((Items::from_vec(others), Some(place)));
             }
-            let item = self.item(tokens)?;
-            others.push((place, item))?;
+            let (before, item) = beside(others, self.item(tokens))?;
+            others = with_item(before, (place, item))?;
         }
         Ok((Items::from_vec(others), None))
     }
@@ -197,10 +198,11 @@ impl<
         ensures { Reads initializer_of (spec.braced_from (spec.item_from (readers self.now.names.now self.now.levels) (spec.initializers self.now.names.now self.now.levels)) tokens.old.rest.now) result tokens.new.rest.now }
     {
         let left = tokens.expect(Punctuator::LeftBrace)?;
-        let first = self.item(tokens)?;
-        let (others, comma) = self.more_items(tokens)?;
-        let right = tokens.expect(Punctuator::RightBrace)?;
-        Ok(Initializer::Braced(left, Boxed::new(self.alloc, first)?, others, comma, right))
+        let first = Boxed::new(self.alloc, self.item(tokens)?)?;
+        let (first, (others, comma)) = beside(first, self.more_items(tokens))?;
+        let right = tokens.expect(Punctuator::RightBrace);
+        let ((first, others), right) = beside((first, others), right)?;
+        Ok(Initializer::Braced(left, first, others, comma, right))
     }
 }
 

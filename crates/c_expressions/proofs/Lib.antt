@@ -2,5 +2,7 @@ mod MemberSteps
 mod SuffixSteps
 mod SpecifierSteps
 mod DirectSteps
-mod TypedView
+mod VoidParameters
 mod OperationSteps
+pub mod Given
+mod EnumerationSteps

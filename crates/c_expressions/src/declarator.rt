@@ -13,13 +13,13 @@ ghost use Rattle.c_syntax.specs.View.{declarator_of};
 ghost use Rattle.c_syntax.specs.Levels.{declarator_levels};
 
 use crate::grammar::Grammar;
-use crate::leveled::{Leveled, leaf};
+use crate::leveled::{Leveled, beside, beside_boxed, joined, leaf};
 use crate::specifier::begins_specifiers;
 use c_grammar::cursor::{Cursor, Fault, is_punctuator, is_same, next_is, spelled};
 use c_grammar::declarator_kind::DeclaratorKind;
 use c_lexer::{Punctuator, Spelling, Word};
 use c_syntax::names::is_among;
-use c_syntax::{Boxed, Declarator, Expression, Items, Place, Placed, Specifier, Spelled};
+use c_syntax::{Declarator, Expression, Items, Place, Placed, Specifier, Spelled};
 use std::alloc::Global;
 
 /// Whether a declarator of this kind may have a name.
@@ -107,16 +107,12 @@ impl<
         requires known { Below self.now.levels left.levels (declarator_levels (declarator_of left.tree)) }
         ensures { ReadsLeveled declarator_of declarator_levels (suc self.now.levels) (spec.function_from self.now.names.now (readers self.now.names.now self.now.levels) self.now.levels (declarator_of left.entry.tree) place tokens.old.rest.now) result tokens.new.rest.now }
     {
-        let parameters = self.parameters(tokens)?;
-        let right = tokens.expect(Punctuator::RightParenthesis)?;
+        let called = beside(left.boxed(self.alloc)?, self.parameters(tokens))?;
+        let (called, right) = beside(called, tokens.expect(Punctuator::RightParenthesis))?;
+        let (left, parameters) = called;
         Ok(Leveled {
             levels: left.levels.max(parameters.levels) + 1,
-            tree: Declarator::Function(
-                Boxed::new(self.alloc, left.tree)?,
-                place,
-                parameters.tree,
-                right,
-            ),
+            tree: Declarator::Function(left.tree, place, parameters.tree, right),
         })
     }
 
@@ -136,10 +132,10 @@ impl<
             let nameless = unnamed(kind, tokens.rest)?;
             return self.function(tokens, nameless, place);
         }
-        let inner = self.declarator(tokens, kind)?;
-        let right = tokens.expect(Punctuator::RightParenthesis)?;
+        let inner = self.declarator(tokens, kind)?.boxed(self.alloc)?;
+        let (inner, right) = beside(inner, tokens.expect(Punctuator::RightParenthesis))?;
         Ok(Leveled {
-            tree: Declarator::Parenthesized(place, Boxed::new(self.alloc, inner.tree)?, right),
+            tree: Declarator::Parenthesized(place, inner.tree, right),
             levels: inner.levels + 1,
         })
     }
@@ -188,23 +184,21 @@ impl<
         requires known { Below self.now.levels left.levels (declarator_levels (declarator_of left.tree)) }
         ensures { ReadsLeveled declarator_of declarator_levels (suc self.now.levels) (spec.array_from self.now.names.now (readers self.now.names.now self.now.levels) self.now.levels (declarator_of left.entry.tree) place tokens.old.rest.now) result tokens.new.rest.now }
     {
+        let left = left.boxed(self.alloc)?;
         if next_is(tokens.rest, Punctuator::RightBracket) {
-            let right = tokens.expect(Punctuator::RightBracket)?;
+            let (left, right) = beside(left, tokens.expect(Punctuator::RightBracket))?;
             return Ok(Leveled {
                 levels: left.levels + 1,
-                tree: Declarator::OpenArray(Boxed::new(self.alloc, left.tree)?, place, right),
+                tree: Declarator::OpenArray(left.tree, place, right),
             });
         }
-        let size = self.expression(tokens, None, 3)?;
-        let right = tokens.expect(Punctuator::RightBracket)?;
+        let array = beside(left, self.expression(tokens, None, 3))?;
+        let array = joined(self.alloc, array)?;
+        let (array, right) = beside(array, tokens.expect(Punctuator::RightBracket))?;
+        let (left, size) = array.tree;
         Ok(Leveled {
-            levels: left.levels.max(size.levels) + 1,
-            tree: Declarator::Array(
-                Boxed::new(self.alloc, left.tree)?,
-                place,
-                Boxed::new(self.alloc, size.tree)?,
-                right,
-            ),
+            levels: array.levels + 1,
+            tree: Declarator::Array(left, place, size, right),
         })
     }
 
@@ -275,9 +269,10 @@ impl<
         ensures { ReadsLeveled declarator_of declarator_levels (suc self.now.levels) (spec.pointer_from self.now.names.now (readers self.now.names.now self.now.levels) self.now.levels kind place tokens.old.rest.now) result tokens.new.rest.now }
     {
         let consts = tokens.consts(self.alloc)?;
-        let inner = self.declarator(tokens, kind)?;
+        let (consts, inner) = beside(consts, self.declarator(tokens, kind))?;
+        let (consts, inner) = beside_boxed(self.alloc, consts, inner)?;
         Ok(Leveled {
-            tree: Declarator::Pointer(place, consts, Boxed::new(self.alloc, inner.tree)?),
+            tree: Declarator::Pointer(place, consts, inner.tree),
             levels: inner.levels + 1,
         })
     }

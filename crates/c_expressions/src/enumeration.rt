@@ -10,12 +10,12 @@ ghost use Rattle.c_syntax.specs.View.{specifier_of, enumerator_of};
 ghost use Rattle.c_syntax.specs.Levels.{specifier_levels, enumerator_levels};
 
 use crate::grammar::Grammar;
-use crate::leveled::{Leveled, leaf};
+use crate::leveled::{Leveled, before_comma, beside, beside_boxed, leaf, no_trees, with_next};
 use crate::structure::begins_body;
 use c_grammar::cursor::{Cursor, Fault, next_is};
 use c_grammar::declarator_kind::DeclaratorKind;
 use c_lexer::{Punctuator, Spelling};
-use c_syntax::{Boxed, Declarator, Enumerator, Expression, Items, Place, Specifier, Spelled};
+use c_syntax::{Declarator, Enumerator, Expression, Items, Place, Specifier, Spelled};
 use std::alloc::Global;
 
 impl<
@@ -56,10 +56,11 @@ impl<
             return Ok(leaf(Enumerator::Plain(name)));
         }
         let place = tokens.expect(Punctuator::Assign)?;
-        let value = self.expression(tokens, None, 3)?;
+        let (name, value) = beside(name, self.expression(tokens, None, 3))?;
+        let (name, value) = beside_boxed(self.alloc, name, value)?;
         Ok(Leveled {
             levels: value.levels,
-            tree: Enumerator::Valued(name, place, Boxed::new(self.alloc, value.tree)?),
+            tree: Enumerator::Valued(name, place, value.tree),
         })
     }
 
@@ -72,29 +73,18 @@ impl<
         requires some { 0 < self.now.levels }
         ensures { ReadsLeveled enumerators_behind enumerators_behind_levels self.now.levels (behind_commas_to_brace (spec.enumerator_from self.now.names.now (readers self.now.names.now self.now.levels) self.now.levels) (length tokens.old.rest.now) tokens.old.rest.now) result tokens.new.rest.now }
     {
-        let mut levels = 0;
-        let mut others = Vec::new(self.alloc);
+        let mut others = no_trees(self.alloc);
         for _ in 0..tokens.rest.len() {
             let Some(place) = tokens.take(Punctuator::Comma) else {
-                return Ok(Leveled {
-                    tree: (Items::from_vec(others), None),
-                    levels,
-                });
+                return Ok(before_comma(others, None));
             };
             if next_is(tokens.rest, Punctuator::RightBrace) {
-                return Ok(Leveled {
-                    tree: (Items::from_vec(others), Some(place)),
-                    levels,
-                });
+                return Ok(before_comma(others, Some(place)));
             }
-            let enumerator = self.enumerator(tokens)?;
-            levels = enumerator.levels.max(levels);
-            others.push((place, enumerator.tree))?;
+            let (before, enumerator) = beside(others, self.enumerator(tokens))?;
+            others = with_next(before, place, enumerator)?;
         }
-        Ok(Leveled {
-            tree: (Items::from_vec(others), None),
-            levels,
-        })
+        Ok(before_comma(others, None))
     }
 
     /// Reads `{`, the enumerators and `}` of an enumeration.
@@ -110,24 +100,17 @@ impl<
         ensures { ReadsLeveled specifier_of specifier_levels (suc self.now.levels) (spec.enumeration_body_from self.now.names.now (readers self.now.names.now self.now.levels) self.now.levels place tag.entry tokens.old.rest.now) result tokens.new.rest.now }
     {
         let left = tokens.expect(Punctuator::LeftBrace)?;
-        let first = self.enumerator(tokens)?;
-        let others = self.more_enumerators(tokens)?;
-        let right = tokens.expect(Punctuator::RightBrace)?;
+        let first = self.enumerator(tokens)?.boxed(self.alloc)?;
+        let enumerators = beside(first, self.more_enumerators(tokens))?;
+        let (enumerators, right) = beside(enumerators, tokens.expect(Punctuator::RightBrace))?;
+        let (first, others) = enumerators;
         let Leveled {
             tree: (others, comma),
             levels,
         } = others;
         Ok(Leveled {
             levels: first.levels.max(levels) + 1,
-            tree: Specifier::EnumerationBody(
-                place,
-                tag,
-                left,
-                Boxed::new(self.alloc, first.tree)?,
-                others,
-                comma,
-                right,
-            ),
+            tree: Specifier::EnumerationBody(place, tag, left, first.tree, others, comma, right),
         })
     }
 

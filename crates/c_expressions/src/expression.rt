@@ -13,13 +13,15 @@ ghost use Rattle.c_syntax.specs.View.{expression_of, arguments_of};
 ghost use Rattle.c_syntax.specs.Levels.{expression_levels, arguments_levels};
 
 use crate::grammar::Grammar;
-use crate::leveled::{Leveled, leaf};
+use crate::leveled::{
+    Leveled, as_items, beside, boxed_pair, boxed_three, joined, leaf, no_trees, with_next,
+};
 use c_grammar::cursor::{Cursor, Fault, next_is};
 use c_grammar::declarator_kind::DeclaratorKind;
 use c_grammar::operation::{Operation, binds, needs, operation_of};
 use c_lexer::{Punctuator, Spelling, Word};
 use c_syntax::operators::{binary_precedence, precedence};
-use c_syntax::{Arguments, Boxed, Declarator, Expression, Items, Place, Placed, Specifier};
+use c_syntax::{Arguments, Declarator, Expression, Items, Place, Placed, Specifier};
 use std::alloc::Global;
 
 impl<
@@ -58,23 +60,15 @@ impl<
         requires some { 0 < self.now.levels }
         ensures { ReadsLeveled arguments_behind arguments_behind_levels self.now.levels (behind_commas ((readers self.now.names.now self.now.levels).expression None 2) (length tokens.old.rest.now) tokens.old.rest.now) result tokens.new.rest.now }
     {
-        let mut levels = 0;
-        let mut others = Vec::new(self.alloc);
+        let mut others = no_trees(self.alloc);
         for _ in 0..tokens.rest.len() {
             let Some(place) = tokens.take(Punctuator::Comma) else {
-                return Ok(Leveled {
-                    tree: Items::from_vec(others),
-                    levels,
-                });
+                return Ok(as_items(others));
             };
-            let argument = self.expression(tokens, None, 2)?;
-            levels = argument.levels.max(levels);
-            others.push((place, argument.tree))?;
+            let (before, argument) = beside(others, self.expression(tokens, None, 2))?;
+            others = with_next(before, place, argument)?;
         }
-        Ok(Leveled {
-            tree: Items::from_vec(others),
-            levels,
-        })
+        Ok(as_items(others))
     }
 
     /// Reads what stands between the parentheses of a call (C99 6.5.2.2).
@@ -87,10 +81,10 @@ impl<
         if next_is(tokens.rest, Punctuator::RightParenthesis) {
             return Ok(leaf(Arguments::Empty));
         }
-        let first = self.expression(tokens, None, 2)?;
-        let others = self.more_arguments(tokens)?;
+        let first = self.expression(tokens, None, 2)?.boxed(self.alloc)?;
+        let (first, others) = beside(first, self.more_arguments(tokens))?;
         Ok(Leveled {
-            tree: Arguments::Given(Boxed::new(self.alloc, first.tree)?, others.tree),
+            tree: Arguments::Given(first.tree, others.tree),
             levels: first.levels.max(others.levels),
         })
     }
@@ -108,15 +102,11 @@ impl<
         requires known { Below self.now.levels left.levels (expression_levels (expression_of left.tree)) }
         ensures { ReadsLeveled expression_of expression_levels (suc self.now.levels) (spec.operation_from self.now.names.now (readers self.now.names.now self.now.levels) self.now.levels (expression_of left.entry.tree) punctuator place (Some op.Binary) tokens.old.rest.now) result tokens.new.rest.now }
     {
-        let right = self.expression(tokens, None, binary_precedence(punctuator) + 1)?;
+        let right = self.expression(tokens, None, binary_precedence(punctuator) + 1);
+        let (left, right) = boxed_pair(self.alloc, beside(left, right)?)?;
         Ok(Leveled {
             levels: left.levels.max(right.levels) + 1,
-            tree: Expression::Binary(
-                Boxed::new(self.alloc, left.tree)?,
-                punctuator,
-                place,
-                Boxed::new(self.alloc, right.tree)?,
-            ),
+            tree: Expression::Binary(left.tree, punctuator, place, right.tree),
         })
     }
 
@@ -133,41 +123,32 @@ impl<
         requires known { Below self.now.levels left.levels (expression_levels (expression_of left.tree)) }
         ensures { ReadsLeveled expression_of expression_levels (suc self.now.levels) (spec.operation_from self.now.names.now (readers self.now.names.now self.now.levels) self.now.levels (expression_of left.entry.tree) punctuator place (Some op.Assignment) tokens.old.rest.now) result tokens.new.rest.now }
     {
-        let right = self.expression(tokens, None, 2)?;
+        let right = self.expression(tokens, None, 2);
+        let (left, right) = boxed_pair(self.alloc, beside(left, right)?)?;
         Ok(Leveled {
             levels: left.levels.max(right.levels) + 1,
-            tree: Expression::Assignment(
-                Boxed::new(self.alloc, left.tree)?,
-                punctuator,
-                place,
-                Boxed::new(self.alloc, right.tree)?,
-            ),
+            tree: Expression::Assignment(left.tree, punctuator, place, right.tree),
         })
     }
 
-    /// The conditional expression of these operands (C99 6.5.15).
-    fn conditional_with(
+    /// The conditional expression of the condition and the second operand, and the third (C99 6.5.15).
+    fn conditional_of(
         &self,
-        left: Leveled<Expression<'a>>,
+        operands: (Leveled<Expression<'a>>, Leveled<Expression<'a>>),
         place: Place,
-        first: Leveled<Expression<'a>>,
         colon: Place,
-        second: Leveled<Expression<'a>>,
+        third: Leveled<Expression<'a>>,
     ) -> Result<Leveled<Expression<'a>>, Fault>
-        requires known { Below self.now.levels left.levels (expression_levels (expression_of left.tree)) }
-        requires known_first { Below self.now.levels first.levels (expression_levels (expression_of first.tree)) }
-        requires known_second { Below self.now.levels second.levels (expression_levels (expression_of second.tree)) }
-        ensures { (i : Words) → ReadsLeveled expression_of expression_levels (suc self.now.levels) (conditional_at (expression_of left.entry.tree) place (expression_of first.entry.tree) colon (expression_of second.entry.tree) i) result i }
+        requires known { Below self.now.levels operands.0.levels (expression_levels (expression_of operands.0.tree)) }
+        requires known_second { Below self.now.levels operands.1.levels (expression_levels (expression_of operands.1.tree)) }
+        requires known_third { Below self.now.levels third.levels (expression_levels (expression_of third.tree)) }
+        ensures { (i : Words) → ReadsLeveled expression_of expression_levels (suc self.now.levels) (conditional_at (expression_of operands.entry.0.tree) place (expression_of operands.entry.1.tree) colon (expression_of third.entry.tree) i) result i }
     {
+        let operands = boxed_three(self.alloc, operands, third)?;
+        let (condition, second, third) = operands.tree;
         Ok(Leveled {
-            levels: left.levels.max(first.levels.max(second.levels)) + 1,
-            tree: Expression::Conditional(
-                Boxed::new(self.alloc, left.tree)?,
-                place,
-                Boxed::new(self.alloc, first.tree)?,
-                colon,
-                Boxed::new(self.alloc, second.tree)?,
-            ),
+            levels: operands.levels + 1,
+            tree: Expression::Conditional(condition, place, second, colon, third),
         })
     }
 
@@ -183,10 +164,10 @@ impl<
         requires known { Below self.now.levels left.levels (expression_levels (expression_of left.tree)) }
         ensures { ReadsLeveled expression_of expression_levels (suc self.now.levels) (spec.operation_from self.now.names.now (readers self.now.names.now self.now.levels) self.now.levels (expression_of left.entry.tree) punctuators.Question place (Some op.Conditional) tokens.old.rest.now) result tokens.new.rest.now }
     {
-        let first = self.expression(tokens, None, 1)?;
-        let colon = tokens.expect(Punctuator::Colon)?;
-        let second = self.expression(tokens, None, 3)?;
-        self.conditional_with(left, place, first, colon, second)
+        let operands = beside(left, self.expression(tokens, None, 1))?;
+        let (operands, colon) = beside(operands, tokens.expect(Punctuator::Colon))?;
+        let (operands, second) = beside(operands, self.expression(tokens, None, 3))?;
+        self.conditional_of(operands, place, colon, second)
     }
 
     /// Reads what follows `[` (C99 6.5.2.1).
@@ -201,16 +182,14 @@ impl<
         requires known { Below self.now.levels left.levels (expression_levels (expression_of left.tree)) }
         ensures { ReadsLeveled expression_of expression_levels (suc self.now.levels) (spec.operation_from self.now.names.now (readers self.now.names.now self.now.levels) self.now.levels (expression_of left.entry.tree) punctuators.Question place (Some op.Subscript) tokens.old.rest.now) result tokens.new.rest.now }
     {
-        let index = self.expression(tokens, None, 1)?;
-        let right = tokens.expect(Punctuator::RightBracket)?;
+        let left = left.boxed(self.alloc)?;
+        let operands = beside(left, self.expression(tokens, None, 1))?;
+        let operands = joined(self.alloc, operands)?;
+        let (operands, right) = beside(operands, tokens.expect(Punctuator::RightBracket))?;
+        let (left, index) = operands.tree;
         Ok(Leveled {
-            levels: left.levels.max(index.levels) + 1,
-            tree: Expression::Subscript(
-                Boxed::new(self.alloc, left.tree)?,
-                place,
-                Boxed::new(self.alloc, index.tree)?,
-                right,
-            ),
+            levels: operands.levels + 1,
+            tree: Expression::Subscript(left, place, index, right),
         })
     }
 
@@ -226,16 +205,12 @@ impl<
         requires known { Below self.now.levels left.levels (expression_levels (expression_of left.tree)) }
         ensures { ReadsLeveled expression_of expression_levels (suc self.now.levels) (spec.operation_from self.now.names.now (readers self.now.names.now self.now.levels) self.now.levels (expression_of left.entry.tree) punctuators.Question place (Some op.Call) tokens.old.rest.now) result tokens.new.rest.now }
     {
-        let arguments = self.arguments(tokens)?;
-        let right = tokens.expect(Punctuator::RightParenthesis)?;
+        let called = beside(left.boxed(self.alloc)?, self.arguments(tokens))?;
+        let (called, right) = beside(called, tokens.expect(Punctuator::RightParenthesis))?;
+        let (left, arguments) = called;
         Ok(Leveled {
             levels: left.levels.max(arguments.levels) + 1,
-            tree: Expression::Call(
-                Boxed::new(self.alloc, left.tree)?,
-                place,
-                arguments.tree,
-                right,
-            ),
+            tree: Expression::Call(left.tree, place, arguments.tree, right),
         })
     }
 
@@ -252,10 +227,10 @@ impl<
         requires known { Below self.now.levels left.levels (expression_levels (expression_of left.tree)) }
         ensures { ReadsLeveled expression_of expression_levels (suc self.now.levels) (spec.operation_from self.now.names.now (readers self.now.names.now self.now.levels) self.now.levels (expression_of left.entry.tree) punctuator place (Some op.Member) tokens.old.rest.now) result tokens.new.rest.now }
     {
-        let name = tokens.identifier()?;
+        let (left, name) = beside(left.boxed(self.alloc)?, tokens.identifier())?;
         Ok(Leveled {
             levels: left.levels + 1,
-            tree: Expression::Member(Boxed::new(self.alloc, left.tree)?, punctuator, place, name),
+            tree: Expression::Member(left.tree, punctuator, place, name),
         })
     }
 
@@ -270,9 +245,10 @@ impl<
         requires known { Below self.now.levels left.levels (expression_levels (expression_of left.tree)) }
         ensures { (i : Words) → ReadsLeveled expression_of expression_levels (suc self.now.levels) (postfix_at (expression_of left.entry.tree) punctuator place i) result i }
     {
+        let left = left.boxed(self.alloc)?;
         Ok(Leveled {
             levels: left.levels + 1,
-            tree: Expression::Postfix(Boxed::new(self.alloc, left.tree)?, punctuator, place),
+            tree: Expression::Postfix(left.tree, punctuator, place),
         })
     }
 

@@ -12,14 +12,14 @@ ghost use Rattle.c_syntax.specs.View.{expression_of};
 ghost use Rattle.c_syntax.specs.Levels.{expression_levels};
 
 use crate::grammar::Grammar;
-use crate::leveled::{Leveled, leaf};
+use crate::leveled::{Leveled, beside, beside_boxed, leaf};
 use crate::specifier::begins_specifiers;
 use c_grammar::cursor::{Cursor, Fault, is_punctuator, is_same, spelled};
 use c_grammar::declarator_kind::DeclaratorKind;
 use c_lexer::{Keyword, Punctuator, Spelling, Word};
 use c_syntax::names::is_among;
 use c_syntax::operators::operand_precedence;
-use c_syntax::{Boxed, Declarator, Expression, Items, Place, Placed, Specifier, Spelled};
+use c_syntax::{Declarator, Expression, Items, Place, Placed, Specifier, Spelled};
 use std::alloc::Global;
 
 /// An identifier as an expression.
@@ -94,10 +94,10 @@ impl<
         requires deeper { Deeper self.now.levels (E.pre self.now.expression) (E.post self.now.expression) (S.pre self.now.specifiers) (S.post self.now.specifiers) (D.pre self.now.declarator) (D.post self.now.declarator) }
         ensures { ReadsLeveled expression_of expression_levels (suc self.now.levels) (spec.parenthesized_from self.now.names.now (readers self.now.names.now self.now.levels) self.now.levels place tokens.old.rest.now) result tokens.new.rest.now }
     {
-        let inner = self.expression(tokens, None, 1)?;
-        let right = tokens.expect(Punctuator::RightParenthesis)?;
+        let inner = self.expression(tokens, None, 1)?.boxed(self.alloc)?;
+        let (inner, right) = beside(inner, tokens.expect(Punctuator::RightParenthesis))?;
         Ok(Leveled {
-            tree: Expression::Parenthesized(place, Boxed::new(self.alloc, inner.tree)?, right),
+            tree: Expression::Parenthesized(place, inner.tree, right),
             levels: inner.levels + 1,
         })
     }
@@ -112,16 +112,14 @@ impl<
         requires deeper { Deeper self.now.levels (E.pre self.now.expression) (E.post self.now.expression) (S.pre self.now.specifiers) (S.post self.now.specifiers) (D.pre self.now.declarator) (D.post self.now.declarator) }
         ensures { ReadsLeveled expression_of expression_levels (suc self.now.levels) (spec.cast_from self.now.names.now (readers self.now.names.now self.now.levels) self.now.levels place tokens.old.rest.now) result tokens.new.rest.now }
     {
-        let name = self.typed(tokens, DeclaratorKind::Abstract)?;
-        let right = tokens.expect(Punctuator::RightParenthesis)?;
-        let operand = self.expression(tokens, None, 14)?;
+        let name = self
+            .typed(tokens, DeclaratorKind::Abstract)?
+            .boxed(self.alloc)?;
+        let (name, right) = beside(name, tokens.expect(Punctuator::RightParenthesis))?;
+        let (name, operand) = beside(name, self.expression(tokens, None, 14))?;
+        let (name, operand) = beside_boxed(self.alloc, name, operand)?;
         Ok(Leveled {
-            tree: Expression::Cast(
-                place,
-                Boxed::new(self.alloc, name.tree)?,
-                right,
-                Boxed::new(self.alloc, operand.tree)?,
-            ),
+            tree: Expression::Cast(place, name.tree, right, operand.tree),
             levels: name.levels.max(operand.levels) + 1,
         })
     }
@@ -159,21 +157,18 @@ impl<
         ensures { ReadsLeveled expression_of expression_levels (suc self.now.levels) (spec.sizeof_parenthesis_from self.now.names.now (readers self.now.names.now self.now.levels) self.now.levels place left tokens.old.rest.now) result tokens.new.rest.now }
     {
         if begins_specifiers(self.names, tokens.rest) {
-            let name = self.typed(tokens, DeclaratorKind::Abstract)?;
-            let right = tokens.expect(Punctuator::RightParenthesis)?;
+            let name = self
+                .typed(tokens, DeclaratorKind::Abstract)?
+                .boxed(self.alloc)?;
+            let (name, right) = beside(name, tokens.expect(Punctuator::RightParenthesis))?;
             return Ok(Leveled {
-                tree: Expression::SizeofType(
-                    place,
-                    left,
-                    Boxed::new(self.alloc, name.tree)?,
-                    right,
-                ),
+                tree: Expression::SizeofType(place, left, name.tree, right),
                 levels: name.levels + 1,
             });
         }
-        let operand = self.expression(tokens, Some(left), 15)?;
+        let operand = self.expression(tokens, Some(left), 15)?.boxed(self.alloc)?;
         Ok(Leveled {
-            tree: Expression::SizeofExpression(place, Boxed::new(self.alloc, operand.tree)?),
+            tree: Expression::SizeofExpression(place, operand.tree),
             levels: operand.levels + 1,
         })
     }
@@ -195,9 +190,9 @@ impl<
             tokens.rest = rest;
             return self.sizeof_parenthesis(tokens, place, first.place);
         }
-        let operand = self.expression(tokens, None, 15)?;
+        let operand = self.expression(tokens, None, 15)?.boxed(self.alloc)?;
         Ok(Leveled {
-            tree: Expression::SizeofExpression(place, Boxed::new(self.alloc, operand.tree)?),
+            tree: Expression::SizeofExpression(place, operand.tree),
             levels: operand.levels + 1,
         })
     }
@@ -213,8 +208,9 @@ impl<
         ensures { ReadsLeveled expression_of expression_levels (suc self.now.levels) (unary_from (readers self.now.names.now self.now.levels) operator place tokens.old.rest.now) result tokens.new.rest.now }
     {
         let operand = self.expression(tokens, None, operand_precedence(operator))?;
+        let operand = operand.boxed(self.alloc)?;
         Ok(Leveled {
-            tree: Expression::Unary(operator, place, Boxed::new(self.alloc, operand.tree)?),
+            tree: Expression::Unary(operator, place, operand.tree),
             levels: operand.levels + 1,
         })
     }

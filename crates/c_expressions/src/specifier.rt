@@ -12,7 +12,7 @@ ghost use Rattle.c_syntax.specs.Tree as t;
 ghost use Rattle.c_syntax.specs.View.{specifier_of, specifiers_in};
 
 use crate::grammar::Grammar;
-use crate::leveled::{Leveled, leaf};
+use crate::leveled::{Leveled, as_items, beside, leaf, no_trees, where_true, with_tree};
 use c_grammar::cursor::{Cursor, Fault, spelled};
 use c_grammar::declarator_kind::DeclaratorKind;
 use c_lexer::{Keyword, Spelling, Word};
@@ -161,20 +161,13 @@ impl<
     fn ended(
         &self,
         words: TypeWords,
-        levels: usize,
-        specifiers: Vec<Specifier<'a>>,
+        specifiers: Leveled<Vec<Specifier<'a>>>,
         rest: &[Placed<'a>],
     ) -> Result<Leveled<Items<Specifier<'a>>>, Fault>
-        requires known { Below (suc self.now.levels) levels (specifiers_levels (specifiers_in specifiers.items)) }
-        ensures { ReadsLeveled specifiers_in specifiers_levels (suc self.now.levels) (specifiers_extending specifiers.entry.items (spec.ended self.now.names.now (readers self.now.names.now self.now.levels) self.now.levels words rest.now)) result rest.now }
+        requires known { Below (suc self.now.levels) specifiers.levels (specifiers_levels (specifiers_in specifiers.tree.items)) }
+        ensures { ReadsLeveled specifiers_in specifiers_levels (suc self.now.levels) (specifiers_extending specifiers.entry.tree.items (spec.ended self.now.names.now (readers self.now.names.now self.now.levels) self.now.levels words rest.now)) result rest.now }
     {
-        if !words.is_type() {
-            return Err(Fault::Refused);
-        }
-        Ok(Leveled {
-            tree: Items::from_vec(specifiers),
-            levels,
-        })
+        Ok(as_items(where_true(words.is_type(), specifiers)?))
     }
 
     /// Reads specifiers with at most the rules' number of levels (C99 6.7.1 to 6.7.4).
@@ -187,18 +180,16 @@ impl<
         requires deeper { Deeper self.now.levels (E.pre self.now.expression) (E.post self.now.expression) (S.pre self.now.specifiers) (S.post self.now.specifiers) (D.pre self.now.declarator) (D.post self.now.declarator) }
         ensures { ReadsLeveled specifiers_in specifiers_levels (suc self.now.levels) (spec.specifiers_at self.now.names.now (readers self.now.names.now self.now.levels) self.now.levels allowed tokens.old.rest.now) result tokens.new.rest.now }
     {
-        let mut levels = 0;
         let mut words = TypeWords::none();
-        let mut specifiers = Vec::new(self.alloc);
+        let mut specifiers = no_trees(self.alloc);
         for _ in 0..tokens.rest.len() {
             if !self.has_specifier(allowed, words, tokens.rest) {
-                return self.ended(words, levels, specifiers, tokens.rest);
+                return self.ended(words, specifiers, tokens.rest);
             }
-            let specifier = self.specifier(tokens)?;
-            levels = specifier.levels.max(levels);
+            let (before, specifier) = beside(specifiers, self.specifier(tokens))?;
             words = words_with(words, &specifier.tree);
-            specifiers.push(specifier.tree)?;
+            specifiers = with_tree(before, specifier)?;
         }
-        self.ended(words, levels, specifiers, tokens.rest)
+        self.ended(words, specifiers, tokens.rest)
     }
 }

@@ -13,7 +13,7 @@ ghost use Rattle.c_syntax.specs.Levels.{specifier_levels, member_levels, members
 ghost use Rattle.c_syntax.specs.Tree as t;
 
 use crate::grammar::Grammar;
-use crate::leveled::{Leveled, leaf};
+use crate::leveled::{Leveled, as_items, beside, leaf, no_trees, with_next, with_tree};
 use c_grammar::cursor::{Cursor, Fault, next_is};
 use c_grammar::declarator_kind::DeclaratorKind;
 use c_lexer::{Keyword, Punctuator, Spelling};
@@ -95,23 +95,18 @@ impl<
         requires some { 0 < self.now.levels }
         ensures { ReadsLeveled declarators_behind declarators_behind_levels self.now.levels (behind_commas ((readers self.now.names.now self.now.levels).declarator kind.Named) (length tokens.old.rest.now) tokens.old.rest.now) result tokens.new.rest.now }
     {
-        let mut levels = 0;
-        let mut others = Vec::new(self.alloc);
+        let mut others = no_trees(self.alloc);
         for _ in 0..tokens.rest.len() {
             let Some(place) = tokens.take(Punctuator::Comma) else {
-                return Ok(Leveled {
-                    tree: Items::from_vec(others),
-                    levels,
-                });
+                return Ok(as_items(others));
             };
-            let declarator = self.declarator(tokens, DeclaratorKind::Named)?;
-            levels = declarator.levels.max(levels);
-            others.push((place, declarator.tree))?;
+            let (before, declarator) = beside(
+                others,
+                self.declarator(tokens, DeclaratorKind::Named),
+            )?;
+            others = with_next(before, place, declarator)?;
         }
-        Ok(Leveled {
-            tree: Items::from_vec(others),
-            levels,
-        })
+        Ok(as_items(others))
     }
 
     /// Reads a declaration of members (C99 6.7.2.1).
@@ -122,9 +117,10 @@ impl<
         ensures { ReadsLeveled member_of member_levels self.now.levels (spec.member_from self.now.names.now (readers self.now.names.now self.now.levels) self.now.levels tokens.old.rest.now) result tokens.new.rest.now }
     {
         let specifiers = self.specifiers(tokens, false)?;
-        let first = self.declarator(tokens, DeclaratorKind::Named)?;
-        let others = self.more_declarators(tokens)?;
-        let semicolon = tokens.expect(Punctuator::Semicolon)?;
+        let member = beside(specifiers, self.declarator(tokens, DeclaratorKind::Named))?;
+        let member = beside(member, self.more_declarators(tokens))?;
+        let (member, semicolon) = beside(member, tokens.expect(Punctuator::Semicolon))?;
+        let ((specifiers, first), others) = member;
         Ok(member_with(specifiers, first, others, semicolon))
     }
 
@@ -135,19 +131,14 @@ impl<
         ensures { ReadsLeveled members_in members_levels self.now.levels (spec.members_from self.now.names.now (readers self.now.names.now self.now.levels) self.now.levels tokens.old.rest.now) result tokens.new.rest.now }
     {
         let first = self.member_declaration(tokens)?;
-        let mut levels = first.levels;
-        let mut members: Vec<Member<'a>> = Vec::new(self.alloc);
-        members.push(first.tree)?;
+        let none: Leveled<Vec<Member<'a>>> = no_trees(self.alloc);
+        let mut members = with_tree(none, first)?;
         for _ in 0..tokens.rest.len() {
             if next_is(tokens.rest, Punctuator::RightBrace) {
-                return Ok(Leveled {
-                    tree: Items::from_vec(members),
-                    levels,
-                });
+                return Ok(as_items(members));
             }
-            let member = self.member_declaration(tokens)?;
-            levels = member.levels.max(levels);
-            members.push(member.tree)?;
+            let (before, member) = beside(members, self.member_declaration(tokens))?;
+            members = with_tree(before, member)?;
         }
         Err(Fault::Refused)
     }
@@ -167,7 +158,7 @@ impl<
     {
         let left = tokens.expect(Punctuator::LeftBrace)?;
         let members = self.members(tokens)?;
-        let right = tokens.expect(Punctuator::RightBrace)?;
+        let (members, right) = beside(members, tokens.expect(Punctuator::RightBrace))?;
         Ok(Leveled {
             tree: Specifier::StructureBody(keyword, place, tag, left, members.tree, right),
             levels: members.levels + 1,

@@ -12,7 +12,7 @@ ghost use Rattle.c_syntax.specs.Tree as t;
 ghost use Rattle.c_syntax.specs.Levels.{typed_levels, parameters_levels};
 
 use crate::grammar::Grammar;
-use crate::leveled::{Leveled, leaf};
+use crate::leveled::{Leveled, as_items, beside, leaf, no_trees, with_next};
 use c_grammar::cursor::{Cursor, Fault, next_is};
 use c_grammar::declarator_kind::DeclaratorKind;
 use c_lexer::{Keyword, Punctuator, Spelling};
@@ -45,7 +45,7 @@ fn void_alone(specifiers: &[Specifier]) -> Option<Place>
 }
 
 /// The place of the word `void` where it is the whole parameter.
-#[tactic(auto, using(crate::proofs::TypedView::typed_view))]
+#[tactic(auto, using(c_syntax::proofs::TypedView::typed_view))]
 fn void_parameter(parameter: &TypedDeclarator) -> Option<Place>
     ensures { result ≡ void_parameter (typed_of parameter.now) }
 {
@@ -66,7 +66,7 @@ fn lone_void(first: &TypedDeclarator, others: &[(Place, TypedDeclarator)]) -> Op
 }
 
 /// The parameters of a function, where the word `void` alone is the empty list (C99 6.7.5.3).
-#[tactic(auto, using(crate::proofs::TypedView::void_or_given))]
+#[tactic(auto, using(crate::proofs::VoidParameters::void_or_given))]
 fn parameters_of<'a>(
     alloc: Global,
     first: TypedDeclarator<'a>,
@@ -142,7 +142,7 @@ impl<
         ensures { ReadsLeveled typed_of typed_levels self.now.levels (spec.typed_from (readers self.now.names.now self.now.levels) kind tokens.old.rest.now) result tokens.new.rest.now }
     {
         let specifiers = self.specifiers(tokens, false)?;
-        let declarator = self.declarator(tokens, kind)?;
+        let (specifiers, declarator) = beside(specifiers, self.declarator(tokens, kind))?;
         Ok(typed_with(specifiers, declarator))
     }
 
@@ -155,23 +155,15 @@ impl<
         requires some { 0 < self.now.levels }
         ensures { ReadsLeveled parameters_behind parameters_behind_levels self.now.levels (behind_commas (spec.typed_from (readers self.now.names.now self.now.levels) kind.Either) (length tokens.old.rest.now) tokens.old.rest.now) result tokens.new.rest.now }
     {
-        let mut levels = 0;
-        let mut others = Vec::new(self.alloc);
+        let mut others = no_trees(self.alloc);
         for _ in 0..tokens.rest.len() {
             let Some(place) = tokens.take(Punctuator::Comma) else {
-                return Ok(Leveled {
-                    tree: Items::from_vec(others),
-                    levels,
-                });
+                return Ok(as_items(others));
             };
-            let parameter = self.typed(tokens, DeclaratorKind::Either)?;
-            levels = parameter.levels.max(levels);
-            others.push((place, parameter.tree))?;
+            let (before, parameter) = beside(others, self.typed(tokens, DeclaratorKind::Either))?;
+            others = with_next(before, place, parameter)?;
         }
-        Ok(Leveled {
-            tree: Items::from_vec(others),
-            levels,
-        })
+        Ok(as_items(others))
     }
 
     /// Reads what stands between the parentheses of a function declarator (C99 6.7.5.3).
@@ -185,7 +177,7 @@ impl<
             return Ok(leaf(Parameters::Empty));
         }
         let first = self.typed(tokens, DeclaratorKind::Either)?;
-        let others = self.more_parameters(tokens)?;
+        let (first, others) = beside(first, self.more_parameters(tokens))?;
         Ok(Leveled {
             levels: first.levels.max(others.levels),
             tree: parameters_of(self.alloc, first.tree, others.tree)?,

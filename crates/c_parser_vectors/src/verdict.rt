@@ -4,7 +4,8 @@ use anyhow::{Result, bail};
 use c_lexer::{LexError, Tokens, lex};
 use c_parser::{ParseFault, parse};
 use c_pre::{PreError, expand};
-use c_syntax::{Placed, Unit, with_places, words};
+use c_syntax::{Placed, Unit, with_places};
+use c_syntax_checks::words;
 use sb_base::Line;
 use std::alloc::Global;
 

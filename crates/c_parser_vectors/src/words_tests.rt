@@ -3,8 +3,9 @@
 use c_lexer::{Keyword, Spelling, lex};
 use c_syntax::{
     Declaration, Declarator, External, InitDeclarator, InitDeclarators, Items, Place, Specifier,
-    Spelled, Unit, well_formed, with_places, words,
+    Spelled, Unit, with_places,
 };
+use c_syntax_checks::{well_formed, words};
 use sb_base::Line;
 use std::alloc::{AllocError, Global};
 use std::test::Fail;

@@ -4,7 +4,7 @@ use Rattle.std.proofs.lemmas.Bool.{lt-leb}
 use Rattle.c_lexer.specs.declared.token.Token.{Token}
 use Rattle.c_pre.specs.declared.fault.PreFault.{PreFault}
 use Rattle.c_pre.specs.declared.fault.PreFaultKind.TheVariants.{TooMany}
-use Rattle.c_pre.specs.declared.TheConstants.{MAX_EXPANDED_TOKENS}
+use Rattle.c_pre.specs.Limits.{max_expanded_tokens}
 use Rattle.c_pre.specs.Lines.{Tokens}
 use Rattle.c_pre.specs.Trace.{after, gives, answer, line_of, fault_at}
 
@@ -20,7 +20,7 @@ past n given token x e =
     let m : nat_le (length (given ++ token ∷ [])) n ≡ false = lt-leb (length (given ++ token ∷ [])) n (omega (arith, length-append given (token ∷ []))) in
     rw (m, line_of-last n given token e) refl
 
-pub one_too_many : (given : Tokens) (token : Token) → length given ≤ MAX_EXPANDED_TOKENS → MAX_EXPANDED_TOKENS ≤ length given
+pub one_too_many : (given : Tokens) (token : Token) → length given ≤ max_expanded_tokens → max_expanded_tokens ≤ length given
     → answer (after given (gives token)) ≡ Err (fault_at token.line TooMany)
 unfolding answer
-one_too_many given token a b = past MAX_EXPANDED_TOKENS given token _ (omega arith)
+one_too_many given token a b = past max_expanded_tokens given token _ (omega arith)

@@ -4,6 +4,8 @@ pub mod Giving
 pub mod Tables
 pub mod Turns
 pub mod LineReading
+pub mod Origins
+pub mod Skipping
 pub mod Cutting
 pub mod Wholes
 pub mod Including

@@ -6,7 +6,7 @@ use Rattle.c_pre.specs.declared.fault.PreFaultKind.{PreFaultKind}
 use Rattle.c_pre.specs.declared.fault.PreFaultKind.TheVariants.{TooMany}
 use Rattle.c_pre.specs.declared.fault.PreError.{PreError}
 use Rattle.c_pre.specs.declared.fault.PreError.TheVariants.{Memory, Fault}
-use Rattle.c_pre.specs.declared.TheConstants.{MAX_EXPANDED_TOKENS}
+use Rattle.c_pre.specs.Limits.{max_expanded_tokens}
 use Rattle.c_pre.specs.Lines.{Tokens}
 use Rattle.c_pre.specs.Trace.{Trace, after, goes_on, ◌>>=◌, ended, answer, line_of, fault_at, fails}
 use Rattle.c_pre.specs.Outcomes.{Fails, Stops, Steps, Follows}
@@ -53,21 +53,21 @@ answered {A} {B} n g (Ok x) go fault h =
 pub bind_failed : {A B : Type 0} (a : Tokens) (t : Trace A) (go : A → Trace B) (error : PreError) → Fails (after a t) error → Fails (after a (t >>= go)) error
 unfolding answer
 bind_failed a t go Memory h = h
-bind_failed a t go (Fault fault) h = ap answer (after_bind a t go) ∙ answered MAX_EXPANDED_TOKENS (a ++ t.given) t.end go fault h
+bind_failed a t go (Fault fault) h = ap answer (after_bind a t go) ∙ answered max_expanded_tokens (a ++ t.given) t.end go fault h
 
 -- a fault before which not too many tokens were given
-pub fault_here : (A : Type 0) (a : Tokens) (line : ℕ) (kind : PreFaultKind) → length a ≤ MAX_EXPANDED_TOKENS → answer (after {A = A} a (fails line kind)) ≡ Err (fault_at line kind)
+pub fault_here : (A : Type 0) (a : Tokens) (line : ℕ) (kind : PreFaultKind) → length a ≤ max_expanded_tokens → answer (after {A = A} a (fails line kind)) ≡ Err (fault_at line kind)
 unfolding answer
 fault_here A a line kind few =
-    let b : nat_le (length (a ++ [])) MAX_EXPANDED_TOKENS ≡ true = le-leb (length (a ++ [])) MAX_EXPANDED_TOKENS (omega (arith, length-append a [])) in
+    let b : nat_le (length (a ++ [])) max_expanded_tokens ≡ true = le-leb (length (a ++ [])) max_expanded_tokens (omega (arith, length-append a [])) in
     rw b refl
 
-pub stopped : {A : Type 0} (t : Trace A) (old : Tokens) (error : PreError) → length old ≤ MAX_EXPANDED_TOKENS → Stops t error → Fails (after old t) error
+pub stopped : {A : Type 0} (t : Trace A) (old : Tokens) (error : PreError) → length old ≤ max_expanded_tokens → Stops t error → Fails (after old t) error
 stopped t old Memory few h = h
 stopped {A} t old (Fault fault) few h = ap (λ t. answer (after old t)) h ∙ fault_here A old fault.line fault.kind few
 
 -- a part that gives no tokens
 pub quiet_follows : {A X : Type 0} (t : Trace A) (view : X → A) (old : Tokens) (result : Result X PreError)
-    → length old ≤ MAX_EXPANDED_TOKENS → Steps t view result → Follows t view old old result
+    → length old ≤ max_expanded_tokens → Steps t view result → Follows t view old old result
 quiet_follows t view old (Ok x) few h = (ap (after old) h ∙ ap (λ given. record { given = given; end = Ok (view x) }) (append-nil old), few)
 quiet_follows t view old (Err error) few h = stopped t old error few h

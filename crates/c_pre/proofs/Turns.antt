@@ -5,7 +5,7 @@ use Rattle.c_lexer.specs.declared.token.Token.{Token}
 use Rattle.c_pre.specs.declared.fault.PreError.{PreError}
 use Rattle.c_pre.specs.declared.fault.PreFaultKind.TheVariants.{TooMany}
 use Rattle.c_pre.specs.declared.reader.OpenList.{OpenList}
-use Rattle.c_pre.specs.declared.TheConstants.{MAX_EXPANDED_TOKENS}
+use Rattle.c_pre.specs.Limits.{max_expanded_tokens}
 use Rattle.c_pre.specs.Lines.{Tokens}
 use Rattle.c_pre.specs.Names.{Name, Names, Macros}
 use Rattle.c_pre.specs.Trace.{Trace, after, gives, quiet, fails, ◌>>=◌, answer, fault_at}
@@ -76,7 +76,7 @@ module _ (old a : Tokens) (whole : Trace ℕ) (m : Macros) (room : ℕ) (q p : L
       same ∙ ap (λ q. after a (expansion m room q)) first ∙ ap (after a) (replaced m room x p name list e h)
       ∙ ap (λ q. after a (expansion m (room - length list) q)) (sym n)
 
-  pub failed_replaced : (name : Name) (list : Tokens) → length a ≤ MAX_EXPANDED_TOKENS → q ≡ x ∷ p → replacement m x ≡ Some (name, list) → room < length list
+  pub failed_replaced : (name : Name) (list : Tokens) → length a ≤ max_expanded_tokens → q ≡ x ∷ p → replacement m x ≡ Some (name, list) → room < length list
       → answer (after old whole) ≡ Err (fault_at x.token.line TooMany)
   failed_replaced name list few first e h =
       ap answer (same ∙ ap (λ q. after a (expansion m room q)) first ∙ ap (after a) (refused m room x p name list e h)) ∙ fault_here ℕ a x.token.line TooMany few

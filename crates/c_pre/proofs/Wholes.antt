@@ -3,7 +3,7 @@ use Rattle.std.proofs.Common.{◌≡◌, ℕ, ◌≤◌, true, [], ◌∷◌, le
 use Rattle.std.proofs.lemmas.Bool.{le-leb}
 use Rattle.c_pre.specs.declared.fault.PreError.{PreError}
 use Rattle.c_pre.specs.declared.fault.PreError.TheVariants.{Memory, Fault}
-use Rattle.c_pre.specs.declared.TheConstants.{MAX_EXPANDED_TOKENS}
+use Rattle.c_pre.specs.Limits.{max_expanded_tokens}
 use Rattle.c_pre.specs.Lines.{Tokens, lines}
 use Rattle.c_pre.specs.Trace.{Trace, quiet, after, answer}
 use Rattle.c_pre.specs.Sections.{State, finished}
@@ -31,7 +31,7 @@ nil : (rest : Tokens) → length rest ≡ 0 → rest ≡ []
 nil [] e = refl
 nil (t ∷ rest) e = absurd (omega arith)
 
-module _ (tokens : Tokens) (at : ℕ) (s : State) (a : Tokens) (same : read_lines start (lines tokens) ≡ after a (read_lines s (lines (drop at tokens)))) (none : length tokens ≤ at) (few : length a ≤ MAX_EXPANDED_TOKENS) where
+module _ (tokens : Tokens) (at : ℕ) (s : State) (a : Tokens) (same : read_lines start (lines tokens) ≡ after a (read_lines s (lines (drop at tokens)))) (none : length tokens ≤ at) (few : length a ≤ max_expanded_tokens) where
   at_end : read_lines start (lines tokens) ≡ after a (finished s.sections)
   at_end = same ∙ ap (λ r. after a (read_lines s (lines r))) (nil (drop at tokens) (omega (arith, length-drop at tokens)))
 
@@ -41,7 +41,7 @@ module _ (tokens : Tokens) (at : ℕ) (s : State) (a : Tokens) (same : read_line
   answer-quiet : (t : Trace Unit) → t ≡ quiet tt → answer (after a t) ≡ Ok a
   unfolding answer
   answer-quiet t e =
-      let b : nat_le (length a) MAX_EXPANDED_TOKENS ≡ true = le-leb (length a) MAX_EXPANDED_TOKENS few in
+      let b : nat_le (length a) max_expanded_tokens ≡ true = le-leb (length a) max_expanded_tokens few in
       ap (λ t. answer (after a t)) e ∙ ap (λ given. answer {A = Unit} (record { given = given; end = Ok tt })) (append-nil a) ∙ rw b refl
 
   pub end_read : finished s.sections ≡ quiet tt → expanded_tokens tokens ≡ Ok a

@@ -1,4 +1,5 @@
 pub mod Faults
+pub mod Limits
 pub mod Lines
 pub mod Headers
 pub mod Names
@@ -6,6 +7,8 @@ pub mod Trace
 pub mod Expansion
 pub mod Directives
 pub mod Sections
+pub mod Groups
 pub mod Reading
 pub mod Pending
 pub mod Outcomes
+pub mod Origin

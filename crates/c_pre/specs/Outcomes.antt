@@ -8,7 +8,7 @@ use Rattle.c_pre.specs.declared.fault.PreError.TheVariants.{Memory, Fault}
 use Rattle.c_pre.specs.declared.directive.LineKind.{LineKind}
 use Rattle.c_pre.specs.declared.directive.LineKind.TheVariants as k
 use Rattle.c_pre.specs.declared.preprocessor.Preprocessor.{Preprocessor}
-use Rattle.c_pre.specs.declared.TheConstants.{MAX_EXPANDED_TOKENS}
+use Rattle.c_pre.specs.Limits.{max_expanded_tokens}
 use Rattle.c_pre.specs.Lines.{Tokens}
 use Rattle.c_pre.specs.Names.{Name, Macros}
 use Rattle.c_pre.specs.Trace.{Trace, after, answer, quiet}
@@ -23,7 +23,7 @@ Fails t (Fault fault) = answer t ≡ Err fault
 -- of a call that gives tokens, with those given before and those given now: it gave those of the trace; or the answer for
 -- the whole text is this fault, whatever follows
 abbrev pub Follows : {A X : Type 0} → Trace A → (X → A) → Tokens → Tokens → Result X PreError → Type 0
-Follows t view old new (Ok x) = (after old t ≡ record { given = new; end = Ok (view x) }) × (length new ≤ MAX_EXPANDED_TOKENS)
+Follows t view old new (Ok x) = (after old t ≡ record { given = new; end = Ok (view x) }) × (length new ≤ max_expanded_tokens)
 Follows t view old new (Err error) = Fails (after old t) error
 
 abbrev pub Stops : {A : Type 0} → Trace A → PreError → Type 0

@@ -3,7 +3,7 @@ use Rattle.std.specs.Prelude.{ℕ, Bool, true, false, not, List, [], ◌∷◌, 
 use Rattle.c_lexer.specs.Spelled.{TokenList}
 use Rattle.c_pre.specs.declared.fault.PreFault.{PreFault}
 use Rattle.c_pre.specs.declared.fault.PreFaultKind.TheVariants.{UnknownInclude, UnknownDirective, MacroRedefined}
-use Rattle.c_pre.specs.declared.TheConstants.{MAX_REPLACEMENT_TOKENS}
+use Rattle.c_pre.specs.Limits.{max_replacement_tokens}
 use Rattle.c_pre.specs.Lines.{Tokens, lines}
 use Rattle.c_pre.specs.Headers.{header_tokens}
 use Rattle.c_pre.specs.Names.{Name, Macros, same_list}
@@ -88,7 +88,7 @@ read_lines s (line ∷ more) = read_line s line >>= λ next. read_lines next mor
 
 -- at the start no name is defined
 abbrev pub start : State
-start = record { sections = []; macros = λ name. None; room = MAX_REPLACEMENT_TOKENS }
+start = record { sections = []; macros = λ name. None; room = max_replacement_tokens }
 
 -- the expanded tokens, or the first fault
 unfoldable pub expanded_tokens : Tokens → Result Tokens PreFault

@@ -25,6 +25,10 @@ opened line holds = record { line = line; in_read_text = true; is_taken = holds;
 abbrev pub skipped : ℕ → IfSection
 skipped line = record { line = line; in_read_text = false; is_taken = true; has_else = false; is_reading = false }
 
+-- one in text that is read, whose first group was skipped, behind its `#else`
+abbrev pub chosen : ℕ → IfSection
+chosen line = record { line = line; in_read_text = true; is_taken = true; has_else = true; is_reading = true }
+
 abbrev pub with_section : IfSection → State → State
 with_section section s = record s { sections = section ∷ s.sections }
 

@@ -4,7 +4,7 @@ use Rattle.c_lexer.specs.declared.token.Token.{Token}
 use Rattle.c_pre.specs.declared.fault.PreFaultKind.{PreFaultKind}
 use Rattle.c_pre.specs.declared.fault.PreFaultKind.TheVariants.{TooMany}
 use Rattle.c_pre.specs.declared.fault.PreFault.{PreFault}
-use Rattle.c_pre.specs.declared.TheConstants.{MAX_EXPANDED_TOKENS}
+use Rattle.c_pre.specs.Limits.{max_expanded_tokens}
 use Rattle.c_pre.specs.Lines.{Tokens}
 
 -- the tokens given, and what stands at the end, or the fault there
@@ -50,5 +50,5 @@ ended given (Err fault) = Err fault
 -- the answer for the whole text: a token too many comes before the fault that ends the trace
 unfoldable pub answer : {A : Type 0} → Trace A → Result Tokens PreFault
 answer t =
-    if nat_le (length t.given) MAX_EXPANDED_TOKENS then ended t.given t.end
-    else Err (fault_at (line_of (drop MAX_EXPANDED_TOKENS t.given)) TooMany)
+    if nat_le (length t.given) max_expanded_tokens then ended t.given t.end
+    else Err (fault_at (line_of (drop max_expanded_tokens t.given)) TooMany)

@@ -6,6 +6,7 @@ ghost use Rattle.c_pre.specs.Pending as spec;
 ghost use Rattle.c_pre.specs.Expansion as expansion;
 ghost use Rattle.c_pre.specs.Outcomes.{Follows, macros_of};
 ghost use Rattle.c_pre.specs.Trace.{gives};
+ghost use Rattle.c_pre.specs.Limits.{max_expanded_tokens};
 
 use crate::MAX_EXPANDED_TOKENS;
 use crate::definition::Definition;
@@ -22,7 +23,7 @@ pub type MacroTable<'t, 'a> = IndexMap<MacroName<'a>, &'t [Token<'a>]>;
 /// Gives a token, unless it is one too many.
 #[tactic(auto, using(crate::proofs::Giving::one_too_many), unfolding(crate::specs::Trace::answer))]
 fn give<'a>(out: &mut Vec<Token<'a>>, token: Token<'a>) -> Result<(), PreError>
-    requires { length out.old.items ≤ MAX_EXPANDED_TOKENS }
+    requires { length out.old.items ≤ max_expanded_tokens }
     ensures { Follows (gives token.entry) (λ x. x) out.old.items out.new.items result }
 {
     if out.len() >= MAX_EXPANDED_TOKENS {
@@ -59,7 +60,7 @@ pub fn expand_line<'t, 'a>(
     line: &'t [Token<'a>],
     out: &mut Vec<Token<'a>>,
 ) -> Result<usize, PreError>
-    requires { length out.old.items ≤ MAX_EXPANDED_TOKENS }
+    requires { length out.old.items ≤ max_expanded_tokens }
     ensures { Follows (expansion.expansion (macros_of macros.now) room (expansion.of_text line.now)) (λ x. x) out.old.items out.new.items result }
 {
     let mut reader = Reader::new(alloc, line);

@@ -9,6 +9,7 @@ pub mod expansion;
 pub mod fault;
 pub mod header;
 pub mod headers;
+pub mod laws;
 pub mod lines;
 pub mod name;
 pub mod preprocessor;

@@ -1,6 +1,7 @@
 //! The state while a text is read, and the directives.
 
 ghost use Rattle.std.specs.Prelude.{◌≡◌, ◌≤◌, length, None};
+ghost use Rattle.c_pre.specs.Limits.{max_expanded_tokens};
 ghost use Rattle.c_pre.specs.Lines.{lines};
 ghost use Rattle.c_pre.specs.Directives.{line_kind};
 ghost use Rattle.c_pre.specs.Headers.{header_tokens};
@@ -11,6 +12,7 @@ ghost use Rattle.c_pre.specs.Reading as spec;
 ghost use Rattle.c_pre.specs.Pending.{inner_first};
 ghost use Rattle.c_pre.specs.Outcomes.{Follows, Steps, state_of, line_of_kind};
 
+use crate::MAX_REPLACEMENT_TOKENS;
 use crate::definition::Definition;
 use crate::directive::LineKind;
 use crate::expansion::{MacroTable, expand_line};
@@ -20,7 +22,6 @@ use crate::headers::Headers;
 use crate::lines::line_len;
 use crate::name::MacroName;
 use crate::section::IfSection;
-use crate::{MAX_EXPANDED_TOKENS, MAX_REPLACEMENT_TOKENS};
 use c_lexer::Token;
 use indexmap::IndexMap;
 use sb_base::Line;
@@ -230,7 +231,7 @@ impl<'t, 'a> Preprocessor<'t, 'a> {
         line: &'t [Token<'a>],
         out: &mut Vec<Token<'a>>,
     ) -> Result<(), PreError>
-        requires { length out.old.items ≤ MAX_EXPANDED_TOKENS }
+        requires { length out.old.items ≤ max_expanded_tokens }
         ensures { Follows (spec.read_text_line (state_of self.old) line.now) (λ _. state_of self.new) out.old.items out.new.items result }
     {
         self.room = expand_line(self.alloc, &self.macros, self.room, line, out)?;
@@ -243,7 +244,7 @@ impl<'t, 'a> Preprocessor<'t, 'a> {
         line: &'t [Token<'a>],
         out: &mut Vec<Token<'a>>,
     ) -> Result<(), PreError>
-        requires { length out.old.items ≤ MAX_EXPANDED_TOKENS }
+        requires { length out.old.items ≤ max_expanded_tokens }
         ensures { Follows (spec.read_line (state_of self.old) line.now) (λ _. state_of self.new) out.old.items out.new.items result }
     {
         let at = line_of(line);

@@ -1,7 +1,7 @@
 //! A whole text.
 
 ghost use Rattle.std.specs.Prelude.{◌≡◌, ◌≤◌, length, IfOk};
-ghost use Rattle.c_pre.specs.declared.TheConstants.{MAX_EXPANDED_TOKENS};
+ghost use Rattle.c_pre.specs.Limits.{max_expanded_tokens};
 ghost use Rattle.c_pre.specs.Reading as spec;
 ghost use Rattle.c_pre.specs.Outcomes.{Gives};
 
@@ -15,7 +15,7 @@ use std::alloc::Global;
 /// The expanded tokens of a text, or its first fault.
 fn expand_tokens<'a>(alloc: Global, tokens: &[Token<'a>]) -> Result<Vec<Token<'a>>, PreError>
     ensures value { Gives (λ v. v.items) result (spec.expanded_tokens tokens.now) }
-    ensures few { IfOk result (λ v. length v.items ≤ MAX_EXPANDED_TOKENS) }
+    ensures few { IfOk result (λ v. length v.items ≤ max_expanded_tokens) }
 {
     let headers = Headers::new(alloc)?;
     let mut preprocessor = Preprocessor::new(alloc, &headers);
@@ -36,7 +36,7 @@ fn expand_tokens<'a>(alloc: Global, tokens: &[Token<'a>]) -> Result<Vec<Token<'a
 /// stands in the definition. The line on which the text ends stays.
 pub fn expand<'a>(alloc: Global, tokens: Tokens<'a>) -> Result<Tokens<'a>, PreError>
     ensures value { Gives (λ list. list) result (spec.expanded tokens.entry) }
-    ensures few { IfOk result (λ list. length list.tokens ≤ MAX_EXPANDED_TOKENS) }
+    ensures few { IfOk result (λ list. length list.tokens ≤ max_expanded_tokens) }
 {
     let expanded = expand_tokens(alloc, tokens.as_slice())?;
     Ok(Tokens::new(expanded, tokens.end()))

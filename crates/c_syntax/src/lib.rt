@@ -3,18 +3,12 @@
 
 pub mod declaration;
 pub mod declarators;
-mod formed;
-mod levels;
 pub mod names;
 pub mod operators;
 pub mod place;
 pub mod specifiers;
 pub mod statement;
-mod statement_formed;
-mod statement_levels;
-mod statement_words;
 pub mod tree;
-mod tree_words;
 
 pub use crate::declaration::{
     Declaration, Designation, Designator, InitDeclarator, InitDeclarators, Initializer,
@@ -23,8 +17,6 @@ pub use crate::declaration::{
 pub use crate::place::{Place, Placed, Spelled, with_places};
 pub use crate::specifiers::{TypeSize, TypeWords};
 pub use crate::statement::{Block, BlockItem, External, ForInit, Statement, Unit};
-pub use crate::statement_formed::well_formed;
-pub use crate::statement_words::words;
 pub use crate::tree::{
     Arguments, Declarator, Enumerator, Expression, Member, Parameters, Specifier, TypedDeclarator,
 };

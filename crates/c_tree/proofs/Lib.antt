@@ -1,1 +1,3 @@
 pub mod Alignments
+pub mod Layouts
+pub mod Arrays

@@ -1,5 +1,7 @@
 pub mod Extents
 pub mod Layout
+pub mod Members
+pub mod Arrays
 pub mod Kinds
 pub mod Format
 pub mod Tree

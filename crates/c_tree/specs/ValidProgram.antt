@@ -12,6 +12,7 @@ use Rattle.c_tree.specs.Statements.{Content, value_content, literal_content, Par
 use Rattle.c_tree.specs.Programs.{FunctionType, Function, StaticObject, Program}
 use Rattle.c_tree.specs.Walk.{any_of, names_variable}
 use Rattle.c_tree.specs.Blocks.{block_variables, switch_variables, first_variables, each_variables, all_of, body_variables}
+use Rattle.c_tree.specs.Arrays.{is_sized}
 use Rattle.c_tree.specs.TypesAgree.{agrees, same_words}
 use Rattle.c_tree.specs.Kinds.{integer, is_kind, size_of_kind, has_size, is_promoted, is_value, is_scalar, Signature}
 use Rattle.c_tree.specs.Room.{room}
@@ -128,7 +129,8 @@ abbrev mutual
 -- function types: all different, and each has the kinds of its parameters and of its result
 
 abbrev pub is_function_type : Program → FunctionType → Bool
-is_function_type program t = agrees program.structures t.c_type t.parameters t.result
+is_function_type program t =
+    is_sized program.structures t.c_type && agrees program.structures t.c_type t.parameters t.result
 
 abbrev pub are_all_different : List FunctionType → Bool
 are_all_different [] = true

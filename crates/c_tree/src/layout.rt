@@ -114,6 +114,20 @@ impl Extent {
     }
 }
 
+impl TypeWord {
+    ghost use Rattle.c_tree.specs.Arrays.{array_word};
+
+    /// "array of so many" elements of this extent, the words of whose type stand behind it.
+    pub fn array(count: u64, element: Extent) -> TypeWord
+        ensures { result ≡ array_word count element }
+    {
+        TypeWord::Array {
+            count,
+            bytes: array_size(count, element.size()),
+        }
+    }
+}
+
 /// The size of an array of so many elements of this size.
 #[tactic(auto, unfolding(crate::specs::Layout::array_size))]
 pub fn array_size(count: u64, element: u64) -> u64

@@ -4,6 +4,7 @@
 pub mod c_type;
 pub mod expression;
 pub mod format;
+pub mod laws;
 pub mod layout;
 pub mod program;
 pub mod statement;

@@ -1,6 +1,5 @@
 -- From what clap answers to the command that the words ask for.
-use Rattle.std.proofs.Common.{◌≡◌, ◌≢◌, ◌∙◌, ◌==◌, List, [], ◌∷◌, Option, Some, None, Result, Err, IfOk, true, cond, length, arith, refl, sym, ap, subst, option_map, option_and_then, inl, inr}
-use Rattle.std.specs.Option.{ok_or}
+use Rattle.std.proofs.Common.{◌≡◌, ◌≢◌, ◌∙◌, ◌==◌, List, [], ◌∷◌, Option, None, true, cond, length, arith, refl, sym, ap, subst, option_and_then, inl, inr}
 use Rattle.std.proofs.lemmas.Bool.Decides.{nat_tests}
 use Rattle.clap.specs.Words.{App, HasKind, HasMatchesOf, IsAmong, Kinds, Text, fault_of, is_simple, is_simple_and_free, kind_of, subcommand_of, subcommand_rows_of}
 use Rattle.clap.specs.declared.error.Error.{Error}
@@ -8,11 +7,8 @@ use Rattle.clap.specs.declared.error.kind.ErrorKind.{ErrorKind}
 use Rattle.clap.specs.declared.error.kind.ErrorKind.TheVariants.{OutOfMemory}
 use Rattle.clap.specs.declared.parser.matches.ArgMatches.{ArgMatches}
 use Rattle.clap.proofs.OnLiterals.{clap_on_literals}
-use Rattle.command_line.specs.Asked.{Asked, asked_of, command_at, command_in}
+use Rattle.command_line.specs.Asked.{Asked, command_at, command_in}
 use Rattle.command_line.specs.Program.{program}
-use Rattle.command_line.specs.declared.command.Command.{Command}
-use Rattle.command_line.specs.declared.command.WordsFault.{WordsFault}
-use Rattle.command_line.specs.declared.command.WordsFault.TheVariants.{Usage}
 
 -- clap's laws on matches and on kinds of errors hold of the program
 program_is_simple : is_simple program ≡ true
@@ -52,14 +48,3 @@ refused_is app words error same fails other =
       | inl memory ↦ absurd (other memory)
       | inr kind ↦ not_taken (fault_of program words) (kind_of error) (option_and_then command_at (subcommand_of program words)) kind
     ]
-
--- what `ok_or` makes of the command
-pub answered_ok : (found : Option Command) (answer : Result Command WordsFault) (asked : Option Asked) → answer ≡ ok_or found Usage
-    → option_map asked_of found ≡ asked → IfOk answer (λ command. asked ≡ Some (asked_of command))
-answered_ok None answer asked is given = subst (λ r. IfOk r (λ command. asked ≡ Some (asked_of command))) (sym is) tt
-answered_ok (Some command) answer asked is given = subst (λ r. IfOk r (λ command. asked ≡ Some (asked_of command))) (sym is) (sym given)
-
-pub answered_usage : (found : Option Command) (answer : Result Command WordsFault) (asked : Option Asked) → answer ≡ ok_or found Usage
-    → option_map asked_of found ≡ asked → answer ≡ Err Usage → asked ≡ None
-answered_usage None answer asked is given usage = sym given
-answered_usage (Some command) answer asked is given usage = cc

@@ -1,20 +1,20 @@
 -- The command that words ask for.
 use Rattle.std.specs.Prelude.{ℕ, ⊤, ◌≤◌, ◌^◌, ◌==◌, List, Option, Some, None, codes, length}
-use Rattle.std.specs.Prelude.{if◌then◌else◌, nat_le, option_and_then, option_map}
+use Rattle.std.specs.Prelude.{if◌then◌else◌, is_none, nat_le, option_and_then, option_map}
 use Rattle.std.specs.Str.{bytes_eq}
 use Rattle.clap.specs.Words.{Row, Text, fault_of, first_of, found_of, rows_of, subcommand_of}
 use Rattle.clap.specs.declared.parser.matches.ArgMatches.{ArgMatches}
+use Rattle.sb_base.specs.Budgets.{BudgetSizes, default_sizes, budget_fault}
 use Rattle.command_line.specs.Numbers.{number_in}
 use Rattle.command_line.specs.Program.{program}
-use Rattle.command_line.specs.declared.command.BudgetNumbers.{BudgetNumbers}
 use Rattle.command_line.specs.declared.command.Command.{Command}
 use Rattle.command_line.specs.declared.command.Command.TheVariants.{Build, Run, Go}
 
 -- a command, with the texts of its files' names
 pub data Asked : Type 0 where
-  build : (source image : Text) (budgets : BudgetNumbers) → Asked
+  build : (source image : Text) (budgets : BudgetSizes) → Asked
   run : (image : Text) (limit : ℕ) → Asked
-  go : (source : Text) (budgets : BudgetNumbers) (limit : ℕ) → Asked
+  go : (source : Text) (budgets : BudgetSizes) (limit : ℕ) → Asked
 
 abbrev pub asked_of : Command → Asked
 asked_of (Build source image budgets) = build source.now image.now budgets
@@ -27,16 +27,7 @@ IsLimited (Build source image budgets) = ⊤
 IsLimited (Run image limit) = limit ≤ 2 ^ 62
 IsLimited (Go source budgets limit) = limit ≤ 2 ^ 62
 
--- what the options that are left out stand for
-abbrev pub default_budgets : BudgetNumbers
-default_budgets = record {
-  heap = 4194304;
-  stack = 1048576;
-  calls = 4194304;
-  blocks = 16384;
-  keys = 2 ^ 62;
-}
-
+-- what the option that is left out stands for
 abbrev pub default_limit : ℕ
 default_limit = 1000000000
 
@@ -58,24 +49,28 @@ number_or default (Some text) = number_in text
 unfoldable pub number_at : Text → ℕ → List Row → Option ℕ
 number_at name default rows = number_or default (text_at name rows)
 
-unfoldable pub budgets_at : List Row → Option BudgetNumbers
+-- the budgets of these sizes, where each is in its range
+abbrev pub allowed : BudgetSizes → Option BudgetSizes
+allowed sizes = if is_none (budget_fault sizes) then Some sizes else None
+
+unfoldable pub budgets_at : List Row → Option BudgetSizes
 budgets_at rows =
     option_and_then (λ heap.
     option_and_then (λ stack.
     option_and_then (λ calls.
     option_and_then (λ blocks.
-    option_map (λ keys. record {
+    option_and_then (λ keys. allowed (record {
       heap = heap;
       stack = stack;
       calls = calls;
       blocks = blocks;
       keys = keys;
-    })
-    (number_at (codes "keys") default_budgets.keys rows))
-    (number_at (codes "blocks") default_budgets.blocks rows))
-    (number_at (codes "calls") default_budgets.calls rows))
-    (number_at (codes "stack") default_budgets.stack rows))
-    (number_at (codes "heap") default_budgets.heap rows)
+    }))
+    (number_at (codes "keys") default_sizes.keys rows))
+    (number_at (codes "blocks") default_sizes.blocks rows))
+    (number_at (codes "calls") default_sizes.calls rows))
+    (number_at (codes "stack") default_sizes.stack rows))
+    (number_at (codes "heap") default_sizes.heap rows)
 
 -- a limit is at most 2 ^ 62
 abbrev pub limit_in_range : ℕ → Option ℕ

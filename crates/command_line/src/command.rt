@@ -5,23 +5,8 @@ ghost use Rattle.clap.specs.declared.error.kind.ErrorKind.TheVariants.{OutOfMemo
 ghost use Rattle.command_line.specs.declared.command.WordsFault.TheVariants.{Memory, Usage};
 
 use clap::error::ErrorKind;
+use sb_base::Budgets;
 use std::alloc::AllocError;
-
-/// How much of each resource a compiled program may use, as the words give it. Whether the numbers
-/// suit one another and the machine is judged by what builds the image.
-#[derive(Clone, Copy, Debug, PartialEq, Eq)]
-pub struct BudgetNumbers {
-    /// Bytes of the heap.
-    pub heap: u64,
-    /// Bytes of the stack.
-    pub stack: u64,
-    /// Bytes of the stack of calls.
-    pub calls: u64,
-    /// How many blocks may be live at a time.
-    pub blocks: u64,
-    /// How many keys may be given out in all.
-    pub keys: u64,
-}
 
 /// What the tool is asked to do. A source and an image are names of files, as the words give them.
 #[derive(Clone, Copy, Debug, PartialEq, Eq)]
@@ -33,7 +18,7 @@ pub enum Command<'a> {
         /// The file to write.
         image: &'a str,
         /// What the compiled program may use.
-        budgets: BudgetNumbers,
+        budgets: Budgets,
     },
     /// Run an image.
     Run {
@@ -47,7 +32,7 @@ pub enum Command<'a> {
         /// The file to compile.
         source: &'a str,
         /// What the compiled program may use.
-        budgets: BudgetNumbers,
+        budgets: Budgets,
         /// How many instructions the run may take, at most 2^62.
         limit: u64,
     },
@@ -56,7 +41,7 @@ pub enum Command<'a> {
 /// Why there is no command.
 #[derive(Clone, Copy, Debug, PartialEq, Eq)]
 pub enum WordsFault {
-    /// The words are no command, or ask for help.
+    /// The words are no command, ask for help, or give a budget that is out of its range.
     Usage,
     /// Memory ran out.
     Memory,

@@ -10,9 +10,9 @@
 #![tactic(auto)]
 
 mod command;
+mod command_words;
 mod number;
 mod program;
-mod words;
 
-pub use command::{BudgetNumbers, Command, WordsFault};
-pub use words::command_of;
+pub use command::{Command, WordsFault};
+pub use command_words::command_of;

@@ -25,11 +25,24 @@ overlap_passes p o =
     let b = code_segment p.code in
     let c = data_segment p.objects in
     let d = data_segment p.runtime in
-    rw (apart a b (omega arith), apart a c (omega arith), apart a d (omega arith), apart b c (omega arith), apart b d (omega arith), apart c d (omega arith)) refl
+    rw (
+      apart a b (omega arith),
+      apart a c (omega arith),
+      apart a d (omega arith),
+      apart b c
+          (omega arith),
+      apart b d (omega arith),
+      apart c d (omega arith),
+    ) refl
 
 entry_passes : (p : Pieces) → IsInOrder p → entry_fault p.entry (content p).segments ≡ None
 entry_passes p o =
-    rw (zero_is (p.entry % 4) o.aligned, le-leb p.rows.address p.entry o.entry_from, lt-ltb (p.entry - p.rows.address) p.rows.size (omega arith)) refl
+    rw (
+      zero_is (p.entry % 4) o.aligned,
+      le-leb p.rows.address p.entry o.entry_from,
+      lt-ltb
+          (p.entry - p.rows.address) p.rows.size (omega arith),
+    ) refl
 
 then_all : (f g : Option ImageFault) → f ≡ None → g ≡ None → (f then g) ≡ None
 then_all f g d e = rw d e

@@ -1,5 +1,7 @@
 -- What is written is read as the image that was written.
-use Rattle.std.proofs.Common.{◌≡◌, ℕ, suc, ◌+◌, ◌^◌, ◌<◌, ◌≤◌, Bool, true, false, List, [], ◌∷◌, ◌++◌, map, length, take, drop, Option, Some, None, Result, Ok, Err, IfOk, refl, ap, ◌∙◌, append_assoc, arith, lit<}
+use Rattle.std.proofs.Common.{◌≡◌, ℕ, suc, ◌+◌, ◌^◌, ◌<◌, ◌≤◌, Bool, true, false, List, [], ◌∷◌, ◌++◌, map, length}
+use Rattle.std.proofs.Common.{take, drop, Option, Some, None, Result, Ok, Err, IfOk, refl, ap, ◌∙◌, append_assoc}
+use Rattle.std.proofs.Common.{arith, lit<}
 use Rattle.std.proofs.lemmas.List.{take_at, drop_at}
 use Rattle.std.proofs.lemmas.Bool.{le-leb, leb-true}
 use Rattle.std.specs.Prelude.{if◌then◌else◌}
@@ -8,9 +10,13 @@ use Rattle.elf_image.specs.declared.fault.ImageFault.TheVariants.{Truncated, Too
 use Rattle.elf_image.specs.declared.header.FileHeader.{FileHeader}
 use Rattle.elf_image.specs.declared.header.ProgramHeader.{ProgramHeader}
 use Rattle.elf_image.specs.Layout.{file_header, program_header, loads, loads_of, segment_of, content_of}
-use Rattle.elf_image.specs.Tests.{◌then◌, ◌unless◌, header_fault, count_fault, load_fault, loads_fault, memory_size, size_fault, overlap_fault, entry_fault, content_fault, headers_fault, image_fault}
-use Rattle.elf_image.specs.Writing.{Piece, Pieces, zeros, header_bytes, u32_bytes, u64_bytes, load_bytes, padded, code_offset, objects_offset, runtime_offset, image_size, image_bytes, content, PiecesFit}
-use Rattle.elf_image.proofs.Pages.{length-header_bytes, length-load_bytes, length-image_bytes, rows_at, code_at, objects_at, runtime_at}
+use Rattle.elf_image.specs.Tests.{◌then◌, ◌unless◌, header_fault, count_fault, load_fault, loads_fault, memory_size}
+use Rattle.elf_image.specs.Tests.{size_fault, overlap_fault, entry_fault, content_fault, headers_fault, image_fault}
+use Rattle.elf_image.specs.Writing.{Piece, Pieces, zeros, header_bytes, u32_bytes, u64_bytes, load_bytes, padded}
+use Rattle.elf_image.specs.Writing.{code_offset, objects_offset, runtime_offset, image_size, image_bytes, content}
+use Rattle.elf_image.specs.Writing.{PiecesFit}
+use Rattle.elf_image.proofs.Pages.{length-header_bytes, length-load_bytes, length-image_bytes, rows_at, code_at}
+use Rattle.elf_image.proofs.Pages.{objects_at, runtime_at}
 
 -- the file header that is written
 abbrev written_header : ℕ → FileHeader
@@ -28,7 +34,8 @@ written_header entry = record {
   program_header_count = 4;
 }
 
-header_read : (entry : ℕ) (rest : List ℕ) → entry < 2 ^ 64 → file_header (header_bytes entry ++ rest) ≡ written_header entry
+header_read : (entry : ℕ) (rest : List ℕ) → entry < 2 ^ 64 → file_header (header_bytes entry ++ rest)
+    ≡ written_header entry
 unfolding file_header header_bytes
 header_read entry rest h =
     let e : (file_header (header_bytes entry ++ rest)).entry ≡ entry = omega arith in
@@ -46,7 +53,9 @@ written_load flags offset p = record {
 }
 
 -- a program header is its fields
-same_header : (h : ProgramHeader) (a b c d e f : ℕ) → h.segment_type ≡ a → h.flags ≡ b → h.offset ≡ c → h.virtual_address ≡ d → h.file_size ≡ e → h.memory_size ≡ f → h ≡ record { segment_type = a; flags = b; offset = c; virtual_address = d; file_size = e; memory_size = f }
+same_header : (h : ProgramHeader) (a b c d e f : ℕ) → h.segment_type ≡ a → h.flags ≡ b → h.offset ≡ c
+    → h.virtual_address ≡ d → h.file_size ≡ e → h.memory_size ≡ f
+    → h ≡ record { segment_type = a; flags = b; offset = c; virtual_address = d; file_size = e; memory_size = f }
 same_header h a b c d e f o p q r s t = rw (← o, ← p, ← q, ← r, ← s, ← t) refl
 
 -- the numbers of a program header fit its fields
@@ -57,7 +66,8 @@ pub record LoadFits (flags offset : ℕ) (p : Piece) : Type 0 where
   pub file_size_fits : length p.bytes < 2 ^ 64
   pub size_fits : p.size < 2 ^ 64
 
-load_read : (flags offset : ℕ) (p : Piece) → LoadFits flags offset p → program_header (load_bytes flags offset p) ≡ written_load flags offset p
+load_read : (flags offset : ℕ) (p : Piece) → LoadFits flags offset p
+    → program_header (load_bytes flags offset p) ≡ written_load flags offset p
 unfolding load_bytes u32_bytes u64_bytes program_header
 load_read flags offset p fits =
     let h = program_header (load_bytes flags offset p) in
@@ -70,7 +80,8 @@ load_read flags offset p fits =
     same_header h 1 flags offset p.address (length p.bytes) p.size a b c d e f
 
 -- a program header of a segment to load at the front of a table
-one_load : (front rest : List ℕ) (n : ℕ) (h : ProgramHeader) → length front ≡ 56 → program_header front ≡ h → h.segment_type ≡ 1 → loads (suc n) (front ++ rest) ≡ h ∷ loads n rest
+one_load : (front rest : List ℕ) (n : ℕ) (h : ProgramHeader) → length front ≡ 56 → program_header front ≡ h
+    → h.segment_type ≡ 1 → loads (suc n) (front ++ rest) ≡ h ∷ loads n rest
 one_load front rest n h long e load =
     let first : take 56 (front ++ rest) ≡ front = take_at front rest 56 long in
     let others : drop 56 (front ++ rest) ≡ rest = drop_at front rest 56 long in
@@ -79,7 +90,8 @@ one_load front rest n h long e load =
 -- what follows the file header
 table_on : Pieces → List ℕ
 table_on p =
-    load_bytes 1 4096 p.rows ++ (load_bytes 1 (code_offset p) p.code ++ (load_bytes 6 (objects_offset p) p.objects ++ (load_bytes 6 (runtime_offset p) p.runtime
+    load_bytes 1 4096 p.rows ++ (load_bytes 1 (code_offset p) p.code
+    ++ (load_bytes 6 (objects_offset p) p.objects ++ (load_bytes 6 (runtime_offset p) p.runtime
     ++ (zeros 3808 ++ (padded p.rows.bytes ++ (padded p.code.bytes ++ (padded p.objects.bytes ++ p.runtime.bytes)))))))
 
 image_headers : (p : Pieces) → image_bytes p ≡ header_bytes p.entry ++ table_on p
@@ -110,7 +122,8 @@ load_fits flags offset p a b s = record {
 
 abbrev written_loads : Pieces → List ProgramHeader
 written_loads p =
-    written_load 1 4096 p.rows ∷ written_load 1 (code_offset p) p.code ∷ written_load 6 (objects_offset p) p.objects ∷ written_load 6 (runtime_offset p) p.runtime ∷ []
+    written_load 1 4096 p.rows ∷ written_load 1 (code_offset p) p.code ∷ written_load 6 (objects_offset p) p.objects
+    ∷ written_load 6 (runtime_offset p) p.runtime ∷ []
 
 table_read : (p : Pieces) → PiecesSmall p → loads 4 (table_on p) ≡ written_loads p
 unfolding table_on
@@ -119,15 +132,21 @@ table_read p s =
     let second = load_bytes 1 (code_offset p) p.code in
     let third = load_bytes 6 (objects_offset p) p.objects in
     let fourth = load_bytes 6 (runtime_offset p) p.runtime in
-    let rest = zeros 3808 ++ (padded p.rows.bytes ++ (padded p.code.bytes ++ (padded p.objects.bytes ++ p.runtime.bytes))) in
+    let rest = zeros 3808 ++ (padded p.rows.bytes ++ (padded p.code.bytes
+    ++ (padded p.objects.bytes ++ p.runtime.bytes))) in
     let a = load_read 1 4096 p.rows (load_fits 1 4096 p.rows (lit< tt) (lit< tt) s.rows) in
     let b = load_read 1 (code_offset p) p.code (load_fits 1 (code_offset p) p.code (lit< tt) (omega arith) s.code) in
-    let c = load_read 6 (objects_offset p) p.objects (load_fits 6 (objects_offset p) p.objects (lit< tt) (omega arith) s.objects) in
-    let d = load_read 6 (runtime_offset p) p.runtime (load_fits 6 (runtime_offset p) p.runtime (lit< tt) (omega arith) s.runtime) in
+    let c = load_read 6 (objects_offset p) p.objects (load_fits 6 (objects_offset p) p.objects (lit< tt)
+    (omega arith) s.objects) in
+    let d = load_read 6 (runtime_offset p) p.runtime (load_fits 6 (runtime_offset p) p.runtime (lit< tt)
+    (omega arith) s.runtime) in
     one_load first (second ++ (third ++ (fourth ++ rest))) 3 _ (length-load_bytes 1 4096 p.rows) a refl
-    ∙ ap (λ hs. written_load 1 4096 p.rows ∷ hs) (one_load second (third ++ (fourth ++ rest)) 2 _ (length-load_bytes 1 (code_offset p) p.code) b refl
-    ∙ ap (λ hs. written_load 1 (code_offset p) p.code ∷ hs) (one_load third (fourth ++ rest) 1 _ (length-load_bytes 6 (objects_offset p) p.objects) c refl
-    ∙ ap (λ hs. written_load 6 (objects_offset p) p.objects ∷ hs) (one_load fourth rest 0 _ (length-load_bytes 6 (runtime_offset p) p.runtime) d refl)))
+    ∙ ap (λ hs. written_load 1 4096 p.rows ∷ hs) (one_load second (third ++ (fourth ++ rest)) 2 _
+    (length-load_bytes 1 (code_offset p) p.code) b refl
+    ∙ ap (λ hs. written_load 1 (code_offset p) p.code ∷ hs) (one_load third (fourth ++ rest) 1 _
+    (length-load_bytes 6 (objects_offset p) p.objects) c refl
+    ∙ ap (λ hs. written_load 6 (objects_offset p) p.objects ∷ hs)
+    (one_load fourth rest 0 _ (length-load_bytes 6 (runtime_offset p) p.runtime) d refl)))
 
 header_is : (p : Pieces) → PiecesSmall p → file_header (image_bytes p) ≡ written_header p.entry
 header_is p s = ap file_header (image_headers p) ∙ header_read p.entry (table_on p) s.entry
@@ -135,8 +154,10 @@ header_is p s = ap file_header (image_headers p) ∙ header_read p.entry (table_
 loads_are : (p : Pieces) → PiecesSmall p → loads_of (image_bytes p) ≡ written_loads p
 unfolding loads_of
 loads_are p s =
-    let after : drop 64 (image_bytes p) ≡ table_on p = ap (drop 64) (image_headers p) ∙ drop_at (header_bytes p.entry) (table_on p) 64 (length-header_bytes p.entry) in
-    ap (λ h. loads h.program_header_count (drop h.program_header_offset (image_bytes p))) (header_is p s) ∙ (ap (loads 4) after ∙ table_read p s)
+    let after : drop 64 (image_bytes p) ≡ table_on p = ap (drop 64) (image_headers p)
+    ∙ drop_at (header_bytes p.entry) (table_on p) 64 (length-header_bytes p.entry) in
+    ap (λ h. loads h.program_header_count (drop h.program_header_offset (image_bytes p))) (header_is p s)
+    ∙ (ap (loads 4) after ∙ table_read p s)
 
 segments_are : (p : Pieces) → map (segment_of (image_bytes p)) (written_loads p) ≡ (content p).segments
 segments_are p =
@@ -150,7 +171,8 @@ content_is : (p : Pieces) → PiecesSmall p → content_of (image_bytes p) ≡ c
 unfolding content_of
 content_is p s =
     let e : (file_header (image_bytes p)).entry ≡ p.entry = ap (λ h. h.entry) (header_is p s) in
-    let ss : map (segment_of (image_bytes p)) (loads_of (image_bytes p)) ≡ (content p).segments = ap (map (segment_of (image_bytes p))) (loads_are p s) ∙ segments_are p in
+    let ss : map (segment_of (image_bytes p)) (loads_of (image_bytes p))
+    ≡ (content p).segments = ap (map (segment_of (image_bytes p))) (loads_are p s) ∙ segments_are p in
     rw (e, ss) refl
 
 -- chains of tests
@@ -171,7 +193,9 @@ passed f false e = cc
 pub pieces_small : (p : Pieces) → PiecesFit p → PiecesSmall p
 pieces_small p f =
     let segments = (content p).segments in
-    let sum : memory_size segments ≤ 536870912 = leb-true (memory_size segments) 536870912 (passed (TooLarge (memory_size segments)) _ (then_first (size_fault segments) (overlap_fault segments then entry_fault p.entry segments) f.together)) in
+    let sum : memory_size segments ≤ 536870912 = leb-true (memory_size segments) 536870912
+    (passed (TooLarge (memory_size segments)) _ (then_first (size_fault segments)
+    (overlap_fault segments then entry_fault p.entry segments) f.together)) in
     record {
       entry = f.entry;
       rows = record { address = f.rows.2; size = omega arith; file_size = omega arith };
@@ -180,8 +204,14 @@ pieces_small p f =
       runtime = record { address = f.runtime.2; size = omega arith; file_size = omega arith };
     }
 
-load_passes : (size : ℕ) (h : ProgramHeader) → h.file_size ≤ h.memory_size → h.virtual_address + h.memory_size ≤ 2 ^ 64 → h.offset + h.file_size ≤ size → load_fault size h ≡ None
-load_passes size h a b c = rw (le-leb h.file_size h.memory_size a, le-leb (h.virtual_address + h.memory_size) (2 ^ 64) b, le-leb (h.offset + h.file_size) size c) refl
+load_passes : (size : ℕ) (h : ProgramHeader) → h.file_size ≤ h.memory_size
+    → h.virtual_address + h.memory_size ≤ 2 ^ 64 → h.offset + h.file_size ≤ size → load_fault size h ≡ None
+load_passes size h a b c = rw (
+  le-leb h.file_size h.memory_size a,
+  le-leb (h.virtual_address + h.memory_size)
+      (2 ^ 64) b,
+  le-leb (h.offset + h.file_size) size c,
+) refl
 
 loads_pass : (p : Pieces) → PiecesFit p → loads_fault (length (image_bytes p)) (written_loads p) ≡ None
 loads_pass p f =
@@ -190,7 +220,8 @@ loads_pass p f =
     then_all _ _ (load_passes size (written_load 1 4096 p.rows) f.rows.0 f.rows.1 (omega arith))
     (then_all _ _ (load_passes size (written_load 1 (code_offset p) p.code) f.code.0 f.code.1 (omega arith))
     (then_all _ _ (load_passes size (written_load 6 (objects_offset p) p.objects) f.objects.0 f.objects.1 (omega arith))
-    (then_all _ _ (load_passes size (written_load 6 (runtime_offset p) p.runtime) f.runtime.0 f.runtime.1 (omega arith)) refl)))
+    (then_all _ _ (load_passes size (written_load 6 (runtime_offset p) p.runtime) f.runtime.0 f.runtime.1
+    (omega arith)) refl)))
 
 header_passes : (size entry : ℕ) → 288 ≤ size → header_fault size (written_header entry) ≡ None
 unfolding header_fault
@@ -205,7 +236,8 @@ written_is_image p f =
     let long = length-image_bytes p in
     then_all _ _
     (then_all _ _ (passes Truncated _ (le-leb 64 (length bytes) (omega arith)))
-    (then_all _ _ (ap (header_fault (length bytes)) (header_is p s) ∙ header_passes (length bytes) p.entry (omega arith))
+    (then_all _ _ (ap (header_fault (length bytes)) (header_is p s)
+    ∙ header_passes (length bytes) p.entry (omega arith))
     (ap (λ hs. count_fault (length hs)) (loads_are p s))))
     (then_all _ _ (ap (loads_fault (length bytes)) (loads_are p s) ∙ loads_pass p f)
     (ap content_fault (content_is p s) ∙ f.together))
@@ -215,14 +247,17 @@ pub written_is_content : (p : Pieces) → PiecesFit p → content_of (image_byte
 written_is_content p f = content_is p (pieces_small p f)
 
 -- the same of what a writer answers
-pub is_image_written : {A E : Type 0} (items : A → List ℕ) (r : Result A E) (p : Pieces) → PiecesFit p → IfOk r (λ v. items v ≡ image_bytes p) → IfOk r (λ v. image_fault (items v) ≡ None)
+pub is_image_written : {A E : Type 0} (items : A → List ℕ) (r : Result A E) (p : Pieces) → PiecesFit p
+    → IfOk r (λ v. items v ≡ image_bytes p) → IfOk r (λ v. image_fault (items v) ≡ None)
 is_image_written items (Ok v) p f e = ap image_fault e ∙ written_is_image p f
 is_image_written items (Err x) p f e = tt
 
-pub content_written : {A E : Type 0} (items : A → List ℕ) (r : Result A E) (p : Pieces) → PiecesFit p → IfOk r (λ v. items v ≡ image_bytes p) → IfOk r (λ v. content_of (items v) ≡ content p)
+pub content_written : {A E : Type 0} (items : A → List ℕ) (r : Result A E) (p : Pieces) → PiecesFit p
+    → IfOk r (λ v. items v ≡ image_bytes p) → IfOk r (λ v. content_of (items v) ≡ content p)
 content_written items (Ok v) p f e = ap content_of e ∙ written_is_content p f
 content_written items (Err x) p f e = tt
 
-pub size_written : {A E : Type 0} (items : A → List ℕ) (r : Result A E) (p : Pieces) → IfOk r (λ v. items v ≡ image_bytes p) → IfOk r (λ v. length (items v) ≡ image_size p)
+pub size_written : {A E : Type 0} (items : A → List ℕ) (r : Result A E) (p : Pieces)
+    → IfOk r (λ v. items v ≡ image_bytes p) → IfOk r (λ v. length (items v) ≡ image_size p)
 size_written items (Ok v) p e = ap length e ∙ length-image_bytes p
 size_written items (Err x) p e = tt

@@ -1,8 +1,11 @@
 -- The tests that make bytes an image, in their order. A reader answers the first that fails.
-use Rattle.std.specs.Prelude.{◌≡◌, ℕ, ◌+◌, ◌-◌, ◌*◌, ◌%◌, ◌^◌, max, min, Bool, false, not, ◌||◌, ◌&&◌, ◌==◌, nat_lt, nat_le, if◌then◌else◌, List, [], ◌∷◌, ◌++◌, map, length, Option, Some, None, Result, Ok, Err}
+use Rattle.std.specs.Prelude.{◌≡◌, ℕ, ◌+◌, ◌-◌, ◌*◌, ◌%◌, ◌^◌, max, min, Bool, false, not, ◌||◌, ◌&&◌, ◌==◌, nat_lt}
+use Rattle.std.specs.Prelude.{nat_le, if◌then◌else◌, List, [], ◌∷◌, ◌++◌, map, length, Option, Some, None, Result, Ok}
+use Rattle.std.specs.Prelude.{Err}
 use Rattle.std.specs.List.{list_any}
 use Rattle.elf_image.specs.declared.fault.ImageFault.{ImageFault}
-use Rattle.elf_image.specs.declared.fault.ImageFault.TheVariants.{Truncated, Magic, Class, Machine, FileType, Count, Overlap, TooLarge, Range}
+use Rattle.elf_image.specs.declared.fault.ImageFault.TheVariants.{Truncated, Magic, Class, Machine, FileType, Count}
+use Rattle.elf_image.specs.declared.fault.ImageFault.TheVariants.{Overlap, TooLarge, Range}
 use Rattle.elf_image.specs.declared.fault.ReadError.{ReadError}
 use Rattle.elf_image.specs.declared.fault.ReadError.TheVariants as errors
 use Rattle.elf_image.specs.declared.header.FileHeader.{FileHeader}
@@ -93,8 +96,8 @@ entry_fault entry segments = Range unless ((entry % 4 == 0) && may_run_at entry 
 abbrev pub content_fault : Content → Option ImageFault
 content_fault c = size_fault c.segments then overlap_fault c.segments then entry_fault c.entry c.segments
 
--- The first of the tests before any segment that bytes fail: that there is a file header, of 64 bytes, its tests, and the
--- number of segments.
+-- The first of the tests before any segment that bytes fail: that there is a file header, of 64 bytes, its tests,
+-- and the number of segments.
 unfoldable pub headers_fault : List ℕ → Option ImageFault
 headers_fault bytes =
     (Truncated unless nat_le 64 (length bytes)) then
@@ -112,17 +115,19 @@ Fails errors.Memory fault = Unit {0}
 Fails (errors.Fault f) fault = fault ≡ Some f
 
 -- what collecting the segments of these headers answers, in a file of these bytes
-abbrev pub IsCollected : {X : Type 0} → (X → List SegmentContent) → List ℕ → List ProgramHeader → Result X ReadError → Type 0
+abbrev pub IsCollected : {X : Type 0} → (X → List SegmentContent) → List ℕ → List ProgramHeader → Result X ReadError
+    → Type 0
 IsCollected view bytes hs (Ok x) = (loads_fault (length bytes) hs ≡ None) × (view x ≡ map (segment_of bytes) hs)
 IsCollected view bytes hs (Err e) = Fails e (loads_fault (length bytes) hs)
 
 -- what adding them to the segments before them answers
-abbrev pub IsAdded : {X : Type 0} → (old new : List SegmentContent) → List ℕ → List ProgramHeader → Result X ReadError → Type 0
+abbrev pub IsAdded : {X : Type 0} → (old new : List SegmentContent) → List ℕ → List ProgramHeader
+    → Result X ReadError → Type 0
 IsAdded old new bytes hs (Ok x) = (loads_fault (length bytes) hs ≡ None) × (new ≡ old ++ map (segment_of bytes) hs)
 IsAdded old new bytes hs (Err e) = Fails e (loads_fault (length bytes) hs)
 
--- what a reader answers of these bytes: their image where they pass each test, else the first test that fails. Memory is
--- taken for the segments alone, so its want is answered only where the tests before them pass.
+-- what a reader answers of these bytes: their image where they pass each test, else the first test that fails.
+-- Memory is taken for the segments alone, so its want is answered only where the tests before them pass.
 abbrev pub IsAnswer : {X : Type 0} → (X → Content) → List ℕ → Result X ReadError → Type 0
 IsAnswer view bytes (Ok x) = (image_fault bytes ≡ None) × (view x ≡ content_of bytes)
 IsAnswer view bytes (Err errors.Memory) = headers_fault bytes ≡ None

@@ -1,6 +1,7 @@
 -- The bytes of an image of four segments, as it is written: the file header, four program headers, and from 4096 on
 -- the bytes of the segments, each at a multiple of 4096.
-use Rattle.std.specs.Prelude.{◌≡◌, ℕ, ◌+◌, ◌-◌, ◌*◌, ◌/◌, ◌%◌, ◌^◌, ◌<◌, ◌≤◌, true, false, List, [], ◌∷◌, ◌++◌, length, replicate, None}
+use Rattle.std.specs.Prelude.{◌≡◌, ℕ, ◌+◌, ◌-◌, ◌*◌, ◌/◌, ◌%◌, ◌^◌, ◌<◌, ◌≤◌, true, false, List, [], ◌∷◌, ◌++◌}
+use Rattle.std.specs.Prelude.{length, replicate, None}
 use Rattle.byteorder.specs.Endian.{little_bytes}
 use Rattle.elf_image.specs.Content.{SegmentContent, Content}
 use Rattle.elf_image.specs.Tests.{content_fault}

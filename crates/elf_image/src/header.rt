@@ -1,8 +1,9 @@
-//! The headers of a file, and the tests that need nothing else. Fields have the names of the ELF-64 Object File Format in
-//! whole words.
+//! The headers of a file, and the tests that need nothing else. Fields have the names of the ELF-64 Object File
+//! Format in whole words.
 
 ghost use Rattle.std.specs.Prelude.{◌≡◌, ◌≤◌, ◌+◌, ◌*◌, length, drop, IfNone};
-ghost use Rattle.elf_image.specs.Layout.{field, file_header, program_header, is_load, is_readable, is_writable, is_executable, loads};
+ghost use Rattle.elf_image.specs.Layout.{field, file_header, program_header, is_load, is_readable, is_writable};
+ghost use Rattle.elf_image.specs.Layout.{is_executable, loads};
 ghost use Rattle.elf_image.specs.Tests.{header_fault, load_fault};
 
 use crate::fault::ImageFault;

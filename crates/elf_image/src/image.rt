@@ -31,7 +31,14 @@ impl<'a> Model for Segment<'a> {
 
     ghost Value = { SegmentContent };
 
-    ghost view = { λ s. record { address = s.address; bytes = s.bytes.now; size = s.size; readable = s.readable; writable = s.writable; executable = s.executable } };
+    ghost view = { λ s. record {
+      address = s.address;
+      bytes = s.bytes.now;
+      size = s.size;
+      readable = s.readable;
+      writable = s.writable;
+      executable = s.executable;
+    } };
 }
 
 impl Segment<'_> {
@@ -147,12 +154,13 @@ impl<'a> Image<'a> {
         &self.segments
     }
 
-    /// The image that the bytes of a file spell. Otherwise the first test that they fail, in this order: the file header
-    /// is there; its magic number; its class, encoding and version; its machine; its type and version; at most 64
-    /// program headers; of 56 bytes each; which lie in the file; 1 to 8 segments to load; each of them fits its memory
-    /// and the addresses, and lies in the file; together they take at most 512 MiB; no two share an address; the entry
-    /// is the place of an instruction in an executable segment. Headers of other types, sections, physical addresses
-    /// and alignments are passed over. `Memory` comes only where the tests before those of the segments pass.
+    /// The image that the bytes of a file spell. Otherwise the first test that they fail, in this order: the file
+    /// header is there; its magic number; its class, encoding and version; its machine; its type and version; at
+    /// most 64 program headers; of 56 bytes each; which lie in the file; 1 to 8 segments to load; each of them fits
+    /// its memory and the addresses, and lies in the file; together they take at most 512 MiB; no two share an
+    /// address; the entry is the place of an instruction in an executable segment. Headers of other types, sections,
+    /// physical addresses and alignments are passed over. `Memory` comes only where the tests before those of the
+    /// segments pass.
     #[tactic(auto, unfolding(crate::specs::Tests::headers_fault, crate::specs::Tests::image_fault, crate::specs::Layout::content_of, crate::specs::Layout::loads_of))]
     pub fn read(alloc: Global, bytes: &'a [u8]) -> Result<Image<'a>, ReadError>
         ensures { IsAnswer (λ i. i) bytes.now result }

@@ -41,5 +41,11 @@ impl Model for Parts {
 
     ghost Value = { Pieces };
 
-    ghost view = { λ p. record { entry = p.entry; rows = p.rows; code = p.code; objects = p.objects; runtime = p.runtime } };
+    ghost view = { λ p. record {
+      entry = p.entry;
+      rows = p.rows;
+      code = p.code;
+      objects = p.objects;
+      runtime = p.runtime;
+    } };
 }

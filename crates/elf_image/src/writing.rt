@@ -3,7 +3,8 @@
 ghost use Rattle.std.specs.Prelude.{◌≡◌, ◌≤◌, ◌+◌, ◌^◌, ◌++◌, length, None, IfOk, OnOk};
 ghost use Rattle.elf_image.specs.Layout.{content_of};
 ghost use Rattle.elf_image.specs.Tests.{image_fault};
-ghost use Rattle.elf_image.specs.Writing.{zeros, page_end, header_bytes, u32_bytes, u64_bytes, load_bytes, padded, image_bytes, image_size, content, PiecesFit};
+ghost use Rattle.elf_image.specs.Writing.{zeros, page_end, header_bytes, u32_bytes, u64_bytes, load_bytes, padded};
+ghost use Rattle.elf_image.specs.Writing.{image_bytes, image_size, content, PiecesFit};
 
 use crate::header::LOAD;
 use crate::part::{Part, Parts};

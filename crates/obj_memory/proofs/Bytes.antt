@@ -1,5 +1,6 @@
 -- Little endian numbers.
-use Rattle.std.proofs.Common.{◌≡◌, ℕ, zero, suc, ◌+◌, ◌*◌, ◌/◌, ◌%◌, ◌^◌, ◌<◌, List, [], ◌++◌, get_or, refl, ap, ◌∙◌, sym, arith}
+use Rattle.std.proofs.Common.{◌≡◌, ℕ, zero, suc, ◌+◌, ◌*◌, ◌/◌, ◌%◌, ◌^◌, ◌<◌, List, [], ◌++◌, get_or, refl, ap, ◌∙◌}
+use Rattle.std.proofs.Common.{sym, arith}
 use Rattle.std.proofs.lemmas.List.{append-nil}
 use Rattle.std.proofs.Math.Nat.{div-one}
 use Rattle.std.specs.Int.{byte_at, bytes_low_first}
@@ -10,7 +11,8 @@ use Rattle.byteorder.proofs.Bytes.{pow256}
 pub little_number-bytes : (k n : ℕ) → little_number k (little_bytes k n) ≡ n % 2 ^ (8 * k)
 little_number-bytes k n =
     let all = append-nil (little_bytes k n) in
-    sym (ap (little_number k) all) ∙ little_from-bytes k 0 n [] ∙ ap (λ i. i % 256 ^ k) (div-one n) ∙ ap (λ i. n % i) (pow256 k)
+    sym (ap (little_number k) all) ∙ little_from-bytes k 0 n [] ∙ ap (λ i. i % 256 ^ k) (div-one n)
+    ∙ ap (λ i. n % i) (pow256 k)
 
 byte_below : (i n : ℕ) → byte_at i n < 256
 byte_below zero n = omega arith

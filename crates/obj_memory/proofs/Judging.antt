@@ -1,5 +1,6 @@
 -- What a judgement tells of an access.
-use Rattle.std.proofs.Common.{◌≡◌, ℕ, ◌+◌, ◌<◌, ◌≤◌, ◌%◌, ◌^◌, Bool, true, false, ◌&&◌, nat_le, if◌then◌else◌, length, refl, subst, arith}
+use Rattle.std.proofs.Common.{◌≡◌, ℕ, ◌+◌, ◌<◌, ◌≤◌, ◌%◌, ◌^◌, Bool, true, false, ◌&&◌, nat_le, if◌then◌else◌, length}
+use Rattle.std.proofs.Common.{refl, subst, arith}
 use Rattle.std.proofs.lemmas.Bool.{leb-true}
 use Rattle.obj_memory.specs.declared.value.Bounds.{Bounds}
 use Rattle.obj_memory.specs.declared.value.Tag.{Tag}
@@ -18,7 +19,8 @@ record IsGranted (b : Bounds) (a size : ℕ) (live : Bool) (q p : Place) : Type 
   place : q ≡ p
 
 granted : (b : Bounds) (a size : ℕ) (live : Bool) (q p : Place)
-    → (if are_within b a size then (if live then Inside q else Dead) else Outside) ≡ Inside p → IsGranted b a size live q p
+    → (if are_within b a size then (if live then Inside q else Dead) else Outside) ≡ Inside p
+    → IsGranted b a size live q p
 granted b a size live q p e = go (nat_le b.base a) (nat_le (a + size) b.bound) live refl refl refl e
   where
     go : (x y l : Bool) → nat_le b.base a ≡ x → nat_le (a + size) b.bound ≡ y → live ≡ l
@@ -28,7 +30,8 @@ granted b a size live q p e = go (nat_le b.base a) (nat_le (a + size) b.bound) l
     go true false l ex ey el h = absurd cc
     go false y l ex ey el h = absurd cc
 
-judged_inside : (objects : Objects) (size : ℕ) (t : Tag) (a : ℕ) (p : Place) → IsSoundTag objects t → judged size t a objects ≡ Inside p
+judged_inside : (objects : Objects) (size : ℕ) (t : Tag) (a : ℕ) (p : Place) → IsSoundTag objects t
+    → judged size t a objects ≡ Inside p
     → IsAllowed objects (record { word = a; tag = t }) size p
 judged_inside objects size Untagged a p h e = absurd cc
 judged_inside objects size (OfFunction f) a p h e = absurd cc
@@ -44,7 +47,8 @@ judged_inside objects size (OfObject o b) a p h e =
     })
 
 -- an access that is judged to be inside is of bytes of a live object, those at its address
-pub judge_inside : (objects : Objects) (size : ℕ) (v : Value) (p : Place) → IsSoundTag objects v.tag → judge size v objects ≡ Inside p → IsAllowed objects v size p
+pub judge_inside : (objects : Objects) (size : ℕ) (v : Value) (p : Place) → IsSoundTag objects v.tag
+    → judge size v objects ≡ Inside p → IsAllowed objects v size p
 unfolding judge
 judge_inside objects size v p h e = judged_inside objects size v.tag v.word p h e
 
@@ -52,7 +56,8 @@ pub sound_pointer : (n : ℕ) (objects : Objects) → n < length objects → IsS
 unfolding pointer_to
 sound_pointer n objects h = record { made = h; base = omega arith; bound = omega arith }
 
-narrowed_tag_sound : (objects : Objects) (a size : ℕ) (t : Tag) → IsSoundTag objects t → IsSoundTag objects (narrowed_tag a size t)
+narrowed_tag_sound : (objects : Objects) (a size : ℕ) (t : Tag) → IsSoundTag objects t
+    → IsSoundTag objects (narrowed_tag a size t)
 narrowed_tag_sound objects a size Untagged h = tt
 narrowed_tag_sound objects a size (OfFunction f) h = tt
 narrowed_tag_sound objects a size (OfObject o b) h = record {
@@ -61,11 +66,13 @@ narrowed_tag_sound objects a size (OfObject o b) h = record {
   bound = omega (arith, h.bound);
 }
 
-pub sound_narrowed : (objects : Objects) (offset size : ℕ) (v : Value) → IsSoundTag objects v.tag → IsSoundTag objects (narrowed offset size v).tag
+pub sound_narrowed : (objects : Objects) (offset size : ℕ) (v : Value) → IsSoundTag objects v.tag
+    → IsSoundTag objects (narrowed offset size v).tag
 unfolding narrowed
 sound_narrowed objects offset size v h = narrowed_tag_sound objects ((v.word + offset) % 2 ^ 64) size v.tag h
 
-pub sound_offset : (objects : Objects) (offset : ℕ) (v : Value) → IsSoundTag objects v.tag → IsSoundTag objects (moved offset v).tag
+pub sound_offset : (objects : Objects) (offset : ℕ) (v : Value) → IsSoundTag objects v.tag
+    → IsSoundTag objects (moved offset v).tag
 unfolding moved
 sound_offset objects offset v h = h
 

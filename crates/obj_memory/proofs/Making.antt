@@ -1,5 +1,6 @@
 -- Objects that are made, set to zero and dead.
-use Rattle.std.proofs.Common.{◌≡◌, ◌≢◌, ℕ, zero, suc, ◌/◌, ◌<◌, true, false, if◌then◌else◌, inl, inr, List, [], ◌∷◌, ◌++◌, length, drop, get_or, set, replicate, refl, ap, sym, ◌∙◌, subst, arith}
+use Rattle.std.proofs.Common.{◌≡◌, ◌≢◌, ℕ, zero, suc, ◌/◌, ◌<◌, true, false, if◌then◌else◌, inl, inr, List, [], ◌∷◌}
+use Rattle.std.proofs.Common.{◌++◌, length, drop, get_or, set, replicate, refl, ap, sym, ◌∙◌, subst, arith}
 use Rattle.std.proofs.lemmas.List.{get_or_append_left}
 use Rattle.obj_memory.specs.declared.object.Storage.{Storage}
 use Rattle.obj_memory.specs.declared.value.Tag.TheVariants.{Untagged}
@@ -7,7 +8,8 @@ use Rattle.obj_memory.specs.declared.value.Place.{Place}
 use Rattle.obj_memory.specs.declared.value.Scalar.{Scalar}
 use Rattle.obj_memory.specs.declared.value.Scalar.TheVariants.{Integer, Pointer}
 use Rattle.obj_memory.specs.Integers.{size_of, fit}
-use Rattle.obj_memory.specs.Objects.{ObjectState, Objects, no_object, object_at, new_object, with_new, with_dead, with_zeroed}
+use Rattle.obj_memory.specs.Objects.{ObjectState, Objects, no_object, object_at, new_object, with_new, with_dead}
+use Rattle.obj_memory.specs.Objects.{with_zeroed}
 use Rattle.obj_memory.specs.Access.{is_aligned, bytes_at, tag_at, read_value}
 use Rattle.byteorder.specs.Endian.{little_number}
 use Rattle.obj_memory.specs.Sound.{KeepsObjects, AreDisjoint, DoNotMeet}
@@ -21,20 +23,24 @@ added_last : (objects : Objects) (x : ObjectState) → object_at (objects ++ (x 
 added_last [] x = refl
 added_last (o ∷ os) x = added_last os x
 
-pub new_last : (storage : Storage) (address size : ℕ) (objects : Objects) → object_at (with_new storage address size objects) (length objects) ≡ new_object storage address size
+pub new_last : (storage : Storage) (address size : ℕ) (objects : Objects)
+    → object_at (with_new storage address size objects) (length objects) ≡ new_object storage address size
 unfolding with_new
 new_last storage address size objects = added_last objects (new_object storage address size)
 
-pub new_other : (storage : Storage) (address size n : ℕ) (objects : Objects) → n < length objects → object_at (with_new storage address size objects) n ≡ object_at objects n
+pub new_other : (storage : Storage) (address size n : ℕ) (objects : Objects) → n < length objects
+    → object_at (with_new storage address size objects) n ≡ object_at objects n
 unfolding with_new
-new_other storage address size n objects h = get_or_append_left objects (new_object storage address size ∷ []) no_object n h
+new_other storage address size n objects h = get_or_append_left objects
+    (new_object storage address size ∷ []) no_object n h
 
 -- death
 pub dead_is_dead : (n : ℕ) (objects : Objects) → (object_at (with_dead n objects) n).is_live ≡ false
 unfolding with_dead
 dead_is_dead n objects = go objects n (object_at objects n)
   where
-    go : (os : Objects) (m : ℕ) (o : ObjectState) → (object_at (set os m (record o { is_live = false })) m).is_live ≡ false
+    go : (os : Objects) (m : ℕ) (o : ObjectState) → (object_at (set os m (record o { is_live = false })) m).is_live
+        ≡ false
     go [] m o = refl
     go (x ∷ xs) zero o = refl
     go (x ∷ xs) (suc m) o = go xs m o
@@ -52,17 +58,21 @@ pub record HasZeros (o : ObjectState) : Type 0 where
   pub bytes : (k : ℕ) → get_or o.bytes k 0 ≡ 0
   pub tags : (k : ℕ) → get_or o.tags k Untagged ≡ Untagged
 
-zeros_read : (s : Scalar) (p : Place) (objects : Objects) → HasZeros (object_at objects p.object) → read_value s p objects ≡ record { word = 0; tag = Untagged }
+zeros_read : (s : Scalar) (p : Place) (objects : Objects) → HasZeros (object_at objects p.object)
+    → read_value s p objects ≡ record { word = 0; tag = Untagged }
 unfolding read_value
 zeros_read (Integer t) p objects z =
     let o = object_at objects p.object in
     let number : little_number (size_of t) (bytes_at (size_of t) p objects) ≡ 0 =
-    zeros_number (size_of t) _ (every_take (λ b. b ≡ 0) 0 (size_of t) (drop p.offset o.bytes) refl (every_drop (λ b. b ≡ 0) 0 p.offset o.bytes z.bytes)) in
-    ap (λ n. record { word = fit t n; tag = Untagged }) number ∙ ap (λ n. record { word = n; tag = Untagged }) (fit_zero t)
+    zeros_number (size_of t) _ (every_take (λ b. b ≡ 0) 0 (size_of t) (drop p.offset o.bytes) refl
+    (every_drop (λ b. b ≡ 0) 0 p.offset o.bytes z.bytes)) in
+    ap (λ n. record { word = fit t n; tag = Untagged }) number
+    ∙ ap (λ n. record { word = n; tag = Untagged }) (fit_zero t)
 zeros_read Pointer p objects z =
     let o = object_at objects p.object in
     let number : little_number 8 (bytes_at 8 p objects) ≡ 0 =
-    zeros_number 8 _ (every_take (λ b. b ≡ 0) 0 8 (drop p.offset o.bytes) refl (every_drop (λ b. b ≡ 0) 0 p.offset o.bytes z.bytes)) in
+    zeros_number 8 _ (every_take (λ b. b ≡ 0) 0 8 (drop p.offset o.bytes) refl
+    (every_drop (λ b. b ≡ 0) 0 p.offset o.bytes z.bytes)) in
     let tag : tag_at p objects ≡ Untagged =
     elim (is_aligned p.offset) as (λ b. (if b then get_or o.tags (p.offset / 8) Untagged else Untagged) ≡ Untagged) [
       | true ↦ z.tags (p.offset / 8)
@@ -76,7 +86,8 @@ replicated o n k = record {
   tags = every_replicate (λ t. t ≡ Untagged) Untagged k Untagged refl refl;
 }
 
-pub new_reads_zero : (storage : Storage) (address size : ℕ) (s : Scalar) (p : Place) (objects : Objects) → p.object ≡ length objects
+pub new_reads_zero : (storage : Storage) (address size : ℕ) (s : Scalar) (p : Place) (objects : Objects)
+    → p.object ≡ length objects
     → read_value s p (with_new storage address size objects) ≡ record { word = 0; tag = Untagged }
 unfolding new_object
 new_reads_zero storage address size s p objects e =
@@ -109,7 +120,8 @@ record IsNoMoreLive (old new : ObjectState) : Type 0 where
 no_more_live : (n m : ℕ) (objects : Objects) → IsNoMoreLive (object_at objects m) (object_at (with_dead n objects) m)
 unfolding with_dead
 no_more_live n m objects =
-    at_set (λ o. IsNoMoreLive (object_at objects m) o) no_object objects n m (record (object_at objects n) { is_live = false })
+    at_set (λ o. IsNoMoreLive (object_at objects m) o) no_object objects n m
+    (record (object_at objects n) { is_live = false })
     (λ e. record {
       address = ap (λ k. (object_at objects k).address) (sym e);
       size = ap (λ k. (object_at objects k).size) (sym e);
@@ -134,7 +146,8 @@ swapped a s b t (inr behind) = inl behind
 Apart : (o x : ObjectState) → Type 0
 Apart o x = o.is_live ≡ true → x.is_live ≡ true → DoNotMeet o.address o.size x.address x.size
 
-apart_added : (objects : Objects) (x : ObjectState) → AreDisjoint objects → ((n : ℕ) → Apart x (object_at objects n)) → (m n : ℕ) → m ≢ n
+apart_added : (objects : Objects) (x : ObjectState) → AreDisjoint objects
+    → ((n : ℕ) → Apart x (object_at objects n)) → (m n : ℕ) → m ≢ n
     → Apart (object_at (objects ++ (x ∷ [])) m) (object_at (objects ++ (x ∷ [])) n)
 unfolding Apart
 apart_added objects x d clear m n other =
@@ -145,7 +158,8 @@ apart_added objects x d clear m n other =
     (d.apart m n other))
 
 pub disjoint_new : (storage : Storage) (address size : ℕ) (objects : Objects) → AreDisjoint objects
-    → ((n : ℕ) → (object_at objects n).is_live ≡ true → DoNotMeet address size (object_at objects n).address (object_at objects n).size)
+    → ((n : ℕ) → (object_at objects n).is_live ≡ true → DoNotMeet address size (object_at objects n).address
+    (object_at objects n).size)
     → AreDisjoint (with_new storage address size objects)
 unfolding with_new Apart new_object
 disjoint_new storage address size objects d clear = record {

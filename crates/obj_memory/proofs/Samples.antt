@@ -76,21 +76,25 @@ unfolding pointing read_value write_value write_bytes write_tag pointer_to three
 pointer_read = refl
 
 -- other writes leave its tag, and a pointer that is not at a multiple of 8 has none
-integer_over_it : read_value Pointer (place 0 8) (write_value (Integer Int) (record { word = 1; tag = Untagged }) (place 0 8) pointing)
+integer_over_it : read_value Pointer (place 0 8) (write_value (Integer Int) (record { word = 1; tag = Untagged })
+    (place 0 8) pointing)
     ≡ record { word = 1; tag = OfObject 0 (record { base = 4096; bound = 4120 }) }
 unfolding pointing read_value write_value write_bytes write_tag pointer_to three with_new new_object place size_of
 integer_over_it = refl
 
-misaligned : read_value Pointer (place 0 4) (write_value Pointer (pointer_to 0 three) (place 0 4) three) ≡ record { word = 4096; tag = Untagged }
+misaligned : read_value Pointer (place 0 4) (write_value Pointer (pointer_to 0 three) (place 0 4) three)
+    ≡ record { word = 4096; tag = Untagged }
 unfolding read_value write_value write_bytes write_tag pointer_to three with_new new_object place
 misaligned = refl
 
-signed_byte : read_value (Integer SignedChar) (place 0 3) (write_bytes (255 ∷ []) (place 0 3) three) ≡ record { word = 2 ^ 64 - 1; tag = Untagged }
+signed_byte : read_value (Integer SignedChar) (place 0 3) (write_bytes (255 ∷ []) (place 0 3) three)
+    ≡ record { word = 2 ^ 64 - 1; tag = Untagged }
 unfolding read_value write_bytes three with_new new_object place size_of fit
 signed_byte = refl
 
 -- moved by a multiple of 8 whole words keep their tags, moved otherwise they lose them
-moved_up : tag_of 0 2 (move_range 8 (place 0 16) (place 0 8) pointing) ≡ OfObject 0 (record { base = 4096; bound = 4120 })
+moved_up : tag_of 0 2 (move_range 8 (place 0 16) (place 0 8) pointing)
+    ≡ OfObject 0 (record { base = 4096; bound = 4120 })
 unfolding pointing move_range write_value write_bytes write_tag pointer_to three with_new new_object place
 moved_up = refl
 

@@ -1,5 +1,7 @@
 -- What always holds of objects: every action keeps it.
-use Rattle.std.proofs.Common.{◌≡◌, ℕ, zero, suc, ◌+◌, ◌-◌, ◌*◌, ◌/◌, ◌%◌, ◌<◌, ◌≤◌, true, false, ◌==◌, if◌then◌else◌, List, [], ◌∷◌, ◌++◌, length, drop, get_or, set, replicate, refl, ap, sym, ◌∙◌, subst, arith, length-set, length-take, length-drop}
+use Rattle.std.proofs.Common.{◌≡◌, ℕ, zero, suc, ◌+◌, ◌-◌, ◌*◌, ◌/◌, ◌%◌, ◌<◌, ◌≤◌, true, false, ◌==◌, if◌then◌else◌}
+use Rattle.std.proofs.Common.{List, [], ◌∷◌, ◌++◌, length, drop, get_or, set, replicate, refl, ap, sym, ◌∙◌, subst}
+use Rattle.std.proofs.Common.{arith, length-set, length-take, length-drop}
 use Rattle.std.proofs.lemmas.List.{length-replicate}
 use Rattle.obj_memory.specs.declared.object.Storage.{Storage}
 use Rattle.obj_memory.specs.declared.value.Tag.{Tag}
@@ -9,13 +11,16 @@ use Rattle.obj_memory.specs.declared.value.Place.{Place}
 use Rattle.obj_memory.specs.declared.value.Scalar.{Scalar}
 use Rattle.obj_memory.specs.declared.value.Scalar.TheVariants.{Integer, Pointer}
 use Rattle.obj_memory.specs.Integers.{size_of}
-use Rattle.obj_memory.specs.Objects.{ObjectState, Objects, no_object, object_at, new_object, with_new, with_dead, with_zeroed}
-use Rattle.obj_memory.specs.Access.{is_aligned, is_word_in, bytes_at, scalar_size, overwrite, moved_tags, write_bytes, write_tag, write_value, move_range}
+use Rattle.obj_memory.specs.Objects.{ObjectState, Objects, no_object, object_at, new_object, with_new, with_dead}
+use Rattle.obj_memory.specs.Objects.{with_zeroed}
+use Rattle.obj_memory.specs.Access.{is_aligned, is_word_in, bytes_at, scalar_size, overwrite, moved_tags, write_bytes}
+use Rattle.obj_memory.specs.Access.{write_tag, write_value, move_range}
 use Rattle.obj_memory.specs.Sound.{Continues, IsSoundTag, IsSoundObject, IsSound, IsPlace}
 use Rattle.byteorder.specs.Endian.{little_bytes}
 use Rattle.byteorder.specs.Numbers.{length-bytes_low_first}
 use Rattle.obj_memory.proofs.Bytes.{little_bytes_below}
-use Rattle.obj_memory.proofs.Listed.{at_set, at_added, every_overwrite, every_replicate, every_take, every_drop, length-overwrite}
+use Rattle.obj_memory.proofs.Listed.{at_set, at_added, every_overwrite, every_replicate, every_take, every_drop}
+use Rattle.obj_memory.proofs.Listed.{length-overwrite}
 use Rattle.obj_memory.proofs.Continuing.{IsLater, continues_set, continues_added, continues_bytes}
 
 pub sound_tag_continues : (old new : Objects) → Continues old new → (t : Tag) → IsSoundTag old t → IsSoundTag new t
@@ -27,7 +32,8 @@ sound_tag_continues old new c (OfObject o b) h = record {
   bound = omega (arith, h.bound, c.address o h.made, c.size o h.made);
 }
 
-pub sound_object_continues : (old new : Objects) → Continues old new → (o : ObjectState) → IsSoundObject old o → IsSoundObject new o
+pub sound_object_continues : (old new : Objects) → Continues old new → (o : ObjectState) → IsSoundObject old o
+    → IsSoundObject new o
 sound_object_continues old new c o h = record {
   aligned = h.aligned;
   bytes = h.bytes;
@@ -37,13 +43,15 @@ sound_object_continues old new c o h = record {
 }
 
 -- an object changed, and an object added
-pub sound_set : (objects : Objects) (n : ℕ) (x : ObjectState) → IsSound objects → IsLater (object_at objects n) x → IsSoundObject objects x → IsSound (set objects n x)
+pub sound_set : (objects : Objects) (n : ℕ) (x : ObjectState) → IsSound objects → IsLater (object_at objects n) x
+    → IsSoundObject objects x → IsSound (set objects n x)
 sound_set objects n x h l s = record {
   at = λ m. sound_object_continues objects (set objects n x) (continues_set objects n x l) _
       (at_set (λ o. IsSoundObject objects o) no_object objects n m x (λ e. s) (h.at m));
 }
 
-pub sound_added : (objects : Objects) (x : ObjectState) → IsSound objects → IsSoundObject objects x → IsSound (objects ++ (x ∷ []))
+pub sound_added : (objects : Objects) (x : ObjectState) → IsSound objects → IsSoundObject objects x
+    → IsSound (objects ++ (x ∷ []))
 sound_added objects x h s = record {
   at = λ m. sound_object_continues objects (objects ++ (x ∷ [])) (continues_added objects x) _
       (at_added (λ o. IsSoundObject objects o) no_object objects m x (λ e. s) (h.at m));
@@ -85,8 +93,10 @@ sound_dead n objects h =
     (record { aligned = s.aligned; bytes = s.bytes; values = s.values; tags = s.tags; tag = s.tag })
 
 -- other bytes in an object
-pub sound_overwritten : (objects : Objects) (o : ObjectState) (start : ℕ) (new : List ℕ) (tags : List Tag) → IsSoundObject objects o
-    → start + length new ≤ o.size → ((k : ℕ) → get_or new k 0 < 256) → length tags ≡ o.size / 8 → ((k : ℕ) → IsSoundTag objects (get_or tags k Untagged))
+pub sound_overwritten : (objects : Objects) (o : ObjectState) (start : ℕ) (new : List ℕ) (tags : List Tag)
+    → IsSoundObject objects o
+    → start + length new ≤ o.size → ((k : ℕ) → get_or new k 0 < 256) → length tags ≡ o.size / 8
+    → ((k : ℕ) → IsSoundTag objects (get_or tags k Untagged))
     → IsSoundObject objects (record o { bytes = overwrite start new o.bytes; tags = tags })
 sound_overwritten objects o start new tags s fits values count sound = record {
   aligned = s.aligned;
@@ -105,12 +115,14 @@ sound_bytes new p objects h place values =
     sound_set objects p.object _ h (record { storage = refl; address = refl; size = refl; dead = λ d. d })
     (sound_overwritten objects o p.offset new o.tags s place.room values s.tags s.tag)
 
-pub sound_tag : (t : Tag) (p : Place) (objects : Objects) → IsSound objects → IsSoundTag objects t → IsSound (write_tag t p objects)
+pub sound_tag : (t : Tag) (p : Place) (objects : Objects) → IsSound objects → IsSoundTag objects t
+    → IsSound (write_tag t p objects)
 unfolding write_tag
 sound_tag t p objects h sound =
     let o = object_at objects p.object in
     let s = h.at p.object in
-    elim (is_aligned p.offset) as (λ b. IsSound (if b then set objects p.object (record o { tags = set o.tags (p.offset / 8) t }) else objects)) [
+    elim (is_aligned p.offset) as (λ b. IsSound (if b then set objects p.object
+    (record o { tags = set o.tags (p.offset / 8) t }) else objects)) [
       | true ↦ sound_set objects p.object _ h (record { storage = refl; address = refl; size = refl; dead = λ d. d })
           (record {
             aligned = s.aligned;
@@ -122,12 +134,14 @@ sound_tag t p objects h sound =
       | false ↦ h
     ]
 
-pub sound_value : (s : Scalar) (v : Value) (p : Place) (objects : Objects) → IsSound objects → IsPlace objects p (scalar_size s) → IsSoundTag objects v.tag
+pub sound_value : (s : Scalar) (v : Value) (p : Place) (objects : Objects) → IsSound objects
+    → IsPlace objects p (scalar_size s) → IsSoundTag objects v.tag
     → IsSound (write_value s v p objects)
 unfolding write_value
 sound_value (Integer t) v p objects h place sound =
     sound_bytes (little_bytes (size_of t) v.word) p objects h
-    (subst (λ n. IsPlace objects p n) (sym (length-bytes_low_first 0 (size_of t) v.word)) place) (little_bytes_below (size_of t) v.word)
+    (subst (λ n. IsPlace objects p n) (sym (length-bytes_low_first 0 (size_of t) v.word)) place)
+    (little_bytes_below (size_of t) v.word)
 sound_value Pointer v p objects h place sound =
     let after = write_bytes (little_bytes 8 v.word) p objects in
     sound_tag v.tag p after
@@ -135,32 +149,46 @@ sound_value Pointer v p objects h place sound =
     (subst (λ n. IsPlace objects p n) (sym (length-bytes_low_first 0 8 v.word)) place) (little_bytes_below 8 v.word))
     (sound_tag_continues objects after (continues_bytes _ p objects) v.tag sound)
 
-pub length-moved_tags : (size start source : ℕ) (from : List Tag) (word : ℕ) (ts : List Tag) → length (moved_tags size start source from word ts) ≡ length ts
+pub length-moved_tags : (size start source : ℕ) (from : List Tag) (word : ℕ) (ts : List Tag)
+    → length (moved_tags size start source from word ts) ≡ length ts
 length-moved_tags size start source from word [] = refl
 length-moved_tags size start source from word (t ∷ ts) = ap suc (length-moved_tags size start source from (word + 1) ts)
 
-pub every_moved : (P : Tag → Type 0) (size start source : ℕ) (from : List Tag) → ((k : ℕ) → P (get_or from k Untagged)) → (word : ℕ) (ts : List Tag)
+pub every_moved : (P : Tag → Type 0) (size start source : ℕ) (from : List Tag) → ((k : ℕ) → P (get_or from k Untagged))
+    → (word : ℕ) (ts : List Tag)
     → ((k : ℕ) → P (get_or ts k Untagged)) → (k : ℕ) → P (get_or (moved_tags size start source from word ts) k Untagged)
 every_moved P size start source from f word [] h k = h k
 every_moved P size start source from f word (t ∷ ts) h zero =
-    elim (is_word_in start size word) as (λ b. P (if b then get_or from ((8 * word - start + source) / 8) Untagged else t)) [
+    elim (is_word_in start size word) as (λ b. P (if b then get_or from
+    ((8 * word - start + source) / 8) Untagged else t)) [
       | true ↦ f ((8 * word - start + source) / 8)
       | false ↦ h zero
     ]
 every_moved P size start source from f word (t ∷ ts) h (suc k) =
     every_moved P size start source from f (word + 1) ts (λ j. h (suc j)) k
 
-pub length-bytes_at : (size : ℕ) (p : Place) (objects : Objects) → IsSound objects → IsPlace objects p size → length (bytes_at size p objects) ≡ size
+pub length-bytes_at : (size : ℕ) (p : Place) (objects : Objects) → IsSound objects → IsPlace objects p size
+    → length (bytes_at size p objects) ≡ size
 length-bytes_at size p objects h place =
     let o = object_at objects p.object in
-    omega (arith, place.room, (h.at p.object).bytes, length-take size (drop p.offset o.bytes), length-drop p.offset o.bytes)
+    omega (
+      arith,
+      place.room,
+      (h.at p.object).bytes,
+      length-take size
+          (drop p.offset o.bytes),
+      length-drop p.offset o.bytes,
+    )
 
-pub bytes_at_below : (size : ℕ) (p : Place) (objects : Objects) → IsSound objects → (k : ℕ) → get_or (bytes_at size p objects) k 0 < 256
+pub bytes_at_below : (size : ℕ) (p : Place) (objects : Objects) → IsSound objects → (k : ℕ)
+    → get_or (bytes_at size p objects) k 0 < 256
 bytes_at_below size p objects h =
     let o = object_at objects p.object in
-    every_take (λ b. b < 256) 0 size (drop p.offset o.bytes) (omega arith) (every_drop (λ b. b < 256) 0 p.offset o.bytes (h.at p.object).values)
+    every_take (λ b. b < 256) 0 size (drop p.offset o.bytes) (omega arith)
+    (every_drop (λ b. b < 256) 0 p.offset o.bytes (h.at p.object).values)
 
-pub sound_moved : (size : ℕ) (d s : Place) (objects : Objects) → IsSound objects → IsPlace objects d size → IsPlace objects s size
+pub sound_moved : (size : ℕ) (d s : Place) (objects : Objects) → IsSound objects → IsPlace objects d size
+    → IsPlace objects s size
     → IsSound (move_range size d s objects)
 unfolding move_range
 sound_moved size d s objects h to place =
@@ -169,16 +197,21 @@ sound_moved size d s objects h to place =
     let sound = h.at d.object in
     let long = length-bytes_at size s objects h place in
     sound_set objects d.object _ h (record { storage = refl; address = refl; size = refl; dead = λ x. x })
-    (sound_overwritten objects o d.offset (bytes_at size s objects) _ sound (omega (arith, to.room, long)) (bytes_at_below size s objects h)
-    (elim (d.offset % 8 == s.offset % 8) as (λ b. length (if b then moved_tags size d.offset s.offset from.tags 0 o.tags else o.tags) ≡ o.size / 8) [
+    (sound_overwritten objects o d.offset (bytes_at size s objects) _ sound (omega (arith, to.room, long))
+    (bytes_at_below size s objects h)
+    (elim (d.offset % 8 == s.offset % 8) as
+    (λ b. length (if b then moved_tags size d.offset s.offset from.tags 0 o.tags else o.tags) ≡ o.size / 8) [
       | true ↦ length-moved_tags size d.offset s.offset from.tags 0 o.tags ∙ sound.tags
       | false ↦ sound.tags
     ])
-    (λ k. elim (d.offset % 8 == s.offset % 8) as (λ b. IsSoundTag objects (get_or (if b then moved_tags size d.offset s.offset from.tags 0 o.tags else o.tags) k Untagged)) [
-      | true ↦ every_moved (λ t. IsSoundTag objects t) size d.offset s.offset from.tags (h.at s.object).tag 0 o.tags sound.tag k
+    (λ k. elim (d.offset % 8 == s.offset % 8) as (λ b. IsSoundTag objects
+    (get_or (if b then moved_tags size d.offset s.offset from.tags 0 o.tags else o.tags) k Untagged)) [
+      | true ↦ every_moved (λ t. IsSoundTag objects t) size d.offset s.offset from.tags
+          (h.at s.object).tag 0 o.tags sound.tag k
       | false ↦ sound.tag k
     ]))
 
 -- objects stand at multiples of 16
-pub aligned_address : (objects : Objects) (p : Place) → IsSound objects → ((object_at objects p.object).address + p.offset) % 8 ≡ p.offset % 8
+pub aligned_address : (objects : Objects) (p : Place) → IsSound objects
+    → ((object_at objects p.object).address + p.offset) % 8 ≡ p.offset % 8
 aligned_address objects p h = let a = (h.at p.object).aligned in omega (arith, a)

@@ -1,15 +1,22 @@
 -- Laws of conversions and operators on words.
-use Rattle.std.proofs.Common.{◌≡◌, ℕ, ◌*◌, ◌%◌, ◌^◌, ◌<◌, Bool, true, false, ◌==◌, if◌then◌else◌, Some, None, refl, arith}
+use Rattle.std.proofs.Common.{◌≡◌, ℕ, ◌*◌, ◌%◌, ◌^◌, ◌<◌, Bool, true, false, ◌==◌, if◌then◌else◌, Some, None, refl}
+use Rattle.std.proofs.Common.{arith}
 use Rattle.std.specs.Prelude.{IfSome}
 use Rattle.std.specs.Int.Bits.{and_lt, or_lt, xor_lt}
 use Rattle.obj_memory.specs.declared.int_type.IntType.{IntType}
-use Rattle.obj_memory.specs.declared.int_type.IntType.TheVariants.{Char, SignedChar, UnsignedChar, Short, UnsignedShort, Int, UnsignedInt, Long, UnsignedLong, LongLong, UnsignedLongLong}
+use Rattle.obj_memory.specs.declared.int_type.IntType.TheVariants.{Char, SignedChar, UnsignedChar, Short}
+use Rattle.obj_memory.specs.declared.int_type.IntType.TheVariants.{UnsignedShort, Int, UnsignedInt, Long}
+use Rattle.obj_memory.specs.declared.int_type.IntType.TheVariants.{UnsignedLong, LongLong, UnsignedLongLong}
 use Rattle.obj_memory.specs.declared.operator.UnaryOperator.{UnaryOperator}
 use Rattle.obj_memory.specs.declared.operator.UnaryOperator.TheVariants.{Plus, Negate, Complement, Not}
 use Rattle.obj_memory.specs.declared.operator.BinaryOperator.{BinaryOperator}
-use Rattle.obj_memory.specs.declared.operator.BinaryOperator.TheVariants.{Add, Subtract, Multiply, Divide, Remainder, ShiftLeft, ShiftRight, BitAnd, BitXor, BitOr, Less, Greater, LessOrEqual, GreaterOrEqual, Equal, NotEqual}
+use Rattle.obj_memory.specs.declared.operator.BinaryOperator.TheVariants.{Add, Subtract, Multiply, Divide, Remainder}
+use Rattle.obj_memory.specs.declared.operator.BinaryOperator.TheVariants.{ShiftLeft, ShiftRight, BitAnd, BitXor}
+use Rattle.obj_memory.specs.declared.operator.BinaryOperator.TheVariants.{BitOr, Less, Greater, LessOrEqual}
+use Rattle.obj_memory.specs.declared.operator.BinaryOperator.TheVariants.{GreaterOrEqual, Equal, NotEqual}
 use Rattle.obj_memory.specs.Integers.{fit, size_of, is_signed}
-use Rattle.obj_memory.specs.Operators.{one_if, quotient, remainder, shift_right, shift_amount, unary_value, binary_value}
+use Rattle.obj_memory.specs.Operators.{one_if, quotient, remainder, shift_right, shift_amount, unary_value}
+use Rattle.obj_memory.specs.Operators.{binary_value}
 
 pub fit_word : (t : IntType) (x : ℕ) → fit t (x % 2 ^ 64) ≡ fit t x
 unfolding fit
@@ -82,13 +89,18 @@ unary_below Not t x = one_if_below _
 pub shift_below : (b : Bool) (x k : ℕ) → x < 2 ^ 64 → shift_right b x k < 2 ^ 64
 shift_below b x k h = grind arith
 
-pub binary_below : (op : BinaryOperator) (t : IntType) (x y : ℕ) → x < 2 ^ 64 → y < 2 ^ 64 → IfSome (binary_value op t x y) (λ z. z < 2 ^ 64)
+pub binary_below : (op : BinaryOperator) (t : IntType) (x y : ℕ) → x < 2 ^ 64 → y < 2 ^ 64
+    → IfSome (binary_value op t x y) (λ z. z < 2 ^ 64)
 unfolding binary_value
 binary_below Add t x y p q = fit_below t _
 binary_below Subtract t x y p q = fit_below t _
 binary_below Multiply t x y p q = fit_below t _
-binary_below Divide t x y p q = elim (y == 0) as (λ b. IfSome (if b then None else Some (fit t (quotient (is_signed t) x y))) (λ z. z < 2 ^ 64)) [ true ↦ tt | false ↦ fit_below t _ ]
-binary_below Remainder t x y p q = elim (y == 0) as (λ b. IfSome (if b then None else Some (fit t (remainder (is_signed t) x y))) (λ z. z < 2 ^ 64)) [ true ↦ tt | false ↦ fit_below t _ ]
+binary_below Divide t x y p q = elim (y == 0) as (λ b. IfSome
+    (if b then None else Some (fit t (quotient (is_signed t) x y)))
+    (λ z. z < 2 ^ 64)) [ true ↦ tt | false ↦ fit_below t _ ]
+binary_below Remainder t x y p q = elim (y == 0) as (λ b. IfSome
+    (if b then None else Some (fit t (remainder (is_signed t) x y)))
+    (λ z. z < 2 ^ 64)) [ true ↦ tt | false ↦ fit_below t _ ]
 binary_below ShiftLeft t x y p q = fit_below t _
 binary_below ShiftRight t x y p q = shift_below (is_signed t) x (shift_amount t y) p
 binary_below BitAnd t x y p q = and_lt 64 x y p q

@@ -1,6 +1,7 @@
 -- Reads and writes. Numbers are little endian. A pointer at a multiple of 8 has its tag in the word there; at any other
 -- place it is bytes alone.
-use Rattle.std.specs.Prelude.{ℕ, ◌+◌, ◌-◌, ◌*◌, ◌/◌, ◌%◌, Bool, ◌&&◌, ◌==◌, nat_le, if◌then◌else◌, List, [], ◌∷◌, ◌++◌, length, take, drop, get_or, set}
+use Rattle.std.specs.Prelude.{ℕ, ◌+◌, ◌-◌, ◌*◌, ◌/◌, ◌%◌, Bool, ◌&&◌, ◌==◌, nat_le, if◌then◌else◌, List, [], ◌∷◌}
+use Rattle.std.specs.Prelude.{◌++◌, length, take, drop, get_or, set}
 use Rattle.byteorder.specs.Endian.{little_bytes, little_number}
 use Rattle.obj_memory.specs.declared.value.Tag.{Tag}
 use Rattle.obj_memory.specs.declared.value.Tag.TheVariants.{Untagged}
@@ -38,7 +39,11 @@ scalar_size Pointer = 8
 
 -- what is read of a scalar: its bytes, and of a pointer the tag of the word there
 unfoldable pub read_value : Scalar → Place → Objects → Value
-read_value (Integer t) p objects = record { word = fit t (little_number (size_of t) (bytes_at (size_of t) p objects)); tag = Untagged }
+read_value (Integer t) p objects = record {
+  word = fit t (little_number (size_of t)
+      (bytes_at (size_of t) p objects));
+  tag = Untagged;
+}
 read_value Pointer p objects = record { word = little_number 8 (bytes_at 8 p objects); tag = tag_at p objects }
 
 -- bytes written, which leaves the tags
@@ -74,8 +79,8 @@ moved_tags size start source from word (t ∷ ts) =
     (if is_word_in start size word then get_or from ((8 * word - start + source) / 8) Untagged else t)
     ∷ moved_tags size start source from (word + 1) ts
 
--- a range of bytes moved from one place to another, as by memmove (C99 7.21.2.2), with the tags of whole words where both
--- places are equal modulo 8
+-- a range of bytes moved from one place to another, as by memmove (C99 7.21.2.2), with the tags of whole words where
+-- both places are equal modulo 8
 unfoldable pub move_range : (size : ℕ) → (destination source : Place) → Objects → Objects
 move_range size d s objects =
     let o = object_at objects d.object in

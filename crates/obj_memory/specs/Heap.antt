@@ -1,5 +1,7 @@
--- Where `malloc` places a block (C99 7.20.3.3): at the least multiple of 16 of the heap at which it meets no live block.
-use Rattle.std.specs.Prelude.{ℕ, zero, suc, ◌+◌, ◌-◌, ◌*◌, ◌/◌, max, Bool, true, false, ◌&&◌, ◌||◌, not, nat_le, if◌then◌else◌, [], ◌∷◌, Option, Some, None}
+-- Where `malloc` places a block (C99 7.20.3.3): at the least multiple of 16 of the heap at which it meets no live
+-- block.
+use Rattle.std.specs.Prelude.{ℕ, zero, suc, ◌+◌, ◌-◌, ◌*◌, ◌/◌, max, Bool, true, false, ◌&&◌, ◌||◌, not, nat_le}
+use Rattle.std.specs.Prelude.{if◌then◌else◌, [], ◌∷◌, Option, Some, None}
 use Rattle.obj_memory.specs.declared.object.Storage.{Storage}
 use Rattle.obj_memory.specs.declared.object.Storage.TheVariants.{Static, Automatic, Allocated}
 use Rattle.obj_memory.specs.Objects.{ObjectState, Objects}

@@ -1,9 +1,11 @@
--- Integer types (C99 6.2.5) and their conversions (6.3.1). A value of an integer type is held as a word: its number modulo
--- 2 ^ 64. So a negative number has ones in all upper bits, any other zeros, and every conversion between integer types is
--- `fit` of the word to the new type, whatever the old one was.
+-- Integer types (C99 6.2.5) and their conversions (6.3.1). A value of an integer type is held as a word: its number
+-- modulo 2 ^ 64. So a negative number has ones in all upper bits, any other zeros, and every conversion between
+-- integer types is `fit` of the word to the new type, whatever the old one was.
 use Rattle.std.specs.Prelude.{ℕ, Bool, true, false, nat_lt, nat_le, if◌then◌else◌}
 use Rattle.obj_memory.specs.declared.int_type.IntType.{IntType}
-use Rattle.obj_memory.specs.declared.int_type.IntType.TheVariants.{Char, SignedChar, UnsignedChar, Short, UnsignedShort, Int, UnsignedInt, Long, UnsignedLong, LongLong, UnsignedLongLong}
+use Rattle.obj_memory.specs.declared.int_type.IntType.TheVariants.{Char, SignedChar, UnsignedChar, Short}
+use Rattle.obj_memory.specs.declared.int_type.IntType.TheVariants.{UnsignedShort, Int, UnsignedInt, Long}
+use Rattle.obj_memory.specs.declared.int_type.IntType.TheVariants.{UnsignedLong, LongLong, UnsignedLongLong}
 use Rattle.words.specs.TwosComplement.{low_bits, sign_extended}
 
 -- the number of bytes (LP64)
@@ -76,8 +78,8 @@ unsigned_of UnsignedLong = UnsignedLong
 unsigned_of LongLong = UnsignedLongLong
 unsigned_of UnsignedLongLong = UnsignedLongLong
 
--- the usual arithmetic conversions (6.3.1.8) of a signed and an unsigned type that are promoted: the unsigned type where
--- its rank is no less, else the signed type where it is wider and so holds all values, else the unsigned one that
+-- the usual arithmetic conversions (6.3.1.8) of a signed and an unsigned type that are promoted: the unsigned type
+-- where its rank is no less, else the signed type where it is wider and so holds all values, else the unsigned one that
 -- corresponds to it
 unfoldable pub mixed_type : (signed_type unsigned_type : IntType) → IntType
 mixed_type s u =

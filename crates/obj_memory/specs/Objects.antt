@@ -1,5 +1,5 @@
--- Objects: how they are made and how they die. An object goes by its number, its place in the list of all that were made;
--- the dead stay there.
+-- Objects: how they are made and how they die. An object goes by its number, its place in the list of all that were
+-- made; the dead stay there.
 use Rattle.std.specs.Prelude.{ℕ, ◌+◌, ◌/◌, Bool, true, false, List, [], ◌∷◌, ◌++◌, replicate, get_or, set}
 use Rattle.obj_memory.specs.declared.object.Storage.{Storage}
 use Rattle.obj_memory.specs.declared.object.Storage.TheVariants.{Static}
@@ -7,8 +7,9 @@ use Rattle.obj_memory.specs.declared.value.Tag.{Tag}
 use Rattle.obj_memory.specs.declared.value.Tag.TheVariants.{Untagged, OfObject}
 use Rattle.obj_memory.specs.declared.value.Value.{Value}
 
--- an object: its storage duration (C99 6.2.4), its first address, its bytes, and a tag for each of its words, the 8 bytes
--- from an offset on that is a multiple of 8. Objects stand at multiples of 16, so that is a multiple of 8 of the address too
+-- an object: its storage duration (C99 6.2.4), its first address, its bytes, and a tag for each of its words, the 8
+-- bytes from an offset on that is a multiple of 8. Objects stand at multiples of 16, so that is a multiple of 8 of
+-- the address too
 pub record ObjectState : Type 0 where
   pub storage : Storage
   pub address : ℕ
@@ -31,7 +32,14 @@ object_at objects n = get_or objects n no_object
 -- a new object has zero bytes and no tags
 unfoldable pub new_object : Storage → (address size : ℕ) → ObjectState
 new_object storage address size =
-    record { storage = storage; address = address; size = size; is_live = true; bytes = replicate size 0; tags = replicate (size / 8) Untagged }
+    record {
+      storage = storage;
+      address = address;
+      size = size;
+      is_live = true;
+      bytes = replicate size 0;
+      tags = replicate (size / 8) Untagged;
+    }
 
 -- the objects with a new one, whose number is the length of the list before
 unfoldable pub with_new : Storage → (address size : ℕ) → Objects → Objects

@@ -1,15 +1,20 @@
 -- The operators on integers, on words (C99 6.5.3.3, 6.5.5 to 6.5.12): each is an operation on words of 64 bits, then
 -- `fit` to the type. What C99 leaves open is settled so: numbers wrap in two's complement, a shift goes by the amount
 -- modulo the width, a right shift keeps the sign, and the least number divided by -1 is itself, with remainder 0.
-use Rattle.std.specs.Prelude.{ℕ, ◌/◌, ◌%◌, ◌^◌, Bool, true, false, not, ◌==◌, nat_lt, if◌then◌else◌, Option, Some, None, bit_and, bit_or, bit_xor}
+use Rattle.std.specs.Prelude.{ℕ, ◌/◌, ◌%◌, ◌^◌, Bool, true, false, not, ◌==◌, nat_lt, if◌then◌else◌, Option, Some}
+use Rattle.std.specs.Prelude.{None, bit_and, bit_or, bit_xor}
 use Rattle.obj_memory.specs.declared.int_type.IntType.{IntType}
 use Rattle.obj_memory.specs.declared.operator.UnaryOperator.{UnaryOperator}
 use Rattle.obj_memory.specs.declared.operator.UnaryOperator.TheVariants.{Plus, Negate, Complement, Not}
 use Rattle.obj_memory.specs.declared.operator.BinaryOperator.{BinaryOperator}
-use Rattle.obj_memory.specs.declared.operator.BinaryOperator.TheVariants.{Add, Subtract, Multiply, Divide, Remainder, ShiftLeft, ShiftRight, BitAnd, BitXor, BitOr, Less, Greater, LessOrEqual, GreaterOrEqual, Equal, NotEqual}
+use Rattle.obj_memory.specs.declared.operator.BinaryOperator.TheVariants.{Add, Subtract, Multiply, Divide, Remainder}
+use Rattle.obj_memory.specs.declared.operator.BinaryOperator.TheVariants.{ShiftLeft, ShiftRight, BitAnd, BitXor}
+use Rattle.obj_memory.specs.declared.operator.BinaryOperator.TheVariants.{BitOr, Less, Greater, LessOrEqual}
+use Rattle.obj_memory.specs.declared.operator.BinaryOperator.TheVariants.{GreaterOrEqual, Equal, NotEqual}
 use Rattle.obj_memory.specs.Integers.{fit, is_signed, size_of}
 use Rattle.words.specs.TwosComplement as words
-use Rattle.words.specs.Operations.{sum, difference, product, complement, shifted_left, shifted_right_signed, is_less_signed, signed_quotient, signed_remainder}
+use Rattle.words.specs.Operations.{sum, difference, product, complement, shifted_left, shifted_right_signed}
+use Rattle.words.specs.Operations.{is_less_signed, signed_quotient, signed_remainder}
 
 -- the word of the negative
 abbrev pub negated : ℕ → ℕ

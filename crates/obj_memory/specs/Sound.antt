@@ -78,12 +78,14 @@ pub record HasRoom (last room : ℕ) (objects : Objects) (start : ℕ) : Type 0 
   pub in_heap : start + room ≤ last + 1
   pub clear : (n : ℕ) → is_live_block (object_at objects n) ≡ true → IsClearOf start room (object_at objects n)
 
--- the place of a block in a heap: it lies in the heap, clear of every live block, and no multiple of 16 below it would do
+-- the place of a block in a heap: it lies in the heap, clear of every live block, and no multiple of 16 below it
+-- would do
 pub record IsBlockPlace (first last size : ℕ) (objects : Objects) (place : ℕ) : Type 0 where
   pub step : ℕ
   pub is_step : place ≡ first + 16 * step
   pub in_heap : place + block_room size ≤ last + 1
-  pub clear : (n : ℕ) → is_live_block (object_at objects n) ≡ true → IsClearOf place (block_room size) (object_at objects n)
+  pub clear : (n : ℕ) → is_live_block (object_at objects n) ≡ true
+      → IsClearOf place (block_room size) (object_at objects n)
   pub least : (i : ℕ) → i < step → has_room last (block_room size) objects (first + 16 * i) ≡ false
 
 -- a tag that reaches no more than another: the same object or function, and bounds within the other's
@@ -100,4 +102,5 @@ DoNotMeet start size other count = (start + size ≤ other) ⊎ (other + count �
 -- no two live objects share an address
 pub record AreDisjoint (objects : Objects) : Type 0 where
   pub apart : (m n : ℕ) → m ≢ n → (object_at objects m).is_live ≡ true → (object_at objects n).is_live ≡ true
-      → DoNotMeet (object_at objects m).address (object_at objects m).size (object_at objects n).address (object_at objects n).size
+      → DoNotMeet (object_at objects m).address (object_at objects m).size (object_at objects n).address
+      (object_at objects n).size

@@ -33,7 +33,8 @@ pub enum IntType {
 }
 
 impl IntType {
-    ghost use Rattle.obj_memory.specs.Integers.{size_of, is_signed, rank, promoted, unsigned_of, mixed_type, balanced_type, common_type, fit};
+    ghost use Rattle.obj_memory.specs.Integers.{size_of, is_signed, rank, promoted, unsigned_of, mixed_type};
+    ghost use Rattle.obj_memory.specs.Integers.{balanced_type, common_type, fit};
 
     /// The number of bytes: 1, 2, 4 or 8.
     #[tactic(auto, unfolding(crate::specs::Integers::size_of))]

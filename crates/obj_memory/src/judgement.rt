@@ -7,7 +7,7 @@ use crate::object::Object;
 use crate::value::{Bounds, Place, Tag, Value};
 
 /// What is found of an access.
-#[derive(Clone, Copy, Debug, PartialEq, Eq)]
+#[derive(Clone, Copy, PartialEq, Eq)]
 pub enum Verdict {
     /// It is not within the bounds of its pointer, or the pointer is not of an object: a spatial violation.
     Outside,

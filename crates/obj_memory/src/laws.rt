@@ -1,6 +1,7 @@
 //! Laws of the definitions, each as the contract of a function that does nothing: layers above rest on
 //! them.
-ghost use Rattle.std.specs.Prelude.{◌≡◌, ◌≢◌, ℕ, ◌+◌, ◌-◌, ◌*◌, ◌/◌, ◌%◌, ◌^◌, ◌<◌, ◌≤◌, ◌⊎◌, List, [], length, take, drop, get_or, true, false, IfSome, Some, None};
+ghost use Rattle.std.specs.Prelude.{◌≡◌, ◌≢◌, ℕ, ◌+◌, ◌-◌, ◌*◌, ◌/◌, ◌%◌, ◌^◌, ◌<◌, ◌≤◌, ◌⊎◌, List, [], length, take};
+ghost use Rattle.std.specs.Prelude.{drop, get_or, true, false, IfSome, Some, None};
 ghost use Rattle.obj_memory.specs.declared.int_type.IntType.{IntType};
 ghost use Rattle.obj_memory.specs.declared.operator.UnaryOperator.{UnaryOperator};
 ghost use Rattle.obj_memory.specs.declared.operator.BinaryOperator.{BinaryOperator};
@@ -13,14 +14,17 @@ ghost use Rattle.obj_memory.specs.declared.object.Storage.TheVariants.{Allocated
 ghost use Rattle.obj_memory.specs.declared.value.Tag.TheVariants.{Untagged};
 ghost use Rattle.obj_memory.specs.declared.value.Scalar.TheVariants.{Integer, Pointer};
 ghost use Rattle.obj_memory.specs.declared.judgement.Verdict.TheVariants.{Inside};
-ghost use Rattle.obj_memory.specs.Integers.{fit, size_of};
-ghost use Rattle.obj_memory.specs.Operators.{unary_value, binary_value};
-ghost use Rattle.obj_memory.specs.Objects.{Objects, object_at, new_object, with_new, with_dead, with_zeroed, pointer_to};
+ghost use Rattle.obj_memory.specs.Integers.{fit, is_signed, size_of};
+ghost use Rattle.obj_memory.specs.Operators.{shift_right, unary_value, binary_value};
+ghost use Rattle.obj_memory.specs.Objects.{Objects, object_at, new_object, with_new, with_dead, with_zeroed};
+ghost use Rattle.obj_memory.specs.Objects.{pointer_to};
 ghost use Rattle.obj_memory.specs.Judgement.{judge, named, moved, narrowed};
-ghost use Rattle.obj_memory.specs.Access.{scalar_size, overwrite, read_value, write_value, kept_value, write_bytes, bytes_at, tag_at, tag_of, move_range};
+ghost use Rattle.obj_memory.specs.Access.{scalar_size, overwrite, read_value, write_value, kept_value, write_bytes};
+ghost use Rattle.obj_memory.specs.Access.{bytes_at, tag_at, tag_of, move_range};
 ghost use Rattle.byteorder.specs.Endian.{little_bytes};
 ghost use Rattle.obj_memory.specs.Heap.{is_allocated, is_live_block, block_count, block_room, has_room, least_place};
-ghost use Rattle.obj_memory.specs.Sound.{IsSound, IsSoundTag, IsPlace, IsAllowed, IsPartOf, KeepsObjects, Continues, AreApart, AreDisjoint, DoNotMeet, HasRoom, IsBlockPlace};
+ghost use Rattle.obj_memory.specs.Sound.{IsSound, IsSoundTag, IsPlace, IsAllowed, IsPartOf, KeepsObjects, Continues};
+ghost use Rattle.obj_memory.specs.Sound.{AreApart, AreDisjoint, DoNotMeet, HasRoom, IsBlockPlace};
 
 /// A conversion reads no more than the bytes of its type and gives a word, and a second one changes
 /// nothing.
@@ -38,6 +42,15 @@ pub fn operators_give_words()
         → IfSome (binary_value op t x y) (λ z. z < 2 ^ 64) }
 {}
 
+/// What an operator gives at words of a type is a word of that type, so bitwise operators and shifts to the
+/// right, which convert nothing, need no conversion. The amount of a shift may be of any type.
+pub fn operators_stay_in_their_type()
+    ensures value { (op : BinaryOperator) (t : IntType) (x y : ℕ) → fit t x ≡ x → fit t y ≡ y
+        → IfSome (binary_value op t x y) (λ z. fit t z ≡ z) }
+    ensures shift { (t : IntType) (x by : ℕ) → fit t x ≡ x
+        → fit t (shift_right (is_signed t) x by) ≡ shift_right (is_signed t) x by }
+{}
+
 /// At the place of a write its value is read, as the scalar there keeps it, and what was read at a
 /// place apart from it still is.
 pub fn what_was_written_is_read()
@@ -52,7 +65,8 @@ pub fn what_was_written_is_read()
 /// A write puts the bytes of its value into the object of its place, and leaves every other object.
 pub fn writes_change_one_object()
     ensures bytes { (s : Scalar) (v : Value) (p : Place) (objects : Objects) → p.object < length objects
-        → (object_at (write_value s v p objects) p.object).bytes ≡ overwrite p.offset (little_bytes (scalar_size s) v.word) (object_at objects p.object).bytes }
+        → (object_at (write_value s v p objects) p.object).bytes
+        ≡ overwrite p.offset (little_bytes (scalar_size s) v.word) (object_at objects p.object).bytes }
     ensures other { (s : Scalar) (v : Value) (p : Place) (n : ℕ) (objects : Objects) → n ≢ p.object
         → object_at (write_value s v p objects) n ≡ object_at objects n }
 {}
@@ -95,7 +109,8 @@ pub fn moved_bytes_are_read()
         → IsPlace objects s size → bytes_at size d (move_range size d s objects) ≡ bytes_at size s objects }
     ensures beside { (size : ℕ) (d s : Place) (objects : Objects) (start count : ℕ) → IsSound objects
         → IsPlace objects d size → IsPlace objects s size → DoNotMeet start count d.offset size
-        → take count (drop start (object_at (move_range size d s objects) d.object).bytes) ≡ take count (drop start (object_at objects d.object).bytes) }
+        → take count (drop start (object_at (move_range size d s objects) d.object).bytes)
+        ≡ take count (drop start (object_at objects d.object).bytes) }
     ensures other { (size : ℕ) (d s : Place) (n : ℕ) (objects : Objects) → n ≢ d.object
         → object_at (move_range size d s objects) n ≡ object_at objects n }
 {}
@@ -105,7 +120,8 @@ pub fn moved_bytes_are_read()
 pub fn moved_words_have_their_tags()
     ensures moved { (size : ℕ) (d s : Place) (word : ℕ) (objects : Objects) → IsSound objects → IsPlace objects d size
         → d.offset % 8 ≡ s.offset % 8 → d.offset ≤ 8 * word → 8 * word + 8 ≤ d.offset + size
-        → tag_of d.object word (move_range size d s objects) ≡ tag_of s.object ((8 * word - d.offset + s.offset) / 8) objects }
+        → tag_of d.object word (move_range size d s objects) ≡ tag_of s.object
+        ((8 * word - d.offset + s.offset) / 8) objects }
     ensures kept { (size : ℕ) (d s : Place) (word : ℕ) (objects : Objects) → d.object < length objects
         → (d.offset % 8 ≢ s.offset % 8) ⊎ ((8 * word < d.offset) ⊎ (d.offset + size < 8 * word + 8))
         → tag_of d.object word (move_range size d s objects) ≡ tag_of d.object word objects }

@@ -7,7 +7,7 @@ use std::alloc::{AllocError, Global};
 use std::marker::Model;
 
 /// The storage duration of an object (C99 6.2.4, and 7.20.3 of allocated objects).
-#[derive(Clone, Copy, Debug, PartialEq, Eq)]
+#[derive(Clone, Copy, PartialEq, Eq)]
 pub enum Storage {
     /// As long as the program runs.
     Static,
@@ -34,7 +34,14 @@ impl Model for Object {
 
     ghost Value = { ObjectState };
 
-    ghost view = { λ o. record { storage = o.storage; address = o.address; size = o.size; is_live = o.is_live; bytes = o.bytes.items; tags = o.tags.items } };
+    ghost view = { λ o. record {
+      storage = o.storage;
+      address = o.address;
+      size = o.size;
+      is_live = o.is_live;
+      bytes = o.bytes.items;
+      tags = o.tags.items;
+    } };
 }
 
 impl Object {

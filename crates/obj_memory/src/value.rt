@@ -6,7 +6,7 @@ use crate::int_type::IntType;
 
 /// The addresses that a pointer may reach: from `base` to before `bound` (SoftBound, "base and bound"). There are none
 /// where `bound` is not above `base`.
-#[derive(Clone, Copy, Debug, PartialEq, Eq)]
+#[derive(Clone, Copy, PartialEq, Eq)]
 pub struct Bounds {
     /// The first address.
     pub base: u64,
@@ -15,7 +15,7 @@ pub struct Bounds {
 }
 
 /// What a pointer was made from.
-#[derive(Clone, Copy, Debug, PartialEq, Eq)]
+#[derive(Clone, Copy, PartialEq, Eq)]
 pub enum Tag {
     /// Nothing that may be reached: an integer, or a null pointer.
     Untagged,
@@ -26,7 +26,7 @@ pub enum Tag {
 }
 
 /// A value of a scalar type (C99 6.2.5): a word, and a tag, which only a pointer has.
-#[derive(Clone, Copy, Debug, PartialEq, Eq)]
+#[derive(Clone, Copy, PartialEq, Eq)]
 pub struct Value {
     /// An integer modulo 2^64, or an address.
     pub word: u64,
@@ -44,7 +44,7 @@ pub enum Scalar {
 }
 
 /// A byte of an object.
-#[derive(Clone, Copy, Debug, PartialEq, Eq)]
+#[derive(Clone, Copy, PartialEq, Eq)]
 pub struct Place {
     /// The number of the object.
     pub object: usize,

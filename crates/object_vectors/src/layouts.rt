@@ -43,10 +43,7 @@ fn unions(rt: HostRuntime) {
 #[test]
 fn types(rt: HostRuntime) -> Result<(), Fail> {
     let words = vec![in rt.alloc();
-        TypeWord::Array {
-            count: 2,
-            bytes: 16
-        },
+        TypeWord::array(2, Extent::of_pointer()),
         TypeWord::Pointer,
         TypeWord::Const,
         TypeWord::Integer(IntType::Int),

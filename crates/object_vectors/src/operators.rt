@@ -159,103 +159,104 @@ const BINARY: [(BinaryOperator, IntType, u64, u64, u64); 55] = [
 
 #[test]
 fn converts_words(rt: HostRuntime) {
-    for (to, first, second) in CONVERSIONS {
-        assert_eq!(rt; to.fit(0xfedcba9876543210), first, "{to:?}");
-        assert_eq!(rt; to.fit(0x8080808080808080), second, "{to:?}");
+    for (row, &(to, first, second)) in CONVERSIONS.iter().enumerate() {
+        assert!(rt; to.fit(0xfedcba9876543210) == first, "row {row}");
+        assert!(rt; to.fit(0x8080808080808080) == second, "row {row}");
     }
 }
 
 #[test]
 fn finds_common_types(rt: HostRuntime) {
-    for (left, right, wanted) in COMMON {
-        assert_eq!(rt; left.common(right), wanted, "{left:?} {right:?}");
+    for (row, &(left, right, wanted)) in COMMON.iter().enumerate() {
+        assert!(rt; left.common(right) == wanted, "row {row}");
     }
 }
 
 #[test]
 fn computes_unary_operators(rt: HostRuntime) {
-    for (operator, of, operand, wanted) in UNARY {
-        assert_eq!(rt;
-            operator.apply(of, operand),
-            wanted,
-            "{operator:?} {of:?} {operand}"
-        );
+    for (row, &(operator, of, operand, wanted)) in UNARY.iter().enumerate() {
+        assert!(rt; operator.apply(of, operand) == wanted, "row {row}");
     }
 }
 
 #[test]
 fn computes_binary_operators(rt: HostRuntime) {
-    for (operator, of, left, right, wanted) in BINARY {
-        let value = operator.apply(of, left, right);
-        assert_eq!(rt; value, Some(wanted), "{operator:?} {of:?} {left} {right}");
+    for (row, &(operator, of, left, right, wanted)) in BINARY.iter().enumerate() {
+        assert!(rt;
+            operator.apply(of, left, right) == Some(wanted),
+            "row {row}"
+        );
     }
 }
 
 // What C99 leaves open, by the rules of the crate: shifts by the width and more, the least number by -1,
 // and zero divisors.
+const OPEN: [(BinaryOperator, IntType, u64, u64, Option<u64>); 11] = [
+    (ShiftLeft, Int, 3, 32, Some(3)),
+    (ShiftLeft, Int, 3, u64::MAX, Some(LEAST_INT)),
+    (ShiftRight, UnsignedInt, 0xc000_0000, 63, Some(1)),
+    (ShiftLeft, Long, 3, 64, Some(3)),
+    (ShiftRight, UnsignedLong, u64::MAX, 127, Some(1)),
+    (Divide, Int, LEAST_INT, u64::MAX, Some(LEAST_INT)),
+    (Remainder, Int, LEAST_INT, u64::MAX, Some(0)),
+    (Divide, Long, LEAST, u64::MAX, Some(LEAST)),
+    (Remainder, LongLong, LEAST, u64::MAX, Some(0)),
+    (Divide, Int, 1, 0, None),
+    (Remainder, UnsignedLong, 1, 0, None),
+];
+
+const LEAST: u64 = 0x8000_0000_0000_0000;
+
+const LEAST_INT: u64 = 0xffff_ffff_8000_0000;
+
 #[test]
 fn settles_what_c_leaves_open(rt: HostRuntime) {
-    let least = 0x8000_0000_0000_0000;
-    let least_int = 0xffff_ffff_8000_0000;
-    let minus_one = 0xffff_ffff_ffff_ffff;
-    let rows = [
-        (ShiftLeft, Int, 3, 32, Some(3)),
-        (ShiftLeft, Int, 3, minus_one, Some(least_int)),
-        (ShiftRight, UnsignedInt, 0xc000_0000, 63, Some(1)),
-        (ShiftLeft, Long, 3, 64, Some(3)),
-        (ShiftRight, UnsignedLong, minus_one, 127, Some(1)),
-        (Divide, Int, least_int, minus_one, Some(least_int)),
-        (Remainder, Int, least_int, minus_one, Some(0)),
-        (Divide, Long, least, minus_one, Some(least)),
-        (Remainder, LongLong, least, minus_one, Some(0)),
-        (Divide, Int, 1, 0, None),
-        (Remainder, UnsignedLong, 1, 0, None),
-    ];
-    for (operator, of, left, right, wanted) in rows {
-        let value = operator.apply(of, left, right);
-        assert_eq!(rt; value, wanted, "{operator:?} {of:?} {left} {right}");
+    for (row, &(operator, of, left, right, wanted)) in OPEN.iter().enumerate() {
+        assert!(rt; operator.apply(of, left, right) == wanted, "row {row}");
     }
 }
 
 #[test]
 fn knows_types(rt: HostRuntime) {
-    assert_eq!(rt; Short.size(), 2);
-    assert_eq!(rt; Short.rank(), 2);
-    assert!(rt; Short.is_signed());
-    assert_eq!(rt; Short.promoted(), Int);
-    assert_eq!(rt; Char.unsigned(), UnsignedChar);
-    assert_eq!(rt; Scalar::Integer(Short).size(), 2);
-    assert_eq!(rt; Scalar::Pointer.size(), 8);
+    assert!(rt; Short.size() == 2 && Short.rank() == 2 && Short.is_signed());
+    assert!(rt; Short.promoted() == Int);
+    assert!(rt; Char.unsigned() == UnsignedChar);
+    assert!(rt; Scalar::Integer(Short).size() == 2 && Scalar::Pointer.size() == 8);
+}
+
+#[test]
+fn makes_objects(rt: HostRuntime) -> Result<(), Fail> {
+    let object = Object::new(rt.alloc(), Storage::Automatic, 0x1000, 16)?;
+    assert!(rt; object.storage() == Storage::Automatic && object.address() == 0x1000);
+    assert!(rt; object.size() == 16 && object.bytes().len() == 16 && object.tags().len() == 2);
+    Ok(())
+}
+
+const BOUNDS: Bounds = Bounds {
+    base: 0x1000,
+    bound: 0x1010,
+};
+
+const POINTER: Value = Value {
+    word: 0x1000,
+    tag: Tag::OfObject(0, BOUNDS),
+};
+
+const fn inside(offset: u64) -> Verdict {
+    Verdict::Inside(Place { object: 0, offset })
 }
 
 // A pointer into an object of 16 bytes at 0x1000, and one to a member of 4 bytes at its offset 8.
 #[test]
 fn judges_accesses(rt: HostRuntime) -> Result<(), Fail> {
-    let alloc = rt.alloc();
-    let mut object = Object::new(alloc, Storage::Automatic, 0x1000, 16)?;
-    assert_eq!(rt; object.storage(), Storage::Automatic);
-    assert_eq!(rt; object.address(), 0x1000);
-    assert_eq!(rt; object.size(), 16);
-    assert_eq!(rt; object.bytes().len(), 16);
-    assert_eq!(rt; object.tags().len(), 2);
-    let bounds = Bounds {
-        base: 0x1000,
-        bound: 0x1010,
-    };
-    let pointer = Value {
-        word: 0x1000,
-        tag: Tag::OfObject(0, bounds),
-    };
-    let member = pointer.narrowed(8, 4);
-    let place = |offset| Verdict::Inside(Place { object: 0, offset });
-    object.kill();
-    let dead = [object];
-    assert_eq!(rt; judge(16, pointer, &dead), Verdict::Dead);
-    let live = [Object::new(alloc, Storage::Automatic, 0x1000, 16)?];
-    assert_eq!(rt; judge(16, pointer, &live), place(0));
-    assert_eq!(rt; judge(17, pointer, &live), Verdict::Outside);
-    assert_eq!(rt; judge(4, member, &live), place(8));
-    assert_eq!(rt; judge(4, member.moved(1), &live), Verdict::Outside);
-    assert_eq!(rt; named(member, &live), place(8));
+    let mut objects = [Object::new(rt.alloc(), Storage::Automatic, 0x1000, 16)?];
+    let member = POINTER.narrowed(8, 4);
+    assert!(rt; judge(16, POINTER, &objects) == inside(0));
+    assert!(rt; judge(17, POINTER, &objects) == Verdict::Outside);
+    assert!(rt; judge(4, member, &objects) == inside(8));
+    assert!(rt; judge(4, member.moved(1), &objects) == Verdict::Outside);
+    assert!(rt; named(member, &objects) == inside(8));
+    objects[0].kill();
+    assert!(rt; judge(16, POINTER, &objects) == Verdict::Dead);
     Ok(())
 }

@@ -1,5 +1,5 @@
--- What the word of an instruction is decoded to. One lemma for each constructor: that the opcode and each field are read back
--- from the word is linear arithmetic, and each table read backwards gives back the operation.
+-- What the word of an instruction is decoded to. One lemma for each constructor: that the opcode and each field are
+-- read back from the word is linear arithmetic, and each table read backwards gives back the operation.
 use Rattle.std.proofs.Common.{◌≡◌, ℕ, ◌+◌, ◌*◌, ◌%◌, ◌^◌, ◌<◌, refl, ap, ◌∙◌, arith, lit<}
 use Rattle.std.specs.Prelude.{option_map, Option, Some, None, if◌then◌else◌, ◌==◌}
 use Rattle.rv_isa.specs.declared.instruction.BranchOp.{BranchOp}
@@ -15,13 +15,22 @@ use Rattle.rv_isa.specs.declared.instruction.ShiftOp.TheVariants.{Slli, Srli, Sr
 use Rattle.rv_isa.specs.declared.instruction.ShiftOp32.{ShiftOp32}
 use Rattle.rv_isa.specs.declared.instruction.ShiftOp32.TheVariants.{Slliw, Srliw, Sraiw}
 use Rattle.rv_isa.specs.declared.instruction.RegOp.{RegOp}
-use Rattle.rv_isa.specs.declared.instruction.RegOp.TheVariants.{Add, Sub, Sll, Slt, Sltu, Xor, Srl, Sra, Or, And, Mul, Mulh, Mulhsu, Mulhu, Div, Divu, Rem, Remu}
+use Rattle.rv_isa.specs.declared.instruction.RegOp.TheVariants.{Add, Sub, Sll, Slt, Sltu, Xor, Srl, Sra, Or, And, Mul}
+use Rattle.rv_isa.specs.declared.instruction.RegOp.TheVariants.{Mulh, Mulhsu, Mulhu, Div, Divu, Rem, Remu}
 use Rattle.rv_isa.specs.declared.instruction.RegOp32.{RegOp32}
-use Rattle.rv_isa.specs.declared.instruction.RegOp32.TheVariants.{Addw, Subw, Sllw, Srlw, Sraw, Mulw, Divw, Divuw, Remw, Remuw}
+use Rattle.rv_isa.specs.declared.instruction.RegOp32.TheVariants.{Addw, Subw, Sllw, Srlw, Sraw, Mulw, Divw, Divuw}
+use Rattle.rv_isa.specs.declared.instruction.RegOp32.TheVariants.{Remw, Remuw}
 use Rattle.rv_isa.specs.declared.instruction.Instr.{Instr}
-use Rattle.rv_isa.specs.declared.instruction.Instr.TheVariants.{Lui, Auipc, Jal, Jalr, Branch, Load, Store, OpImm, ShiftImm, Addiw, ShiftImm32, Op, Op32, Fence, Ecall, Ebreak}
-use Rattle.rv_isa.specs.Table.{bits, r_word, i_word, s_word, b_word, u_word, j_word, word_of, IsOfTable, IsReg, branch_code, load_code, store_code, imm_code, shift_code, shift32_code, reg_code, reg32_code}
-use Rattle.rv_isa.specs.Decoding.{decoded, by_opcode, jalr_of, branch_of, load_of, store_of, shift_imm_of, imm_of, op_imm_of, op_imm32_of, op_of, op32_of, fence_of, system_of, branch_at, load_at, store_at, imm_at, shift_at, shift32_at, reg_at, reg32_at, rd_of, rs1_of, rs2_of, funct3_of, funct7_of, i_imm, s_imm, b_imm, u_imm, j_imm}
+use Rattle.rv_isa.specs.declared.instruction.Instr.TheVariants.{Lui, Auipc, Jal, Jalr, Branch, Load, Store, OpImm}
+use Rattle.rv_isa.specs.declared.instruction.Instr.TheVariants.{ShiftImm, Addiw, ShiftImm32, Op, Op32, Fence, Ecall}
+use Rattle.rv_isa.specs.declared.instruction.Instr.TheVariants.{Ebreak}
+use Rattle.rv_isa.specs.Table.{bits, r_word, i_word, s_word, b_word, u_word, j_word, word_of, IsOfTable, IsReg}
+use Rattle.rv_isa.specs.Table.{branch_code, load_code, store_code, imm_code, shift_code, shift32_code, reg_code}
+use Rattle.rv_isa.specs.Table.{reg32_code}
+use Rattle.rv_isa.specs.Decoding.{decoded, by_opcode, jalr_of, branch_of, load_of, store_of, shift_imm_of, imm_of}
+use Rattle.rv_isa.specs.Decoding.{op_imm_of, op_imm32_of, op_of, op32_of, fence_of, system_of, branch_at, load_at}
+use Rattle.rv_isa.specs.Decoding.{store_at, imm_at, shift_at, shift32_at, reg_at, reg32_at, rd_of, rs1_of, rs2_of}
+use Rattle.rv_isa.specs.Decoding.{funct3_of, funct7_of, i_imm, s_imm, b_imm, u_imm, j_imm}
 
 -- each table read backwards
 branch_at-code : (op : BranchOp) → branch_at (branch_code op) ≡ Some op
@@ -204,7 +213,8 @@ auipc w rd imm e h0 h1 =
     let o : bits w 6 0 ≡ 0b0010111 = omega arith in
     ap (λ k. by_opcode k w) o ∙ cc
 
-jal : (w rd imm : ℕ) → w ≡ j_word 0b1101111 rd imm → IsReg rd → imm < 2 ^ 21 → imm % 2 ≡ 0 → decoded w ≡ Some (Jal rd imm)
+jal : (w rd imm : ℕ) → w ≡ j_word 0b1101111 rd imm → IsReg rd → imm < 2 ^ 21 → imm % 2 ≡ 0
+    → decoded w ≡ Some (Jal rd imm)
 unfolding decoded by_opcode
 jal w rd imm e h0 h1 h2 =
     let f_rd : rd_of w ≡ rd = omega arith in
@@ -212,7 +222,8 @@ jal w rd imm e h0 h1 h2 =
     let o : bits w 6 0 ≡ 0b1101111 = omega arith in
     ap (λ k. by_opcode k w) o ∙ cc
 
-jalr : (w rd rs1 imm : ℕ) → w ≡ i_word 0b1100111 0b000 rd rs1 imm → IsReg rd → IsReg rs1 → imm < 2 ^ 12 → decoded w ≡ Some (Jalr rd rs1 imm)
+jalr : (w rd rs1 imm : ℕ) → w ≡ i_word 0b1100111 0b000 rd rs1 imm → IsReg rd → IsReg rs1 → imm < 2 ^ 12
+    → decoded w ≡ Some (Jalr rd rs1 imm)
 unfolding decoded by_opcode jalr_of
 jalr w rd rs1 imm e h0 h1 h2 =
     let f_rd : rd_of w ≡ rd = omega arith in
@@ -220,9 +231,11 @@ jalr w rd rs1 imm e h0 h1 h2 =
     let f_imm : i_imm w ≡ imm = omega arith in
     let f3 : funct3_of w ≡ 0b000 = omega arith in
     let o : bits w 6 0 ≡ 0b1100111 = omega arith in
-    ap (λ k. by_opcode k w) o ∙ (ap (λ k. if k == 0b000 then Some (Jalr (rd_of w) (rs1_of w) (i_imm w)) else None) f3 ∙ cc)
+    ap (λ k. by_opcode k w) o ∙ (ap (λ k. if k == 0b000 then Some
+    (Jalr (rd_of w) (rs1_of w) (i_imm w)) else None) f3 ∙ cc)
 
-fence : (w rd rs1 fields : ℕ) → w ≡ i_word 0b0001111 0b000 rd rs1 fields → IsReg rd → IsReg rs1 → fields < 2 ^ 12 → decoded w ≡ Some (Fence rd rs1 fields)
+fence : (w rd rs1 fields : ℕ) → w ≡ i_word 0b0001111 0b000 rd rs1 fields → IsReg rd → IsReg rs1 → fields < 2 ^ 12
+    → decoded w ≡ Some (Fence rd rs1 fields)
 unfolding decoded by_opcode fence_of
 fence w rd rs1 fields e h0 h1 h2 =
     let f_rd : rd_of w ≡ rd = omega arith in
@@ -230,9 +243,11 @@ fence w rd rs1 fields e h0 h1 h2 =
     let f_imm : i_imm w ≡ fields = omega arith in
     let f3 : funct3_of w ≡ 0b000 = omega arith in
     let o : bits w 6 0 ≡ 0b0001111 = omega arith in
-    ap (λ k. by_opcode k w) o ∙ (ap (λ k. if k == 0b000 then Some (Fence (rd_of w) (rs1_of w) (i_imm w)) else None) f3 ∙ cc)
+    ap (λ k. by_opcode k w) o ∙ (ap (λ k. if k == 0b000 then Some
+    (Fence (rd_of w) (rs1_of w) (i_imm w)) else None) f3 ∙ cc)
 
-branch : (w : ℕ) (op : BranchOp) (rs1 rs2 imm : ℕ) → w ≡ b_word 0b1100011 (branch_code op) rs1 rs2 imm → IsReg rs1 → IsReg rs2 → imm < 2 ^ 13 → imm % 2 ≡ 0 → decoded w ≡ Some (Branch op rs1 rs2 imm)
+branch : (w : ℕ) (op : BranchOp) (rs1 rs2 imm : ℕ) → w ≡ b_word 0b1100011 (branch_code op) rs1 rs2 imm → IsReg rs1
+    → IsReg rs2 → imm < 2 ^ 13 → imm % 2 ≡ 0 → decoded w ≡ Some (Branch op rs1 rs2 imm)
 unfolding decoded by_opcode branch_of
 branch w op rs1 rs2 imm e h0 h1 h2 h3 =
     let fits = branch_code_fits op in
@@ -245,7 +260,8 @@ branch w op rs1 rs2 imm e h0 h1 h2 h3 =
     ap (λ k. option_map (λ op. Branch op (rs1_of w) (rs2_of w) (b_imm w)) (branch_at k)) f3 ∙ (
     ap (option_map (λ op. Branch op (rs1_of w) (rs2_of w) (b_imm w))) (branch_at-code op) ∙ cc))
 
-load : (w : ℕ) (op : LoadOp) (rd rs1 imm : ℕ) → w ≡ i_word 0b0000011 (load_code op) rd rs1 imm → IsReg rd → IsReg rs1 → imm < 2 ^ 12 → decoded w ≡ Some (Load op rd rs1 imm)
+load : (w : ℕ) (op : LoadOp) (rd rs1 imm : ℕ) → w ≡ i_word 0b0000011 (load_code op) rd rs1 imm → IsReg rd
+    → IsReg rs1 → imm < 2 ^ 12 → decoded w ≡ Some (Load op rd rs1 imm)
 unfolding decoded by_opcode load_of
 load w op rd rs1 imm e h0 h1 h2 =
     let fits = load_code_fits op in
@@ -258,7 +274,8 @@ load w op rd rs1 imm e h0 h1 h2 =
     ap (λ k. option_map (λ op. Load op (rd_of w) (rs1_of w) (i_imm w)) (load_at k)) f3 ∙ (
     ap (option_map (λ op. Load op (rd_of w) (rs1_of w) (i_imm w))) (load_at-code op) ∙ cc))
 
-store : (w : ℕ) (op : StoreOp) (rs1 rs2 imm : ℕ) → w ≡ s_word 0b0100011 (store_code op) rs1 rs2 imm → IsReg rs1 → IsReg rs2 → imm < 2 ^ 12 → decoded w ≡ Some (Store op rs1 rs2 imm)
+store : (w : ℕ) (op : StoreOp) (rs1 rs2 imm : ℕ) → w ≡ s_word 0b0100011 (store_code op) rs1 rs2 imm → IsReg rs1
+    → IsReg rs2 → imm < 2 ^ 12 → decoded w ≡ Some (Store op rs1 rs2 imm)
 unfolding decoded by_opcode store_of
 store w op rs1 rs2 imm e h0 h1 h2 =
     let fits = store_code_fits op in
@@ -271,7 +288,8 @@ store w op rs1 rs2 imm e h0 h1 h2 =
     ap (λ k. option_map (λ op. Store op (rs1_of w) (rs2_of w) (s_imm w)) (store_at k)) f3 ∙ (
     ap (option_map (λ op. Store op (rs1_of w) (rs2_of w) (s_imm w))) (store_at-code op) ∙ cc))
 
-reg_reg : (w : ℕ) (op : RegOp) (rd rs1 rs2 : ℕ) → w ≡ r_word 0b0110011 (reg_code op).0 (reg_code op).1 rd rs1 rs2 → IsReg rd → IsReg rs1 → IsReg rs2 → decoded w ≡ Some (Op op rd rs1 rs2)
+reg_reg : (w : ℕ) (op : RegOp) (rd rs1 rs2 : ℕ) → w ≡ r_word 0b0110011 (reg_code op).0 (reg_code op).1 rd rs1 rs2
+    → IsReg rd → IsReg rs1 → IsReg rs2 → decoded w ≡ Some (Op op rd rs1 rs2)
 unfolding decoded by_opcode op_of
 reg_reg w op rd rs1 rs2 e h0 h1 h2 =
     let fits = reg_code_fits op in
@@ -286,7 +304,8 @@ reg_reg w op rd rs1 rs2 e h0 h1 h2 =
     ap (λ k. option_map (λ op. Op op (rd_of w) (rs1_of w) (rs2_of w)) (reg_at k (reg_code op).1)) f7 ∙ (
     ap (option_map (λ op. Op op (rd_of w) (rs1_of w) (rs2_of w))) (reg_at-code op) ∙ cc)))
 
-reg_reg32 : (w : ℕ) (op : RegOp32) (rd rs1 rs2 : ℕ) → w ≡ r_word 0b0111011 (reg32_code op).0 (reg32_code op).1 rd rs1 rs2 → IsReg rd → IsReg rs1 → IsReg rs2 → decoded w ≡ Some (Op32 op rd rs1 rs2)
+reg_reg32 : (w : ℕ) (op : RegOp32) (rd rs1 rs2 : ℕ) → w ≡ r_word 0b0111011 (reg32_code op).0
+    (reg32_code op).1 rd rs1 rs2 → IsReg rd → IsReg rs1 → IsReg rs2 → decoded w ≡ Some (Op32 op rd rs1 rs2)
 unfolding decoded by_opcode op32_of
 reg_reg32 w op rd rs1 rs2 e h0 h1 h2 =
     let fits = reg32_code_fits op in
@@ -302,7 +321,8 @@ reg_reg32 w op rd rs1 rs2 e h0 h1 h2 =
     ap (option_map (λ op. Op32 op (rd_of w) (rs1_of w) (rs2_of w))) (reg32_at-code op) ∙ cc)))
 
 -- which part of OP-IMM and of OP-IMM-32 the code of funct3 names
-imm_part : (op : ImmOp) (a b : Option Instr) → (if imm_code op == 0b001 then a else (if imm_code op == 0b101 then a else b)) ≡ b
+imm_part : (op : ImmOp) (a b : Option Instr) → (if imm_code op == 0b001 then a else
+    (if imm_code op == 0b101 then a else b)) ≡ b
 unfolding imm_code
 imm_part Addi a b = refl
 imm_part Slti a b = refl
@@ -311,7 +331,8 @@ imm_part Xori a b = refl
 imm_part Ori a b = refl
 imm_part Andi a b = refl
 
-shift_part : (op : ShiftOp) (a b : Option Instr) → (if (shift_code op).1 == 0b001 then a else (if (shift_code op).1 == 0b101 then a else b)) ≡ a
+shift_part : (op : ShiftOp) (a b : Option Instr) → (if (shift_code op).1 == 0b001 then a else
+    (if (shift_code op).1 == 0b101 then a else b)) ≡ a
 unfolding shift_code
 shift_part Slli a b = refl
 shift_part Srli a b = refl
@@ -323,7 +344,8 @@ shift32_part Slliw a b = refl
 shift32_part Srliw a b = refl
 shift32_part Sraiw a b = refl
 
-op_imm : (w : ℕ) (op : ImmOp) (rd rs1 imm : ℕ) → w ≡ i_word 0b0010011 (imm_code op) rd rs1 imm → IsReg rd → IsReg rs1 → imm < 2 ^ 12 → decoded w ≡ Some (OpImm op rd rs1 imm)
+op_imm : (w : ℕ) (op : ImmOp) (rd rs1 imm : ℕ) → w ≡ i_word 0b0010011 (imm_code op) rd rs1 imm → IsReg rd
+    → IsReg rs1 → imm < 2 ^ 12 → decoded w ≡ Some (OpImm op rd rs1 imm)
 unfolding decoded by_opcode op_imm_of imm_of
 op_imm w op rd rs1 imm e h0 h1 h2 =
     let fits = imm_code_fits op in
@@ -338,7 +360,9 @@ op_imm w op rd rs1 imm e h0 h1 h2 =
     ap (λ k. option_map (λ op. OpImm op (rd_of w) (rs1_of w) (i_imm w)) (imm_at k)) f3 ∙ (
     ap (option_map (λ op. OpImm op (rd_of w) (rs1_of w) (i_imm w))) (imm_at-code op) ∙ cc))))
 
-shift_imm : (w : ℕ) (op : ShiftOp) (rd rs1 shamt : ℕ) → w ≡ i_word 0b0010011 (shift_code op).1 rd rs1 ((shift_code op).0 * 2 ^ 6 + shamt) → IsReg rd → IsReg rs1 → shamt < 2 ^ 6 → decoded w ≡ Some (ShiftImm op rd rs1 shamt)
+shift_imm : (w : ℕ) (op : ShiftOp) (rd rs1 shamt : ℕ) → w ≡ i_word 0b0010011 (shift_code op).1 rd rs1
+    ((shift_code op).0 * 2 ^ 6 + shamt) → IsReg rd → IsReg rs1 → shamt < 2 ^ 6
+    → decoded w ≡ Some (ShiftImm op rd rs1 shamt)
 unfolding decoded by_opcode op_imm_of shift_imm_of
 shift_imm w op rd rs1 shamt e h0 h1 h2 =
     let fits = shift_code_fits op in
@@ -355,7 +379,8 @@ shift_imm w op rd rs1 shamt e h0 h1 h2 =
     ap (λ k. option_map (λ op. ShiftImm op (rd_of w) (rs1_of w) (bits w 25 20)) (shift_at k (shift_code op).1)) f6 ∙ (
     ap (option_map (λ op. ShiftImm op (rd_of w) (rs1_of w) (bits w 25 20))) (shift_at-code op) ∙ cc)))))
 
-addiw : (w rd rs1 imm : ℕ) → w ≡ i_word 0b0011011 0b000 rd rs1 imm → IsReg rd → IsReg rs1 → imm < 2 ^ 12 → decoded w ≡ Some (Addiw rd rs1 imm)
+addiw : (w rd rs1 imm : ℕ) → w ≡ i_word 0b0011011 0b000 rd rs1 imm → IsReg rd → IsReg rs1 → imm < 2 ^ 12
+    → decoded w ≡ Some (Addiw rd rs1 imm)
 unfolding decoded by_opcode op_imm32_of
 addiw w rd rs1 imm e h0 h1 h2 =
     let f_rd : rd_of w ≡ rd = omega arith in
@@ -363,9 +388,13 @@ addiw w rd rs1 imm e h0 h1 h2 =
     let f_imm : i_imm w ≡ imm = omega arith in
     let f3 : funct3_of w ≡ 0b000 = omega arith in
     let o : bits w 6 0 ≡ 0b0011011 = omega arith in
-    ap (λ k. by_opcode k w) o ∙ (ap (λ k. if k == 0b000 then Some (Addiw (rd_of w) (rs1_of w) (i_imm w)) else option_map (λ op. ShiftImm32 op (rd_of w) (rs1_of w) (rs2_of w)) (shift32_at (funct7_of w) (funct3_of w))) f3 ∙ cc)
+    ap (λ k. by_opcode k w) o ∙ (ap (λ k. if k == 0b000 then Some
+    (Addiw (rd_of w) (rs1_of w) (i_imm w)) else option_map (λ op. ShiftImm32 op (rd_of w) (rs1_of w) (rs2_of w))
+    (shift32_at (funct7_of w) (funct3_of w))) f3 ∙ cc)
 
-shift_imm32 : (w : ℕ) (op : ShiftOp32) (rd rs1 shamt : ℕ) → w ≡ r_word 0b0011011 (shift32_code op).0 (shift32_code op).1 rd rs1 shamt → IsReg rd → IsReg rs1 → shamt < 2 ^ 5 → decoded w ≡ Some (ShiftImm32 op rd rs1 shamt)
+shift_imm32 : (w : ℕ) (op : ShiftOp32) (rd rs1 shamt : ℕ) → w
+    ≡ r_word 0b0011011 (shift32_code op).0 (shift32_code op).1 rd rs1 shamt → IsReg rd → IsReg rs1 → shamt < 2 ^ 5
+    → decoded w ≡ Some (ShiftImm32 op rd rs1 shamt)
 unfolding decoded by_opcode op_imm32_of
 shift_imm32 w op rd rs1 shamt e h0 h1 h2 =
     let fits = shift32_code_fits op in
@@ -376,7 +405,8 @@ shift_imm32 w op rd rs1 shamt e h0 h1 h2 =
     let f_imm : rs2_of w ≡ shamt = omega arith in
     let o : bits w 6 0 ≡ 0b0011011 = omega arith in
     ap (λ k. by_opcode k w) o ∙ (
-    ap (λ k. if k == 0b000 then Some (Addiw (rd_of w) (rs1_of w) (i_imm w)) else option_map (λ op. ShiftImm32 op (rd_of w) (rs1_of w) (rs2_of w)) (shift32_at (funct7_of w) (funct3_of w))) f3 ∙ (
+    ap (λ k. if k == 0b000 then Some (Addiw (rd_of w) (rs1_of w) (i_imm w)) else option_map
+    (λ op. ShiftImm32 op (rd_of w) (rs1_of w) (rs2_of w)) (shift32_at (funct7_of w) (funct3_of w))) f3 ∙ (
     shift32_part op _ _ ∙ (
     ap (λ k. option_map (λ op. ShiftImm32 op (rd_of w) (rs1_of w) (rs2_of w)) (shift32_at (funct7_of w) k)) f3 ∙ (
     ap (λ k. option_map (λ op. ShiftImm32 op (rd_of w) (rs1_of w) (rs2_of w)) (shift32_at k (shift32_code op).1)) f7 ∙ (

@@ -1,8 +1,12 @@
 //! From words to instructions.
 
 ghost use Rattle.std.specs.Prelude.{◌≡◌, ℕ, ◌+◌, ◌-◌, ◌*◌, ◌/◌, ◌%◌, ◌^◌, ◌<◌, ◌≤◌, IfSome};
-ghost use Rattle.rv_isa.specs.Table.{word_of, IsOfTable, branch_code, load_code, store_code, imm_code, shift_code, shift32_code, reg_code, reg32_code};
-ghost use Rattle.rv_isa.specs.Decoding.{decoded, jalr_of, branch_of, load_of, store_of, shift_imm_of, imm_of, op_imm_of, op_imm32_of, op_of, op32_of, fence_of, system_of, branch_at, load_at, store_at, imm_at, shift_at, shift32_at, reg_at, reg32_at, s_imm, b_imm, j_imm};
+ghost use Rattle.rv_isa.specs.Table.{word_of, IsOfTable, branch_code, load_code, store_code, imm_code, shift_code};
+ghost use Rattle.rv_isa.specs.Table.{shift32_code, reg_code, reg32_code};
+ghost use Rattle.rv_isa.specs.Decoding.{decoded, jalr_of, branch_of, load_of, store_of, shift_imm_of, imm_of};
+ghost use Rattle.rv_isa.specs.Decoding.{op_imm_of, op_imm32_of, op_of, op32_of, fence_of, system_of, branch_at};
+ghost use Rattle.rv_isa.specs.Decoding.{load_at, store_at, imm_at, shift_at, shift32_at, reg_at, reg32_at, s_imm};
+ghost use Rattle.rv_isa.specs.Decoding.{b_imm, j_imm};
 ghost use Rattle.rv_isa.specs.declared.instruction.Instr.{Instr};
 
 use crate::instruction::{

@@ -1,7 +1,8 @@
 //! From instructions to words.
 
 ghost use Rattle.std.specs.Prelude.{◌≡◌, ℕ, ◌+◌, ◌-◌, ◌*◌, ◌/◌, ◌%◌, ◌^◌, ◌<◌, ◌≤◌};
-ghost use Rattle.rv_isa.specs.Table.{word_of, IsOfTable, r_word, i_word, s_word, b_word, u_word, j_word, branch_code, load_code, store_code, imm_code, shift_code, shift32_code, reg_code, reg32_code};
+ghost use Rattle.rv_isa.specs.Table.{word_of, IsOfTable, r_word, i_word, s_word, b_word, u_word, j_word, branch_code};
+ghost use Rattle.rv_isa.specs.Table.{load_code, store_code, imm_code, shift_code, shift32_code, reg_code, reg32_code};
 
 use crate::instruction::{
     BranchOp, ImmOp, Instr, LoadOp, RegOp, RegOp32, ShiftOp, ShiftOp32, StoreOp,

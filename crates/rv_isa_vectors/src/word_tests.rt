@@ -11,36 +11,29 @@ const WORDS: [u32; 8] = [
 
 // addi a7, x0, 93; mul a0, a0, a1; ld a0, 8(sp); sd a0, 8(sp)
 fn first_four() -> [Instr; 4] {
-    let (zero, sp, a0, a1, a7) = (
-        Reg::new(0),
-        Reg::new(2),
-        Reg::new(10),
-        Reg::new(11),
-        Reg::new(17),
-    );
     [
         Instr::OpImm {
             op: ImmOp::Addi,
-            rd: a7,
-            rs1: zero,
+            rd: Reg::A7,
+            rs1: Reg::ZERO,
             imm: Imm12::new(93),
         },
         Instr::Op {
             op: RegOp::Mul,
-            rd: a0,
-            rs1: a0,
-            rs2: a1,
+            rd: Reg::A0,
+            rs1: Reg::A0,
+            rs2: Reg::A1,
         },
         Instr::Load {
             op: LoadOp::Ld,
-            rd: a0,
-            rs1: sp,
+            rd: Reg::A0,
+            rs1: Reg::SP,
             imm: Imm12::new(8),
         },
         Instr::Store {
             op: StoreOp::Sd,
-            rs1: sp,
-            rs2: a0,
+            rs1: Reg::SP,
+            rs2: Reg::A0,
             imm: Imm12::new(8),
         },
     ]
@@ -48,25 +41,24 @@ fn first_four() -> [Instr; 4] {
 
 // beq x0, x0, -4; srai a0, a0, 3; divw a0, a1, a2; ecall
 fn last_four() -> [Instr; 4] {
-    let (zero, a0, a1, a2) = (Reg::new(0), Reg::new(10), Reg::new(11), Reg::new(12));
     [
         Instr::Branch {
             op: BranchOp::Beq,
-            rs1: zero,
-            rs2: zero,
+            rs1: Reg::ZERO,
+            rs2: Reg::ZERO,
             imm: BranchOffset::new(0x1ffc),
         },
         Instr::ShiftImm {
             op: ShiftOp::Srai,
-            rd: a0,
-            rs1: a0,
+            rd: Reg::A0,
+            rs1: Reg::A0,
             shamt: ShiftAmount::new(3),
         },
         Instr::Op32 {
             op: RegOp32::Divw,
-            rd: a0,
-            rs1: a1,
-            rs2: a2,
+            rd: Reg::A0,
+            rs1: Reg::A1,
+            rs2: Reg::A2,
         },
         Instr::Ecall,
     ]

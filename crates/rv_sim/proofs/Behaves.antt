@@ -10,7 +10,8 @@ use Rattle.rv_sim.specs.Accesses.{object_access}
 use Rattle.rv_sim.specs.Memory.{may_write}
 use Rattle.rv_sim.specs.State.{MachineState, register}
 use Rattle.rv_sim.specs.Step.{step}
-use Rattle.rv_sim.specs.Run.{Configuration, Turn, a0, a1, a2, a7, answered, received, sent, turned, turn, calls, read_call, write_call, onwards, runs}
+use Rattle.rv_isa.specs.Registers.{a0, a1, a2, a7}
+use Rattle.rv_sim.specs.Run.{Configuration, Turn, answered, received, sent, turned, turn, calls, read_call, write_call, onwards, runs}
 use Rattle.rv_sim.specs.Behaviour.{begun, shown_by, behaviour}
 use Rattle.rv_sim.proofs.Runs.{runs-suc}
 

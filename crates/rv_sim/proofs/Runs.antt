@@ -57,7 +57,7 @@ last stop n m c h e f =
     runs_stopped m (suc n) c stop h (ap (λ t. t.1) next ∙ sym f) ∙ next
 
 -- a run whose instruction after n others is the last
-pub run_ends : (o e : Option (List ℕ)) (stop : Stop) (n m : ℕ) (c : Configuration) (before state : MachineState) (rest output errors : Option (List ℕ)) → suc n ≤ m → (Some stop ≡ Some Limit → ⊥) → FaultKeeps (Some stop) before state → (runs n c).1 ≡ None → TurnedOrFault o e (Some stop) (runs n c).0 before state rest output errors → IsRun o e stop m c state rest output errors
+pub run_ends : (o e : Option (List ℕ)) (stop : Stop) (n m : ℕ) (c : Configuration) (before state : MachineState) (rest : List ℕ) (output errors : Option (List ℕ)) → suc n ≤ m → (Some stop ≡ Some Limit → ⊥) → FaultKeeps (Some stop) before state → (runs n c).1 ≡ None → TurnedOrFault o e (Some stop) (runs n c).0 before state rest output errors → IsRun o e stop m c state rest output errors
 run_ends o e InputFault n m c before state rest output errors h l k goes f =
     (n, record { within = omega arith; goes = goes; asks = rw k f.0; left = f.1 })
 run_ends o e OutputFault n m c before state rest output errors h l k goes f =
@@ -69,18 +69,18 @@ run_ends o e (Trap kind pc) n m c before state rest output errors h l k goes f =
     rw (last (Trap kind pc) n m c h goes f.0) (sym f.0, f.1)
 
 -- the run goes on after n instructions, at what is seen
-pub record Goes (o e : Option (List ℕ)) (n : ℕ) (c : Configuration) (state : MachineState) (rest output errors : Option (List ℕ)) : Type 0 where
+pub record Goes (o e : Option (List ℕ)) (n : ℕ) (c : Configuration) (state : MachineState) (rest : List ℕ) (output errors : Option (List ℕ)) : Type 0 where
   pub goes : (runs n c).1 ≡ None
   pub seen : IsSeen o e state rest output errors (runs n c).0
 
-pub goes_at : (o e : Option (List ℕ)) (m n : ℕ) (c : Configuration) (state : MachineState) (rest output errors : Option (List ℕ)) → m ≡ n → Goes o e m c state rest output errors → Goes o e n c state rest output errors
+pub goes_at : (o e : Option (List ℕ)) (m n : ℕ) (c : Configuration) (state : MachineState) (rest : List ℕ) (output errors : Option (List ℕ)) → m ≡ n → Goes o e m c state rest output errors → Goes o e n c state rest output errors
 goes_at o e m n c state rest output errors same g = rw (sym same) g
 
-pub goes_first : (o e : Option (List ℕ)) (c : Configuration) (state : MachineState) (rest output errors : Option (List ℕ)) → IsSeen o e state rest output errors c → Goes o e 0 c state rest output errors
+pub goes_first : (o e : Option (List ℕ)) (c : Configuration) (state : MachineState) (rest : List ℕ) (output errors : Option (List ℕ)) → IsSeen o e state rest output errors c → Goes o e 0 c state rest output errors
 unfolding runs
 goes_first o e c state rest output errors seen = record { goes = refl; seen = seen }
 
-pub goes_on : (o e : Option (List ℕ)) (n : ℕ) (c : Configuration) (before state : MachineState) (rest output errors : Option (List ℕ)) → (runs n c).1 ≡ None → TurnedOrFault o e None (runs n c).0 before state rest output errors → Goes o e (n + 1) c state rest output errors
+pub goes_on : (o e : Option (List ℕ)) (n : ℕ) (c : Configuration) (before state : MachineState) (rest : List ℕ) (output errors : Option (List ℕ)) → (runs n c).1 ≡ None → TurnedOrFault o e None (runs n c).0 before state rest output errors → Goes o e (n + 1) c state rest output errors
 goes_on o e n c before state rest output errors goes f =
     let next : runs (n + 1) c ≡ turn (runs n c).0 = runs_at (n + 1) (suc n) c (omega arith) ∙ runs-next n c goes in
     record { goes = ap (λ t. t.1) next ∙ sym f.0; seen = rw next f.1 }

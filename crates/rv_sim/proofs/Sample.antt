@@ -6,7 +6,7 @@ use Rattle.rv_isa.specs.Decoding.{decoded, by_opcode, load_of, store_of, load_at
 use Rattle.rv_sim.specs.Memory.{SegmentState, place_of, load, fetch, store, may_write}
 use Rattle.rv_sim.specs.State.{MachineState}
 use Rattle.rv_sim.specs.Step.{step, executes, gives, loads, stores, extended}
-use Rattle.rv_sim.specs.Accesses.{next_access, is_compiled, object_access}
+use Rattle.rv_sim.specs.Accesses.{next_access, object_access}
 use Rattle.rv_sim.specs.Run.{turn, runs, calls, read_call}
 use Rattle.rv_sim.specs.Behaviour.{begun}
 
@@ -20,7 +20,7 @@ objects_segment address = record { address = address; bytes = replicate 16 0; re
 code : List ℕ
 code = 0xb7 ∷ 0x03 ∷ 0x00 ∷ 0x10 ∷ 0x23 ∷ 0xb4 ∷ 0x03 ∷ 0x00 ∷ 0x83 ∷ 0xc2 ∷ 0x93 ∷ 0x00 ∷ []
 
--- the code in the second executable segment
+-- the code where compiled code stands
 compiled : MachineState
 compiled = record {
   pc = 0x100000;
@@ -28,24 +28,24 @@ compiled = record {
   memory = executable_segment 0x10000 (replicate 4 0) ∷ executable_segment 0x100000 code ∷ objects_segment 0x10000000 ∷ [];
 }
 
--- the code in the first
+-- the code below
 not_compiled : MachineState
 not_compiled = record {
-  pc = 0x100000;
+  pc = 0x10000;
   registers = replicate 32 0;
-  memory = executable_segment 0x100000 code ∷ executable_segment 0x200000 (replicate 4 0) ∷ objects_segment 0x10000000 ∷ [];
+  memory = executable_segment 0x10000 code ∷ executable_segment 0x200000 (replicate 4 0) ∷ objects_segment 0x10000000 ∷ [];
 }
 
 accesses-compiled : (runs 3 (begun compiled [])).0.accesses ≡ record { address = 0x10000008; size = 8; kind = Write } ∷ record { address = 0x10000009; size = 1; kind = Read } ∷ []
-unfolding executable_segment objects_segment code compiled runs turn step executes gives loads stores extended place_of load fetch store next_access is_compiled object_access decoded by_opcode load_of store_of load_at store_at
+unfolding executable_segment objects_segment code compiled runs turn step executes gives loads stores extended place_of load fetch store next_access object_access decoded by_opcode load_of store_of load_at store_at
 accesses-compiled = refl
 
 accesses-not_compiled : (runs 3 (begun not_compiled [])).0.accesses ≡ []
-unfolding executable_segment objects_segment code not_compiled runs turn step executes gives loads stores extended place_of load fetch store next_access is_compiled object_access decoded by_opcode load_of store_of load_at store_at
+unfolding executable_segment objects_segment code not_compiled runs turn step executes gives loads stores extended place_of load fetch store next_access object_access decoded by_opcode load_of store_of load_at store_at
 accesses-not_compiled = refl
 
 goes-compiled : (runs 3 (begun compiled [])).1 ≡ None
-unfolding executable_segment objects_segment code compiled runs turn step executes gives loads stores extended place_of load fetch store next_access is_compiled object_access decoded by_opcode load_of store_of load_at store_at
+unfolding executable_segment objects_segment code compiled runs turn step executes gives loads stores extended place_of load fetch store next_access object_access decoded by_opcode load_of store_of load_at store_at
 goes-compiled = refl
 
 -- a call to read one byte, and then the end of the input

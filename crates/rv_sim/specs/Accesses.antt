@@ -1,19 +1,13 @@
--- The accesses of objects that compiled code makes. In an image of the compiler the second executable segment is the code
--- that was compiled, and objects stand at addresses from 0x10000000 on, below 0x40000000.
-use Rattle.std.specs.Prelude.{ℕ, Bool, false, ◌&&◌, nat_lt, nat_le, if◌then◌else◌, List, [], ◌∷◌, filter, Option, Some, None, slice_get}
+-- The accesses of objects that compiled code makes, by the regions of a compiled program's memory.
+use Rattle.std.specs.Prelude.{ℕ, if◌then◌else◌, List, [], ◌∷◌, Option, Some, None}
+use Rattle.addr_map.specs.Places.{is_code_address, is_object_address}
 use Rattle.behaviours.specs.Shown.{Access, Read, Write}
 use Rattle.rv_isa.specs.declared.instruction.Instr.{Instr}
 use Rattle.rv_isa.specs.declared.instruction.Instr.TheVariants.{Lui, Auipc, Jal, Jalr, Branch, Load, Store, OpImm, ShiftImm, Addiw, ShiftImm32, Op, Op32, Fence, Ecall, Ebreak}
 use Rattle.rv_isa.specs.Decoding.{decoded}
-use Rattle.rv_sim.specs.Memory.{SegmentState, ◌>>=◌, holds, fetch}
+use Rattle.rv_sim.specs.Memory.{◌>>=◌, fetch}
 use Rattle.rv_sim.specs.State.{MachineState}
 use Rattle.rv_sim.specs.Step.{address_of, load_bytes, store_bytes}
-
-abbrev pub objects_begin : ℕ
-objects_begin = 0x10000000
-
-abbrev pub objects_end : ℕ
-objects_end = 0x40000000
 
 -- the load or store that an instruction makes in this state
 abbrev pub access_of : Instr → MachineState → Option Access
@@ -38,19 +32,11 @@ access_of Ebreak s = None
 unfoldable pub next_access : MachineState → Option Access
 next_access s = fetch s.memory s.pc >>= λ word. decoded word >>= λ i. access_of i s
 
-abbrev pub holds_in : Option SegmentState → ℕ → Bool
-holds_in None a = false
-holds_in (Some s) a = holds s a
-
--- whether an address lies in the second executable segment
-unfoldable pub is_compiled : List SegmentState → ℕ → Bool
-is_compiled memory a = holds_in (slice_get (filter (λ s. s.executable) memory) 1) a
-
 -- an access, where it is one of objects
 abbrev pub objects_only : Option Access → List Access
 objects_only None = []
-objects_only (Some a) = if nat_le objects_begin a.address && nat_lt a.address objects_end then a ∷ [] else []
+objects_only (Some a) = if is_object_address a.address then a ∷ [] else []
 
 -- the access of objects that the instruction at pc makes, where it is of the compiled code and can be done
 unfoldable pub object_access : MachineState → List Access
-object_access s = if is_compiled s.memory s.pc then objects_only (next_access s) else []
+object_access s = if is_code_address s.pc then objects_only (next_access s) else []

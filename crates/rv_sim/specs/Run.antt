@@ -1,6 +1,7 @@
 -- Runs of the machine in its environment.
 use Rattle.std.specs.Prelude.{ℕ, zero, suc, ◌+◌, ◌-◌, ◌%◌, ◌^◌, ◌==◌, ◌||◌, if◌then◌else◌, List, ◌++◌, drop, Option, Some, None, slice_get, unwrap_or}
 use Rattle.behaviours.specs.Shown.{Access}
+use Rattle.rv_isa.specs.Registers.{a0, a1, a2, a7}
 use Rattle.rv_sim.specs.declared.trap.TrapKind.{TrapKind}
 use Rattle.rv_sim.specs.declared.trap.TrapKind.TheVariants as kinds
 use Rattle.rv_sim.specs.declared.trap.Action.TheVariants.{Done, Ask, Refuse}
@@ -29,17 +30,6 @@ trapped c kind = (c, Some (Trap kind c.state.pc))
 
 -- The environment call: its number is in a7, its arguments are in a0, a1 and a2, and its result goes to a0 (System V ABI
 -- for RISC-V, "Integer Calling Convention"; the numbers are those of Linux).
-abbrev pub a0 : ℕ
-a0 = 10
-
-abbrev pub a1 : ℕ
-a1 = 11
-
-abbrev pub a2 : ℕ
-a2 = 12
-
-abbrev pub a7 : ℕ
-a7 = 17
 
 -- -9, for a descriptor that the call does not know
 abbrev pub bad_descriptor : ℕ

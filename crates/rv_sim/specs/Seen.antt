@@ -1,19 +1,21 @@
 -- What a run of the machine leaves in its state and in the outside, told by the run's definition.
-use Rattle.std.specs.Prelude.{◌≡◌, ℕ, ◌<◌, ◌≤◌, ◌⊎◌, List, ◌++◌, Option, Some, None}
+use Rattle.std.specs.Prelude.{◌≡◌, ℕ, ◌<◌, ◌⊎◌, true, List, ◌++◌, Option, Some, None}
 use Rattle.sb_outside.specs.Content.{gained}
-use Rattle.sb_outside.specs.Faults.{Rose, last_count}
+use Rattle.sb_outside.specs.Faults.{Rose}
 use Rattle.rv_sim.specs.declared.trap.Action.TheVariants.{Ask}
 use Rattle.rv_sim.specs.declared.stop.Stop.{Stop}
 use Rattle.rv_sim.specs.declared.stop.Stop.TheVariants.{Exited, Trap, Limit, InputFault, OutputFault}
-use Rattle.rv_sim.specs.State.{MachineState}
+use Rattle.rv_sim.specs.Memory.{bytes_at, may_write}
+use Rattle.rv_sim.specs.State.{MachineState, register}
 use Rattle.rv_sim.specs.Step.{step}
+use Rattle.rv_isa.specs.Registers.{a0, a1, a2, a7}
 use Rattle.rv_sim.specs.Run.{Configuration, runs, calls}
 
 -- The state, the rest of the input and what the two sinks have taken are those of a moment, where o and e are what the
 -- sinks had taken when nothing was shown. A sink that does not tell its content is None throughout.
-pub record IsSeen (o e : Option (List ℕ)) (state : MachineState) (rest output errors : Option (List ℕ)) (c : Configuration) : Type 0 where
+pub record IsSeen (o e : Option (List ℕ)) (state : MachineState) (rest : List ℕ) (output errors : Option (List ℕ)) (c : Configuration) : Type 0 where
   pub state_is : state ≡ c.state
-  pub rest_is : rest ≡ Some c.input
+  pub rest_is : rest ≡ c.input
   pub output_is : output ≡ gained o c.output
   pub errors_is : errors ≡ gained e c.errors
 
@@ -26,9 +28,9 @@ pub record KeepsPart (told : Option (List ℕ)) (shown wanted : List ℕ) (now :
 
 -- A sink failed in an environment call at the moment c: the machine and the input stand as at c, and each sink has the
 -- first of the bytes that the call sends.
-pub record IsCut (o e : Option (List ℕ)) (state : MachineState) (rest output errors : Option (List ℕ)) (c : Configuration) : Type 0 where
+pub record IsCut (o e : Option (List ℕ)) (state : MachineState) (rest : List ℕ) (output errors : Option (List ℕ)) (c : Configuration) : Type 0 where
   pub state_is : state ≡ c.state
-  pub rest_is : rest ≡ Some c.input
+  pub rest_is : rest ≡ c.input
   pub output_part : KeepsPart o c.output (calls c).0.output output
   pub errors_part : KeepsPart e c.errors (calls c).0.errors errors
 
@@ -44,7 +46,7 @@ pub record IsFaultAt (limit : ℕ) (c : Configuration) (state : MachineState) (k
   pub left : Left
 
 -- what a run of at most so many instructions from the moment c answers, and what it leaves
-abbrev pub IsRun : (o e : Option (List ℕ)) → Stop → ℕ → Configuration → MachineState → (rest output errors : Option (List ℕ)) → Type 0
+abbrev pub IsRun : (o e : Option (List ℕ)) → Stop → ℕ → Configuration → MachineState → (rest : List ℕ) → (output errors : Option (List ℕ)) → Type 0
 IsRun o e InputFault limit c state rest output errors =
     (k : ℕ) × IsFaultAt limit c state k (IsSeen o e state rest output errors (runs k c).0)
 IsRun o e OutputFault limit c state rest output errors =
@@ -65,20 +67,30 @@ ByFault (Some Limit) I O P = P
 ByFault (Some (Exited status)) I O P = P
 ByFault (Some (Trap kind pc)) I O P = P
 
--- a count of faults rises, up to its last value
-pub record Rises (before now : ℕ) : Type 0 where
-  pub later : before ≤ now
-  pub within : before ≤ last_count → now ≤ last_count
-  pub rose : Rose before now
+-- the call asks for a byte of the input: a read of descriptor 0, of at least one byte, all of which may be written
+pub record AsksInput (s : MachineState) : Type 0 where
+  pub number : register s a7 ≡ 63
+  pub descriptor : register s a0 ≡ 0
+  pub some : 0 < register s a2
+  pub buffer : may_write s.memory (register s a1) (register s a2) ≡ true
 
--- the input's count of faults rises with InputFault, and stands else
-abbrev pub CountsInput : Option Stop → ℕ → ℕ → Type 0
-CountsInput result before now = ByFault result (Rises before now) (now ≡ before) (now ≡ before)
+-- the call sends bytes to a sink: a write to this descriptor, of at least one byte, all of which may be read
+pub record SendsTo (descriptor : ℕ) (s : MachineState) : Type 0 where
+  pub number : register s a7 ≡ 64
+  pub descriptor_is : register s a0 ≡ descriptor
+  pub some : 0 < register s a2
+  pub bytes : List ℕ
+  pub buffer : bytes_at s.memory (register s a1) (register s a2) ≡ Some bytes
 
--- a sink's count of faults rises with OutputFault; that of the other stands, and both stand else
-abbrev pub CountsOutput : Option Stop → (output output_now errors errors_now : ℕ) → Type 0
-CountsOutput result output output_now errors errors_now =
+-- InputFault comes of a call that asks for a byte of the input, and the input's count of faults rose with it; it stands else
+abbrev pub CountsInput : Option Stop → MachineState → ℕ → ℕ → Type 0
+CountsInput result s before now = ByFault result (AsksInput s × Rose before now) (now ≡ before) (now ≡ before)
+
+-- OutputFault comes of a call that sends bytes to a sink, and that sink's count of faults rose with it; that of the other
+-- stands, and both stand else
+abbrev pub CountsOutput : Option Stop → MachineState → (output output_now errors errors_now : ℕ) → Type 0
+CountsOutput result s output output_now errors errors_now =
     ByFault result
     ((output_now ≡ output) × (errors_now ≡ errors))
-    ((Rises output output_now × (errors_now ≡ errors)) ⊎ ((output_now ≡ output) × Rises errors errors_now))
+    ((SendsTo 1 s × Rose output output_now × (errors_now ≡ errors)) ⊎ (SendsTo 2 s × (output_now ≡ output) × Rose errors errors_now))
     ((output_now ≡ output) × (errors_now ≡ errors))

@@ -1,6 +1,7 @@
--- What the instructions compute, by the RISC-V unprivileged ISA manual ("Integer Computational Instructions" of RV32I and
--- RV64I; "M Extension"), by the operations on words of k bits. A register is a word of 64 bits.
-use Rattle.std.specs.Prelude.{ℕ, ◌-◌, ◌*◌, ◌/◌, ◌%◌, ◌^◌, Bool, not, ◌==◌, nat_lt, if◌then◌else◌, bit_and, bit_or, bit_xor}
+-- What the instructions compute, by the RISC-V unprivileged ISA manual ("Integer Computational Instructions" of
+-- RV32I and RV64I; "M Extension"), by the operations on words of k bits. A register is a word of 64 bits.
+use Rattle.std.specs.Prelude.{ℕ, ◌-◌, ◌*◌, ◌/◌, ◌%◌, ◌^◌, Bool, not, ◌==◌, nat_lt, if◌then◌else◌, bit_and, bit_or}
+use Rattle.std.specs.Prelude.{bit_xor}
 use Rattle.rv_isa.specs.declared.instruction.BranchOp.{BranchOp}
 use Rattle.rv_isa.specs.declared.instruction.BranchOp.TheVariants.{Beq, Bne, Blt, Bge, Bltu, Bgeu}
 use Rattle.rv_isa.specs.declared.instruction.ImmOp.{ImmOp}
@@ -10,12 +11,15 @@ use Rattle.rv_isa.specs.declared.instruction.ShiftOp.TheVariants.{Slli, Srli, Sr
 use Rattle.rv_isa.specs.declared.instruction.ShiftOp32.{ShiftOp32}
 use Rattle.rv_isa.specs.declared.instruction.ShiftOp32.TheVariants.{Slliw, Srliw, Sraiw}
 use Rattle.rv_isa.specs.declared.instruction.RegOp.{RegOp}
-use Rattle.rv_isa.specs.declared.instruction.RegOp.TheVariants.{Add, Sub, Sll, Slt, Sltu, Xor, Srl, Sra, Or, And, Mul, Mulh, Mulhsu, Mulhu, Div, Divu, Rem, Remu}
+use Rattle.rv_isa.specs.declared.instruction.RegOp.TheVariants.{Add, Sub, Sll, Slt, Sltu, Xor, Srl, Sra, Or, And, Mul}
+use Rattle.rv_isa.specs.declared.instruction.RegOp.TheVariants.{Mulh, Mulhsu, Mulhu, Div, Divu, Rem, Remu}
 use Rattle.rv_isa.specs.declared.instruction.RegOp32.{RegOp32}
-use Rattle.rv_isa.specs.declared.instruction.RegOp32.TheVariants.{Addw, Subw, Sllw, Srlw, Sraw, Mulw, Divw, Divuw, Remw, Remuw}
+use Rattle.rv_isa.specs.declared.instruction.RegOp32.TheVariants.{Addw, Subw, Sllw, Srlw, Sraw, Mulw, Divw, Divuw}
+use Rattle.rv_isa.specs.declared.instruction.RegOp32.TheVariants.{Remw, Remuw}
 use Rattle.rv_isa.specs.Word.{sext}
 use Rattle.words.specs.TwosComplement.{low_bits, sign_extended}
-use Rattle.words.specs.Operations.{sum, difference, product, shifted_left, shifted_right_signed, is_less_signed, signed_quotient, signed_remainder}
+use Rattle.words.specs.Operations.{sum, difference, product, shifted_left, shifted_right_signed, is_less_signed}
+use Rattle.words.specs.Operations.{signed_quotient, signed_remainder}
 
 -- a result of 64 bits: overflow is passed over
 abbrev pub wrap : ℕ → ℕ

@@ -3,7 +3,8 @@ ghost use Rattle.std.specs.Prelude.{◌≡◌, ℕ, ◌+◌, ◌-◌, ◌*◌, �
 ghost use Rattle.rv_isa.specs.Word.{sext};
 ghost use Rattle.words.specs.TwosComplement.{sign_extended};
 ghost use Rattle.words.specs.Operations.{shifted_right_signed, signed_quotient, signed_remainder};
-ghost use Rattle.rv_sim.specs.Word.{high_half, quotient_or_ones, remainder_or_dividend, branch_taken, imm_result, shift_result, shift32_result, reg_result, reg32_result, low_word};
+ghost use Rattle.rv_sim.specs.Word.{high_half, quotient_or_ones, remainder_or_dividend, branch_taken, imm_result};
+ghost use Rattle.rv_sim.specs.Word.{shift_result, shift32_result, reg_result, reg32_result, low_word};
 
 use rv_isa::{BranchOp, ImmOp, RegOp, RegOp32, ShiftOp, ShiftOp32};
 use words::{is_less_signed, shift_right_signed, sign_extend, signed_quotient, signed_remainder};

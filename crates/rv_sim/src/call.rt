@@ -2,8 +2,11 @@
 //! (System V ABI for RISC-V, "Integer Calling Convention"; the numbers are those of Linux).
 ghost use Rattle.std.specs.Prelude.{◌≡◌, ℕ, List, Option, None, Some};
 ghost use Rattle.sb_outside.specs.Content.{gained};
+ghost use Rattle.sb_outside.specs.Rest.{ForEveryInput};
+ghost use Rattle.rv_isa.specs.Registers.{a0, a7};
 ghost use Rattle.rv_sim.specs.Run.{Configuration};
 ghost use Rattle.rv_sim.specs.Seen.{IsSeen, CountsInput, CountsOutput};
+ghost use Rattle.rv_sim.specs.State.{register};
 ghost use Rattle.rv_sim.specs.Step.{gives};
 ghost use Rattle.rv_sim.specs.Turns.{ReadOrFault, WrittenOrFault, CalledOrFault, FaultKeeps};
 
@@ -12,15 +15,6 @@ use crate::stop::Stop;
 use crate::trap::TrapKind;
 use rv_isa::Reg;
 use sb_outside::{Sink, Source};
-
-// The registers a0, a1, a2 and a7.
-const A0: u8 = 10;
-
-const A1: u8 = 11;
-
-const A2: u8 = 12;
-
-const A7: u8 = 17;
 
 const READ: u64 = 63;
 
@@ -41,19 +35,19 @@ pub fn answer_call<I: Source, O: Sink, E: Sink>(
     output: &mut O,
     errors: &mut E,
 ) -> Option<Stop>
-    ensures told { (o e : Option (List ℕ)) (c : Configuration) →
-        IsSeen o e state.old (I.rest input.old) (O.taken output.old) (E.taken errors.old) c →
-        CalledOrFault o e result c state.new (I.rest input.new) (O.taken output.new) (E.taken errors.new) }
+    ensures told { ForEveryInput (I.rest input.old) (I.rest input.new) (λ was rest. (o e : Option (List ℕ)) (c : Configuration) →
+        IsSeen o e state.old was (O.taken output.old) (E.taken errors.old) c →
+        CalledOrFault o e result c state.new rest (O.taken output.new) (E.taken errors.new)) }
     ensures fault { FaultKeeps result state.old state.new }
     ensures no_limit { result ≡ Some Stop.Limit → ⊥ }
-    ensures input_counts { CountsInput result (I.faults input.old) (I.faults input.new) }
-    ensures output_counts { CountsOutput result (O.faults output.old) (O.faults output.new) (E.faults errors.old) (E.faults errors.new) }
+    ensures input_counts { CountsInput result state.new (I.faults input.old) (I.faults input.new) }
+    ensures output_counts { CountsOutput result state.new (O.faults output.old) (O.faults output.new) (E.faults errors.old) (E.faults errors.new) }
 {
-    match state.register(Reg::new(A7)) {
+    match state.register(Reg::A7) {
         READ => read(state, input),
         WRITE => write(state, output, errors),
         EXIT => {
-            let status = state.register(Reg::new(A0));
+            let status = state.register(Reg::A0);
             Some(Stop::Exited((status % 256) as u8))
         }
         _ => Some(trap(state, TrapKind::Call)),
@@ -71,24 +65,25 @@ fn trap(state: &State, kind: TrapKind) -> Stop
 
 // The program goes on, with this result of its call.
 fn answer(state: &mut State, value: u64)
-    ensures { state.new ≡ (gives state.old 10 value).0 }
+    ensures { state.new ≡ (gives state.old a0 value).0 }
 {
-    state.answer(Reg::new(A0), value);
+    state.answer(Reg::A0, value);
 }
 
 // One byte, or none at the end of the input.
 #[tactic(auto, unfolding(crate::specs::Run::read_call))]
 fn read<I: Source>(state: &mut State, input: &mut I) -> Option<Stop>
-    ensures told { (c : Configuration) → state.old ≡ c.state → I.rest input.old ≡ Some c.input →
-        ReadOrFault result c state.new (I.rest input.new) }
+    requires { register state.old a7 ≡ 63 }
+    ensures told { ForEveryInput (I.rest input.old) (I.rest input.new) (λ was rest. (c : Configuration) → state.old ≡ c.state → was ≡ c.input →
+        ReadOrFault result c state.new rest) }
     ensures fault { FaultKeeps result state.old state.new }
     ensures no_limit { result ≡ Some Stop.Limit → ⊥ }
-    ensures counts { CountsInput result (I.faults input.old) (I.faults input.new) }
+    ensures counts { CountsInput result state.new (I.faults input.old) (I.faults input.new) }
     ensures no_output_fault { result ≡ Some Stop.OutputFault → ⊥ }
 {
-    let descriptor = state.register(Reg::new(A0));
-    let buffer = state.register(Reg::new(A1));
-    let count = state.register(Reg::new(A2));
+    let descriptor = state.register(Reg::A0);
+    let buffer = state.register(Reg::A1);
+    let count = state.register(Reg::A2);
     if descriptor != 0 {
         answer(state, BAD_DESCRIPTOR);
         return None;
@@ -116,17 +111,18 @@ fn read<I: Source>(state: &mut State, input: &mut I) -> Option<Stop>
 // All of the buffer.
 #[tactic(auto, using(sb_outside::proofs::Gains::gained_gained), unfolding(crate::specs::Run::write_call))]
 fn write<O: Sink, E: Sink>(state: &mut State, output: &mut O, errors: &mut E) -> Option<Stop>
+    requires { register state.old a7 ≡ 64 }
     ensures told { (o e : Option (List ℕ)) (c : Configuration) →
         state.old ≡ c.state → O.taken output.old ≡ gained o c.output → E.taken errors.old ≡ gained e c.errors →
         WrittenOrFault o e result c state.new (O.taken output.new) (E.taken errors.new) }
     ensures fault { FaultKeeps result state.old state.new }
     ensures no_limit { result ≡ Some Stop.Limit → ⊥ }
-    ensures counts { CountsOutput result (O.faults output.old) (O.faults output.new) (E.faults errors.old) (E.faults errors.new) }
+    ensures counts { CountsOutput result state.new (O.faults output.old) (O.faults output.new) (E.faults errors.old) (E.faults errors.new) }
     ensures no_input_fault { result ≡ Some Stop.InputFault → ⊥ }
 {
-    let descriptor = state.register(Reg::new(A0));
-    let buffer = state.register(Reg::new(A1));
-    let count = state.register(Reg::new(A2));
+    let descriptor = state.register(Reg::A0);
+    let buffer = state.register(Reg::A1);
+    let count = state.register(Reg::A2);
     if descriptor != 1 && descriptor != 2 {
         answer(state, BAD_DESCRIPTOR);
         return None;

@@ -1,7 +1,10 @@
 //! Memory: segments of bytes with permissions. An access lies in the one segment that holds its first
 //! byte, or is refused; it may be misaligned. Numbers are little endian.
-ghost use Rattle.std.specs.Prelude.{◌≡◌, ℕ, ◌+◌, ◌-◌, ◌*◌, ◌/◌, ◌%◌, ◌^◌, ◌<◌, ◌≤◌, length, IfSome, MatchOption, true, false, Some, None};
-ghost use Rattle.rv_sim.specs.Memory.{SegmentState, holds, covers, place_of, number_in, with_number, segment_at, read_in, fetched_in, written_in, bytes_in, bytes_at, room_in, may_write, load, fetch, store};
+ghost use Rattle.std.specs.Prelude.{◌≡◌, ℕ, ◌+◌, ◌-◌, ◌*◌, ◌/◌, ◌%◌, ◌^◌, ◌<◌, ◌≤◌, length, IfSome, MatchOption};
+ghost use Rattle.std.specs.Prelude.{true, false, Some, None};
+ghost use Rattle.rv_sim.specs.Memory.{SegmentState, holds, covers, place_of, number_in, with_number, segment_at};
+ghost use Rattle.rv_sim.specs.Memory.{read_in, fetched_in, written_in, bytes_in, bytes_at, room_in, may_write, load};
+ghost use Rattle.rv_sim.specs.Memory.{fetch, store};
 ghost use Rattle.rv_sim.specs.Width.{byte_count};
 
 use crate::width::Width;
@@ -21,7 +24,13 @@ pub struct Segment {
 impl Model for Segment {
     ghost Value = { SegmentState };
 
-    ghost view = { λ s. record { address = s.address; bytes = s.bytes.items; readable = s.readable; writable = s.writable; executable = s.executable } };
+    ghost view = { λ s. record {
+      address = s.address;
+      bytes = s.bytes.items;
+      readable = s.readable;
+      writable = s.writable;
+      executable = s.executable;
+    } };
 }
 
 impl Segment {
@@ -34,7 +43,13 @@ impl Segment {
         executable: bool,
     ) -> Self
         ensures { result
-            ≡ record { address = address; bytes = bytes.items; readable = readable; writable = writable; executable = executable } }
+            ≡ record {
+              address = address;
+              bytes = bytes.items;
+              readable = readable;
+              writable = writable;
+              executable = executable;
+            } }
     {
         Self {
             address,
@@ -97,7 +112,8 @@ impl Segment {
     }
 
     fn buffer(&self, address: u64, count: u64) -> Option<&[u8]>
-        ensures { MatchOption result (bytes_in self.now address count ≡ None) (λ bytes. bytes_in self.now address count ≡ Some bytes.now) }
+        ensures { MatchOption result (bytes_in self.now address count ≡ None)
+            (λ bytes. bytes_in self.now address count ≡ Some bytes.now) }
     {
         if self.readable && self.covers(address, count) {
             let start = address.saturating_sub(self.address) as usize;
@@ -129,7 +145,8 @@ impl Segment {
 
     // Whether the number was written; else nothing changes.
     fn write(&mut self, address: u64, width: Width, value: u64) -> bool
-        ensures { MatchOption (written_in self.old address (byte_count width) value) ((result ≡ false) × (self.new ≡ self.old)) (λ after. (result ≡ true) × (self.new ≡ after)) }
+        ensures { MatchOption (written_in self.old address (byte_count width) value)
+            ((result ≡ false) × (self.new ≡ self.old)) (λ after. (result ≡ true) × (self.new ≡ after)) }
     {
         if self.writable && self.covers(address, width.bytes() as u64) {
             self.put(address, width, value);
@@ -150,7 +167,8 @@ fn place(memory: &[Segment], address: u64) -> Option<usize>
 }
 
 fn find(memory: &[Segment], address: u64) -> Option<&Segment>
-    ensures { MatchOption result (segment_at memory.now address ≡ None) (λ s. segment_at memory.now address ≡ Some s.now) }
+    ensures { MatchOption result (segment_at memory.now address ≡ None)
+        (λ s. segment_at memory.now address ≡ Some s.now) }
 {
     let place = place(memory, address)?;
     Some(&memory[place])
@@ -179,7 +197,8 @@ pub fn fetch_word(memory: &[Segment], address: u64) -> Option<u32>
 /// outside the segment that holds the first, or that segment may not be written.
 #[tactic(auto, unfolding(crate::specs::Memory::store))]
 pub fn store_number(memory: &mut [Segment], address: u64, width: Width, value: u64) -> bool
-    ensures { MatchOption (store memory.old address (byte_count width) value) ((result ≡ false) × (memory.new ≡ memory.old)) (λ after. (result ≡ true) × (memory.new ≡ after)) }
+    ensures { MatchOption (store memory.old address (byte_count width) value)
+        ((result ≡ false) × (memory.new ≡ memory.old)) (λ after. (result ≡ true) × (memory.new ≡ after)) }
 {
     match place(memory, address) {
         Some(place) => memory[place].write(address, width, value),
@@ -191,7 +210,8 @@ pub fn store_number(memory: &mut [Segment], address: u64, width: Width, value: u
 /// holds the first, or that segment may not be read.
 #[tactic(auto, unfolding(crate::specs::Memory::bytes_at))]
 pub fn buffer_at(memory: &[Segment], address: u64, count: u64) -> Option<&[u8]>
-    ensures { MatchOption result (bytes_at memory.now address count ≡ None) (λ bytes. bytes_at memory.now address count ≡ Some bytes.now) }
+    ensures { MatchOption result (bytes_at memory.now address count ≡ None)
+        (λ bytes. bytes_at memory.now address count ≡ Some bytes.now) }
 {
     find(memory, address)?.buffer(address, count)
 }

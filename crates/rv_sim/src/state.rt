@@ -34,13 +34,15 @@ impl Model for State {
 }
 
 impl State {
-    ghost use Rattle.std.specs.Prelude.{◌≡◌, ℕ, ◌+◌, ◌-◌, ◌*◌, ◌/◌, ◌%◌, ◌^◌, ◌<◌, ◌≤◌, Bool, replicate, Some, None, MatchOption};
+    ghost use Rattle.std.specs.Prelude.{◌≡◌, ℕ, ◌+◌, ◌-◌, ◌*◌, ◌/◌, ◌%◌, ◌^◌, ◌<◌, ◌≤◌, Bool, replicate, Some, None};
+    ghost use Rattle.std.specs.Prelude.{MatchOption};
     ghost use Rattle.rv_isa.specs.Word.{sext};
     ghost use Rattle.rv_isa.specs.declared.instruction.Instr.TheVariants as instr;
     ghost use Rattle.rv_sim.specs.Memory.{bytes_at, may_write};
     ghost use Rattle.rv_sim.specs.State.{MachineState, register, with_register};
     ghost use Rattle.rv_sim.specs.Run.{with_byte};
-    ghost use Rattle.rv_sim.specs.Step.{KeepsUnlessDone, step, executes, gives, passes, jumps, branches, loads, stores, address_of, from_pc};
+    ghost use Rattle.rv_sim.specs.Step.{KeepsUnlessDone, step, executes, gives, passes, jumps, branches, loads};
+    ghost use Rattle.rv_sim.specs.Step.{stores, address_of, from_pc};
 
     /// A state that begins at an address, with every register zero.
     pub fn new(pc: u64, memory: Vec<Segment>) -> Self
@@ -92,7 +94,8 @@ impl State {
 
     /// The buffer of so many bytes from an address on. `None` where the machine may not read it.
     pub fn buffer(&self, address: u64, count: u64) -> Option<&[u8]>
-        ensures { MatchOption result (bytes_at self.now.memory address count ≡ None) (λ bytes. bytes_at self.now.memory address count ≡ Some bytes.now) }
+        ensures { MatchOption result (bytes_at self.now.memory address count ≡ None)
+            (λ bytes. bytes_at self.now.memory address count ≡ Some bytes.now) }
     {
         buffer_at(&self.memory, address, count)
     }

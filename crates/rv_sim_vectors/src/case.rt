@@ -3,12 +3,11 @@
 ghost use Rattle.std.specs.Prelude.{IfOk};
 ghost use Rattle.elf_image.specs.Writing.{PiecesFit};
 
-use crate::sample::parts;
-use anyhow::{Context, Result, ensure};
-use elf_image::{Image, Parts, ReadError};
+use crate::sample::{machine_of, parts, run};
+use anyhow::{Context, Result, bail, ensure};
+use elf_image::Parts;
 use rv_isa::Reg;
-use rv_sim::{Machine, Stop};
-use sb_outside::{MemSink, MemSource};
+use rv_sim::Stop;
 use std::alloc::{AllocError, Global};
 
 /// A word that works on a0 and a1, their values, and what it must leave in a2.
@@ -24,31 +23,25 @@ impl Case {
     /// A line of five fields: a name, which is passed over, the word, the values and the result.
     pub fn parse(line: &str) -> Result<Case> {
         let mut fields = line.split(' ').skip(1);
-        let mut word = [0; 4];
-        hex::decode_to_slice(fields.next().context("a word")?, &mut word)?;
+        let word = number(fields.next()).context("a word")?;
         Ok(Case {
-            word: u32::from_be_bytes(word),
-            left: number(fields.next())?,
-            right: number(fields.next())?,
-            result: number(fields.next())?,
+            word: u32::try_from(word)?,
+            left: number(fields.next()).context("a number")?,
+            right: number(fields.next()).context("a number")?,
+            result: number(fields.next()).context("a number")?,
         })
     }
 
     /// What the machine leaves in a2.
     pub fn run(&self, alloc: Global) -> Result<u64> {
-        let file = Image::write(alloc, &self.parts(alloc)?)?;
-        let image = match Image::read(alloc, &file) {
-            Ok(image) => image,
-            Err(ReadError::Fault(fault)) => anyhow::bail!("image fault {}", fault.number()),
-            Err(ReadError::Memory) => return Err(AllocError.into()),
+        let parts = self.parts(alloc)?;
+        let mut machine = match machine_of(alloc, &parts) {
+            Ok(machine) => machine,
+            Err(error) => bail!("no image: {error:?}"),
         };
-        let mut machine = Machine::load(alloc, &image)?;
-        let mut input = MemSource::new(alloc, &[], &[])?;
-        let mut output = MemSink::new(alloc, 0, &[])?;
-        let mut errors = MemSink::new(alloc, 0, &[])?;
-        let stop = machine.run(&mut input, &mut output, &mut errors, 4);
+        let stop = run(alloc, &mut machine, 4)?;
         ensure!(stop == Stop::Limit, "the machine stopped: {stop:?}");
-        Ok(machine.register(Reg::new(12)))
+        Ok(machine.register(Reg::A2))
     }
 
     // The operands are the first objects. The code is `lui t0,0x10000`, `ld a0,0(t0)`, `ld a1,8(t0)` and the word.
@@ -64,8 +57,7 @@ impl Case {
     }
 }
 
-fn number(digits: Option<&str>) -> Result<u64> {
-    let mut bytes = [0; 8];
-    hex::decode_to_slice(digits.context("a number")?, &mut bytes)?;
-    Ok(u64::from_be_bytes(bytes))
+// The number that a field has in hexadecimal digits.
+fn number(digits: Option<&str>) -> Option<u64> {
+    u64::from_str_radix(digits?, 16).ok()
 }

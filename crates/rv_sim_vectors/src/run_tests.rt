@@ -1,9 +1,10 @@
 //! A program that copies a byte from the input to both outputs, and exits with it.
-ghost use Rattle.std.specs.Prelude.{IfOk};
+ghost use Rattle.std.specs.Prelude.{◌≡◌, length, IfOk};
 ghost use Rattle.elf_image.specs.Writing.{PiecesFit};
 
-use elf_image::{Image, Part, Parts};
-use rv_sim::{Machine, Stop};
+use crate::sample::machine_of;
+use elf_image::{Part, Parts};
+use rv_sim::Stop;
 use sb_outside::{MemSink, MemSource};
 use std::alloc::{AllocError, Global};
 use std::test::Fail;
@@ -24,6 +25,12 @@ const CODE: [u8; 52] = [
     0x73, 0x00, 0x00, 0x00, // ecall
 ];
 
+fn code(alloc: Global) -> Result<Vec<u8>, AllocError>
+    ensures { IfOk result (λ bytes. length bytes.items ≡ 52) }
+{
+    Vec::from_slice(alloc, &CODE)
+}
+
 fn program(alloc: Global) -> Result<Parts, AllocError>
     ensures { IfOk result PiecesFit }
 {
@@ -36,7 +43,7 @@ fn program(alloc: Global) -> Result<Parts, AllocError>
         },
         code: Part {
             address: 0x10_0000,
-            bytes: Vec::from_array(alloc, CODE)?,
+            bytes: code(alloc)?,
             size: 52,
         },
         objects: Part {
@@ -55,42 +62,48 @@ fn program(alloc: Global) -> Result<Parts, AllocError>
 #[test]
 fn copies_a_byte(rt: HostRuntime) -> Result<(), Fail> {
     let alloc = rt.alloc();
-    let file = Image::write(alloc, &program(alloc)?)?;
-    let mut machine = Machine::load(alloc, &Image::read(alloc, &file)?)?;
+    let mut machine = machine_of(alloc, &program(alloc)?)?;
     let mut input = MemSource::new(alloc, &[7, 8], &[])?;
     let mut output = MemSink::new(alloc, 16, &[])?;
     let mut errors = MemSink::new(alloc, 16, &[])?;
     let stop = machine.run(&mut input, &mut output, &mut errors, 9);
-    assert_eq!(rt; stop, Stop::Limit);
-    assert_eq!(rt; output.bytes(), [7].as_slice());
+    assert!(rt; stop == Stop::Limit);
+    assert!(rt; output.bytes() == [7].as_slice());
     assert!(rt; errors.bytes().is_empty());
     let stop = machine.run(&mut input, &mut output, &mut errors, 100);
-    assert_eq!(rt; stop, Stop::Exited(7));
-    assert_eq!(rt; output.bytes(), [7].as_slice());
-    assert_eq!(rt; errors.bytes(), [7].as_slice());
+    assert!(rt; stop == Stop::Exited(7));
+    assert!(rt; output.bytes() == [7].as_slice());
+    assert!(rt; errors.bytes() == [7].as_slice());
     Ok(())
 }
 
 #[test]
 fn stops_where_the_outside_fails(rt: HostRuntime) -> Result<(), Fail> {
-    let alloc = rt.alloc();
-    let file = Image::write(alloc, &program(alloc)?)?;
-    let image = Image::read(alloc, &file)?;
-    for (take_fails, put_fails, want) in [
-        (true, false, Stop::InputFault),
-        (false, true, Stop::OutputFault),
-    ] {
-        let mut machine = Machine::load(alloc, &image)?;
-        let takes: &[u64] = if take_fails { &[0] } else { &[] };
-        let puts: &[(u64, u64)] = if put_fails { &[(0, 0)] } else { &[] };
-        let mut input = MemSource::new(alloc, &[7], takes)?;
-        let mut output = MemSink::new(alloc, 16, puts)?;
-        let mut errors = MemSink::new(alloc, 16, &[])?;
-        let stop = machine.run(&mut input, &mut output, &mut errors, 100);
-        assert!(rt; stop == want);
-        let again = machine.run(&mut input, &mut output, &mut errors, 100);
-        assert!(rt; again == want);
-        assert!(rt; output.bytes().is_empty());
-    }
+    let parts = program(rt.alloc())?;
+    let takes = stop_of(rt.alloc(), &parts, &[0], &[])?;
+    assert!(rt; takes == (Stop::InputFault, Stop::InputFault));
+    let puts = stop_of(rt.alloc(), &parts, &[], &[(0, 0)])?;
+    assert!(rt; puts == (Stop::OutputFault, Stop::OutputFault));
     Ok(())
+}
+
+// How a run ends whose listed takes and puts fail, and how it ends when it is run again.
+fn stop_of(
+    alloc: Global,
+    parts: &Parts,
+    takes: &[u64],
+    puts: &[(u64, u64)],
+) -> Result<(Stop, Stop), Fail>
+    requires { PiecesFit parts.now }
+{
+    let mut input = MemSource::new(alloc, &[7], takes)?;
+    let mut output = MemSink::new(alloc, 16, puts)?;
+    let mut errors = MemSink::new(alloc, 16, &[])?;
+    let mut machine = machine_of(alloc, parts)?;
+    let stop = machine.run(&mut input, &mut output, &mut errors, 100);
+    let again = machine.run(&mut input, &mut output, &mut errors, 100);
+    if !output.bytes().is_empty() {
+        return Err(Fail::new("nothing was put"));
+    }
+    Ok((stop, again))
 }

@@ -1,9 +1,11 @@
-//! The image in which operations and tests run.
+//! The image in which operations and tests run, and a run of it.
 
 ghost use Rattle.std.specs.Prelude.{◌≤◌, length, IfOk};
 ghost use Rattle.elf_image.specs.Writing.{PiecesFit};
 
-use elf_image::{Part, Parts};
+use elf_image::{Image, Part, Parts, ReadError};
+use rv_sim::{Machine, Stop};
+use sb_outside::{MemSink, MemSource};
 use std::alloc::{AllocError, Global};
 
 /// Rows at 0x10000, of 32 bytes, and code at 0x100000, of one ECALL, which may be executed alone; objects at 0x10000000,
@@ -37,4 +39,26 @@ pub fn parts(alloc: Global, rows: Vec<u8>, objects: Vec<u8>) -> Result<Parts, Al
             size: 0x1000,
         },
     })
+}
+
+/// The machine that the image of these parts begins.
+pub fn machine_of(alloc: Global, parts: &Parts) -> Result<Machine, ReadError>
+    requires { PiecesFit parts.now }
+{
+    let file = Image::write(alloc, parts)?;
+    loaded(alloc, &file)
+}
+
+fn loaded(alloc: Global, file: &[u8]) -> Result<Machine, ReadError> {
+    let image = Image::read(alloc, file)?;
+    let machine = Machine::load(alloc, &image)?;
+    Ok(machine)
+}
+
+/// Runs a machine with no input for at most so many instructions.
+pub fn run(alloc: Global, machine: &mut Machine, limit: u64) -> Result<Stop, AllocError> {
+    let mut input = MemSource::new(alloc, &[], &[])?;
+    let mut output = MemSink::new(alloc, 100, &[])?;
+    let mut errors = MemSink::new(alloc, 100, &[])?;
+    Ok(machine.run(&mut input, &mut output, &mut errors, limit))
 }

@@ -1,10 +1,10 @@
 //! How runs end. The words are those of GNU as.
 
-use crate::sample::parts;
-use elf_image::Image;
-use rv_sim::{Machine, Stop, TrapKind};
-use sb_outside::{MemSink, MemSource};
-use std::alloc::Global;
+ghost use Rattle.std.specs.Prelude.{◌≤◌, length, IfOk};
+
+use crate::sample::{machine_of, parts, run};
+use rv_sim::{Stop, TrapKind};
+use std::alloc::{AllocError, Global};
 use std::test::Fail;
 
 /// Code that ends in a trap: what it does, its words, which the rows begin with, and the kind and the pc of the trap.
@@ -136,28 +136,30 @@ const CALLS: [Trapping; 6] = [
 
 // How a run of at most 100 instructions ends, of rows that begin with these words.
 fn stop_of(alloc: Global, code: &[u32]) -> Result<Stop, Fail> {
+    let mut machine = machine_of(
+        alloc,
+        &parts(alloc, rows_of(alloc, code)?, Vec::new(alloc))?,
+    )?;
+    Ok(run(alloc, &mut machine, 100)?)
+}
+
+// The bytes of the words, at most the first 32.
+fn rows_of(alloc: Global, code: &[u32]) -> Result<Vec<u8>, AllocError>
+    ensures { IfOk result (λ rows. length rows.items ≤ 32) }
+{
     let mut rows = Vec::new(alloc);
     for word in code {
         rows.extend_from_slice(&word.to_le_bytes())?;
     }
     rows.truncate(32);
-    let file = Image::write(alloc, &parts(alloc, rows, Vec::new(alloc))?)?;
-    let image = Image::read(alloc, &file)?;
-    let mut machine = Machine::load(alloc, &image)?;
-    let mut input = MemSource::new(alloc, &[], &[])?;
-    let mut output = MemSink::new(alloc, 100, &[])?;
-    let mut errors = MemSink::new(alloc, 100, &[])?;
-    Ok(machine.run(&mut input, &mut output, &mut errors, 100))
+    Ok(rows)
 }
 
 #[test]
 fn traps_have_kind_and_pc(rt: HostRuntime) -> Result<(), Fail> {
     for &(text, code, kind, pc) in JUMPS.iter().chain(ACCESSES.iter()).chain(CALLS.iter()) {
-        assert_eq!(rt;
-            stop_of(rt.alloc(), code)?,
-            Stop::Trap { kind, pc },
-            "{text}"
-        );
+        let stop = stop_of(rt.alloc(), code)?;
+        assert!(rt; stop == Stop::Trap { kind, pc }, "{text}");
     }
     Ok(())
 }
@@ -168,8 +170,8 @@ fn other_ends(rt: HostRuntime) -> Result<(), Fail> {
     let exits = [
         0x04000893, 0x00300513, 0x00000593, 0x00800613, 0x00000073, 0x05d00893, 0x00000073,
     ];
-    assert_eq!(rt; stop_of(rt.alloc(), &exits)?, Stop::Exited(247));
+    assert!(rt; stop_of(rt.alloc(), &exits)? == Stop::Exited(247));
     // jal x0,.
-    assert_eq!(rt; stop_of(rt.alloc(), &[0x0000006f])?, Stop::Limit);
+    assert!(rt; stop_of(rt.alloc(), &[0x0000006f])? == Stop::Limit);
     Ok(())
 }

@@ -1,5 +1,6 @@
 -- The budgets of a build: their sizes, the ranges of these, and the tests of sizes that are given, in their order.
-use Rattle.std.specs.Prelude.{◌≡◌, ℕ, ◌%◌, ◌^◌, ◌≤◌, Bool, ◌&&◌, ◌==◌, nat_le, if◌then◌else◌, Option, Some, None, Result, Ok, Err}
+use Rattle.std.specs.Prelude.{◌≡◌, ℕ, ◌%◌, ◌^◌, ◌≤◌, Bool, ◌&&◌, ◌==◌, nat_le, if◌then◌else◌, Option, Some, None}
+use Rattle.std.specs.Prelude.{Result, Ok, Err}
 use Rattle.sb_base.specs.declared.budget.Budget.{Budget}
 use Rattle.sb_base.specs.declared.budget.Budget.TheVariants.{Heap, Stack, Calls, Blocks, Keys}
 use Rattle.sb_base.specs.declared.budget.BudgetFault.{BudgetFault}

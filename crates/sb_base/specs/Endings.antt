@@ -2,7 +2,8 @@
 use Rattle.std.specs.Prelude.{ℕ, pos, ℤ, unsigned_abs, List, [], ◌++◌, codes, decimal}
 use Rattle.std.specs.Int.{int_rem_euclid}
 use Rattle.sb_base.specs.declared.ending.Ending.{Ending}
-use Rattle.sb_base.specs.declared.ending.Ending.TheVariants.{Exit, Spatial, Temporal, BadCall, BadFree, Divide, Stack, Keys, Abort}
+use Rattle.sb_base.specs.declared.ending.Ending.TheVariants.{Exit, Spatial, Temporal, BadCall, BadFree, Divide, Stack}
+use Rattle.sb_base.specs.declared.ending.Ending.TheVariants.{Keys, Abort}
 
 -- a number modulo 256: the low byte of its two's complement
 abbrev pub low_byte : ℤ → ℕ

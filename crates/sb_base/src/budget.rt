@@ -1,7 +1,8 @@
 //! The budgets of a build: how much a source may use of what the runtime hands out.
 
 ghost use Rattle.std.specs.Prelude.{◌≡◌, ◌≤◌, ◌^◌, IsTrue, OnOk, IfErr};
-ghost use Rattle.sb_base.specs.Budgets.{BudgetSizes, IsPages, IsTested, allows, ◌unless_allowed◌, is_pages, default_sizes};
+ghost use Rattle.sb_base.specs.Budgets.{BudgetSizes, IsPages, IsTested, allows, ◌unless_allowed◌, is_pages};
+ghost use Rattle.sb_base.specs.Budgets.{default_sizes};
 
 use std::marker::Model;
 
@@ -116,7 +117,13 @@ impl Model for Budgets {
     ghost invariant = { λ b.
         AreInRange (record { heap = b.heap; stack = b.stack; calls = b.calls; blocks = b.blocks; keys = b.keys }) };
 
-    ghost inverse = { λ s. record { heap = s.heap; stack = s.stack; calls = s.calls; blocks = s.blocks; keys = s.keys } };
+    ghost inverse = { λ s. record {
+      heap = s.heap;
+      stack = s.stack;
+      calls = s.calls;
+      blocks = s.blocks;
+      keys = s.keys;
+    } };
 }
 
 impl Budgets {

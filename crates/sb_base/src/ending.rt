@@ -10,7 +10,7 @@ use itoa::Buffer;
 pub const REPORT_ROOM: usize = 64;
 
 /// How the run of a source ended: by its own exit, or at a line, where it was stopped or called `abort`.
-#[derive(Clone, Copy, Debug, PartialEq, Eq)]
+#[derive(Clone, Copy)]
 pub enum Ending {
     /// `main` returned this value, or `exit` was called with it.
     Exit(i32),

@@ -1,3 +1,5 @@
 pub mod Gains
 pub mod Held
 pub mod Parts
+pub mod Readings
+pub mod Takings

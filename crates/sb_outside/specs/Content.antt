@@ -1,16 +1,28 @@
 -- What the calls of the outside give and leave, where the content is told.
-use Rattle.std.specs.Prelude.{◌≡◌, ◌≢◌, ◌<◌, ◌≤◌, ◌⊎◌, ℕ, List, ◌++◌, drop, length, slice_get, Option, Some, None, Result, Ok, Err, Vec}
+use Rattle.std.specs.Prelude.{◌≡◌, ◌≢◌, ◌<◌, ◌≤◌, ◌⊎◌, ℕ, List, [], ◌∷◌, ◌++◌, drop, length, slice_get, Option, Some, None, Result, Ok, Err, IfOk, Vec, ◌+◌}
 use Rattle.std.specs.declared.alloc.Global.{Global}
 use Rattle.sb_outside.specs.declared.source.Failed.{Failed}
 use Rattle.sb_outside.specs.declared.files.FileFault.{FileFault}
 use Rattle.sb_outside.specs.declared.files.FileFault.TheVariants.{TooLong, Memory}
 use Rattle.sb_outside.specs.declared.files.FileFault.TheVariants as fault
+use Rattle.sb_outside.specs.Rest.{Rest, Told, Untold, Ended}
 
--- a source gives its first byte, if there is one, and keeps the others
-abbrev pub Takes : Option (List ℕ) → Option (List ℕ) → Result (Option ℕ) Failed → Type 0
-Takes None new result = new ≡ None
-Takes (Some bytes) new (Ok first) = (first ≡ slice_get bytes 0) × (new ≡ Some (drop 1 bytes))
-Takes (Some bytes) new (Err failed) = new ≡ Some bytes
+-- a source gives its first byte, if there is one, and keeps the others; one whose end was met gives none
+abbrev pub Takes : Rest → Rest → Result (Option ℕ) Failed → Type 0
+Takes (Told bytes) new (Ok first) = (first ≡ slice_get bytes 0) × (new ≡ Told (drop 1 bytes))
+Takes (Told bytes) new (Err failed) = new ≡ Told bytes
+Takes Untold new (Ok (Some byte)) = new ≡ Untold
+Takes Untold new (Ok None) = new ≡ Ended
+Takes Untold new (Err failed) = new ≡ Untold
+Takes Ended new (Ok (Some byte)) = ⊥
+Takes Ended new (Ok None) = new ≡ Ended
+Takes Ended new (Err failed) = new ≡ Ended
+
+-- the bytes that a call gave
+abbrev pub given_by : Result (Option ℕ) Failed → List ℕ
+given_by (Ok (Some byte)) = byte ∷ []
+given_by (Ok None) = []
+given_by (Err failed) = []
 
 -- what was told, and then these bytes; what was not told stays untold
 abbrev pub gained : Option (List ℕ) → List ℕ → Option (List ℕ)
@@ -48,6 +60,13 @@ ReadsUntold max (Ok bytes) = length bytes.items ≤ max
 ReadsUntold max (Err (TooLong n)) = max < n
 ReadsUntold max (Err fault.Failed) = Unit {0}
 ReadsUntold max (Err Memory) = Unit {0}
+
+-- Reading a reader that tells the bytes that it has left, before and after: all of them, at most max, come with Ok; more than
+-- max there are with TooLong; and at most one byte above max is taken.
+pub record ReadsAtMost (all left : List ℕ) (max : ℕ) (result : Result (Vec ℕ Global) FileFault) : Type 0 where
+  pub read : IfOk result (λ bytes. bytes.items ≡ all)
+  pub too_long : (n : ℕ) → result ≡ Err (TooLong n) → max < length all
+  pub taken : length all ≤ length left + (max + 1)
 
 abbrev pub Reads : Option (List ℕ → Option (List ℕ)) → List ℕ → ℕ → Result (Vec ℕ Global) FileFault → Type 0
 Reads None name max result = ReadsUntold max result

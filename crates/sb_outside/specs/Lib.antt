@@ -5,3 +5,4 @@ pub mod HeldFile
 pub mod MemoryFiles
 pub mod MemorySink
 pub mod MemorySource
+pub mod Rest

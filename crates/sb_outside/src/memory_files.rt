@@ -126,14 +126,16 @@ impl MemFiles {
 }
 
 impl Files for MemFiles {
-    ghost use Rattle.std.specs.Prelude.{◌≡◌, ◌↔◌, ◌⊎◌, ◌≤◌, length, None, Some, IsOk, IsSome, IsErrOf, Contains};
+    ghost use Rattle.std.specs.Prelude.{◌≡◌, ◌↔◌, ◌⊎◌, ◌≤◌, length, take, None, Some, IsOk, IsSome, IsErrOf, Contains};
     ghost use Rattle.sb_outside.specs.HeldFile.{HeldFile, held_in, written_in};
     ghost use Rattle.sb_outside.specs.Content.{Reads, Writes};
-    ghost use Rattle.sb_outside.specs.Faults.{CountsFaults, CountsReadFaults};
-    ghost use Rattle.sb_outside.specs.Failures.{kept_by, next_call};
+    ghost use Rattle.sb_outside.specs.Faults.{CountsFaults, CountsReadFaults, next_count};
+    ghost use Rattle.sb_outside.specs.Failures.{kept_by, kept_count};
     ghost use Rattle.sb_outside.specs.MemoryFiles.{files_of, write_room, failing_reads, failing_writes, next_read, next_write, read_faults, write_faults};
 
     ghost held = { λ m. Some (held_in (files_of m)) };
+
+    ghost writes = { λ m. next_write m };
 
     ghost read_faults = { λ m. read_faults m };
 
@@ -143,12 +145,13 @@ impl Files for MemFiles {
         ensures files { Some (held_in (files_of self.new)) ≡ Some (held_in (files_of self.old)) }
         ensures content { Reads (Some (held_in (files_of self.old))) name.now max result }
         ensures cause { CountsReadFaults (read_faults self.old) (read_faults self.new) result }
+        ensures unwritten { next_write self.new ≡ next_write self.old }
         ensures others { write_faults self.new ≡ write_faults self.old }
 
         // Just the listed reads fail, and those of a name that is not there.
         ensures fails { IsErrOf result FileFault.Failed ↔
             (Contains (failing_reads self.old) (next_read self.old) ⊎ (held_in (files_of self.old) name.now ≡ None)) }
-        ensures numbered { next_read self.new ≡ next_call (next_read self.old) }
+        ensures numbered { next_read self.new ≡ next_count (next_read self.old) }
         ensures kept { self.new ≡ record self.old { reads = next_read self.new; read_faults = read_faults self.new } }
     {
         let call = self.reads;
@@ -169,13 +172,20 @@ impl Files for MemFiles {
     #[tactic(auto, using(crate::proofs::Held::roomy_for, crate::proofs::Held::roomy_written))]
     fn write(&mut self, name: &str, bytes: &[u8]) -> Result<(), Failed>
         ensures content { Writes (Some (held_in (files_of self.old))) (Some (held_in (files_of self.new))) name.now bytes.now result }
+        ensures counted { next_write self.new ≡ next_count (next_write self.old) }
         ensures cause { CountsFaults (write_faults self.old) (write_faults self.new) result }
         ensures others { read_faults self.new ≡ read_faults self.old }
 
         // Just the listed writes fail, and those of too many bytes or to a name that is not there.
         ensures works { IsOk result ↔ ((kept_by (failing_writes self.old) (next_write self.old) ≡ None)
             × (length bytes.now ≤ write_room self.old) × IsSome (held_in (files_of self.old) name.now)) }
-        ensures numbered { next_write self.new ≡ next_call (next_write self.old) }
+        // The file holds all the bytes for which there is room, and after a listed write at most as many as are listed.
+        ensures kept { files_of self.new ≡ written_in (files_of self.old) name.now
+            (take (kept_count (kept_by (failing_writes self.old) (next_write self.old)) (length bytes.now) (write_room self.old)) bytes.now) }
+        ensures room { write_room self.new ≡ write_room self.old }
+        ensures listed { failing_writes self.new ≡ failing_writes self.old }
+        ensures listed_reads { failing_reads self.new ≡ failing_reads self.old }
+        ensures reads { next_read self.new ≡ next_read self.old }
     {
         let listed = kept_by(&self.write_fails, self.writes);
         self.writes = self.writes.saturating_add(1);

@@ -65,10 +65,10 @@ impl MemSink {
 }
 
 impl Sink for MemSink {
-    ghost use Rattle.std.specs.Prelude.{◌≡◌, ◌↔◌, ◌+◌, ◌-◌, ◌++◌, ◌≤◌, ℕ, min, take, length, Some, None, OnOk, OnErr, IsOk};
+    ghost use Rattle.std.specs.Prelude.{◌≡◌, ◌↔◌, ◌+◌, ◌-◌, ◌++◌, ◌≤◌, take, length, Some, None, OnOk, OnErr, IsOk};
     ghost use Rattle.sb_outside.specs.Content.{gained, GainsPart};
-    ghost use Rattle.sb_outside.specs.Faults.{CountsFaults};
-    ghost use Rattle.sb_outside.specs.Failures.{kept_by, next_call};
+    ghost use Rattle.sb_outside.specs.Faults.{CountsFaults, next_count};
+    ghost use Rattle.sb_outside.specs.Failures.{kept_by, kept_count};
     ghost use Rattle.sb_outside.specs.MemorySink.{bytes_taken, sink_capacity, failing_puts, next_put, put_faults};
 
     ghost taken = { λ s. Some (bytes_taken s) };
@@ -84,9 +84,10 @@ impl Sink for MemSink {
         // Just the listed calls fail, and those past the capacity.
         ensures works { IsOk result ↔ ((kept_by (failing_puts self.old) (next_put self.old) ≡ None)
             × (length (bytes_taken self.old) + length bytes.now ≤ sink_capacity self.old)) }
-        ensures kept { (k : ℕ) → kept_by (failing_puts self.old) (next_put self.old) ≡ Some k →
-            bytes_taken self.new ≡ bytes_taken self.old ++ take (min k (sink_capacity self.old - length (bytes_taken self.old))) bytes.now }
-        ensures numbered { next_put self.new ≡ next_call (next_put self.old) }
+        // A call keeps all that fits, and a listed one at most what is listed.
+        ensures kept { bytes_taken self.new ≡ bytes_taken self.old
+            ++ take (kept_count (kept_by (failing_puts self.old) (next_put self.old)) (length bytes.now) (sink_capacity self.old - length (bytes_taken self.old))) bytes.now }
+        ensures numbered { next_put self.new ≡ next_count (next_put self.old) }
         ensures listed { failing_puts self.new ≡ failing_puts self.old }
         ensures room { sink_capacity self.new ≡ sink_capacity self.old }
     {

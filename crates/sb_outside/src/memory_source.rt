@@ -1,5 +1,5 @@
 //! A source in memory.
-ghost use Rattle.std.specs.Prelude.{◌≤◌, length, drop, Some};
+ghost use Rattle.std.specs.Prelude.{◌≤◌, length, drop};
 
 use crate::source::{Failed, Source};
 use std::alloc::{AllocError, Global};
@@ -39,23 +39,23 @@ impl MemSource {
 }
 
 impl Source for MemSource {
-    ghost use Rattle.std.specs.Prelude.{◌≡◌, ◌↔◌, Some, IsErr, Contains};
+    ghost use Rattle.std.specs.Prelude.{◌≡◌, ◌↔◌, IsErr, Contains};
     ghost use Rattle.sb_outside.specs.Content.{Takes};
-    ghost use Rattle.sb_outside.specs.Faults.{CountsFaults};
-    ghost use Rattle.sb_outside.specs.Failures.{next_call};
+    ghost use Rattle.sb_outside.specs.Faults.{CountsFaults, next_count};
+    ghost use Rattle.sb_outside.specs.Rest.{Told};
     ghost use Rattle.sb_outside.specs.MemorySource.{bytes_left, failing_takes, next_take, take_faults};
 
-    ghost rest = { λ s. Some (bytes_left s) };
+    ghost rest = { λ s. Told (bytes_left s) };
 
     ghost faults = { λ s. take_faults s };
 
     fn take(&mut self) -> Result<Option<u8>, Failed>
-        ensures content { Takes (Some (bytes_left self.old)) (Some (bytes_left self.new)) result }
+        ensures content { Takes (Told (bytes_left self.old)) (Told (bytes_left self.new)) result }
         ensures cause { CountsFaults (take_faults self.old) (take_faults self.new) result }
 
         // Just the listed calls fail.
         ensures fails { IsErr result ↔ Contains (failing_takes self.old) (next_take self.old) }
-        ensures numbered { next_take self.new ≡ next_call (next_take self.old) }
+        ensures numbered { next_take self.new ≡ next_count (next_take self.old) }
         ensures listed { failing_takes self.new ≡ failing_takes self.old }
     {
         let call = self.calls;

@@ -10,7 +10,7 @@ pub trait Sink {
     /// The bytes that it has taken, where it tells them.
     ghost taken: { Self → Option (List ℕ) };
 
-    /// How many calls have failed. It never falls, and stands still at `u64::MAX`.
+    /// How many calls have failed. It stands still at `u64::MAX`.
     ghost faults: { Self → ℕ };
 
     /// Takes all the bytes; on `Failed` a prefix of them, perhaps empty.

@@ -1,5 +1,5 @@
 -- The outcomes of the commands, case by case.
-use Rattle.std.proofs.Common.{Err, ◌≡◌, ℕ, List, [], Option, refl, ap, ◌∙◌, inl}
+use Rattle.std.proofs.Common.{Err, ◌≡◌, ℕ, List, [], Option, Some, refl, ap, ◌∙◌, inl, inr, ⊎_elim}
 use Rattle.sb_outside.specs.Content.{Writes}
 use Rattle.rv_sim.specs.declared.stop.Stop.{Stop}
 use Rattle.rv_sim.specs.declared.stop.Stop.TheVariants as stops
@@ -9,9 +9,12 @@ use Rattle.sbcets_core.specs.declared.outcome.Outcome.{Outcome}
 use Rattle.sbcets_core.specs.declared.outcome.Outcome.TheVariants.{Exited, Built, Usage, WriteFault, InputFault, Memory, Limit, Refused, ImageRefused, Trap}
 use Rattle.sbcets_core.specs.declared.outcome.Outcome.TheVariants as outcomes
 use Rattle.sbcets_core.specs.Outcomes.{max_source, max_image_file}
-use Rattle.sbcets_core.specs.Counting.{Counts, CommandCounts}
+use Rattle.sbcets_core.specs.Counting.{Counts, CommandCounts, StopCounts}
+use Rattle.sb_outside.specs.Faults.{next_count}
+use Rattle.rv_sim.specs.State.{MachineState}
+use Rattle.rv_sim.specs.Seen.{CountsInput, CountsOutput}
 use Rattle.sbcets_core.specs.Commands.{Outside, DoesNothing, Went, RanFile, Goes, Runs, Builds, IsUnread, IsUnbuilt, IsBuiltOf, ReadCounts, RunsImage, outcome_of}
-use Rattle.sbcets_core.proofs.Running.{traps_untold}
+use Rattle.sbcets_core.proofs.Running.{never_traps}
 
 -- a command that got nothing does nothing
 pub unbuilt_goes : (name : List ℕ) (limit : ℕ) (outcome : Outcome) (image : List ℕ) (before after : Outside) → DoesNothing image before after → IsUnbuilt name outcome before.files → Goes name limit outcome image before after
@@ -42,8 +45,8 @@ unbuilt_builds name target (Limit n) image before after d u = absurd u
 unbuilt_builds name target (ImageRefused fault) image before after d u = absurd u
 unbuilt_builds name target (Trap kind pc) image before after d u = absurd u
 
-pub unwritten_builds : (name target image : List ℕ) (before after : Outside) → IsBuiltOf name image before.files → Writes {T = Unit {0}} before.files after.files target image (Err record {}) → after.streams ≡ before.streams → Builds name target WriteFault [] before after
-unwritten_builds name target image before after b w same =
+pub unwritten_builds : (name target image : List ℕ) (before after : Outside) → IsBuiltOf name image before.files → Writes {T = Unit {0}} before.files after.files target image (Err record {}) → after.writes ≡ next_count before.writes → after.streams ≡ before.streams → Builds name target WriteFault [] before after
+unwritten_builds name target image before after b w once same =
     inl (record {
       into = record {
         source = b.source;
@@ -51,6 +54,7 @@ unwritten_builds name target image before after b w same =
         bytes = image;
         built = b.built;
         writes = w;
+        once = once;
         input = ap (λ s. s.input) same;
         errors = ap (λ s. s.errors) same;
         none = refl;
@@ -89,14 +93,14 @@ unread_unbuilt name (Trap kind pc) held u = absurd u
 -- a run, by how it ended
 went_by : (name : List ℕ) (limit : ℕ) (image : List ℕ) (stop : Stop) (before after : Outside) → Went name limit image stop before after → Goes name limit (outcome_of stop limit) image before after
 went_by name limit image (stops.Exited code) before after w = w
-went_by name limit image (stops.Trap kind pc) before after w = (traps_untold w.source image limit kind pc before.streams after.streams w.built w.run, w)
+went_by name limit image (stops.Trap kind pc) before after w = never_traps w.source image limit kind pc before.streams after.streams w.built w.run
 went_by name limit image stops.Limit before after w = (refl, w)
 went_by name limit image stops.InputFault before after w = w
 went_by name limit image stops.OutputFault before after w = w
 
-pub went_goes : (name : List ℕ) (limit : ℕ) (image : List ℕ) (stop : Stop) (before after : Outside) → IsBuiltOf name image before.files → RunsImage image limit stop before.streams after.streams → after.files ≡ before.files → Goes name limit (outcome_of stop limit) image before after
-went_goes name limit image stop before after b r files =
-    went_by name limit image stop before after (record { source = b.source; read = b.read; built = b.built; run = r; files = files })
+pub went_goes : (name : List ℕ) (limit : ℕ) (image : List ℕ) (stop : Stop) (before after : Outside) → IsBuiltOf name image before.files → RunsImage image limit stop before.streams after.streams → after.files ≡ before.files → after.writes ≡ before.writes → Goes name limit (outcome_of stop limit) image before after
+went_goes name limit image stop before after b r files unwritten =
+    went_by name limit image stop before after (record { source = b.source; read = b.read; built = b.built; run = r; files = files; unwritten = unwritten })
 
 pub ran_runs : (name : List ℕ) (limit : ℕ) (image : List ℕ) (stop : Stop) (before after : Outside) → RanFile name limit stop image before after → Runs name limit (outcome_of stop limit) image before after
 ran_runs name limit image (stops.Exited code) before after r = r
@@ -107,7 +111,7 @@ ran_runs name limit image stops.OutputFault before after r = r
 
 -- the counts of a command that got nothing
 pub unread_counts : (name : List ℕ) (max : ℕ) (outcome : Outcome) (held : Option (List ℕ → Option (List ℕ))) (before after : Counts) → after ≡ record before { reads = after.reads } → IsUnread name max outcome held → ReadCounts outcome before.reads after.reads → CommandCounts outcome before after
-unread_counts name max (outcomes.ReadFault reads.Failed) held before after same u c = (same, c)
+unread_counts name max (outcomes.ReadFault reads.Failed) held before after same u c = same ∙ ap (λ r. record before { reads = r }) c
 unread_counts name max (outcomes.ReadFault (TooLong n most)) held before after same u c = same ∙ ap (λ r. record before { reads = r }) c
 unread_counts name max Memory held before after same u c = same ∙ ap (λ r. record before { reads = r }) c
 unread_counts name max (Refused refusal) held before after same u c = absurd u
@@ -121,7 +125,7 @@ unread_counts name max (ImageRefused fault) held before after same u c = absurd 
 unread_counts name max (Trap kind pc) held before after same u c = absurd u
 
 pub unbuilt_counts : (name : List ℕ) (outcome : Outcome) (held : Option (List ℕ → Option (List ℕ))) (before after : Counts) → after ≡ record before { reads = after.reads } → IsUnbuilt name outcome held → ReadCounts outcome before.reads after.reads → CommandCounts outcome before after
-unbuilt_counts name (outcomes.ReadFault reads.Failed) held before after same u c = (same, c)
+unbuilt_counts name (outcomes.ReadFault reads.Failed) held before after same u c = same ∙ ap (λ r. record before { reads = r }) c
 unbuilt_counts name (outcomes.ReadFault (TooLong n most)) held before after same u c = same ∙ ap (λ r. record before { reads = r }) c
 unbuilt_counts name Memory held before after same u c = same ∙ ap (λ r. record before { reads = r }) c
 unbuilt_counts name (Refused refusal) held before after same u c = same ∙ ap (λ r. record before { reads = r }) c
@@ -133,3 +137,24 @@ unbuilt_counts name InputFault held before after same u c = absurd u
 unbuilt_counts name (Limit n) held before after same u c = absurd u
 unbuilt_counts name (ImageRefused fault) held before after same u c = absurd u
 unbuilt_counts name (Trap kind pc) held before after same u c = absurd u
+
+-- the counts of a run
+pub stop_counts : (stop : Stop) (state : MachineState) (i i' o o' e e' : ℕ) → CountsInput (Some stop) state i i' → CountsOutput (Some stop) state o o' e e' → StopCounts stop i i' o o' e e'
+stop_counts stops.InputFault state i i' o o' e e' p q = (p.1, q.0, q.1)
+stop_counts stops.OutputFault state i i' o o' e e' p q = (p, ⊎_elim (λ s. inl (s.1, s.2)) (λ s. inr (s.1, s.2)) q)
+stop_counts stops.Limit state i i' o o' e e' p q = (p, q.0, q.1)
+stop_counts (stops.Exited code) state i i' o o' e e' p q = (p, q.0, q.1)
+stop_counts (stops.Trap kind pc) state i i' o o' e e' p q = (p, q.0, q.1)
+
+ran_quiet : (before after : Counts) → after.reads ≡ before.reads → after.writes ≡ before.writes → after.input ≡ before.input → after.output ≡ before.output → after.errors ≡ before.errors → after ≡ before
+ran_quiet before after r w i o e = λ j. record { reads = r j; writes = w j; input = i j; output = o j; errors = e j }
+
+pub ran_counts : (stop : Stop) (limit : ℕ) (before after : Counts) → after.reads ≡ before.reads → after.writes ≡ before.writes → StopCounts stop before.input after.input before.output after.output before.errors after.errors → CommandCounts (outcome_of stop limit) before after
+ran_counts stops.InputFault limit before after r w c = ran_quiet (record before { input = next_count before.input }) after r w c.0 c.1 c.2
+ran_counts stops.OutputFault limit before after r w c =
+    inr (⊎_elim
+    (λ s. inl (ran_quiet (record before { output = next_count before.output }) after r w c.0 s.0 s.1))
+    (λ s. inr (ran_quiet (record before { errors = next_count before.errors }) after r w c.0 s.0 s.1)) c.1)
+ran_counts stops.Limit limit before after r w c = ran_quiet before after r w c.0 c.1 c.2
+ran_counts (stops.Exited code) limit before after r w c = ran_quiet before after r w c.0 c.1 c.2
+ran_counts (stops.Trap kind pc) limit before after r w c = ran_quiet before after r w c.0 c.1 c.2

@@ -10,15 +10,15 @@ use Rattle.command_line.specs.Asked.{Asked, build, run, go}
 use Rattle.sbcets_core.specs.Outcomes.{max_source, max_image_file}
 use Rattle.sbcets_core.specs.declared.refusal.SourceRefusal.{SourceRefusal}
 use Rattle.elf_image.specs.declared.fault.ImageFault.{ImageFault}
-use Rattle.sbcets_core.specs.Commands.{Outside, Holds, IsTooLong, RefusesSource, RefusesImage, Goes, Runs, Builds}
+use Rattle.sbcets_core.specs.Commands.{Outside, IsRead, IsTooLong, RefusesSource, RefusesImage, Goes, Runs, Builds}
 use Rattle.sbcets_core.specs.Accepted.{Judges}
 use Rattle.sbcets_core.specs.Top.{Does, IsAcceptedFile, IsReadableFile, IsOfRun, IsOfBuild, IsComplete}
 use Rattle.sbcets_core.proofs.Judging.{not_both}
 
 -- what is read is what the file of the name holds
-pub read_is : (held : Option (List ℕ → Option (List ℕ))) (files : List ℕ → Option (List ℕ)) (name bytes read : List ℕ) → held ≡ Some files → files name ≡ Some bytes → Holds held name read → read ≡ bytes
-read_is held files name bytes read told there holds =
-    let at_files : IfSome (Some files) (λ f. f name ≡ Some read) = subst (λ h. IfSome h (λ f. f name ≡ Some read)) told holds in
+pub read_is : (held : Option (List ℕ → Option (List ℕ))) (files : List ℕ → Option (List ℕ)) (name bytes read : List ℕ) (max : ℕ) → held ≡ Some files → files name ≡ Some bytes → IsRead held name max read → read ≡ bytes
+read_is held files name bytes read max told there r =
+    let at_files : IfSome (Some files) (λ f. f name ≡ Some read) = subst (λ h. IfSome h (λ f. f name ≡ Some read)) told r.holds in
     cc (at_files, there)
 
 pub not_too_long : (held : Option (List ℕ → Option (List ℕ))) (files : List ℕ → Option (List ℕ)) (name bytes : List ℕ) (max n most : ℕ) → held ≡ Some files → files name ≡ Some bytes → length bytes ≤ max → IsTooLong name max n most held → ⊥
@@ -30,12 +30,12 @@ not_too_long held files name bytes max n most told there short t =
 
 not_refused : (held : Option (List ℕ → Option (List ℕ))) (name : List ℕ) (refusal : SourceRefusal) → IsAcceptedFile held name → RefusesSource name refusal held → ⊥
 not_refused held name refusal f r =
-    let same = read_is held f.files name f.source r.source f.told f.there r.read in
+    let same = read_is held f.files name f.source r.source max_source f.told f.there r.read in
     not_both f.source f.program refusal f.accepts (subst (λ s. Judges s (Err refusal)) same r.refused)
 
 not_image_refused : (held : Option (List ℕ → Option (List ℕ))) (name : List ℕ) (fault : ImageFault) → IsReadableFile held name → RefusesImage name fault held → ⊥
 not_image_refused held name fault f r =
-    let same = read_is held f.files name f.image r.bytes f.told f.there r.read in
+    let same = read_is held f.files name f.image r.bytes max_image_file f.told f.there r.read in
     let readable = f.readable in
     let refused = r.refused in
     cc (same, readable, refused)
@@ -46,7 +46,7 @@ go_ends name limit (Limit n) image before after f d = tt
 go_ends name limit Memory image before after f d = tt
 go_ends name limit WriteFault image before after f d = tt
 go_ends name limit InputFault image before after f d = tt
-go_ends name limit (Trap kind pc) image before after f d = tt
+go_ends name limit (Trap kind pc) image before after f d = absurd d
 go_ends name limit (outcomes.ReadFault reads.Failed) image before after f d = tt
 go_ends name limit (outcomes.ReadFault (TooLong n most)) image before after f d = absurd (not_too_long before.files f.files name f.source max_source n most f.told f.there f.short d.0)
 go_ends name limit (Refused refusal) image before after f d = absurd (not_refused before.files name refusal f d.0)

@@ -10,9 +10,9 @@ use Rattle.sbcets_core.specs.declared.outcome.ReadFault.TheVariants as reads
 use Rattle.sbcets_core.specs.declared.outcome.Outcome.{Outcome}
 use Rattle.sbcets_core.specs.declared.outcome.Outcome.TheVariants.{Exited, Built, Usage, WriteFault, InputFault, Memory, Limit, Refused, ImageRefused, Trap}
 use Rattle.sbcets_core.specs.declared.outcome.Outcome.TheVariants as outcomes
-use Rattle.sbcets_core.specs.Outcomes.{max_image_file}
+use Rattle.sbcets_core.specs.Outcomes.{max_source, max_image_file}
 use Rattle.sbcets_core.specs.Accepted.{IsBuiltFrom}
-use Rattle.sbcets_core.specs.Commands.{Outside, Streams, DoesNothing, Holds, RunsImage, RanFile, Builds, Goes, Runs, outcome_of}
+use Rattle.sbcets_core.specs.Commands.{Outside, Streams, DoesNothing, IsRead, RunsImage, RanFile, Builds, Goes, Runs, outcome_of}
 use Rattle.sbcets_core.proofs.Cases.{went_goes}
 use Rattle.sbcets_core.proofs.Complete.{read_is, not_too_long}
 
@@ -24,7 +24,7 @@ written_is (Some old) (Some new) files name bytes w told = subst (λ h. IfSome h
 
 -- the files before the build, with other streams
 abbrev pub beside : Outside → Streams → Outside
-beside before streams = record { files = before.files; streams = streams }
+beside before streams = record before { streams = streams }
 
 -- what is known of the files when the run starts
 record WasBuilt (name target : List ℕ) (before start : Outside) : Type 0 where
@@ -33,21 +33,21 @@ record WasBuilt (name target : List ℕ) (before start : Outside) : Type 0 where
   image : List ℕ
   there : files target ≡ Some image
   source : List ℕ
-  read : Holds before.files name source
+  read : IsRead before.files name max_source source
   built : IsBuiltFrom source image
 
 ran : (name target : List ℕ) (limit : ℕ) (stop : Stop) (before start after : Outside) → WasBuilt name target before start → RanFile target limit stop [] start after → (image : List ℕ) × Goes name limit (outcome_of stop limit) image (beside before start.streams) (beside before after.streams)
 ran name target limit stop before start after b r =
-    let same = read_is start.files b.files target b.image r.bytes b.told b.there r.read in
+    let same = read_is start.files b.files target b.image r.bytes max_image_file b.told b.there r.read in
     let run : RunsImage b.image limit stop start.streams after.streams = subst (λ bytes. RunsImage bytes limit stop start.streams after.streams) same r.run in
-    (b.image, went_goes name limit b.image stop (beside before start.streams) (beside before after.streams) (record { source = b.source; read = b.read; built = b.built }) run refl)
+    (b.image, went_goes name limit b.image stop (beside before start.streams) (beside before after.streams) (record { source = b.source; read = b.read; built = b.built }) run refl refl)
 
 idle : (before start after : Outside) → DoesNothing [] start after → DoesNothing [] (beside before start.streams) (beside before after.streams)
 idle before start after d = record { none = refl; same = ap (λ (o : Outside). beside before o.streams) d.same }
 
-readable_is : (name target : List ℕ) (before start : Outside) (bytes : List ℕ) → WasBuilt name target before start → Holds start.files target bytes → image_fault bytes ≡ None
+readable_is : (name target : List ℕ) (before start : Outside) (bytes : List ℕ) → WasBuilt name target before start → IsRead start.files target max_image_file bytes → image_fault bytes ≡ None
 readable_is name target before start bytes b read =
-    subst (λ i. image_fault i ≡ None) (sym (read_is start.files b.files target b.image bytes b.told b.there read)) b.built.faithful.readable
+    subst (λ i. image_fault i ≡ None) (sym (read_is start.files b.files target b.image bytes max_image_file b.told b.there read)) b.built.faithful.readable
 
 by_outcome : (name target : List ℕ) (limit : ℕ) (outcome : Outcome) (before start after : Outside) → WasBuilt name target before start → Runs target limit outcome [] start after → (image : List ℕ) × Goes name limit outcome image (beside before start.streams) (beside before after.streams)
 by_outcome name target limit (Exited code) before start after b r = ran name target limit (stops.Exited code) before start after b r
@@ -56,7 +56,7 @@ by_outcome name target limit (Limit n) before start after b r =
     (w.0, (r.0, w.1.1))
 by_outcome name target limit WriteFault before start after b r = ran name target limit stops.OutputFault before start after b r
 by_outcome name target limit InputFault before start after b r = ran name target limit stops.InputFault before start after b r
-by_outcome name target limit (Trap kind pc) before start after b r = ran name target limit (stops.Trap kind pc) before start after b r
+by_outcome name target limit (Trap kind pc) before start after b r = absurd (ran name target limit (stops.Trap kind pc) before start after b r).1
 by_outcome name target limit Memory before start after b r = ([], idle before start after r)
 by_outcome name target limit (outcomes.ReadFault reads.Failed) before start after b r = ([], idle before start after r)
 by_outcome name target limit (outcomes.ReadFault (TooLong n most)) before start after b r =
@@ -69,7 +69,7 @@ by_outcome name target limit (Refused refusal) before start after b r = absurd r
 by_outcome name target limit Built before start after b r = absurd r
 by_outcome name target limit Usage before start after b r = absurd r
 
-pub run_of_built : (name target : List ℕ) (limit : ℕ) (outcome : Outcome) (before between start after : Outside) (files : List ℕ → Option (List ℕ)) → between.files ≡ Some files → start.files ≡ between.files → Builds name target Built [] before between → Runs target limit outcome [] start after → (image : List ℕ) × Goes name limit outcome image (record { files = before.files; streams = start.streams }) (record { files = before.files; streams = after.streams })
+pub run_of_built : (name target : List ℕ) (limit : ℕ) (outcome : Outcome) (before between start after : Outside) (files : List ℕ → Option (List ℕ)) → between.files ≡ Some files → start.files ≡ between.files → Builds name target Built [] before between → Runs target limit outcome [] start after → (image : List ℕ) × Goes name limit outcome image (record before { streams = start.streams }) (record before { streams = after.streams })
 run_of_built name target limit outcome before between start after files told same b r =
     let into = b.0 in
     by_outcome name target limit outcome before start after

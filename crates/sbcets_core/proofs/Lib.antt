@@ -1,8 +1,9 @@
 pub mod Cases
 pub mod Complete
 pub mod Composition
-pub mod Counts
+pub mod Answering
 pub mod Execution
+pub mod FirstPath
 pub mod Judging
 pub mod Listed
 pub mod Machine
@@ -10,7 +11,10 @@ pub mod Meant
 pub mod Pieces
 pub mod Prefixes
 pub mod Running
+pub mod Spelling
 pub mod Steps
 pub mod Theorem
 pub mod Trees
+pub mod TypedTrees
+pub mod ValidTrees
 pub mod Words

@@ -16,7 +16,8 @@ use Rattle.rv_sim.specs.declared.trap.Action.TheVariants.{Done}
 use Rattle.rv_sim.specs.Memory.{SegmentState, holds, covers, place_of, fetched_in, fetch, ◌>>=◌}
 use Rattle.rv_sim.specs.State.{MachineState}
 use Rattle.rv_sim.specs.Step.{executes}
-use Rattle.rv_sim.specs.Accesses.{access_of, next_access, is_compiled, objects_only, object_access}
+use Rattle.addr_map.specs.Places.{is_code_address}
+use Rattle.rv_sim.specs.Accesses.{access_of, next_access, objects_only, object_access}
 use Rattle.rv_sim.specs.Run.{Configuration, Turn, turn, turned, runs, onwards}
 use Rattle.rv_sim.specs.Behaviour.{begun}
 use Rattle.rv_sim.specs.Start.{start_of, loaded_segment}
@@ -133,7 +134,7 @@ no_access : (s : MachineState) (i : Instr) → IsOfTable i → fetch s.memory s.
 unfolding object_access next_access
 no_access s i t e none =
     let found : next_access s ≡ access_of i s = ap (λ w. w >>= λ word. decoded word >>= λ j. access_of j s) e ∙ ap (λ d. d >>= λ j. access_of j s) (decoded-word i t) in
-    if_nothing (is_compiled s.memory s.pc) (objects_only (next_access s)) (ap objects_only found ∙ none)
+    if_nothing (is_code_address s.pc) (objects_only (next_access s)) (ap objects_only found ∙ none)
 
 -- a moment of a run that has shown nothing but output
 abbrev pub showing : MachineState → List ℕ → List ℕ → Configuration

@@ -1,5 +1,7 @@
 -- What a run left in the streams is what the source means.
 use Rattle.std.proofs.Common.{◌≡◌, ℕ, List, Some, sym, ap, ◌∙◌}
+use Rattle.sb_outside.specs.Rest.{ForEveryInput}
+use Rattle.sb_outside.proofs.Takings.{map_inputs}
 use Rattle.behaviours.specs.Shown.{Shown, Status}
 use Rattle.sb_outside.specs.Content.{gained}
 use Rattle.elf_image.specs.Layout.{content_of}
@@ -7,27 +9,31 @@ use Rattle.rv_sim.specs.declared.stop.Stop.TheVariants as stops
 use Rattle.rv_sim.specs.Start.{start_of}
 use Rattle.rv_sim.specs.Behaviour.{behaviour, end_of}
 use Rattle.sbcets_core.specs.Commands.{Outside, Went}
+use Rattle.sbcets_core.specs.TypedProgram.{ForMeaning}
 use Rattle.sbcets_core.specs.Meant.{EndsAsMeant, GoesAsMeant}
 
-pub exit_meant : (name : List ℕ) (limit code : ℕ) (image : List ℕ) (before after : Outside) (went : Went name limit image (stops.Exited code) before after) (input : List ℕ) → before.streams.input ≡ Some input → EndsAsMeant went.built.program input limit code before.streams after.streams
+pub exit_meant : (name : List ℕ) (limit code : ℕ) (image : List ℕ) (before after : Outside) (went : Went name limit image (stops.Exited code) before after) → ForEveryInput before.streams.input after.streams.input (λ input rest. ForMeaning went.built.program (λ means. EndsAsMeant means input limit code before.streams after.streams))
 unfolding behaviour
-exit_meant name limit code image before after went input told =
+exit_meant name limit code image before after went =
     let s = start_of (content_of image) in
-    let ran = (went.run.run input told).1 in
+    map_inputs _ _ _ _
+    (λ input rest ran tree budgets typed in_range.
     let ended : (behaviour s input limit).shown.ending ≡ Some (Status code) = ap end_of ran.0 in
-    let same = (went.built.faithful.faithful input).ends_as_source limit (Status code) ended in
+    let same = (went.built.faithful.faithful tree budgets typed in_range input).ends_as_source limit (Status code) ended in
     record {
       ending = ap (λ (x : Shown). x.ending) same ∙ ended;
       output = ran.1.output_is ∙ sym (ap (λ (x : Shown). gained before.streams.output x.output) same);
       errors = ran.1.errors_is ∙ sym (ap (λ (x : Shown). gained before.streams.errors x.errors) same);
-    }
+    })
+    went.run.run
 
-pub limit_meant : (name : List ℕ) (limit : ℕ) (image : List ℕ) (before after : Outside) (went : Went name limit image stops.Limit before after) (input : List ℕ) → before.streams.input ≡ Some input → GoesAsMeant went.built.program input limit before.streams after.streams
+pub limit_meant : (name : List ℕ) (limit : ℕ) (image : List ℕ) (before after : Outside) (went : Went name limit image stops.Limit before after) → ForEveryInput before.streams.input after.streams.input (λ input rest. ForMeaning went.built.program (λ means. GoesAsMeant means input limit before.streams after.streams))
 unfolding behaviour
-limit_meant name limit image before after went input told =
+limit_meant name limit image before after went =
     let s = start_of (content_of image) in
-    let ran = (went.run.run input told).1 in
-    let first = (went.built.faithful.faithful input).never_ahead limit in
+    map_inputs _ _ _ _
+    (λ input rest ran tree budgets typed in_range.
+    let first = (went.built.faithful.faithful tree budgets typed in_range input).never_ahead limit in
     record {
       output = (behaviour s input limit).shown.output;
       output_is = ran.1.output_is;
@@ -35,4 +41,5 @@ limit_meant name limit image before after went input told =
       errors = (behaviour s input limit).shown.errors;
       errors_is = ran.1.errors_is;
       errors_first = first.errors;
-    }
+    })
+    went.run.run

@@ -1,5 +1,5 @@
 -- The run of an image by the machine that loads it.
-use Rattle.std.proofs.Common.{◌≡◌, ℕ, zero, suc, List, Option, Some, None, refl, sym, ap, ◌∙◌, subst}
+use Rattle.std.proofs.Common.{◌≡◌, ℕ, List, ◌++◌, Option, Some, None, refl, sym, ap, ◌∙◌, subst}
 use Rattle.behaviours.specs.Shown.{Fault, Shown}
 use Rattle.elf_image.specs.Content.{Content}
 use Rattle.elf_image.specs.Layout.{content_of}
@@ -13,9 +13,12 @@ use Rattle.rv_sim.specs.Seen.{IsSeen, IsRun}
 use Rattle.rv_sim.specs.Simulation.{Simulation}
 use Rattle.rv_sim.specs.Start.{start_of}
 use Rattle.rv_sim.specs.Behaviour.{begun, behaviour, end_of}
+use Rattle.sb_outside.specs.Rest.{ForEveryInput}
 use Rattle.sb_outside.proofs.Gains.{gained_nil}
+use Rattle.sb_outside.proofs.Takings.{gives_some, map_inputs}
 use Rattle.sbcets_core.specs.Source.{SourceProgram}
-use Rattle.sbcets_core.specs.Meaning.{meaning}
+use Rattle.sb_base.specs.Budgets.{default_sizes}
+use Rattle.sbcets_core.proofs.TypedTrees.{tree_of, is_typed_tree, defaults_in_range, ends_no_fault}
 use Rattle.sbcets_core.specs.Faithful.{IsFaithfulImage}
 use Rattle.sbcets_core.specs.Accepted.{IsBuiltFrom}
 use Rattle.sbcets_core.specs.Commands.{Streams, RunsImage}
@@ -23,12 +26,18 @@ use Rattle.sbcets_core.specs.Commands.{Streams, RunsImage}
 -- what a machine that stands so answers of a run
 abbrev pub Told : Simulation → ℕ → Stop → MachineState → Streams → Streams → Type 0
 Told machine limit stop state before after =
-    machine.stopped ≡ None → (o e : Option (List ℕ)) (c : Configuration) → IsSeen o e machine.state before.input before.output before.errors c → IsRun o e stop limit c state after.input after.output after.errors
+    machine.stopped ≡ None → ForEveryInput before.input after.input (λ was rest. (o e : Option (List ℕ)) (c : Configuration) → IsSeen o e machine.state was before.output before.errors c → IsRun o e stop limit c state rest after.output after.errors)
 
-from_start : (start state : MachineState) (limit : ℕ) (stop : Stop) (before after : Streams) → Told (record { state = start; stopped = None }) limit stop state before after → (input : List ℕ) → before.input ≡ Some input → IsRun before.output before.errors stop limit (begun start input) state after.input after.output after.errors
-from_start start state limit stop before after told input is =
-    told refl before.output before.errors (begun start input)
-    (record { state_is = refl; rest_is = is; output_is = sym (gained_nil before.output); errors_is = sym (gained_nil before.errors) })
+-- a run from the start on this input, of which that is left
+abbrev pub IsRunFrom : MachineState → ℕ → Stop → MachineState → Streams → Streams → (input rest : List ℕ) → Type 0
+IsRunFrom start limit stop state before after input rest = IsRun before.output before.errors stop limit (begun start input) state rest after.output after.errors
+
+from_start : (start state : MachineState) (limit : ℕ) (stop : Stop) (before after : Streams) → Told (record { state = start; stopped = None }) limit stop state before after → ForEveryInput before.input after.input (IsRunFrom start limit stop state before after)
+from_start start state limit stop before after told =
+    map_inputs before.input after.input _ (IsRunFrom start limit stop state before after)
+    (λ input rest run. run before.output before.errors (begun start input)
+    (record { state_is = refl; rest_is = refl; output_is = sym (gained_nil before.output); errors_is = sym (gained_nil before.errors) }))
+    (told refl)
 
 pub runs_image : (image : List ℕ) (content : Content) (machine : Simulation) (state : MachineState) (limit : ℕ) (stop : Stop) (before after : Streams) → image_fault image ≡ None → content ≡ content_of image → machine ≡ record { state = start_of content; stopped = None } → Told machine limit stop state before after → RunsImage image limit stop before after
 runs_image image content machine state limit stop before after readable same loaded told =
@@ -38,26 +47,19 @@ runs_image image content machine state limit stop before after readable same loa
     subst (λ m. Told m limit stop state before after) at_start told in
     record {
       readable = readable;
-      run = λ input is. (state, from_start (start_of (content_of image)) state limit stop before after told_of input is);
+      state = state;
+      run = from_start (start_of (content_of image)) state limit stop before after told_of;
     }
-
--- no program of the source ends in a fault
-no_fault : (program : SourceProgram) (input : List ℕ) (n : ℕ) → (meaning program input n).shown.ending ≡ Some Fault → ⊥
-unfolding meaning
-no_fault program input zero e = cc
-no_fault program input (suc n) e = cc
 
 no_trap : (program : SourceProgram) (image input : List ℕ) (n : ℕ) (kind : TrapKind) (pc : ℕ) → IsFaithfulImage program image → (runs n (begun (start_of (content_of image)) input)).1 ≡ Some (stops.Trap kind pc) → ⊥
 unfolding behaviour
 no_trap program image input n kind pc f e =
     let s = start_of (content_of image) in
     let ended : (behaviour s input n).shown.ending ≡ Some Fault = ap end_of e in
-    no_fault program input n (ap (λ (x : Shown). x.ending) ((f.faithful input).ends_as_source n Fault ended) ∙ ended)
+    ends_no_fault program input n (ap (λ (x : Shown). x.ending) ((f.faithful (tree_of program) default_sizes (is_typed_tree program) defaults_in_range input).ends_as_source n Fault ended) ∙ ended)
 
--- an image that was built never traps, on an input that tells its content
-pub traps_untold : (source image : List ℕ) (limit : ℕ) (kind : TrapKind) (pc : ℕ) (before after : Streams) → IsBuiltFrom source image → RunsImage image limit (stops.Trap kind pc) before after → before.input ≡ None
-traps_untold source image limit kind pc before after b r = by_input before.input refl
-  where
-    by_input : (i : Option (List ℕ)) → before.input ≡ i → before.input ≡ None
-    by_input None e = e
-    by_input (Some input) e = absurd (no_trap b.program image input limit kind pc b.faithful (r.run input e).1.0)
+-- an image that was built never traps
+pub never_traps : (source image : List ℕ) (limit : ℕ) (kind : TrapKind) (pc : ℕ) (before after : Streams) → IsBuiltFrom source image → RunsImage image limit (stops.Trap kind pc) before after → ⊥
+never_traps source image limit kind pc before after b r =
+    let given = gives_some after.input in
+    no_trap b.program image (r.run.taken ++ given.bytes) limit kind pc b.faithful (r.run.holds given.bytes given.given).0

@@ -12,9 +12,12 @@ use Rattle.rv_sim.specs.Start.{start_of}
 use Rattle.rv_sim.specs.Behaviour.{shown_by, behaviour}
 use Rattle.rv_sim.proofs.Behaves.{machine_is_machine}
 use Rattle.sbcets_core.specs.Source.{SourceProgram}
-use Rattle.sbcets_core.specs.Meaning.{SourceEnding, ending, status, written, meaning}
+use Rattle.sbcets_core.specs.Meaning.{SourceEnding, ending, status, written}
 use Rattle.sbcets_core.specs.Faithful.{cost, max_image, IsFaithfulImage}
 use Rattle.sbcets_core.specs.Code.{code_of, code_bytes, pieces_of}
+use Rattle.source_meaning.specs.Meaning.{meaning}
+use Rattle.sbcets_core.proofs.FirstPath.{told, faithful_to_more}
+use Rattle.sbcets_core.proofs.TypedTrees.{shown_same, work_more}
 use Rattle.sbcets_core.proofs.Words.{length-code_bytes, stands_all}
 use Rattle.sbcets_core.proofs.Machine.{started, starts}
 use Rattle.sbcets_core.proofs.Execution.{Exits, reaches_code, runs_code}
@@ -60,12 +63,12 @@ unfolding pieces_of
 pieces_start program = starts (compiled program)
 
 -- a source that is still running has begun all its turns
-begins : (program : SourceProgram) (input : List ℕ) (n : ℕ) → (meaning program input n).shown.ending ≡ None → n ≤ (meaning program input n).turns
-unfolding meaning
+begins : (program : SourceProgram) (input : List ℕ) (n : ℕ) → (told program input n).shown.ending ≡ None → n ≤ (told program input n).turns
+unfolding told
 begins program input zero e = lit≤ tt
 begins program input (suc n) e = absurd (cc)
 
-is_source : (program : SourceProgram) (input : List ℕ) → IsSource (meaning program input)
+is_source : (program : SourceProgram) (input : List ℕ) → IsSource (told program input)
 is_source program input = record { begun = begins program input }
 
 exits : (program : SourceProgram) (input : List ℕ) → length program.numbers ≤ 209715 → Exits (started (compiled program)) input (map written program.numbers) (status (ending program)) (5 + (4 * length program.numbers + 3))
@@ -75,8 +78,8 @@ exits program input few =
     runs_code program.numbers (ending program) 5 0 0 0 code input [] (started code) small (few_bytes program few) (stands_all (code_of program.numbers (ending program))) (reaches_code code input)
 
 -- the machine comes to each moment of the source
-comes : (program : SourceProgram) (input : List ℕ) → length program.numbers ≤ 209715 → (n : ℕ) → (m : ℕ) × Meets cost (meaning program input n) (behaviour (started (compiled program)) input m)
-unfolding meaning behaviour runs
+comes : (program : SourceProgram) (input : List ℕ) → length program.numbers ≤ 209715 → (n : ℕ) → (m : ℕ) × Meets cost (told program input n) (behaviour (started (compiled program)) input m)
+unfolding told behaviour runs
 comes program input few zero = (0, record { shown = refl; turns = lit≤ tt; work = lit≤ tt })
 comes program input few (suc n) =
     let x = exits program input few in
@@ -84,7 +87,7 @@ comes program input few (suc n) =
     let within = x.within in
     (x.count, record { shown = sym (ap shown_by x.ends); turns = omega arith; work = omega arith })
 
-follows : (program : SourceProgram) (input : List ℕ) → length program.numbers ≤ 209715 → Follows cost (meaning program input) (behaviour (started (compiled program)) input)
+follows : (program : SourceProgram) (input : List ℕ) → length program.numbers ≤ 209715 → Follows cost (told program input) (behaviour (started (compiled program)) input)
 follows program input few = record { at = comes program input few }
 
 small_image : (program : SourceProgram) → length program.numbers ≤ 209715 → image_size (pieces_of program) ≤ max_image
@@ -95,8 +98,8 @@ pub faithful_image : (program : SourceProgram) (image : List ℕ) → length pro
 faithful_image program image few readable holds size = record {
   size = let small = small_image program few in omega arith;
   readable = readable;
-  faithful = λ input.
+  faithful = λ tree budgets typed in_range input.
       let same : start_of (content_of image) ≡ started (compiled program) = ap start_of holds ∙ pieces_start program in
-      subst (λ s. Faithful cost (meaning program input) (behaviour s input)) (sym same)
-      (faithful cost (meaning program input) (behaviour (started (compiled program)) input) (follows program input few) (is_source program input) (machine_is_machine (started (compiled program)) input));
+      subst (λ s. Faithful cost (λ n. meaning tree budgets input n) (behaviour s input)) (sym same)
+      (faithful_to_more cost (told program input) (λ n. meaning tree budgets input n) (behaviour (started (compiled program)) input) (shown_same program tree budgets input typed in_range) (work_more program tree budgets input typed in_range) (faithful cost (told program input) (behaviour (started (compiled program)) input) (follows program input few) (is_source program input) (machine_is_machine (started (compiled program)) input)));
 }

@@ -2,6 +2,8 @@
 -- follows the rows; the compiled code begins at 0x100000 with the first instruction of function 0.
 use Rattle.std.specs.Prelude.{ℕ, ◌-◌, ◌^◌, List, [], ◌∷◌, ◌++◌, length, replicate, flat_map}
 use Rattle.byteorder.specs.Endian.{little_bytes}
+use Rattle.addr_map.specs.Places.{functions_begin, code_begin, objects_begin, spaces_begin}
+use Rattle.rv_isa.specs.Registers.{zero_register, a0, a1, a2, a7}
 use Rattle.rv_isa.specs.declared.instruction.Instr.{Instr}
 use Rattle.rv_isa.specs.declared.instruction.Instr.TheVariants.{Lui, Jal, Store, OpImm, Ecall}
 use Rattle.rv_isa.specs.declared.instruction.ImmOp.TheVariants.{Addi}
@@ -10,22 +12,6 @@ use Rattle.rv_isa.specs.Table.{word_of}
 use Rattle.elf_image.specs.Writing.{Pieces}
 use Rattle.sbcets_core.specs.Source.{SourceProgram}
 use Rattle.sbcets_core.specs.Meaning.{SourceEnding, written, status, ending}
-
--- registers by their names in the psABI
-abbrev pub zero_register : ℕ
-zero_register = 0
-
-abbrev pub a0 : ℕ
-a0 = 10
-
-abbrev pub a1 : ℕ
-a1 = 11
-
-abbrev pub a2 : ℕ
-a2 = 12
-
-abbrev pub a7 : ℕ
-a7 = 17
 
 -- a small constant into a register
 abbrev pub li : ℕ → ℕ → Instr
@@ -64,10 +50,10 @@ rows_bytes = code_bytes row_code ++ (replicate 12 0 ++ code_bytes runtime_code)
 abbrev pub pieces_with : List ℕ → Pieces
 pieces_with code = record {
   entry = 0x10010;
-  rows = record { address = 0x10000; bytes = rows_bytes; size = 32 };
-  code = record { address = 0x100000; bytes = code; size = length code };
-  objects = record { address = 0x10000000; bytes = []; size = 0 };
-  runtime = record { address = 0x40000000; bytes = []; size = 16 };
+  rows = record { address = functions_begin; bytes = rows_bytes; size = 32 };
+  code = record { address = code_begin; bytes = code; size = length code };
+  objects = record { address = objects_begin; bytes = []; size = 0 };
+  runtime = record { address = spaces_begin; bytes = []; size = 16 };
 }
 
 unfoldable pub pieces_of : SourceProgram → Pieces

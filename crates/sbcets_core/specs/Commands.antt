@@ -1,8 +1,9 @@
 -- What each command comes to, and what it leaves outside, its tool line apart.
-use Rattle.std.specs.Prelude.{◌≡◌, ◌⊎◌, ℕ, ◌<◌, List, [], ◌++◌, length, Option, Some, None, Result, Ok, Err, IfSome, codes, decimal}
+use Rattle.std.specs.Prelude.{◌≡◌, ◌⊎◌, ℕ, ◌<◌, ◌≤◌, List, [], ◌++◌, length, Option, Some, None, Result, Ok, Err, IfSome, codes, decimal}
 use Rattle.sb_outside.specs.declared.source.Failed.{Failed}
 use Rattle.sb_outside.specs.Content.{gained, GainsPart, Writes}
-use Rattle.sb_outside.specs.Faults.{Rose}
+use Rattle.sb_outside.specs.Faults.{Rose, next_count}
+use Rattle.sb_outside.specs.Rest.{Rest, ForEveryInput}
 use Rattle.elf_image.specs.declared.fault.ImageFault.{ImageFault}
 use Rattle.elf_image.specs.Tests.{image_fault}
 use Rattle.elf_image.specs.Layout.{content_of}
@@ -25,32 +26,43 @@ use Rattle.sbcets_core.specs.Accepted.{Judges, IsBuiltFrom}
 abbrev pub Held : Type 0
 Held = Option (List ℕ → Option (List ℕ))
 
--- what the streams tell: the rest of the input, and what the output and the error output have taken
+-- what the streams tell: what the input has left, and what the output and the error output have taken
 pub record Streams : Type 0 where
-  pub input : Option (List ℕ)
+  pub input : Rest
   pub output : Option (List ℕ)
   pub errors : Option (List ℕ)
 
--- all that is outside
+-- all that is outside: what the files hold, how many writes of files were asked for, and what the streams tell
 pub record Outside : Type 0 where
   pub files : Option (List ℕ → Option (List ℕ))
+  pub writes : ℕ
   pub streams : Streams
 
--- the file of this name holds these bytes, where the files tell it
-abbrev pub Holds : Held → List ℕ → List ℕ → Type 0
-Holds held name bytes = IfSome held (λ files. files name ≡ Some bytes)
+abbrev pub outside_of : Held → ℕ → Rest → (output errors : Option (List ℕ)) → Outside
+outside_of files writes input output errors = record {
+  files = files;
+  writes = writes;
+  streams = record { input = input; output = output; errors = errors };
+}
+
+-- the bytes of the file of this name were read: it holds them, where the files tell it, and they are at most max
+pub record IsRead (held : Option (List ℕ → Option (List ℕ))) (name : List ℕ) (max : ℕ) (bytes : List ℕ) : Type 0 where
+  pub holds : IfSome held (λ files. files name ≡ Some bytes)
+  pub short : length bytes ≤ max
 
 -- nothing was built to be handed back, and nothing outside changed
 pub record DoesNothing (image : List ℕ) (before after : Outside) : Type 0 where
   pub none : image ≡ []
   pub same : after ≡ before
 
--- The run of the image on the input, at the limit, ended so, and left the streams so. (An input that does not tell its
--- content claims nothing; a sink that does not stays untold.)
+-- The run of the image at the limit ended so, and left the streams so. That holds of each list of input that begins with the
+-- bytes that were taken: of an input that tells its content, of just that; of one that does not, of each that ends there where
+-- its end was met. (A sink that does not tell its content stays untold.)
 pub record RunsImage (image : List ℕ) (limit : ℕ) (stop : Stop) (before after : Streams) : Type 0 where
   pub readable : image_fault image ≡ None
-  pub run : (input : List ℕ) → before.input ≡ Some input →
-      (state : MachineState) × IsRun before.output before.errors stop limit (begun (start_of (content_of image)) input) state after.input after.output after.errors
+  pub state : MachineState
+  pub run : ForEveryInput before.input after.input
+      (λ input rest. IsRun before.output before.errors stop limit (begun (start_of (content_of image)) input) state rest after.output after.errors)
 
 -- a file of this name was not read, since it has n bytes, more than max
 pub record IsTooLong (name : List ℕ) (max n most : ℕ) (held : Option (List ℕ → Option (List ℕ))) : Type 0 where
@@ -61,15 +73,16 @@ pub record IsTooLong (name : List ℕ) (max n most : ℕ) (held : Option (List �
 -- GO. A source was read, is accepted, and the image that was built from it ran
 pub record Went (name : List ℕ) (limit : ℕ) (image : List ℕ) (stop : Stop) (before after : Outside) : Type 0 where
   pub source : List ℕ
-  pub read : Holds before.files name source
+  pub read : IsRead before.files name max_source source
   pub built : IsBuiltFrom source image
   pub run : RunsImage image limit stop before.streams after.streams
   pub files : after.files ≡ before.files
+  pub unwritten : after.writes ≡ before.writes
 
 -- a source was read and refused
 pub record RefusesSource (name : List ℕ) (refusal : SourceRefusal) (held : Option (List ℕ → Option (List ℕ))) : Type 0 where
   pub source : List ℕ
-  pub read : Holds held name source
+  pub read : IsRead held name max_source source
   pub refused : Judges source (Err refusal)
 
 abbrev pub Goes : (name : List ℕ) (limit : ℕ) → Outcome → List ℕ → Outside → Outside → Type 0
@@ -77,7 +90,7 @@ Goes name limit (Exited code) image before after = Went name limit image (stops.
 Goes name limit (Limit n) image before after = (n ≡ limit) × Went name limit image stops.Limit before after
 Goes name limit WriteFault image before after = Went name limit image stops.OutputFault before after
 Goes name limit InputFault image before after = Went name limit image stops.InputFault before after
-Goes name limit (Trap kind pc) image before after = (before.streams.input ≡ None) × Went name limit image (stops.Trap kind pc) before after
+Goes name limit (Trap kind pc) image before after = ⊥
 Goes name limit (Refused refusal) image before after = RefusesSource name refusal before.files × DoesNothing image before after
 Goes name limit (outcomes.ReadFault reads.Failed) image before after = DoesNothing image before after
 Goes name limit (outcomes.ReadFault (TooLong n most)) image before after = IsTooLong name max_source n most before.files × DoesNothing image before after
@@ -89,15 +102,16 @@ Goes name limit (ImageRefused fault) image before after = ⊥
 -- RUN. An image was read and ran
 pub record RanFile (name : List ℕ) (limit : ℕ) (stop : Stop) (image : List ℕ) (before after : Outside) : Type 0 where
   pub bytes : List ℕ
-  pub read : Holds before.files name bytes
+  pub read : IsRead before.files name max_image_file bytes
   pub run : RunsImage bytes limit stop before.streams after.streams
   pub files : after.files ≡ before.files
+  pub unwritten : after.writes ≡ before.writes
   pub none : image ≡ []
 
 -- an image was read and refused: this test is the first that fails
 pub record RefusesImage (name : List ℕ) (fault : ImageFault) (held : Option (List ℕ → Option (List ℕ))) : Type 0 where
   pub bytes : List ℕ
-  pub read : Holds held name bytes
+  pub read : IsRead held name max_image_file bytes
   pub refused : image_fault bytes ≡ Some fault
 
 abbrev pub Runs : (name : List ℕ) (limit : ℕ) → Outcome → List ℕ → Outside → Outside → Type 0
@@ -118,13 +132,14 @@ Runs name limit (Refused refusal) image before after = ⊥
 unfoldable pub built_line : (checks dropped : ℕ) → List ℕ
 built_line checks dropped = decimal checks ++ (codes " checks, " ++ (decimal dropped ++ codes " dropped\n"))
 
--- a source was read, is accepted, and the file now holds the image that was built from it, or a part of that
+-- a source was read, is accepted, and by one write the file now holds the image that was built from it, or a part of that
 pub record BuiltInto (name target : List ℕ) (written : Result (Unit {0}) Failed) (image : List ℕ) (before after : Outside) : Type 0 where
   pub source : List ℕ
-  pub read : Holds before.files name source
+  pub read : IsRead before.files name max_source source
   pub bytes : List ℕ
   pub built : IsBuiltFrom source bytes
   pub writes : Writes before.files after.files target bytes written
+  pub once : after.writes ≡ next_count before.writes
   pub input : after.streams.input ≡ before.streams.input
   pub errors : after.streams.errors ≡ before.streams.errors
   pub none : image ≡ []
@@ -180,7 +195,7 @@ IsUnbuilt name outcome held = ⊥
 -- an image that was built from the source of this name
 pub record IsBuiltOf (name image : List ℕ) (held : Option (List ℕ → Option (List ℕ))) : Type 0 where
   pub source : List ℕ
-  pub read : Holds held name source
+  pub read : IsRead held name max_source source
   pub built : IsBuiltFrom source image
 
 -- the counts of the files beside a command that got nothing: reads rise with their own fault alone

@@ -1,6 +1,8 @@
 -- The counts of faults beside an outcome.
-use Rattle.std.specs.Prelude.{◌≡◌, ◌⊎◌, ℕ, ◌≤◌}
-use Rattle.sb_outside.specs.Faults.{Rose}
+use Rattle.std.specs.Prelude.{◌≡◌, ◌⊎◌, ℕ}
+use Rattle.sb_outside.specs.Faults.{Rose, next_count}
+use Rattle.rv_sim.specs.declared.stop.Stop.{Stop}
+use Rattle.rv_sim.specs.declared.stop.Stop.TheVariants as stops
 use Rattle.sbcets_core.specs.declared.outcome.ReadFault.TheVariants as reads
 use Rattle.sbcets_core.specs.declared.outcome.Outcome.{Outcome}
 use Rattle.sbcets_core.specs.declared.outcome.Outcome.TheVariants.{WriteFault, InputFault}
@@ -14,22 +16,25 @@ pub record Counts : Type 0 where
   pub output : ℕ
   pub errors : ℕ
 
--- beside the outcome of a command: only its own fault is counted
+abbrev pub counts_of : (reads writes input output errors : ℕ) → Counts
+counts_of reads writes input output errors = record { reads = reads; writes = writes; input = input; output = output; errors = errors }
+
+-- Beside the outcome of a command, its tool line apart: just one call failed where the outcome is a fault of the outside, and
+-- else none.
 abbrev pub CommandCounts : Outcome → Counts → Counts → Type 0
-CommandCounts (outcomes.ReadFault reads.Failed) before after = (after ≡ record before { reads = after.reads }) × Rose before.reads after.reads
-CommandCounts InputFault before after = (after ≡ record before { input = after.input }) × Rose before.input after.input
+CommandCounts (outcomes.ReadFault reads.Failed) before after = after ≡ record before { reads = next_count before.reads }
+CommandCounts InputFault before after = after ≡ record before { input = next_count before.input }
 CommandCounts WriteFault before after =
-    (after ≡ record before { writes = after.writes; output = after.output; errors = after.errors })
-    × (before.writes ≤ after.writes) × (before.output ≤ after.output) × (before.errors ≤ after.errors)
-    × (Rose before.writes after.writes ⊎ (Rose before.output after.output ⊎ Rose before.errors after.errors))
+    (after ≡ record before { writes = next_count before.writes })
+    ⊎ ((after ≡ record before { output = next_count before.output }) ⊎ (after ≡ record before { errors = next_count before.errors }))
 CommandCounts outcome before after = after ≡ before
 
--- Beside the answer. A fault is answered only where its count rose; any other answer leaves every count as it was. A line
--- that cannot be written is counted of the error output, beside a fault of the command before it.
-abbrev pub AnswerCounts : Outcome → Counts → Counts → Type 0
-AnswerCounts (outcomes.ReadFault reads.Failed) before after = (after ≡ record before { reads = after.reads }) × Rose before.reads after.reads
-AnswerCounts InputFault before after = (after ≡ record before { input = after.input }) × Rose before.input after.input
-AnswerCounts WriteFault before after =
-    (before.reads ≤ after.reads) × (before.writes ≤ after.writes) × (before.input ≤ after.input)
-    × (Rose before.writes after.writes ⊎ (Rose before.output after.output ⊎ Rose before.errors after.errors))
-AnswerCounts outcome before after = after ≡ before
+-- beside the answer of a run
+abbrev pub StopCounts : Stop → (input input_now output output_now errors errors_now : ℕ) → Type 0
+StopCounts stops.InputFault input input_now output output_now errors errors_now =
+    Rose input input_now × (output_now ≡ output) × (errors_now ≡ errors)
+StopCounts stops.OutputFault input input_now output output_now errors errors_now =
+    (input_now ≡ input)
+    × ((Rose output output_now × (errors_now ≡ errors)) ⊎ ((output_now ≡ output) × Rose errors errors_now))
+StopCounts stop input input_now output output_now errors errors_now =
+    (input_now ≡ input) × (output_now ≡ output) × (errors_now ≡ errors)

@@ -6,7 +6,7 @@ use Rattle.elf_image.specs.Layout.{content_of}
 use Rattle.rv_sim.specs.Start.{start_of}
 use Rattle.rv_sim.specs.Behaviour.{behaviour}
 use Rattle.sbcets_core.specs.Source.{SourceProgram}
-use Rattle.sbcets_core.specs.Meaning.{meaning}
+use Rattle.sbcets_core.specs.TypedProgram.{ForMeaning}
 
 -- the largest image that is read
 abbrev pub max_image : ℕ
@@ -19,4 +19,4 @@ cost = 1024
 pub record IsFaithfulImage (program : SourceProgram) (image : List ℕ) : Type 0 where
   pub size : length image ≤ max_image
   pub readable : image_fault image ≡ None
-  pub faithful : (input : List ℕ) → Faithful cost (meaning program input) (behaviour (start_of (content_of image)) input)
+  pub faithful : ForMeaning program (λ means. (input : List ℕ) → Faithful cost (means input) (behaviour (start_of (content_of image)) input))

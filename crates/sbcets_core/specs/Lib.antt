@@ -4,6 +4,7 @@ pub mod Commanded
 pub mod Commands
 pub mod Counting
 pub mod Faithful
+pub mod Hexadecimal
 pub mod Listed
 pub mod Meaning
 pub mod Meant
@@ -13,3 +14,4 @@ pub mod Parting
 pub mod Source
 pub mod Top
 pub mod Trees
+pub mod TypedProgram

@@ -2,21 +2,20 @@
 use Rattle.std.specs.Prelude.{◌≡◌, ℕ, List, Some}
 use Rattle.behaviours.specs.Shown.{Status, IsPrefix}
 use Rattle.sb_outside.specs.Content.{gained}
-use Rattle.sbcets_core.specs.Source.{SourceProgram}
-use Rattle.sbcets_core.specs.Meaning.{meaning}
+use Rattle.behaviours.specs.Behaviour.{Behaviour}
 use Rattle.sbcets_core.specs.Commands.{Streams}
 
 -- the program ends with this status within so many turns, and the output and the error output gained just what it shows
-pub record EndsAsMeant (program : SourceProgram) (input : List ℕ) (limit code : ℕ) (before after : Streams) : Type 0 where
-  pub ending : (meaning program input limit).shown.ending ≡ Some (Status code)
-  pub output : after.output ≡ gained before.output (meaning program input limit).shown.output
-  pub errors : after.errors ≡ gained before.errors (meaning program input limit).shown.errors
+pub record EndsAsMeant (means : List ℕ → Behaviour) (input : List ℕ) (limit code : ℕ) (before after : Streams) : Type 0 where
+  pub ending : (means input limit).shown.ending ≡ Some (Status code)
+  pub output : after.output ≡ gained before.output (means input limit).shown.output
+  pub errors : after.errors ≡ gained before.errors (means input limit).shown.errors
 
 -- the output and the error output gained the first of what the program shows within so many turns
-pub record GoesAsMeant (program : SourceProgram) (input : List ℕ) (limit : ℕ) (before after : Streams) : Type 0 where
+pub record GoesAsMeant (means : List ℕ → Behaviour) (input : List ℕ) (limit : ℕ) (before after : Streams) : Type 0 where
   pub output : List ℕ
   pub output_is : after.output ≡ gained before.output output
-  pub output_first : IsPrefix output (meaning program input limit).shown.output
+  pub output_first : IsPrefix output (means input limit).shown.output
   pub errors : List ℕ
   pub errors_is : after.errors ≡ gained before.errors errors
-  pub errors_first : IsPrefix errors (meaning program input limit).shown.errors
+  pub errors_first : IsPrefix errors (means input limit).shown.errors

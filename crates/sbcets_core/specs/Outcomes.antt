@@ -82,6 +82,13 @@ refusal_line (Nesting at line) = numbered_line (codes "nesting at line ") line [
 refusal_line (TooLarge Source n) = numbered_line (codes "source of ") n (codes " is too large")
 refusal_line refusals.Memory = plain_line (codes "out of memory")
 
+-- all but a program's own end, a build and a fault of writing have a line of the tool
+abbrev pub HasLine : Outcome → Type 0
+HasLine (Exited code) = ⊥
+HasLine Built = ⊥
+HasLine WriteFault = ⊥
+HasLine outcome = Unit {0}
+
 -- the tool's own line for an outcome, empty where there is none
 abbrev pub tool_line : Outcome → List ℕ
 tool_line (Exited code) = []

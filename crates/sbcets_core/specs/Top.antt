@@ -1,6 +1,7 @@
 -- What the top call answers, and what it leaves outside.
 use Rattle.std.specs.Prelude.{◌≡◌, ◌⊎◌, ℕ, ◌≤◌, List, length, Option, Some, None, Ok}
 use Rattle.sb_outside.specs.Content.{gained, GainsPart}
+use Rattle.sb_outside.specs.Faults.{Rose}
 use Rattle.elf_image.specs.Tests.{image_fault}
 use Rattle.sbcets_core.specs.declared.outcome.ReadFault.TheVariants.{TooLong}
 use Rattle.sbcets_core.specs.declared.outcome.ReadFault.TheVariants as reads
@@ -8,9 +9,10 @@ use Rattle.sbcets_core.specs.declared.outcome.Outcome.{Outcome}
 use Rattle.sbcets_core.specs.declared.outcome.Outcome.TheVariants.{Exited, Built, Usage, WriteFault, InputFault, Memory, Limit, Refused, ImageRefused, Trap}
 use Rattle.sbcets_core.specs.declared.outcome.Outcome.TheVariants as outcomes
 use Rattle.sbcets_core.specs.Source.{SourceProgram}
-use Rattle.sbcets_core.specs.Outcomes.{max_source, max_image_file, tool_line}
+use Rattle.sbcets_core.specs.Outcomes.{max_source, max_image_file, HasLine, tool_line}
 use Rattle.sbcets_core.specs.Accepted.{Judges}
 use Rattle.command_line.specs.Asked.{Asked, build, run, go}
+use Rattle.sbcets_core.specs.Counting.{Counts, CommandCounts}
 use Rattle.sbcets_core.specs.Commands.{Held, Outside, DoesNothing, Goes, Runs, Builds}
 
 -- What the command comes to, its tool line apart. Words that are no command are Usage, and no others; want of memory may
@@ -21,25 +23,50 @@ Does (Some (run name limit)) outcome image before after = Runs name limit outcom
 Does (Some (build name target budgets)) outcome image before after = Builds name target outcome image before after
 Does None outcome image before after = ((outcome ≡ Usage) ⊎ (outcome ≡ Memory)) × DoesNothing image before after
 
+-- all that is outside, with the counts of faults
+pub record Moment : Type 0 where
+  pub outside : Outside
+  pub counts : Counts
+
 -- the outside, with this told of the error output
 abbrev pub with_errors : Outside → Option (List ℕ) → Outside
 with_errors outside errors = record outside { streams = record outside.streams { errors = errors } }
 
--- the command came to the outcome, and then its tool line came in
-pub record AnswersInFull (command : Option Asked) (outcome : Outcome) (image : List ℕ) (before after : Outside) : Type 0 where
-  pub between : Option (List ℕ)
-  pub does : Does command outcome image before (with_errors after between)
-  pub line : after.streams.errors ≡ gained between (tool_line outcome)
+-- the tool line of an outcome came in, where the error output told this before and tells that now
+pub record IsReported (outcome : Outcome) (before now : Option (List ℕ)) (faults faults_now : ℕ) : Type 0 where
+  pub line : now ≡ gained before (tool_line outcome)
+  pub counts : faults_now ≡ faults
 
--- the command came to some outcome, and then a part of its tool line came in
-pub record AnswersInPart (command : Option Asked) (image : List ℕ) (before after : Outside) : Type 0 where
+-- the outcome has a line, of which a part came in, and the error output failed
+pub record IsCutShort (outcome : Outcome) (before now : Option (List ℕ)) (faults faults_now : ℕ) : Type 0 where
+  pub lined : HasLine outcome
+  pub line : GainsPart before now (tool_line outcome)
+  pub rose : Rose faults faults_now
+
+-- a tool line that cannot be written turns the outcome into WriteFault
+abbrev pub Finishes : (outcome answer : Outcome) (before now : Option (List ℕ)) (faults faults_now : ℕ) → Type 0
+Finishes outcome answer before now faults faults_now =
+    ((answer ≡ outcome) × IsReported outcome before now faults faults_now)
+    ⊎ ((answer ≡ WriteFault) × IsCutShort outcome before now faults faults_now)
+
+-- the command came to the outcome, and then its tool line came in
+pub record AnswersInFull (command : Option Asked) (outcome : Outcome) (image : List ℕ) (before after : Moment) : Type 0 where
+  pub between : Option (List ℕ)
+  pub does : Does command outcome image before.outside (with_errors after.outside between)
+  pub counts : CommandCounts outcome before.counts after.counts
+  pub line : after.outside.streams.errors ≡ gained between (tool_line outcome)
+
+-- the command came to some outcome that has a tool line, and then a part of that line came in
+pub record AnswersInPart (command : Option Asked) (image : List ℕ) (before after : Moment) : Type 0 where
   pub outcome : Outcome
   pub between : Option (List ℕ)
-  pub does : Does command outcome image before (with_errors after between)
-  pub line : GainsPart between after.streams.errors (tool_line outcome)
+  pub faults : ℕ
+  pub does : Does command outcome image before.outside (with_errors after.outside between)
+  pub counts : CommandCounts outcome before.counts (record after.counts { errors = faults })
+  pub cut : IsCutShort outcome between after.outside.streams.errors faults after.counts.errors
 
--- THE ANSWER. A line that cannot be written turns any outcome into WriteFault.
-abbrev pub Answers : Option Asked → Outcome → List ℕ → Outside → Outside → Type 0
+-- THE ANSWER. A line that cannot be written turns an outcome that has one into WriteFault.
+abbrev pub Answers : Option Asked → Outcome → List ℕ → Moment → Moment → Type 0
 Answers command WriteFault image before after =
     AnswersInFull command WriteFault image before after ⊎ AnswersInPart command image before after
 Answers command outcome image before after = AnswersInFull command outcome image before after

@@ -3,9 +3,9 @@ ghost use Rattle.std.specs.Prelude.{◌≡◌, ◌≤◌, ◌++◌, [], None, So
 ghost use Rattle.sb_outside.specs.Content.{gained, GainsPart};
 ghost use Rattle.sb_outside.specs.Faults.{CountsFaults};
 ghost use Rattle.elf_image.specs.Tests.{Fails, image_fault};
-ghost use Rattle.rv_sim.specs.Seen.{CountsInput, CountsOutput};
-ghost use Rattle.sbcets_core.specs.Commands.{Outside, Goes, Runs, Builds, Holds, IsUnread, IsUnbuilt, IsBuiltOf, ReadCounts, RunsImage, outcome_of, built_line};
-ghost use Rattle.sbcets_core.specs.Counting.{CommandCounts};
+ghost use Rattle.sb_outside.specs.Rest.{Rest};
+ghost use Rattle.sbcets_core.specs.Commands.{Outside, outside_of, Goes, Runs, Builds, IsRead, IsUnread, IsUnbuilt, IsBuiltOf, ReadCounts, RunsImage, outcome_of, built_line};
+ghost use Rattle.sbcets_core.specs.Counting.{CommandCounts, StopCounts, counts_of};
 
 use crate::compiler::{MAX_SOURCE, compile};
 use crate::outcome::{Outcome, ReadFault};
@@ -21,7 +21,7 @@ use std::alloc::Global;
 const MAX_IMAGE: u64 = 67_108_864;
 
 /// `go`: reads a source, compiles it, and runs the image, at most `limit` instructions of it.
-#[tactic(auto, using(crate::proofs::Cases::unbuilt_goes, crate::proofs::Cases::went_goes, crate::proofs::Cases::unbuilt_counts))]
+#[tactic(auto, using(crate::proofs::Cases::unbuilt_goes, crate::proofs::Cases::went_goes, crate::proofs::Cases::unbuilt_counts, crate::proofs::Cases::ran_counts))]
 pub fn go<F: Files, I: Source, O: Sink, E: Sink>(
     alloc: Global,
     name: &str,
@@ -32,13 +32,11 @@ pub fn go<F: Files, I: Source, O: Sink, E: Sink>(
     errors: &mut E,
 ) -> (Outcome, Vec<u8>)
     ensures goes { Goes name.now limit result.0 result.1.items
-        (record { files = F.held files.old; streams = record { input = I.rest input.old; output = O.taken output.old; errors = E.taken errors.old } })
-        (record { files = F.held files.new; streams = record { input = I.rest input.new; output = O.taken output.new; errors = E.taken errors.new } }) }
+        (outside_of (F.held files.old) (F.writes files.old) (I.rest input.old) (O.taken output.old) (E.taken errors.old))
+        (outside_of (F.held files.new) (F.writes files.new) (I.rest input.new) (O.taken output.new) (E.taken errors.new)) }
     ensures counts { CommandCounts result.0
-        (record { reads = F.read_faults files.old; writes = F.write_faults files.old; input = I.faults input.old; output = O.faults output.old; errors = E.faults errors.old })
-        (record { reads = F.read_faults files.new; writes = F.write_faults files.new; input = I.faults input.new; output = O.faults output.new; errors = E.faults errors.new }) }
-    ensures reads { F.read_faults files.old ≤ F.read_faults files.new }
-    ensures takes { I.faults input.old ≤ I.faults input.new }
+        (counts_of (F.read_faults files.old) (F.write_faults files.old) (I.faults input.old) (O.faults output.old) (E.faults errors.old))
+        (counts_of (F.read_faults files.new) (F.write_faults files.new) (I.faults input.new) (O.faults output.new) (E.faults errors.new)) }
 {
     let image = match built_of(alloc, name, files) {
         Ok(image) => image,
@@ -52,7 +50,7 @@ pub fn go<F: Files, I: Source, O: Sink, E: Sink>(
 }
 
 /// `run`: reads an image and runs it, at most `limit` instructions of it.
-#[tactic(auto, using(crate::proofs::Cases::unread_runs, crate::proofs::Cases::ran_runs, crate::proofs::Cases::unread_counts))]
+#[tactic(auto, using(crate::proofs::Cases::unread_runs, crate::proofs::Cases::ran_runs, crate::proofs::Cases::unread_counts, crate::proofs::Cases::ran_counts))]
 pub fn run<F: Files, I: Source, O: Sink, E: Sink>(
     alloc: Global,
     name: &str,
@@ -63,13 +61,11 @@ pub fn run<F: Files, I: Source, O: Sink, E: Sink>(
     errors: &mut E,
 ) -> Outcome
     ensures runs { Runs name.now limit result []
-        (record { files = F.held files.old; streams = record { input = I.rest input.old; output = O.taken output.old; errors = E.taken errors.old } })
-        (record { files = F.held files.new; streams = record { input = I.rest input.new; output = O.taken output.new; errors = E.taken errors.new } }) }
+        (outside_of (F.held files.old) (F.writes files.old) (I.rest input.old) (O.taken output.old) (E.taken errors.old))
+        (outside_of (F.held files.new) (F.writes files.new) (I.rest input.new) (O.taken output.new) (E.taken errors.new)) }
     ensures counts { CommandCounts result
-        (record { reads = F.read_faults files.old; writes = F.write_faults files.old; input = I.faults input.old; output = O.faults output.old; errors = E.faults errors.old })
-        (record { reads = F.read_faults files.new; writes = F.write_faults files.new; input = I.faults input.new; output = O.faults output.new; errors = E.faults errors.new }) }
-    ensures reads { F.read_faults files.old ≤ F.read_faults files.new }
-    ensures takes { I.faults input.old ≤ I.faults input.new }
+        (counts_of (F.read_faults files.old) (F.write_faults files.old) (I.faults input.old) (O.faults output.old) (E.faults errors.old))
+        (counts_of (F.read_faults files.new) (F.write_faults files.new) (I.faults input.new) (O.faults output.new) (E.faults errors.new)) }
 {
     let image = match read_of(alloc, name, MAX_IMAGE, files) {
         Ok(image) => image,
@@ -92,13 +88,12 @@ pub fn build<F: Files, O: Sink>(
     files: &mut F,
     output: &mut O,
 ) -> Outcome
-    ensures builds { (input errors : Option (List ℕ)) → Builds name.now target.now result []
-        (record { files = F.held files.old; streams = record { input = input; output = O.taken output.old; errors = errors } })
-        (record { files = F.held files.new; streams = record { input = input; output = O.taken output.new; errors = errors } }) }
+    ensures builds { (input : Rest) (errors : Option (List ℕ)) → Builds name.now target.now result []
+        (outside_of (F.held files.old) (F.writes files.old) input (O.taken output.old) errors)
+        (outside_of (F.held files.new) (F.writes files.new) input (O.taken output.new) errors) }
     ensures counts { (input errors : ℕ) → CommandCounts result
-        (record { reads = F.read_faults files.old; writes = F.write_faults files.old; input = input; output = O.faults output.old; errors = errors })
-        (record { reads = F.read_faults files.new; writes = F.write_faults files.new; input = input; output = O.faults output.new; errors = errors }) }
-    ensures reads { F.read_faults files.old ≤ F.read_faults files.new }
+        (counts_of (F.read_faults files.old) (F.write_faults files.old) input (O.faults output.old) errors)
+        (counts_of (F.read_faults files.new) (F.write_faults files.new) input (O.faults output.new) errors) }
 {
     let image = match built_of(alloc, name, files) {
         Ok(image) => image,
@@ -115,14 +110,13 @@ pub fn build<F: Files, O: Sink>(
 
 // All the bytes of a file of at most `max`, or the outcome without them.
 fn read_of<F: Files>(alloc: Global, name: &str, max: u64, files: &mut F) -> Result<Vec<u8>, Outcome>
-    ensures read { IfOk result (λ bytes. Holds (F.held files.old) name.now bytes.items) }
-    ensures short { IfOk result (λ bytes. length bytes.items ≤ max) }
+    ensures read { IfOk result (λ bytes. IsRead (F.held files.old) name.now max bytes.items) }
     ensures unread { IfErr result (λ outcome. IsUnread name.now max outcome (F.held files.old)) }
     ensures files { F.held files.new ≡ F.held files.old }
     ensures ok_counts { OnOk result (F.read_faults files.new ≡ F.read_faults files.old) }
     ensures err_counts { IfErr result (λ outcome. ReadCounts outcome (F.read_faults files.old) (F.read_faults files.new)) }
     ensures writes { F.write_faults files.new ≡ F.write_faults files.old }
-    ensures later { F.read_faults files.old ≤ F.read_faults files.new }
+    ensures unwritten { F.writes files.new ≡ F.writes files.old }
 {
     match files.read(alloc, name, max) {
         Ok(bytes) => Ok(bytes),
@@ -141,7 +135,7 @@ fn built_of<F: Files>(alloc: Global, name: &str, files: &mut F) -> Result<Vec<u8
     ensures ok_counts { OnOk result (F.read_faults files.new ≡ F.read_faults files.old) }
     ensures err_counts { IfErr result (λ outcome. ReadCounts outcome (F.read_faults files.old) (F.read_faults files.new)) }
     ensures writes { F.write_faults files.new ≡ F.write_faults files.old }
-    ensures later { F.read_faults files.old ≤ F.read_faults files.new }
+    ensures unwritten { F.writes files.new ≡ F.writes files.old }
 {
     let source = match read_of(alloc, name, MAX_SOURCE, files) {
         Ok(source) => source,
@@ -155,6 +149,7 @@ fn built_of<F: Files>(alloc: Global, name: &str, files: &mut F) -> Result<Vec<u8
 }
 
 // Runs an image from its start.
+#[tactic(auto, using(crate::proofs::Cases::stop_counts))]
 fn run_image<I: Source, O: Sink, E: Sink>(
     alloc: Global,
     image: &[u8],
@@ -167,8 +162,7 @@ fn run_image<I: Source, O: Sink, E: Sink>(
         (record { input = I.rest input.old; output = O.taken output.old; errors = E.taken errors.old })
         (record { input = I.rest input.new; output = O.taken output.new; errors = E.taken errors.new })) }
     ensures refused { IfErr result (λ e. Fails e (image_fault image.now)) }
-    ensures input_counts { IfOk result (λ stop. CountsInput (Some stop) (I.faults input.old) (I.faults input.new)) }
-    ensures output_counts { IfOk result (λ stop. CountsOutput (Some stop) (O.faults output.old) (O.faults output.new) (E.faults errors.old) (E.faults errors.new)) }
+    ensures counts { IfOk result (λ stop. StopCounts stop (I.faults input.old) (I.faults input.new) (O.faults output.old) (O.faults output.new) (E.faults errors.old) (E.faults errors.new)) }
     ensures unread { OnErr result (input.new ≡ input.old) }
     ensures unwritten { OnErr result (output.new ≡ output.old) }
     ensures silent { OnErr result (errors.new ≡ errors.old) }

@@ -10,17 +10,6 @@ use elf_image::{Image, Part, Parts};
 use rv_isa::{Imm12, Imm20, ImmOp, Instr, JumpOffset, Reg, StoreOp, encode};
 use std::alloc::{AllocError, Global};
 
-// Registers by their numbers.
-const ZERO: u8 = 0;
-
-const A0: u8 = 10;
-
-const A1: u8 = 11;
-
-const A2: u8 = 12;
-
-const A7: u8 = 17;
-
 // Numbers of environment calls.
 const WRITE: u16 = 64;
 
@@ -84,11 +73,11 @@ fn rows(alloc: Global) -> Result<Vec<u8>, AllocError>
     bytes.extend_from_slice(&[0; 12])?;
     let runtime = [
         Instr::Lui {
-            rd: Reg::new(A1),
+            rd: Reg::A1,
             imm: Imm20::new(0x4_0000),
         },
-        load_immediate(A2, 1),
-        load_immediate(A7, WRITE),
+        load_immediate(Reg::A2, 1),
+        load_immediate(Reg::A7, WRITE),
         jump(0x1f_ffe4),
     ];
     put_words(&mut bytes, &runtime)?;
@@ -102,31 +91,30 @@ fn code_of(alloc: Global, program: &Program) -> Result<Vec<Instr>, AllocError>
 {
     let mut instrs = Vec::new(alloc);
     for number in program.numbers() {
-        instrs.push(load_immediate(A0, (number % 256) as u16))?;
+        instrs.push(load_immediate(Reg::A0, (number % 256) as u16))?;
         instrs.push(Instr::Store {
             op: StoreOp::Sb,
-            rs1: Reg::new(A1),
-            rs2: Reg::new(A0),
+            rs1: Reg::A1,
+            rs2: Reg::A0,
             imm: Imm12::new(0),
         })?;
-        instrs.push(load_immediate(A0, 1))?;
+        instrs.push(load_immediate(Reg::A0, 1))?;
         instrs.push(Instr::Ecall)?;
     }
-    instrs.push(load_immediate(A0, (program.result_number() % 256) as u16))?;
-    instrs.push(load_immediate(A7, EXIT))?;
+    instrs.push(load_immediate(Reg::A0, (program.result_number() % 256) as u16))?;
+    instrs.push(load_immediate(Reg::A7, EXIT))?;
     instrs.push(Instr::Ecall)?;
     Ok(instrs)
 }
 
-fn load_immediate(rd: u8, number: u16) -> Instr
-    requires rd { rd < 32 }
-    requires number { number < 2048 }
+fn load_immediate(rd: Reg, number: u16) -> Instr
+    requires { number < 2048 }
     ensures { result ≡ li rd number }
 {
     Instr::OpImm {
         op: ImmOp::Addi,
-        rd: Reg::new(rd),
-        rs1: Reg::new(ZERO),
+        rd,
+        rs1: Reg::ZERO,
         imm: Imm12::new(number),
     }
 }
@@ -137,7 +125,7 @@ fn jump(offset: u32) -> Instr
     ensures { result ≡ Instr.Jal 0 offset }
 {
     Instr::Jal {
-        rd: Reg::new(ZERO),
+        rd: Reg::ZERO,
         imm: JumpOffset::new(offset),
     }
 }

@@ -1,7 +1,7 @@
 //! The compiler, and the call that does all that the program does.
 //!
-//! So far it compiles the first path: `int main(void){ putchar(N); .. return N; }`. Its meaning is a public module, which
-//! becomes a crate of its own as the language grows.
+//! So far it compiles the first path, `int main(void){ putchar(N); .. return N; }`, with a reader and a generator of
+//! its own (`part`, `generator`). What it means is what `source_meaning` says of its typed tree (`specs/TypedProgram.antt`).
 #![tactic(auto)]
 
 mod commands;
@@ -19,4 +19,4 @@ mod top;
 pub use compiler::{MAX_SOURCE, compile};
 pub use outcome::{Outcome, ReadFault};
 pub use refusal::{Counted, RefusedWord, SourceRefusal};
-pub use top::sbcets;
+pub use top::{finish, sbcets};

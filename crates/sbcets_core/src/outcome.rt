@@ -39,8 +39,7 @@ pub enum Outcome {
     Refused(SourceRefusal),
     /// The image was refused: the first of its tests that fails.
     ImageRefused(ImageFault),
-    /// The run met a trap of the machine at this pc. An image that was built here never does, on an
-    /// input that tells its content.
+    /// The run met a trap of the machine at this pc. An image that was built here never does.
     Trap { kind: TrapKind, pc: u64 },
 }
 

@@ -3,7 +3,7 @@ ghost use Rattle.std.specs.Prelude.{◌≡◌, ◌<◌, ◌≤◌, ◌++◌, [],
 ghost use Rattle.std.specs.List.{prefix_len};
 ghost use Rattle.sb_outside.specs.Content.{gained, GainsPart};
 ghost use Rattle.sb_outside.specs.Faults.{CountsFaults};
-ghost use Rattle.sbcets_core.specs.Outcomes.{tool_line, refusal_line, trap_name, line_of, plain_line, numbered_line, hexadecimal, sixteen_digits, zeros_in_front, digit_at, hexadecimal_digit};
+ghost use Rattle.sbcets_core.specs.Outcomes.{HasLine, tool_line, refusal_line, trap_name, line_of, plain_line, numbered_line, hexadecimal, sixteen_digits, zeros_in_front, digit_at, hexadecimal_digit};
 
 use crate::outcome::{Outcome, ReadFault};
 use crate::refusal::{Counted, SourceRefusal};
@@ -17,6 +17,7 @@ use sb_outside::{Failed, Sink};
 pub fn report<S: Sink>(sink: &mut S, outcome: &Outcome) -> Result<(), Failed>
     ensures ok { OnOk result (S.taken sink.new ≡ gained (S.taken sink.old) (tool_line outcome.now)) }
     ensures err { OnErr result (GainsPart (S.taken sink.old) (S.taken sink.new) (tool_line outcome.now)) }
+    ensures lined { OnErr result (HasLine outcome.now) }
     ensures cause { CountsFaults (S.faults sink.old) (S.faults sink.new) result }
 {
     match outcome {

@@ -1,15 +1,15 @@
 //! The call that does all that the program does.
 ghost use Rattle.std.specs.Prelude.{◌≡◌, ◌≤◌, [], None, Some, Err, IfOk};
 ghost use Rattle.command_line.specs.Asked.{asked_of};
-ghost use Rattle.sbcets_core.specs.Commanded.{are_budgets, has_budgets, commanded};
-ghost use Rattle.sbcets_core.specs.Counting.{AnswerCounts, CommandCounts};
-ghost use Rattle.sbcets_core.specs.Top.{Answers, Does, IsComplete};
+ghost use Rattle.sbcets_core.specs.Commanded.{commanded};
+ghost use Rattle.sbcets_core.specs.Commands.{outside_of};
+ghost use Rattle.sbcets_core.specs.Counting.{CommandCounts, counts_of};
+ghost use Rattle.sbcets_core.specs.Top.{Answers, Does, Finishes, IsComplete};
 
 use crate::commands::{build, go, run};
 use crate::outcome::Outcome;
 use crate::report::report;
-use command_line::{BudgetNumbers, Command, WordsFault, command_of};
-use sb_base::Budgets;
+use command_line::{Command, WordsFault, command_of};
 use sb_outside::{Files, Sink, Source};
 use std::alloc::Global;
 
@@ -21,9 +21,9 @@ use std::alloc::Global;
 /// Usage comes exactly for words that are no command or whose budgets are out of range; then ReadFault
 /// where the file is not read or too long; then Refused or ImageRefused, exactly where the source or the
 /// image is; then WriteFault where IMAGE is not written. A run ends with Exited, Limit or Trap as the
-/// machine does, or with InputFault or WriteFault where a stream fails. A fault of the outside comes only
+/// machine does, or with InputFault or WriteFault where a stream fails; `go` never with Trap. A fault of the outside comes only
 /// where its count rose, and want of memory may come before anything is written or run.
-#[tactic(auto, using(crate::proofs::Counts::line_counts, crate::proofs::Complete::complete))]
+#[tactic(auto, using(crate::proofs::Answering::answers, crate::proofs::Complete::complete))]
 pub fn sbcets<F: Files, I: Source, O: Sink, E: Sink>(
     alloc: Global,
     words: &[String],
@@ -32,23 +32,32 @@ pub fn sbcets<F: Files, I: Source, O: Sink, E: Sink>(
     output: &mut O,
     errors: &mut E,
 ) -> (Outcome, Vec<u8>)
-    // What was done, and then the line of its outcome, or a part of the line.
+    // What was done, and then the line of its outcome, or a part of the line; and which counts of faults rose.
     ensures answer { Answers (commanded words.now) result.0 result.1.items
-        (record { files = F.held files.old; streams = record { input = I.rest input.old; output = O.taken output.old; errors = E.taken errors.old } })
-        (record { files = F.held files.new; streams = record { input = I.rest input.new; output = O.taken output.new; errors = E.taken errors.new } }) }
-
-    // Which counts of faults rose with which outcome.
-    ensures counts { AnswerCounts result.0
-        (record { reads = F.read_faults files.old; writes = F.write_faults files.old; input = I.faults input.old; output = O.faults output.old; errors = E.faults errors.old })
-        (record { reads = F.read_faults files.new; writes = F.write_faults files.new; input = I.faults input.new; output = O.faults output.new; errors = E.faults errors.new }) }
+        (record {
+          outside = outside_of (F.held files.old) (F.writes files.old) (I.rest input.old) (O.taken output.old) (E.taken errors.old);
+          counts = counts_of (F.read_faults files.old) (F.write_faults files.old) (I.faults input.old) (O.faults output.old) (E.faults errors.old);
+        })
+        (record {
+          outside = outside_of (F.held files.new) (F.writes files.new) (I.rest input.new) (O.taken output.new) (E.taken errors.new);
+          counts = counts_of (F.read_faults files.new) (F.write_faults files.new) (I.faults input.new) (O.faults output.new) (E.faults errors.new);
+        }) }
 
     // An accepted source is built and runs, and a readable image runs, where nothing fails and memory is there.
     ensures complete { IsComplete (commanded words.now) result.0 (F.held files.old) }
 {
     let (outcome, image) = do_command(alloc, words, files, input, output, errors);
+    let answer = finish(errors, outcome);
+    (answer, image)
+}
+
+/// Leaves the tool's own line of an outcome, where it has one. `WriteFault` comes in its place where the line cannot be written.
+pub fn finish<E: Sink>(errors: &mut E, outcome: Outcome) -> Outcome
+    ensures { Finishes outcome result (E.taken errors.old) (E.taken errors.new) (E.faults errors.old) (E.faults errors.new) }
+{
     match report(errors, &outcome) {
-        Ok(()) => (outcome, image),
-        Err(_) => (Outcome::WriteFault, image),
+        Ok(()) => outcome,
+        Err(_) => Outcome::WriteFault,
     }
 }
 
@@ -62,13 +71,11 @@ fn do_command<F: Files, I: Source, O: Sink, E: Sink>(
     errors: &mut E,
 ) -> (Outcome, Vec<u8>)
     ensures does { Does (commanded words.now) result.0 result.1.items
-        (record { files = F.held files.old; streams = record { input = I.rest input.old; output = O.taken output.old; errors = E.taken errors.old } })
-        (record { files = F.held files.new; streams = record { input = I.rest input.new; output = O.taken output.new; errors = E.taken errors.new } }) }
+        (outside_of (F.held files.old) (F.writes files.old) (I.rest input.old) (O.taken output.old) (E.taken errors.old))
+        (outside_of (F.held files.new) (F.writes files.new) (I.rest input.new) (O.taken output.new) (E.taken errors.new)) }
     ensures counts { CommandCounts result.0
-        (record { reads = F.read_faults files.old; writes = F.write_faults files.old; input = I.faults input.old; output = O.faults output.old; errors = E.faults errors.old })
-        (record { reads = F.read_faults files.new; writes = F.write_faults files.new; input = I.faults input.new; output = O.faults output.new; errors = E.faults errors.new }) }
-    ensures reads { F.read_faults files.old ≤ F.read_faults files.new }
-    ensures takes { I.faults input.old ≤ I.faults input.new }
+        (counts_of (F.read_faults files.old) (F.write_faults files.old) (I.faults input.old) (O.faults output.old) (E.faults errors.old))
+        (counts_of (F.read_faults files.new) (F.write_faults files.new) (I.faults input.new) (O.faults output.new) (E.faults errors.new)) }
 {
     match command(alloc, words) {
         Ok(Command::Build { source, image, .. }) => {
@@ -86,38 +93,11 @@ fn do_command<F: Files, I: Source, O: Sink, E: Sink>(
     }
 }
 
-// The command that the words ask for, with budgets in their ranges.
+// The command that the words ask for.
 #[tactic(auto, unfolding(crate::specs::Commanded::commanded))]
 fn command<'a>(alloc: Global, words: &'a [String]) -> Result<Command<'a>, WordsFault>
     ensures ok { IfOk result (λ command. commanded words.entry.now ≡ Some (asked_of command)) }
     ensures usage { result ≡ Err WordsFault.Usage → commanded words.entry.now ≡ None }
 {
-    let command = command_of(alloc, words)?;
-    if has_budgets(&command) {
-        Ok(command)
-    } else {
-        Err(WordsFault::Usage)
-    }
-}
-
-fn has_budgets(command: &Command) -> bool
-    ensures { result ≡ has_budgets (asked_of command.now) }
-{
-    match command {
-        Command::Build { budgets, .. } | Command::Go { budgets, .. } => are_budgets(*budgets),
-        Command::Run { .. } => true,
-    }
-}
-
-fn are_budgets(numbers: BudgetNumbers) -> bool
-    ensures { result ≡ are_budgets numbers }
-{
-    let BudgetNumbers {
-        heap,
-        stack,
-        calls,
-        blocks,
-        keys,
-    } = numbers;
-    Budgets::new(heap, stack, calls, blocks, keys).is_ok()
+    command_of(alloc, words)
 }

@@ -1,8 +1,11 @@
 -- Bitwise operations on words that are extended by copies of their sign bits.
-use Rattle.std.proofs.Common.{◌≡◌, ℕ, ◌+◌, ◌-◌, ◌*◌, ◌/◌, ◌%◌, ◌^◌, ◌<◌, ◌≤◌, Bool, true, false, refl, ap, ◌∙◌, sym, ◌⊎◌, inl, inr, arith}
+use Rattle.std.proofs.Common.{◌≡◌, ℕ, ◌+◌, ◌-◌, ◌*◌, ◌/◌, ◌%◌, ◌^◌, ◌<◌, ◌≤◌, Bool, true, false, refl, ap, ◌∙◌, sym}
+use Rattle.std.proofs.Common.{◌⊎◌, inl, inr, arith}
 use Rattle.std.proofs.Math.Nat.{mod-eq_of_lt, div-eq_of_lt, add-mul-mod_self_right}
-use Rattle.std.proofs.lemmas.Nat.{pow_pos, shr_split, mod_below, div-mul-add, and_mod, or_mod, xor_mod, and_shr, or_shr, xor_shr}
-use Rattle.std.specs.Int.Bits.{and_self, and_zero_l, and_zero_r, or_self, or_zero_l, or_zero_r, xor_self, xor_zero_l, xor_zero_r}
+use Rattle.std.proofs.lemmas.Nat.{pow_pos, shr_split, mod_below, div-mul-add, and_mod, or_mod, xor_mod, and_shr}
+use Rattle.std.proofs.lemmas.Nat.{or_shr, xor_shr}
+use Rattle.std.specs.Int.Bits.{and_self, and_zero_l, and_zero_r, or_self, or_zero_l, or_zero_r, xor_self, xor_zero_l}
+use Rattle.std.specs.Int.Bits.{xor_zero_r}
 use Rattle.std.specs.Prelude.{bit_and, bit_or, bit_xor}
 use Rattle.words.specs.TwosComplement.{IsExtendable, low_bits, is_negative, sign_extended}
 use Rattle.words.proofs.Signs.{half, negative_from, positive_below, is_negative_from, is_positive_below}
@@ -24,7 +27,8 @@ uniform_extended : (k m x : ℕ) → IsExtendable k m x → IsUniform k m (sign_
 unfolding IsUniform
 uniform_extended k m x w = by (is_negative k x) refl
   where
-    by : (b : Bool) → is_negative k x ≡ b → (sign_extended k m x / 2 ^ (k - 1) ≡ 0) ⊎ (sign_extended k m x / 2 ^ (k - 1) ≡ ones k m)
+    by : (b : Bool) → is_negative k x ≡ b → (sign_extended k m x / 2 ^ (k - 1) ≡ 0)
+        ⊎ (sign_extended k m x / 2 ^ (k - 1) ≡ ones k m)
     by true e =
         let p = half k w.some in
         let from = negative_from k x e in
@@ -32,7 +36,14 @@ uniform_extended k m x w = by (is_negative k x) refl
         let room = pow_pos (m - (k - 1)) in
         let one_more : 2 ^ (m - (k - 1)) ≡ ones k m + 1 = omega arith in
         let parts : sign_extended k m x ≡ ones k m * 2 ^ (k - 1) + (x - 2 ^ (k - 1)) =
-        omega (arith, extended_negative k m x e, upper k m w.some w.wide, ap (λ n. n * 2 ^ (k - 1)) one_more, powers w.wide) in
+        omega (
+          arith,
+          extended_negative k m x e,
+          upper k m w.some w.wide,
+          ap
+              (λ n. n * 2 ^ (k - 1)) one_more,
+          powers w.wide,
+        ) in
         inr (ap (λ n. n / 2 ^ (k - 1)) parts ∙ div-mul-add (ones k m) (2 ^ (k - 1)) (x - 2 ^ (k - 1)) small)
     by false e =
         let below = positive_below k x e in
@@ -58,10 +69,25 @@ uniform_is_extended k m z some h (inr full) =
     let word = 2 ^ (k - 1) + z % 2 ^ (k - 1) in
     let fits : word < 2 ^ k = omega arith in
     let all : z ≡ word + (2 ^ m - 2 ^ k) =
-    omega (arith, shr_split z (k - 1), ap (λ n. n * 2 ^ (k - 1)) full, ap (λ n. n * 2 ^ (k - 1)) one_more, upper k m some h, powers h) in
+    omega (
+      arith,
+      shr_split z (k - 1),
+      ap (λ n. n * 2 ^ (k - 1)) full,
+      ap
+          (λ n. n * 2 ^ (k - 1)) one_more,
+      upper k m some h,
+      powers h,
+    ) in
     let count : 2 ^ (m - k) ≡ (2 ^ (m - k) - 1) + 1 = omega arith in
-    let parts : z ≡ word + (2 ^ (m - k) - 1) * 2 ^ k = omega (arith, all, product_of_powers h, ap (λ n. n * 2 ^ k) count) in
-    let low : low_bits k z ≡ word = ap (low_bits k) parts ∙ add-mul-mod_self_right word (2 ^ (m - k) - 1) (2 ^ k) ∙ mod-eq_of_lt fits in
+    let parts : z ≡ word + (2 ^ (m - k) - 1) * 2 ^ k = omega (
+      arith,
+      all,
+      product_of_powers h,
+      ap
+          (λ n. n * 2 ^ k) count,
+    ) in
+    let low : low_bits k z ≡ word = ap (low_bits k) parts ∙ add-mul-mod_self_right word (2 ^ (m - k) - 1) (2 ^ k)
+    ∙ mod-eq_of_lt fits in
     let high : 2 ^ (k - 1) ≤ word = omega arith in
     all ∙ sym (ap (sign_extended k m) low ∙ extended_negative k m word (is_negative_from k word high))
 
@@ -78,7 +104,8 @@ uniform_of : (f : ℕ → ℕ → ℕ) → IsBitwise f → (k m a b : ℕ) → I
 unfolding IsUniform
 uniform_of f w k m a b g h = by g h
   where
-    to : {n : ℕ} → f (a / 2 ^ (k - 1)) (b / 2 ^ (k - 1)) ≡ n → (n ≡ 0) ⊎ (n ≡ ones k m) → (f a b / 2 ^ (k - 1) ≡ 0) ⊎ (f a b / 2 ^ (k - 1) ≡ ones k m)
+    to : {n : ℕ} → f (a / 2 ^ (k - 1)) (b / 2 ^ (k - 1)) ≡ n → (n ≡ 0) ⊎ (n ≡ ones k m)
+        → (f a b / 2 ^ (k - 1) ≡ 0) ⊎ (f a b / 2 ^ (k - 1) ≡ ones k m)
     to e (inl z) = inl (w.upper a b (k - 1) ∙ e ∙ z)
     to e (inr o) = inr (w.upper a b (k - 1) ∙ e ∙ o)
 
@@ -92,7 +119,8 @@ uniform_of f w k m a b g h = by g h
 extended_bitwise : (f : ℕ → ℕ → ℕ) → IsBitwise f → (k m x y : ℕ) → IsExtendable k m x → IsExtendable k m y
     → f (sign_extended k m x) (sign_extended k m y) ≡ sign_extended k m (f x y)
 extended_bitwise f b k m x y v w =
-    uniform_is_extended k m _ v.some v.wide (uniform_of f b k m _ _ (uniform_extended k m x v) (uniform_extended k m y w))
+    uniform_is_extended k m _ v.some v.wide (uniform_of f b k m _ _ (uniform_extended k m x v)
+    (uniform_extended k m y w))
     ∙ ap (sign_extended k m)
     (b.lower (sign_extended k m x) (sign_extended k m y) k
     ∙ ap (λ n. f n (low_bits k (sign_extended k m y))) (extended_low k m x v)

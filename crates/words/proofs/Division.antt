@@ -1,5 +1,6 @@
 -- Signed quotients and remainders, as integers.
-use Rattle.std.proofs.Common.{◌≡◌, ℕ, zero, suc, ◌+◌, ◌-◌, ◌*◌, ◌/◌, ◌%◌, ◌^◌, ◌<◌, ◌≤◌, Bool, true, false, if◌then◌else◌, refl, ap, ◌∙◌, sym, arith, ◌⊎◌, inl, inr, ⊎_elim}
+use Rattle.std.proofs.Common.{◌≡◌, ℕ, zero, suc, ◌+◌, ◌-◌, ◌*◌, ◌/◌, ◌%◌, ◌^◌, ◌<◌, ◌≤◌, Bool, true, false}
+use Rattle.std.proofs.Common.{if◌then◌else◌, refl, ap, ◌∙◌, sym, arith, ◌⊎◌, inl, inr, ⊎_elim}
 use Rattle.std.proofs.Math.Nat.{div-add-mod, mod-lt, div-le_self, div-one, mod-one, mul-le-mul_left}
 use Rattle.std.proofs.lemmas.Bool.{cases_lt}
 use Rattle.std.proofs.lemmas.Int.{ints}
@@ -8,7 +9,9 @@ use Rattle.std.specs.Prelude.{pos, ◌+ℤ◌, ◌*ℤ◌, neg_ℤ}
 use Rattle.words.specs.TwosComplement.{is_negative, signed, negated, magnitude}
 use Rattle.words.specs.Operations.{signed_quotient, signed_remainder}
 use Rattle.words.specs.Division.{IsDivision, IsOverflow, AreDividable}
-use Rattle.words.proofs.Signs.{half, negative_from, positive_below, is_negative_from, is_positive_below, magnitude_of_negative, magnitude_of_positive, signed_negative, signed_positive, negated_zero, negated_is}
+use Rattle.words.proofs.Signs.{half, negative_from, positive_below, is_negative_from, is_positive_below}
+use Rattle.words.proofs.Signs.{magnitude_of_negative, magnitude_of_positive, signed_negative, signed_positive}
+use Rattle.words.proofs.Signs.{negated_zero, negated_is}
 
 negative_by_positive : (n b : ℕ) → neg_ℤ (pos n) *ℤ pos b ≡ neg_ℤ (pos (n * b))
 negative_by_positive zero b = omega (arith, ints)
@@ -32,7 +35,8 @@ sum_of_negatives u v = omega (arith, ints)
 
 -- the integer of a number below 2 ^ (k - 1), and of its negative
 signed_number : (k n : ℕ) → n < 2 ^ (k - 1) → signed k n ≡ pos n
-signed_number k n h = signed_positive k n (is_positive_below k n h) ∙ ap pos (magnitude_of_positive k n (is_positive_below k n h))
+signed_number k n h = signed_positive k n (is_positive_below k n h)
+    ∙ ap pos (magnitude_of_positive k n (is_positive_below k n h))
 
 signed_negated : (k n : ℕ) → 0 < k → n ≤ 2 ^ (k - 1) → signed k (negated k n) ≡ neg_ℤ (pos n)
 signed_negated k zero some h = ap (signed k) (negated_zero k) ∙ signed_number k 0 (pow_pos (k - 1))
@@ -43,7 +47,8 @@ signed_negated k (suc n) some h =
     let high : 2 ^ (k - 1) ≤ negated k (suc n) = omega (arith, is) in
     let e = is_negative_from k (negated k (suc n)) high in
     let below : negated k (suc n) < 2 ^ k = omega (arith, is) in
-    let size : magnitude k (negated k (suc n)) ≡ suc n = omega (arith, magnitude_of_negative k (negated k (suc n)) e, is) in
+    let size : magnitude k (negated k (suc n)) ≡ suc n = omega
+    (arith, magnitude_of_negative k (negated k (suc n)) e, is) in
     signed_negative k (negated k (suc n)) e below ∙ ap (λ i. neg_ℤ (pos i)) size
 
 pub magnitude_fits : (k x : ℕ) → 0 < k → x < 2 ^ k → magnitude k x ≤ 2 ^ (k - 1)
@@ -68,7 +73,8 @@ record AreParts (k x y n d : ℕ) : Type 0 where
   dividend_fits : magnitude k x ≤ 2 ^ (k - 1)
   divisor_fits : magnitude k y ≤ 2 ^ (k - 1)
 
-parts : (k x y : ℕ) → AreDividable k x y → AreParts k x y (magnitude k x / magnitude k y) (magnitude k x % magnitude k y)
+parts : (k x y : ℕ) → AreDividable k x y → AreParts k x y (magnitude k x / magnitude k y)
+    (magnitude k x % magnitude k y)
 parts k x y h =
     let some = magnitude_some k y h.right h.nonzero in
     let below = magnitude_fits k x h.some h.left in
@@ -130,14 +136,22 @@ quotient_positive k x y n d p e =
 -- the four cases of the signs
 signs : (k x y n d : ℕ) → AreDividable k x y → AreParts k x y n d → (IsOverflow k x y → ⊥) → (s t : Bool)
     → is_negative k x ≡ s → is_negative k y ≡ t
-    → IsDivision k x y (if s then (if t then n else negated k n) else (if t then negated k n else n)) (if s then negated k d else d)
+    → IsDivision k x y (if s then (if t then n else negated k n) else (if t then negated k n else n))
+    (if s then negated k d else d)
 signs k x y n d h p none true true e f =
     let below = quotient_below k x y n d h p none e f in
     let rest : d < 2 ^ (k - 1) = omega (arith, p.small, p.divisor_fits) in
     record {
       equation = signed_negative k x e h.left ∙ ap (λ i. neg_ℤ (pos i)) p.whole
           ∙ sym (sum_of_negatives (n * magnitude k y) d)
-          ∙ cc (positive_by_negative n (magnitude k y), signed_number k n below, signed_negative k y f h.right, signed_negated k d h.some (omega arith));
+          ∙ cc (
+            positive_by_negative n
+                (magnitude k y),
+            signed_number k n below,
+            signed_negative k y f h.right,
+            signed_negated k d h.some
+                (omega arith),
+          );
       size = omega (arith, negated_magnitude k d h.some (omega arith), p.small);
       sign = remainder_of_negative k d h.some rest x e;
     }
@@ -146,7 +160,13 @@ signs k x y n d h p none true false e f =
     record {
       equation = signed_negative k x e h.left ∙ ap (λ i. neg_ℤ (pos i)) p.whole
           ∙ sym (sum_of_negatives (n * magnitude k y) d)
-          ∙ cc (negative_by_positive n (magnitude k y), signed_negated k n h.some p.quotient_fits, signed_positive k y f, signed_negated k d h.some (omega arith));
+          ∙ cc (
+            negative_by_positive n
+                (magnitude k y),
+            signed_negated k n h.some p.quotient_fits,
+            signed_positive k y f,
+            signed_negated k d h.some (omega arith),
+          );
       size = omega (arith, negated_magnitude k d h.some (omega arith), p.small);
       sign = remainder_of_negative k d h.some rest x e;
     }
@@ -154,7 +174,13 @@ signs k x y n d h p none false true e f =
     let rest : d < 2 ^ (k - 1) = omega (arith, p.small, p.divisor_fits) in
     record {
       equation = signed_positive k x e ∙ ap pos p.whole
-          ∙ cc (negative_by_negative n (magnitude k y), signed_negated k n h.some p.quotient_fits, signed_negative k y f h.right, signed_number k d rest);
+          ∙ cc (
+            negative_by_negative n
+                (magnitude k y),
+            signed_negated k n h.some p.quotient_fits,
+            signed_negative k y f h.right,
+            signed_number k d rest,
+          );
       size = omega (arith, magnitude_of_positive k d (is_positive_below k d rest), p.small);
       sign = inr (is_positive_below k d rest ∙ sym e);
     }
@@ -168,7 +194,8 @@ signs k x y n d h p none false false e f =
       sign = inr (is_positive_below k d rest ∙ sym e);
     }
 
-pub divided : (k x y : ℕ) → AreDividable k x y → (IsOverflow k x y → ⊥) → IsDivision k x y (signed_quotient k x y) (signed_remainder k x y)
+pub divided : (k x y : ℕ) → AreDividable k x y → (IsOverflow k x y → ⊥)
+    → IsDivision k x y (signed_quotient k x y) (signed_remainder k x y)
 divided k x y h none = signs k x y _ _ h (parts k x y h) none (is_negative k x) (is_negative k y) refl refl
 
 -- the two by the signs of their operands

@@ -1,10 +1,12 @@
 -- Words extended by copies of their sign bits: what stands for the same integer.
-use Rattle.std.proofs.Common.{◌≡◌, ℕ, ◌+◌, ◌-◌, ◌*◌, ◌^◌, ◌<◌, ◌≤◌, Bool, true, false, if◌then◌else◌, refl, ap, ◌∙◌, sym, arith}
+use Rattle.std.proofs.Common.{◌≡◌, ℕ, ◌+◌, ◌-◌, ◌*◌, ◌^◌, ◌<◌, ◌≤◌, Bool, true, false, if◌then◌else◌, refl, ap, ◌∙◌}
+use Rattle.std.proofs.Common.{sym, arith}
 use Rattle.std.proofs.Math.Nat.{mod-eq_of_lt, pow-le-pow_right, add-mul-mod_self_right}
 use Rattle.std.proofs.lemmas.Nat.{pow-add, pow_pos}
 use Rattle.std.specs.Prelude.{pos, neg_ℤ}
 use Rattle.words.specs.TwosComplement.{IsExtendable, low_bits, is_negative, signed, magnitude, sign_extended}
-use Rattle.words.proofs.Signs.{half, negative_from, positive_below, is_negative_from, is_positive_below, magnitude_of_negative, magnitude_of_positive, signed_negative, signed_positive}
+use Rattle.words.proofs.Signs.{half, negative_from, positive_below, is_negative_from, is_positive_below}
+use Rattle.words.proofs.Signs.{magnitude_of_negative, magnitude_of_positive, signed_negative, signed_positive}
 
 pub powers : {k m : ℕ} → k ≤ m → 2 ^ k ≤ 2 ^ m
 powers h = pow-le-pow_right (omega arith) h

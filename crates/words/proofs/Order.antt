@@ -24,13 +24,15 @@ turned_positive k x some e =
     let small : x + 2 ^ (k - 1) < 2 ^ k = omega arith in
     mod-eq_of_lt small
 
-pub less_as_integers : (k x y : ℕ) → 0 < k → x < 2 ^ k → y < 2 ^ k → IsTrue (is_less_signed k x y) ↔ signed k x <ℤ signed k y
+pub less_as_integers : (k x y : ℕ) → 0 < k → x < 2 ^ k → y < 2 ^ k
+    → IsTrue (is_less_signed k x y) ↔ signed k x <ℤ signed k y
 less_as_integers k x y some left right = by (is_negative k x) (is_negative k y) refl refl
   where
     p : 2 ^ k ≡ 2 ^ (k - 1) + 2 ^ (k - 1)
     p = half k some
 
-    by : (s t : Bool) → is_negative k x ≡ s → is_negative k y ≡ t → IsTrue (is_less_signed k x y) ↔ signed k x <ℤ signed k y
+    by : (s t : Bool) → is_negative k x ≡ s → is_negative k y ≡ t
+        → IsTrue (is_less_signed k x y) ↔ signed k x <ℤ signed k y
     by true true e f =
         let from = negative_from k x e in
         let other = negative_from k y f in
@@ -62,7 +64,8 @@ pub extended_less : (k m x y : ℕ) → IsExtendable k m x → IsExtendable k m 
     → is_less_signed m (sign_extended k m x) (sign_extended k m y) ≡ is_less_signed k x y
 extended_less k m x y v w =
     let wide : 0 < m = omega (arith, v.some, v.wide) in
-    let large = less_as_integers m (sign_extended k m x) (sign_extended k m y) wide (extended_fits k m x v) (extended_fits k m y w) in
+    let large = less_as_integers m (sign_extended k m x) (sign_extended k m y) wide (extended_fits k m x v)
+    (extended_fits k m y w) in
     let short = less_as_integers k x y v.some v.fits w.fits in
     same_test (is_less_signed m (sign_extended k m x) (sign_extended k m y)) (is_less_signed k x y)
     (λ h. short.1 (rw (sym (extended_signed k m x v), sym (extended_signed k m y w)) (large.0 h)))

@@ -1,5 +1,6 @@
 -- Shifts of words, and extension by two of them.
-use Rattle.std.proofs.Common.{◌≡◌, ℕ, ◌+◌, ◌-◌, ◌*◌, ◌/◌, ◌%◌, ◌^◌, ◌<◌, ◌≤◌, Bool, true, false, if◌then◌else◌, refl, ap, ◌∙◌, sym, arith}
+use Rattle.std.proofs.Common.{◌≡◌, ℕ, ◌+◌, ◌-◌, ◌*◌, ◌/◌, ◌%◌, ◌^◌, ◌<◌, ◌≤◌, Bool, true, false, if◌then◌else◌, refl}
+use Rattle.std.proofs.Common.{ap, ◌∙◌, sym, arith}
 use Rattle.std.proofs.Math.Nat.{div-le_self, mul-mod_left, mul-le-mul_right}
 use Rattle.std.proofs.lemmas.Nat.{pow-add, pow_pos, mod-pow-add, mod_below, shl-shr, div-mul-add}
 use Rattle.words.specs.TwosComplement.{IsExtendable, low_bits, is_negative, sign_extended}
@@ -7,7 +8,8 @@ use Rattle.words.specs.Operations.{complement, shifted_left, shifted_right_signe
 use Rattle.words.proofs.Signs.{half, negative_from, positive_below, is_negative_from, is_positive_below}
 use Rattle.words.proofs.Extended.{powers, product_of_powers, extended_negative, extended_positive, extended_sign}
 
-shift_of_negative : (k x by : ℕ) → is_negative k x ≡ true → shifted_right_signed k x by ≡ complement k (complement k x / 2 ^ by)
+shift_of_negative : (k x by : ℕ) → is_negative k x ≡ true → shifted_right_signed k x by
+    ≡ complement k (complement k x / 2 ^ by)
 shift_of_negative k x by e = ap (λ b. if b then complement k (complement k x / 2 ^ by) else x / 2 ^ by) e
 
 shift_of_positive : (k x by : ℕ) → is_negative k x ≡ false → shifted_right_signed k x by ≡ x / 2 ^ by
@@ -23,12 +25,19 @@ extended_shift k m x by w = cases (is_negative k x) refl
     cases true e =
         let p = half k w.some in
         let from = negative_from k x e in
-        let same : complement m (sign_extended k m x) ≡ complement k x = omega (arith, extended_negative k m x e, powers w.wide, w.fits) in
+        let same : complement m (sign_extended k m x) ≡ complement k x = omega
+        (arith, extended_negative k m x e, powers w.wide, w.fits) in
         let most = div-le_self (complement k x) (2 ^ by) in
         let high : 2 ^ (k - 1) ≤ shifted_right_signed k x by = omega (arith, shift_of_negative k x by e) in
         shift_of_negative m (sign_extended k m x) by (extended_sign k m x w ∙ e)
         ∙ ap (λ n. complement m (n / 2 ^ by)) same
-        ∙ omega (arith, powers w.wide, extended_negative k m (shifted_right_signed k x by) (is_negative_from k _ high), shift_of_negative k x by e)
+        ∙ omega (
+          arith,
+          powers w.wide,
+          extended_negative k m (shifted_right_signed k x by)
+              (is_negative_from k _ high),
+          shift_of_negative k x by e,
+        )
     cases false e =
         let below = positive_below k x e in
         let most = div-le_self x (2 ^ by) in
@@ -51,7 +60,8 @@ zero_extended_by_shifts k m x h = ap (λ n. n / 2 ^ (m - k)) (moved_up k m x h) 
 
 pub sign_extended_by_shifts : (k m x : ℕ) → 0 < k → k ≤ m
     → shifted_right_signed m (shifted_left m x (m - k)) (m - k) ≡ sign_extended k m (low_bits k x)
-sign_extended_by_shifts k m x some h = ap (λ n. shifted_right_signed m n (m - k)) (moved_up k m x h) ∙ cases (is_negative k w) refl
+sign_extended_by_shifts k m x some h = ap (λ n. shifted_right_signed m n (m - k)) (moved_up k m x h)
+    ∙ cases (is_negative k w) refl
   where
     w : ℕ
     w = low_bits k x
@@ -70,7 +80,12 @@ sign_extended_by_shifts k m x some h = ap (λ n. shifted_right_signed m n (m - k
     cases : (b : Bool) → is_negative k w ≡ b → shifted_right_signed m (w * 2 ^ (m - k)) (m - k) ≡ sign_extended k m w
     cases true e =
         let room = pow_pos (m - k) in
-        let high : 2 ^ (m - 1) ≤ w * 2 ^ (m - k) = omega (arith, top, mul-le-mul_right (2 ^ (m - k)) (negative_from k w e)) in
+        let high : 2 ^ (m - 1) ≤ w * 2 ^ (m - k) = omega (
+          arith,
+          top,
+          mul-le-mul_right (2 ^ (m - k))
+              (negative_from k w e),
+        ) in
         let all : 2 ^ k ≡ complement k w + w + 1 = omega (arith, fits) in
         let parts : complement m (w * 2 ^ (m - k)) ≡ complement k w * 2 ^ (m - k) + (2 ^ (m - k) - 1) =
         omega (arith, whole, ap (λ n. n * 2 ^ (m - k)) all) in
@@ -83,4 +98,13 @@ sign_extended_by_shifts k m x some h = ap (λ n. shifted_right_signed m n (m - k
         let room = pow_pos (m - k) in
         let below : w + 1 ≤ 2 ^ (k - 1) = omega (arith, positive_below k w e) in
         let low : w * 2 ^ (m - k) < 2 ^ (m - 1) = omega (arith, top, mul-le-mul_right (2 ^ (m - k)) below) in
-        shift_of_positive m (w * 2 ^ (m - k)) (m - k) (is_positive_below m _ low) ∙ shl-shr w (m - k) ∙ sym (extended_positive k m w e)
+        shift_of_positive m (w * 2 ^ (m - k)) (m - k) (is_positive_below m _ low) ∙ shl-shr w (m - k)
+        ∙ sym (extended_positive k m w e)
+
+-- a word shifted to the right is a word
+pub shift_fits : (k x by : ℕ) → x < 2 ^ k → shifted_right_signed k x by < 2 ^ k
+shift_fits k x by fits = cases (is_negative k x) refl
+  where
+    cases : (b : Bool) → is_negative k x ≡ b → shifted_right_signed k x by < 2 ^ k
+    cases true e = omega (arith, shift_of_negative k x by e)
+    cases false e = omega (arith, shift_of_positive k x by e, div-le_self x (2 ^ by))

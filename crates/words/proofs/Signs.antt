@@ -1,5 +1,6 @@
 -- Words and the integers that they stand for.
-use Rattle.std.proofs.Common.{◌≡◌, ℕ, ◌+◌, ◌-◌, ◌%◌, ◌^◌, ◌<◌, ◌≤◌, Bool, true, false, if◌then◌else◌, refl, ap, ◌∙◌, sym, subst, arith}
+use Rattle.std.proofs.Common.{◌≡◌, ℕ, ◌+◌, ◌-◌, ◌%◌, ◌^◌, ◌<◌, ◌≤◌, Bool, true, false, if◌then◌else◌, refl, ap, ◌∙◌}
+use Rattle.std.proofs.Common.{sym, subst, arith}
 use Rattle.std.proofs.Math.Nat.{mod-eq_of_lt, mod_self}
 use Rattle.std.proofs.lemmas.Bool.Decides.{nat_tests}
 use Rattle.std.proofs.lemmas.Int.{ints}
@@ -44,10 +45,14 @@ signed_is_in_range k x some fits = by (is_negative k x) refl
     by true e =
         let p = half k some in
         let from = negative_from k x e in
-        subst (IsSigned k) (sym (signed_of_negative k x e fits)) (record { low = omega (arith, ints); high = omega (arith, ints) })
+        subst (IsSigned k) (sym (signed_of_negative k x e fits))
+        (record { low = omega (arith, ints); high = omega (arith, ints) })
     by false e =
         let below = positive_below k x e in
-        subst (IsSigned k) (sym (signed_of_positive k x e)) (record { low = omega (arith, ints); high = omega (arith, ints) })
+        subst (IsSigned k) (sym (signed_of_positive k x e)) (record {
+          low = omega (arith, ints);
+          high = omega (arith, ints);
+        })
 
 pub signed_of_word : (k : ℕ) (z : ℤ) → 0 < k → IsSigned k z → signed k (twos_complement k z) ≡ z
 signed_of_word k (pos n) some range =

@@ -1,5 +1,6 @@
--- What a quotient and a remainder of integers are (C99 6.5.5 paragraph 6; RISC-V unprivileged ISA manual, "M Extension"):
--- the dividend is their sum times the divisor, the remainder is smaller than the divisor, and has the dividend's sign.
+-- What a quotient and a remainder of integers are (C99 6.5.5 paragraph 6; RISC-V unprivileged ISA manual, "M
+-- Extension"): the dividend is their sum times the divisor, the remainder is smaller than the divisor, and has the
+-- dividend's sign.
 use Rattle.std.specs.Prelude.{◌≡◌, ℕ, ◌-◌, ◌^◌, ◌<◌, ◌⊎◌, ◌+ℤ◌, ◌*ℤ◌}
 use Rattle.words.specs.TwosComplement.{is_negative, signed, magnitude}
 

@@ -1,7 +1,8 @@
 //! Laws of words, each as the contract of a function that does nothing: layers above rest on them.
 ghost use Rattle.std.specs.Prelude.{◌≡◌, ◌↔◌, ℕ, ◌-◌, ◌/◌, ◌^◌, ◌<◌, ◌≤◌, ℤ, ◌<ℤ◌, IsTrue, bit_and, bit_or, bit_xor};
 ghost use Rattle.words.specs.TwosComplement.{IsExtendable, IsSigned, low_bits, signed, twos_complement, sign_extended};
-ghost use Rattle.words.specs.Operations.{sum, difference, product, complement, shifted_left, shifted_right_signed, is_less_signed, signed_quotient, signed_remainder};
+ghost use Rattle.words.specs.Operations.{sum, difference, product, complement, shifted_left, shifted_right_signed};
+ghost use Rattle.words.specs.Operations.{is_less_signed, signed_quotient, signed_remainder};
 ghost use Rattle.words.specs.Division.{IsDivision, IsOverflow, AreDividable};
 
 /// Each word of k bits stands for one integer of that range, and each of these has one word.

@@ -12,7 +12,8 @@ returns-in_err-add_segment c =
       header_is = c.at.ensures ∙ ap program_header c.split_at.ensures.front;
       after_is = c.split_at.ensures.back;
     } in
-    rw (p.1, p.2) (gives_up c.args.bytes.now c.in_err-add_segment.field-0.0 (loads c.args.count c.args.table.now) s c.in_err-add_segment.ensures c.loop-i.invariant.fault)
+    rw (p.1, p.2) (gives_up c.args.bytes.now c.in_err-add_segment.field-0.0
+    (loads c.args.count c.args.table.now) s c.in_err-add_segment.ensures c.loop-i.invariant.fault)
 
 pub loop-i-preserved : goal.loop-i-preserved
 loop-i-preserved c =
@@ -21,7 +22,8 @@ loop-i-preserved c =
       header_is = c.at.ensures ∙ ap program_header c.split_at.ensures.front;
       after_is = c.split_at.ensures.back;
     } in
-    let n = goes_on c.args.bytes.now (loads c.args.count c.args.table.now) c.loop-i.segments.items c.add_segment.new.segments.items s c.in_ok-add_segment.ensures c.loop-i.invariant.fault c.loop-i.invariant.so_far in
+    let n = goes_on c.args.bytes.now
+    (loads c.args.count c.args.table.now) c.loop-i.segments.items c.add_segment.new.segments.items s c.in_ok-add_segment.ensures c.loop-i.invariant.fault c.loop-i.invariant.so_far in
     record {
       room = omega (arith, c.split_at.ensures.back_len);
       fault = n.fault;

@@ -7,6 +7,8 @@ use Rattle.elf_image.proofs.image.collect.Given as goal
 abbrev pub invariant-loop-i : goal.invariant-loop-i
 invariant-loop-i l = record {
   room : 56 * (l.count - l._i) ≤ length l.rest;
-  fault : loads_fault (length l.bytes) (loads (l.count - l._i) l.rest) ≡ loads_fault (length l.bytes) (loads l.count l.table);
-  so_far : l.segments.items ++ map (segment_of l.bytes) (loads (l.count - l._i) l.rest) ≡ map (segment_of l.bytes) (loads l.count l.table);
+  fault : loads_fault (length l.bytes) (loads (l.count - l._i) l.rest)
+      ≡ loads_fault (length l.bytes) (loads l.count l.table);
+  so_far : l.segments.items ++ map (segment_of l.bytes) (loads (l.count - l._i) l.rest)
+      ≡ map (segment_of l.bytes) (loads l.count l.table);
 }

@@ -1,4 +1,4 @@
-use Rattle.std.proofs.Common.{rules, arith, ◌-◌, ◌+◌, length, sym, ◌∙◌, map}
+use Rattle.std.proofs.Common.{rules, arith, ◌-◌, ◌+◌, length, sym, ◌∙◌, map, refl}
 use Rattle.std.proofs.lemmas.Grind.{common_steps}
 use Rattle.c_syntax.specs.View.{behind_comma}
 use Rattle.c_syntax.specs.StatementsView.{item_of}
@@ -6,6 +6,7 @@ use Rattle.c_grammar.specs.InitializerReader.{item_from, initializers}
 use Rattle.c_grammar.specs.Nested.{readers}
 use Rattle.c_grammar.specs.Reader.{behind_commas_to_brace}
 use Rattle.c_declarations.proofs.InitializerLists.{extending_to_brace, to_brace_turn, to_brace_fails, to_brace_last, to_brace_end, to_brace_done}
+use Rattle.c_expressions.proofs.Given.{read, refused}
 use Rattle.c_grammar.proofs.Turns.{one_more, no_more}
 use Rattle.c_declarations.proofs.initializer.Initializers.more_items.Goals as goal
 
@@ -20,16 +21,16 @@ returns-then-next_is g c =
     let f = e ∙ to_brace_last (item_from (readers c.args.self.now.names.now c.args.self.now.levels) (initializers c.args.self.now.names.now c.args.self.now.levels)) (length c.args.tokens.now.rest.now - (c.loop.counter + 1)) (map (behind_comma item_of) c.loop.others.items) c.loop.tokens.rest.now c.in-Some.place c.take.new.self.rest.now c.in-Some.ensures (sym c.next_is.ensures ∙ c.if-next_is.true) in
     first_of (search rules, grind (arith, common_steps))
 
-pub returns-in_err-item : goal.returns-in_err-item
-returns-in_err-item g c =
+pub returns-in_err-before : goal.returns-in_err-before
+returns-in_err-before g c =
     let e = one_more (λ n. extending_to_brace (map (behind_comma item_of) c.loop.others.items) (behind_commas_to_brace (item_from (readers c.args.self.now.names.now c.args.self.now.levels) (initializers c.args.self.now.names.now c.args.self.now.levels)) n c.loop.tokens.rest.now)) _ c.loop.counter c.loop-test.true c.loop.invariant in
-    let f = to_brace_fails (item_from (readers c.args.self.now.names.now c.args.self.now.levels) (initializers c.args.self.now.names.now c.args.self.now.levels)) (length c.args.tokens.now.rest.now - (c.loop.counter + 1)) (map (behind_comma item_of) c.loop.others.items) c.loop.tokens.rest.now c.in-Some.place c.take.new.self.rest.now c.item.new.tokens.rest.now _ c.in_err-item.field-0.0 e c.in-Some.ensures (sym c.next_is.ensures ∙ c.if-next_is.false) c.in_err-item.ensures in
+    let f = to_brace_fails (item_from (readers c.args.self.now.names.now c.args.self.now.levels) (initializers c.args.self.now.names.now c.args.self.now.levels)) (length c.args.tokens.now.rest.now - (c.loop.counter + 1)) (map (behind_comma item_of) c.loop.others.items) c.loop.tokens.rest.now c.in-Some.place c.take.new.self.rest.now c.item.new.tokens.rest.now _ c.in_err-before.field-0.0 e c.in-Some.ensures (sym c.next_is.ensures ∙ c.if-next_is.false) (refused item_of _ _ _ _ c.item.ensures (c.in_err-before.ensures.err _ refl)) in
     first_of (search rules, grind (arith, common_steps))
 
 pub loop-preserved : goal.loop-preserved
 loop-preserved g c =
     let e = one_more (λ n. extending_to_brace (map (behind_comma item_of) c.loop.others.items) (behind_commas_to_brace (item_from (readers c.args.self.now.names.now c.args.self.now.levels) (initializers c.args.self.now.names.now c.args.self.now.levels)) n c.loop.tokens.rest.now)) _ c.loop.counter c.loop-test.true c.loop.invariant in
-    rw c.in_ok-push.ensures.items (e ∙ to_brace_turn item_of (item_from (readers c.args.self.now.names.now c.args.self.now.levels) (initializers c.args.self.now.names.now c.args.self.now.levels)) (length c.args.tokens.now.rest.now - (c.loop.counter + 1)) c.loop.others.items c.in_ok-item.item c.loop.tokens.rest.now c.in-Some.place c.take.new.self.rest.now c.item.new.tokens.rest.now c.in-Some.ensures (sym c.next_is.ensures ∙ c.if-next_is.false) c.in_ok-item.ensures)
+    rw (c.in_ok-others.ensures, c.in_ok-before.ensures.ok.0) (e ∙ to_brace_turn item_of (item_from (readers c.args.self.now.names.now c.args.self.now.levels) (initializers c.args.self.now.names.now c.args.self.now.levels)) (length c.args.tokens.now.rest.now - (c.loop.counter + 1)) c.loop.others.items c.in_ok-before.item c.loop.tokens.rest.now c.in-Some.place c.take.new.self.rest.now c.item.new.tokens.rest.now c.in-Some.ensures (sym c.next_is.ensures ∙ c.if-next_is.false) (read item_of _ _ _ _ c.item.ensures c.in_ok-before.ensures.ok.1))
 
 pub returns : goal.returns
 returns g c =

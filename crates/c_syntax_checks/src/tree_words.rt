@@ -1,0 +1,419 @@
+//! The words that a tree is written with, in the order of the text.
+
+ghost use Rattle.std.specs.Prelude.{◌≡◌, ◌++◌, ◌∷◌, OnOk};
+ghost use Rattle.c_lexer.specs.declared.keyword.Keyword.TheVariants as keywords;
+ghost use Rattle.c_lexer.specs.declared.punctuator.Punctuator.TheVariants as punctuators;
+ghost use Rattle.c_syntax.specs.Words as spec;
+ghost use Rattle.c_syntax.specs.View as view;
+
+use c_lexer::{Keyword, Punctuator, Word};
+use c_syntax::place::{Place, Placed, Spelled};
+use c_syntax::tree::{
+    Arguments, Declarator, Enumerator, Expression, Member, Parameters, Specifier, TypedDeclarator,
+};
+use std::alloc::AllocError;
+
+/// Puts a word behind the others.
+fn put<'a>(out: &mut Vec<Placed<'a>>, word: Word<'a>, place: Place) -> Result<(), AllocError>
+    ensures { OnOk result ((i : spec.Words) → out.new.items ++ i ≡ out.old.items ++ (spec.word_at word.entry place ∷ i)) }
+{
+    out.push(Placed { word, place })?;
+    Ok(())
+}
+
+/// Puts a keyword.
+pub(crate) fn put_keyword<'a>(
+    out: &mut Vec<Placed<'a>>,
+    keyword: Keyword,
+    place: Place,
+) -> Result<(), AllocError>
+    ensures { OnOk result ((i : spec.Words) → out.new.items ++ i ≡ out.old.items ++ (spec.keyword keyword place ∷ i)) }
+{
+    put(out, Word::Keyword(keyword), place)
+}
+
+/// Puts a punctuator.
+pub(crate) fn put_punctuator<'a>(
+    out: &mut Vec<Placed<'a>>,
+    punctuator: Punctuator,
+    place: Place,
+) -> Result<(), AllocError>
+    ensures { OnOk result ((i : spec.Words) → out.new.items ++ i ≡ out.old.items ++ (spec.punctuator punctuator place ∷ i)) }
+{
+    put(out, Word::Punctuator(punctuator), place)
+}
+
+/// Puts an identifier.
+pub(crate) fn put_identifier<'a>(
+    out: &mut Vec<Placed<'a>>,
+    name: &Spelled<'a>,
+) -> Result<(), AllocError>
+    ensures { OnOk result ((i : spec.Words) → out.new.items ++ i ≡ out.old.items ++ (spec.identifier name.now ∷ i)) }
+{
+    put(out, Word::Identifier(name.spelling.again()), name.place)
+}
+
+/// Puts string literals that stand side by side.
+fn put_strings<'a>(
+    out: &mut Vec<Placed<'a>>,
+    first: &Spelled<'a>,
+    others: &[Spelled<'a>],
+) -> Result<(), AllocError>
+    ensures { OnOk result ((i : spec.Words) → out.new.items ++ i ≡ out.old.items ++ (spec.string first.now ∷ spec.strings_words others.now i)) }
+{
+    put(
+        out,
+        Word::StringLiteral(first.spelling.again()),
+        first.place,
+    )?;
+    for string in others {
+        put(
+            out,
+            Word::StringLiteral(string.spelling.again()),
+            string.place,
+        )?;
+    }
+    Ok(())
+}
+
+/// Puts the words `const` behind a `*`.
+fn put_consts<'a>(out: &mut Vec<Placed<'a>>, places: &[Place]) -> Result<(), AllocError>
+    ensures { OnOk result ((i : spec.Words) → out.new.items ++ i ≡ out.old.items ++ spec.const_words places.now i) }
+{
+    for place in places {
+        put_keyword(out, Keyword::Const, *place)?;
+    }
+    Ok(())
+}
+
+/// Puts a tag, if there is one.
+fn put_tag<'a>(out: &mut Vec<Placed<'a>>, tag: &Option<Spelled<'a>>) -> Result<(), AllocError>
+    ensures { OnOk result ((i : spec.Words) → out.new.items ++ i ≡ out.old.items ++ spec.tag_words tag.now i) }
+{
+    match tag {
+        None => Ok(()),
+        Some(name) => put_identifier(out, name),
+    }
+}
+
+/// Puts a keyword, a tag, if there is one, and `{`.
+fn put_head<'a>(
+    out: &mut Vec<Placed<'a>>,
+    keyword: Keyword,
+    place: Place,
+    tag: &Option<Spelled<'a>>,
+    left: Place,
+) -> Result<(), AllocError>
+    ensures { OnOk result ((i : spec.Words) → out.new.items ++ i ≡ out.old.items ++ (spec.keyword keyword place ∷ spec.tag_words tag.now (spec.punctuator punctuators.LeftBrace left ∷ i))) }
+{
+    put_keyword(out, keyword, place)?;
+    put_tag(out, tag)?;
+    put_punctuator(out, Punctuator::LeftBrace, left)
+}
+
+/// Puts a last comma, if there is one, and `}`.
+pub(crate) fn put_tail<'a>(
+    out: &mut Vec<Placed<'a>>,
+    comma: Option<Place>,
+    right: Place,
+) -> Result<(), AllocError>
+    ensures { OnOk result ((i : spec.Words) → out.new.items ++ i ≡ out.old.items ++ (spec.comma_words comma (spec.punctuator punctuators.RightBrace right ∷ i))) }
+{
+    if let Some(place) = comma {
+        put_punctuator(out, Punctuator::Comma, place)?;
+    }
+    put_punctuator(out, Punctuator::RightBrace, right)
+}
+
+/// Puts the words of an expression (C99 6.5).
+#[cycle(words)]
+pub(crate) fn put_expression<'a>(
+    out: &mut Vec<Placed<'a>>,
+    expression: &Expression<'a>,
+) -> Result<(), AllocError>
+    ensures { OnOk result ((i : spec.Words) → out.new.items ++ i ≡ out.old.items ++ spec.expression_words (view.expression_of expression.now) i) }
+{
+    match expression {
+        Expression::Identifier(name) => put_identifier(out, name),
+        Expression::Integer(constant) => put(
+            out,
+            Word::Integer(constant.spelling.again()),
+            constant.place,
+        ),
+        Expression::Character(constant) => put(
+            out,
+            Word::Character(constant.spelling.again()),
+            constant.place,
+        ),
+        Expression::Strings(first, others) => put_strings(out, first, others.as_slice()),
+        Expression::Parenthesized(left, inner, right) => {
+            put_punctuator(out, Punctuator::LeftParenthesis, *left)?;
+            put_expression(out, inner.get())?;
+            put_punctuator(out, Punctuator::RightParenthesis, *right)
+        }
+        Expression::Subscript(array, left, index, right) => {
+            put_expression(out, array.get())?;
+            put_punctuator(out, Punctuator::LeftBracket, *left)?;
+            put_expression(out, index.get())?;
+            put_punctuator(out, Punctuator::RightBracket, *right)
+        }
+        Expression::Call(called, left, arguments, right) => {
+            put_expression(out, called.get())?;
+            put_punctuator(out, Punctuator::LeftParenthesis, *left)?;
+            put_arguments(out, arguments)?;
+            put_punctuator(out, Punctuator::RightParenthesis, *right)
+        }
+        Expression::Member(whole, operator, place, name) => {
+            put_expression(out, whole.get())?;
+            put_punctuator(out, *operator, *place)?;
+            put_identifier(out, name)
+        }
+        Expression::Postfix(operand, operator, place) => {
+            put_expression(out, operand.get())?;
+            put_punctuator(out, *operator, *place)
+        }
+        Expression::Unary(operator, place, operand) => {
+            put_punctuator(out, *operator, *place)?;
+            put_expression(out, operand.get())
+        }
+        Expression::SizeofExpression(place, operand) => {
+            put_keyword(out, Keyword::Sizeof, *place)?;
+            put_expression(out, operand.get())
+        }
+        Expression::SizeofType(place, left, name, right) => {
+            put_keyword(out, Keyword::Sizeof, *place)?;
+            put_punctuator(out, Punctuator::LeftParenthesis, *left)?;
+            put_typed(out, name.get())?;
+            put_punctuator(out, Punctuator::RightParenthesis, *right)
+        }
+        Expression::Cast(left, name, right, operand) => {
+            put_punctuator(out, Punctuator::LeftParenthesis, *left)?;
+            put_typed(out, name.get())?;
+            put_punctuator(out, Punctuator::RightParenthesis, *right)?;
+            put_expression(out, operand.get())
+        }
+        Expression::Binary(first, operator, place, second) => {
+            put_expression(out, first.get())?;
+            put_punctuator(out, *operator, *place)?;
+            put_expression(out, second.get())
+        }
+        Expression::Conditional(condition, question, first, colon, second) => {
+            put_expression(out, condition.get())?;
+            put_punctuator(out, Punctuator::Question, *question)?;
+            put_expression(out, first.get())?;
+            put_punctuator(out, Punctuator::Colon, *colon)?;
+            put_expression(out, second.get())
+        }
+        Expression::Assignment(first, operator, place, second) => {
+            put_expression(out, first.get())?;
+            put_punctuator(out, *operator, *place)?;
+            put_expression(out, second.get())
+        }
+    }
+}
+
+/// Puts the words of arguments (C99 6.5.2.2).
+#[cycle(words)]
+fn put_arguments<'a>(out: &mut Vec<Placed<'a>>, arguments: &Arguments<'a>) -> Result<(), AllocError>
+    ensures { OnOk result ((i : spec.Words) → out.new.items ++ i ≡ out.old.items ++ spec.arguments_words (view.arguments_of arguments.now) i) }
+{
+    match arguments {
+        Arguments::Empty => Ok(()),
+        Arguments::Given(first, others) => {
+            put_expression(out, first.get())?;
+            for (comma, argument) in others.as_slice() {
+                put_punctuator(out, Punctuator::Comma, *comma)?;
+                put_expression(out, argument)?;
+            }
+            Ok(())
+        }
+    }
+}
+
+/// Puts the words of a type name or parameter (C99 6.7.5, 6.7.6).
+#[cycle(words)]
+fn put_typed<'a>(out: &mut Vec<Placed<'a>>, typed: &TypedDeclarator<'a>) -> Result<(), AllocError>
+    ensures { OnOk result ((i : spec.Words) → out.new.items ++ i ≡ out.old.items ++ spec.typed_words (view.typed_of typed.now) i) }
+{
+    put_specifiers(out, typed.specifiers.as_slice())?;
+    put_declarator(out, &typed.declarator)
+}
+
+/// Puts the words of a declarator (C99 6.7.5).
+#[cycle(words)]
+pub(crate) fn put_declarator<'a>(
+    out: &mut Vec<Placed<'a>>,
+    declarator: &Declarator<'a>,
+) -> Result<(), AllocError>
+    ensures { OnOk result ((i : spec.Words) → out.new.items ++ i ≡ out.old.items ++ spec.declarator_words (view.declarator_of declarator.now) i) }
+{
+    match declarator {
+        Declarator::Named(name) => put_identifier(out, name),
+        Declarator::Unnamed => Ok(()),
+        Declarator::Pointer(place, consts, inner) => {
+            put_punctuator(out, Punctuator::Star, *place)?;
+            put_consts(out, consts.as_slice())?;
+            put_declarator(out, inner.get())
+        }
+        Declarator::Parenthesized(left, inner, right) => {
+            put_punctuator(out, Punctuator::LeftParenthesis, *left)?;
+            put_declarator(out, inner.get())?;
+            put_punctuator(out, Punctuator::RightParenthesis, *right)
+        }
+        Declarator::OpenArray(inner, left, right) => {
+            put_declarator(out, inner.get())?;
+            put_punctuator(out, Punctuator::LeftBracket, *left)?;
+            put_punctuator(out, Punctuator::RightBracket, *right)
+        }
+        Declarator::Array(inner, left, size, right) => {
+            put_declarator(out, inner.get())?;
+            put_punctuator(out, Punctuator::LeftBracket, *left)?;
+            put_expression(out, size.get())?;
+            put_punctuator(out, Punctuator::RightBracket, *right)
+        }
+        Declarator::Function(inner, left, parameters, right) => {
+            put_declarator(out, inner.get())?;
+            put_punctuator(out, Punctuator::LeftParenthesis, *left)?;
+            put_parameters(out, parameters)?;
+            put_punctuator(out, Punctuator::RightParenthesis, *right)
+        }
+    }
+}
+
+/// Puts the words of parameters (C99 6.7.5.3).
+#[cycle(words)]
+fn put_parameters<'a>(
+    out: &mut Vec<Placed<'a>>,
+    parameters: &Parameters<'a>,
+) -> Result<(), AllocError>
+    ensures { OnOk result ((i : spec.Words) → out.new.items ++ i ≡ out.old.items ++ spec.parameters_words (view.parameters_of parameters.now) i) }
+{
+    match parameters {
+        Parameters::Empty => Ok(()),
+        Parameters::Void(place) => put_keyword(out, Keyword::Void, *place),
+        Parameters::Given(first, others) => {
+            put_typed(out, first.get())?;
+            for (comma, parameter) in others.as_slice() {
+                put_punctuator(out, Punctuator::Comma, *comma)?;
+                put_typed(out, parameter)?;
+            }
+            Ok(())
+        }
+    }
+}
+
+/// Puts the words of specifiers (C99 6.7).
+#[cycle(words)]
+pub(crate) fn put_specifiers<'a>(
+    out: &mut Vec<Placed<'a>>,
+    specifiers: &[Specifier<'a>],
+) -> Result<(), AllocError>
+    ensures { OnOk result ((i : spec.Words) → out.new.items ++ i ≡ out.old.items ++ spec.specifiers_words (view.specifiers_in specifiers.now) i) }
+{
+    for specifier in specifiers {
+        put_specifier(out, specifier)?;
+    }
+    Ok(())
+}
+
+/// Puts the words of a specifier (C99 6.7.1 to 6.7.4).
+#[cycle(words)]
+fn put_specifier<'a>(out: &mut Vec<Placed<'a>>, specifier: &Specifier<'a>) -> Result<(), AllocError>
+    ensures { OnOk result ((i : spec.Words) → out.new.items ++ i ≡ out.old.items ++ spec.specifier_words (view.specifier_of specifier.now) i) }
+{
+    match specifier {
+        Specifier::Keyword(keyword, place) => put_keyword(out, *keyword, *place),
+        Specifier::TypedefName(name) => put_identifier(out, name),
+        Specifier::Structure(keyword, place, tag) => {
+            put_keyword(out, *keyword, *place)?;
+            put_identifier(out, tag)
+        }
+        Specifier::StructureBody(keyword, place, tag, left, members, right) => {
+            put_head(out, *keyword, *place, tag, *left)?;
+            put_members(out, members.as_slice())?;
+            put_punctuator(out, Punctuator::RightBrace, *right)
+        }
+        Specifier::Enumeration(place, tag) => {
+            put_keyword(out, Keyword::Enum, *place)?;
+            put_identifier(out, tag)
+        }
+        Specifier::EnumerationBody(place, tag, left, first, others, comma, right) => {
+            put_head(out, Keyword::Enum, *place, tag, *left)?;
+            put_enumerator(out, first.get())?;
+            put_more_enumerators(out, others.as_slice())?;
+            put_tail(out, *comma, *right)?;
+            Ok(())
+        }
+    }
+}
+
+/// Puts the words of declarations of members (C99 6.7.2.1).
+#[cycle(words)]
+fn put_members<'a>(out: &mut Vec<Placed<'a>>, members: &[Member<'a>]) -> Result<(), AllocError>
+    ensures { OnOk result ((i : spec.Words) → out.new.items ++ i ≡ out.old.items ++ spec.members_words (view.members_in members.now) i) }
+{
+    for member in members {
+        put_member(out, member)?;
+    }
+    Ok(())
+}
+
+/// Puts the words of a declaration of members.
+#[cycle(words)]
+fn put_member<'a>(out: &mut Vec<Placed<'a>>, member: &Member<'a>) -> Result<(), AllocError>
+    ensures { OnOk result ((i : spec.Words) → out.new.items ++ i ≡ out.old.items ++ spec.member_words (view.member_of member.now) i) }
+{
+    put_specifiers(out, member.specifiers.as_slice())?;
+    put_declarator(out, &member.first)?;
+    put_more_declarators(out, member.others.as_slice())?;
+    put_punctuator(out, Punctuator::Semicolon, member.semicolon)?;
+    Ok(())
+}
+
+/// Puts the words of declarators behind commas.
+#[cycle(words)]
+fn put_more_declarators<'a>(
+    out: &mut Vec<Placed<'a>>,
+    others: &[(Place, Declarator<'a>)],
+) -> Result<(), AllocError>
+    ensures { OnOk result ((i : spec.Words) → out.new.items ++ i ≡ out.old.items ++ spec.more_declarators_words (view.more_declarators_in others.now) i) }
+{
+    for (comma, declarator) in others {
+        put_punctuator(out, Punctuator::Comma, *comma)?;
+        put_declarator(out, declarator)?;
+    }
+    Ok(())
+}
+
+/// Puts the words of enumerators behind commas.
+#[cycle(words)]
+fn put_more_enumerators<'a>(
+    out: &mut Vec<Placed<'a>>,
+    others: &[(Place, Enumerator<'a>)],
+) -> Result<(), AllocError>
+    ensures { OnOk result ((i : spec.Words) → out.new.items ++ i ≡ out.old.items ++ spec.more_enumerators_words (view.more_enumerators_in others.now) i) }
+{
+    for (comma, enumerator) in others {
+        put_punctuator(out, Punctuator::Comma, *comma)?;
+        put_enumerator(out, enumerator)?;
+    }
+    Ok(())
+}
+
+/// Puts the words of an enumerator (C99 6.7.2.2).
+#[cycle(words)]
+fn put_enumerator<'a>(
+    out: &mut Vec<Placed<'a>>,
+    enumerator: &Enumerator<'a>,
+) -> Result<(), AllocError>
+    ensures { OnOk result ((i : spec.Words) → out.new.items ++ i ≡ out.old.items ++ spec.enumerator_words (view.enumerator_of enumerator.now) i) }
+{
+    match enumerator {
+        Enumerator::Plain(name) => put_identifier(out, name),
+        Enumerator::Valued(name, equals, value) => {
+            put_identifier(out, name)?;
+            put_punctuator(out, Punctuator::Assign, *equals)?;
+            put_expression(out, value.get())
+        }
+    }
+}

@@ -1,4 +1,5 @@
--- Whether the text of a statement or an initializer assigns a plain variable (C99 6.5.16, 6.7.8), in whatever part of it.
+-- Whether the text of a statement or an initializer assigns a plain variable (C99 6.5.16, 6.7.8), in whatever part of
+-- it.
 use Rattle.std.specs.Prelude.{ℕ, Bool, false, ◌||◌, ◌==◌, List, [], ◌∷◌, Option, Some, None}
 use Rattle.c_tree.specs.Tree.{Expression}
 use Rattle.c_tree.specs.Statements.{Content, value_content, literal_content, Part, Initializer, of_plain, of_object, DeclaredVariable, First, nothing, first_expression, first_declaration, Statement, expression_statement, empty, declaration, block, if_then, if_else, while_do, do_while, for, switch, break, continue, return, Statements, no_statements, statements, SwitchItems, no_items, items}

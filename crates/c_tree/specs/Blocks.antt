@@ -1,11 +1,11 @@
--- The variables of blocks, by their numbers in the function (C99 6.2.4 paragraph 5, 6.8.2, 6.8.4 paragraph 3, 6.8.5 paragraph 5), and
--- what a statement evaluates.
+-- The variables of blocks, by their numbers in the function (C99 6.2.4 paragraph 5, 6.8.2, 6.8.4 paragraph 3, 6.8.5
+-- paragraph 5), and what a statement evaluates.
 use Rattle.std.specs.Prelude.{ℕ, suc, Bool, false, ◌||◌, ◌==◌, if◌then◌else◌, List, [], ◌∷◌, ◌++◌, map, length, Option, Some, None}
 use Rattle.c_tree.specs.declared.expression.Kind.TheVariants as kind
 use Rattle.c_tree.specs.declared.program.Variable.{Variable}
 use Rattle.c_tree.specs.Programs.{Function}
 use Rattle.c_tree.specs.Tree.{Expression}
-use Rattle.c_tree.specs.Statements.{Content, value_content, Part, Initializer, of_plain, of_object, DeclaredVariable, First, nothing, first_expression, first_declaration, Statement, expression_statement, empty, declaration, block, if_then, if_else, while_do, do_while, for, switch, break, continue, return, Statements, no_statements, statements, SwitchItems, no_items, items}
+use Rattle.c_tree.specs.Statements.{Content, value_content, Initializer, of_plain, of_object, DeclaredVariable, First, nothing, first_expression, first_declaration, Statement, expression_statement, empty, declaration, block, if_then, if_else, while_do, do_while, for, switch, break, continue, return, Statements, no_statements, statements, SwitchItems, no_items, items}
 
 abbrev pub variables_in : List DeclaredVariable → List ℕ
 variables_in = map (λ d. d.variable)
@@ -54,7 +54,8 @@ abbrev mutual
   items_variables no_items = []
   items_variables (items labels s is) = all_variables s ++ items_variables is
 
--- Which objects are entered: a list of the function's variables by number, where an object whose block is not entered has no kind.
+-- Which objects are entered: a list of the function's variables by number, where an object whose block is not entered
+-- has no kind.
 
 abbrev pub no_variable : Variable
 no_variable = record { kind = kind.Void; is_object = false }
@@ -83,7 +84,8 @@ all_of f = f.parameters ++ f.variables
 abbrev pub body_variables : Function → List Variable
 body_variables f = opened (block_variables f.body) (length f.parameters) f.variables (map closed f.variables)
 
--- what a statement evaluates: its full expressions (6.8 paragraph 4) and the parts of initializers, in the order of the text
+-- what a statement evaluates: its full expressions (6.8 paragraph 4) and the parts of initializers, in the order of the
+-- text
 
 abbrev pub if_any : Option Expression → List Content
 if_any None = []

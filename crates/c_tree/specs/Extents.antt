@@ -29,8 +29,8 @@ structure_extent structures n = get_or structures n None
 abbrev pub array_extent : (bytes : ℕ) → TypeExtent → TypeExtent
 array_extent bytes element = record { size = capped bytes; alignment = element.alignment }
 
--- the extent of a type, where it is complete: void, functions, arrays of an unknown size and incomplete structures have none; an
--- enumeration has that of int (6.7.2.2)
+-- the extent of a type, where it is complete: void, functions, arrays of an unknown size and incomplete structures have
+-- none; an enumeration has that of int (6.7.2.2)
 unfoldable pub extent_of : List (Option TypeExtent) → List TypeWord → Option TypeExtent
 extent_of structures [] = None
 extent_of structures (Void ∷ behind) = None

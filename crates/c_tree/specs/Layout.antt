@@ -1,5 +1,5 @@
--- The layout of arrays, structures and unions (C99 6.2.5, 6.5.3.4, 6.7.2.1; the RISC-V psABI). A size above 2^32 bytes, which no type
--- may have, counts as 2^32 + 1.
+-- The layout of arrays, structures and unions (C99 6.2.5, 6.5.3.4, 6.7.2.1; the RISC-V psABI). A size above 2^32 bytes,
+-- which no type may have, counts as 2^32 + 1.
 use Rattle.std.specs.Prelude.{ℕ, ◌+◌, ◌-◌, ◌*◌, ◌/◌, max, List, [], ◌∷◌}
 use Rattle.c_tree.specs.Extents.{TypeExtent, capped}
 

@@ -14,3 +14,4 @@ pub mod Room
 pub mod Valid
 pub mod TypesAgree
 pub mod ValidProgram
+pub mod Assigning

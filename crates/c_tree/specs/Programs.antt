@@ -12,9 +12,9 @@ pub record FunctionType : Type 0 where
   pub parameters : List Kind
   pub result : Kind
 
--- a function that the source defines: the line of its name, the number of its type, its parameters, which have the first numbers of
--- its variables, its automatic variables, which have the next in order of declaration, its block, and the bytes of the budget
--- `calls` that a call of it takes
+-- a function that the source defines: the line of its name, the number of its type, its parameters, which have the
+-- first numbers of its variables, its automatic variables, which have the next in order of declaration, its block, and
+-- the bytes of the budget `calls` that a call of it takes
 pub record Function : Type 0 where
   pub line : ℕ
   pub type_number : ℕ
@@ -23,16 +23,16 @@ pub record Function : Type 0 where
   pub body : Statements
   pub room : ℕ
 
--- a static object: what it holds, whether it is a string literal, the number of the function in whose block it stands, if it
--- stands in one, and its initializer
+-- a static object: what it holds, whether it is a string literal, the number of the function in whose block it stands,
+-- if it stands in one, and its initializer
 pub record StaticObject : Type 0 where
   pub kind : Kind
   pub is_literal : Bool
   pub function : Option ℕ
   pub parts : List Part
 
--- the extents of structures and unions by number, where they are complete; the static objects in the order of their names or
--- tokens; the types of functions; the functions in the order of their definitions; the number of `main`
+-- the extents of structures and unions by number, where they are complete; the static objects in the order of their
+-- names or tokens; the types of functions; the functions in the order of their definitions; the number of `main`
 pub record Program : Type 0 where
   pub structures : List (Option TypeExtent)
   pub statics : List StaticObject

@@ -1,23 +1,24 @@
--- The bytes of the budget `calls` that a call of a function takes: a home for each variable, for the values that are needed while
--- the highest of its expressions is evaluated, for the tags of its arguments and its result, and for the bytes and tags of the
--- structures that it takes over from calls, gives to them and gives back.
+-- The bytes of the budget `calls` that a call of a function takes: a home for each variable, for the values that are
+-- needed while the highest of its expressions is evaluated, for the tags of its arguments and its result, and for the
+-- bytes and tags of the structures that it takes over from calls, gives to them and gives back.
 use Rattle.std.specs.Prelude.{ℕ, suc, ◌+◌, ◌*◌, max, Bool, false, ◌==◌, if◌then◌else◌, List, [], ◌∷◌, ◌++◌, map, length, Option, Some, None}
 use Rattle.obj_memory.specs.Heap.{rounded_up}
 use Rattle.c_tree.specs.declared.expression.Kind.{Kind}
 use Rattle.c_tree.specs.declared.expression.Kind.TheVariants as kind
 use Rattle.c_tree.specs.Tree.{Expression, binary, offset_by, difference, assign, assign_plain, compound, change_plain, call, call_through, library, printf, index, kinds_of}
-use Rattle.c_tree.specs.Statements.{Content, value_content, literal_content, Part, Statements}
+use Rattle.c_tree.specs.Statements.{Content, value_content, literal_content}
 use Rattle.c_tree.specs.Programs.{Function, StaticObject}
 use Rattle.c_tree.specs.Walk.{Visited, visited, visited_lvalue, walk, sum_of, greatest}
 use Rattle.c_tree.specs.Blocks.{each_contents}
 
--- how many values are needed at once where so many are kept and the next come in turn, each of which is then kept too; the result
--- takes one
+-- how many values are needed at once where so many are kept and the next come in turn, each of which is then kept too;
+-- the result takes one
 abbrev pub in_turn : (kept : ℕ) → List ℕ → ℕ
 in_turn kept [] = 1
 in_turn kept (h ∷ hs) = max (kept + h) (in_turn (suc kept) hs)
 
--- how many values a node needs, of what its operands need: those that come in turn, and where only one waits at a time the greatest
+-- how many values a node needs, of what its operands need: those that come in turn, and where only one waits at a time
+-- the greatest
 abbrev pub height_made : Visited → List ℕ → ℕ
 height_made (visited kind (binary op a b)) hs = in_turn 0 hs
 height_made (visited kind (offset_by form size a b)) hs = in_turn 0 hs

@@ -1,5 +1,5 @@
--- The typed trees of expressions (C99 6.5). A node stands with its kind and line; operands stand in the order of the text. What a
--- node is, the enums of the code say.
+-- The typed trees of expressions (C99 6.5). A node stands with its kind and line; operands stand in the order of the
+-- text. What a node is, the enums of the code say.
 use Rattle.std.specs.Prelude.{ℕ, List, [], ◌∷◌}
 use Rattle.obj_memory.specs.declared.operator.BinaryOperator.{BinaryOperator}
 use Rattle.obj_memory.specs.declared.operator.UnaryOperator.{UnaryOperator}

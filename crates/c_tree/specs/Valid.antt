@@ -1,6 +1,6 @@
--- What makes an expression valid: each node has the kind that C99 6.5 gives it, and each name stands for something of that kind that
--- can be named there.
-use Rattle.std.specs.Prelude.{ℕ, ◌+◌, ◌^◌, Bool, true, false, not, ◌&&◌, ◌==◌, nat_lt, nat_le, List, [], ◌∷◌, length, Option, Some, None, get_or}
+-- What makes an expression valid: each node has the kind that C99 6.5 gives it, and each name stands for something of
+-- that kind that can be named there.
+use Rattle.std.specs.Prelude.{ℕ, ◌+◌, ◌^◌, Bool, true, false, not, ◌&&◌, ◌==◌, nat_lt, nat_le, List, [], length, Option, Some, None, get_or}
 use Rattle.obj_memory.specs.declared.int_type.IntType.{IntType}
 use Rattle.obj_memory.specs.declared.int_type.IntType.TheVariants.{Int, Long}
 use Rattle.obj_memory.specs.declared.operator.UnaryOperator.{UnaryOperator}
@@ -20,7 +20,8 @@ use Rattle.c_tree.specs.Blocks.{no_variable, opened}
 use Rattle.c_tree.specs.Format.{pieces, directives}
 use Rattle.c_tree.specs.Kinds.{integer, pointer, is_kind, are_kinds, size_of_kind, is_size, has_size, is_integer, is_promoted, is_promoted_type, is_scalar, is_value, is_array, has_member, is_step_operator, OperatorClass, Arithmetic, Shift, Comparison, class_of, are_operands, are_offset, is_minus, Signature, routine_signature, fit_directives}
 
--- What names stand for in a function. Of its variables those can be named whose block is open: an object that cannot has no kind.
+-- What names stand for in a function. Of its variables those can be named whose block is open: an object that cannot
+-- has no kind.
 pub record Scope : Type 0 where
   pub statics : List Kind
   pub functions : List Signature
@@ -111,8 +112,8 @@ abbrev pub are_printed : Option (List Piece) → List Kind → Bool
 are_printed None arguments = false
 are_printed (Some ps) arguments = fit_directives (directives ps) arguments
 
--- what has an address and may be assigned (6.3.2.1); a member of a structure value that is no lvalue is none either (6.5.2.3
--- paragraph 3)
+-- what has an address and may be assigned (6.3.2.1); a member of a structure value that is no lvalue is none either
+-- (6.5.2.3 paragraph 3)
 abbrev mutual
   pub is_lvalue : Lvalue → Bool
   is_lvalue (lvalue kind line node) = is_lvalue_node node

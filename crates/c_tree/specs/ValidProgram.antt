@@ -1,8 +1,7 @@
 -- Valid statements, functions and programs (C99 6.7.8, 6.8, 6.9).
-use Rattle.std.specs.Prelude.{ℕ, zero, suc, ◌+◌, Bool, true, false, not, ◌&&◌, ◌||◌, ◌==◌, nat_le, if◌then◌else◌, List, [], ◌∷◌, ◌++◌, map, length, get_or, Option, Some, None}
+use Rattle.std.specs.Prelude.{ℕ, zero, suc, ◌+◌, Bool, true, false, not, ◌&&◌, ◌==◌, nat_le, if◌then◌else◌, List, [], ◌∷◌, ◌++◌, map, length, get_or, Option, Some, None}
 use Rattle.std.specs.List.{list_all, list_any}
 use Rattle.obj_memory.specs.declared.int_type.IntType.TheVariants.{Int}
-use Rattle.c_tree.specs.declared.c_type.TypeWord.{TypeWord}
 use Rattle.c_tree.specs.declared.expression.Kind.{Kind}
 use Rattle.c_tree.specs.declared.expression.Kind.TheVariants as kind
 use Rattle.c_tree.specs.declared.program.Variable.{Variable}

@@ -1,5 +1,5 @@
 -- Trees without where they lie in memory: from the code's trees to the plain ones.
-use Rattle.std.specs.Prelude.{List, map, Option, option_map}
+use Rattle.std.specs.Prelude.{List, map, option_map}
 use Rattle.c_tree.specs.declared.expression.LvalueNode.TheOpen.{LvalueNode-F, Node-F, Expression-F, Lvalue-F}
 use Rattle.c_tree.specs.declared.expression.Expression as rx
 use Rattle.c_tree.specs.declared.expression.Lvalue as rl

@@ -1,5 +1,6 @@
--- One walk over all trees of expressions, from the operands up: what is made of a node and of what was made of its operands, in the
--- order of the text. A definition that treats most nodes alike is a step of it, which names only the others.
+-- One walk over all trees of expressions, from the operands up: what is made of a node and of what was made of its
+-- operands, in the order of the text. A definition that treats most nodes alike is a step of it, which names only the
+-- others.
 use Rattle.std.specs.Prelude.{ℕ, ◌+◌, max, Bool, true, false, ◌||◌, ◌==◌, List, [], ◌∷◌}
 use Rattle.c_tree.specs.declared.expression.Kind.{Kind}
 use Rattle.c_tree.specs.Tree.{Expression, expression, Expressions, no_expressions, expressions, Lvalue, lvalue, Node, constant, function, plain, read, decay, address, parenthesized, deref_function, address_function, cast, convert, unary, binary, offset_by, difference, logical_and, logical_or, comma, conditional, assign, assign_plain, compound, change_plain, step, step_plain, call, call_through, library, printf, LvalueNode, automatic, static, deref, index, member, arrow, member_of_value, parenthesized_lvalue}
@@ -73,8 +74,8 @@ abbrev pub greatest : List ℕ → ℕ
 greatest [] = 0
 greatest (n ∷ ns) = max n (greatest ns)
 
--- whether the text of an expression assigns a plain variable, by `=`, a compound assignment, `++` or `--` (6.5.2.4, 6.5.3.1,
--- 6.5.16); operands that are not evaluated count too
+-- whether the text of an expression assigns a plain variable, by `=`, a compound assignment, `++` or `--` (6.5.2.4,
+-- 6.5.3.1, 6.5.16); operands that are not evaluated count too
 
 abbrev pub assigns_itself : (variable : ℕ) → Visited → Bool
 assigns_itself y (visited kind (assign_plain x e)) = x.variable == y

@@ -1,5 +1,5 @@
-//! Typed expressions (C99 6.5). The tree has the nodes of the text, each with its line, and between them what typing puts in:
-//! reads of lvalues, decays of arrays, implicit conversions. Operands stand in the order of the text.
+//! Typed expressions (C99 6.5). The tree has the nodes of the text, each with its line, and between them what typing
+//! puts in: reads of lvalues, decays of arrays, implicit conversions. Operands stand in the order of the text.
 
 use obj_memory::{BinaryOperator, IntType, Scalar, UnaryOperator};
 use sb_base::Line;
@@ -64,15 +64,16 @@ pub enum Update {
     Back(u64),
 }
 
-/// Whether `++` or `--` stands before its operand and gives the new value, or behind it and gives the old one (C99 6.5.3.1,
-/// 6.5.2.4).
+/// Whether `++` or `--` stands before its operand and gives the new value, or behind it and gives the old one (C99
+/// 6.5.3.1, 6.5.2.4).
 #[derive(Clone, Copy, Debug, PartialEq, Eq)]
 pub enum Fixity {
     Prefix,
     Postfix,
 }
 
-/// A plain variable that is assigned: its number in the function, and the number of pairs of parentheses around its name.
+/// A plain variable that is assigned: its number in the function, and the number of pairs of parentheses around its
+/// name.
 #[derive(Clone, Copy, Debug, PartialEq, Eq)]
 pub struct PlainName {
     pub variable: usize,
@@ -119,10 +120,11 @@ pub enum Node {
     Convert(Boxed<Expression>),
     /// `+E`, `-E`, `~E` of a promoted operand, and `!E` of any scalar (6.5.3.3).
     Unary(UnaryOperator, Boxed<Expression>),
-    /// An operator on integers of one type, of a shift at a promoted left operand; a comparison of two pointers too (6.5.5 to
-    /// 6.5.12).
+    /// An operator on integers of one type, of a shift at a promoted left operand; a comparison of two pointers too
+    /// (6.5.5 to 6.5.12).
     Binary(BinaryOperator, Boxed<Expression>, Boxed<Expression>),
-    /// A pointer and an index, and the bytes of an element (6.5.6). The index counts as it stands, without a conversion.
+    /// A pointer and an index, and the bytes of an element (6.5.6). The index counts as it stands, without a
+    /// conversion.
     Offset(OffsetForm, u64, Boxed<Expression>, Boxed<Expression>),
     /// `P - Q` of two pointers, and the bytes of an element (6.5.6).
     Difference(u64, Boxed<Expression>, Boxed<Expression>),

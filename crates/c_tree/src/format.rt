@@ -1,4 +1,5 @@
-//! The pieces of a format of `printf` (C99 7.19.6.1), of which the subset has directives without flags, widths and precisions.
+//! The pieces of a format of `printf` (C99 7.19.6.1), of which the subset has directives without flags, widths and
+//! precisions.
 
 /// A directive that takes an argument.
 #[derive(Clone, Copy, Debug, PartialEq, Eq)]

@@ -1,5 +1,5 @@
-//! The layout of types (C99 6.5.3.4, 6.7.2.1; LP64 of the RISC-V psABI). A size above 2^32 bytes counts as 2^32 + 1, and
-//! whoever asks for it refuses the type.
+//! The layout of types (C99 6.5.3.4, 6.7.2.1; LP64 of the RISC-V psABI). A size above 2^32 bytes counts as 2^32 + 1,
+//! and whoever asks for it refuses the type.
 
 ghost use Rattle.std.specs.Prelude.{◌≡◌, ◌≤◌, ◌+◌, ◌^◌, IfOk};
 ghost use Rattle.c_tree.specs.Extents.{capped};

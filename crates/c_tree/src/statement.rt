@@ -4,8 +4,8 @@ use crate::expression::Expression;
 use sb_base::Line;
 use tree_containers::{Boxed, Items};
 
-/// A part of an initializer (6.7.8): what stands from an offset on in the object. Typing removes a part that a later one
-/// overrides (6.7.8 paragraph 19).
+/// A part of an initializer (6.7.8): what stands from an offset on in the object. Typing removes a part that a later
+/// one overrides (6.7.8 paragraph 19).
 #[derive(Drop)]
 pub struct Part {
     pub offset: u64,

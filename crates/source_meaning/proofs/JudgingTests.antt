@@ -1,16 +1,15 @@
 -- A judged access passes both tests, and then names its object.
-use Rattle.std.proofs.Common.{◌≡◌, ℕ, Bool, true, false, if◌then◌else◌, refl, sym, ap, subst}
+use Rattle.std.proofs.Common.{◌≡◌, ℕ, Bool, true, false, if◌then◌else◌, refl}
 use Rattle.obj_memory.specs.declared.value.Bounds.{Bounds}
 use Rattle.obj_memory.specs.declared.value.Tag.{Tag}
 use Rattle.obj_memory.specs.declared.value.Tag.TheVariants.{Untagged, OfFunction, OfObject}
 use Rattle.obj_memory.specs.declared.value.Value.{Value}
 use Rattle.obj_memory.specs.declared.value.Place.{Place}
-use Rattle.obj_memory.specs.declared.judgement.Verdict.{Verdict}
 use Rattle.obj_memory.specs.declared.judgement.Verdict.TheVariants.{Outside, Dead, Inside}
 use Rattle.obj_memory.specs.Objects.{object_at}
 use Rattle.obj_memory.specs.Judgement.{are_within, place_in, judge, judged, named, named_in}
 use Rattle.sb_base.specs.declared.ending.Ending.TheVariants.{Spatial, Temporal}
-use Rattle.source_meaning.specs.State.{State, Outcome, on, ◌>>◌}
+use Rattle.source_meaning.specs.State.{State, Outcome, on}
 use Rattle.source_meaning.specs.Actions.{place_or_stop, located}
 use Rattle.source_meaning.specs.Blocks.{pass_or_stop}
 use Rattle.source_meaning.specs.Judging.{is_within, is_live_tag, tested}

@@ -27,3 +27,4 @@ pub mod ValidProgramNames
 pub mod RunsAlike
 pub mod LiveAccesses
 pub mod JudgingTests
+pub mod StaysFlow

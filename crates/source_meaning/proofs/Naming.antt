@@ -2,18 +2,18 @@
 -- are there, members must lie in what has them, and a structure value is used where it is made. Every program that types
 -- has this.
 use Rattle.source_meaning.specs.Good.{Basis, OnName, OnPointer, OnValue, basis_of, object_kind, signature_in, static_kind}
-use Rattle.std.specs.Prelude.{◌≡◌, ℕ, zero, suc, ◌+◌, ◌≤◌, false, if◌then◌else◌, List, [], ◌∷◌, ◌++◌, map, get_or, Option, Some, None, length}
+use Rattle.std.specs.Prelude.{◌≡◌, ℕ, ◌+◌, ◌≤◌, false, List, [], ◌∷◌, ◌++◌, map, Option, Some, None, length}
 use Rattle.c_tree.specs.declared.expression.Kind.{Kind}
 use Rattle.c_tree.specs.declared.expression.Kind.TheVariants.{Void, Scalar as OfScalar, Structure, Array}
-use Rattle.c_tree.specs.Tree.{Expression, expression, Expressions, no_expressions, expressions, Lvalue, lvalue, Node, constant, function, plain, read, decay, address, parenthesized, deref_function, address_function, cast, convert, unary, binary, offset_by, difference, logical_and, logical_or, comma, conditional, assign, assign_plain, compound, change_plain, step, step_plain, call, call_through, library, printf, LvalueNode, automatic, static, deref, index, member, arrow, member_of_value, parenthesized_lvalue, kind_of, line_of, lvalue_kind, lvalue_line, kinds_of}
+use Rattle.c_tree.specs.Tree.{Expression, expression, Expressions, no_expressions, expressions, Lvalue, lvalue, Node, constant, function, plain, read, decay, address, parenthesized, deref_function, address_function, cast, convert, unary, binary, offset_by, difference, logical_and, logical_or, comma, conditional, assign, assign_plain, compound, change_plain, step, step_plain, call, call_through, library, printf, LvalueNode, automatic, static, deref, index, member, arrow, member_of_value, parenthesized_lvalue, kind_of, lvalue_kind, kinds_of}
 use Rattle.c_tree.specs.Statements.{Part, Content, value_content, literal_content, Initializer, of_plain, of_object, DeclaredVariable}
 use Rattle.c_tree.specs.Statements.{First, nothing, first_expression, first_declaration, Statement, expression_statement, empty, declaration, block, if_then, if_else, while_do, do_while, for, switch, break, continue, return, Statements, no_statements, statements, SwitchItems, no_items, items}
 use Rattle.c_tree.specs.declared.program.Variable.{Variable}
-use Rattle.c_tree.specs.Programs.{FunctionType, Function, StaticObject, Program}
+use Rattle.c_tree.specs.Programs.{Function, StaticObject, Program}
 use Rattle.c_tree.specs.Kinds.{size_of_kind, Signature}
-use Rattle.c_tree.specs.Valid.{Scope, within, no_signature}
+use Rattle.c_tree.specs.Valid.{Scope, within}
 use Rattle.source_meaning.specs.Keeping.{IsNoStructure}
-use Rattle.c_tree.specs.Blocks.{opened, all_of, body_variables, block_variables, switch_variables, first_variables}
+use Rattle.c_tree.specs.Blocks.{all_of, body_variables, block_variables, switch_variables, first_variables}
 use Rattle.c_tree.specs.ValidProgram.{name_variables, signatures_of}
 
 -- what rests on a structure value is no lvalue that can be written (C99 6.5.16 paragraph 2)

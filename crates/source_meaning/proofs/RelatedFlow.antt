@@ -1,9 +1,8 @@
 -- The same relations hold of statements and of calls.
 use Rattle.std.proofs.Common.{◌≡◌, ℕ, List, [], ◌∷◌, ◌++◌, map, Bool, true, false, Option, Some, None, refl, ap, ◌∙◌, subst}
 use Rattle.std.specs.Prelude.{not, length}
-use Rattle.obj_memory.specs.declared.value.Value.{Value}
 use Rattle.c_tree.specs.Tree.{Expression, kind_of, line_of}
-use Rattle.c_tree.specs.Programs.{FunctionType, Function, StaticObject, Program}
+use Rattle.c_tree.specs.Programs.{Function}
 use Rattle.c_tree.specs.Statements.{First, nothing, first_expression, first_declaration, Statement, expression_statement, empty, declaration, block, if_then, if_else, while_do, do_while, for, switch, break, continue, return, Statements, no_statements, statements, SwitchItems, no_items, items}
 use Rattle.c_tree.specs.declared.statement.CaseLabel.{CaseLabel}
 use Rattle.source_meaning.specs.Statements.{Completion}

@@ -1,7 +1,7 @@
 -- Every run, with its loops and calls, does the same at any count of work, and adds as much.
 use Rattle.std.proofs.Common.{[], ◌≡◌, ℕ, zero, suc, ◌+◌, Bool, true, false, refl, ap, ◌∙◌, arith, nat_lt, List}
 use Rattle.source_meaning.specs.State.{Rvalue}
-use Rattle.c_tree.specs.Programs.{FunctionType, Function, StaticObject, Program}
+use Rattle.c_tree.specs.Programs.{Function}
 use Rattle.source_meaning.specs.Statements.{Completion}
 use Rattle.source_meaning.specs.Statements.{Normal, Broken, Continued, Returned}
 use Rattle.source_meaning.specs.State.{State, Outcome, Gives, Ended, Paused, Run, on, ◌>>=◌, pause, choose, change, Setting}

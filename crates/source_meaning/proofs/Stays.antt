@@ -1,6 +1,6 @@
 -- An expression that does not assign a plain variable leaves it as it was, and keeps all homes.
 use Rattle.source_meaning.specs.Staying.{IsKeptAt, KeptBy, Stays}
-use Rattle.std.proofs.Common.{◌≡◌, ℕ, zero, suc, ◌+◌, List, [], ◌∷◌, Bool, true, false, ◌||◌, ◌==◌, Option, Some, None, get_or, map, refl, sym, ap, ◌∙◌, nat_lt}
+use Rattle.std.proofs.Common.{◌≡◌, ℕ, zero, suc, ◌+◌, List, [], ◌∷◌, Bool, true, false, ◌||◌, ◌==◌, Option, Some, None, get_or, refl, sym, ap, ◌∙◌, nat_lt}
 use Rattle.std.proofs.lemmas.Bool.{eqb-false}
 use Rattle.std.proofs.lemmas.List.{get_or-set_other}
 use Rattle.std.specs.Prelude.{not}
@@ -15,7 +15,7 @@ use Rattle.c_tree.specs.declared.expression.Kind.{Kind}
 use Rattle.obj_memory.specs.declared.value.Scalar.{Scalar}
 use Rattle.c_tree.specs.Tree.{Expression, expression, Expressions, no_expressions, expressions, Lvalue, lvalue, Node, constant, function, plain, read, decay, address, parenthesized, deref_function, address_function, cast, convert, unary, binary, offset_by, difference, logical_and, logical_or, comma, conditional, assign, assign_plain, compound, change_plain, step, step_plain, call, call_through, library, printf, LvalueNode, automatic, static, deref, index, member, arrow, member_of_value, parenthesized_lvalue, kind_of, line_of, lvalue_kind, lvalue_line}
 use Rattle.c_tree.specs.declared.program.Variable.{Variable}
-use Rattle.c_tree.specs.Programs.{FunctionType, Function, StaticObject, Program}
+use Rattle.c_tree.specs.Programs.{Function}
 use Rattle.source_meaning.specs.Statements.{Completion}
 use Rattle.source_meaning.specs.State.{State, Rvalue, Outcome, Gives, Ended, Paused, Run, on, ◌>>=◌, ◌>>◌, done, pause, choose, read_state, change, Setting, Env}
 use Rattle.source_meaning.specs.Actions.{integer, is_zero, scalar_of, integer_type, converted, offset_value, difference_value, updated, plain_value, set_plain, update_plain, given, home_pointer, each_value, begin_turn}
@@ -51,10 +51,10 @@ module _ {y : ℕ} where
   pub stays_local : {A : Type 0} {r : Run A} → IsLocal r → Stays y r
   stays_local {r = r} h = record { stays = λ s. local_by y s (r s) (h.keeps s) }
 
-  stays_done : {A : Type 0} {a : A} → Stays y (done a)
+  pub stays_done : {A : Type 0} {a : A} → Stays y (done a)
   stays_done = record { stays = λ s. record { plain = refl; frame = refl } }
 
-  stays_read : {A : Type 0} {f : State → A} → Stays y (read_state f)
+  pub stays_read : {A : Type 0} {f : State → A} → Stays y (read_state f)
   stays_read = record { stays = λ s. record { plain = refl; frame = refl } }
 
   give_stays : {v : Value} → Stays y (give v)
@@ -69,21 +69,21 @@ module _ {y : ℕ} where
   stays_counted_as : {A : Type 0} {r : Run A} (n : ℕ) → Stays y r → Stays y (counted_as n r)
   stays_counted_as n h = stays_on (stays_local (local_tally n)) (λ _. h)
 
-  stays_counted : {A : Type 0} {r : Run A} → Stays y r → Stays y (counted r)
+  pub stays_counted : {A : Type 0} {r : Run A} → Stays y r → Stays y (counted r)
   stays_counted h = stays_on (stays_local (local_tally 1)) (λ _. h)
 
-  stays_choose : {A : Type 0} (b : Bool) {r q : Run A} → Stays y r → Stays y q → Stays y (choose b r q)
+  pub stays_choose : {A : Type 0} (b : Bool) {r q : Run A} → Stays y r → Stays y q → Stays y (choose b r q)
   stays_choose true h g = h
   stays_choose false h g = g
 
-stays_set : (x y : ℕ) (v : Value) → (x == y) ≡ false → Stays y (set_plain x v)
+pub stays_set : (x y : ℕ) (v : Value) → (x == y) ≡ false → Stays y (set_plain x v)
 stays_set x y v other = record { stays = λ s. record { plain = get_or-set_other s.plain x y v (integer 0) (λ e. eqb-false x y other (sym e)); frame = refl } }
 
 stays_update : (x y : ℕ) → (x == y) ≡ false → (u : Update) (k : Scalar) (right : Value) (at : ℕ) (f : Fixity) → Stays y (update_plain x (updated u k right at) f)
 stays_update x y other u k right at f =
     stays_on (stays_read {f = plain_value x}) (λ old. stays_on (stays_local (local_updated u k right at old)) (λ new. stays_on (stays_set x y new other) (λ _. stays_done {a = given f old new})))
 
-neither : (a b : Bool) → (a || b) ≡ false → (a ≡ false) × (b ≡ false)
+pub neither : (a b : Bool) → (a || b) ≡ false → (a ≡ false) × (b ≡ false)
 neither true b e = absurd (cc)
 neither false b e = (refl, e)
 
@@ -199,7 +199,7 @@ turn_stays : (y : ℕ) (b : Bool) → Stays y (choose b (change (λ s. record s 
 turn_stays y true = record { stays = λ s. record { plain = refl; frame = refl } }
 turn_stays y false = record { stays = λ s. tt }
 
-begin_stays : (y limit : ℕ) → Stays y (begin_turn limit)
+pub begin_stays : (y limit : ℕ) → Stays y (begin_turn limit)
 begin_stays y limit = record { stays = λ s. (turn_stays y (nat_lt s.turns limit)).stays s }
 
 enter_stays : (y : ℕ) (env : Env) (o : Option Function) (vs : List Rvalue) (line : ℕ) → Stays y (enter_found env o vs line)

@@ -1,26 +1,21 @@
 -- Runs that keep objects sound: from a good state they come to a good one, with what is known of the value that they give;
 -- where they end or pause, objects and accesses are kept.
-use Rattle.source_meaning.specs.Good.{After, Any, AreLow, AreTagged, ArgumentIs, ArgumentsAre, Basis, Context, EndsMade, HasContents, IsGood, IsGoodBy, IsHeld, IsTagged, Leaves, LvalueIs, OnName, OnPointer, OnValue, RvalueReach, Stops, StructureIs, Sure, TakenIs, ValueIs, object_kind, static_kind}
-use Rattle.c_tree.specs.Valid.{Scope}
-use Rattle.std.proofs.Common.{◌≡◌, ℕ, ◌+◌, ◌≤◌, zero, suc, List, [], ◌∷◌, Bool, true, false, Option, Some, None, get_or, refl, sym, ◌∙◌, subst, arith}
-use Rattle.behaviours.specs.Shown.{Access}
+use Rattle.source_meaning.specs.Good.{After, Any, AreLow, AreTagged, ArgumentIs, ArgumentsAre, Basis, Context, HasContents, IsGood, IsGoodBy, IsTagged, Leaves, LvalueIs, OnName, OnPointer, OnValue, RvalueReach, Stops, StructureIs, Sure, TakenIs, ValueIs}
+use Rattle.std.proofs.Common.{◌≡◌, ℕ, zero, suc, List, [], ◌∷◌, Bool, true, false, Option, Some, None, refl, sym, ◌∙◌, subst, arith}
 use Rattle.sb_base.specs.declared.ending.Ending.{Ending}
 use Rattle.obj_memory.specs.declared.value.Value.{Value}
-use Rattle.obj_memory.specs.Objects.{ObjectState, Objects, object_at}
-use Rattle.obj_memory.specs.Sound.{IsSound, IsSoundObject, IsSoundTag, KeepsObjects, Continues, AreDisjoint}
+use Rattle.obj_memory.specs.Objects.{ObjectState, Objects}
+use Rattle.obj_memory.specs.Sound.{IsSound, IsSoundTag, KeepsObjects, Continues}
 use Rattle.obj_memory.proofs.Soundness.{sound_tag_continues, sound_object_continues}
 use Rattle.c_tree.specs.declared.expression.Kind.{Kind}
 use Rattle.c_tree.specs.declared.expression.Kind.TheVariants.{Void, Scalar as OfScalar, Structure, Array}
-use Rattle.source_meaning.specs.State.{Home}
-use Rattle.source_meaning.specs.State.{NoObject, InObject}
 use Rattle.source_meaning.specs.State.{State, Rvalue, Outcome, Gives, Ended, Paused, Run, on, ◌>>=◌, done, stop, pause, choose, read_state, change, skip, tally}
 use Rattle.c_tree.specs.Kinds.{size_of_kind}
-use Rattle.source_meaning.specs.Actions.{integer}
 use Rattle.source_meaning.specs.Structures.{rvalue, give, as_rvalue, as_pointer, values_of}
 use Rattle.source_meaning.specs.Expressions.{counted_as, counted}
 use Rattle.source_meaning.proofs.Naming.{IsWritable}
 use Rattle.source_meaning.specs.Keeping.{IsNoStructure}
-use Rattle.source_meaning.specs.Keeping.{IsKept, LivesOn, IsDirect, IsNamed, AreSeparate}
+use Rattle.source_meaning.specs.Keeping.{LivesOn, IsDirect, IsNamed, AreSeparate}
 use Rattle.source_meaning.proofs.Separating.{separate_kept, ends_as_many, ends_same, ends_then}
 use Rattle.source_meaning.proofs.Holding.{all_lie_on, lives_same, lives_then, lives_kept, named_on, held_on}
 

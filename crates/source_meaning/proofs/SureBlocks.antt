@@ -1,8 +1,8 @@
 -- A block keeps objects sound: its own are new, and die where it is left, and the names around it are good again.
 use Rattle.source_meaning.specs.Good.{IsEntered, EntersBy}
-use Rattle.source_meaning.specs.Good.{After, Any, AreTagged, ArgumentIs, Calling, CompletionIs, Context, HasHome, IsGood, IsHeld, Leaves, Stops, Sure, context_of, object_kind}
+use Rattle.source_meaning.specs.Good.{After, Any, AreTagged, CompletionIs, Context, HasHome, IsGood, Leaves, Sure, context_of, object_kind}
 use Rattle.c_tree.specs.Valid.{Scope}
-use Rattle.std.proofs.Common.{◌≡◌, ℕ, zero, suc, ◌+◌, ◌≤◌, List, [], ◌∷◌, map, Bool, true, false, ◌||◌, Some, None, length, get_or, if◌then◌else◌, refl, sym, ap, ◌∙◌, subst, arith, nat_le, nat_lt}
+use Rattle.std.proofs.Common.{◌≡◌, ℕ, zero, suc, ◌+◌, ◌≤◌, List, [], ◌∷◌, map, Bool, true, false, ◌||◌, Some, None, length, get_or, if◌then◌else◌, refl, sym, subst, arith, nat_le, nat_lt}
 use Rattle.std.proofs.lemmas.Bool.{leb-true}
 use Rattle.sb_base.specs.declared.ending.Ending.TheVariants.{Stack, Keys}
 use Rattle.obj_memory.specs.Objects.{Objects}
@@ -11,7 +11,7 @@ use Rattle.obj_memory.proofs.Soundness.{sound_tag_continues}
 use Rattle.c_tree.specs.declared.expression.Kind.{Kind}
 use Rattle.c_tree.specs.declared.program.Variable.{Variable}
 use Rattle.c_tree.specs.Blocks.{no_variable, closed, is_among, opened, block_objects}
-use Rattle.source_meaning.specs.State.{Home, NoObject, InObject, State, Outcome, Gives, Ended, Paused, Run, on, ◌>>=◌, ◌>>◌, done, stop, choose, change, skip, Setting, Env}
+use Rattle.source_meaning.specs.State.{Home, NoObject, InObject, State, Outcome, Gives, Ended, Paused, Run, on, ◌>>=◌, ◌>>◌, done, stop, choose, change, skip, Setting}
 use Rattle.source_meaning.specs.Statements.{Completion, Normal, Broken, Continued, Returned}
 use Rattle.source_meaning.specs.Places.{stack_end}
 use Rattle.source_meaning.specs.Actions.{take_key}

@@ -1,16 +1,15 @@
 -- Calls keep objects sound: those of the callee are new, and die at its return, and the caller's names are good again.
-use Rattle.source_meaning.specs.Good.{After, Any, AreLow, AreTagged, ArgumentIs, ArgumentsAre, Calling, CompletionIs, Context, Inside, IsGood, IsHeld, IsTagged, Leaves, OnName, Stops, Sure, signature_in, static_kind}
+use Rattle.source_meaning.specs.Good.{After, Any, AreLow, AreTagged, ArgumentIs, ArgumentsAre, CompletionIs, Context, Inside, IsGood, IsHeld, IsTagged, Leaves, OnName, Stops, Sure, signature_in, static_kind}
 use Rattle.std.proofs.Common.{◌≡◌, ℕ, zero, suc, ◌+◌, ◌≤◌, List, [], ◌∷◌, ◌++◌, map, Bool, true, false, Some, length, if◌then◌else◌, refl, sym, ap, ◌∙◌, subst, arith, nat_le, nat_lt}
 use Rattle.std.proofs.lemmas.Bool.{leb-true}
 use Rattle.sb_base.specs.declared.ending.Ending.TheVariants.{Stack, Keys}
 use Rattle.obj_memory.specs.declared.value.Value.{Value}
 use Rattle.obj_memory.specs.Objects.{Objects, pointer_to}
 use Rattle.obj_memory.specs.Sound.{IsSound, Continues, AreDisjoint}
-use Rattle.obj_memory.proofs.Soundness.{sound_tag_continues}
 use Rattle.obj_memory.proofs.Judging.{sound_pointer}
 use Rattle.c_tree.specs.declared.expression.Kind.{Kind}
 use Rattle.c_tree.specs.declared.program.Variable.{Variable}
-use Rattle.c_tree.specs.Programs.{FunctionType, Function, StaticObject, Program}
+use Rattle.c_tree.specs.Programs.{Function}
 use Rattle.source_meaning.specs.State.{Home}
 use Rattle.source_meaning.specs.State.{NoObject, InObject}
 use Rattle.source_meaning.specs.Statements.{Completion}

@@ -4,7 +4,7 @@ use Rattle.c_tree.specs.Valid.{Scope}
 use Rattle.std.proofs.Common.{ℕ, zero, suc, ◌+◌, List, [], ◌∷◌, map, Bool, true, false, Option, Some, None, refl, sym, subst, nat_lt}
 use Rattle.std.specs.Prelude.{length}
 use Rattle.obj_memory.specs.Objects.{Objects}
-use Rattle.c_tree.specs.Tree.{Expression, kind_of, line_of}
+use Rattle.c_tree.specs.Tree.{Expression}
 use Rattle.c_tree.specs.Statements.{First, nothing, first_expression, first_declaration, Statement, expression_statement, empty, declaration, block, if_then, if_else, while_do, do_while, for, switch, break, continue, return, Statements, no_statements, statements, SwitchItems, no_items, items}
 use Rattle.c_tree.specs.declared.statement.CaseLabel.{CaseLabel}
 use Rattle.source_meaning.specs.Statements.{Completion}

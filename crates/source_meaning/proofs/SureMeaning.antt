@@ -1,5 +1,5 @@
 -- A program that names what is there keeps its objects sound, and its accesses are of bytes of objects.
-use Rattle.source_meaning.specs.Good.{After, Any, AreLow, AreTagged, ArgumentIs, ArgumentsAre, Calling, Context, Inside, IsGood, IsHeld, Sure, context_of, signature_in, static_kind}
+use Rattle.source_meaning.specs.Good.{After, Any, AreLow, ArgumentIs, ArgumentsAre, Calling, Context, Inside, IsGood, IsHeld, Sure, context_of, signature_in, static_kind}
 use Rattle.std.proofs.Common.{◌≡◌, ℕ, zero, suc, ◌+◌, ◌/◌, ◌%◌, ◌≤◌, ◌<◌, List, [], ◌∷◌, map, Bool, true, false, Option, Some, None, length, get_or, replicate, refl, sym, ap, ◌∙◌, subst, arith, inl, inr, ◌⊎◌, ◌≢◌}
 use Rattle.std.proofs.lemmas.Bool.{cases_lt, eqb-true}
 use Rattle.std.proofs.lemmas.List.{length-replicate}

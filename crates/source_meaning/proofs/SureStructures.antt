@@ -1,6 +1,6 @@
 -- Structures by value keep objects sound: contents are sound, and have all bytes of the structure.
-use Rattle.source_meaning.specs.Good.{Any, ArgumentIs, Basis, Context, HasContents, IsGood, IsTagged, LvalueIs, OnName, OnPointer, OnValue, RvalueReach, StructureIs, Sure, ValueIs}
-use Rattle.std.proofs.Common.{◌≡◌, ℕ, ◌+◌, ◌*◌, ◌/◌, ◌%◌, ◌<◌, ◌≤◌, List, [], ◌∷◌, Bool, true, false, ◌==◌, if◌then◌else◌, Option, Some, None, length, get_or, take, drop, refl, sym, ap, ◌∙◌, subst, arith, length-take, length-drop}
+use Rattle.source_meaning.specs.Good.{Any, ArgumentIs, Basis, Context, HasContents, IsTagged, LvalueIs, OnName, OnPointer, OnValue, RvalueReach, StructureIs, Sure, ValueIs}
+use Rattle.std.proofs.Common.{◌≡◌, ℕ, ◌+◌, ◌/◌, ◌%◌, ◌<◌, ◌≤◌, [], ◌∷◌, true, false, ◌==◌, if◌then◌else◌, Option, Some, None, length, get_or, take, drop, refl, ◌∙◌, arith, length-take, length-drop}
 use Rattle.obj_memory.specs.declared.value.Tag.TheVariants.{Untagged}
 use Rattle.obj_memory.specs.declared.value.Value.{Value}
 use Rattle.obj_memory.specs.declared.value.Scalar.{Scalar}
@@ -8,7 +8,7 @@ use Rattle.obj_memory.specs.declared.value.Scalar.TheVariants.{Integer, Pointer}
 use Rattle.obj_memory.specs.declared.value.Place.{Place}
 use Rattle.obj_memory.specs.declared.object.Storage.TheVariants.{Automatic}
 use Rattle.obj_memory.specs.Objects.{ObjectState, Objects, object_at, new_object}
-use Rattle.obj_memory.specs.Access.{scalar_size, is_aligned, moved_tags, read_value}
+use Rattle.obj_memory.specs.Access.{is_aligned, moved_tags, read_value}
 use Rattle.obj_memory.specs.Sound.{IsSound, IsSoundObject, IsSoundTag, IsPlace, KeepsObjects}
 use Rattle.obj_memory.proofs.Soundness.{sound_set, sound_zeros, sound_overwritten, length-moved_tags, every_moved}
 use Rattle.obj_memory.proofs.Keeping.{keeps_set}
@@ -18,12 +18,11 @@ use Rattle.c_tree.specs.declared.expression.Kind.{Kind}
 use Rattle.c_tree.specs.declared.expression.Kind.TheVariants.{Void, Scalar as OfScalar, Structure, Array}
 use Rattle.c_tree.specs.Kinds.{size_of_kind}
 use Rattle.source_meaning.specs.State.{Rvalue}
-use Rattle.source_meaning.specs.Actions.{integer}
-use Rattle.source_meaning.specs.Structures.{rvalue, give, moved_into, contents_of, with_contents, put_range, put_contents, taken, take_value, copy_value, write_rvalue, part_of, read_part, read_rvalue, zero_of}
+use Rattle.source_meaning.specs.Structures.{rvalue, moved_into, contents_of, with_contents, put_range, put_contents, taken, take_value, copy_value, write_rvalue, part_of, read_part, read_rvalue, zero_of}
 use Rattle.source_meaning.specs.Keeping.{IsDirect}
 use Rattle.source_meaning.proofs.ActionsAct.{continues_put}
 use Rattle.source_meaning.proofs.Holding.{direct_kept}
-use Rattle.source_meaning.proofs.Sure.{IsStable, sure_on, sure_weak, sure_if_good, sure_any, sure_post, sure_frame, sure_done, sure_read, stable_tag, sure_tally, sure_objects, PlaceIs, ReachBy, place_value}
+use Rattle.source_meaning.proofs.Sure.{sure_on, sure_weak, sure_frame, sure_done, sure_read, stable_tag, sure_tally, sure_objects, PlaceIs, ReachBy, place_value}
 use Rattle.source_meaning.proofs.SureActions.{on_pointer, sure_located, sure_store, sure_read_lvalue, sure_copy, IsFound}
 
 -- contents

@@ -1,6 +1,6 @@
 -- Expressions, lvalues and initializers keep objects sound, and an lvalue that rests on a name is of bytes of a live object.
-use Rattle.source_meaning.specs.Good.{After, Any, AreTagged, ArgumentIs, ArgumentsAre, Basis, Calling, Context, HasContents, IsGood, IsTagged, LvalueIs, OfKind, OnName, OnPointer, OnValue, RvalueReach, StructureIs, Sure, ValueIs, basis_of, giving, node_basis, object_kind, signature_in, static_kind}
-use Rattle.std.proofs.Common.{◌≡◌, ℕ, zero, suc, ◌+◌, ◌≤◌, Bool, true, false, ◌&&◌, ◌==◌, List, [], ◌∷◌, Option, Some, None, length, refl, sym, subst, arith}
+use Rattle.source_meaning.specs.Good.{After, Any, ArgumentIs, ArgumentsAre, Basis, Calling, Context, HasContents, IsGood, IsTagged, LvalueIs, OfKind, OnName, OnPointer, OnValue, RvalueReach, StructureIs, Sure, ValueIs, basis_of, giving, node_basis, object_kind, signature_in, static_kind}
+use Rattle.std.proofs.Common.{◌≡◌, ℕ, ◌+◌, ◌≤◌, Bool, true, false, ◌&&◌, ◌==◌, List, [], ◌∷◌, Option, Some, None, length, refl, sym, subst, arith}
 use Rattle.obj_memory.specs.declared.int_type.IntType.TheVariants.{Char}
 use Rattle.obj_memory.specs.declared.value.Tag.{Tag}
 use Rattle.obj_memory.specs.declared.value.Tag.TheVariants.{Untagged, OfFunction, OfObject}
@@ -18,20 +18,17 @@ use Rattle.c_tree.specs.declared.expression.Fixity.TheVariants.{Prefix}
 use Rattle.c_tree.specs.declared.expression.Update.{Update}
 use Rattle.c_tree.specs.declared.expression.Kind.{Kind}
 use Rattle.c_tree.specs.declared.expression.Kind.TheVariants.{Void, Scalar as OfScalar, Structure, Array}
-use Rattle.c_tree.specs.declared.expression.Routine.{Routine}
 use Rattle.c_tree.specs.Tree.{Expression, expression, Expressions, no_expressions, expressions, Lvalue, lvalue, Node, constant, function, plain, read, decay, address, parenthesized, deref_function, address_function, cast, convert, unary, binary, offset_by, difference, logical_and, logical_or, comma, conditional, assign, assign_plain, compound, change_plain, step, step_plain, call, call_through, library, printf, LvalueNode, automatic, static, deref, index, member, arrow, member_of_value, parenthesized_lvalue, kind_of, line_of, lvalue_kind, lvalue_line, kinds_of}
 use Rattle.c_tree.specs.Statements.{Part, Content, value_content, literal_content, Initializer, of_plain, of_object, DeclaredVariable}
 use Rattle.source_meaning.specs.State.{Home}
-use Rattle.source_meaning.specs.State.{State, Rvalue, Run, done, stop, choose, Header, Env}
+use Rattle.source_meaning.specs.State.{State, Rvalue, done, stop, choose, Header, Env}
 use Rattle.c_tree.specs.Kinds.{size_of_kind}
-use Rattle.source_meaning.specs.Actions.{integer, is_zero, scalar_of, integer_type, converted, offset_value, updated, plain_value, home_value, home_pointer, each_value, read_lvalue, write_lvalue, update}
+use Rattle.source_meaning.specs.Actions.{integer, is_zero, scalar_of, integer_type, converted, offset_value, updated, plain_value, home_value, home_pointer, each_value, update}
 use Rattle.source_meaning.specs.Structures.{rvalue, values_of, write_rvalue, read_rvalue, member_of}
 use Rattle.source_meaning.specs.Expressions.{header_at, has_type, callee_by, callee, argument, counted, nodes_of, is_judged, is_node_judged, value, place, node_place, values, evaluate}
 use Rattle.source_meaning.specs.Initializers.{store_bytes, store_content, store_parts, initialize, initialize_all}
-use Rattle.source_meaning.specs.Library.{routine}
-use Rattle.source_meaning.specs.Printing.{print_formatted}
 use Rattle.source_meaning.proofs.Naming.{IsScalar, IsStructureWith, ValueNames, LvalueNames, PlaceNames, RowNames, Names, ContentNames, PartsName, InitializerNames, DeclaredName}
-use Rattle.source_meaning.specs.Keeping.{IsDirect, IsNamed}
+use Rattle.source_meaning.specs.Keeping.{IsNamed}
 use Rattle.source_meaning.proofs.Holding.{direct_less, direct_narrowed, named_less, named_narrowed, named_on, held_named}
 use Rattle.source_meaning.proofs.Sure.{IsStable, sure_on, sure_weak, sure_if_good, sure_any, sure_post, sure_frame, sure_beside, sure_done, sure_value, sure_skip, sure_stop, sure_read, sure_tally, sure_counted_as, sure_counted, sure_choose, GivesScalar, PlaceIs, ReachBy, writable_place, stable_place, stable_tag, stable_argument, argument_value, arguments_tagged, plainly, of_kind, sure_give, as_sure, pointer_sure}
 use Rattle.source_meaning.proofs.SureStructures.{sure_read_rvalue, sure_write_rvalue, take_sure}

@@ -9,7 +9,7 @@ use Rattle.sb_base.specs.Budgets.{BudgetSizes}
 use Rattle.source_meaning.specs.State.{Rvalue}
 use Rattle.obj_memory.specs.Sound.{Continues}
 use Rattle.c_tree.specs.declared.program.Variable.{Variable}
-use Rattle.c_tree.specs.Programs.{FunctionType, Function, StaticObject, Program}
+use Rattle.c_tree.specs.Programs.{Function, Program}
 use Rattle.source_meaning.specs.Statements.{Completion}
 use Rattle.source_meaning.specs.Statements.{Normal, Broken, Continued, Returned}
 use Rattle.source_meaning.specs.State.{State, Outcome, Gives, Ended, Paused, Run, pause, choose, change, Setting}

@@ -1,20 +1,20 @@
 -- The same of statements and of programs.
 use Rattle.source_meaning.specs.Good.{signature_in, static_kind}
 use Rattle.c_tree.specs.Valid.{Scope}
-use Rattle.std.proofs.Common.{◌≡◌, ℕ, zero, suc, ◌+◌, List, [], ◌∷◌, ◌++◌, map, Bool, true, false, ◌==◌, Option, Some, None, length, get_or, if◌then◌else◌, refl, sym, ap, ◌∙◌, subst, arith, nat_le, nat_lt}
+use Rattle.std.proofs.Common.{◌≡◌, ℕ, zero, suc, ◌+◌, List, [], ◌∷◌, ◌++◌, true, false, ◌==◌, Option, Some, None, length, get_or, if◌then◌else◌, refl, sym, ap, ◌∙◌, subst, arith, nat_le, nat_lt}
 use Rattle.std.specs.List.{list_all}
 use Rattle.std.proofs.lemmas.Bool.{eqb-true, leb-true, ltb-true, lt-ltb}
 use Rattle.c_tree.specs.declared.expression.Kind.{Kind}
 use Rattle.c_tree.specs.declared.expression.Kind.TheVariants.{Void}
-use Rattle.c_tree.specs.Tree.{Expression, kind_of, line_of}
+use Rattle.c_tree.specs.Tree.{Expression, kind_of}
 use Rattle.c_tree.specs.declared.program.Variable.{Variable}
-use Rattle.c_tree.specs.Programs.{FunctionType, Function, StaticObject, Program}
+use Rattle.c_tree.specs.Programs.{Function, StaticObject, Program}
 use Rattle.c_tree.specs.Statements.{Part, Content, value_content, literal_content, Initializer, of_plain, of_object, DeclaredVariable}
 use Rattle.c_tree.specs.Statements.{First, nothing, first_expression, first_declaration, Statement, expression_statement, empty, declaration, block, if_then, if_else, while_do, do_while, for, switch, break, continue, return, Statements, no_statements, statements, SwitchItems, no_items, items}
-use Rattle.c_tree.specs.Kinds.{has_size, is_kind, size_of_kind, is_scalar, is_value, Signature}
+use Rattle.c_tree.specs.Kinds.{has_size, is_kind, size_of_kind, is_scalar, is_value}
 use Rattle.c_tree.specs.Valid as valid
 use Rattle.c_tree.specs.Valid.{has_number, within, is_valid, is_condition, is_plain}
-use Rattle.c_tree.specs.ValidProgram.{content_size, is_content, is_part, are_parts, is_initializer, are_declared, is_first, is_condition_if, is_expression_if, is_return, Inside, in_loop, in_switch, is_statement, are_statements, are_items, is_function_type, are_all_different, signature_of, signatures_of, signature_at, scope_in, function_scope, are_parameters, is_function, are_functions, name_variables, variables_of_function, static_scope, is_function_number, is_static_object, is_main, is_main_signature, is_valid_program}
+use Rattle.c_tree.specs.ValidProgram.{content_size, is_content, is_part, are_parts, is_initializer, are_declared, is_first, is_condition_if, is_expression_if, is_return, Inside, in_loop, in_switch, is_statement, are_statements, are_items, is_function_type, are_all_different, signature_at, scope_in, function_scope, are_parameters, is_function, are_functions, name_variables, variables_of_function, static_scope, is_function_number, is_static_object, is_main, is_main_signature, is_valid_program}
 use Rattle.c_tree.specs.Blocks.{opened, all_of, body_variables, block_variables, switch_variables, first_variables}
 use Rattle.source_meaning.proofs.Naming.{Names, NamesIfAny, ContentNames, PartsName, InitializerNames, DeclaredName, FirstNames, ReturnNames, StatementNames, StatementsName, ItemsName, kinds_in, names_of, FunctionNames, FunctionsName, file_scope, StaticsName, NamesObjects}
 use Rattle.source_meaning.proofs.ValidNames.{both, three, five, six, never, same_kind, Agree, object_named, names}

@@ -1,5 +1,5 @@
--- What every action does: it begins no turn, and at any other count of work it does the same and adds as much. What a run
--- shows never shrinks, objects stay where they are, and the dead stay dead.
+-- What every action does: it begins no turn, and at any other count of work it does the same and adds as much. What a
+-- run shows never shrinks, objects stay where they are, and the dead stay dead.
 use Rattle.std.specs.Prelude.{◌≡◌, ℕ, ◌+◌, ◌≤◌}
 use Rattle.behaviours.specs.Shown.{IsPrefix}
 use Rattle.obj_memory.specs.Sound.{Continues}

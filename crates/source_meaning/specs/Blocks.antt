@@ -1,5 +1,5 @@
--- Blocks (C99 6.2.4 paragraph 5): the objects of a block are placed where it is entered, and die where it is left. Three-address code has the same runs
--- `enter_block` and `leave_block`.
+-- Blocks (C99 6.2.4 paragraph 5): the objects of a block are placed where it is entered, and die where it is left.
+-- Three-address code has the same runs `enter_block` and `leave_block`.
 use Rattle.std.specs.Prelude.{ℕ, ◌+◌, Bool, true, false, ◌||◌, nat_le, if◌then◌else◌, List, [], ◌∷◌}
 use Rattle.sb_base.specs.declared.ending.Ending.{Ending}
 use Rattle.sb_base.specs.declared.ending.Ending.TheVariants.{Stack}
@@ -12,7 +12,8 @@ use Rattle.source_meaning.specs.State.{State, Home, NoObject, InObject, Run, ◌
 use Rattle.source_meaning.specs.Places.{stack_end}
 use Rattle.source_meaning.specs.Actions.{make_object, take_key}
 
--- The objects of a block are given as all variables of the function, of which only those are objects that the block enters.
+-- The objects of a block are given as all variables of the function, of which only those are objects that the block
+-- enters.
 
 abbrev pub pass_or_stop : Bool → Ending → Run (Unit {0})
 pass_or_stop true e = skip

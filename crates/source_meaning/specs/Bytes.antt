@@ -1,6 +1,7 @@
 -- The bytes that routines of the library look at and set. A byte is looked at as an unsigned char (C99 7.21.1, 7.21.4).
--- The work of a routine is one for each byte that it looks at, moves, sets or puts out; a refused byte is none. So a byte of
--- a string that is scanned and then written elsewhere counts one for each of both, and one that is moved counts one.
+-- The work of a routine is one for each byte that it looks at, moves, sets or puts out; a refused byte is none. So a
+-- byte of a string that is scanned and then written elsewhere counts one for each of both, and one that is moved counts
+-- one.
 use Rattle.std.specs.Prelude.{ℕ, ◌-◌, ◌^◌, true, nat_lt, if◌then◌else◌, List, length}
 use Rattle.obj_memory.specs.declared.int_type.IntType.TheVariants.{UnsignedChar}
 use Rattle.obj_memory.specs.declared.value.Value.{Value}

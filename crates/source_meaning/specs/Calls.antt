@@ -7,7 +7,7 @@ use Rattle.c_tree.specs.declared.expression.Kind.TheVariants.{Void}
 use Rattle.c_tree.specs.declared.program.Variable.{Variable}
 use Rattle.c_tree.specs.Programs.{Function}
 use Rattle.c_tree.specs.Blocks.{all_of, body_variables}
-use Rattle.source_meaning.specs.State.{State, Rvalue, Home, NoObject, InObject, Run, ◌>>=◌, ◌>>◌, done, stop, pause, choose, read_state, change, skip, tally, Header, Setting, Env}
+use Rattle.source_meaning.specs.State.{State, Rvalue, Home, NoObject, InObject, Run, ◌>>=◌, ◌>>◌, done, stop, pause, read_state, change, skip, tally, Header, Setting, Env}
 use Rattle.source_meaning.specs.Actions.{integer, begin_turn, home_value}
 use Rattle.source_meaning.specs.Structures.{rvalue, write_rvalue, zero_of}
 use Rattle.source_meaning.specs.Expressions.{counted}
@@ -24,8 +24,8 @@ header_of f = record {
   room = f.room;
 }
 
--- all variables of a function in the order of their numbers, and the same of which only those are objects that belong to the block of
--- its body, objects among the parameters too
+-- all variables of a function in the order of their numbers, and the same of which only those are objects that belong
+-- to the block of its body, objects among the parameters too
 abbrev pub variables_of : Header → List Variable
 variables_of f = f.parameters ++ f.variables
 

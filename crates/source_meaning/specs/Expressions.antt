@@ -14,7 +14,7 @@ use Rattle.c_tree.specs.declared.expression.PlainName.{PlainName}
 use Rattle.c_tree.specs.Tree.{Expression, expression, Expressions, no_expressions, expressions, Lvalue, lvalue, Node, constant, function, plain, read, decay, address, parenthesized, deref_function, address_function, cast, convert, unary, binary, offset_by, difference, logical_and, logical_or, comma, conditional, assign, assign_plain, compound, change_plain, step, step_plain, call, call_through, library, printf, LvalueNode, automatic, static, deref, index, member, arrow, member_of_value, parenthesized_lvalue, kind_of, line_of, lvalue_kind, lvalue_line}
 use Rattle.source_meaning.specs.State.{Rvalue, Run, ◌>>=◌, ◌>>◌, done, stop, choose, read_state, tally, Header, Env}
 use Rattle.addr_map.specs.Places.{function_address}
-use Rattle.source_meaning.specs.Actions.{integer, is_zero, scalar_of, integer_type, converted, offset_value, difference_value, operate, updated, plain_value, set_plain, update_plain, update, read_lvalue, write_lvalue, home_pointer, each_value}
+use Rattle.source_meaning.specs.Actions.{integer, is_zero, scalar_of, integer_type, converted, offset_value, difference_value, operate, updated, plain_value, set_plain, update_plain, update, home_pointer, each_value}
 use Rattle.source_meaning.specs.Structures.{give, as_rvalue, as_pointer, values_of, take_value, write_rvalue, read_rvalue, member_of}
 use Rattle.source_meaning.specs.Library.{routine}
 use Rattle.source_meaning.specs.Printing.{print_formatted}

@@ -1,8 +1,7 @@
--- Good states, and what every part of a run makes of them: objects and tags are sound, each variable whose block is entered has its
--- home in a live object, and what an expression or an lvalue gives is sound.
-use Rattle.std.specs.Prelude.{◌≡◌, ◌⊎◌, ℕ, zero, suc, ◌+◌, ◌<◌, ◌≤◌, Bool, true, false, if◌then◌else◌, List, [], ◌∷◌, Option, Some, None, length, get_or}
+-- Good states, and what every part of a run makes of them: objects and tags are sound, each variable whose block is
+-- entered has its home in a live object, and what an expression or an lvalue gives is sound.
+use Rattle.std.specs.Prelude.{◌≡◌, ◌⊎◌, ℕ, zero, suc, ◌+◌, ◌<◌, ◌≤◌, true, false, if◌then◌else◌, List, [], ◌∷◌, Option, Some, None, length, get_or}
 use Rattle.behaviours.specs.Shown.{Access}
-use Rattle.sb_base.specs.declared.ending.Ending.{Ending}
 use Rattle.obj_memory.specs.declared.value.Value.{Value}
 use Rattle.obj_memory.specs.Objects.{ObjectState, Objects, object_at}
 use Rattle.obj_memory.specs.Heap.{is_allocated}

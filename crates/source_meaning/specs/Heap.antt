@@ -47,8 +47,8 @@ bad_free line = do
 abbrev pub is_block_start : ObjectState → (address : ℕ) → Bool
 is_block_start o address = is_allocated o.storage && (address == o.address)
 
--- the object that the tag of a pointer names, which is judged, not the address alone: a dead one is a temporal violation,
--- and all but the start of a block cannot be freed
+-- the object that the tag of a pointer names, which is judged, not the address alone: a dead one is a temporal
+-- violation, and all but the start of a block cannot be freed
 abbrev pub freed_object : (number : ℕ) → ObjectState → (address line : ℕ) → Run ℕ
 freed_object n o address line =
     choose o.is_live (choose (is_block_start o address) (done n) (bad_free line)) (stop (Temporal line))
@@ -98,7 +98,8 @@ replace_block g n size line = do
     release n
     done new)
 
--- a block of another size: of a null pointer a new one, of any other one in place of the block that the pointer would free
+-- a block of another size: of a null pointer a new one, of any other one in place of the block that the pointer would
+-- free
 abbrev pub realloc : Setting → (old size : Value) → (line : ℕ) → Run Value
 realloc g old size line = choose (is_zero old) (allocate g size.word line) (do
   n ← freed old line

@@ -1,5 +1,6 @@
--- Judgement as two tests, one after the other: the bounds (SoftBound's check), then the life of the object (CETS's check).
-use Rattle.std.specs.Prelude.{ℕ, Bool, true, false}
+-- Judgement as two tests, one after the other: the bounds (SoftBound's check), then the life of the object (CETS's
+-- check).
+use Rattle.std.specs.Prelude.{ℕ, Bool, false}
 use Rattle.sb_base.specs.declared.ending.Ending.TheVariants.{Spatial, Temporal}
 use Rattle.obj_memory.specs.declared.value.Tag.{Tag}
 use Rattle.obj_memory.specs.declared.value.Tag.TheVariants.{Untagged, OfFunction, OfObject}

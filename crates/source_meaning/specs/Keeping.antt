@@ -9,7 +9,6 @@ use Rattle.obj_memory.specs.Heap.{is_allocated}
 use Rattle.obj_memory.specs.Sound.{IsSound, AreDisjoint, Continues}
 use Rattle.c_tree.specs.declared.expression.Kind.{Kind}
 use Rattle.c_tree.specs.declared.expression.Kind.TheVariants.{Void, Scalar as OfScalar, Structure, Array}
-use Rattle.c_tree.specs.Programs.{FunctionType}
 use Rattle.source_meaning.specs.State.{State}
 
 -- the bytes of an access are bytes of one object
@@ -28,7 +27,8 @@ pub record IsKept (objects : Objects) (accesses : List Access) : Type 0 where
   pub sound : IsSound objects
   pub lie : AllLie objects accesses
 
--- what holds of the objects and accesses of a state that a run came to; all objects end at 0x60000000 at most, where the heap does
+-- what holds of the objects and accesses of a state that a run came to; all objects end at 0x60000000 at most, where
+-- the heap does
 pub record IsSoundState (s : State) : Type 0 where
   pub kept : IsKept s.objects s.accesses
   pub apart : AreDisjoint s.objects
@@ -54,8 +54,8 @@ pub record IsNamed (objects : Objects) (v : Value) (size : ℕ) : Type 0 where
   pub direct : IsDirect objects v size
   pub named : is_allocated (object_at objects direct.object).storage ≡ false
 
--- Live objects share no address: those that no `free` ends lie below the top of the object stack, and the blocks of the heap
--- behind the boundary of both.
+-- Live objects share no address: those that no `free` ends lie below the top of the object stack, and the blocks of the
+-- heap behind the boundary of both.
 pub record AreSeparate (boundary stacked : ℕ) (objects : Objects) : Type 0 where
   pub apart : AreDisjoint objects
   pub below : (n : ℕ) → (object_at objects n).is_live ≡ true → is_allocated (object_at objects n).storage ≡ false

@@ -59,8 +59,8 @@ fresh g objects input = record {
 abbrev pub static_env : Setting → Env
 static_env g = record { setting = g; variables = []; limit = 0; depth = 0; call = λ f vs line. pause }
 
--- The initializers of the static objects from a number on. One that names a variable of the function in whose block it stands is no
--- constant, and stores nothing.
+-- The initializers of the static objects from a number on. One that names a variable of the function in whose block it
+-- stands is no constant, and stores nothing.
 abbrev pub store_statics : Env → (number : ℕ) → List StaticObject → Run (Unit {0})
 store_statics env n [] = skip
 store_statics env n (o ∷ os) = do
@@ -74,8 +74,8 @@ objects_after placed (Gives a s) = s.objects
 objects_after placed (Ended e s) = placed
 objects_after placed (Paused s) = placed
 
--- the static objects as they are before the run: what their initializers do is not shown and no work. They have the tags of all
--- stores, also of those that a later one overwrites with other bytes.
+-- the static objects as they are before the run: what their initializers do is not shown and no work. They have the
+-- tags of all stores, also of those that a later one overwrites with other bytes.
 abbrev pub initial_objects : Program → Setting → Objects
 initial_objects p g =
     let placed = placed_statics (statics_first g) p.statics 0 in

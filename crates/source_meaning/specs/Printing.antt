@@ -1,5 +1,5 @@
--- `puts` and `printf` (C99 7.19.6.3, 7.19.7.10). All strings are scanned before anything is put. Each byte that is scanned
--- counts one, and each that is put one.
+-- `puts` and `printf` (C99 7.19.6.3, 7.19.7.10). All strings are scanned before anything is put. Each byte that is
+-- scanned counts one, and each that is put one.
 use Rattle.std.specs.Prelude.{ℕ, pos, false, List, [], ◌∷◌, ◌++◌, Option, Some, None, length, get_or, drop}
 use Rattle.std.specs.Fmt.{digits, decimal, signed_decimal}
 use Rattle.std.specs.Int.{w64, int_wrap}
@@ -48,8 +48,8 @@ abbrev pub pieces_or_none : Option (List Piece) → List Piece
 pieces_or_none None = []
 pieces_or_none (Some ps) = ps
 
--- what `printf` does with a format and the arguments behind it, at the line of the call: the number of bytes put is given,
--- converted to int
+-- what `printf` does with a format and the arguments behind it, at the line of the call: the number of bytes put is
+-- given, converted to int
 abbrev pub print_formatted : (format : List ℕ) → List Value → (line : ℕ) → Run Value
 print_formatted format arguments line = do
   bytes ← formatted (pieces_or_none (pieces format)) arguments line

@@ -8,15 +8,16 @@ use Rattle.obj_memory.specs.Objects.{ObjectState, Objects}
 use Rattle.c_tree.specs.declared.expression.Kind.{Kind}
 use Rattle.c_tree.specs.declared.program.Variable.{Variable}
 
--- where a variable of the function that runs is kept: in no object, where it is a plain variable or its block is not entered, or in
--- the object with a number
+-- where a variable of the function that runs is kept: in no object, where it is a plain variable or its block is not
+-- entered, or in the object with a number
 pub data Home : Type 0 where
   NoObject : Home
   InObject : (object : ℕ) → Home
 
--- The objects, the homes of the variables of the function that runs and the plain values of these variables, the rest of
--- the input and how many bytes were taken of it, the output, the accesses in order, the work done, the turns begun; and of
--- the budgets the bytes that calls are charged with, the first address behind the objects of all calls, and the keys made.
+-- The objects, the homes of the variables of the function that runs and the plain values of these variables, the rest
+-- of the input and how many bytes were taken of it, the output, the accesses in order, the work done, the turns begun;
+-- and of the budgets the bytes that calls are charged with, the first address behind the objects of all calls, and the
+-- keys made.
 pub record State : Type 0 where
   pub objects : Objects
   pub frame : List Home
@@ -83,14 +84,14 @@ skip = λ s. Gives tt s
 abbrev pub tally : ℕ → Run (Unit {0})
 tally n = change (λ s. record s { work = s.work + n })
 
--- what an expression gives: its value, and the contents of a structure or union that stands for no place, of which the value is then an
--- offset
+-- what an expression gives: its value, and the contents of a structure or union that stands for no place, of which the
+-- value is then an offset
 pub record Rvalue : Type 0 where
   pub value : Value
   pub contents : Option ObjectState
 
--- what is known of a function without its body: the line of its name, its type, its parameters and its other variables, those of
--- which the body's block enters, and the bytes of the budget `calls` that a call of it takes
+-- what is known of a function without its body: the line of its name, its type, its parameters and its other variables,
+-- those of which the body's block enters, and the bytes of the budget `calls` that a call of it takes
 pub record Header : Type 0 where
   pub line : ℕ
   pub type_number : ℕ
@@ -99,14 +100,15 @@ pub record Header : Type 0 where
   pub entered : List Variable
   pub room : ℕ
 
--- what a run stands on: the functions of its program, what the functions of each type give, and the sizes of its memory, with the budgets
+-- what a run stands on: the functions of its program, what the functions of each type give, and the sizes of its
+-- memory, with the budgets
 pub record Setting : Type 0 where
   pub functions : List Header
   pub results : List Kind
   pub sizes : MapSizes
 
--- what every part of a run may look at: its setting, the variables of the function that runs, the limit of turns, how many turns of
--- a loop may follow one another, and what a call of a function does with its arguments at a line
+-- what every part of a run may look at: its setting, the variables of the function that runs, the limit of turns, how
+-- many turns of a loop may follow one another, and what a call of a function does with its arguments at a line
 pub record Env : Type 0 where
   pub setting : Setting
   pub variables : List Variable

@@ -12,8 +12,8 @@ use Rattle.source_meaning.specs.Structures.{rvalue}
 use Rattle.source_meaning.specs.Expressions.{counted, argument, evaluate}
 use Rattle.source_meaning.specs.Initializers.{initialize_all}
 
--- how a statement completes: by its end, by `break`, by `continue`, or by `return` with the value of its expression, or a word of 0
--- where it has none (6.8.6)
+-- how a statement completes: by its end, by `break`, by `continue`, or by `return` with the value of its expression, or
+-- a word of 0 where it has none (6.8.6)
 pub data Completion : Type 0 where
   Normal : Completion
   Broken : Completion
@@ -154,8 +154,9 @@ run_switch word all = do
 abbrev pub in_block : {A : Type 0} → Env → (numbers : List ℕ) → (line : ℕ) → Run A → Run A
 in_block env numbers line body = scoped env.setting (block_objects env.variables numbers) line body
 
--- Each statement that is reached is work, but a declaration. A block is entered at the line of its `{`; a `for` with a declaration is
--- one around its loop, at the line of the word (6.8.5 paragraph 5); the block of a switch is entered once its value was found.
+-- Each statement that is reached is work, but a declaration. A block is entered at the line of its `{`; a `for` with a
+-- declaration is one around its loop, at the line of the word (6.8.5 paragraph 5); the block of a switch is entered
+-- once its value was found.
 abbrev mutual
   pub execute : Env → Statement → Run Completion
   execute env (expression_statement e) = counted (do

@@ -1,4 +1,5 @@
--- `strlen`, `strcmp`, `strcpy`, `strncpy`, `strcat` and `strchr` (C99 7.21). The bytes of a string are judged one by one.
+-- `strlen`, `strcmp`, `strcpy`, `strncpy`, `strcat` and `strchr` (C99 7.21). The bytes of a string are judged one by
+-- one.
 use Rattle.std.specs.Prelude.{ℕ, zero, suc, ◌+◌, ◌-◌, Bool, true, ◌&&◌, not, ◌==◌, List, [], ◌∷◌, ◌++◌, length, replicate}
 use Rattle.sb_base.specs.declared.ending.Ending.TheVariants.{Spatial}
 use Rattle.obj_memory.specs.declared.int_type.IntType.TheVariants.{Char}
@@ -30,7 +31,8 @@ scan_within (suc k) behind p line = do
     others ← scan_within k behind (moved 1 p) line
     done (byte ∷ others))
 
--- the bytes of a string before its 0 byte (7.1.1 paragraph 1); one that does not end before its bound is a spatial violation
+-- the bytes of a string before its 0 byte (7.1.1 paragraph 1); one that does not end before its bound is a spatial
+-- violation
 abbrev pub scan : Value → (line : ℕ) → Run (List ℕ)
 scan s line = scan_within (reach s) (stop (Spatial line)) s line
 

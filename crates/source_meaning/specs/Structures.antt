@@ -1,6 +1,6 @@
--- Structures and unions by value (C99 6.5.2.2 paragraph 4, 6.8.6.4 paragraph 3). The value of a structure that is no result of a
--- call, argument or parameter stands for the place that it was read from; one that is has contents: its bytes with one tag for
--- each word, as those of an object at a multiple of 16.
+-- Structures and unions by value (C99 6.5.2.2 paragraph 4, 6.8.6.4 paragraph 3). The value of a structure that is no
+-- result of a call, argument or parameter stands for the place that it was read from; one that is has contents: its
+-- bytes with one tag for each word, as those of an object at a multiple of 16.
 use Rattle.std.specs.Prelude.{ℕ, ◌%◌, Bool, false, ◌==◌, if◌then◌else◌, List, [], ◌∷◌, map, take, drop, set, Option, Some, None}
 use Rattle.obj_memory.specs.declared.value.Value.{Value}
 use Rattle.obj_memory.specs.declared.value.Place.{Place}
@@ -34,8 +34,8 @@ as_pointer r = do
 abbrev pub values_of : List Rvalue → List Value
 values_of vs = map (λ v. v.value) vs
 
--- an object into which some bytes of another were moved, from an offset there to one here; where both are equal modulo 8, each
--- whole word of the range takes the tag of its source
+-- an object into which some bytes of another were moved, from an offset there to one here; where both are equal modulo
+-- 8, each whole word of the range takes the tag of its source
 unfoldable pub moved_into : (size start source : ℕ) → (from to : ObjectState) → ObjectState
 moved_into size start source from to = record to {
   bytes = overwrite start (take size (drop source from.bytes)) to.bytes;
@@ -81,7 +81,8 @@ copy_value (Some c) size is_judged p line v = do
   destination ← located is_judged size p line
   put_contents size destination v.word c
 
--- an lvalue of a kind gets a value; what is given is the value as it is stored, for a structure the place (6.5.16 paragraph 3)
+-- an lvalue of a kind gets a value; what is given is the value as it is stored, for a structure the place (6.5.16
+-- paragraph 3)
 abbrev pub write_rvalue : Kind → (is_judged : Bool) → Value → (line : ℕ) → Rvalue → Run Rvalue
 write_rvalue Void is_judged p line v = done v
 write_rvalue (OfScalar k) is_judged p line v = as_rvalue (write_lvalue (OfScalar k) is_judged p line v.value)

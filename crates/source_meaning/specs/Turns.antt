@@ -5,8 +5,8 @@ use Rattle.behaviours.specs.Behaviour.{Moment, Behaviour}
 use Rattle.source_meaning.specs.State.{State, Outcome, Gives, Ended, Paused, Run}
 use Rattle.source_meaning.specs.Acting.{Later, state_of}
 
--- a moment comes later than another: it shows what that one shows and then more, with no less work and no fewer turns, and
--- is the same where the run had ended
+-- a moment comes later than another: it shows what that one shows and then more, with no less work and no fewer turns,
+-- and is the same where the run had ended
 pub record GoesOn (x y : Moment) : Type 0 where
   pub shown : IsEarlier x.shown y.shown
   pub turns : x.turns ≤ y.turns

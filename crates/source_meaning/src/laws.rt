@@ -33,6 +33,7 @@ ghost use Rattle.source_meaning.specs.Turns.{Grows};
 ghost use Rattle.c_tree.specs.Tree.{Expression, Expressions, Lvalue, kind_of, kinds_of, lvalue_kind};
 ghost use Rattle.c_tree.specs.Statements.{DeclaredVariable, Statement};
 ghost use Rattle.c_tree.specs.Blocks.{all_of, block_objects, opened};
+ghost use Rattle.c_tree.specs.Assigning.{declared_assign, statement_assigns};
 ghost use Rattle.c_tree.specs.Walk.{assigns, lvalue_assigns};
 ghost use Rattle.source_meaning.specs.Staying.{Stays};
 ghost use Rattle.c_tree.specs.Valid.{Scope, are_valid, is_valid, is_valid_lvalue};
@@ -69,8 +70,8 @@ pub fn runs_keep_objects_sound()
         → IsSoundState (state_of (outcome p budgets input t)) }
 {}
 
-/// An access that is made is, at that moment, of bytes of a live object: one that is judged, through a pointer whose tag
-/// is sound, and one that names its object, where that is live.
+/// An access that is made is, at that moment, of bytes of a live object: one that is judged, through a pointer whose
+/// tag is sound, and one that names its object, where that is live.
 pub fn accesses_are_of_live_objects()
     ensures judged { (size : ℕ) (p : Value) (line : ℕ) (s s' : State) (place : Place) → IsSoundTag s.objects p.tag
         → located true size p line s ≡ Gives place s' → IsAllowed s.objects p size place }
@@ -108,7 +109,8 @@ pub fn accesses_are_actions()
     ensures bytes { (p : Value) (offset : ℕ) (bytes : List ℕ) → IsAction (store_bytes p offset bytes) }
 {}
 
-/// So do the routines of the library, what a call does before and after its body, and a block where it is entered and left.
+/// So do the routines of the library, what a call does before and after its body, and a block where it is entered and
+/// left.
 pub fn routines_and_calls_are_actions()
     ensures routine { (g : Setting) (r : Routine) (vs : List Value) (line : ℕ) → IsAction (routine g r vs line) }
     ensures print { (format : List ℕ) (vs : List Value) (line : ℕ) → IsAction (print_formatted format vs line) }
@@ -126,8 +128,9 @@ pub fn calls_do_the_same_at_any_work()
         → RunsAlike (calls functions g limit n f vs line) }
 {}
 
-/// From a good state every expression, lvalue and list of arguments of a valid program comes to good states with a sound
-/// value, and so does an initializer: at each step, also within a turn. An lvalue that rests on a name is of a live object.
+/// From a good state every expression, lvalue and list of arguments of a valid program comes to good states with a
+/// sound value, and so does an initializer: at each step, also within a turn. An lvalue that rests on a name is of a
+/// live object.
 pub fn expressions_keep_states_good()
     ensures value { (sc : Context) (env : Env) → Calling sc env → (e : Expression) → is_valid sc.scope e ≡ true
         → Sure sc Any (evaluate env e) (ValueIs (kind_of e)) }
@@ -171,8 +174,8 @@ pub fn judgement_is_two_tests()
     ensures { (size : ℕ) (v : Value) (line : ℕ) (s : State) → located true size v line s ≡ tested size v line s }
 {}
 
-/// A block that is entered from a good state is ended in it, or leaves a good one in which its variables have homes too; where
-/// it is left, the names around it are good again.
+/// A block that is entered from a good state is ended in it, or leaves a good one in which its variables have homes
+/// too; where it is left, the names around it are good again.
 pub fn blocks_keep_states_good()
     ensures enter { (base : Scope) (boundary : ℕ) (all vars : List Variable) (numbers : List ℕ) (g : Setting)
         → stack_end g ≤ boundary → boundary ≤ 1610612736 → (line : ℕ) (s : State)
@@ -185,13 +188,19 @@ pub fn blocks_keep_states_good()
         → Leaves (context_of base boundary all vars) s (leave_block b s2) }
 {}
 
-/// A plain variable that an expression or an lvalue does not assign, and every home, is as before; a call gives the caller all of
-/// its variables back.
+/// A plain variable that an expression, an lvalue, a statement or an initializer does not assign, and every home, is as
+/// before; a call gives the caller all of its variables back.
 pub fn unassigned_variables_stay()
     ensures expression { (functions : List Function) (g : Setting) (limit n : ℕ) (variables : List Variable) (y : ℕ)
         (e : Expression) → assigns y e ≡ false → Stays y (evaluate (env_of functions g limit n variables) e) }
     ensures lvalue { (functions : List Function) (g : Setting) (limit n : ℕ) (variables : List Variable) (y : ℕ)
         (p : Lvalue) → lvalue_assigns y p ≡ false → Stays y (place (env_of functions g limit n variables) p) }
+    ensures statement { (functions : List Function) (g : Setting) (limit n : ℕ) (variables : List Variable) (y : ℕ)
+        (s : Statement) → statement_assigns y s ≡ false
+        → Stays y (execute (env_of functions g limit n variables) s) }
+    ensures initializers { (functions : List Function) (g : Setting) (limit n : ℕ) (variables : List Variable) (y : ℕ)
+        (ds : List DeclaredVariable) → declared_assign y ds ≡ false
+        → Stays y (initialize_all (env_of functions g limit n variables) ds) }
     ensures call { (y : ℕ) (functions : List Function) (g : Setting) (limit n f : ℕ) (vs : List Rvalue) (line : ℕ)
         → Stays y (calls functions g limit n f vs line) }
 {}

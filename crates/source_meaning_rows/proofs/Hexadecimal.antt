@@ -1,5 +1,5 @@
--- Two functions that put out numbers, with which the texts of some rows begin, so that they have the numbers 0 and 1 there and
--- the string literal is the static object 0.
+-- Two functions that put out numbers, with which the texts of some rows begin, so that they have the numbers 0 and 1
+-- there and the string literal is the static object 0.
 --     void h(unsigned long v){if(v>15)h(v>>4);putchar("0123456789abcdef"[v&15]);}
 --     void p(unsigned long v){h(v);putchar(32);}
 use Rattle.c_tree.specs.Programs.{Function, StaticObject, FunctionType}

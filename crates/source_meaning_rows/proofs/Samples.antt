@@ -109,8 +109,8 @@ main_alone statics variables room body = record {
   main = 0;
 }
 
--- The kind of an integer type, and the nodes of expressions, each with its line first, where it has one of its own. A node
--- that keeps a kind takes it from its operand.
+-- The kind of an integer type, and the nodes of expressions, each with its line first, where it has one of its own. A
+-- node that keeps a kind takes it from its operand.
 
 abbrev pub integer_kind : IntType → Kind
 integer_kind t = OfScalar (Integer t)

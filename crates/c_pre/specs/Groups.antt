@@ -3,7 +3,8 @@ use Rattle.std.specs.Prelude.{◌≡◌, ℕ, Bool, List, [], ◌∷◌, ◌++�
 use Rattle.c_pre.specs.Directives.{Line, text_line, if_defined, if_other, else_group, endif_line, define, undef, include, null_directive, unknown_include, unknown_directive, line_kind}
 use Rattle.c_pre.specs.Lines.{Tokens}
 
--- nothing; a line and what is behind it; an if-section without `#else` (its first line, its group and its last), or with one
+-- nothing; a line and what is behind it; an if-section without `#else` (its first line, its group and its last), or
+-- with one
 pub data Group : Type 0 where
   no_lines : Group
   plain : (line : Tokens) (more : Group) → Group

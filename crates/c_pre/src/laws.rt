@@ -10,15 +10,16 @@ ghost use Rattle.c_pre.specs.Reading.{expanded_tokens, holds, read_lines};
 ghost use Rattle.c_pre.specs.Sections.{State, chosen, is_read, opened, with_section};
 ghost use Rattle.c_pre.specs.Trace.{line_of};
 
-/// Each expanded token is a token of the text or of a header, perhaps on another line. So what spells it is a slice of the text or
-/// of the table of headers.
+/// Each expanded token is a token of the text or of a header, perhaps on another line. So what spells it is a slice
+/// of the text or of the table of headers.
 pub fn expanded_tokens_are_tokens()
     ensures { (text out : Tokens) → expanded_tokens text ≡ Ok out → All (ComesFrom text) out }
 {}
 
-/// Just which groups are skipped (C99 6.10.1 paragraph 6): all in a group that is skipped; the group behind a condition that does
-/// not hold, up to its `#endif`, or up to its `#else`, whose group is then read; and the group behind the `#else` of a
-/// condition that holds. A group that is skipped gives no token, has no fault and changes no macro.
+/// Just which groups are skipped (C99 6.10.1 paragraph 6): all in a group that is skipped; the group behind a
+/// condition that does not hold, up to its `#endif`, or up to its `#else`, whose group is then read; and the group
+/// behind the `#else` of a condition that holds. A group that is skipped gives no token, has no fault and changes no
+/// macro.
 pub fn groups_are_skipped()
     ensures nested { (g : Group) (s : State) (rest : List Tokens) → IsFormed g → is_read s.sections ≡ false →
         read_lines s (lines_of g ++ rest) ≡ read_lines s rest }

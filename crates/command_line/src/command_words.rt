@@ -20,10 +20,10 @@ const MAX_LIMIT: u64 = 1 << 62;
 /// left out, and has its default then: a heap of 4194304 bytes, a stack of 1048576, calls of 4194304,
 /// 16384 blocks, 2^62 keys, and a limit of 1000000000.
 ///
-/// `WordsFault::Usage` comes exactly where the words are no command, as long as there is memory: where
-/// `clap` refuses them or answers them with help, an option's value is no number, a budget is out of its
-/// range or no multiple of 4096 (`Budgets::new`), or the limit is above 2^62. A number is decimal digits with no sign and no leading zero, below 2^64.
-/// `WordsFault::Memory` comes where memory runs out, whatever the words are.
+/// `WordsFault::Usage` comes exactly where the words are no command, as long as there is memory: where `clap` refuses
+/// them or answers them with help, an option's value is no number, a budget is out of its range or no multiple of
+/// 4096 (`Budgets::new`), or the limit is above 2^62. A number is decimal digits with no sign and no leading zero,
+/// below 2^64. `WordsFault::Memory` comes where memory runs out, whatever the words are.
 #[tactic(auto, unfolding(crate::specs::Asked::command_in))]
 pub fn command_of<'a, S: AsStr>(alloc: Global, words: &'a [S]) -> Result<Command<'a>, WordsFault>
     ensures ok { IfOk result (λ command. command_in (map S.text words.entry.now) ≡ Some (asked_of command)) }

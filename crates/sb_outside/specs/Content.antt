@@ -61,8 +61,8 @@ ReadsUntold max (Err (TooLong n)) = max < n
 ReadsUntold max (Err fault.Failed) = Unit {0}
 ReadsUntold max (Err Memory) = Unit {0}
 
--- Reading a reader that tells the bytes that it has left, before and after: all of them, at most max, come with Ok; more than
--- max there are with TooLong; and at most one byte above max is taken.
+-- Reading a reader that tells the bytes that it has left, before and after: all of them, at most max, come with Ok;
+-- more than max there are with TooLong; and at most one byte above max is taken.
 pub record ReadsAtMost (all left : List ℕ) (max : ℕ) (result : Result (Vec ℕ Global) FileFault) : Type 0 where
   pub read : IfOk result (λ bytes. bytes.items ≡ all)
   pub too_long : (n : ℕ) → result ≡ Err (TooLong n) → max < length all

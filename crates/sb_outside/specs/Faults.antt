@@ -1,4 +1,5 @@
--- Counts of calls and of faults. A fault of the outside is answered only where its count rose, so no failed call is passed over.
+-- Counts of calls and of faults. A fault of the outside is answered only where its count rose, so no failed call is
+-- passed over.
 use Rattle.std.specs.Prelude.{◌≡◌, ◌^◌, ℕ, ◌+◌, ◌-◌, min, Result, OnOk, OnErr, IsErrOf}
 use Rattle.sb_outside.specs.declared.source.Failed.{Failed}
 use Rattle.sb_outside.specs.declared.files.FileFault.{FileFault}

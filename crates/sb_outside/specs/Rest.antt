@@ -18,14 +18,14 @@ MayGive (Told left) bytes = bytes ≡ left
 MayGive Untold bytes = Unit {0}
 MayGive Ended bytes = bytes ≡ []
 
--- These bytes were taken between two moments of a source: with them in front, whatever it may give now it might have given
--- then.
+-- These bytes were taken between two moments of a source: with them in front, whatever it may give now it might have
+-- given then.
 pub record HasTaken (before now : Rest) (taken : List ℕ) : Type 0 where
   pub behind : (bytes : List ℕ) → MayGive now bytes → MayGive before (taken ++ bytes)
 
--- Some bytes were taken between two moments of a source, and, whatever it may give now, P holds of that with these bytes in
--- front, and of it alone. So P speaks of each list of input that begins with what was taken, and ends there where the end was
--- met.
+-- Some bytes were taken between two moments of a source, and, whatever it may give now, P holds of that with these
+-- bytes in front, and of it alone. So P speaks of each list of input that begins with what was taken, and ends there
+-- where the end was met.
 pub record ForEveryInput (before now : Rest) (P : (was rest : List ℕ) → Type 0) : Type 0 where
   pub taken : List ℕ
   pub took : HasTaken before now taken

@@ -16,8 +16,8 @@ use std::{fs, rt};
 // How many bytes are read from a file at a time.
 const CHUNK: usize = 4096;
 
-/// A source over a reader. Its count of faults rises with each error that the reader gives. Once the reader gave nothing, the
-/// source has ended, and does not ask the reader again.
+/// A source over a reader. Its count of faults rises with each error that the reader gives. Once the reader gave
+/// nothing, the source has ended, and does not ask the reader again.
 #[derive(Drop)]
 pub struct StdSource<R: Read> {
     reader: R,
@@ -49,7 +49,8 @@ impl<R: Read> Source for StdSource<R> {
     fn take(&mut self) -> Result<Option<u8>, Failed>
         ensures content { Takes (untold self.old.ended) (untold self.new.ended) result }
         ensures cause { CountsFaults self.old.faults self.new.faults result }
-        ensures told { self.old.ended ≡ false → IfSome (R.remaining self.old.reader) (λ bytes. IfSome (R.remaining self.new.reader) (λ left. Takes (Told bytes) (Told left) result)) }
+        ensures told { self.old.ended ≡ false → IfSome (R.remaining self.old.reader)
+            (λ bytes. IfSome (R.remaining self.new.reader) (λ left. Takes (Told bytes) (Told left) result)) }
         ensures unasked { self.old.ended ≡ true → self.new ≡ self.old }
     {
         if self.ended {
@@ -169,11 +170,12 @@ impl<'a, R: rt::Files> Files for HostFiles<'a, R> {
     }
 }
 
-/// All that a reader gives, where it is at most `max` bytes; `TooLong` comes just where there are more, and `Failed` where the
-/// reader failed. Never is more than one byte above `max` read.
+/// All that a reader gives, where it is at most `max` bytes; `TooLong` comes just where there are more, and `Failed`
+/// where the reader failed. Never is more than one byte above `max` read.
 pub fn read_at_most<R: Read>(alloc: Global, reader: &mut R, max: u64) -> Result<Vec<u8>, FileFault>
     ensures length { ReadsUntold max result }
-    ensures told { IfSome (R.remaining reader.old) (λ all. IfSome (R.remaining reader.new) (λ left. ReadsAtMost all left max result)) }
+    ensures told { IfSome (R.remaining reader.old) (λ all. IfSome (R.remaining reader.new)
+        (λ left. ReadsAtMost all left max result)) }
 {
     let mut bytes = Vec::new(alloc);
     let mut chunk = [0; CHUNK];

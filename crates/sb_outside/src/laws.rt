@@ -18,15 +18,17 @@ pub fn parts_are_parts_of_all()
         GainsPart between now sent → GainsPart told now whole }
 {}
 
-/// What was taken from a source, and what it may give: a call takes the bytes that it gives, the first of those that the source
-/// may have given; bytes that are taken one after another are taken together; of a source that tells its content they are the
-/// first of those left. There always is something that a source may give.
+/// What was taken from a source, and what it may give: a call takes the bytes that it gives, the first of those that
+/// the source may have given; bytes that are taken one after another are taken together; of a source that tells its
+/// content they are the first of those left. There always is something that a source may give.
 pub fn sources_give_what_they_may()
-    ensures call { (old new : Rest) (result : Result (Option ℕ) Failed) → Takes old new result → HasTaken old new (given_by result) }
+    ensures call { (old new : Rest) (result : Result (Option ℕ) Failed) → Takes old new result →
+        HasTaken old new (given_by result) }
     ensures first { (old new : Rest) (first : Option ℕ) (more : List ℕ) → Takes old new (Ok first) → MayGive new more →
         first ≡ slice_get (given_by (Ok first) ++ more) 0 }
     ensures nothing { (rest : Rest) → HasTaken rest rest [] }
-    ensures together { (before between now : Rest) (a b : List ℕ) → HasTaken before between a → HasTaken between now b → HasTaken before now (a ++ b) }
+    ensures together { (before between now : Rest) (a b : List ℕ) → HasTaken before between a →
+        HasTaken between now b → HasTaken before now (a ++ b) }
     ensures told { (before now taken : List ℕ) → HasTaken (Told before) (Told now) taken → before ≡ taken ++ now }
     ensures some { (rest : Rest) → GivesSome rest }
 {}

@@ -171,7 +171,8 @@ impl Files for MemFiles {
 
     #[tactic(auto, using(crate::proofs::Held::roomy_for, crate::proofs::Held::roomy_written))]
     fn write(&mut self, name: &str, bytes: &[u8]) -> Result<(), Failed>
-        ensures content { Writes (Some (held_in (files_of self.old))) (Some (held_in (files_of self.new))) name.now bytes.now result }
+        ensures content { Writes (Some (held_in (files_of self.old)))
+            (Some (held_in (files_of self.new))) name.now bytes.now result }
         ensures counted { next_write self.new ≡ next_count (next_write self.old) }
         ensures cause { CountsFaults (write_faults self.old) (write_faults self.new) result }
         ensures others { read_faults self.new ≡ read_faults self.old }

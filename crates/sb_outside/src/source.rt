@@ -16,8 +16,8 @@ pub trait Source {
     /// How many calls have failed. It stands still at `u64::MAX`.
     ghost faults: { Self → ℕ };
 
-    /// The next byte, or `None` exactly at the end. On `Failed` the bytes that are left stay. Once the end was met no byte
-    /// comes any more.
+    /// The next byte, or `None` exactly at the end. On `Failed` the bytes that are left stay. Once the end was met no
+    /// byte comes any more.
     fn take(&mut self) -> Result<Option<u8>, Failed>
         ensures content { Takes (rest self.old) (rest self.new) result }
         ensures cause { CountsFaults (faults self.old) (faults self.new) result };

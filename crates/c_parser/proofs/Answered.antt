@@ -1,14 +1,16 @@
 -- What the parser answers, from what the reader of files gives.
-use Rattle.std.proofs.Common.{◌≡◌, ℕ, suc, ◌+◌, ◌-◌, ◌≤◌, min, take, Bool, List, [], ◌∷◌, length, Ok, Err, refl, sym, ap, ◌∙◌, arith}
+use Rattle.std.proofs.Common.{◌≡◌, ℕ, suc, ◌+◌, ◌-◌, ◌≤◌, min, take, Bool, List, [], ◌∷◌, length, Result, Ok, Err, None, refl, sym, ap, ◌∙◌, arith}
 use Rattle.std.proofs.lemmas.List.{take_min}
 use Rattle.c_lexer.specs.Spelled.{TokenList}
 use Rattle.c_lexer.specs.declared.token.Token.{Token}
 use Rattle.c_syntax.specs.Statements.{Unit}
 use Rattle.c_syntax.specs.Words.{Words, placed, placed_from}
 use Rattle.c_grammar.specs.UnitReader.{unit_from}
-use Rattle.c_parser.specs.Parsed.{IsTreeOf, HasNoTree, IsWhereRefused, Told, is_nested_too_deep, line_at, IsFaultAt, Parses}
+use Rattle.c_parser.specs.Parsed.{IsTreeOf, HasNoTree, IsWhereRefused, Told, is_nested_too_deep, line_at, IsFaultAt, Parses, IsSupported}
+use Rattle.c_parser.specs.Unsupported.{first_unsupported}
+use Rattle.c_syntax.specs.declared.statement.Unit as rust
 use Rattle.c_parser.specs.declared.fault.ParseFault.{ParseFault}
-use Rattle.c_parser.specs.declared.fault.ParseFault.TheVariants.{Memory, Syntax, Nesting}
+use Rattle.c_parser.specs.declared.fault.ParseFault.TheVariants.{Memory, Unsupported, Syntax, Nesting}
 use Rattle.c_grammar.proofs.Refused.{none_where_refused}
 use Rattle.c_grammar.proofs.SoundUnits.{unit_sound}
 
@@ -44,6 +46,7 @@ stood tokens words r at e o here =
 pub refused_at : (list : TokenList) (words r : Words) (at : ℕ) (fault : ParseFault) → words ≡ placed list.tokens → unit_from words ≡ Err r
     → at ≡ length words - length r → at ≤ length list.tokens → IsFaultAt list at fault → Parses list (Err fault)
 refused_at list words r at Memory e o here within told = absurd told
+refused_at list words r at (Unsupported word line) e o here within told = absurd told
 refused_at list words r at (Syntax number line) e o here within told =
     record {
       no_tree = refused list.tokens words r e o;
@@ -60,3 +63,11 @@ refused_at list words r at (Nesting number line) e o here within told =
       on_line = rw told.token told.on_line;
       kind = rw told.token told.kind;
     }
+
+-- without an unsupported word any answer is right in this
+pub supported : (list : TokenList) (answer : Result rust.Unit ParseFault) → first_unsupported list.tokens ≡ None → IsSupported list answer
+supported list (Ok u) none = none
+supported list (Err (Unsupported word line)) none = tt
+supported list (Err Memory) none = tt
+supported list (Err (Syntax at line)) none = none
+supported list (Err (Nesting at line)) none = none

@@ -1,5 +1,5 @@
 -- What the parser answers for the tokens of a text.
-use Rattle.std.specs.Prelude.{◌≡◌, ℕ, suc, ◌+◌, ◌-◌, ◌≤◌, nat_lt, Bool, true, false, if◌then◌else◌, List, [], ◌∷◌, take, drop, length, Result, Ok, Err, ⊤}
+use Rattle.std.specs.Prelude.{◌≡◌, Option, Some, None, ℕ, suc, ◌+◌, ◌-◌, ◌≤◌, nat_lt, Bool, true, false, if◌then◌else◌, List, [], ◌∷◌, take, drop, length, Result, Ok, Err, ⊤}
 use Rattle.c_lexer.specs.Spelled.{TokenList}
 use Rattle.c_lexer.specs.declared.punctuator.Punctuator.TheVariants as p
 use Rattle.c_lexer.specs.declared.token.Token.{Token}
@@ -12,7 +12,8 @@ use Rattle.c_syntax.specs.Words.{Words, placed, unit_words}
 use Rattle.c_syntax.specs.Formed.{IsWellFormed}
 use Rattle.c_grammar.specs.UnitReader.{unit_from}
 use Rattle.c_parser.specs.declared.fault.ParseFault.{ParseFault}
-use Rattle.c_parser.specs.declared.fault.ParseFault.TheVariants.{Memory, Syntax, Nesting}
+use Rattle.c_parser.specs.declared.fault.ParseFault.TheVariants.{Memory, Unsupported, Syntax, Nesting}
+use Rattle.c_parser.specs.Unsupported.{first_unsupported}
 
 -- a well-formed file that is written with these tokens (C99 6.9)
 pub record IsTreeOf (tokens : List Token) (u : Unit) : Type 0 where
@@ -66,6 +67,7 @@ pub record Told (list : TokenList) (number at line : ℕ) (is_nesting : Bool) : 
 abbrev pub IsFaultAt : TokenList → ℕ → ParseFault → Type 0
 IsFaultAt list number (Syntax at line) = Told list number at line false
 IsFaultAt list number (Nesting at line) = Told list number at line true
+IsFaultAt list number (Unsupported word line) = ⊥
 IsFaultAt list number Memory = ⊥
 
 -- the reader of files refuses these tokens, and what it has not read begins at the token of this number
@@ -82,9 +84,16 @@ pub record IsRefusedAt (list : TokenList) (at line : ℕ) (is_nesting : Bool) : 
   pub on_line : line ≡ line_at list at
   pub kind : is_nested_too_deep (take (suc at) list.tokens) ≡ is_nesting
 
--- a tree, or that there is none; for want of memory nothing is said
+-- a tree, or that there is none, or the first unsupported word; for want of memory nothing is said
 abbrev pub Parses : TokenList → Result rust.Unit ParseFault → Type 0
 Parses list (Ok u) = IsTreeOf list.tokens (unit_of u)
 Parses list (Err (Syntax at line)) = IsRefusedAt list at line false
 Parses list (Err (Nesting at line)) = IsRefusedAt list at line true
+Parses list (Err (Unsupported word line)) = first_unsupported list.tokens ≡ Some (word, line)
 Parses list (Err Memory) = ⊤
+
+-- no unsupported word stands where anything else is answered
+abbrev pub IsSupported : TokenList → Result rust.Unit ParseFault → Type 0
+IsSupported list (Err (Unsupported word line)) = ⊤
+IsSupported list (Err Memory) = ⊤
+IsSupported list answer = first_unsupported list.tokens ≡ None

@@ -7,6 +7,8 @@ pub mod parser;
 mod statement;
 mod statement_tree;
 mod unit;
+pub mod unsupported;
 
 pub use crate::fault::ParseFault;
 pub use crate::parser::parse;
+pub use crate::unsupported::UnsupportedWord;

@@ -5,6 +5,7 @@ ghost use Rattle.c_parser.specs.Parsed as spec;
 
 use crate::fault::ParseFault;
 use crate::unit::unit;
+use crate::unsupported::first_unsupported;
 use c_grammar::cursor::{Cursor, Fault};
 use c_lexer::{Punctuator, Token, Tokens, Word};
 use c_syntax::{Unit, with_places};
@@ -78,10 +79,9 @@ fn fault_at(tokens: &Tokens, at: usize) -> ParseFault
     }
 }
 
-/// The tree of a text: the well-formed one of at most 200 levels that has its words (C99 6.9), of which there is at most
-/// one; or, where there is none, the token at which the parser stood.
+/// The tree of a text, or, where there is none, the token at which the parser stood.
 #[tactic(auto, using(crate::proofs::Answered::read, crate::proofs::Answered::as_many))]
-pub fn parse<'a>(alloc: Global, tokens: &Tokens<'a>) -> Result<Unit<'a>, ParseFault>
+fn tree_of<'a>(alloc: Global, tokens: &Tokens<'a>) -> Result<Unit<'a>, ParseFault>
     ensures { spec.Parses tokens.now result }
 {
     let words = match with_places(alloc, tokens.as_slice()) {
@@ -100,4 +100,18 @@ pub fn parse<'a>(alloc: Global, tokens: &Tokens<'a>) -> Result<Unit<'a>, ParseFa
             Err(fault_at(tokens, at))
         }
     }
+}
+
+/// The tree of a text: the well-formed one of at most 200 levels that has its words (C99 6.9), of which there is at most
+/// one. Or the first word that is in no part of the subset, wherever it stands; or, in a text without such a word that has
+/// no tree, the token at which the parser stood.
+#[tactic(auto, using(crate::proofs::Answered::supported))]
+pub fn parse<'a>(alloc: Global, tokens: &Tokens<'a>) -> Result<Unit<'a>, ParseFault>
+    ensures judged { spec.Parses tokens.now result }
+    ensures supported { spec.IsSupported tokens.now result }
+{
+    if let Some((word, line)) = first_unsupported(tokens.as_slice()) {
+        return Err(ParseFault::Unsupported(word, line));
+    }
+    tree_of(alloc, tokens)
 }

@@ -21,6 +21,11 @@ pub enum Verdict {
         /// The line of that token, or of the end of the text.
         line: Line,
     },
+    /// A word of it is in no part of the subset.
+    Unsupported {
+        /// The line of that word.
+        line: Line,
+    },
     /// It has none, and too many brackets are open.
     Nested {
         /// The line on which they are too many.
@@ -33,7 +38,7 @@ impl Verdict {
     pub fn name(self) -> &'static str {
         match self {
             Verdict::Accepted => "accepted",
-            Verdict::Refused { .. } => "refused",
+            Verdict::Refused { .. } | Verdict::Unsupported { .. } => "refused",
             Verdict::Nested { .. } => "nested",
         }
     }
@@ -80,6 +85,7 @@ fn test_words(alloc: Global, tokens: &Tokens, unit: &Unit) -> Result<()> {
 fn refusal(fault: ParseFault) -> Result<Verdict> {
     match fault {
         ParseFault::Memory => bail!("out of memory"),
+        ParseFault::Unsupported(_, line) => Ok(Verdict::Unsupported { line }),
         ParseFault::Syntax { at, line } => Ok(Verdict::Refused { at, line }),
         ParseFault::Nesting { line, .. } => Ok(Verdict::Nested { line }),
     }

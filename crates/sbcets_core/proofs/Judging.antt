@@ -1,5 +1,5 @@
 -- How the steps of the compiler make up the judgement of a source.
-use Rattle.std.proofs.Common.{arith, ◌≡◌, ℕ, suc, ◌-◌, Bool, true, false, List, [], ◌∷◌, take, drop, length, Ok, Err, refl, sym, ap, ◌∙◌, subst}
+use Rattle.std.proofs.Common.{arith, ◌≡◌, ℕ, suc, ◌-◌, Bool, true, false, List, [], ◌∷◌, take, drop, length, Option, Some, None, Ok, Err, refl, sym, ap, ◌∙◌, subst}
 use Rattle.c_lexer.specs.declared.token.Token.{Token}
 use Rattle.c_lexer.specs.Spelled.{TokenList}
 use Rattle.c_syntax.specs.Statements as statements
@@ -8,13 +8,15 @@ use Rattle.c_grammar.specs.Reader.{Outcome}
 use Rattle.c_grammar.specs.UnitReader.{unit_from}
 use Rattle.c_grammar.proofs.Exact.{what_is_read}
 use Rattle.c_grammar.proofs.Refused.{none_where_refused}
+use Rattle.c_parser.specs.declared.unsupported.UnsupportedWord.{UnsupportedWord}
+use Rattle.c_parser.specs.Unsupported.{told_as, first_unsupported}
 use Rattle.c_parser.specs.Parsed.{IsTreeOf, IsRefusedAt, line_at, is_nested_too_deep}
 use Rattle.sbcets_core.specs.declared.refusal.SourceRefusal.{SourceRefusal}
 use Rattle.sbcets_core.specs.declared.refusal.SourceRefusal.TheVariants.{Lex, Pre, Unsupported, Syntax, Nesting, TooLarge, Memory}
 use Rattle.sbcets_core.specs.Source.{SourceProgram}
 use Rattle.sbcets_core.specs.Part.{Parted, program_of}
 use Rattle.sbcets_core.specs.Parting.{IsUnfit}
-use Rattle.sbcets_core.specs.Accepted.{Judged, Readable, HasTree, unsupported, of_part, supported_tokens, JudgesTokens, JudgesReadable, Judges, UnlessMemory}
+use Rattle.sbcets_core.specs.Accepted.{Judged, Readable, HasTree, unsupported, of_part, expanded_tokens, unless_unsupported, with_support, of_readable, supported_tokens, JudgesTokens, JudgesReadable, Judges, UnlessMemory}
 
 -- what follows from the one follows of a refusal too
 pub unless_memory : (refusal : SourceRefusal) (A B : Type 0) → (A → B) → UnlessMemory refusal A → UnlessMemory refusal B
@@ -34,15 +36,39 @@ part_refused refusal list at unfit r =
 judged : (source : List ℕ) (list : TokenList) (answer : Judged) → supported_tokens source ≡ Ok list → JudgesTokens list answer → Judges source answer
 judged source list answer e j = subst (λ r. JudgesReadable r answer) (sym e) j
 
-pub accepts : (source : List ℕ) (list : TokenList) (u : statements.Unit) (program : SourceProgram) → supported_tokens source ≡ Ok list → IsTreeOf list.tokens u → program_of list.tokens ≡ Ok program → Judges source (Ok program)
-accepts source list u program e t p = judged source list (Ok program) e ((u, t), sym (ap (of_part list.end) p))
+-- what is known of the expanded tokens of a source
+supported : (source : List ℕ) (list : TokenList) → expanded_tokens source ≡ Ok list → supported_tokens source ≡ with_support list
+unfolding supported_tokens
+supported source list e = ap of_readable e
 
-pub refused_early : (source : List ℕ) (refusal : SourceRefusal) → UnlessMemory refusal (supported_tokens source ≡ Err refusal) → UnlessMemory refusal (Judges source (Err refusal))
-refused_early source refusal r =
-    unless_memory refusal _ _ (λ e. subst (λ s. JudgesReadable s (Err refusal)) (sym e) refl) r
+none_unsupported : (list : TokenList) → first_unsupported list.tokens ≡ None → with_support list ≡ Ok list
+unfolding with_support
+none_unsupported list none = ap (unless_unsupported list) none
 
-pub refused_unparsed : (source : List ℕ) (list : TokenList) (refusal : SourceRefusal) → supported_tokens source ≡ Ok list → UnlessMemory refusal (JudgesTokens list (Err refusal)) → UnlessMemory refusal (Judges source (Err refusal))
-refused_unparsed source list refusal e r = unless_memory refusal _ _ (λ j. judged source list (Err refusal) e j) r
+pub accepts : (source : List ℕ) (list : TokenList) (u : statements.Unit) (program : SourceProgram) → expanded_tokens source ≡ Ok list
+    → first_unsupported list.tokens ≡ None → IsTreeOf list.tokens u → program_of list.tokens ≡ Ok program → Judges source (Ok program)
+accepts source list u program e none t p =
+    judged source list (Ok program) (supported source list e ∙ none_unsupported list none) ((u, t), sym (ap (of_part list.end) p))
+
+early_refused : (source : List ℕ) (refusal : SourceRefusal) → expanded_tokens source ≡ Err refusal → Judges source (Err refusal)
+unfolding supported_tokens
+early_refused source refusal e = subst (λ s. JudgesReadable (of_readable s) (Err refusal)) (sym e) refl
+
+pub refused_early : (source : List ℕ) (refusal : SourceRefusal) → UnlessMemory refusal (expanded_tokens source ≡ Err refusal) → UnlessMemory refusal (Judges source (Err refusal))
+refused_early source refusal r = unless_memory refusal _ _ (early_refused source refusal) r
+
+-- the parser refuses: a word that is not supported, or tokens that have no tree
+pub refused_unparsed : (source : List ℕ) (list : TokenList) (refusal : SourceRefusal) → expanded_tokens source ≡ Ok list
+    → UnlessMemory refusal (JudgesReadable (with_support list) (Err refusal)) → UnlessMemory refusal (Judges source (Err refusal))
+refused_unparsed source list refusal e r =
+    unless_memory refusal _ _ (λ j. subst (λ s. JudgesReadable s (Err refusal)) (sym (supported source list e)) j) r
+
+pub judged_supported : (list : TokenList) (answer : Judged) → first_unsupported list.tokens ≡ None → JudgesTokens list answer → JudgesReadable (with_support list) answer
+judged_supported list answer none j = subst (λ s. JudgesReadable s answer) (sym (none_unsupported list none)) j
+
+pub judged_unsupported : (list : TokenList) (word : UnsupportedWord) (line : ℕ) → first_unsupported list.tokens ≡ Some (word, line) → JudgesReadable (with_support list) (Err (Unsupported (told_as word) line))
+unfolding with_support
+judged_unsupported list word line found = subst (λ o. JudgesReadable (unless_unsupported list o) (Err (Unsupported (told_as word) line))) (sym found) refl
 
 -- the part refuses with Unsupported alone
 unsupported_no_syntax : (end : ℕ) (unfit : List Token) (at line : ℕ) → unsupported end unfit ≡ Syntax at line → ⊥
@@ -73,9 +99,9 @@ by_part list (Unsupported word line) t e = (t, sym e)
 by_part list (TooLarge which n) t e = (t, sym e)
 by_part list Memory t e = (t, sym e)
 
-pub refused_by_part : (source : List ℕ) (list : TokenList) (u : statements.Unit) (refusal : SourceRefusal) → supported_tokens source ≡ Ok list → IsTreeOf list.tokens u → UnlessMemory refusal (of_part list.end (program_of list.tokens) ≡ Err refusal) → UnlessMemory refusal (Judges source (Err refusal))
-refused_by_part source list u refusal e t r =
-    unless_memory refusal _ _ (λ p. judged source list (Err refusal) e (by_part list refusal (u, t) p)) r
+pub refused_by_part : (source : List ℕ) (list : TokenList) (u : statements.Unit) (refusal : SourceRefusal) → expanded_tokens source ≡ Ok list → first_unsupported list.tokens ≡ None → IsTreeOf list.tokens u → UnlessMemory refusal (of_part list.end (program_of list.tokens) ≡ Err refusal) → UnlessMemory refusal (Judges source (Err refusal))
+refused_by_part source list u refusal e none t r =
+    unless_memory refusal _ _ (λ p. judged source list (Err refusal) (supported source list e ∙ none_unsupported list none) (by_part list refusal (u, t) p)) r
 
 -- tokens are judged by their tree and the part, or where the reader of files refuses them
 pub by_judgement : (list : TokenList) (answer : Judged) (Holds : Judged → Type 0) → JudgesTokens list answer

@@ -5,7 +5,6 @@ pub mod Answering
 pub mod Execution
 pub mod FirstPath
 pub mod Judging
-pub mod Listed
 pub mod Machine
 pub mod Meant
 pub mod Pieces

@@ -11,12 +11,13 @@ use Rattle.c_syntax.specs.Statements as statements
 use Rattle.c_parser.specs.Parsed.{IsTreeOf, HasNoTree}
 use Rattle.c_grammar.proofs.Unique.{one_tree}
 use Rattle.sbcets_core.specs.declared.refusal.SourceRefusal.{SourceRefusal}
-use Rattle.sbcets_core.specs.declared.refusal.SourceRefusal.TheVariants.{Lex, Pre, Unsupported, Syntax, Nesting, TooLarge, Memory}
+use Rattle.sbcets_core.specs.declared.refusal.SourceRefusal.TheVariants.{Syntax, Nesting, TooLarge}
 use Rattle.sbcets_core.specs.declared.refusal.Counted.TheVariants.{Source}
 use Rattle.sbcets_core.specs.Outcomes.{max_source}
 use Rattle.sbcets_core.specs.Source.{SourceProgram}
-use Rattle.sbcets_core.specs.Listed.{from_listed}
-use Rattle.sbcets_core.specs.Accepted.{Judged, Readable, supported_tokens, without_listed, unless_listed, of_expanded, of_tokens, JudgesTokens, JudgesReadable, Judges}
+use Rattle.c_parser.specs.declared.unsupported.UnsupportedWord.{UnsupportedWord}
+use Rattle.c_parser.specs.Unsupported.{first_unsupported}
+use Rattle.sbcets_core.specs.Accepted.{Judged, Readable, expanded_tokens, supported_tokens, with_support, unless_unsupported, of_readable, of_expanded, of_tokens, JudgesTokens, JudgesReadable, Judges}
 use Rattle.sbcets_core.proofs.Judging.{refusal_is, by_judgement}
 use Rattle.sbcets_core.specs.Trees.{HasTokensAlone, HasOneTree, IsUnparsed}
 
@@ -43,14 +44,18 @@ IsEarly (Err (Syntax at line)) = ⊥
 IsEarly (Err (Nesting at line)) = ⊥
 IsEarly readable = Unit {0}
 
-early_listed : (list : TokenList) (listed : List Token) → IsEarly (unless_listed list listed)
-early_listed list [] = tt
-early_listed list (t ∷ ts) = tt
+early_supported : (list : TokenList) (found : Option (UnsupportedWord × ℕ)) → IsEarly (unless_unsupported list found)
+early_supported list None = tt
+early_supported list (Some found) = tt
+
+early_readable : (r : Readable) → IsEarly r → IsEarly (of_readable r)
+unfolding with_support
+early_readable (Err refusal) e = e
+early_readable (Ok list) e = early_supported list (first_unsupported list.tokens)
 
 early_expanded : (r : Result TokenList PreFault) → IsEarly (of_expanded r)
-unfolding without_listed
 early_expanded (Err fault) = tt
-early_expanded (Ok list) = early_listed list (from_listed list.tokens)
+early_expanded (Ok list) = tt
 
 early_tokens : (r : Result TokenList LexFault) → IsEarly (of_tokens r)
 early_tokens (Err fault) = tt
@@ -61,8 +66,10 @@ early_if true x y i j = i
 early_if false x y i j = j
 
 early : (source : List ℕ) → IsEarly (supported_tokens source)
-unfolding supported_tokens
-early source = early_if (nat_lt max_source (length source)) (Err (TooLarge Source (length source))) (of_tokens (tokens source)) tt (early_tokens (tokens source))
+unfolding supported_tokens expanded_tokens
+early source =
+    early_readable (expanded_tokens source)
+    (early_if (nat_lt max_source (length source)) (Err (TooLarge Source (length source))) (of_tokens (tokens source)) tt (early_tokens (tokens source)))
 
 -- a refusal of the parser comes of tokens
 alone_from : (source : List ℕ) (readable : Readable) (refusal : SourceRefusal) → supported_tokens source ≡ readable → (IsEarly (Err refusal) → ⊥) → ((list : TokenList) → JudgesTokens list (Err refusal) → HasNoTree list.tokens) → JudgesReadable readable (Err refusal) → HasTokensAlone source

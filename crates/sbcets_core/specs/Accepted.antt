@@ -1,5 +1,5 @@
 -- The program of an accepted source, or why the source is refused.
-use Rattle.std.specs.Prelude.{◌≡◌, ℕ, nat_lt, true, false, List, [], ◌∷◌, length, Result, Ok, Err, if◌then◌else◌, Vec}
+use Rattle.std.specs.Prelude.{◌≡◌, ℕ, nat_lt, true, false, List, [], ◌∷◌, length, Option, Some, None, Result, Ok, Err, if◌then◌else◌, Vec}
 use Rattle.std.specs.declared.alloc.Global.{Global}
 use Rattle.c_lexer.specs.declared.lexer.LexFault.{LexFault}
 use Rattle.c_lexer.specs.declared.token.Token.{Token}
@@ -8,13 +8,15 @@ use Rattle.c_lexer.specs.Text.{tokens}
 use Rattle.c_pre.specs.declared.fault.PreFault.{PreFault}
 use Rattle.c_pre.specs.Reading.{expanded}
 use Rattle.c_syntax.specs.Statements as statements
+use Rattle.c_parser.specs.declared.unsupported.UnsupportedWord.{UnsupportedWord}
+use Rattle.c_parser.specs.Unsupported.{told_as, first_unsupported}
 use Rattle.c_parser.specs.Parsed.{IsTreeOf, IsRefusedAt}
 use Rattle.sbcets_core.specs.declared.refusal.Counted.TheVariants.{Source}
 use Rattle.sbcets_core.specs.declared.refusal.SourceRefusal.{SourceRefusal}
 use Rattle.sbcets_core.specs.declared.refusal.SourceRefusal.TheVariants.{Lex, Pre, Unsupported, Syntax, Nesting, TooLarge, Memory}
 use Rattle.sbcets_core.specs.Outcomes.{max_source}
 use Rattle.sbcets_core.specs.Source.{SourceProgram}
-use Rattle.sbcets_core.specs.Listed.{refused_bytes, from_listed}
+use Rattle.sbcets_core.specs.Refused.{refused_bytes}
 use Rattle.sbcets_core.specs.Part.{Parted, program_of}
 use Rattle.sbcets_core.specs.Faithful.{IsFaithfulImage}
 
@@ -30,25 +32,34 @@ abbrev pub unsupported : (end : ℕ) → List Token → SourceRefusal
 unsupported end [] = Unsupported [] end
 unsupported end (t ∷ ts) = Unsupported (refused_bytes t.word) t.line
 
--- no listed word is supported, wherever it stands
-abbrev pub unless_listed : TokenList → (listed : List Token) → Readable
-unless_listed list [] = Ok list
-unless_listed list (t ∷ ts) = Err (unsupported list.end (t ∷ ts))
-
-unfoldable pub without_listed : TokenList → Readable
-without_listed list = unless_listed list (from_listed list.tokens)
-
 abbrev pub of_expanded : Result TokenList PreFault → Readable
 of_expanded (Err fault) = Err (Pre fault)
-of_expanded (Ok list) = without_listed list
+of_expanded (Ok list) = Ok list
 
 abbrev pub of_tokens : Result TokenList LexFault → Readable
 of_tokens (Err fault) = Err (Lex fault)
 of_tokens (Ok list) = of_expanded (expanded list)
 
--- first the size of a source, then its tokens, their expansion, and the listed words
+-- first the size of a source, then its tokens and their expansion
+unfoldable pub expanded_tokens : List ℕ → Readable
+expanded_tokens source =
+    if nat_lt max_source (length source) then Err (TooLarge Source (length source)) else of_tokens (tokens source)
+
+-- an unsupported word is refused, wherever it stands
+abbrev pub unless_unsupported : TokenList → Option (UnsupportedWord × ℕ) → Readable
+unless_unsupported list None = Ok list
+unless_unsupported list (Some found) = Err (Unsupported (told_as found.0) found.1)
+
+unfoldable pub with_support : TokenList → Readable
+with_support list = unless_unsupported list (first_unsupported list.tokens)
+
+abbrev pub of_readable : Readable → Readable
+of_readable (Err refusal) = Err refusal
+of_readable (Ok list) = with_support list
+
+-- the expanded tokens, none of them unsupported
 unfoldable pub supported_tokens : List ℕ → Readable
-supported_tokens source = if nat_lt max_source (length source) then Err (TooLarge Source (length source)) else of_tokens (tokens source)
+supported_tokens source = of_readable (expanded_tokens source)
 
 -- a well-formed file is written with these tokens (C99 6.9)
 abbrev pub HasTree : List Token → Type 0

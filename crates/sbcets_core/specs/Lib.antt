@@ -5,12 +5,12 @@ pub mod Commands
 pub mod Counting
 pub mod Faithful
 pub mod Hexadecimal
-pub mod Listed
 pub mod Meaning
 pub mod Meant
 pub mod Outcomes
 pub mod Part
 pub mod Parting
+pub mod Refused
 pub mod Source
 pub mod Top
 pub mod Trees

@@ -6,7 +6,7 @@ use Rattle.c_parser.specs.Parsed.{IsTreeOf, HasNoTree}
 use Rattle.sbcets_core.specs.declared.refusal.SourceRefusal.TheVariants.{Syntax, Nesting}
 use Rattle.sbcets_core.specs.Accepted.{Judged, supported_tokens}
 
--- the source has expanded tokens, none of them listed, and no well-formed file is written with them
+-- the source has expanded tokens, none of them unsupported, and no well-formed file is written with them
 pub record HasTokensAlone (source : List ℕ) : Type 0 where
   pub list : TokenList
   pub expands : supported_tokens source ≡ Ok list

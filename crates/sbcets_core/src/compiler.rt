@@ -1,13 +1,14 @@
 //! From a source text to an image.
-ghost use Rattle.std.specs.Prelude.{◌≡◌, ◌≤◌, length, Ok, Err, IfOk, IfErr};
+ghost use Rattle.std.specs.Prelude.{◌≡◌, ◌≤◌, length, None, Ok, Err, IfOk, IfErr, OnOk};
 ghost use Rattle.c_lexer.specs.Spelled.{TokenList};
 ghost use Rattle.c_syntax.specs.StatementsView.{unit_of};
-ghost use Rattle.c_parser.specs.Parsed.{IsTreeOf, Parses};
-ghost use Rattle.sbcets_core.specs.Accepted.{Compiles, UnlessMemory, JudgesTokens, supported_tokens};
+ghost use Rattle.c_parser.specs.Parsed.{IsSupported, IsTreeOf, Parses};
+ghost use Rattle.c_parser.specs.Unsupported.{first_unsupported};
+ghost use Rattle.sbcets_core.specs.Accepted.{Compiles, JudgesReadable, UnlessMemory, expanded_tokens, with_support};
 
 use crate::generator::image_of;
-use crate::refusal::{Counted, SourceRefusal};
-use crate::support::{part_of, without_listed};
+use crate::refusal::{Counted, RefusedWord, SourceRefusal};
+use crate::support::part_of;
 use c_lexer::{LexError, Tokens, lex};
 use c_parser::{ParseFault, parse};
 use c_pre::{PreError, expand};
@@ -18,13 +19,13 @@ use std::alloc::Global;
 pub const MAX_SOURCE: u64 = 1_048_576;
 
 /// The image of a source, faithful to what the source means; or why the source is refused: it is too
-/// large, else it has no tokens, else a directive is at fault, else a word of it is listed, else it has no tree, else a word of
+/// large, else it has no tokens, else a directive is at fault, else a word of it is unsupported, else it has no tree, else a word of
 /// it is not supported.
 #[tactic(auto, using(crate::proofs::Judging::accepts, crate::proofs::Judging::refused_early, crate::proofs::Judging::refused_unparsed, crate::proofs::Judging::refused_by_part))]
 pub fn compile(alloc: Global, source: &[u8]) -> Result<Vec<u8>, SourceRefusal>
     ensures { Compiles source.now result }
 {
-    let tokens = match supported_tokens(alloc, source) {
+    let tokens = match expanded_tokens(alloc, source) {
         Ok(tokens) => tokens,
         Err(refusal) => return Err(refusal),
     };
@@ -42,12 +43,12 @@ pub fn compile(alloc: Global, source: &[u8]) -> Result<Vec<u8>, SourceRefusal>
     }
 }
 
-// The expanded tokens of a source of which none is a listed word.
-#[tactic(auto, unfolding(crate::specs::Accepted::supported_tokens))]
-fn supported_tokens<'a>(alloc: Global, source: &'a [u8]) -> Result<Tokens<'a>, SourceRefusal>
-    ensures ok { IfOk result (λ tokens. supported_tokens source.now ≡ Ok tokens) }
+// The expanded tokens of a source.
+#[tactic(auto, unfolding(crate::specs::Accepted::expanded_tokens))]
+fn expanded_tokens<'a>(alloc: Global, source: &'a [u8]) -> Result<Tokens<'a>, SourceRefusal>
+    ensures ok { IfOk result (λ tokens. expanded_tokens source.now ≡ Ok tokens) }
     ensures few { IfOk result (λ tokens. length tokens.tokens ≤ 1048576) }
-    ensures err { IfErr result (λ refusal. UnlessMemory refusal (supported_tokens source.now ≡ Err refusal)) }
+    ensures err { IfErr result (λ refusal. UnlessMemory refusal (expanded_tokens source.now ≡ Err refusal)) }
 {
     let count = source.len() as u64;
     if count > MAX_SOURCE {
@@ -61,34 +62,37 @@ fn supported_tokens<'a>(alloc: Global, source: &'a [u8]) -> Result<Tokens<'a>, S
         Err(LexError::Fault(fault)) => return Err(SourceRefusal::Lex(fault)),
         Err(LexError::Memory) => return Err(SourceRefusal::Memory),
     };
-    let expanded = match expand(alloc, tokens) {
-        Ok(expanded) => expanded,
-        Err(PreError::Fault(fault)) => return Err(SourceRefusal::Pre(fault)),
-        Err(PreError::Memory) => return Err(SourceRefusal::Memory),
-    };
-    match without_listed(alloc, &expanded) {
-        Ok(()) => Ok(expanded),
-        Err(refusal) => Err(refusal),
+    match expand(alloc, tokens) {
+        Ok(expanded) => Ok(expanded),
+        Err(PreError::Fault(fault)) => Err(SourceRefusal::Pre(fault)),
+        Err(PreError::Memory) => Err(SourceRefusal::Memory),
     }
 }
 
-// The tree of the tokens.
+// The tree of the tokens, of which none is unsupported.
 fn tree_of<'a>(alloc: Global, tokens: &Tokens<'a>) -> Result<Unit<'a>, SourceRefusal>
     ensures ok { IfOk result (λ tree. IsTreeOf tokens.now.tokens (unit_of tree)) }
-    ensures err { IfErr result (λ refusal. UnlessMemory refusal (JudgesTokens tokens.now (Err refusal))) }
+    ensures supported { OnOk result (first_unsupported tokens.now.tokens ≡ None) }
+    ensures err { IfErr result (λ refusal. UnlessMemory refusal (JudgesReadable (with_support tokens.now) (Err refusal))) }
 {
     match parse(alloc, tokens) {
         Ok(tree) => Ok(tree),
-        Err(fault) => Err(refusal_of(fault)),
+        Err(fault) => Err(refusal_of(alloc, fault)),
     }
 }
 
 // The refusal of a text that the parser refuses.
-fn refusal_of(fault: ParseFault) -> SourceRefusal
-    ensures { (list : TokenList) → Parses list (Err fault) → UnlessMemory result (JudgesTokens list (Err result)) }
+#[tactic(auto, using(crate::proofs::Judging::judged_supported, crate::proofs::Judging::judged_unsupported))]
+fn refusal_of(alloc: Global, fault: ParseFault) -> SourceRefusal
+    ensures { (list : TokenList) → Parses list (Err fault) → IsSupported list (Err fault) →
+        UnlessMemory result (JudgesReadable (with_support list) (Err result)) }
 {
     match fault {
         ParseFault::Memory => SourceRefusal::Memory,
+        ParseFault::Unsupported(word, line) => match RefusedWord::copy(alloc, word.told_as()) {
+            Ok(word) => SourceRefusal::Unsupported(word, line),
+            Err(_) => SourceRefusal::Memory,
+        },
         ParseFault::Syntax { at, line } => SourceRefusal::Syntax { at, line },
         ParseFault::Nesting { at, line } => SourceRefusal::Nesting { at, line },
     }

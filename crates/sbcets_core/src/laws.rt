@@ -50,7 +50,7 @@ pub fn a_source_is_judged_once()
     ensures once { (source : List ℕ) (a b : Judged) → Judges source a → Judges source b → a ≡ b }
 {}
 
-/// A source is refused with `Syntax` or `Nesting` just where it has expanded tokens, none of them listed, and no well-formed tree
+/// A source is refused with `Syntax` or `Nesting` just where it has expanded tokens, none of them unsupported, and no well-formed tree
 /// of at most 200 levels has their words (C99 6.9). An accepted source has exactly one tree.
 #[tactic(auto, using(crate::proofs::Trees::alone_of_syntax, crate::proofs::Trees::alone_of_nesting, crate::proofs::Trees::unparsed, crate::proofs::Trees::one_of_accepted))]
 pub fn a_source_without_a_tree_is_refused()

@@ -47,7 +47,7 @@ impl RefusedWord {
     }
 }
 
-/// Why a source is refused. First comes `TooLarge`; then a lexical fault, a fault of a directive, a listed word
+/// Why a source is refused. First comes `TooLarge`; then a lexical fault, a fault of a directive, an unsupported word
 /// (`Unsupported`), `Syntax` or `Nesting`, and last what is of no part that is compiled (`Unsupported` again).
 #[derive(Debug, Drop, Error)]
 pub enum SourceRefusal {

@@ -68,7 +68,7 @@ const REFUSED: [(&[u8], &[u8]); 25] = [
     (b"int main(void){\nreturn 0\n}", b"syntax at line 3"),
     // `T` is no typedef name, and a declaration begins with specifiers (C99 6.7).
     (b"T*x;", b"syntax at line 1"),
-    // A listed word comes before a fault of syntax that stands before it.
+    // An unsupported word comes before a fault of syntax that stands before it.
     (b"T*x;\nfloat f;", b"unsupported float at line 2"),
     // A fault of syntax comes before what the part refuses, wherever they stand.
     (b"int x;\nT*x;", b"syntax at line 2"),
@@ -105,7 +105,7 @@ const REFUSED: [(&[u8], &[u8]); 25] = [
     ),
     // A group that is skipped must have tokens too.
     (b"#ifdef A\n@\n#endif\n", b"lexical fault at line 2"),
-    // Lexical faults come first, then those of directives, then listed words.
+    // Lexical faults come first, then those of directives, then unsupported words.
     (b"float f;\n#endif\n", b"directive fault 4 at line 2"),
     // Faults of directives come before faults of syntax too.
     (b"T*x;\n#endif\n", b"directive fault 4 at line 2"),

@@ -4,7 +4,7 @@ use Rattle.c_syntax.specs.Words.{placed}
 use Rattle.c_grammar.specs.UnitReader.{unit_from}
 use Rattle.c_parser.specs.Parsed as spec
 use Rattle.c_parser.proofs.Answered.{as_many, refused_at}
-use Rattle.c_parser.proofs.parser.parse.Goals as goal
+use Rattle.c_parser.proofs.parser.tree_of.Goals as goal
 
 pub returns : goal.returns
 returns c =

@@ -1,5 +1,5 @@
 -- The trees of sources that were judged.
-use Rattle.std.proofs.Common.{◌≡◌, ℕ, Bool, true, false, List, [], ◌∷◌, length, Result, Ok, Err, refl, sym, ap, ◌∙◌, subst}
+use Rattle.std.proofs.Common.{◌≡◌, ℕ, Bool, true, false, List, [], ◌∷◌, length, Option, Some, None, Result, Ok, Err, refl, sym, ap, ◌∙◌, subst}
 use Rattle.std.specs.Prelude.{nat_lt, if◌then◌else◌}
 use Rattle.c_lexer.specs.declared.lexer.LexFault.{LexFault}
 use Rattle.c_lexer.specs.declared.token.Token.{Token}
@@ -9,14 +9,14 @@ use Rattle.c_pre.specs.declared.fault.PreFault.{PreFault}
 use Rattle.c_pre.specs.Reading.{expanded}
 use Rattle.c_syntax.specs.Statements as statements
 use Rattle.c_parser.specs.Parsed.{IsTreeOf, HasNoTree}
+use Rattle.c_parser.specs.declared.unsupported.UnsupportedWord.{UnsupportedWord}
+use Rattle.c_parser.specs.Unsupported.{first_unsupported}
 use Rattle.c_grammar.proofs.Unique.{one_tree}
 use Rattle.sbcets_core.specs.declared.refusal.SourceRefusal.{SourceRefusal}
 use Rattle.sbcets_core.specs.declared.refusal.SourceRefusal.TheVariants.{Syntax, Nesting, TooLarge}
 use Rattle.sbcets_core.specs.declared.refusal.Counted.TheVariants.{Source}
 use Rattle.sbcets_core.specs.Outcomes.{max_source}
 use Rattle.sbcets_core.specs.Source.{SourceProgram}
-use Rattle.c_parser.specs.declared.unsupported.UnsupportedWord.{UnsupportedWord}
-use Rattle.c_parser.specs.Unsupported.{first_unsupported}
 use Rattle.sbcets_core.specs.Accepted.{Judged, Readable, expanded_tokens, supported_tokens, with_support, unless_unsupported, of_readable, of_expanded, of_tokens, JudgesTokens, JudgesReadable, Judges}
 use Rattle.sbcets_core.proofs.Judging.{refusal_is, by_judgement}
 use Rattle.sbcets_core.specs.Trees.{HasTokensAlone, HasOneTree, IsUnparsed}

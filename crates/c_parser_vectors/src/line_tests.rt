@@ -1,8 +1,7 @@
 //! The line of a fault: that of the first token with which the tokens so far begin no file, and where a file ends too early
 //! that of the end, which stands on the line behind all newlines.
 
-use crate::verdict::{Verdict, tokens_of, verdict_of};
-use c_parser::{ParseFault, parse};
+use crate::verdict::{Verdict, verdict_of};
 use sb_base::Line;
 use std::test::Fail;
 
@@ -67,8 +66,8 @@ const UNSUPPORTED: [(&str, &[u8], u32); 11] = [
 #[test]
 fn tells_the_first_unsupported_word(rt: HostRuntime) -> Result<(), Fail> {
     for (text, expected, line) in UNSUPPORTED {
-        let tokens = tokens_of(rt.alloc(), text.as_bytes())?;
-        let Err(ParseFault::Unsupported(word, found)) = parse(rt.alloc(), &tokens) else {
+        let Verdict::Unsupported { word, line: found } = verdict_of(rt.alloc(), text.as_bytes())?
+        else {
             return Err("a text is supported".into());
         };
         assert!(rt; word.told_as() == expected, "{text}");

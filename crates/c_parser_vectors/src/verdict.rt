@@ -2,7 +2,7 @@
 
 use anyhow::{Result, bail};
 use c_lexer::{LexError, Tokens, lex};
-use c_parser::{ParseFault, parse};
+use c_parser::{ParseFault, UnsupportedWord, parse};
 use c_pre::{PreError, expand};
 use c_syntax::{Placed, Unit, with_places};
 use c_syntax_checks::words;
@@ -23,6 +23,8 @@ pub enum Verdict {
     },
     /// A word of it is in no part of the subset.
     Unsupported {
+        /// The first such word.
+        word: UnsupportedWord,
         /// The line of that word.
         line: Line,
     },
@@ -85,7 +87,7 @@ fn test_words(alloc: Global, tokens: &Tokens, unit: &Unit) -> Result<()> {
 fn refusal(fault: ParseFault) -> Result<Verdict> {
     match fault {
         ParseFault::Memory => bail!("out of memory"),
-        ParseFault::Unsupported(_, line) => Ok(Verdict::Unsupported { line }),
+        ParseFault::Unsupported(word, line) => Ok(Verdict::Unsupported { word, line }),
         ParseFault::Syntax { at, line } => Ok(Verdict::Refused { at, line }),
         ParseFault::Nesting { line, .. } => Ok(Verdict::Nested { line }),
     }

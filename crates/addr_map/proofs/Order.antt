@@ -2,7 +2,7 @@
 use Rattle.std.proofs.Common.{◌≡◌, ℕ, zero, suc, ◌+◌, ◌%◌, ◌<◌, ◌≤◌, ◌⊎◌, inl, inr, refl, ap, sym, ◌∙◌, subst, arith}
 use Rattle.std.proofs.Math.Nat.{eq-or-lt_of_le}
 use Rattle.addr_map.specs.declared.region.Region.{Region}
-use Rattle.addr_map.specs.declared.region.Region.TheVariants.{Rows, Code, Globals, Stack, Heap, Shadow, Locks}
+use Rattle.addr_map.specs.declared.region.Region.TheVariants.{JumpTable, Code, Globals, Stack, Heap, Shadow, Locks}
 use Rattle.addr_map.specs.declared.region.Region.TheVariants.{FreeLocks, Blocks, Calls, Cells}
 use Rattle.addr_map.specs.Places.{MapSizes, AreMapped, whole_pages, order_of, region_size, region_start, region_end}
 use Rattle.addr_map.specs.Places.{code_begin, code_size, objects_begin, spaces_begin}
@@ -35,7 +35,7 @@ blocks_small m h = omega (arith, h.budgets.blocks)
 
 size_whole : (m : MapSizes) → AreMapped m → (r : Region) → region_size m r % 4096 ≡ 0
 unfolding region_size
-size_whole m h Rows = refl
+size_whole m h JumpTable = refl
 size_whole m h Code = refl
 size_whole m h Globals = pages_whole _
 size_whole m h Stack = h.budgets.stack.whole
@@ -49,7 +49,7 @@ size_whole m h Cells = refl
 
 -- the region of a place in the order
 region_at : ℕ → Region
-region_at zero = Rows
+region_at zero = JumpTable
 region_at (suc zero) = Code
 region_at (suc (suc zero)) = Globals
 region_at (suc (suc (suc zero))) = Stack
@@ -63,7 +63,7 @@ region_at _ = Cells
 
 region_of_order : (r : Region) → region_at (order_of r) ≡ r
 unfolding region_at
-region_of_order Rows = refl
+region_of_order JumpTable = refl
 region_of_order Code = refl
 region_of_order Globals = refl
 region_of_order Stack = refl
@@ -76,7 +76,7 @@ region_of_order Calls = refl
 region_of_order Cells = refl
 
 order_small : (r : Region) → order_of r ≤ 10
-order_small Rows = omega arith
+order_small JumpTable = omega arith
 order_small Code = omega arith
 order_small Globals = omega arith
 order_small Stack = omega arith
@@ -90,7 +90,7 @@ order_small Cells = omega arith
 
 -- the region after another
 next : Region → Region
-next Rows = Code
+next JumpTable = Code
 next Code = Globals
 next Globals = Stack
 next Stack = Heap
@@ -116,9 +116,9 @@ next_at (suc (suc (suc (suc (suc (suc (suc (suc zero)))))))) h = refl
 next_at (suc (suc (suc (suc (suc (suc (suc (suc (suc zero))))))))) h = refl
 next_at (suc (suc (suc (suc (suc (suc (suc (suc (suc (suc k)))))))))) h = absurd (omega arith)
 
-size_of_rows : (m : MapSizes) → region_size m Rows ≡ 0xf0000
+size_of_jump_table : (m : MapSizes) → region_size m JumpTable ≡ 0xf0000
 unfolding region_size
-size_of_rows m = refl
+size_of_jump_table m = refl
 
 size_of_code : (m : MapSizes) → region_size m Code ≡ 0x800000
 unfolding region_size
@@ -156,7 +156,7 @@ order_at (suc (suc (suc (suc (suc (suc (suc (suc (suc (suc k)))))))))) h = absur
 
 before_next : (m : MapSizes) → AreMapped m → (r : Region) → order_of r < 10 → region_end m r ≤ region_start m (next r)
 unfolding next region_start
-before_next m h Rows lt = let s : region_size m Rows ≡ 0xf0000 = size_of_rows m in omega (arith, s)
+before_next m h JumpTable lt = let s : region_size m JumpTable ≡ 0xf0000 = size_of_jump_table m in omega (arith, s)
 before_next m h Code lt = let s : region_size m Code ≡ 0x800000 = size_of_code m in omega (arith, s)
 before_next m h Globals lt = omega arith
 before_next m h Stack lt = omega arith
@@ -199,7 +199,7 @@ in_order m h r s lt =
 
 start_whole : (m : MapSizes) → AreMapped m → (r : Region) → region_start m r % 4096 ≡ 0
 unfolding region_start
-start_whole m h Rows = refl
+start_whole m h JumpTable = refl
 start_whole m h Code = refl
 start_whole m h Globals = refl
 start_whole m h Stack = omega (arith, size_whole m h Globals)

@@ -2,11 +2,11 @@
 use Rattle.std.specs.Prelude.{ℕ, ◌+◌, ◌-◌, ◌*◌, ◌/◌, ◌≤◌, Bool, ◌&&◌, nat_lt, nat_le, if◌then◌else◌, Result, Ok, Err}
 use Rattle.sb_base.specs.Budgets.{BudgetSizes, AreInRange}
 use Rattle.addr_map.specs.declared.region.Region.{Region}
-use Rattle.addr_map.specs.declared.region.Region.TheVariants.{Rows, Code, Globals, Stack, Heap, Shadow, Locks}
+use Rattle.addr_map.specs.declared.region.Region.TheVariants.{JumpTable, Code, Globals, Stack, Heap, Shadow, Locks}
 use Rattle.addr_map.specs.declared.region.Region.TheVariants.{FreeLocks, Blocks, Calls, Cells}
 use Rattle.addr_map.specs.declared.map.TooLarge.{TooLarge}
 
--- the first address of the functions' jump rows, of compiled code, of object space, and of the runtime's spaces
+-- the first address of the functions' jump table, of compiled code, of object space, and of the runtime's spaces
 -- behind it
 abbrev pub functions_begin : ℕ
 functions_begin = 0x10000
@@ -58,7 +58,7 @@ lock_count m = 1 + m.budgets.stack / 16 + m.budgets.blocks
 
 -- the bytes of a region. Shadow has an entry of 32 bytes for each word of 8, a word for each page, and one more
 unfoldable pub region_size : MapSizes → Region → ℕ
-region_size m Rows = code_begin - functions_begin
+region_size m JumpTable = code_begin - functions_begin
 region_size m Code = code_size
 region_size m Globals = whole_pages m.global_bytes
 region_size m Stack = m.budgets.stack
@@ -72,7 +72,7 @@ region_size m Cells = 4096
 
 -- the first address of a region
 unfoldable pub region_start : MapSizes → Region → ℕ
-region_start m Rows = functions_begin
+region_start m JumpTable = functions_begin
 region_start m Code = code_begin
 region_start m Globals = objects_begin
 region_start m Stack = objects_begin + region_size m Globals
@@ -93,13 +93,13 @@ region_last m r = region_start m r + region_size m r - 1
 abbrev pub region_end : MapSizes → Region → ℕ
 region_end m r = region_start m r + region_size m r
 
--- the address of a function by its number: that of its jump row
+-- the address of a function by its number: that of its jump table entry
 unfoldable pub function_address : ℕ → ℕ
 function_address number = functions_begin + 16 * number
 
 -- the place of a region in the order of addresses
 abbrev pub order_of : Region → ℕ
-order_of Rows = 0
+order_of JumpTable = 0
 order_of Code = 1
 order_of Globals = 2
 order_of Stack = 3

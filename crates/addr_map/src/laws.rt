@@ -30,7 +30,7 @@ pub fn objects_stand_in_object_space()
     ensures code { (m : MapSizes) → (region_start m Code ≡ code_begin) × (region_end m Code ≡ code_begin + code_size) }
 {}
 
-/// The jump rows of the functions stand in their region below the runtime, one for each function.
+/// The jump table of the functions stand in their region below the runtime, one for each function.
 pub fn function_addresses_differ()
     ensures first { (k : ℕ) → 0x10000 ≤ function_address k }
     ensures last { (k : ℕ) → k ≤ 4096 → function_address k ≤ 0x20000 }

@@ -2,7 +2,7 @@
 //!
 //! | Region | First address | Bytes |
 //! |---|---|---|
-//! | `Rows` | 0x10000 | 0xf0000: a jump row of 16 bytes for each function, then the runtime |
+//! | `JumpTable` | 0x10000 | 0xf0000: a jump table entry of 16 bytes for each function, then the runtime |
 //! | `Code` | 0x100000 | 0x800000: compiled code |
 //! | `Globals` | 0x10000000 | the objects of static storage duration, in whole pages of 4096 bytes |
 //! | `Stack` | behind `Globals` | the budget `stack`: automatic objects |

@@ -12,7 +12,7 @@ pub const MAX_GLOBAL_BYTES: u64 = 0x40_0000;
 
 const PAGE: u64 = 4096;
 
-// Where the jump rows, compiled code, the objects and the runtime's spaces begin, and the bytes of compiled code.
+// Where the jump table, compiled code, the objects and the runtime's spaces begin, and the bytes of compiled code.
 const FUNCTIONS: u64 = 0x1_0000;
 
 const CODE: u64 = 0x10_0000;
@@ -96,7 +96,7 @@ impl AddrMap {
         ensures small { result < 2 ^ 31 }
     {
         match which {
-            Region::Rows => FUNCTIONS,
+            Region::JumpTable => FUNCTIONS,
             Region::Code => CODE,
             Region::Globals => OBJECTS,
             Region::Stack => OBJECTS + self.size(Region::Globals),
@@ -129,7 +129,7 @@ impl AddrMap {
         ensures small { result ≤ 2 ^ 27 }
     {
         match which {
-            Region::Rows => CODE - FUNCTIONS,
+            Region::JumpTable => CODE - FUNCTIONS,
             Region::Code => CODE_SIZE,
             Region::Globals => whole_pages(self.global_bytes),
             Region::Stack => self.budgets.stack(),
@@ -170,7 +170,7 @@ fn whole_pages(bytes: u64) -> u64
     bytes.div_ceil(PAGE) * PAGE
 }
 
-/// The address of a function by its number, that of its jump row. It serves as the number of functions
+/// The address of a function by its number, that of its jump table entry. It serves as the number of functions
 /// too, and then is the address of the runtime. A program has at most 4096 functions.
 #[tactic(auto, unfolding(crate::specs::Places::function_address))]
 pub fn function_address(number: usize) -> u64

@@ -3,8 +3,8 @@
 /// A region of memory, in the order of their addresses.
 #[derive(Clone, Copy, Debug, PartialEq, Eq)]
 pub enum Region {
-    /// The jump rows of the functions, and the runtime.
-    Rows,
+    /// The jump table of the functions, and the runtime.
+    JumpTable,
     /// Compiled code.
     Code,
     /// Objects of static storage duration.

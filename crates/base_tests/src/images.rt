@@ -1,33 +1,33 @@
 //! A file that is written and read back.
 
 ghost use Rattle.std.specs.Prelude.{IfOk};
-ghost use Rattle.elf_image.specs.Writing.{PiecesFit};
+ghost use Rattle.elf_image.specs.Writing.{SegmentsFit};
 
-use elf_image::{Image, Part, Parts};
+use elf_image::{Image, NewImage, NewSegment};
 use std::alloc::{AllocError, Global};
 use std::test::Fail;
 
-fn sample(alloc: Global) -> Result<Parts, AllocError>
-    ensures { IfOk result PiecesFit }
+fn sample(alloc: Global) -> Result<NewImage, AllocError>
+    ensures { IfOk result SegmentsFit }
 {
-    Ok(Parts {
+    Ok(NewImage {
         entry: 0x10010,
-        rows: Part {
+        jump_table: NewSegment {
             address: 0x10000,
             bytes: vec![in alloc; 0x6f, 0, 0, 0]?,
             size: 0x20,
         },
-        code: Part {
+        code: NewSegment {
             address: 0x100000,
             bytes: vec![in alloc; 0x73, 0, 0, 0]?,
             size: 4,
         },
-        objects: Part {
+        objects: NewSegment {
             address: 0x1000_0000,
             bytes: vec![in alloc; 1, 2, 3]?,
             size: 0x2000,
         },
-        runtime: Part {
+        runtime: NewSegment {
             address: 0x4000_0000,
             bytes: Vec::new(alloc),
             size: 0x1000,

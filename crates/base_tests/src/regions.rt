@@ -7,7 +7,7 @@ use sb_base::Budgets;
 // whose entries take 21020672 bytes, and the first level with its cell 10272, which makes 5135 pages.
 // There are 1 + 65536 + 16384 lock words.
 const REGIONS: [(Region, u64, u64); 11] = [
-    (Region::Rows, 0x1_0000, 0xf_ffff),
+    (Region::JumpTable, 0x1_0000, 0xf_ffff),
     (Region::Code, 0x10_0000, 0x8f_ffff),
     (Region::Globals, 0x1000_0000, 0x1000_2fff),
     (Region::Stack, 0x1000_3000, 0x1010_2fff),

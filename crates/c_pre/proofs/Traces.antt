@@ -9,7 +9,7 @@ use Rattle.c_pre.specs.declared.fault.PreError.TheVariants.{Memory, Fault}
 use Rattle.c_pre.specs.Limits.{max_expanded_tokens}
 use Rattle.c_pre.specs.Lines.{Tokens}
 use Rattle.c_pre.specs.Trace.{Trace, after, goes_on, ◌>>=◌, ended, answer, line_of, fault_at, fails}
-use Rattle.c_pre.specs.Outcomes.{Fails, Stops, Steps, Follows}
+use Rattle.c_pre.specs.Outcomes.{Fails, Stops, Steps, Emits}
 
 -- what was given before two parts stands before both
 after-after : {A : Type 0} (a b : Tokens) (t : Trace A) → after a (after b t) ≡ after (a ++ b) t
@@ -68,6 +68,6 @@ stopped {A} t old (Fault fault) few h = ap (λ t. answer (after old t)) h ∙ fa
 
 -- a part that gives no tokens
 pub quiet_follows : {A X : Type 0} (t : Trace A) (view : X → A) (old : Tokens) (result : Result X PreError)
-    → length old ≤ max_expanded_tokens → Steps t view result → Follows t view old old result
+    → length old ≤ max_expanded_tokens → Steps t view result → Emits t view old old result
 quiet_follows t view old (Ok x) few h = (ap (after old) h ∙ ap (λ given. record { given = given; end = Ok (view x) }) (append-nil old), few)
 quiet_follows t view old (Err error) few h = stopped t old error few h

@@ -22,9 +22,9 @@ Fails t (Fault fault) = answer t ≡ Err fault
 
 -- of a call that gives tokens, with those given before and those given now: it gave those of the trace; or the answer for
 -- the whole text is this fault, whatever follows
-abbrev pub Follows : {A X : Type 0} → Trace A → (X → A) → Tokens → Tokens → Result X PreError → Type 0
-Follows t view old new (Ok x) = (after old t ≡ record { given = new; end = Ok (view x) }) × (length new ≤ max_expanded_tokens)
-Follows t view old new (Err error) = Fails (after old t) error
+abbrev pub Emits : {A X : Type 0} → Trace A → (X → A) → Tokens → Tokens → Result X PreError → Type 0
+Emits t view old new (Ok x) = (after old t ≡ record { given = new; end = Ok (view x) }) × (length new ≤ max_expanded_tokens)
+Emits t view old new (Err error) = Fails (after old t) error
 
 abbrev pub Stops : {A : Type 0} → Trace A → PreError → Type 0
 Stops t Memory = ⊤

@@ -4,7 +4,7 @@ ghost use Rattle.std.specs.Prelude.{◌≡◌, ◌≤◌, false, length, option_
 ghost use Rattle.c_pre.specs.Names as names;
 ghost use Rattle.c_pre.specs.Pending as spec;
 ghost use Rattle.c_pre.specs.Expansion as expansion;
-ghost use Rattle.c_pre.specs.Outcomes.{Follows, macros_of};
+ghost use Rattle.c_pre.specs.Outcomes.{Emits, macros_of};
 ghost use Rattle.c_pre.specs.Trace.{gives};
 ghost use Rattle.c_pre.specs.Limits.{max_expanded_tokens};
 
@@ -24,7 +24,7 @@ pub type MacroTable<'t, 'a> = IndexMap<MacroName<'a>, &'t [Token<'a>]>;
 #[tactic(auto, using(crate::proofs::Giving::one_too_many), unfolding(crate::specs::Trace::answer))]
 fn give<'a>(out: &mut Vec<Token<'a>>, token: Token<'a>) -> Result<(), PreError>
     requires { length out.old.items ≤ max_expanded_tokens }
-    ensures { Follows (gives token.entry) (λ x. x) out.old.items out.new.items result }
+    ensures { Emits (gives token.entry) (λ x. x) out.old.items out.new.items result }
 {
     if out.len() >= MAX_EXPANDED_TOKENS {
         return Err(PreError::Fault(PreFault::new(PreFaultKind::TooMany, token.line)));
@@ -61,7 +61,7 @@ pub fn expand_line<'t, 'a>(
     out: &mut Vec<Token<'a>>,
 ) -> Result<usize, PreError>
     requires { length out.old.items ≤ max_expanded_tokens }
-    ensures { Follows (expansion.expansion (macros_of macros.now) room (expansion.of_text line.now)) (λ x. x) out.old.items out.new.items result }
+    ensures { Emits (expansion.expansion (macros_of macros.now) room (expansion.of_text line.now)) (λ x. x) out.old.items out.new.items result }
 {
     let mut reader = Reader::new(alloc, line);
     let mut room = room;

@@ -10,7 +10,7 @@ ghost use Rattle.c_pre.specs.Trace.{quiet, line_of};
 ghost use Rattle.c_pre.specs.Sections as sections;
 ghost use Rattle.c_pre.specs.Reading as spec;
 ghost use Rattle.c_pre.specs.Pending.{inner_first};
-ghost use Rattle.c_pre.specs.Outcomes.{Follows, Steps, state_of, line_of_kind};
+ghost use Rattle.c_pre.specs.Outcomes.{Emits, Steps, state_of, line_of_kind};
 
 use crate::MAX_REPLACEMENT_TOKENS;
 use crate::definition::Definition;
@@ -232,7 +232,7 @@ impl<'t, 'a> Preprocessor<'t, 'a> {
         out: &mut Vec<Token<'a>>,
     ) -> Result<(), PreError>
         requires { length out.old.items ≤ max_expanded_tokens }
-        ensures { Follows (spec.read_text_line (state_of self.old) line.now) (λ _. state_of self.new) out.old.items out.new.items result }
+        ensures { Emits (spec.read_text_line (state_of self.old) line.now) (λ _. state_of self.new) out.old.items out.new.items result }
     {
         self.room = expand_line(self.alloc, &self.macros, self.room, line, out)?;
         Ok(())
@@ -245,7 +245,7 @@ impl<'t, 'a> Preprocessor<'t, 'a> {
         out: &mut Vec<Token<'a>>,
     ) -> Result<(), PreError>
         requires { length out.old.items ≤ max_expanded_tokens }
-        ensures { Follows (spec.read_line (state_of self.old) line.now) (λ _. state_of self.new) out.old.items out.new.items result }
+        ensures { Emits (spec.read_line (state_of self.old) line.now) (λ _. state_of self.new) out.old.items out.new.items result }
     {
         let at = line_of(line);
         let kind = LineKind::of(line);

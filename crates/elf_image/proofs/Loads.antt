@@ -45,8 +45,8 @@ fault_past : (size : ℕ) (xs ys : List ProgramHeader) → loads_fault size xs �
     → loads_fault size (xs ++ ys) ≡ loads_fault size ys
 fault_past size [] ys e = refl
 fault_past size (h ∷ xs) ys e =
-    let parts = then_none (load_fault size h) (loads_fault size xs) e in
-    ap (λ f. f then loads_fault size (xs ++ ys)) parts.0 ∙ fault_past size xs ys parts.1
+    let image = then_none (load_fault size h) (loads_fault size xs) e in
+    ap (λ f. f then loads_fault size (xs ++ ys)) image.0 ∙ fault_past size xs ys image.1
 
 then_some : (f g h : Option ImageFault) (x : ImageFault) → (f then g) ≡ Some x → (g ≡ Some x → h ≡ Some x)
     → (f then h) ≡ Some x

@@ -7,18 +7,18 @@ use Rattle.elf_image.specs.Content.{SegmentContent, Content}
 use Rattle.elf_image.specs.Tests.{content_fault}
 
 -- a segment to be written: its address, the bytes that the file has of it, its size in memory
-pub record Piece : Type 0 where
+pub record WrittenSegment : Type 0 where
   pub address : ℕ
   pub bytes : List ℕ
   pub size : ℕ
 
--- An image to be written. `rows` and `code` are executable alone, `objects` and `runtime` are readable and writable.
-pub record Pieces : Type 0 where
+-- An image to be written. `jump_table` and `code` are executable alone, `objects` and `runtime` are readable and writable.
+pub record WrittenImage : Type 0 where
   pub entry : ℕ
-  pub rows : Piece
-  pub code : Piece
-  pub objects : Piece
-  pub runtime : Piece
+  pub jump_table : WrittenSegment
+  pub code : WrittenSegment
+  pub objects : WrittenSegment
+  pub runtime : WrittenSegment
 
 unfoldable pub zeros : ℕ → List ℕ
 zeros n = replicate n 0
@@ -47,7 +47,7 @@ header_bytes entry =
     ++ little_bytes 2 0 ++ little_bytes 2 0 ++ little_bytes 2 0
 
 -- a program header: p_type PT_LOAD, p_flags, p_offset, p_vaddr, p_paddr, p_filesz, p_memsz, p_align
-unfoldable pub load_bytes : (flags offset : ℕ) → Piece → List ℕ
+unfoldable pub load_bytes : (flags offset : ℕ) → WrittenSegment → List ℕ
 load_bytes flags offset p =
     u32_bytes 1 ++ u32_bytes flags ++ u64_bytes offset ++ u64_bytes p.address ++ u64_bytes p.address
     ++ u64_bytes (length p.bytes) ++ u64_bytes p.size ++ u64_bytes 4096
@@ -57,27 +57,27 @@ unfoldable pub padded : List ℕ → List ℕ
 padded bytes = bytes ++ zeros (page_end (length bytes) - length bytes)
 
 -- where the bytes of each segment after the first begin, and where the file ends
-abbrev pub code_offset : Pieces → ℕ
-code_offset p = 4096 + page_end (length p.rows.bytes)
+abbrev pub code_offset : WrittenImage → ℕ
+code_offset p = 4096 + page_end (length p.jump_table.bytes)
 
-abbrev pub objects_offset : Pieces → ℕ
+abbrev pub objects_offset : WrittenImage → ℕ
 objects_offset p = code_offset p + page_end (length p.code.bytes)
 
-abbrev pub runtime_offset : Pieces → ℕ
+abbrev pub runtime_offset : WrittenImage → ℕ
 runtime_offset p = objects_offset p + page_end (length p.objects.bytes)
 
-abbrev pub image_size : Pieces → ℕ
+abbrev pub image_size : WrittenImage → ℕ
 image_size p = runtime_offset p + length p.runtime.bytes
 
 -- The whole file. p_flags: PF_X is 1, PF_W and PF_R together are 6.
-unfoldable pub image_bytes : Pieces → List ℕ
+unfoldable pub image_bytes : WrittenImage → List ℕ
 image_bytes p =
-    header_bytes p.entry ++ load_bytes 1 4096 p.rows ++ load_bytes 1 (code_offset p) p.code
+    header_bytes p.entry ++ load_bytes 1 4096 p.jump_table ++ load_bytes 1 (code_offset p) p.code
     ++ load_bytes 6 (objects_offset p) p.objects ++ load_bytes 6 (runtime_offset p) p.runtime ++ zeros 3808
-    ++ padded p.rows.bytes ++ padded p.code.bytes ++ padded p.objects.bytes ++ p.runtime.bytes
+    ++ padded p.jump_table.bytes ++ padded p.code.bytes ++ padded p.objects.bytes ++ p.runtime.bytes
 
--- the segment of a piece that is code, and of one that is data
-abbrev pub code_segment : Piece → SegmentContent
+-- the segment of a segment that is code, and of one that is data
+abbrev pub code_segment : WrittenSegment → SegmentContent
 code_segment p = record {
   address = p.address;
   bytes = p.bytes;
@@ -87,7 +87,7 @@ code_segment p = record {
   executable = true;
 }
 
-abbrev pub data_segment : Piece → SegmentContent
+abbrev pub data_segment : WrittenSegment → SegmentContent
 data_segment p = record {
   address = p.address;
   bytes = p.bytes;
@@ -97,39 +97,39 @@ data_segment p = record {
   executable = false;
 }
 
--- the image that the pieces are
-abbrev pub content : Pieces → Content
+-- the image that the segments are
+abbrev pub content : WrittenImage → Content
 content p = record {
   entry = p.entry;
-  segments = code_segment p.rows ∷ code_segment p.code ∷ data_segment p.objects ∷ data_segment p.runtime ∷ [];
+  segments = code_segment p.jump_table ∷ code_segment p.code ∷ data_segment p.objects ∷ data_segment p.runtime ∷ [];
 }
 
--- a piece that passes the tests of one segment
-abbrev pub PieceFits : Piece → Type 0
-PieceFits p = (length p.bytes ≤ p.size) × (p.address + p.size ≤ 2 ^ 64) × (p.address < 2 ^ 64)
+-- a segment that passes the tests of one segment
+abbrev pub SegmentFits : WrittenSegment → Type 0
+SegmentFits p = (length p.bytes ≤ p.size) × (p.address + p.size ≤ 2 ^ 64) × (p.address < 2 ^ 64)
 
--- pieces that pass all tests of an image
-pub record PiecesFit (p : Pieces) : Type 0 where
+-- segments that pass all tests of an image
+pub record SegmentsFit (p : WrittenImage) : Type 0 where
   pub entry : p.entry < 2 ^ 64
-  pub rows : PieceFits p.rows
-  pub code : PieceFits p.code
-  pub objects : PieceFits p.objects
-  pub runtime : PieceFits p.runtime
+  pub jump_table : SegmentFits p.jump_table
+  pub code : SegmentFits p.code
+  pub objects : SegmentFits p.objects
+  pub runtime : SegmentFits p.runtime
   pub together : content_fault (content p) ≡ None
 
--- Each piece has no more bytes in the file than in memory, they stand one after another, take at most 512 MiB together,
+-- Each segment has no more bytes in the file than in memory, they stand one after another, take at most 512 MiB together,
 -- and the run begins at an instruction of the first.
-pub record IsInOrder (p : Pieces) : Type 0 where
-  pub rows_bytes : length p.rows.bytes ≤ p.rows.size
+pub record IsInOrder (p : WrittenImage) : Type 0 where
+  pub jump_table_bytes : length p.jump_table.bytes ≤ p.jump_table.size
   pub code_bytes : length p.code.bytes ≤ p.code.size
   pub objects_bytes : length p.objects.bytes ≤ p.objects.size
   pub runtime_bytes : length p.runtime.bytes ≤ p.runtime.size
-  pub rows_first : p.rows.address + p.rows.size ≤ p.code.address
+  pub jump_table_first : p.jump_table.address + p.jump_table.size ≤ p.code.address
   pub code_next : p.code.address + p.code.size ≤ p.objects.address
   pub objects_next : p.objects.address + p.objects.size ≤ p.runtime.address
   pub runtime_last : p.runtime.address + p.runtime.size ≤ 2 ^ 64
   pub runtime_address : p.runtime.address < 2 ^ 64
-  pub together : p.rows.size + p.code.size + p.objects.size + p.runtime.size ≤ 536870912
+  pub together : p.jump_table.size + p.code.size + p.objects.size + p.runtime.size ≤ 536870912
   pub aligned : p.entry % 4 ≡ 0
-  pub entry_from : p.rows.address ≤ p.entry
-  pub entry_below : p.entry < p.rows.address + p.rows.size
+  pub entry_from : p.jump_table.address ≤ p.entry
+  pub entry_below : p.entry < p.jump_table.address + p.jump_table.size

@@ -4,7 +4,7 @@ use crate::fault::{ImageFault, ReadError};
 use crate::header::{
     FILE_HEADER_SIZE, FileHeader, PROGRAM_HEADER_SIZE, ProgramHeader, count_loads,
 };
-use crate::part::Parts;
+use crate::new_image::NewImage;
 use crate::writing::write_image;
 use std::alloc::{AllocError, Global};
 use std::marker::Model;
@@ -138,7 +138,7 @@ impl<'a> Image<'a> {
     ghost use Rattle.std.specs.Prelude.{◌≡◌, IfOk, None, length};
     ghost use Rattle.elf_image.specs.Layout.{content_of};
     ghost use Rattle.elf_image.specs.Tests.{image_fault, IsAnswer};
-    ghost use Rattle.elf_image.specs.Writing.{PiecesFit, content, image_bytes, image_size};
+    ghost use Rattle.elf_image.specs.Writing.{SegmentsFit, content, image_bytes, image_size};
 
     /// The address of the first instruction (ELF-64, `e_entry`).
     pub fn entry(&self) -> u64
@@ -188,16 +188,16 @@ impl<'a> Image<'a> {
         })
     }
 
-    /// The bytes of a file that is read as the image of these parts: the file header, four program headers, and the
-    /// bytes of the parts, each at a multiple of 4096. The parts have to pass the tests of an image.
-    pub fn write(alloc: Global, parts: &Parts) -> Result<Vec<u8>, AllocError>
-        requires { PiecesFit parts.now }
-        ensures bytes { IfOk result (λ file. file.items ≡ image_bytes parts.now) }
+    /// The bytes of a file that is read as this image: the file header, four program headers, and the
+    /// bytes of the segments, each at a multiple of 4096. It has to pass the tests of an image.
+    pub fn write(alloc: Global, image: &NewImage) -> Result<Vec<u8>, AllocError>
+        requires { SegmentsFit image.now }
+        ensures bytes { IfOk result (λ file. file.items ≡ image_bytes image.now) }
         ensures is_image { IfOk result (λ file. image_fault file.items ≡ None) }
-        ensures content { IfOk result (λ file. content_of file.items ≡ content parts.now) }
-        ensures size { IfOk result (λ file. length file.items ≡ image_size parts.now) }
+        ensures content { IfOk result (λ file. content_of file.items ≡ content image.now) }
+        ensures size { IfOk result (λ file. length file.items ≡ image_size image.now) }
     {
-        write_image(alloc, parts)
+        write_image(alloc, image)
     }
 }
 

@@ -6,9 +6,9 @@ pub mod fault;
 pub mod header;
 pub mod image;
 pub mod laws;
-pub mod part;
+pub mod new_image;
 mod writing;
 
 pub use fault::{ImageFault, ReadError};
 pub use image::{Image, Segment};
-pub use part::{Part, Parts};
+pub use new_image::{NewImage, NewSegment};

@@ -4,46 +4,46 @@ ghost use Rattle.std.specs.Prelude.{◌≡◌, ◌≤◌, ◌+◌, ◌^◌, ◌+
 ghost use Rattle.elf_image.specs.Layout.{content_of};
 ghost use Rattle.elf_image.specs.Tests.{image_fault};
 ghost use Rattle.elf_image.specs.Writing.{zeros, page_end, header_bytes, u32_bytes, u64_bytes, load_bytes, padded};
-ghost use Rattle.elf_image.specs.Writing.{image_bytes, image_size, content, PiecesFit};
+ghost use Rattle.elf_image.specs.Writing.{image_bytes, image_size, content, SegmentsFit};
 
 use crate::header::LOAD;
-use crate::part::{Part, Parts};
+use crate::new_image::{NewImage, NewSegment};
 use std::alloc::{AllocError, Global};
 
 // The bytes of an image, which are read as that image.
-pub fn write_image(alloc: Global, parts: &Parts) -> Result<Vec<u8>, AllocError>
-    requires { PiecesFit parts.now }
-    ensures bytes { IfOk result (λ file. file.items ≡ image_bytes parts.now) }
+pub fn write_image(alloc: Global, image: &NewImage) -> Result<Vec<u8>, AllocError>
+    requires { SegmentsFit image.now }
+    ensures bytes { IfOk result (λ file. file.items ≡ image_bytes image.now) }
     ensures is_image { IfOk result (λ file. image_fault file.items ≡ None) }
-    ensures content { IfOk result (λ file. content_of file.items ≡ content parts.now) }
-    ensures size { IfOk result (λ file. length file.items ≡ image_size parts.now) }
+    ensures content { IfOk result (λ file. content_of file.items ≡ content image.now) }
+    ensures size { IfOk result (λ file. length file.items ≡ image_size image.now) }
 {
-    write_bytes(alloc, parts)
+    write_bytes(alloc, image)
 }
 
 #[tactic(auto, unfolding(crate::specs::Writing::image_bytes))]
-fn write_bytes(alloc: Global, parts: &Parts) -> Result<Vec<u8>, AllocError>
-    requires { PiecesFit parts.now }
-    ensures { IfOk result (λ file. file.items ≡ image_bytes parts.now) }
+fn write_bytes(alloc: Global, image: &NewImage) -> Result<Vec<u8>, AllocError>
+    requires { SegmentsFit image.now }
+    ensures { IfOk result (λ file. file.items ≡ image_bytes image.now) }
 {
-    let Parts {
+    let NewImage {
         entry,
-        rows,
+        jump_table,
         code,
         objects,
         runtime,
-    } = parts;
+    } = image;
     let mut file = Vec::new(alloc);
     put_file_header(&mut file, *entry)?;
-    let code_offset = PAGE_SIZE + whole_pages(rows.bytes.len() as u64);
+    let code_offset = PAGE_SIZE + whole_pages(jump_table.bytes.len() as u64);
     let objects_offset = code_offset + whole_pages(code.bytes.len() as u64);
     let runtime_offset = objects_offset + whole_pages(objects.bytes.len() as u64);
-    put_program_header(&mut file, EXECUTE, PAGE_SIZE, rows)?;
+    put_program_header(&mut file, EXECUTE, PAGE_SIZE, jump_table)?;
     put_program_header(&mut file, EXECUTE, code_offset, code)?;
     put_program_header(&mut file, READ_WRITE, objects_offset, objects)?;
     put_program_header(&mut file, READ_WRITE, runtime_offset, runtime)?;
     put_zeros(&mut file, REST_OF_FIRST_PAGE)?;
-    put_padded(&mut file, &rows.bytes)?;
+    put_padded(&mut file, &jump_table.bytes)?;
     put_padded(&mut file, &code.bytes)?;
     put_padded(&mut file, &objects.bytes)?;
     file.extend_from_slice(&runtime.bytes)?;
@@ -89,7 +89,7 @@ fn put_program_header(
     file: &mut Vec<u8>,
     flags: u32,
     offset: u64,
-    part: &Part,
+    part: &NewSegment,
 ) -> Result<(), AllocError>
     ensures { OnOk result (file.new.items ≡ file.old.items ++ load_bytes flags offset part.now) }
 {

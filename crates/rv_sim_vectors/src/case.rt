@@ -1,11 +1,11 @@
 //! One operation on given operands.
 
 ghost use Rattle.std.specs.Prelude.{IfOk};
-ghost use Rattle.elf_image.specs.Writing.{PiecesFit};
+ghost use Rattle.elf_image.specs.Writing.{SegmentsFit};
 
 use crate::sample::{machine_of, parts, run};
 use anyhow::{Context, Result, bail, ensure};
-use elf_image::Parts;
+use elf_image::NewImage;
 use rv_isa::Reg;
 use rv_sim::Stop;
 use std::alloc::{AllocError, Global};
@@ -45,8 +45,8 @@ impl Case {
     }
 
     // The operands are the first objects. The code is `lui t0,0x10000`, `ld a0,0(t0)`, `ld a1,8(t0)` and the word.
-    fn parts(&self, alloc: Global) -> Result<Parts, AllocError>
-        ensures { IfOk result PiecesFit }
+    fn parts(&self, alloc: Global) -> Result<NewImage, AllocError>
+        ensures { IfOk result SegmentsFit }
     {
         let mut code = vec![in alloc; 0xb7, 2, 0, 0x10, 3, 0xb5, 2, 0, 0x83, 0xb5, 0x82, 0]?;
         code.extend_from_slice(&self.word.to_le_bytes())?;

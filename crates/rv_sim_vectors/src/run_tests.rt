@@ -1,9 +1,9 @@
 //! A program that copies a byte from the input to both outputs, and exits with it.
 ghost use Rattle.std.specs.Prelude.{◌≡◌, length, IfOk};
-ghost use Rattle.elf_image.specs.Writing.{PiecesFit};
+ghost use Rattle.elf_image.specs.Writing.{SegmentsFit};
 
 use crate::sample::machine_of;
-use elf_image::{Part, Parts};
+use elf_image::{NewImage, NewSegment};
 use rv_sim::Stop;
 use sb_outside::{MemSink, MemSource};
 use std::alloc::{AllocError, Global};
@@ -31,27 +31,27 @@ fn code(alloc: Global) -> Result<Vec<u8>, AllocError>
     Vec::from_slice(alloc, &CODE)
 }
 
-fn program(alloc: Global) -> Result<Parts, AllocError>
-    ensures { IfOk result PiecesFit }
+fn program(alloc: Global) -> Result<NewImage, AllocError>
+    ensures { IfOk result SegmentsFit }
 {
-    Ok(Parts {
+    Ok(NewImage {
         entry: 0x10_0000,
-        rows: Part {
+        jump_table: NewSegment {
             address: 0x1_0000,
             bytes: Vec::new(alloc),
             size: 4,
         },
-        code: Part {
+        code: NewSegment {
             address: 0x10_0000,
             bytes: code(alloc)?,
             size: 52,
         },
-        objects: Part {
+        objects: NewSegment {
             address: 0x1000_0000,
             bytes: Vec::new(alloc),
             size: 16,
         },
-        runtime: Part {
+        runtime: NewSegment {
             address: 0x4000_0000,
             bytes: Vec::new(alloc),
             size: 16,
@@ -90,11 +90,11 @@ fn stops_where_the_outside_fails(rt: HostRuntime) -> Result<(), Fail> {
 // How a run ends whose listed takes and puts fail, and how it ends when it is run again.
 fn stop_of(
     alloc: Global,
-    parts: &Parts,
+    parts: &NewImage,
     takes: &[u64],
     puts: &[(u64, u64)],
 ) -> Result<(Stop, Stop), Fail>
-    requires { PiecesFit parts.now }
+    requires { SegmentsFit parts.now }
 {
     let mut input = MemSource::new(alloc, &[7], takes)?;
     let mut output = MemSink::new(alloc, 16, puts)?;

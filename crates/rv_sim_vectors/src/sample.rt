@@ -1,9 +1,9 @@
 //! The image in which operations and tests run, and a run of it.
 
 ghost use Rattle.std.specs.Prelude.{◌≤◌, length, IfOk};
-ghost use Rattle.elf_image.specs.Writing.{PiecesFit};
+ghost use Rattle.elf_image.specs.Writing.{SegmentsFit};
 
-use elf_image::{Image, Part, Parts, ReadError};
+use elf_image::{Image, NewImage, NewSegment, ReadError};
 use rv_sim::{Machine, Stop};
 use sb_outside::{MemSink, MemSource};
 use std::alloc::{AllocError, Global};
@@ -11,29 +11,29 @@ use std::alloc::{AllocError, Global};
 /// Rows at 0x10000, of 32 bytes, and code at 0x100000, of one ECALL, which may be executed alone; objects at 0x10000000,
 /// of 0x2000 bytes, and runtime at 0x40000000, of 0x1000 bytes, which may be read and written. The run begins at the
 /// rows. In the file the program headers stand at 64, 120, 176 and 232.
-pub fn parts(alloc: Global, rows: Vec<u8>, objects: Vec<u8>) -> Result<Parts, AllocError>
+pub fn parts(alloc: Global, jump_table: Vec<u8>, objects: Vec<u8>) -> Result<NewImage, AllocError>
     requires rows { length rows.items ≤ 32 }
     requires objects { length objects.items ≤ 32 }
-    ensures { IfOk result PiecesFit }
+    ensures { IfOk result SegmentsFit }
 {
-    Ok(Parts {
+    Ok(NewImage {
         entry: 0x10000,
-        rows: Part {
+        jump_table: NewSegment {
             address: 0x10000,
             bytes: rows,
             size: 32,
         },
-        code: Part {
+        code: NewSegment {
             address: 0x10_0000,
             bytes: vec![in alloc; 0x73, 0, 0, 0]?,
             size: 4,
         },
-        objects: Part {
+        objects: NewSegment {
             address: 0x1000_0000,
             bytes: objects,
             size: 0x2000,
         },
-        runtime: Part {
+        runtime: NewSegment {
             address: 0x4000_0000,
             bytes: vec![in alloc; 9]?,
             size: 0x1000,
@@ -42,8 +42,8 @@ pub fn parts(alloc: Global, rows: Vec<u8>, objects: Vec<u8>) -> Result<Parts, Al
 }
 
 /// The machine that the image of these parts begins.
-pub fn machine_of(alloc: Global, parts: &Parts) -> Result<Machine, ReadError>
-    requires { PiecesFit parts.now }
+pub fn machine_of(alloc: Global, parts: &NewImage) -> Result<Machine, ReadError>
+    requires { SegmentsFit parts.now }
 {
     let file = Image::write(alloc, parts)?;
     loaded(alloc, &file)

@@ -70,10 +70,10 @@ nothing_behind code =
     let none : length code - length code ≡ 0 = omega arith in
     ap (λ n. code ++ replicate n 0) none ∙ append-nil code
 
-started_with : (code rows : List ℕ) → rows ≡ rows_numbers → map loaded_segment (content (record (pieces_with code) { rows = record { address = 0x10000; bytes = rows; size = 32 } })).segments ≡ memory_with code 0
+started_with : (code rows : List ℕ) → rows ≡ rows_numbers → map loaded_segment (content (record (pieces_with code) { jump_table = record { address = 0x10000; bytes = rows; size = 32 } })).segments ≡ memory_with code 0
 unfolding memory_of
 started_with code rows e =
-    ap (λ r. map loaded_segment (content (record (pieces_with code) { rows = record { address = 0x10000; bytes = r; size = 32 } })).segments) e
+    ap (λ r. map loaded_segment (content (record (pieces_with code) { jump_table = record { address = 0x10000; bytes = r; size = 32 } })).segments) e
     ∙ ap (λ c. rows_segment ∷ record { address = 0x100000; bytes = c; readable = false; writable = false; executable = true } ∷ objects_segment ∷ runtime_segment 0 ∷ []) (nothing_behind code)
 
 pub starts : (code : List ℕ) → start_of (content (pieces_with code)) ≡ started code

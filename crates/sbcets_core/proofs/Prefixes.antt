@@ -6,8 +6,8 @@ use Rattle.c_lexer.specs.declared.token.Word.{Word}
 use Rattle.c_lexer.specs.declared.token.Word.TheVariants.{Identifier, Keyword, Integer, Punctuator}
 use Rattle.c_lexer.specs.declared.token.Token.{Token}
 use Rattle.c_lexer.specs.Constants.{constant_of, constant_in, suffix_of, types_of, typed, greatest_of}
-use Rattle.sbcets_core.specs.declared.part.Place.{Place}
-use Rattle.sbcets_core.specs.declared.part.Place.TheVariants as place
+use Rattle.sbcets_core.specs.declared.part.Expected.{Expected}
+use Rattle.sbcets_core.specs.declared.part.Expected.TheVariants as place
 use Rattle.sbcets_core.specs.declared.part.Step.{Step}
 use Rattle.sbcets_core.specs.declared.part.Step.TheVariants.{Goes, Puts}
 use Rattle.sbcets_core.specs.Source.{SourceProgram}
@@ -15,7 +15,7 @@ use Rattle.sbcets_core.specs.Part.{Parted, after_word, place_after, put_by, puts
 use Rattle.sbcets_core.specs.Parting.{Begins, IsFirstUnfit}
 
 -- some tokens begin what may follow a place
-record BeginsFrom (p : Place) (front : List Token) : Type 0 where
+record BeginsFrom (p : Expected) (front : List Token) : Type 0 where
   rest : List Token
   program : SourceProgram
   whole : program_from p (front ++ rest) ≡ Ok program
@@ -27,7 +27,7 @@ puts_ok : (ns : List ℕ) (program : SourceProgram) → puts_before ns (Ok progr
 puts_ok ns program = refl
 
 -- a token that goes on, before tokens that go on from there
-behind : (p : Place) (s : Step) (t : Token) (front : List Token) → after_word p t.word ≡ Some s → BeginsFrom (place_after s) front → BeginsFrom p (t ∷ front)
+behind : (p : Expected) (s : Step) (t : Token) (front : List Token) → after_word p t.word ≡ Some s → BeginsFrom (place_after s) front → BeginsFrom p (t ∷ front)
 behind p s t front step b = record {
   rest = b.rest;
   program = record { numbers = put_by s ++ b.program.numbers; result_number = b.program.result_number };
@@ -35,10 +35,10 @@ behind p s t front step b = record {
       ap (λ o. stepped o (t ∷ front ++ b.rest) (λ q. program_from q (front ++ b.rest))) step ∙ ap (puts_before (put_by s)) b.whole;
 }
 
-opened : (p : Place) (t : Token) → BeginsFrom p (t ∷ []) → BeginsFrom p []
+opened : (p : Expected) (t : Token) → BeginsFrom p (t ∷ []) → BeginsFrom p []
 opened p t b = record { rest = t ∷ b.rest; program = b.program; whole = b.whole }
 
-by_word : (p : Place) (s : Step) (w : Word) → after_word p w ≡ Some s → BeginsFrom (place_after s) [] → BeginsFrom p []
+by_word : (p : Expected) (s : Step) (w : Word) → after_word p w ≡ Some s → BeginsFrom (place_after s) [] → BeginsFrom p []
 by_word p s w step b = opened p (some_token w) (behind p s (some_token w) [] step b)
 
 zero_step : after_word place.ReturnNumber (Integer (codes "0")) ≡ Some (Goes (place.ReturnSemicolon 0))
@@ -99,7 +99,7 @@ at_main : BeginsFrom place.Main []
 unfolding after_word
 at_main = by_word _ (Goes place.Open) (Identifier (codes "main")) refl at_open
 
-goes_to_an_end : (p : Place) → BeginsFrom p []
+goes_to_an_end : (p : Expected) → BeginsFrom p []
 unfolding after_word
 goes_to_an_end place.Int = by_word _ (Goes place.Main) (Keyword keyword.Int) refl at_main
 goes_to_an_end place.Main = at_main
@@ -118,7 +118,7 @@ goes_to_an_end (place.BodyEnd n) = at_body_end n
 goes_to_an_end (place.End n) = at_end n
 
 -- what is unfit behind a place
-record UnfitFrom (p : Place) (tokens unfit : List Token) : Type 0 where
+record UnfitFrom (p : Expected) (tokens unfit : List Token) : Type 0 where
   front : List Token
   split : tokens ≡ front ++ unfit
   begins : BeginsFrom p front
@@ -137,20 +137,20 @@ put_was ns (Ok p) program e = record { program = p; is = refl }
 put_was ns (Err u) program e = absurd (cc)
 
 -- the first token goes on, so what begins behind it begins at the next place
-from_next : (p : Place) (s : Step) (t : Token) (front : List Token) → after_word p t.word ≡ Some s → BeginsFrom p (t ∷ front) → BeginsFrom (place_after s) front
+from_next : (p : Expected) (s : Step) (t : Token) (front : List Token) → after_word p t.word ≡ Some s → BeginsFrom p (t ∷ front) → BeginsFrom (place_after s) front
 from_next p s t front step b =
     let here : puts_before (put_by s) (program_from (place_after s) (front ++ b.rest)) ≡ Ok b.program =
     ap (λ o. stepped o (t ∷ front ++ b.rest) (λ q. program_from q (front ++ b.rest))) (sym step) ∙ b.whole in
     let ok = put_was (put_by s) (program_from (place_after s) (front ++ b.rest)) b.program here in
     record { rest = b.rest; program = ok.program; whole = ok.is }
 
-none_from : (p : Place) (t : Token) (front : List Token) → after_word p t.word ≡ None → BeginsFrom p (t ∷ front) → ⊥
+none_from : (p : Expected) (t : Token) (front : List Token) → after_word p t.word ≡ None → BeginsFrom p (t ∷ front) → ⊥
 none_from p t front step b =
     let here : Err (t ∷ front ++ b.rest) ≡ Ok b.program =
     ap (λ o. stepped o (t ∷ front ++ b.rest) (λ q. program_from q (front ++ b.rest))) (sym step) ∙ b.whole in
     cc
 
-no_end : (p : Place) (t : Token) (ts : List Token) → ended p ≡ Err (t ∷ ts) → ⊥
+no_end : (p : Expected) (t : Token) (ts : List Token) → ended p ≡ Err (t ∷ ts) → ⊥
 no_end place.Int t ts e = cc
 no_end place.Main t ts e = cc
 no_end place.Open t ts e = cc
@@ -167,11 +167,11 @@ no_end (place.ReturnSemicolon n) t ts e = cc
 no_end (place.BodyEnd n) t ts e = cc
 no_end (place.End n) t ts e = cc
 
-ended_unfit : (p : Place) (unfit : List Token) → ended p ≡ Err unfit → UnfitFrom p [] unfit
+ended_unfit : (p : Expected) (unfit : List Token) → ended p ≡ Err unfit → UnfitFrom p [] unfit
 ended_unfit p [] e = record { front = []; split = refl; begins = goes_to_an_end p; ends = λ t more none b. absurd (cc) }
 ended_unfit p (t ∷ ts) e = absurd (no_end p t ts e)
 
-stopped : (p : Place) (t : Token) (ts unfit : List Token) → after_word p t.word ≡ None → t ∷ ts ≡ unfit → UnfitFrom p (t ∷ ts) unfit
+stopped : (p : Expected) (t : Token) (ts unfit : List Token) → after_word p t.word ≡ None → t ∷ ts ≡ unfit → UnfitFrom p (t ∷ ts) unfit
 stopped p t ts unfit step same = record {
   front = [];
   split = same;
@@ -181,7 +181,7 @@ stopped p t ts unfit step same = record {
       none_from p t [] step (subst (λ v. BeginsFrom p (v ∷ [])) first b);
 }
 
-later : (p : Place) (s : Step) (t : Token) (ts unfit : List Token) → after_word p t.word ≡ Some s → UnfitFrom (place_after s) ts unfit → UnfitFrom p (t ∷ ts) unfit
+later : (p : Expected) (s : Step) (t : Token) (ts unfit : List Token) → after_word p t.word ≡ Some s → UnfitFrom (place_after s) ts unfit → UnfitFrom p (t ∷ ts) unfit
 later p s t ts unfit step u = record {
   front = t ∷ u.front;
   split = ap (λ l. t ∷ l) u.split;
@@ -189,11 +189,11 @@ later p s t ts unfit step u = record {
   ends = λ v more is b. u.ends v more is (from_next p s t (u.front ++ (v ∷ [])) step b);
 }
 
-by_step : (p : Place) (t : Token) (ts unfit : List Token) (o : Option Step) → after_word p t.word ≡ o → stepped o (t ∷ ts) (λ q. program_from q ts) ≡ Err unfit → ((q : Place) → program_from q ts ≡ Err unfit → UnfitFrom q ts unfit) → UnfitFrom p (t ∷ ts) unfit
+by_step : (p : Expected) (t : Token) (ts unfit : List Token) (o : Option Step) → after_word p t.word ≡ o → stepped o (t ∷ ts) (λ q. program_from q ts) ≡ Err unfit → ((q : Expected) → program_from q ts ≡ Err unfit → UnfitFrom q ts unfit) → UnfitFrom p (t ∷ ts) unfit
 by_step p t ts unfit None step e others = let same : t ∷ ts ≡ unfit = cc in stopped p t ts unfit step same
 by_step p t ts unfit (Some s) step e others = later p s t ts unfit step (others (place_after s) (none_put (put_by s) (program_from (place_after s) ts) unfit e))
 
-unfit_from : (p : Place) (ts unfit : List Token) → program_from p ts ≡ Err unfit → UnfitFrom p ts unfit
+unfit_from : (p : Expected) (ts unfit : List Token) → program_from p ts ≡ Err unfit → UnfitFrom p ts unfit
 unfit_from p [] unfit e = ended_unfit p unfit e
 unfit_from p (t ∷ ts) unfit e = by_step p t ts unfit (after_word p t.word) refl e (λ q. unfit_from q ts unfit)
 

@@ -5,7 +5,7 @@ use Rattle.behaviours.specs.Behaviour.{Meets, Follows, IsSource, Faithful}
 use Rattle.behaviours.proofs.Following.{faithful}
 use Rattle.elf_image.specs.Layout.{content_of}
 use Rattle.elf_image.specs.Tests.{image_fault}
-use Rattle.elf_image.specs.Writing.{content, image_size, PiecesFit, IsInOrder}
+use Rattle.elf_image.specs.Writing.{content, image_size, SegmentsFit, IsInOrder}
 use Rattle.elf_image.proofs.Ordered.{in_order_fits}
 use Rattle.rv_sim.specs.Run.{runs}
 use Rattle.rv_sim.specs.Start.{start_of}
@@ -55,7 +55,7 @@ in_order program few =
       entry_below = lit< tt;
     }
 
-pub pieces_fit : (program : SourceProgram) → length program.numbers ≤ 209715 → PiecesFit (pieces_of program)
+pub pieces_fit : (program : SourceProgram) → length program.numbers ≤ 209715 → SegmentsFit (pieces_of program)
 pieces_fit program few = in_order_fits (pieces_of program) (in_order program few)
 
 pieces_start : (program : SourceProgram) → start_of (content (pieces_of program)) ≡ started (compiled program)

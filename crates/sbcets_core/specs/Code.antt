@@ -1,4 +1,4 @@
--- The code of a program, and the parts of its image. Function k has its jump row at 0x10000 + 16 k, and the runtime
+-- The code of a program, and the parts of its image. Function k has its jump table entry at 0x10000 + 16 k, and the runtime
 -- follows the rows; the compiled code begins at 0x100000 with the first instruction of function 0.
 use Rattle.std.specs.Prelude.{ℕ, ◌-◌, ◌^◌, List, [], ◌∷◌, ◌++◌, length, replicate, flat_map}
 use Rattle.byteorder.specs.Endian.{little_bytes}
@@ -9,7 +9,7 @@ use Rattle.rv_isa.specs.declared.instruction.Instr.TheVariants.{Lui, Jal, Store,
 use Rattle.rv_isa.specs.declared.instruction.ImmOp.TheVariants.{Addi}
 use Rattle.rv_isa.specs.declared.instruction.StoreOp.TheVariants.{Sb}
 use Rattle.rv_isa.specs.Table.{word_of}
-use Rattle.elf_image.specs.Writing.{Pieces}
+use Rattle.elf_image.specs.Writing.{WrittenImage}
 use Rattle.sbcets_core.specs.Source.{SourceProgram}
 use Rattle.sbcets_core.specs.Meaning.{SourceEnding, written, status, ending}
 
@@ -47,14 +47,14 @@ abbrev pub rows_bytes : List ℕ
 rows_bytes = code_bytes row_code ++ (replicate 12 0 ++ code_bytes runtime_code)
 
 -- No source has objects yet, and of the runtime's spaces there is the buffer alone.
-abbrev pub pieces_with : List ℕ → Pieces
+abbrev pub pieces_with : List ℕ → WrittenImage
 pieces_with code = record {
   entry = 0x10010;
-  rows = record { address = functions_begin; bytes = rows_bytes; size = 32 };
+  jump_table = record { address = functions_begin; bytes = rows_bytes; size = 32 };
   code = record { address = code_begin; bytes = code; size = length code };
   objects = record { address = objects_begin; bytes = []; size = 0 };
   runtime = record { address = spaces_begin; bytes = []; size = 16 };
 }
 
-unfoldable pub pieces_of : SourceProgram → Pieces
+unfoldable pub pieces_of : SourceProgram → WrittenImage
 pieces_of program = pieces_with (code_bytes (code_of program.numbers (ending program)))

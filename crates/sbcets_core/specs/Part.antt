@@ -7,8 +7,8 @@ use Rattle.c_lexer.specs.declared.token.Word.{Word}
 use Rattle.c_lexer.specs.declared.token.Word.TheVariants.{Identifier, Keyword, Integer, Punctuator}
 use Rattle.c_lexer.specs.declared.token.Token.{Token}
 use Rattle.c_lexer.specs.Constants.{constant_of}
-use Rattle.sbcets_core.specs.declared.part.Place.{Place}
-use Rattle.sbcets_core.specs.declared.part.Place.TheVariants as place
+use Rattle.sbcets_core.specs.declared.part.Expected.{Expected}
+use Rattle.sbcets_core.specs.declared.part.Expected.TheVariants as place
 use Rattle.sbcets_core.specs.declared.part.Step.{Step}
 use Rattle.sbcets_core.specs.declared.part.Step.TheVariants.{Goes, Puts}
 use Rattle.sbcets_core.specs.Source.{SourceProgram}
@@ -58,7 +58,7 @@ abbrev pub number_of : Word → Option ℕ
 number_of (Integer spelling) = option_map (λ k. k.value) (constant_of spelling)
 number_of _ = None
 
-abbrev pub number_step : (ℕ → Place) → Word → Option Step
+abbrev pub number_step : (ℕ → Expected) → Word → Option Step
 number_step p w = option_map (λ n. Goes (p n)) (number_of w)
 
 -- where a statement begins
@@ -67,7 +67,7 @@ statement_step w =
     if is_return w then Some (Goes place.ReturnNumber) else step_if (is_name (codes "putchar") w) (Goes place.PutOpen)
 
 -- where a word leads to from a place, if the part goes on with it there
-unfoldable pub after_word : Place → Word → Option Step
+unfoldable pub after_word : Expected → Word → Option Step
 after_word place.Int w = step_if (is_int w) (Goes place.Main)
 after_word place.Main w = step_if (is_name (codes "main") w) (Goes place.Open)
 after_word place.Open w = step_if (is_open w) (Goes place.Void)
@@ -89,7 +89,7 @@ abbrev pub put_by : Step → List ℕ
 put_by (Goes p) = []
 put_by (Puts n) = n ∷ []
 
-abbrev pub place_after : Step → Place
+abbrev pub place_after : Step → Expected
 place_after (Goes p) = p
 place_after (Puts n) = place.Statement
 
@@ -106,16 +106,16 @@ abbrev pub puts_before : List ℕ → Parted → Parted
 puts_before ns (Ok program) = Ok (record { numbers = ns ++ program.numbers; result_number = program.result_number })
 puts_before ns (Err unfit) = Err unfit
 
-abbrev pub ended : Place → Parted
+abbrev pub ended : Expected → Parted
 ended (place.End n) = Ok (returns n)
 ended p = Err []
 
-abbrev pub stepped : Option Step → List Token → (Place → Parted) → Parted
+abbrev pub stepped : Option Step → List Token → (Expected → Parted) → Parted
 stepped None tokens others = Err tokens
 stepped (Some s) tokens others = puts_before (put_by s) (others (place_after s))
 
 -- the tokens from a place on
-abbrev pub program_from : Place → List Token → Parted
+abbrev pub program_from : Expected → List Token → Parted
 program_from p [] = ended p
 program_from p (t ∷ ts) = stepped (after_word p t.word) (t ∷ ts) (λ q. program_from q ts)
 

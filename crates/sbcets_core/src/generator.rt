@@ -1,12 +1,12 @@
 //! From a program to its image.
 ghost use Rattle.std.specs.Prelude.{◌≡◌, ◌++◌, ◌∷◌, [], ◌+◌, ◌*◌, ◌≤◌, ◌<◌, ◌%◌, ◌^◌, length, replicate, IfOk, OnOk};
-ghost use Rattle.elf_image.specs.Writing.{PiecesFit};
+ghost use Rattle.elf_image.specs.Writing.{SegmentsFit};
 ghost use Rattle.sbcets_core.specs.Code.{code_of, code_bytes, exit_code, pieces_of, rows_bytes, row_code, runtime_code, putchar_code, li};
 ghost use Rattle.sbcets_core.specs.Meaning.{ending};
 ghost use Rattle.sbcets_core.specs.Faithful.{IsFaithfulImage};
 
 use crate::program::Program;
-use elf_image::{Image, Part, Parts};
+use elf_image::{Image, NewImage, NewSegment};
 use rv_isa::{Imm12, Imm20, ImmOp, Instr, JumpOffset, Reg, StoreOp, encode};
 use std::alloc::{AllocError, Global};
 
@@ -36,7 +36,7 @@ pub fn image_of(alloc: Global, program: &Program) -> Result<Vec<u8>, AllocError>
 }
 
 #[tactic(auto, unfolding(crate::specs::Code::pieces_of))]
-fn parts_of(alloc: Global, program: &Program) -> Result<Parts, AllocError>
+fn parts_of(alloc: Global, program: &Program) -> Result<NewImage, AllocError>
     ensures value { IfOk result (λ parts. parts ≡ pieces_of program.now) }
     ensures few { OnOk result (length program.now.numbers ≤ 209715) }
 {
@@ -45,19 +45,19 @@ fn parts_of(alloc: Global, program: &Program) -> Result<Parts, AllocError>
     let mut code = Vec::new(alloc);
     put_words(&mut code, &instrs)?;
     let size = code.len() as u64;
-    Ok(Parts {
+    Ok(NewImage {
         entry: RUNTIME,
-        rows: part(ROWS, rows, 32),
+        jump_table: part(ROWS, rows, 32),
         code: part(CODE, code, size),
         objects: part(OBJECTS, Vec::new(alloc), 0),
         runtime: part(RUNTIME_SPACES, Vec::new(alloc), 16),
     })
 }
 
-fn part(address: u64, bytes: Vec<u8>, size: u64) -> Part
+fn part(address: u64, bytes: Vec<u8>, size: u64) -> NewSegment
     ensures { result ≡ record { address = address; bytes = bytes.items; size = size } }
 {
-    Part {
+    NewSegment {
         address,
         bytes,
         size,

@@ -9,7 +9,7 @@ use std::alloc::{AllocFailed, Global};
 
 /// A place in a text of the part: what is wanted there.
 #[derive(Clone, Copy, Debug, PartialEq, Eq)]
-pub enum Place {
+pub enum Expected {
     /// `int`
     Int,
     /// `main`
@@ -46,7 +46,7 @@ pub enum Place {
 #[derive(Clone, Copy, Debug, PartialEq, Eq)]
 pub enum Step {
     /// It leads to a place.
-    Goes(Place),
+    Goes(Expected),
     /// It ends a statement that puts this number.
     Puts(u64),
 }
@@ -68,7 +68,7 @@ pub fn program_of(alloc: Global, tokens: &[Token]) -> Result<Program, PartError>
     ensures { Parts tokens.now result }
 {
     let mut numbers = Vec::new(alloc);
-    let mut place = Place::Int;
+    let mut place = Expected::Int;
     let mut at = 0;
     while at < tokens.len() {
         let Some(step) = after_word(place, &tokens[at].word) else {
@@ -81,13 +81,13 @@ pub fn program_of(alloc: Global, tokens: &[Token]) -> Result<Program, PartError>
         at += 1;
     }
     match place {
-        Place::End(number) => Ok(Program::new(numbers, number)),
+        Expected::End(number) => Ok(Program::new(numbers, number)),
         _ => Err(PartError::Unfit(at)),
     }
 }
 
 // Takes a step: puts its number, if it has one, and gives the place to which it leads.
-fn take_step(step: Step, numbers: &mut Vec<u64>) -> Result<Place, AllocFailed<u64>>
+fn take_step(step: Step, numbers: &mut Vec<u64>) -> Result<Expected, AllocFailed<u64>>
     ensures put { OnOk result (numbers.new.items ≡ numbers.old.items ++ put_by step) }
     ensures place { IfOk result (λ place. place ≡ place_after step) }
 {
@@ -95,32 +95,32 @@ fn take_step(step: Step, numbers: &mut Vec<u64>) -> Result<Place, AllocFailed<u6
         Step::Goes(next) => Ok(next),
         Step::Puts(number) => {
             numbers.push(number)?;
-            Ok(Place::Statement)
+            Ok(Expected::Statement)
         }
     }
 }
 
 // Where a word leads to from a place, if the part goes on with it there.
 #[tactic(auto, unfolding(crate::specs::Part::after_word))]
-fn after_word(place: Place, word: &Word) -> Option<Step>
+fn after_word(place: Expected, word: &Word) -> Option<Step>
     ensures { result ≡ after_word place word.now }
 {
     let (fits, next) = match place {
-        Place::Int => (is_int(word), Step::Goes(Place::Main)),
-        Place::Main => (is_name(b"main", word), Step::Goes(Place::Open)),
-        Place::Open => (is_open(word), Step::Goes(Place::Void)),
-        Place::Void => (is_void(word), Step::Goes(Place::Close)),
-        Place::Close => (is_close(word), Step::Goes(Place::Body)),
-        Place::Body => (is_begin(word), Step::Goes(Place::Statement)),
-        Place::Statement => return statement_step(word),
-        Place::PutOpen => (is_open(word), Step::Goes(Place::PutNumber)),
-        Place::PutNumber => return Some(Step::Goes(Place::PutClose(number(word)?))),
-        Place::PutClose(n) => (is_close(word), Step::Goes(Place::PutSemicolon(n))),
-        Place::PutSemicolon(n) => (is_semicolon(word), Step::Puts(n)),
-        Place::ReturnNumber => return Some(Step::Goes(Place::ReturnSemicolon(number(word)?))),
-        Place::ReturnSemicolon(n) => (is_semicolon(word), Step::Goes(Place::BodyEnd(n))),
-        Place::BodyEnd(n) => (is_end(word), Step::Goes(Place::End(n))),
-        Place::End(_) => return None,
+        Expected::Int => (is_int(word), Step::Goes(Expected::Main)),
+        Expected::Main => (is_name(b"main", word), Step::Goes(Expected::Open)),
+        Expected::Open => (is_open(word), Step::Goes(Expected::Void)),
+        Expected::Void => (is_void(word), Step::Goes(Expected::Close)),
+        Expected::Close => (is_close(word), Step::Goes(Expected::Body)),
+        Expected::Body => (is_begin(word), Step::Goes(Expected::Statement)),
+        Expected::Statement => return statement_step(word),
+        Expected::PutOpen => (is_open(word), Step::Goes(Expected::PutNumber)),
+        Expected::PutNumber => return Some(Step::Goes(Expected::PutClose(number(word)?))),
+        Expected::PutClose(n) => (is_close(word), Step::Goes(Expected::PutSemicolon(n))),
+        Expected::PutSemicolon(n) => (is_semicolon(word), Step::Puts(n)),
+        Expected::ReturnNumber => return Some(Step::Goes(Expected::ReturnSemicolon(number(word)?))),
+        Expected::ReturnSemicolon(n) => (is_semicolon(word), Step::Goes(Expected::BodyEnd(n))),
+        Expected::BodyEnd(n) => (is_end(word), Step::Goes(Expected::End(n))),
+        Expected::End(_) => return None,
     };
     if fits { Some(next) } else { None }
 }
@@ -129,9 +129,9 @@ fn statement_step(word: &Word) -> Option<Step>
     ensures { result ≡ statement_step word.now }
 {
     if is_return(word) {
-        Some(Step::Goes(Place::ReturnNumber))
+        Some(Step::Goes(Expected::ReturnNumber))
     } else if is_name(b"putchar", word) {
-        Some(Step::Goes(Place::PutOpen))
+        Some(Step::Goes(Expected::PutOpen))
     } else {
         None
     }

@@ -1,5 +1,5 @@
-use Rattle.addr_map.proofs.Rows.{row_from, row_to, row_apart}
+use Rattle.addr_map.proofs.JumpTable.{entry_from, entry_to, entries_apart}
 use Rattle.addr_map.proofs.laws.function_addresses_differ.Goals as goal
 
 pub returns : goal.returns
-returns c = record { first = row_from; last = row_to; apart = row_apart }
+returns c = record { first = entry_from; last = entry_to; apart = entries_apart }

@@ -1,10 +1,10 @@
 use Rattle.std.proofs.Common.{◌∙◌, ap, sym, subst}
-use Rattle.elf_image.specs.Writing.{content, image_size, PiecesFit}
+use Rattle.elf_image.specs.Writing.{content, image_size, SegmentsFit}
 use Rattle.sbcets_core.proofs.Theorem.{pieces_fit, faithful_image}
 use Rattle.sbcets_core.proofs.generator.image_of.Goals as goal
 
 pub write-requires : goal.write-requires
-write-requires c = subst PiecesFit (sym c.in_ok-parts.ensures.value) (pieces_fit c.args.program.now c.in_ok-parts.ensures.few)
+write-requires c = subst SegmentsFit (sym c.in_ok-parts.ensures.value) (pieces_fit c.args.program.now c.in_ok-parts.ensures.few)
 
 pub returns : goal.returns
 returns c =

@@ -4,7 +4,7 @@ use std::marker::Model;
 
 /// A segment to be written.
 #[derive(Drop)]
-pub struct Part {
+pub struct NewSegment {
     /// The first address of the segment in memory (ELF-64, `p_vaddr`).
     pub address: u64,
     /// The bytes that the file has of it, from its first address on. Those after them are zero in memory.
@@ -13,37 +13,37 @@ pub struct Part {
     pub size: u64,
 }
 
-impl Model for Part {
-    ghost use Rattle.elf_image.specs.Writing.{Piece};
+impl Model for NewSegment {
+    ghost use Rattle.elf_image.specs.Writing.{WrittenSegment};
 
-    ghost Value = { Piece };
+    ghost Value = { WrittenSegment };
 
     ghost view = { λ p. record { address = p.address; bytes = p.bytes.items; size = p.size } };
 }
 
 /// An image to be written: where its run begins, and its four segments.
 #[derive(Drop)]
-pub struct Parts {
+pub struct NewImage {
     /// The address of the first instruction (ELF-64, `e_entry`).
     pub entry: u64,
-    /// The jump rows of the functions and the runtime: executable, and neither readable nor writable.
-    pub rows: Part,
+    /// The jump table of the functions, and the runtime: executable, and neither readable nor writable.
+    pub jump_table: NewSegment,
     /// The compiled code: executable, and neither readable nor writable.
-    pub code: Part,
+    pub code: NewSegment,
     /// The objects of the program: readable and writable.
-    pub objects: Part,
+    pub objects: NewSegment,
     /// The spaces of the runtime: readable and writable.
-    pub runtime: Part,
+    pub runtime: NewSegment,
 }
 
-impl Model for Parts {
-    ghost use Rattle.elf_image.specs.Writing.{Pieces};
+impl Model for NewImage {
+    ghost use Rattle.elf_image.specs.Writing.{WrittenImage};
 
-    ghost Value = { Pieces };
+    ghost Value = { WrittenImage };
 
     ghost view = { λ p. record {
       entry = p.entry;
-      rows = p.rows;
+      jump_table = p.jump_table;
       code = p.code;
       objects = p.objects;
       runtime = p.runtime;

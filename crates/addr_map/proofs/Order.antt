@@ -3,8 +3,9 @@ use Rattle.std.proofs.Common.{◌≡◌, ℕ, zero, suc, ◌+◌, ◌%◌, ◌<�
 use Rattle.std.proofs.Math.Nat.{eq-or-lt_of_le}
 use Rattle.addr_map.specs.declared.region.Region.{Region}
 use Rattle.addr_map.specs.declared.region.Region.TheVariants.{JumpTable, Code, Globals, Stack, Heap, Shadow, Locks}
-use Rattle.addr_map.specs.declared.region.Region.TheVariants.{FreeLocks, Blocks, Calls, Cells}
-use Rattle.addr_map.specs.Places.{MapSizes, AreMapped, whole_pages, order_of, region_size, region_start, region_end}
+use Rattle.addr_map.specs.declared.region.Region.TheVariants.{FreeLocks, Blocks, StructureValues, Cells}
+use Rattle.addr_map.specs.declared.region.Region.TheVariants.{Arguments, Calls, RuntimeCalls}
+use Rattle.addr_map.specs.Places.{MapSizes, AreMapped, whole_pages, order_of, region_size, region_start, region_end, behind_locks}
 use Rattle.addr_map.specs.Places.{code_begin, code_size, objects_begin, spaces_begin}
 
 pages_below : (n bound : ℕ) → n + 4095 ≤ bound → whole_pages n ≤ bound
@@ -44,8 +45,11 @@ size_whole m h Shadow = pages_whole _
 size_whole m h Locks = pages_whole _
 size_whole m h FreeLocks = pages_whole _
 size_whole m h Blocks = pages_whole _
-size_whole m h Calls = h.budgets.calls.whole
+size_whole m h StructureValues = h.budgets.calls.whole
 size_whole m h Cells = refl
+size_whole m h Arguments = refl
+size_whole m h Calls = h.budgets.calls.whole
+size_whole m h RuntimeCalls = refl
 
 -- the region of a place in the order
 region_at : ℕ → Region
@@ -58,8 +62,11 @@ region_at (suc (suc (suc (suc (suc zero))))) = Shadow
 region_at (suc (suc (suc (suc (suc (suc zero)))))) = Locks
 region_at (suc (suc (suc (suc (suc (suc (suc zero))))))) = FreeLocks
 region_at (suc (suc (suc (suc (suc (suc (suc (suc zero)))))))) = Blocks
-region_at (suc (suc (suc (suc (suc (suc (suc (suc (suc zero))))))))) = Calls
-region_at _ = Cells
+region_at (suc (suc (suc (suc (suc (suc (suc (suc (suc zero))))))))) = StructureValues
+region_at (suc (suc (suc (suc (suc (suc (suc (suc (suc (suc zero)))))))))) = Cells
+region_at (suc (suc (suc (suc (suc (suc (suc (suc (suc (suc (suc zero))))))))))) = Arguments
+region_at (suc (suc (suc (suc (suc (suc (suc (suc (suc (suc (suc (suc zero)))))))))))) = Calls
+region_at _ = RuntimeCalls
 
 region_of_order : (r : Region) → region_at (order_of r) ≡ r
 unfolding region_at
@@ -72,10 +79,13 @@ region_of_order Shadow = refl
 region_of_order Locks = refl
 region_of_order FreeLocks = refl
 region_of_order Blocks = refl
-region_of_order Calls = refl
+region_of_order StructureValues = refl
 region_of_order Cells = refl
+region_of_order Arguments = refl
+region_of_order Calls = refl
+region_of_order RuntimeCalls = refl
 
-order_small : (r : Region) → order_of r ≤ 10
+order_small : (r : Region) → order_of r ≤ 13
 order_small JumpTable = omega arith
 order_small Code = omega arith
 order_small Globals = omega arith
@@ -85,8 +95,11 @@ order_small Shadow = omega arith
 order_small Locks = omega arith
 order_small FreeLocks = omega arith
 order_small Blocks = omega arith
-order_small Calls = omega arith
+order_small StructureValues = omega arith
 order_small Cells = omega arith
+order_small Arguments = omega arith
+order_small Calls = omega arith
+order_small RuntimeCalls = omega arith
 
 -- the region after another
 next : Region → Region
@@ -98,11 +111,14 @@ next Heap = Shadow
 next Shadow = Locks
 next Locks = FreeLocks
 next FreeLocks = Blocks
-next Blocks = Calls
-next Calls = Cells
-next Cells = Cells
+next Blocks = StructureValues
+next StructureValues = Cells
+next Cells = Arguments
+next Arguments = Calls
+next Calls = RuntimeCalls
+next RuntimeCalls = RuntimeCalls
 
-next_at : (k : ℕ) → k < 10 → next (region_at k) ≡ region_at (suc k)
+next_at : (k : ℕ) → k < 13 → next (region_at k) ≡ region_at (suc k)
 unfolding next region_at
 next_at zero h = refl
 next_at (suc zero) h = refl
@@ -114,7 +130,10 @@ next_at (suc (suc (suc (suc (suc (suc zero)))))) h = refl
 next_at (suc (suc (suc (suc (suc (suc (suc zero))))))) h = refl
 next_at (suc (suc (suc (suc (suc (suc (suc (suc zero)))))))) h = refl
 next_at (suc (suc (suc (suc (suc (suc (suc (suc (suc zero))))))))) h = refl
-next_at (suc (suc (suc (suc (suc (suc (suc (suc (suc (suc k)))))))))) h = absurd (omega arith)
+next_at (suc (suc (suc (suc (suc (suc (suc (suc (suc (suc zero)))))))))) h = refl
+next_at (suc (suc (suc (suc (suc (suc (suc (suc (suc (suc (suc zero))))))))))) h = refl
+next_at (suc (suc (suc (suc (suc (suc (suc (suc (suc (suc (suc (suc zero)))))))))))) h = refl
+next_at (suc (suc (suc (suc (suc (suc (suc (suc (suc (suc (suc (suc (suc k))))))))))))) h = absurd (omega arith)
 
 size_of_jump_table : (m : MapSizes) → region_size m JumpTable ≡ 0xf0000
 unfolding region_size
@@ -136,11 +155,23 @@ size_of_calls : (m : MapSizes) → region_size m Calls ≡ m.budgets.calls
 unfolding region_size
 size_of_calls m = refl
 
+size_of_values : (m : MapSizes) → region_size m StructureValues ≡ m.budgets.calls
+unfolding region_size
+size_of_values m = refl
+
+size_of_arguments : (m : MapSizes) → region_size m Arguments ≡ 8192
+unfolding region_size
+size_of_arguments m = refl
+
+size_of_runtime_calls : (m : MapSizes) → region_size m RuntimeCalls ≡ 65536
+unfolding region_size
+size_of_runtime_calls m = refl
+
 size_of_cells : (m : MapSizes) → region_size m Cells ≡ 4096
 unfolding region_size
 size_of_cells m = refl
 
-order_at : (k : ℕ) → k < 10 → order_of (region_at k) ≡ k
+order_at : (k : ℕ) → k < 13 → order_of (region_at k) ≡ k
 unfolding region_at
 order_at zero h = refl
 order_at (suc zero) h = refl
@@ -152,9 +183,12 @@ order_at (suc (suc (suc (suc (suc (suc zero)))))) h = refl
 order_at (suc (suc (suc (suc (suc (suc (suc zero))))))) h = refl
 order_at (suc (suc (suc (suc (suc (suc (suc (suc zero)))))))) h = refl
 order_at (suc (suc (suc (suc (suc (suc (suc (suc (suc zero))))))))) h = refl
-order_at (suc (suc (suc (suc (suc (suc (suc (suc (suc (suc k)))))))))) h = absurd (omega arith)
+order_at (suc (suc (suc (suc (suc (suc (suc (suc (suc (suc zero)))))))))) h = refl
+order_at (suc (suc (suc (suc (suc (suc (suc (suc (suc (suc (suc zero))))))))))) h = refl
+order_at (suc (suc (suc (suc (suc (suc (suc (suc (suc (suc (suc (suc zero)))))))))))) h = refl
+order_at (suc (suc (suc (suc (suc (suc (suc (suc (suc (suc (suc (suc (suc k))))))))))))) h = absurd (omega arith)
 
-before_next : (m : MapSizes) → AreMapped m → (r : Region) → order_of r < 10 → region_end m r ≤ region_start m (next r)
+before_next : (m : MapSizes) → AreMapped m → (r : Region) → order_of r < 13 → region_end m r ≤ region_start m (next r)
 unfolding next region_start
 before_next m h JumpTable lt = let s : region_size m JumpTable ≡ 0xf0000 = size_of_jump_table m in omega (arith, s)
 before_next m h Code lt = let s : region_size m Code ≡ 0x800000 = size_of_code m in omega (arith, s)
@@ -168,10 +202,13 @@ before_next m h Shadow lt = omega arith
 before_next m h Locks lt = omega arith
 before_next m h FreeLocks lt = omega arith
 before_next m h Blocks lt = omega arith
+before_next m h StructureValues lt = omega arith
+before_next m h Cells lt = omega arith
+before_next m h Arguments lt = omega arith
 before_next m h Calls lt = omega arith
-before_next m h Cells lt = absurd (omega arith)
+before_next m h RuntimeCalls lt = absurd (omega arith)
 
-at_in_order : (m : MapSizes) → AreMapped m → (i j : ℕ) → i < j → j ≤ 10
+at_in_order : (m : MapSizes) → AreMapped m → (i j : ℕ) → i < j → j ≤ 13
     → region_end m (region_at i) ≤ region_start m (region_at j)
 at_in_order m h i zero lt le = absurd (omega arith)
 at_in_order m h i (suc j) lt le = go (eq-or-lt_of_le ij) (λ below. at_in_order m h i j below (omega arith))
@@ -181,7 +218,7 @@ at_in_order m h i (suc j) lt le = go (eq-or-lt_of_le ij) (λ below. at_in_order 
 
     step : region_end m (region_at j) ≤ region_start m (region_at (suc j))
     step =
-        let small : j < 10 = omega arith in
+        let small : j < 13 = omega arith in
         subst (λ r. region_end m (region_at j) ≤ region_start m r) (next_at j small)
         (before_next m h (region_at j) (omega (arith, order_at j small, small)))
 
@@ -197,6 +234,10 @@ in_order m h r s lt =
     subst (λ q. region_end m q ≤ region_start m s) (region_of_order r)
     (subst (λ q. region_end m (region_at (order_of r)) ≤ region_start m q) (region_of_order s) at)
 
+behind_blocks_whole : (m : MapSizes) → AreMapped m → (behind_locks m + region_size m Blocks) % 4096 ≡ 0
+behind_blocks_whole m h = omega
+    (arith, size_whole m h Shadow, size_whole m h Locks, size_whole m h FreeLocks, size_whole m h Blocks)
+
 start_whole : (m : MapSizes) → AreMapped m → (r : Region) → region_start m r % 4096 ≡ 0
 unfolding region_start
 start_whole m h JumpTable = refl
@@ -208,10 +249,14 @@ start_whole m h Shadow = refl
 start_whole m h Locks = omega (arith, size_whole m h Shadow)
 start_whole m h FreeLocks = omega (arith, size_whole m h Shadow, size_whole m h Locks)
 start_whole m h Blocks = omega (arith, size_whole m h Shadow, size_whole m h Locks, size_whole m h FreeLocks)
+start_whole m h StructureValues = omega (arith, behind_blocks_whole m h)
+start_whole m h Cells = omega (arith, behind_blocks_whole m h, size_whole m h StructureValues)
+start_whole m h Arguments = omega
+    (arith, behind_blocks_whole m h, size_whole m h StructureValues, size_whole m h Cells)
 start_whole m h Calls = omega
-    (arith, size_whole m h Shadow, size_whole m h Locks, size_whole m h FreeLocks, size_whole m h Blocks)
-start_whole m h Cells = omega
-    (arith, size_whole m h Shadow, size_whole m h Locks, size_whole m h FreeLocks, size_whole m h Blocks, size_whole m h Calls)
+    (arith, behind_blocks_whole m h, size_whole m h StructureValues, size_whole m h Cells, size_whole m h Arguments)
+start_whole m h RuntimeCalls = omega
+    (arith, behind_blocks_whole m h, size_whole m h StructureValues, size_whole m h Cells, size_whole m h Arguments, size_whole m h Calls)
 
 pub starts_whole : (m : MapSizes) → AreMapped m → (r : Region) → region_start m r % 4096 ≡ 0
 starts_whole = start_whole
@@ -219,21 +264,24 @@ starts_whole = start_whole
 pub ends_whole : (m : MapSizes) → AreMapped m → (r : Region) → region_end m r % 4096 ≡ 0
 ends_whole m h r = omega (arith, start_whole m h r, size_whole m h r)
 
-cells_low : (m : MapSizes) → AreMapped m → region_end m Cells < 0x60000000
+last_low : (m : MapSizes) → AreMapped m → region_end m RuntimeCalls < 0x60000000
 unfolding region_start
-cells_low m h =
-    let s : region_size m Calls ≡ m.budgets.calls = size_of_calls m in
+last_low m h =
+    let c : region_size m Calls ≡ m.budgets.calls = size_of_calls m in
+    let v : region_size m StructureValues ≡ m.budgets.calls = size_of_values m in
     let t : region_size m Cells ≡ 4096 = size_of_cells m in
-    omega (arith, shadow_small m h, locks_small m h, free_locks_small m h, blocks_small m h, s, t, h.budgets.calls.greatest)
+    let a : region_size m Arguments ≡ 8192 = size_of_arguments m in
+    let r : region_size m RuntimeCalls ≡ 65536 = size_of_runtime_calls m in
+    omega (arith, shadow_small m h, locks_small m h, free_locks_small m h, blocks_small m h, c, v, t, a, r, h.budgets.calls.greatest)
 
 pub ends_low : (m : MapSizes) → AreMapped m → (r : Region) → region_end m r < 0x60000000
 unfolding region_at
 ends_low m h r = go (eq-or-lt_of_le (order_small r))
   where
-    go : (order_of r ≡ 10) ⊎ (order_of r < 10) → region_end m r < 0x60000000
+    go : (order_of r ≡ 13) ⊎ (order_of r < 13) → region_end m r < 0x60000000
     go (inl last) = subst (λ q. region_end m q < 0x60000000) (sym (ap region_at last) ∙ region_of_order r)
-        (cells_low m h)
-    go (inr before) = let first = in_order m h r Cells before in omega (arith, first, cells_low m h)
+        (last_low m h)
+    go (inr before) = let first = in_order m h r RuntimeCalls before in omega (arith, first, last_low m h)
 
 -- object space holds the objects and nothing else
 globals_first : (m : MapSizes) → region_start m Globals ≡ objects_begin

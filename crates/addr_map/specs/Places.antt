@@ -3,7 +3,8 @@ use Rattle.std.specs.Prelude.{ℕ, ◌+◌, ◌-◌, ◌*◌, ◌/◌, ◌≤◌
 use Rattle.sb_base.specs.Budgets.{BudgetSizes, AreInRange}
 use Rattle.addr_map.specs.declared.region.Region.{Region}
 use Rattle.addr_map.specs.declared.region.Region.TheVariants.{JumpTable, Code, Globals, Stack, Heap, Shadow, Locks}
-use Rattle.addr_map.specs.declared.region.Region.TheVariants.{FreeLocks, Blocks, Calls, Cells}
+use Rattle.addr_map.specs.declared.region.Region.TheVariants.{FreeLocks, Blocks, StructureValues, Cells}
+use Rattle.addr_map.specs.declared.region.Region.TheVariants.{Arguments, Calls, RuntimeCalls}
 use Rattle.addr_map.specs.declared.map.TooLarge.{TooLarge}
 
 -- the first address of the functions' jump table, of compiled code, of object space, and of the runtime's spaces
@@ -67,8 +68,15 @@ region_size m Shadow = whole_pages (32 * (object_space m / 8) + 8 * (object_spac
 region_size m Locks = whole_pages (8 * lock_count m)
 region_size m FreeLocks = whole_pages (8 * lock_count m + 8)
 region_size m Blocks = whole_pages (32 * m.budgets.blocks + 8)
-region_size m Calls = m.budgets.calls
+region_size m StructureValues = m.budgets.calls
 region_size m Cells = 4096
+region_size m Arguments = 8192
+region_size m Calls = m.budgets.calls
+region_size m RuntimeCalls = 65536
+
+-- the first address behind the lock words
+abbrev pub behind_locks : MapSizes → ℕ
+behind_locks m = spaces_begin + region_size m Shadow + region_size m Locks + region_size m FreeLocks
 
 -- the first address of a region
 unfoldable pub region_start : MapSizes → Region → ℕ
@@ -80,10 +88,15 @@ region_start m Heap = objects_begin + region_size m Globals + region_size m Stac
 region_start m Shadow = spaces_begin
 region_start m Locks = spaces_begin + region_size m Shadow
 region_start m FreeLocks = spaces_begin + region_size m Shadow + region_size m Locks
-region_start m Blocks = spaces_begin + region_size m Shadow + region_size m Locks + region_size m FreeLocks
-region_start m Calls = spaces_begin + region_size m Shadow + region_size m Locks + region_size m FreeLocks + region_size m Blocks
-region_start m Cells =
-    spaces_begin + region_size m Shadow + region_size m Locks + region_size m FreeLocks + region_size m Blocks + region_size m Calls
+region_start m Blocks = behind_locks m
+region_start m StructureValues = behind_locks m + region_size m Blocks
+region_start m Cells = behind_locks m + region_size m Blocks + region_size m StructureValues
+region_start m Arguments = behind_locks m + region_size m Blocks + region_size m StructureValues + region_size m Cells
+region_start m Calls =
+    behind_locks m + region_size m Blocks + region_size m StructureValues + region_size m Cells + region_size m Arguments
+region_start m RuntimeCalls =
+    behind_locks m + region_size m Blocks + region_size m StructureValues + region_size m Cells + region_size m Arguments
+    + region_size m Calls
 
 -- its last address, one below the first where it is empty
 abbrev pub region_last : MapSizes → Region → ℕ
@@ -108,8 +121,11 @@ order_of Shadow = 5
 order_of Locks = 6
 order_of FreeLocks = 7
 order_of Blocks = 8
-order_of Calls = 9
+order_of StructureValues = 9
 order_of Cells = 10
+order_of Arguments = 11
+order_of Calls = 12
+order_of RuntimeCalls = 13
 
 -- the sizes of a map
 pub record AreMapped (m : MapSizes) : Type 0 where

@@ -11,8 +11,11 @@
 //! | `Locks` | behind `Shadow` | a lock word for `Globals`, for each 16 bytes of `Stack` and for each of the budget `blocks` |
 //! | `FreeLocks` | behind `Locks` | a word for each lock word, and a cell |
 //! | `Blocks` | behind `FreeLocks` | for each of the budget `blocks` an address, a size, a key and a lock word's address, and a cell |
-//! | `Calls` | behind `Blocks` | the budget `calls`: frames |
-//! | `Cells` | behind `Calls` | 4096: single words of the runtime |
+//! | `StructureValues` | behind `Blocks` | the budget `calls`: structures that wait as values, five bytes for each of theirs |
+//! | `Cells` | behind `StructureValues` | 4096: single words of the runtime |
+//! | `Arguments` | behind `Cells` | 8192: five words for each argument of a call, of which there are at most 127, and for its result |
+//! | `Calls` | behind `Arguments` | the budget `calls`: activation records of the program's functions |
+//! | `RuntimeCalls` | behind `Calls` | 65536: those of the runtime's functions, whose calls do not nest deeper |
 //!
 //! The room of `Shadow` serves entries that stand directly (four bytes for each byte) as well as two
 //! levels with a table in reserve for each page. Each region is in whole pages. Words have 8 bytes.

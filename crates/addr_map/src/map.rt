@@ -48,7 +48,7 @@ impl Model for AddrMap {
 }
 
 impl AddrMap {
-    ghost use Rattle.addr_map.specs.Places.{mapped, region_size, region_start, region_last, lock_count};
+    ghost use Rattle.addr_map.specs.Places.{mapped, region_size, region_start, region_last, lock_count, behind_locks};
 
     /// The map for these budgets and so many bytes of static objects, which need not be whole pages.
     /// `TooLarge` exactly above 4 MiB.
@@ -105,21 +105,43 @@ impl AddrMap {
             Region::Locks => SPACES + self.size(Region::Shadow),
             Region::FreeLocks => SPACES + self.size(Region::Shadow) + self.size(Region::Locks),
             Region::Blocks => self.behind_locks(),
-            Region::Calls => self.behind_locks() + self.size(Region::Blocks),
-            Region::Cells => {
-                self.behind_locks() + self.size(Region::Blocks) + self.size(Region::Calls)
+            Region::StructureValues => self.behind_blocks(),
+            Region::Cells => self.behind_blocks() + self.size(Region::StructureValues),
+            Region::Arguments => {
+                self.behind_blocks() + self.size(Region::StructureValues) + self.size(Region::Cells)
             }
+            Region::Calls => self.behind_arguments(),
+            Region::RuntimeCalls => self.behind_arguments() + self.size(Region::Calls),
         }
     }
 
     // The first address behind the lock words.
     fn behind_locks(&self) -> u64
-        ensures value { result
-            ≡ spaces_begin + region_size self.now Region.Shadow + region_size self.now Region.Locks + region_size self.now Region.FreeLocks }
+        ensures value { result ≡ behind_locks self.now }
         ensures some { 0 < result }
         ensures small { result ≤ spaces_begin + 3 * 2 ^ 27 }
     {
         SPACES + self.size(Region::Shadow) + self.size(Region::Locks) + self.size(Region::FreeLocks)
+    }
+
+    // The first address behind the live blocks.
+    #[tactic(auto, unfolding(crate::specs::Places::region_start))]
+    fn behind_blocks(&self) -> u64
+        ensures value { result ≡ region_start self.now Region.StructureValues }
+        ensures some { 0 < result }
+        ensures small { result ≤ spaces_begin + 4 * 2 ^ 27 }
+    {
+        self.behind_locks() + self.size(Region::Blocks)
+    }
+
+    // The first address behind the runtime's words and the arguments of a call.
+    #[tactic(auto, unfolding(crate::specs::Places::region_start, crate::specs::Places::region_size))]
+    fn behind_arguments(&self) -> u64
+        ensures value { result ≡ region_start self.now Region.Calls }
+        ensures some { 0 < result }
+        ensures small { result ≤ spaces_begin + 5 * 2 ^ 27 }
+    {
+        self.behind_blocks() + self.budgets.calls() + 3 * PAGE
     }
 
     // The bytes of a region.
@@ -138,8 +160,10 @@ impl AddrMap {
             Region::Locks => whole_pages(8 * self.lock_count()),
             Region::FreeLocks => whole_pages(8 * self.lock_count() + 8),
             Region::Blocks => whole_pages(32 * self.budgets.blocks() + 8),
-            Region::Calls => self.budgets.calls(),
+            Region::StructureValues | Region::Calls => self.budgets.calls(),
             Region::Cells => PAGE,
+            Region::Arguments => 2 * PAGE,
+            Region::RuntimeCalls => 16 * PAGE,
         }
     }
 

@@ -21,8 +21,14 @@ pub enum Region {
     FreeLocks,
     /// The live blocks of the heap.
     Blocks,
-    /// The frames of calls.
-    Calls,
+    /// Structures and unions that wait as values: arguments and results with their metadata.
+    StructureValues,
     /// Single words of the runtime.
     Cells,
+    /// The words of arguments and results while a call is made or returned from.
+    Arguments,
+    /// The activation records of the program's functions.
+    Calls,
+    /// The activation records of the runtime's functions, which stand behind those of the program.
+    RuntimeCalls,
 }

@@ -6,7 +6,7 @@ use sb_base::Budgets;
 // 10000 bytes of static objects are three pages, so that object space has 5255168 bytes: 1283 pages,
 // whose entries take 21020672 bytes, and the first level with its cell 10272, which makes 5135 pages.
 // There are 1 + 65536 + 16384 lock words.
-const REGIONS: [(Region, u64, u64); 11] = [
+const REGIONS: [(Region, u64, u64); 14] = [
     (Region::JumpTable, 0x1_0000, 0xf_ffff),
     (Region::Code, 0x10_0000, 0x8f_ffff),
     (Region::Globals, 0x1000_0000, 0x1000_2fff),
@@ -16,8 +16,11 @@ const REGIONS: [(Region, u64, u64); 11] = [
     (Region::Locks, 0x4140_f000, 0x414a_ffff),
     (Region::FreeLocks, 0x414b_0000, 0x4155_0fff),
     (Region::Blocks, 0x4155_1000, 0x415d_1fff),
-    (Region::Calls, 0x415d_2000, 0x419d_1fff),
+    (Region::StructureValues, 0x415d_2000, 0x419d_1fff),
     (Region::Cells, 0x419d_2000, 0x419d_2fff),
+    (Region::Arguments, 0x419d_3000, 0x419d_4fff),
+    (Region::Calls, 0x419d_5000, 0x41dd_4fff),
+    (Region::RuntimeCalls, 0x41dd_5000, 0x41de_4fff),
 ];
 
 #[test]

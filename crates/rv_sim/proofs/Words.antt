@@ -1,7 +1,7 @@
 -- Operations on 32 bits by those on the 64 bits of the operands extended.
 use Rattle.std.proofs.Common.{◌≡◌, ℕ, ◌^◌, ◌<◌, arith}
 use Rattle.rv_isa.specs.Word.{sext}
-use Rattle.rv_sim.specs.Word.{low_word}
+use Rattle.rv_isa.specs.Results.{low_word}
 use Rattle.words.specs.TwosComplement.{IsExtendable}
 use Rattle.words.specs.Operations.{shifted_right_signed, signed_quotient, signed_remainder}
 use Rattle.words.proofs.Narrowing.{low_quotient, extended_remainder}

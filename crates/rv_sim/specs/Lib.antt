@@ -10,4 +10,3 @@ pub mod Step
 pub mod Trap
 pub mod Turns
 pub mod Width
-pub mod Word

@@ -14,7 +14,7 @@ use Rattle.rv_sim.specs.declared.trap.Action.{Action}
 use Rattle.rv_sim.specs.declared.trap.Action.TheVariants.{Done, Ask, Refuse}
 use Rattle.rv_sim.specs.Memory.{SegmentState, load, fetch, store}
 use Rattle.rv_sim.specs.State.{MachineState, register, with_register}
-use Rattle.rv_sim.specs.Word.{wrap, low_word, branch_taken, imm_result, shift_result, shift32_result, reg_result, reg32_result}
+use Rattle.rv_isa.specs.Results.{wrap, low_word, branch_taken, imm_result, shift_result, shift32_result, reg_result, reg32_result}
 
 -- the state after it, and what the step comes to
 abbrev pub Stepped : Type 0

@@ -3,15 +3,15 @@ ghost use Rattle.std.specs.Prelude.{◌≡◌, ℕ, ◌+◌, ◌-◌, ◌*◌, �
 ghost use Rattle.rv_isa.specs.Word.{sext};
 ghost use Rattle.words.specs.TwosComplement.{sign_extended};
 ghost use Rattle.words.specs.Operations.{shifted_right_signed, signed_quotient, signed_remainder};
-ghost use Rattle.rv_sim.specs.Word.{high_half, quotient_or_ones, remainder_or_dividend, branch_taken, imm_result};
-ghost use Rattle.rv_sim.specs.Word.{shift_result, shift32_result, reg_result, reg32_result, low_word};
+ghost use Rattle.rv_isa.specs.Results.{high_half, quotient_or_ones, remainder_or_dividend, branch_taken, imm_result};
+ghost use Rattle.rv_isa.specs.Results.{shift_result, shift32_result, reg_result, reg32_result, low_word};
 
 use rv_isa::{BranchOp, ImmOp, RegOp, RegOp32, ShiftOp, ShiftOp32};
 use words::{is_less_signed, shift_right_signed, sign_extend, signed_quotient, signed_remainder};
 
 /// Whether a branch on `a` and `b`, the values of `rs1` and `rs2`, is taken (RISC-V unprivileged ISA
 /// manual, "Conditional Branches").
-#[tactic(auto, unfolding(crate::specs::Word::branch_taken))]
+#[tactic(auto, unfolding(rv_isa::specs::Results::branch_taken))]
 pub fn is_taken(op: BranchOp, a: u64, b: u64) -> bool
     ensures { result ≡ branch_taken op a b }
 {
@@ -27,7 +27,7 @@ pub fn is_taken(op: BranchOp, a: u64, b: u64) -> bool
 
 /// What an operation gives of `a`, the value of `rs1`, and `b`, the sign-extended immediate (RV32I,
 /// "Integer Register-Immediate Instructions").
-#[tactic(auto, unfolding(crate::specs::Word::imm_result))]
+#[tactic(auto, unfolding(rv_isa::specs::Results::imm_result))]
 pub fn with_immediate(op: ImmOp, a: u64, b: u64) -> u64
     ensures { result ≡ imm_result op a b }
 {
@@ -42,7 +42,7 @@ pub fn with_immediate(op: ImmOp, a: u64, b: u64) -> u64
 }
 
 /// `a` shifted by so many bits, at most 63 (RV64I, "Integer Register-Immediate Instructions").
-#[tactic(auto, unfolding(crate::specs::Word::shift_result))]
+#[tactic(auto, unfolding(rv_isa::specs::Results::shift_result))]
 pub fn shifted(op: ShiftOp, a: u64, bits: u32) -> u64
     requires { bits < 64 }
     ensures { result ≡ shift_result op a bits }
@@ -55,7 +55,7 @@ pub fn shifted(op: ShiftOp, a: u64, bits: u32) -> u64
 }
 
 /// `a` shifted by so many bits, at most 31, and sign-extended.
-#[tactic(auto, unfolding(crate::specs::Word::shift32_result))]
+#[tactic(auto, unfolding(rv_isa::specs::Results::shift32_result))]
 pub fn shifted32(op: ShiftOp32, a: u32, bits: u32) -> u64
     requires { bits < 32 }
     ensures { result ≡ shift32_result op a bits }
@@ -69,7 +69,7 @@ pub fn shifted32(op: ShiftOp32, a: u32, bits: u32) -> u64
 
 /// What an operation gives of `a` and `b`, the values of `rs1` and `rs2` (RV32I and RV64I, "Integer
 /// Register-Register Operations"; "M Extension").
-#[tactic(auto, unfolding(crate::specs::Word::reg_result))]
+#[tactic(auto, unfolding(rv_isa::specs::Results::reg_result))]
 pub fn of_registers(op: RegOp, a: u64, b: u64) -> u64
     ensures { result ≡ reg_result op a b }
 {
@@ -97,7 +97,7 @@ pub fn of_registers(op: RegOp, a: u64, b: u64) -> u64
 
 /// What an operation gives of `a` and `b`, the low 32 bits of `rs1` and `rs2`: 32 bits, sign-extended
 /// (RV64I, "Integer Register-Register Operations"; "M Extension").
-#[tactic(auto, unfolding(crate::specs::Word::reg32_result))]
+#[tactic(auto, unfolding(rv_isa::specs::Results::reg32_result))]
 pub fn of_registers32(op: RegOp32, a: u32, b: u32) -> u64
     ensures { result ≡ reg32_result op a b }
 {

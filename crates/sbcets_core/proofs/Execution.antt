@@ -10,7 +10,7 @@ use Rattle.rv_isa.specs.Table.{word_of, imm_code, store_code}
 use Rattle.rv_isa.specs.Word.{sext}
 use Rattle.rv_sim.specs.declared.trap.Action.TheVariants.{Done}
 use Rattle.rv_sim.specs.declared.stop.Stop.TheVariants.{Exited}
-use Rattle.rv_sim.specs.Word.{wrap, imm_result}
+use Rattle.rv_isa.specs.Results.{wrap, imm_result}
 use Rattle.rv_sim.specs.Memory.{place_of, fetch, store, bytes_at, written_in, bytes_in, ◌>>=◌}
 use Rattle.rv_sim.specs.State.{MachineState}
 use Rattle.rv_sim.specs.Step.{executes, gives, jumps, stores, stored}

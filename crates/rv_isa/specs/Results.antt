@@ -16,6 +16,10 @@ use Rattle.rv_isa.specs.declared.instruction.RegOp.TheVariants.{Mulh, Mulhsu, Mu
 use Rattle.rv_isa.specs.declared.instruction.RegOp32.{RegOp32}
 use Rattle.rv_isa.specs.declared.instruction.RegOp32.TheVariants.{Addw, Subw, Sllw, Srlw, Sraw, Mulw, Divw, Divuw}
 use Rattle.rv_isa.specs.declared.instruction.RegOp32.TheVariants.{Remw, Remuw}
+use Rattle.rv_isa.specs.declared.instruction.LoadOp.{LoadOp}
+use Rattle.rv_isa.specs.declared.instruction.LoadOp.TheVariants.{Lb, Lh, Lw, Ld, Lbu, Lhu, Lwu}
+use Rattle.rv_isa.specs.declared.instruction.StoreOp.{StoreOp}
+use Rattle.rv_isa.specs.declared.instruction.StoreOp.TheVariants.{Sb, Sh, Sw, Sd}
 use Rattle.rv_isa.specs.Word.{sext}
 use Rattle.words.specs.TwosComplement.{low_bits, sign_extended}
 use Rattle.words.specs.Operations.{sum, difference, product, shifted_left, shifted_right_signed, is_less_signed}
@@ -106,3 +110,28 @@ reg32_result Divw a b = sext 32 (quotient_or_ones 32 b (signed_quotient 32 a b))
 reg32_result Divuw a b = sext 32 (quotient_or_ones 32 b (a / b))
 reg32_result Remw a b = sext 32 (remainder_or_dividend a b (signed_remainder 32 a b))
 reg32_result Remuw a b = sext 32 (remainder_or_dividend a b (a % b))
+
+-- LOAD and STORE: how many bytes are loaded and stored, and how those that are loaded fill a register
+abbrev pub load_bytes : LoadOp → ℕ
+load_bytes Lb = 1
+load_bytes Lh = 2
+load_bytes Lw = 4
+load_bytes Ld = 8
+load_bytes Lbu = 1
+load_bytes Lhu = 2
+load_bytes Lwu = 4
+
+unfoldable pub extended : LoadOp → ℕ → ℕ
+extended Lb n = sext 8 n
+extended Lh n = sext 16 n
+extended Lw n = sext 32 n
+extended Ld n = n
+extended Lbu n = n
+extended Lhu n = n
+extended Lwu n = n
+
+abbrev pub store_bytes : StoreOp → ℕ
+store_bytes Sb = 1
+store_bytes Sh = 2
+store_bytes Sw = 4
+store_bytes Sd = 8

@@ -5,7 +5,8 @@ use Rattle.behaviours.specs.Shown.{Read, Write}
 use Rattle.rv_isa.specs.Decoding.{decoded, by_opcode, load_of, store_of, load_at, store_at, system_of}
 use Rattle.rv_sim.specs.Memory.{SegmentState, place_of, load, fetch, store, may_write}
 use Rattle.rv_sim.specs.State.{MachineState}
-use Rattle.rv_sim.specs.Step.{step, executes, gives, loads, stores, extended}
+use Rattle.rv_sim.specs.Step.{step, executes, gives, loads, stores}
+use Rattle.rv_isa.specs.Results.{extended}
 use Rattle.rv_sim.specs.Accesses.{next_access, object_access}
 use Rattle.rv_sim.specs.Run.{turn, runs, calls, read_call}
 use Rattle.rv_sim.specs.Behaviour.{begun}

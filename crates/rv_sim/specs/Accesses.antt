@@ -7,7 +7,8 @@ use Rattle.rv_isa.specs.declared.instruction.Instr.TheVariants.{Lui, Auipc, Jal,
 use Rattle.rv_isa.specs.Decoding.{decoded}
 use Rattle.rv_sim.specs.Memory.{◌>>=◌, fetch}
 use Rattle.rv_sim.specs.State.{MachineState}
-use Rattle.rv_sim.specs.Step.{address_of, load_bytes, store_bytes}
+use Rattle.rv_sim.specs.Step.{address_of}
+use Rattle.rv_isa.specs.Results.{load_bytes, store_bytes}
 
 -- the load or store that an instruction makes in this state
 abbrev pub access_of : Instr → MachineState → Option Access

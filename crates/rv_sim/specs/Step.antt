@@ -1,13 +1,12 @@
 -- One instruction of the machine, up to the environment. A step that is not done leaves the state as it was.
 use Rattle.std.specs.Prelude.{ℕ, ◌+◌, ◌*◌, ◌/◌, ◌%◌, ◌^◌, Bool, ◌==◌, if◌then◌else◌, List, Option, Some, None, ◌≡◌}
 use Rattle.rv_isa.specs.declared.instruction.LoadOp.{LoadOp}
-use Rattle.rv_isa.specs.declared.instruction.LoadOp.TheVariants.{Lb, Lh, Lw, Ld, Lbu, Lhu, Lwu}
 use Rattle.rv_isa.specs.declared.instruction.StoreOp.{StoreOp}
-use Rattle.rv_isa.specs.declared.instruction.StoreOp.TheVariants.{Sb, Sh, Sw, Sd}
 use Rattle.rv_isa.specs.declared.instruction.Instr.{Instr}
 use Rattle.rv_isa.specs.declared.instruction.Instr.TheVariants.{Lui, Auipc, Jal, Jalr, Branch, Load, Store, OpImm, ShiftImm, Addiw, ShiftImm32, Op, Op32, Fence, Ecall, Ebreak}
 use Rattle.rv_isa.specs.Decoding.{decoded}
 use Rattle.rv_isa.specs.Word.{sext}
+use Rattle.rv_isa.specs.Results.{load_bytes, extended, store_bytes}
 use Rattle.rv_sim.specs.declared.trap.TrapKind.{TrapKind}
 use Rattle.rv_sim.specs.declared.trap.TrapKind.TheVariants.{Illegal, Access, Jump, Break}
 use Rattle.rv_sim.specs.declared.trap.Action.{Action}
@@ -46,31 +45,6 @@ jumps s rd target =
 unfoldable pub branches : MachineState → Bool → ℕ → Stepped
 branches s taken target =
     if taken then (if target % 4 == 0 then (record s { pc = target }, Done) else refused s Jump) else passes s
-
--- how many bytes are loaded, and how they fill a register
-abbrev pub load_bytes : LoadOp → ℕ
-load_bytes Lb = 1
-load_bytes Lh = 2
-load_bytes Lw = 4
-load_bytes Ld = 8
-load_bytes Lbu = 1
-load_bytes Lhu = 2
-load_bytes Lwu = 4
-
-unfoldable pub extended : LoadOp → ℕ → ℕ
-extended Lb n = sext 8 n
-extended Lh n = sext 16 n
-extended Lw n = sext 32 n
-extended Ld n = n
-extended Lbu n = n
-extended Lhu n = n
-extended Lwu n = n
-
-abbrev pub store_bytes : StoreOp → ℕ
-store_bytes Sb = 1
-store_bytes Sh = 2
-store_bytes Sw = 4
-store_bytes Sd = 8
 
 abbrev pub loaded : MachineState → LoadOp → ℕ → Option ℕ → Stepped
 loaded s op rd None = refused s Access

@@ -345,7 +345,7 @@ impl State {
 
 ghost use Rattle.std.specs.Prelude.{◌≡◌, ◌^◌, ◌<◌};
 ghost use Rattle.rv_sim.specs.Width.{byte_count};
-ghost use Rattle.rv_sim.specs.Step.{load_bytes, store_bytes, extended};
+ghost use Rattle.rv_isa.specs.Results.{load_bytes, store_bytes, extended};
 
 fn load_width(op: LoadOp) -> Width
     ensures { byte_count result ≡ load_bytes op }
@@ -370,7 +370,7 @@ fn store_width(op: StoreOp) -> Width
 }
 
 // What a register gets of a number that was loaded.
-#[tactic(auto, unfolding(crate::specs::Step::extended))]
+#[tactic(auto, unfolding(rv_isa::specs::Results::extended))]
 fn extend_loaded(op: LoadOp, number: u64) -> u64
     requires { number < 256 ^ load_bytes op }
     ensures { result ≡ extended op number }

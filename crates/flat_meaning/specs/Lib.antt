@@ -1,0 +1,5 @@
+pub mod Memory
+pub mod Spaces
+pub mod State
+pub mod Calls
+pub mod Meaning

@@ -3,7 +3,7 @@ use Rattle.std.proofs.Common.{◌≡◌, ℕ, zero, suc, ◌+◌, ◌*◌, ◌/�
 use Rattle.std.proofs.lemmas.Bool.{cases_eq, eq-eqb, ne_eqb, cond-true, cond-false}
 use Rattle.std.proofs.Math.Nat.{pow-suc}
 use Rattle.std.proofs.lemmas.Nat.{div_below}
-use Rattle.flat_meaning.specs.Memory.{Bytes, put, load, store, AreBytes, Beside, KeepsBut, Keeps}
+use Rattle.flat_meaning.specs.Memory.{Bytes, put, load, store, AreBytes, KeepsBut, Keeps}
 
 pub put_same : (f : ℕ → ℕ) (a v : ℕ) → put f a v a ≡ v
 unfolding put

@@ -3,3 +3,4 @@ pub mod Spaces
 pub mod State
 pub mod Calls
 pub mod Meaning
+pub mod Words

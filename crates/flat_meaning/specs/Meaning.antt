@@ -1,5 +1,5 @@
 -- What flat code does, step by step.
-use Rattle.std.specs.Prelude.{ℕ, zero, suc, ◌+◌, ◌-◌, ◌%◌, ◌^◌, Bool, true, false, not, ◌&&◌, ◌==◌, nat_le, if◌then◌else◌, List, [], ◌∷◌, ◌++◌, drop, length, Option, Some, None, slice_get}
+use Rattle.std.specs.Prelude.{ℕ, ◌+◌, ◌-◌, ◌%◌, ◌^◌, Bool, true, false, not, ◌&&◌, ◌==◌, nat_le, if◌then◌else◌, List, [], ◌∷◌, ◌++◌, drop, length, Option, Some, None, slice_get}
 use Rattle.words.specs.TwosComplement.{low_bits}
 use Rattle.rv_isa.specs.declared.instruction.LoadOp.{LoadOp}
 use Rattle.rv_isa.specs.declared.instruction.StoreOp.{StoreOp}
@@ -93,7 +93,7 @@ local c (Get x) pc s = Goes (pc + 1) (received x (slice_get s.input 0) s)
 local c (Put x) pc s = Goes (pc + 1) (record s { output = s.output ++ s.values x % 256 ∷ [] })
 local c (Exit x) pc s = Ends (s.values x % 256) [] s
 local c (End e) pc s = Ends (code_of e) (report_of e) s
-local c (Charged x) pc s = Goes (pc + 1) (with_register x c.charge s)
+local c (Charged x) pc s = Goes (pc + 1) (with_register x (wrap c.charge) s)
 
 -- ---- calls and returns
 

@@ -1,5 +1,5 @@
 -- What a run of flat code has at hand, and where it stands.
-use Rattle.std.specs.Prelude.{ℕ, List, [], Option, Some, None}
+use Rattle.std.specs.Prelude.{ℕ, List, [], Some, None}
 use Rattle.behaviours.specs.Shown.{Access, Status, nothing_shown}
 use Rattle.behaviours.specs.Behaviour.{Moment}
 use Rattle.flat_meaning.specs.Memory.{Bytes}

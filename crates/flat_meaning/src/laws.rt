@@ -7,6 +7,7 @@ ghost use Rattle.flat_meaning.specs.declared.function.FlatProgram.{FlatProgram};
 ghost use Rattle.flat_meaning.specs.Memory.{Bytes, load, store, AreBytes, KeepsBut, Keeps};
 ghost use Rattle.flat_meaning.specs.State.{Stage, Stuck, seen};
 ghost use Rattle.flat_meaning.specs.Meaning.{step};
+ghost use Rattle.flat_meaning.specs.Words.{HasWords};
 
 /// A step begins at most one turn, and what has ended, or is stuck, stays so.
 pub fn steps_begin_at_most_one_turn()
@@ -26,4 +27,9 @@ pub fn stored_numbers_are_loaded()
 pub fn loaded_numbers_fit()
     ensures fits { (n : ℕ) (m : Bytes) (a : ℕ) → AreBytes m → load n m a < 256 ^ n }
     ensures bytes { (n : ℕ) (m : Bytes) (a v : ℕ) → AreBytes m → AreBytes (store n m a v) }
+{}
+
+/// Every value stays a word of 64 bits, those of waiting activation records too, and every byte a byte.
+pub fn steps_keep_words()
+    ensures { (m : MapSizes) (p : FlatProgram) (x : Stage) → HasWords x → HasWords (step m p x) }
 {}

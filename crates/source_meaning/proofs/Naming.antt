@@ -2,7 +2,7 @@
 -- are there, members must lie in what has them, and a structure value is used where it is made. Every program that types
 -- has this.
 use Rattle.source_meaning.specs.Good.{Basis, OnName, OnPointer, OnValue, basis_of, object_kind, signature_in, static_kind}
-use Rattle.std.specs.Prelude.{◌≡◌, ℕ, ◌+◌, ◌≤◌, false, List, [], ◌∷◌, ◌++◌, map, Option, Some, None, length}
+use Rattle.std.specs.Prelude.{◌≡◌, ℕ, ◌+◌, ◌<◌, ◌≤◌, false, List, [], ◌∷◌, ◌++◌, map, Option, Some, None, length}
 use Rattle.c_tree.specs.declared.expression.Kind.{Kind}
 use Rattle.c_tree.specs.declared.expression.Kind.TheVariants.{Void, Scalar as OfScalar, Structure, Array}
 use Rattle.c_tree.specs.Tree.{Expression, expression, Expressions, no_expressions, expressions, Lvalue, lvalue, Node, constant, function, plain, read, decay, address, parenthesized, deref_function, address_function, cast, convert, unary, binary, offset_by, difference, logical_and, logical_or, comma, conditional, assign, assign_plain, compound, change_plain, step, step_plain, call, call_through, library, printf, LvalueNode, automatic, static, deref, index, member, arrow, member_of_value, parenthesized_lvalue, kind_of, lvalue_kind, kinds_of}
@@ -40,7 +40,7 @@ abbrev mutual
 
   pub ValueNames : Scope → Node → Kind → Type 0
   ValueNames sc (constant w) kind = IsNoStructure kind
-  ValueNames sc (function f) kind = IsNoStructure kind
+  ValueNames sc (function f) kind = (f < length sc.functions) × IsNoStructure kind
   ValueNames sc (plain x) kind = IsNoStructure kind
   ValueNames sc (read p) kind = LvalueNames sc p × (kind ≡ lvalue_kind p)
   ValueNames sc (decay p) kind = LvalueNames sc p × IsNoStructure kind

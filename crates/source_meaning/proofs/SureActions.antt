@@ -1,5 +1,5 @@
 -- The actions keep objects sound.
-use Rattle.source_meaning.specs.Good.{After, Any, AreTagged, Basis, Context, IsGood, IsTagged, OnName, OnPointer, OnValue, Sure}
+use Rattle.source_meaning.specs.Good.{function_count, After, Any, AreTagged, Basis, Context, IsGood, IsTagged, OnName, OnPointer, OnValue, Sure}
 use Rattle.std.proofs.Common.{◌≡◌, ℕ, zero, suc, ◌+◌, ◌-◌, ◌*◌, ◌%◌, ◌^◌, List, [], ◌∷◌, Bool, true, false, Option, Some, None, get_or, set, refl, sym, ◌∙◌, subst, arith, nat_lt}
 use Rattle.behaviours.specs.Shown.{AccessKind, Read, Write}
 use Rattle.sb_base.specs.declared.ending.Ending.TheVariants.{Keys}
@@ -45,27 +45,27 @@ use Rattle.source_meaning.proofs.Sure.{stops_same, sure_on, sure_weak, sure_post
 
 -- values
 
-abbrev pub converted_to_tagged : (k : Scalar) (v : Value) (o : Objects) → IsTagged v o → IsTagged (converted_to k v) o
-converted_to_tagged (Integer t) v o h = tt
-converted_to_tagged Pointer v o h = h
+abbrev pub converted_to_tagged : (functions : ℕ) (k : Scalar) (v : Value) (o : Objects) → IsTagged functions v o → IsTagged functions (converted_to k v) o
+converted_to_tagged functions (Integer t) v o h = tt
+converted_to_tagged functions Pointer v o h = h
 
-pub converted_tagged : (kind : Kind) (v : Value) (o : Objects) → IsTagged v o → IsTagged (converted kind v) o
-converted_tagged Void v o h = tt
-converted_tagged (OfScalar k) v o h = converted_to_tagged k v o h
-converted_tagged (Structure n) v o h = h
-converted_tagged (Array n) v o h = h
+pub converted_tagged : (functions : ℕ) (kind : Kind) (v : Value) (o : Objects) → IsTagged functions v o → IsTagged functions (converted kind v) o
+converted_tagged functions Void v o h = tt
+converted_tagged functions (OfScalar k) v o h = converted_to_tagged _ k v o h
+converted_tagged functions (Structure n) v o h = h
+converted_tagged functions (Array n) v o h = h
 
-pub offset_tagged : (form : OffsetForm) (size : ℕ) (x y : Value) (o : Objects) → IsTagged x o → IsTagged y o → IsTagged (offset_value form size x y) o
-offset_tagged PointerPlusIndex size x y o h g = sound_offset o (y.word * size) x h
-offset_tagged IndexPlusPointer size x y o h g = sound_offset o (x.word * size) y g
-offset_tagged PointerMinusIndex size x y o h g = sound_offset o (2 ^ 64 - (y.word * size) % 2 ^ 64) x h
+pub offset_tagged : (functions : ℕ) (form : OffsetForm) (size : ℕ) (x y : Value) (o : Objects) → IsTagged functions x o → IsTagged functions y o → IsTagged functions (offset_value form size x y) o
+offset_tagged functions PointerPlusIndex size x y o h g = sound_offset _ o (y.word * size) x h
+offset_tagged functions IndexPlusPointer size x y o h g = sound_offset _ o (x.word * size) y g
+offset_tagged functions PointerMinusIndex size x y o h g = sound_offset _ o (2 ^ 64 - (y.word * size) % 2 ^ 64) x h
 
-given_tagged : (f : Fixity) (old new : Value) (o : Objects) → IsTagged old o → IsTagged new o → IsTagged (given f old new) o
-given_tagged Prefix old new o h g = g
-given_tagged Postfix old new o h g = h
+given_tagged : (functions : ℕ) (f : Fixity) (old new : Value) (o : Objects) → IsTagged functions old o → IsTagged functions new o → IsTagged functions (given f old new) o
+given_tagged functions Prefix old new o h g = g
+given_tagged functions Postfix old new o h g = h
 
-pub is_untagged : (v : Value) → v.tag ≡ Untagged → (o : Objects) → IsTagged v o
-is_untagged v e o = subst (IsSoundTag o) (sym e) tt
+pub is_untagged : (functions : ℕ) (v : Value) → v.tag ≡ Untagged → (o : Objects) → IsTagged functions v o
+is_untagged functions v e o = subst (IsSoundTag functions o) (sym e) tt
 
 divide_sure : {sc : Context} {P : Objects → Type 0} (x : Option ℕ) (line : ℕ) → Sure sc P (value_or_divide x line) (λ v o. P o × (v.tag ≡ Untagged))
 divide_sure None line = sure_stop
@@ -74,15 +74,15 @@ divide_sure (Some w) line = sure_done (λ o p. (p, refl))
 operate_sure : {sc : Context} {P : Objects → Type 0} (op : BinaryOperator) (t : IntType) (x y : Value) (line : ℕ) → Sure sc P (operate op t x y line) (λ v o. P o × (v.tag ≡ Untagged))
 operate_sure op t x y line = divide_sure (binary_value op t x.word y.word) line
 
-pub sure_operate : {sc : Context} {P : Objects → Type 0} (op : BinaryOperator) (t : IntType) (x y : Value) (line : ℕ) → Sure sc P (operate op t x y line) IsTagged
-sure_operate op t x y line = sure_post (λ v o e. is_untagged v e.1 o) (operate_sure op t x y line)
+pub sure_operate : {sc : Context} {P : Objects → Type 0} (op : BinaryOperator) (t : IntType) (x y : Value) (line : ℕ) → Sure sc P (operate op t x y line) (IsTagged (function_count sc))
+sure_operate op t x y line = sure_post (λ v o e. is_untagged _ v e.1 o) (operate_sure op t x y line)
 
 -- what is known of the objects stays known
-pub sure_updated : {sc : Context} {P : Objects → Type 0} (u : Update) (k : Scalar) (right : Value) (line : ℕ) (old : Value) → Sure sc (λ o. P o × IsTagged old o) (updated u k right line old) (λ v o. (P o × IsTagged old o) × IsTagged v o)
+pub sure_updated : {sc : Context} {P : Objects → Type 0} (u : Update) (k : Scalar) (right : Value) (line : ℕ) (old : Value) → Sure sc (λ o. P o × IsTagged (function_count sc) old o) (updated u k right line old) (λ v o. (P o × IsTagged (function_count sc) old o) × IsTagged (function_count sc) v o)
 sure_updated (Arithmetic op t) k right line old =
-    sure_on (operate_sure op t (integer (fit t old.word)) right line) (λ new. sure_done (λ o e. (e.0, converted_to_tagged k new o (is_untagged new e.1 o))))
-sure_updated (Forward size) k right line old = sure_done (λ o h. (h, sound_offset o (right.word * size) old h.1))
-sure_updated (Back size) k right line old = sure_done (λ o h. (h, sound_offset o (2 ^ 64 - (right.word * size) % 2 ^ 64) old h.1))
+    sure_on (operate_sure op t (integer (fit t old.word)) right line) (λ new. sure_done (λ o e. (e.0, converted_to_tagged _ k new o (is_untagged _ new e.1 o))))
+sure_updated (Forward size) k right line old = sure_done (λ o h. (h, sound_offset _ o (right.word * size) old h.1))
+sure_updated (Back size) k right line old = sure_done (λ o h. (h, sound_offset _ o (2 ^ 64 - (right.word * size) % 2 ^ 64) old h.1))
 
 pub sure_callee : {sc : Context} {P : Objects → Type 0} (functions : List Header) (type_number : ℕ) (v : Value) (line : ℕ) → Sure sc P (callee functions type_number v line) (λ f. P)
 sure_callee {sc = sc} {P = P} functions type_number v line = by v.tag
@@ -116,8 +116,8 @@ direct_by : (o : Objects) (q : Value) (size : ℕ) → IsDirect o q size → (p 
 direct_by o q size d p e =
     (subst (λ x. IsAllowed o q size x) (inside_only (place_in o d.object q.word) p (sym (direct_named o q size d) ∙ e)) (direct_allowed o q size d), d)
 
-pub sure_located : {sc : Context} {P : Objects → Type 0} (b : Basis) (size : ℕ) (q : Value) (line : ℕ) → Sure sc (λ o. P o × (IsTagged q o × ReachBy b size q o)) (located (on_pointer b) size q line) (λ p o. P o × IsFound q size p o)
-sure_located {P = P} OnPointer size q line = record { by = λ s good h. located_by P s good h.0 size q line (judge size q s.objects) (λ p e. (judge_inside s.objects size q p h.1.0 e, judged_direct s.objects size q p h.1.0 e)) }
+pub sure_located : {sc : Context} {P : Objects → Type 0} (b : Basis) (size : ℕ) (q : Value) (line : ℕ) → Sure sc (λ o. P o × (IsTagged (function_count sc) q o × ReachBy b size q o)) (located (on_pointer b) size q line) (λ p o. P o × IsFound q size p o)
+sure_located {P = P} OnPointer size q line = record { by = λ s good h. located_by P s good h.0 size q line (judge size q s.objects) (λ p e. (judge_inside _ s.objects size q p h.1.0 e, judged_direct _ s.objects size q p h.1.0 e)) }
 sure_located {P = P} OnName size q line = record { by = λ s good h. located_by P s good h.0 size q line (named q s.objects) (λ p e. direct_by s.objects q size h.1.1.direct p e) }
 sure_located {P = P} OnValue size q line = record { by = λ s good h. located_by P s good h.0 size q line (named q s.objects) (λ p e. direct_by s.objects q size h.1.1 p e) }
 
@@ -141,7 +141,7 @@ sure_note kind address size w = record {
   );
 }
 
-pub sure_read_scalar : {sc : Context} (k : Scalar) (q : Value) (p : Place) → Sure sc (λ o. IsAllowed o q (scalar_size k) p) (read_scalar k q.word p) (λ v o. IsAllowed o q (scalar_size k) p × IsTagged v o)
+pub sure_read_scalar : {sc : Context} (k : Scalar) (q : Value) (p : Place) → Sure sc (λ o. IsAllowed o q (scalar_size k) p) (read_scalar k q.word p) (λ v o. IsAllowed o q (scalar_size k) p × IsTagged (function_count sc) v o)
 sure_read_scalar k q p =
     sure_on (sure_note Read q.word (scalar_size k) (λ o h. allowed_lies o q (scalar_size k) h _ refl refl)) (λ _. sure_read {f = λ s. read_value k p s.objects} (λ s good h. (h, sound_read k p s.objects good.kept.sound)))
 
@@ -152,11 +152,11 @@ allowed_kept old new q size p k h = record {
   address = let a = (k.at p.object).address in omega (arith, a, h.address);
 }
 
-pub sure_write_scalar : {sc : Context} (k : Scalar) (q : Value) (p : Place) (v : Value) → Sure sc (λ o. IsAllowed o q (scalar_size k) p × IsTagged v o) (write_scalar k q.word p v) (λ _ o. IsTagged v o)
+pub sure_write_scalar : {sc : Context} (k : Scalar) (q : Value) (p : Place) (v : Value) → Sure sc (λ o. IsAllowed o q (scalar_size k) p × IsTagged (function_count sc) v o) (write_scalar k q.word p v) (λ _ o. IsTagged (function_count sc) v o)
 sure_write_scalar k q p v =
     sure_on (sure_note Write q.word (scalar_size k) (λ o h. allowed_lies o q (scalar_size k) h.0 _ refl refl)) (λ _.
     sure_objects (write_value k v p) (keeps_value k v p) (continues_value k v p) (λ o h sound. sound_value k v p o sound h.0.place h.1)
-    (λ o h. stable_tag v o (write_value k v p o) (record { continues = continues_value k v p o; live = λ n lt held live. ((keeps_value k v p o).at n).live ∙ live }) h.1))
+    (λ o h. stable_tag _ v o (write_value k v p o) (record { continues = continues_value k v p o; live = λ n lt held live. ((keeps_value k v p o).at n).live ∙ live }) h.1))
 
 pub sure_move_bytes : {sc : Context} (size : ℕ) (d s : Place) (q w : Value) → Sure sc (λ o. IsFound q size d o × IsFound w size s o) (move_bytes size d s) (λ _ o. IsDirect o q size)
 sure_move_bytes size d s q w =
@@ -166,47 +166,47 @@ sure_move_bytes size d s q w =
 
 -- scalars
 
-pub sure_load : {sc : Context} (b : Basis) (k : Scalar) (q : Value) (line : ℕ) → Sure sc (λ o. IsTagged q o × ReachBy b (scalar_size k) q o) (load k (on_pointer b) q line) IsTagged
+pub sure_load : {sc : Context} (b : Basis) (k : Scalar) (q : Value) (line : ℕ) → Sure sc (λ o. IsTagged (function_count sc) q o × ReachBy b (scalar_size k) q o) (load k (on_pointer b) q line) (IsTagged (function_count sc))
 sure_load b k q line =
     sure_on (sure_weak (λ o h. (tt, h)) (sure_located {P = Any} b (scalar_size k) q line)) (λ p. sure_post (λ v o h. h.1) (sure_weak (λ o h. h.1.0) (sure_read_scalar k q p)))
 
-pub sure_store : {sc : Context} (b : Basis) (k : Scalar) (q : Value) (line : ℕ) (v : Value) → Sure sc (λ o. IsTagged v o × (IsTagged q o × ReachBy b (scalar_size k) q o)) (store k (on_pointer b) q line v) (λ _ o. IsTagged v o)
+pub sure_store : {sc : Context} (b : Basis) (k : Scalar) (q : Value) (line : ℕ) (v : Value) → Sure sc (λ o. IsTagged (function_count sc) v o × (IsTagged (function_count sc) q o × ReachBy b (scalar_size k) q o)) (store k (on_pointer b) q line v) (λ _ o. IsTagged (function_count sc) v o)
 sure_store b k q line v = sure_on (sure_located b (scalar_size k) q line) (λ p. sure_weak (λ o h. (h.1.0, h.0)) (sure_write_scalar k q p v))
 
 pub sure_update : {sc : Context} (b : Basis) (k : Scalar) (q : Value) (line : ℕ) (u : Update) (right : Value) (at : ℕ) (f : Fixity)
-    → Sure sc (λ o. IsTagged q o × ReachBy b (scalar_size k) q o) (update k (on_pointer b) q line (updated u k right at) f) IsTagged
+    → Sure sc (λ o. IsTagged (function_count sc) q o × ReachBy b (scalar_size k) q o) (update k (on_pointer b) q line (updated u k right at) f) (IsTagged (function_count sc))
 sure_update b k q line u right at f =
     sure_on (sure_weak (λ o h. (tt, h)) (sure_located {P = Any} b (scalar_size k) q line)) (λ p.
     sure_on (sure_weak (λ o h. h.1.0) (sure_read_scalar k q p)) (λ old.
     sure_on (sure_updated u k right at old) (λ new.
-    sure_on (sure_weak (λ o h. (h.0.1, (h.0.0, h.1))) (sure_frame (stable_tag old) (sure_write_scalar k q p new))) (λ _.
-    sure_done {a = given f old new} (λ o h. given_tagged f old new o h.0 h.1)))))
+    sure_on (sure_weak (λ o h. (h.0.1, (h.0.0, h.1))) (sure_frame (stable_tag _ old) (sure_write_scalar k q p new))) (λ _.
+    sure_done {a = given f old new} (λ o h. given_tagged _ f old new o h.0 h.1)))))
 
 -- lvalues of any kind
 
-pub sure_read_lvalue : {sc : Context} (b : Basis) (kind : Kind) (q : Value) (line : ℕ) → Sure sc (PlaceIs b kind q) (read_lvalue kind (on_pointer b) q line) (PlaceValueIs kind)
+pub sure_read_lvalue : {sc : Context} (b : Basis) (kind : Kind) (q : Value) (line : ℕ) → Sure sc (PlaceIs (function_count sc) b kind q) (read_lvalue kind (on_pointer b) q line) (PlaceValueIs (function_count sc) kind)
 sure_read_lvalue b Void q line = sure_done (λ o h. record { tag = h.0; structure = tt })
 sure_read_lvalue b (OfScalar k) q line = sure_post (λ v o h. record { tag = h; structure = tt }) (sure_load b k q line)
-sure_read_lvalue b (Structure n) q line =
-    sure_on (sure_weak (λ o h. (h.0, h)) (sure_located {P = IsTagged q} b n q line)) (λ p. sure_done (λ o h. record { tag = h.0; structure = h.1.1 }))
+sure_read_lvalue {sc = sc} b (Structure n) q line =
+    sure_on (sure_weak (λ o h. (h.0, h)) (sure_located {P = IsTagged (function_count sc) q} b n q line)) (λ p. sure_done (λ o h. record { tag = h.0; structure = h.1.1 }))
 sure_read_lvalue b (Array n) q line = sure_done (λ o h. record { tag = h.0; structure = tt })
 
 pub sure_copy : {sc : Context} (b : Basis) (n : ℕ) (q : Value) (line : ℕ) (v : Value)
-    → Sure sc (λ o. (IsTagged v o × IsDirect o v n) × (IsTagged q o × ReachBy b n q o)) (copy_structure n (on_pointer b) q line v) (λ _ o. IsDirect o q n)
+    → Sure sc (λ o. (IsTagged (function_count sc) v o × IsDirect o v n) × (IsTagged (function_count sc) q o × ReachBy b n q o)) (copy_structure n (on_pointer b) q line v) (λ _ o. IsDirect o q n)
 sure_copy b n q line v =
     sure_on (sure_located b n q line) (λ d.
     sure_on (sure_weak (λ o h. (h.1, h.0)) (sure_located {P = λ o. IsFound q n d o} OnValue n v line)) (λ s. sure_move_bytes n d s q v))
 
 -- plain values
 
-tagged_set : (o : Objects) (v : Value) → IsTagged v o → (vs : List Value) (x : ℕ) → AreTagged vs o → AreTagged (set vs x v) o
-tagged_set o v t [] x h y = h y
-tagged_set o v t (w ∷ ws) zero h zero = t
-tagged_set o v t (w ∷ ws) zero h (suc y) = h (suc y)
-tagged_set o v t (w ∷ ws) (suc x) h zero = h zero
-tagged_set o v t (w ∷ ws) (suc x) h (suc y) = tagged_set o v t ws x (λ z. h (suc z)) y
+tagged_set : (functions : ℕ) (o : Objects) (v : Value) → IsTagged functions v o → (vs : List Value) (x : ℕ) → AreTagged functions vs o → AreTagged functions (set vs x v) o
+tagged_set functions o v t [] x h y = h y
+tagged_set functions o v t (w ∷ ws) zero h zero = t
+tagged_set functions o v t (w ∷ ws) zero h (suc y) = h (suc y)
+tagged_set functions o v t (w ∷ ws) (suc x) h zero = h zero
+tagged_set functions o v t (w ∷ ws) (suc x) h (suc y) = tagged_set _ o v t ws x (λ z. h (suc z)) y
 
-pub sure_set_plain : {sc : Context} (x : ℕ) (v : Value) → Sure sc (IsTagged v) (set_plain x v) (λ _ o. IsTagged v o)
+pub sure_set_plain : {sc : Context} (x : ℕ) (v : Value) → Sure sc (IsTagged (function_count sc) v) (set_plain x v) (λ _ o. IsTagged (function_count sc) v o)
 sure_set_plain x v = record {
   by = λ s good h. (
     record {
@@ -215,7 +215,7 @@ sure_set_plain x v = record {
         low = good.low;
         statics = good.statics;
         homes = good.homes;
-        plain = tagged_set s.objects v h s.plain x good.plain;
+        plain = tagged_set _ s.objects v h s.plain x good.plain;
         separate = good.separate;
       };
       lives = lives_same s.objects;
@@ -226,12 +226,12 @@ sure_set_plain x v = record {
   );
 }
 
-pub sure_update_plain : {sc : Context} {P : Objects → Type 0} (x : ℕ) (u : Update) (k : Scalar) (right : Value) (at : ℕ) (f : Fixity) → Sure sc P (update_plain x (updated u k right at) f) IsTagged
+pub sure_update_plain : {sc : Context} {P : Objects → Type 0} (x : ℕ) (u : Update) (k : Scalar) (right : Value) (at : ℕ) (f : Fixity) → Sure sc P (update_plain x (updated u k right at) f) (IsTagged (function_count sc))
 sure_update_plain x u k right at f =
     sure_on (sure_read {f = plain_value x} (λ s good h. good.plain x)) (λ old.
     sure_on (sure_weak (λ o h. (tt, h)) (sure_updated {P = Any} u k right at old)) (λ new.
-    sure_on (sure_weak (λ o h. (h.0.1, h.1)) (sure_frame (stable_tag old) (sure_set_plain x new))) (λ _.
-    sure_done {a = given f old new} (λ o h. given_tagged f old new o h.0 h.1))))
+    sure_on (sure_weak (λ o h. (h.0.1, h.1)) (sure_frame (stable_tag _ old) (sure_set_plain x new))) (λ _.
+    sure_done {a = given f old new} (λ o h. given_tagged _ f old new o h.0 h.1))))
 
 -- output and keys
 

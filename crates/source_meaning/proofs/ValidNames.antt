@@ -1,8 +1,8 @@
 -- A valid program names what is there.
 use Rattle.source_meaning.specs.Good.{basis_of, node_basis, object_kind, signature_in, static_kind}
 use Rattle.c_tree.specs.Valid.{Scope}
-use Rattle.std.proofs.Common.{◌≡◌, ℕ, ◌+◌, ◌^◌, ◌≤◌, nat_le, List, [], ◌∷◌, Bool, true, false, ◌&&◌, ◌==◌, not, zero, suc, None, if◌then◌else◌, Some, get_or, refl, sym, ap, ◌∙◌, subst, arith}
-use Rattle.std.proofs.lemmas.Bool.{eqb-true, leb-true}
+use Rattle.std.proofs.Common.{◌≡◌, ℕ, ◌+◌, ◌^◌, ◌<◌, ◌≤◌, nat_le, nat_lt, length, List, [], ◌∷◌, Bool, true, false, ◌&&◌, ◌==◌, not, zero, suc, None, if◌then◌else◌, Some, get_or, refl, sym, ap, ◌∙◌, subst, arith}
+use Rattle.std.proofs.lemmas.Bool.{eqb-true, leb-true, ltb-true}
 use Rattle.obj_memory.specs.declared.int_type.IntType.{IntType}
 use Rattle.obj_memory.specs.declared.int_type.IntType.TheVariants.{Char, SignedChar, UnsignedChar, Short, UnsignedShort, Int, UnsignedInt, Long, UnsignedLong, LongLong, UnsignedLongLong}
 use Rattle.obj_memory.specs.declared.value.Scalar.TheVariants.{Integer, Pointer}
@@ -255,7 +255,9 @@ module _ {scope : valid.Scope} {sc : Scope} (g : Agree scope sc) where
 
     pub value_names : (n : Node) (k : Kind) → is_node scope n k ≡ true → ValueNames sc n k
     value_names (constant w) k e = none_constant w k e
-    value_names (function f) k e = none_like k pointer (both _ (is_kind k pointer) e).1 tt
+    value_names (function f) k e =
+        let h = both (nat_lt f (length scope.functions)) (is_kind k pointer) e in
+        (subst (λ l. f < length l) g.functions (ltb-true f (length scope.functions) h.0), none_like k pointer h.1 tt)
     value_names (plain x) k e = none_plain scope x k e
     value_names (read l) k e =
         let h = three (is_valid_lvalue scope l) (is_kind k (lvalue_kind l)) (is_value k) e in (lvalue_names l h.0, same_kind k (lvalue_kind l) h.1)

@@ -1,9 +1,9 @@
 //! Laws of the definitions, each as the contract of a function that does nothing: layers above rest on
 //! them.
-ghost use Rattle.std.specs.Prelude.{◌≡◌, ◌≤◌, ℕ, List, Bool, true, false};
+ghost use Rattle.std.specs.Prelude.{◌≡◌, ◌≤◌, ℕ, List, Bool, true, false, length};
 ghost use Rattle.behaviours.specs.Behaviour.{IsSource};
 ghost use Rattle.sb_base.specs.Budgets.{BudgetSizes};
-ghost use Rattle.addr_map.specs.Places.{AreMapped};
+ghost use Rattle.addr_map.specs.Places.{AreMapped, MapSizes};
 ghost use Rattle.obj_memory.specs.declared.int_type.IntType.{IntType};
 ghost use Rattle.obj_memory.specs.declared.object.Storage.{Storage};
 ghost use Rattle.obj_memory.specs.declared.operator.BinaryOperator.{BinaryOperator};
@@ -38,9 +38,8 @@ ghost use Rattle.c_tree.specs.Walk.{assigns, lvalue_assigns};
 ghost use Rattle.source_meaning.specs.Staying.{Stays};
 ghost use Rattle.c_tree.specs.Valid.{Scope, are_valid, is_valid, is_valid_lvalue};
 ghost use Rattle.source_meaning.specs.Initializers.{initialize_all};
-ghost use Rattle.source_meaning.specs.Places.{heap_first, stack_end};
 ghost use Rattle.source_meaning.specs.Statements.{execute};
-ghost use Rattle.source_meaning.specs.Good.{EntersBy, IsEntered, Leaves, Any, ArgumentIs, ArgumentsAre, basis_of, Calling, CompletionIs, Context, context_of, file_scope, Inside, IsGood, LvalueIs, signature_in, Sure, ValueIs};
+ghost use Rattle.source_meaning.specs.Good.{EntersBy, IsEntered, Leaves, Any, ArgumentIs, ArgumentsAre, basis_of, Calling, CompletionIs, Context, context_of, file_scope, function_count, Inside, IsGood, LvalueIs, signature_in, Sure, ValueIs};
 ghost use Rattle.source_meaning.specs.Judging.{tested};
 ghost use Rattle.source_meaning.specs.Keeping.{IsDirect, IsSoundState};
 
@@ -67,13 +66,14 @@ pub fn objects_continue_along_a_run()
 pub fn runs_keep_objects_sound()
     ensures { (p : Program) (budgets : BudgetSizes) → AreMapped (setting_of p budgets).sizes
         → is_valid_program p ≡ true → (input : List ℕ) (t : ℕ)
-        → IsSoundState (state_of (outcome p budgets input t)) }
+        → IsSoundState (length p.functions) (setting_of p budgets).sizes (state_of (outcome p budgets input t)) }
 {}
 
 /// An access that is made is, at that moment, of bytes of a live object: one that is judged, through a pointer whose
 /// tag is sound, and one that names its object, where that is live.
 pub fn accesses_are_of_live_objects()
-    ensures judged { (size : ℕ) (p : Value) (line : ℕ) (s s' : State) (place : Place) → IsSoundTag s.objects p.tag
+    ensures judged { (functions size : ℕ) (p : Value) (line : ℕ) (s s' : State) (place : Place)
+        → IsSoundTag functions s.objects p.tag
         → located true size p line s ≡ Gives place s' → IsAllowed s.objects p size place }
     ensures named { (size : ℕ) (p : Value) (line : ℕ) (s s' : State) (place : Place) → IsDirect s.objects p size
         → located false size p line s ≡ Gives place s' → IsAllowed s.objects p size place }
@@ -133,38 +133,40 @@ pub fn calls_do_the_same_at_any_work()
 /// live object.
 pub fn expressions_keep_states_good()
     ensures value { (sc : Context) (env : Env) → Calling sc env → (e : Expression) → is_valid sc.scope e ≡ true
-        → Sure sc Any (evaluate env e) (ValueIs (kind_of e)) }
+        → Sure sc Any (evaluate env e) (ValueIs (function_count sc) (kind_of e)) }
     ensures lvalue { (sc : Context) (env : Env) → Calling sc env → (p : Lvalue) → is_valid_lvalue sc.scope p ≡ true
-        → Sure sc Any (place env p) (LvalueIs (basis_of p) (lvalue_kind p)) }
+        → Sure sc Any (place env p) (LvalueIs (function_count sc) (basis_of p) (lvalue_kind p)) }
     ensures arguments { (sc : Context) (env : Env) → Calling sc env → (es : Expressions) → are_valid sc.scope es ≡ true
-        → Sure sc Any (each_value (values env es)) (ArgumentsAre (kinds_of es)) }
+        → Sure sc Any (each_value (values env es)) (ArgumentsAre (function_count sc) (kinds_of es)) }
     ensures initializers { (sc : Context) (env : Env) → Calling sc env → (ds : List DeclaredVariable)
         → are_declared sc.scope ds ≡ true → Sure sc Any (initialize_all env ds) (λ _. Any) }
 {}
 
 /// So does every statement, wherever it stands, and leaves the names around it as they were.
 pub fn statements_keep_states_good()
-    ensures { (base : Scope) (boundary : ℕ) (env : Env) → Inside base boundary env → (vs : List Variable)
+    ensures { (base : Scope) (sizes : MapSizes) (env : Env) → Inside base sizes env → (vs : List Variable)
         (within : Surrounding) (s : Statement)
-        → is_statement (context_of base boundary env.variables vs).scope within s ≡ true
-        → Sure (context_of base boundary env.variables vs) Any (execute env s) (CompletionIs base.result) }
+        → is_statement (context_of base sizes env.variables vs).scope within s ≡ true
+        → Sure (context_of base sizes env.variables vs) Any (execute env s)
+        (CompletionIs (length base.functions) base.result) }
 {}
 
 /// So does every call of a valid program, and its first state is good: what the two laws above ask of calls.
 pub fn calls_keep_states_good()
     ensures call { (p : Program) (budgets : BudgetSizes) → AreMapped (setting_of p budgets).sizes → is_valid_program p ≡ true
         → (limit n : ℕ) (sc : Context) → sc.scope.statics ≡ (file_scope p).statics
-        → sc.boundary ≡ heap_first (setting_of p budgets) → (f : ℕ) (vs : List Rvalue) (line : ℕ)
-        → Sure sc (ArgumentsAre (signature_in (file_scope p).functions f).parameters vs)
+        → sc.scope.functions ≡ (file_scope p).functions → sc.sizes ≡ (setting_of p budgets).sizes
+        → (f : ℕ) (vs : List Rvalue) (line : ℕ)
+        → Sure sc (ArgumentsAre (function_count sc) (signature_in (file_scope p).functions f).parameters vs)
         (calls p.functions (setting_of p budgets) limit n f vs line)
-        (ArgumentIs (signature_in (file_scope p).functions f).result) }
+        (ArgumentIs (function_count sc) (signature_in (file_scope p).functions f).result) }
     ensures inside { (p : Program) (budgets : BudgetSizes) → AreMapped (setting_of p budgets).sizes
         → is_valid_program p ≡ true → (limit n : ℕ) (f : Function)
-        → Inside (function_scope p f) (heap_first (setting_of p budgets))
+        → Inside (function_scope p f) (setting_of p budgets).sizes
         (env_of p.functions (setting_of p budgets) limit n (all_of f)) }
     ensures start { (p : Program) (budgets : BudgetSizes) → AreMapped (setting_of p budgets).sizes
         → is_valid_program p ≡ true → (input : List ℕ)
-        → IsGood (record { scope = file_scope p; boundary = heap_first (setting_of p budgets) })
+        → IsGood (record { scope = file_scope p; sizes = (setting_of p budgets).sizes })
         (start p (setting_of p budgets) input) }
 {}
 
@@ -177,15 +179,15 @@ pub fn judgement_is_two_tests()
 /// A block that is entered from a good state is ended in it, or leaves a good one in which its variables have homes
 /// too; where it is left, the names around it are good again.
 pub fn blocks_keep_states_good()
-    ensures enter { (base : Scope) (boundary : ℕ) (all vars : List Variable) (numbers : List ℕ) (g : Setting)
-        → stack_end g ≤ boundary → boundary ≤ 1610612736 → (line : ℕ) (s : State)
-        → IsGood (context_of base boundary all vars) s
-        → EntersBy base boundary all vars numbers s (enter_block g (block_objects all numbers) line s) }
-    ensures leave { (base : Scope) (boundary : ℕ) (all vars : List Variable) (numbers : List ℕ) (s : State)
-        → IsGood (context_of base boundary all vars) s → (b : Block) (s1 s2 : State)
-        → IsEntered base boundary all vars numbers s b s1
-        → Leaves (context_of base boundary all (opened numbers 0 all vars)) s1 s2
-        → Leaves (context_of base boundary all vars) s (leave_block b s2) }
+    ensures enter { (base : Scope) (sizes : MapSizes) (all vars : List Variable) (numbers : List ℕ) (g : Setting)
+        → g.sizes ≡ sizes → AreMapped sizes → (line : ℕ) (s : State)
+        → IsGood (context_of base sizes all vars) s
+        → EntersBy base sizes all vars numbers s (enter_block g (block_objects all numbers) line s) }
+    ensures leave { (base : Scope) (sizes : MapSizes) (all vars : List Variable) (numbers : List ℕ) (s : State)
+        → IsGood (context_of base sizes all vars) s → (b : Block) (s1 s2 : State)
+        → IsEntered base sizes all vars numbers s b s1
+        → Leaves (context_of base sizes all (opened numbers 0 all vars)) s1 s2
+        → Leaves (context_of base sizes all vars) s (leave_block b s2) }
 {}
 
 /// A plain variable that an expression, an lvalue, a statement or an initializer does not assign, and every home, is as

@@ -256,12 +256,16 @@ read_apart Pointer v p Pointer q objects h place apart =
     (tag_apart v.tag p q after apart ∙ tags_after_bytes (little_bytes 8 v.word) p q objects)
 
 -- a value that is read
+-- eight bytes are a word
+pub number_below : (bytes : List ℕ) → ((k : ℕ) → get_or bytes k 0 < 256) → little_number 8 bytes < 2 ^ 64
+number_below bytes h = little_from-lt 0 8 bytes h
+
 pub read_below : {functions : ℕ} (s : Scalar) (p : Place) (objects : Objects) → IsSound functions objects
     → IsPlace objects p (scalar_size s)
     → (read_value s p objects).word < 2 ^ 64
 unfolding read_value
 read_below (Integer t) p objects h place = fit_below t _
-read_below Pointer p objects h place = little_from-lt 0 8 (bytes_at 8 p objects) (bytes_at_below 8 p objects h)
+read_below Pointer p objects h place = number_below (bytes_at 8 p objects) (bytes_at_below 8 p objects h)
 
 pub sound_read : {functions : ℕ} (s : Scalar) (p : Place) (objects : Objects) → IsSound functions objects
     → IsSoundTag functions objects (read_value s p objects).tag

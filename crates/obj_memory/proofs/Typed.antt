@@ -118,7 +118,7 @@ one_stays UnsignedLong = refl
 one_stays LongLong = refl
 one_stays UnsignedLongLong = refl
 
-truth_stays : (t : IntType) (b : Bool) → fit t (one_if b) ≡ one_if b
+pub truth_stays : (t : IntType) (b : Bool) → fit t (one_if b) ≡ one_if b
 truth_stays t true = one_stays t
 truth_stays t false = fit_zero t
 

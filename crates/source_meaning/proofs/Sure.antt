@@ -1,10 +1,14 @@
 -- Runs that keep objects sound: from a good state they come to a good one, with what is known of the value that they give;
 -- where they end or pause, objects and accesses are kept.
-use Rattle.source_meaning.specs.Good.{function_count, After, Any, AreLow, AreTagged, ArgumentIs, ArgumentsAre, Basis, Context, HasContents, IsGood, IsGoodBy, IsTagged, Leaves, LvalueIs, OnName, OnPointer, OnValue, RvalueReach, Stops, StructureIs, Sure, TakenIs, ValueIs}
-use Rattle.std.proofs.Common.{◌≡◌, ℕ, zero, suc, List, [], ◌∷◌, Bool, true, false, Option, Some, None, refl, sym, ◌∙◌, subst, arith}
+use Rattle.source_meaning.specs.Good.{function_count, After, Any, AreLow, AreTagged, ArgumentIs, ArgumentsAre, AreOfKinds, AreTyped, IsGiven, IsOfKind, IsOfType, IsWord, Basis, Context, HasContents, IsGood, IsGoodBy, IsTagged, Leaves, LvalueIs, OnName, OnPointer, OnValue, RvalueReach, Stops, StructureIs, Sure, TakenIs, ValueIs}
+use Rattle.std.proofs.Common.{◌≡◌, ℕ, ◌<◌, ◌^◌, zero, suc, List, [], ◌∷◌, Bool, true, false, Option, Some, None, refl, sym, ◌∙◌, subst, arith}
 use Rattle.sb_base.specs.declared.ending.Ending.{Ending}
 use Rattle.addr_map.specs.Places.{MapSizes}
 use Rattle.obj_memory.specs.declared.value.Value.{Value}
+use Rattle.obj_memory.specs.declared.value.Scalar.{Scalar}
+use Rattle.obj_memory.specs.declared.value.Scalar.TheVariants.{Integer, Pointer}
+use Rattle.obj_memory.proofs.Words.{fit_below, fit_zero}
+use Rattle.source_meaning.specs.Actions.{integer}
 use Rattle.obj_memory.specs.Objects.{ObjectState, Objects}
 use Rattle.obj_memory.specs.Sound.{IsSound, IsSoundTag, KeepsObjects, Continues}
 use Rattle.obj_memory.proofs.Soundness.{sound_tag_continues, sound_object_continues}
@@ -127,6 +131,7 @@ good_on sc s new h l sound low separate = record {
       let home = h.homes x kind e in
       record { object = home.object; home = home.home; held = held_on s.objects new l home.object kind home.held };
   plain = λ x. sound_tag_continues _ s.objects new l.continues _ (h.plain x);
+  typed = h.typed;
   separate = separate;
 }
 
@@ -162,12 +167,13 @@ DirectIf (Array n) v objects = Unit {0}
 pub record PlaceValueIs (functions : ℕ) (kind : Kind) (v : Value) (objects : Objects) : Type 0 where
   pub tag : IsSoundTag functions objects v.tag
   pub structure : DirectIf kind v objects
+  pub word : IsOfKind functions kind v
 
 -- an argument or a result of a kind: a structure has its contents
 
 -- a scalar, as an expression gives it
-abbrev pub GivesScalar : (functions : ℕ) → Rvalue → Objects → Type 0
-GivesScalar functions v o = IsTagged functions v.value o × (v.contents ≡ None)
+abbrev pub GivesScalar : (functions : ℕ) → Kind → Rvalue → Objects → Type 0
+GivesScalar functions kind v o = IsTagged functions v.value o × (v.contents ≡ None) × IsOfKind functions kind v.value
 
 abbrev pub ReachBy : Basis → (size : ℕ) → Value → Objects → Type 0
 ReachBy OnName size v objects = IsNamed objects v size
@@ -202,10 +208,10 @@ taken_on functions n None v old new l h = h
 taken_on functions n (Some c) v old new l h = contents_on _ n v.word c old new l h
 
 pub argument_on : (functions : ℕ) (kind : Kind) (v : Rvalue) (old new : Objects) → Continues old new → ArgumentIs functions kind v old → ArgumentIs functions kind v new
-argument_on functions Void v old new l h = record { tag = sound_tag_continues _ old new l v.value.tag h.tag; structure = h.structure }
-argument_on functions (OfScalar k) v old new l h = record { tag = sound_tag_continues _ old new l v.value.tag h.tag; structure = h.structure }
-argument_on functions (Structure n) v old new l h = record { tag = sound_tag_continues _ old new l v.value.tag h.tag; structure = taken_on _ n v.contents v.value old new l h.structure }
-argument_on functions (Array n) v old new l h = record { tag = sound_tag_continues _ old new l v.value.tag h.tag; structure = h.structure }
+argument_on functions Void v old new l h = record { tag = sound_tag_continues _ old new l v.value.tag h.tag; structure = h.structure; word = h.word }
+argument_on functions (OfScalar k) v old new l h = record { tag = sound_tag_continues _ old new l v.value.tag h.tag; structure = h.structure; word = h.word }
+argument_on functions (Structure n) v old new l h = record { tag = sound_tag_continues _ old new l v.value.tag h.tag; structure = taken_on _ n v.contents v.value old new l h.structure; word = h.word }
+argument_on functions (Array n) v old new l h = record { tag = sound_tag_continues _ old new l v.value.tag h.tag; structure = h.structure; word = h.word }
 
 pub stable_argument : (functions : ℕ) (kind : Kind) (v : Rvalue) → IsStable (ArgumentIs functions kind v)
 stable_argument functions kind v old new l h = argument_on _ kind v old new l.continues h
@@ -221,10 +227,10 @@ taken_structure functions n None v o h = absurd h
 taken_structure functions n (Some c) v o h = h
 
 pub argument_value : (functions : ℕ) (kind : Kind) (v : Rvalue) (o : Objects) → ArgumentIs functions kind v o → ValueIs functions kind v o
-argument_value functions Void v o h = record { tag = h.tag; structure = h.structure }
-argument_value functions (OfScalar k) v o h = record { tag = h.tag; structure = h.structure }
-argument_value functions (Structure n) v o h = record { tag = h.tag; structure = taken_structure _ n v.contents v.value o h.structure }
-argument_value functions (Array n) v o h = record { tag = h.tag; structure = h.structure }
+argument_value functions Void v o h = record { tag = h.tag; structure = h.structure; word = h.word }
+argument_value functions (OfScalar k) v o h = record { tag = h.tag; structure = h.structure; word = h.word }
+argument_value functions (Structure n) v o h = record { tag = h.tag; structure = taken_structure _ n v.contents v.value o h.structure; word = h.word }
+argument_value functions (Array n) v o h = record { tag = h.tag; structure = h.structure; word = h.word }
 
 -- the tags of arguments
 pub arguments_tagged : (functions : ℕ) (ks : List Kind) (vs : List Rvalue) (o : Objects) → ArgumentsAre functions ks vs o → AreTagged functions (values_of vs) o
@@ -234,41 +240,71 @@ arguments_tagged functions (k ∷ ks) [] o h x = absurd h
 arguments_tagged functions (k ∷ ks) (v ∷ vs) o h zero = h.0.tag
 arguments_tagged functions (k ∷ ks) (v ∷ vs) o h (suc x) = arguments_tagged _ ks vs o h.1 x
 
+-- the arguments of a routine
+pub arguments_of_kinds : (functions : ℕ) (ks : List Kind) (vs : List Rvalue) (o : Objects) → ArgumentsAre functions ks vs o → AreOfKinds functions ks (values_of vs)
+arguments_of_kinds functions [] [] o h x = λ _. omega arith
+arguments_of_kinds functions [] (v ∷ vs) o h x = absurd h
+arguments_of_kinds functions (k ∷ ks) [] o h x = absurd h
+arguments_of_kinds functions (k ∷ ks) (v ∷ vs) o h zero = h.0.word
+arguments_of_kinds functions (k ∷ ks) (v ∷ vs) o h (suc x) = arguments_of_kinds functions ks vs o h.1 x
+
+-- words
+
+pub word_of_type : (functions : ℕ) (k : Scalar) (v : Value) → IsOfType functions k v → IsWord functions v.word
+word_of_type functions (Integer t) v h = λ _. subst (λ w. w < 2 ^ 64) h.1 (fit_below t v.word)
+word_of_type functions Pointer v h = h
+
+pub word_of_kind : (functions : ℕ) (kind : Kind) (v : Value) → IsOfKind functions kind v → IsWord functions v.word
+word_of_kind functions Void v h = h
+word_of_kind functions (OfScalar k) v h = word_of_type functions k v h
+word_of_kind functions (Structure n) v h = h
+word_of_kind functions (Array n) v h = h
+
+pub zero_of_type : (functions : ℕ) (k : Scalar) → IsOfType functions k (integer 0)
+zero_of_type functions (Integer t) = (refl, fit_zero t)
+zero_of_type functions Pointer = λ _. omega arith
+
+pub zero_of_kind : (functions : ℕ) (kind : Kind) → IsOfKind functions kind (integer 0)
+zero_of_kind functions Void = λ _. omega arith
+zero_of_kind functions (OfScalar k) = zero_of_type functions k
+zero_of_kind functions (Structure n) = λ _. omega arith
+zero_of_kind functions (Array n) = λ _. omega arith
+
 -- values of a kind that is no structure
 
-pub value_is : (functions : ℕ) (kind : Kind) (v : Rvalue) (objects : Objects) → IsNoStructure kind → GivesScalar functions v objects → ValueIs functions kind v objects
-value_is functions Void v objects n h = record { tag = h.0; structure = h.1 }
-value_is functions (OfScalar k) v objects n h = record { tag = h.0; structure = h.1 }
+pub value_is : (functions : ℕ) (kind : Kind) (v : Rvalue) (objects : Objects) → IsNoStructure kind → GivesScalar functions kind v objects → ValueIs functions kind v objects
+value_is functions Void v objects n h = record { tag = h.0; structure = h.1; word = h.2 }
+value_is functions (OfScalar k) v objects n h = record { tag = h.0; structure = h.1; word = h.2 }
 value_is functions (Structure m) v objects n h = absurd n
-value_is functions (Array m) v objects n h = record { tag = h.0; structure = h.1 }
+value_is functions (Array m) v objects n h = record { tag = h.0; structure = h.1; word = h.2 }
 
-pub argument_is : (functions : ℕ) (kind : Kind) (v : Rvalue) (objects : Objects) → IsNoStructure kind → GivesScalar functions v objects → ArgumentIs functions kind v objects
-argument_is functions Void v objects n h = record { tag = h.0; structure = h.1 }
-argument_is functions (OfScalar k) v objects n h = record { tag = h.0; structure = h.1 }
+pub argument_is : (functions : ℕ) (kind : Kind) (v : Rvalue) (objects : Objects) → IsNoStructure kind → GivesScalar functions kind v objects → ArgumentIs functions kind v objects
+argument_is functions Void v objects n h = record { tag = h.0; structure = h.1; word = h.2 }
+argument_is functions (OfScalar k) v objects n h = record { tag = h.0; structure = h.1; word = h.2 }
 argument_is functions (Structure m) v objects n h = absurd n
-argument_is functions (Array m) v objects n h = record { tag = h.0; structure = h.1 }
+argument_is functions (Array m) v objects n h = record { tag = h.0; structure = h.1; word = h.2 }
 
 pub place_value : (functions : ℕ) (kind : Kind) (v : Value) (objects : Objects) → PlaceValueIs functions kind v objects → ValueIs functions kind (rvalue v) objects
-place_value functions Void v objects h = record { tag = h.tag; structure = refl }
-place_value functions (OfScalar k) v objects h = record { tag = h.tag; structure = refl }
-place_value functions (Structure n) v objects h = record { tag = h.tag; structure = h.structure }
-place_value functions (Array n) v objects h = record { tag = h.tag; structure = refl }
+place_value functions Void v objects h = record { tag = h.tag; structure = refl; word = h.word }
+place_value functions (OfScalar k) v objects h = record { tag = h.tag; structure = refl; word = h.word }
+place_value functions (Structure n) v objects h = record { tag = h.tag; structure = h.structure; word = h.word }
+place_value functions (Array n) v objects h = record { tag = h.tag; structure = refl; word = h.word }
 
 -- of a kind that is no structure
-pub plainly : {sc : Context} {P : Objects → Type 0} {r : Run Rvalue} {kind : Kind} → IsNoStructure kind → Sure sc P r (GivesScalar (function_count sc)) → Sure sc P r (ValueIs (function_count sc) kind)
+pub plainly : {sc : Context} {P : Objects → Type 0} {r : Run Rvalue} {kind : Kind} → IsNoStructure kind → Sure sc P r (GivesScalar (function_count sc) kind) → Sure sc P r (ValueIs (function_count sc) kind)
 plainly {kind = kind} n h = sure_post (λ v o t. value_is _ kind v o n t) h
 
 pub of_kind : {sc : Context} {P : Objects → Type 0} {r : Run Rvalue} {kind other : Kind} → kind ≡ other → Sure sc P r (ValueIs (function_count sc) other) → Sure sc P r (ValueIs (function_count sc) kind)
 of_kind {sc = sc} {P = P} {r = r} e h = subst (λ k. Sure sc P r (ValueIs (function_count sc) k)) (sym e) h
 
-pub sure_give : {sc : Context} {P : Objects → Type 0} {v : Value} → ((o : Objects) → P o → IsTagged (function_count sc) v o) → Sure sc P (give v) (GivesScalar (function_count sc))
-sure_give w = sure_done (λ o p. (w o p, refl))
+pub sure_give : {sc : Context} {P : Objects → Type 0} {v : Value} (kind : Kind) → ((o : Objects) → P o → IsGiven (function_count sc) kind v o) → Sure sc P (give v) (GivesScalar (function_count sc) kind)
+sure_give kind w = sure_done (λ o p. ((w o p).0, refl, (w o p).1))
 
-pub as_sure : {sc : Context} {P : Objects → Type 0} {r : Run Value} → Sure sc P r (IsTagged (function_count sc)) → Sure sc P (as_rvalue r) (GivesScalar (function_count sc))
-as_sure h = sure_on h (λ v. sure_give {v = v} (λ o t. t))
+pub as_sure : {sc : Context} {P : Objects → Type 0} {r : Run Value} (kind : Kind) → Sure sc P r (IsGiven (function_count sc) kind) → Sure sc P (as_rvalue r) (GivesScalar (function_count sc) kind)
+as_sure kind h = sure_on h (λ v. sure_give {v = v} kind (λ o t. t))
 
-pub pointer_sure : {sc : Context} {P : Objects → Type 0} {r : Run Rvalue} → Sure sc P r (λ v o. IsTagged (function_count sc) v.value o) → Sure sc P (as_pointer r) (GivesScalar (function_count sc))
-pointer_sure h = sure_on h (λ v. sure_give {v = v.value} (λ o t. t))
+pub pointer_sure : {sc : Context} {P : Objects → Type 0} {r : Run Rvalue} (kind : Kind) → Sure sc P r (λ v o. IsGiven (function_count sc) kind v.value o) → Sure sc P (as_pointer r) (GivesScalar (function_count sc) kind)
+pointer_sure kind h = sure_on h (λ v. sure_give {v = v.value} kind (λ o t. t))
 
 pub stable_tagged : (functions : ℕ) (vs : List Value) → IsStable (AreTagged functions vs)
 stable_tagged functions vs old new l h = λ x. sound_tag_continues _ old new l.continues _ (h x)

@@ -1,6 +1,6 @@
 -- A block keeps objects sound: its own are new, and die where it is left, and the names around it are good again.
 use Rattle.source_meaning.specs.Good.{function_count, IsEntered, EntersBy}
-use Rattle.source_meaning.specs.Good.{After, Any, AreTagged, CompletionIs, Context, HasHome, IsGood, Leaves, Sure, context_of, object_kind}
+use Rattle.source_meaning.specs.Good.{After, Any, AreTyped, AreTagged, CompletionIs, Context, HasHome, IsGood, Leaves, Sure, context_of, object_kind}
 use Rattle.c_tree.specs.Valid.{Scope}
 use Rattle.std.proofs.Common.{◌≡◌, ℕ, zero, suc, ◌+◌, ◌≤◌, List, [], ◌∷◌, map, Bool, true, false, ◌||◌, Some, None, length, get_or, if◌then◌else◌, refl, sym, subst, nat_le, nat_lt}
 use Rattle.std.proofs.lemmas.Bool.{leb-true}
@@ -22,6 +22,8 @@ use Rattle.source_meaning.specs.Keeping.{AllLie, LivesOn}
 use Rattle.source_meaning.proofs.ActionsAct.{continues_without}
 use Rattle.source_meaning.proofs.Separating.{separate_without, separate_back}
 use Rattle.source_meaning.proofs.Holding.{all_lie_on, lives_then, held_on}
+use Rattle.source_meaning.proofs.Typing.{opened_as}
+use Rattle.obj_memory.specs.declared.value.Value.{Value}
 use Rattle.source_meaning.proofs.Sure.{stops_same, stops_then, argument_on, stable_tagged}
 use Rattle.source_meaning.proofs.Laying.{PlacedHome, placed_home, placed_from, without_sound, without_low, without_lives, ends_but_then, ends_without, Placed, PlacesBy, places}
 use Rattle.source_meaning.specs.Good.{AllFrom, EndsBut}
@@ -117,6 +119,10 @@ module _ (base : Scope) (sizes : MapSizes) (all vars : List Variable) (numbers :
   abbrev own : List Variable
   own = block_objects all numbers
 
+  -- where the block is entered, more objects can be named, and the same plain variables
+  opened_typed : (functions : ℕ) (values : List Value) → AreTyped functions sc.scope values → AreTyped functions inner.scope values
+  opened_typed functions values h = record { value = h.value; named = opened_as numbers 0 all vars h.named }
+
   homes_lived : (s s' : State) → IsGood sc s → LivesOn s.objects s'.objects → s'.frame ≡ s.frame → HomesOf vars s'.frame s'.objects
   homes_lived s s' good l same x kind e =
       let home = good.homes x kind e in
@@ -140,6 +146,7 @@ module _ (base : Scope) (sizes : MapSizes) (all vars : List Variable) (numbers :
           (λ x kind e. let home = good.homes x kind e in record { object = home.object; home = home.home; held = held_on s.objects s2.objects h.0.lives home.object kind home.held })
           h.0.placed;
       plain = subst (λ x. AreTagged (function_count sc) x s2.objects) (sym h.2) (stable_tagged _ s.plain s.objects s2.objects h.0.lives good.plain);
+      typed = subst (AreTyped (function_count sc) inner.scope) (sym h.2) (opened_typed (function_count sc) s.plain good.typed);
       separate = h.0.separate;
     };
     lives = h.0.lives;
@@ -189,6 +196,7 @@ module _ (base : Scope) (sizes : MapSizes) (all vars : List Variable) (numbers :
               let home = good.homes x kind e in
               record { object = home.object; home = home.home; held = held_on s.objects (without_homes homes s2.objects) l home.object kind home.held };
           plain = λ x. sound_tag_continues _ s2.objects (without_homes homes s2.objects) c _ (after.plain x);
+          typed = record { value = after.typed.value; named = good.typed.named };
           separate = separate_back sizes s.stacked s2.stacked s.objects (without_homes homes s2.objects) good.separate (separate_without sizes s2.stacked homes s2.objects after.separate) l.continues ended;
         };
         lives = l;
@@ -222,12 +230,13 @@ module _ (base : Scope) (sizes : MapSizes) (all vars : List Variable) (numbers :
     statics = good.statics;
     homes = λ x kind e. good.homes x kind (names_same numbers 0 all vars none x kind e);
     plain = good.plain;
+    typed = opened_typed (function_count sc) s.plain good.typed;
     separate = good.separate;
   }
 
   leaves_outside : (s s' : State) → IsGood sc s → Leaves inner s s' → Leaves sc s s'
   leaves_outside s s' good h = record {
-    good = record { kept = h.good.kept; low = h.good.low; statics = h.good.statics; homes = homes_lived s s' good h.lives h.frame; plain = h.good.plain; separate = h.good.separate };
+    good = record { kept = h.good.kept; low = h.good.low; statics = h.good.statics; homes = homes_lived s s' good h.lives h.frame; plain = h.good.plain; typed = record { value = h.good.typed.value; named = good.typed.named }; separate = h.good.separate };
     lives = h.lives;
     frame = h.frame;
     ended = h.ended;

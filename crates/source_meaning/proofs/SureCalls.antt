@@ -1,5 +1,5 @@
 -- Calls keep objects sound: those of the callee are new, and die at its return, and the caller's names are good again.
-use Rattle.source_meaning.specs.Good.{function_count, After, Any, AreLow, AreTagged, ArgumentIs, ArgumentsAre, CompletionIs, Context, Inside, IsGood, IsHeld, IsTagged, Leaves, OnName, Stops, Sure, signature_in}
+use Rattle.source_meaning.specs.Good.{function_count, After, Any, AreLow, AreTyped, AreTagged, ArgumentIs, ArgumentsAre, CompletionIs, Context, Inside, IsGood, IsHeld, IsTagged, Leaves, OnName, Stops, Sure, signature_in}
 use Rattle.std.proofs.Common.{◌≡◌, ℕ, zero, suc, ◌+◌, ◌≤◌, List, [], ◌∷◌, ◌++◌, map, Bool, true, false, length, if◌then◌else◌, refl, sym, ap, ◌∙◌, subst, nat_le, nat_lt}
 use Rattle.std.proofs.lemmas.Bool.{leb-true}
 use Rattle.sb_base.specs.declared.ending.Ending.TheVariants.{Stack, Keys}
@@ -32,7 +32,8 @@ use Rattle.source_meaning.proofs.Holding.{all_lie_on, lives_same, lives_then, he
 use Rattle.source_meaning.proofs.Sure.{stops_then, IsStable, sure_on, sure_weak, sure_any, sure_post, sure_frame, sure_done, sure_skip, sure_read, sure_counted, PlaceIs, argument_on, argument_value, stable_tagged, stable_arguments}
 use Rattle.source_meaning.proofs.SureStructures.{sure_write_rvalue, zero_argument}
 use Rattle.source_meaning.proofs.SureFlow.{sure_begin_turn, row_sure}
-use Rattle.c_tree.specs.Blocks.{all_of, body_variables}
+use Rattle.c_tree.specs.Blocks.{all_of, block_variables, body_variables}
+use Rattle.source_meaning.proofs.Typing.{entered_as, values_typed}
 use Rattle.source_meaning.proofs.Laying.{low_word, PlacedHome, Placed, placed_homes, placed_on, placed_from, without_sound, without_low, without_lives, ends_but_then, ends_without, PlacesBy, places}
 use Rattle.source_meaning.specs.Good.{AllFrom, EndsBut}
 
@@ -174,6 +175,10 @@ module _ (u : ProgramNames) (f : Function) (names : FunctionNames u f) (g : Sett
           homes = placed_homes (length s.objects) (body_objects head) homes s2.objects placed;
           plain = subst (λ x. AreTagged (length u.functions) x s2.objects) (sym (h.2 ∙ w)) (both_tagged _ (parameter_values head.parameters vs) (map (λ _. integer 0) head.variables) s2.objects
               (parameters_tagged _ head.parameters vs s2.objects (stable_arguments _ (kinds_in f.parameters) vs s.objects s2.objects lives tagged)) (zeros_tagged _ head.variables s2.objects));
+          typed = subst (AreTyped (length u.functions) inner.scope) (sym (h.2 ∙ w)) (record {
+            value = values_typed (length u.functions) f.parameters f.variables vs s.objects tagged;
+            named = entered_as f.parameters f.variables (block_variables f.body);
+          });
           separate = h.0.separate;
         } in
         written s s3 lives (placed_from (length s.objects) (body_objects head) homes s2.objects placed) ends (write_parameters head.parameters homes line vs s3)
@@ -227,6 +232,7 @@ module _ (u : ProgramNames) (f : Function) (names : FunctionNames u f) (g : Sett
                 let home = good.homes x kind e in
                 record { object = home.object; home = home.home; held = held_on s.objects (without_homes s2.frame s2.objects) l home.object kind home.held };
             plain = stable_tagged _ s.plain s.objects (without_homes s2.frame s2.objects) l good.plain;
+            typed = good.typed;
             separate = separate_back sizes s.stacked s2.stacked s.objects (without_homes s2.frame s2.objects) good.separate (separate_without sizes s2.stacked s2.frame s2.objects after.separate) l.continues ended;
           };
           lives = l;

@@ -22,7 +22,7 @@ use Rattle.c_tree.specs.Blocks.{opened, block_variables, switch_variables, first
 use Rattle.source_meaning.proofs.SureBlocks.{scoped_sure}
 use Rattle.source_meaning.proofs.Separating.{ends_same}
 use Rattle.source_meaning.proofs.Holding.{lives_same}
-use Rattle.source_meaning.proofs.Sure.{sure_on, sure_any, sure_done, sure_skip, sure_pause, sure_tally, sure_counted, sure_choose, argument_is}
+use Rattle.source_meaning.proofs.Sure.{zero_of_kind, sure_on, sure_any, sure_done, sure_skip, sure_pause, sure_tally, sure_counted, sure_choose, argument_is}
 use Rattle.source_meaning.proofs.SureTree.{evaluate_sure, argument_sure, initialize_all_sure}
 
 -- the items of a switch
@@ -145,7 +145,7 @@ module _ {base : Scope} {sizes : MapSizes} {env : Env} (i : Inside base sizes en
         sure_any (sure_counted (blocked vs (switch_variables is) line (switch_sure (at d) base.result v.value.word (items_of env is) (switch_items_sure d is h.1))))))
     execute_sure vs break h = sure_counted (sure_done (λ o p. tt))
     execute_sure vs continue h = sure_counted (sure_done (λ o p. tt))
-    execute_sure vs (return None) h = sure_counted (sure_done {a = Returned (rvalue (integer 0))} (λ o p. argument_is _ base.result (rvalue (integer 0)) o (subst IsNoStructure (sym h) tt) (tt, refl)))
+    execute_sure vs (return None) h = sure_counted (sure_done {a = Returned (rvalue (integer 0))} (λ o p. argument_is _ base.result (rvalue (integer 0)) o (subst IsNoStructure (sym h) tt) (tt, refl, zero_of_kind _ base.result)))
     execute_sure vs (return (Some e)) h =
         sure_counted (sure_on (argument_sure (i.calling vs) e h.0) (λ v. sure_done {a = Returned v} (λ o x. subst (λ k. ArgumentIs (length base.functions) k v o) h.1 x)))
 

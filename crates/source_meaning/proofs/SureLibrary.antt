@@ -1,12 +1,16 @@
 -- The routines of the library keep objects sound.
-use Rattle.source_meaning.specs.Good.{function_count, After, Any, AreTagged, Context, IsGood, IsTagged, Leaves, OnValue, Sure}
-use Rattle.std.proofs.Common.{◌≡◌, ℕ, ◌+◌, ◌*◌, ◌%◌, ◌≤◌, ◌<◌, List, [], ◌∷◌, Bool, true, false, ◌&&◌, Option, Some, None, length, min, if◌then◌else◌, refl, sym, ap, ◌∙◌, subst, arith, nat_lt}
+use Rattle.source_meaning.specs.Good.{function_count, After, Any, AreGiven, IsGiven, IsWord, AreTagged, Context, IsGood, IsTagged, Leaves, OnValue, Sure}
+use Rattle.std.proofs.Common.{◌≡◌, ℕ, ◌+◌, ◌-◌, ◌*◌, ◌%◌, ◌^◌, ◌≤◌, ◌<◌, List, [], ◌∷◌, Bool, true, false, ◌&&◌, Option, Some, None, length, min, if◌then◌else◌, refl, sym, ap, ◌∙◌, subst, arith, nat_lt}
 use Rattle.std.proofs.lemmas.Bool.{ltb-true, ltb-false}
 use Rattle.addr_map.specs.Places.{MapSizes, AreMapped, region_start, region_end}
 use Rattle.addr_map.specs.declared.region.Region.TheVariants.{Heap as HeapRegion}
 use Rattle.addr_map.proofs.Order.{ends_low, starts_whole}
 use Rattle.sb_base.specs.declared.ending.Ending.TheVariants.{BadFree}
-use Rattle.obj_memory.specs.declared.int_type.IntType.TheVariants.{Char}
+use Rattle.obj_memory.specs.declared.int_type.IntType.TheVariants.{Char, Int}
+use Rattle.obj_memory.specs.declared.value.Scalar.TheVariants.{Integer, Pointer}
+use Rattle.c_tree.specs.declared.expression.Kind.{Kind}
+use Rattle.c_tree.specs.declared.expression.Kind.TheVariants.{Void, Scalar as OfScalar}
+use Rattle.c_tree.specs.Kinds.{routine_signature}
 use Rattle.obj_memory.specs.declared.value.Place.{Place}
 use Rattle.obj_memory.specs.declared.value.Tag.{Tag}
 use Rattle.obj_memory.specs.declared.value.Tag.TheVariants.{Untagged, OfFunction, OfObject}
@@ -35,7 +39,7 @@ use Rattle.source_meaning.specs.Strings.{reach}
 use Rattle.source_meaning.specs.Keeping.{IsDirect}
 use Rattle.source_meaning.proofs.Holding.{beyond, length-new, length-dead, lives_same, lives_kept, lives_new, lives_dead_block}
 use Rattle.source_meaning.proofs.Sure.{IsStable, sure_frame, sure_beside, sure_objects, stable_tag, stable_tagged, sure_on, sure_weak, sure_any, sure_post, sure_done, sure_stop, sure_read, sure_tally, sure_choose, good_on}
-use Rattle.source_meaning.proofs.SureActions.{sure_located, sure_put_bytes, sure_take_key}
+use Rattle.source_meaning.proofs.SureActions.{stable_beside, sure_located, sure_put_bytes, sure_take_key}
 use Rattle.source_meaning.proofs.SureBytes.{sure_memmove, sure_memset, sure_memcmp, sure_strlen, sure_compare_within, sure_strcpy, sure_strncpy, sure_strcat, sure_seek_within, sure_puts}
 use Rattle.source_meaning.proofs.Laying.{low_word, fresh_live, fresh_size, low_new, low_dead}
 use Rattle.source_meaning.proofs.Separating.{separate_dead, separate_block, ends_same, ends_as_many, ends_block}
@@ -80,7 +84,11 @@ fresh_new storage address size objects =
 
 -- a null pointer, or one to some bytes of a live object
 abbrev pub IsPointerTo : (functions : ℕ) (size : ℕ) → Value → Objects → Type 0
-IsPointerTo functions size v o = IsTagged functions v o × (is_zero v ≡ false → IsDirect o v size)
+IsPointerTo functions size v o = IsTagged functions v o × (is_zero v ≡ false → IsDirect o v size) × IsWord functions v.word
+
+pointer_word : (functions n : ℕ) (objects : Objects) → (object_at objects n).address + (object_at objects n).size < 2 ^ 64 → IsWord functions (pointer_to n objects).word
+unfolding pointer_to
+pointer_word functions n objects low = λ _. omega (arith, low)
 
 fresh_direct : (size n : ℕ) (objects : Objects) → IsFresh size n objects → IsDirect objects (pointer_to n objects) size
 unfolding pointer_to
@@ -161,13 +169,13 @@ module _ (g : Setting) (mapped : AreMapped g.sizes) where
   place_of false p address e = absurd (cc)
 
   sure_make_block : {sc : Context} → g.sizes ≡ sc.sizes → (size line : ℕ) (place : Option ℕ) → Sure sc (λ o. block_place g size o ≡ place) (make_block g size line place) (IsPointerTo (function_count sc) size)
-  sure_make_block least size line None = sure_done {a = integer 0} (λ o p. (tt, λ (e : true ≡ false). absurd cc))
+  sure_make_block least size line None = sure_done {a = integer 0} (λ o p. (tt, (λ (e : true ≡ false). absurd cc), λ _. omega arith))
   sure_make_block {sc = sc} least size line (Some address) =
       sure_on (sure_weak {P = IsAt sc.sizes address size}
       (λ o e. placed_at sc.sizes least size o address (least_place_found (heap_first g) (heap_last g) size o address (place_of (nat_lt (block_count o) g.sizes.budgets.blocks) (least_place (heap_first g) (heap_last g) size o) address e)))
       (sure_take_key g line)) (λ _.
       sure_on (sure_make_object address size) (λ n.
-      sure_read {f = λ s. pointer_to n s.objects} (λ s good p. (sound_pointer _ n s.objects p.made (low_word s.objects n good.low), λ _. fresh_direct size n s.objects p))))
+      sure_read {f = λ s. pointer_to n s.objects} (λ s good p. (sound_pointer _ n s.objects p.made (low_word s.objects n good.low), (λ _. fresh_direct size n s.objects p), pointer_word _ n s.objects (low_word s.objects n good.low)))))
 
   pub sure_allocate : {sc : Context} → g.sizes ≡ sc.sizes → (size line : ℕ) → Sure sc Any (allocate g size line) (IsPointerTo (function_count sc) size)
   sure_allocate least size line =
@@ -206,8 +214,10 @@ sure_freed p line = sure_freed_by p.tag p.word line
 pub sure_release : {sc : Context} (n : ℕ) → Sure sc (IsBlock n) (release n) (λ _. Any)
 sure_release n = sure_on (sure_tally_blocks {P = IsBlock n}) (λ _. sure_dead n)
 
-sure_free : {sc : Context} (p : Value) (line : ℕ) → Sure sc Any (free p line) (IsTagged (function_count sc))
-sure_free p line = sure_choose (is_zero p) (sure_done (λ o h. tt)) (sure_on (sure_freed p line) (λ n. sure_on (sure_release n) (λ _. sure_done {a = integer 0} (λ o h. tt))))
+sure_free : {sc : Context} (p : Value) (line : ℕ) → Sure sc Any (free p line) (IsGiven (function_count sc) Void)
+sure_free p line =
+    sure_choose (is_zero p) (sure_done (λ o h. (tt, λ _. omega arith)))
+    (sure_on (sure_freed p line) (λ n. sure_on (sure_release n) (λ _. sure_done {a = integer 0} (λ o h. (tt, λ _. omega arith)))))
 
 -- a block in place of another
 
@@ -255,50 +265,63 @@ sure_move_block {sc = sc} n new size line =
 
 -- input and output
 
-sure_putchar : {sc : Context} {P : Objects → Type 0} (c : Value) → Sure sc P (putchar c) (IsTagged (function_count sc))
-sure_putchar {P = P} c = sure_on (sure_put_bytes {P = P} (c.word % 256 ∷ [])) (λ _. sure_done {a = integer (c.word % 256)} (λ o h. tt))
+-- a byte is an int, and so is -1
+byte_is : (x : ℕ) → fit Int (x % 256) ≡ x % 256
+unfolding fit
+byte_is x = grind arith
 
-byte_by : (sc : Context) (bytes : List ℕ) (s : State) → IsGood sc s → After sc s (IsTagged (function_count sc)) (next_byte bytes s)
-byte_by sc [] s good = (record { good = good; lives = lives_same s.objects; frame = refl; ended = ends_same s.objects }, tt)
-byte_by sc (b ∷ bs) s good = (record { good = good; lives = lives_same s.objects; frame = refl; ended = ends_same s.objects }, tt)
+end_is : fit Int (2 ^ 64 - 1) ≡ 2 ^ 64 - 1
+unfolding fit
+end_is = refl
+
+sure_putchar : {sc : Context} {P : Objects → Type 0} (c : Value) → Sure sc P (putchar c) (IsGiven (function_count sc) (OfScalar (Integer Int)))
+sure_putchar {P = P} c = sure_on (sure_put_bytes {P = P} (c.word % 256 ∷ [])) (λ _. sure_done {a = integer (c.word % 256)} (λ o h. (tt, (refl, byte_is c.word))))
+
+byte_by : (sc : Context) (bytes : List ℕ) (s : State) → IsGood sc s → After sc s (IsGiven (function_count sc) (OfScalar (Integer Int))) (next_byte bytes s)
+byte_by sc [] s good = (record { good = good; lives = lives_same s.objects; frame = refl; ended = ends_same s.objects }, (tt, (refl, end_is)))
+byte_by sc (b ∷ bs) s good = (record { good = good; lives = lives_same s.objects; frame = refl; ended = ends_same s.objects }, (tt, (refl, byte_is b)))
 
 module _ (g : Setting) (mapped : AreMapped g.sizes) {sc : Context} (least : g.sizes ≡ sc.sizes) where
-  sure_malloc : (size line : ℕ) → Sure sc Any (allocate g size line) (IsTagged (function_count sc))
-  sure_malloc size line = sure_post (λ v o x. x.0) (sure_allocate g mapped least size line)
+  sure_malloc : (size line : ℕ) → Sure sc Any (allocate g size line) (IsGiven (function_count sc) (OfScalar Pointer))
+  sure_malloc size line = sure_post (λ v o x. (x.0, x.2)) (sure_allocate g mapped least size line)
 
-  sure_calloc : (count size : Value) (line : ℕ) → Sure sc Any (calloc g count size line) (IsTagged (function_count sc))
-  sure_calloc count size line = sure_choose _ (sure_malloc (count.word * size.word) line) (sure_done {a = integer 0} (λ o h. tt))
+  sure_calloc : (count size : Value) (line : ℕ) → Sure sc Any (calloc g count size line) (IsGiven (function_count sc) (OfScalar Pointer))
+  sure_calloc count size line = sure_choose _ (sure_malloc (count.word * size.word) line) (sure_done {a = integer 0} (λ o h. (tt, λ _. omega arith)))
 
-  sure_replace_block : (n size line : ℕ) → Sure sc (IsBlock n) (replace_block g n size line) (IsTagged (function_count sc))
+  sure_replace_block : (n size line : ℕ) → Sure sc (IsBlock n) (replace_block g n size line) (IsGiven (function_count sc) (OfScalar Pointer))
   sure_replace_block n size line =
       sure_on (sure_beside (stable_block n) (sure_allocate g mapped least size line)) (λ new.
-      sure_choose_by (is_zero new) (sure_done {a = new} (λ o x. x.1.0)) (λ e.
-      sure_on (sure_weak (λ o x. (x.0, (x.1.0, x.1.1 e))) (sure_move_block n new size line)) (λ _.
-      sure_on (sure_weak (λ o x. (x.1, x.0)) (sure_frame (stable_tag _ new) (sure_release n))) (λ _. sure_done {a = new} (λ o x. x.0)))))
+      sure_choose_by (is_zero new) (sure_done {a = new} (λ o x. (x.1.0, x.1.2))) (λ e.
+      sure_on (sure_weak (λ o x. (x.1.2, (x.0, (x.1.0, x.1.1 e)))) (sure_frame {P0 = λ o. IsWord (function_count sc) new.word} (λ old later l x. x) (sure_move_block n new size line))) (λ _.
+      sure_on (sure_weak (λ o x. ((x.1.1, x.0), x.1.0)) (sure_frame (stable_beside {A = IsWord (function_count sc) new.word} _ new) (sure_release n))) (λ _. sure_done {a = new} (λ o x. x.0)))))
 
-  sure_realloc : (old size : Value) (line : ℕ) → Sure sc Any (realloc g old size line) (IsTagged (function_count sc))
+  sure_realloc : (old size : Value) (line : ℕ) → Sure sc Any (realloc g old size line) (IsGiven (function_count sc) (OfScalar Pointer))
   sure_realloc old size line = sure_choose (is_zero old) (sure_malloc size.word line) (sure_on (sure_freed old line) (λ n. sure_replace_block n size.word line))
 
 -- every routine
 
+-- what is known of the arguments stays known
+stable_given : (functions : ℕ) (kinds : List Kind) (vs : List Value) → IsStable (AreGiven functions kinds vs)
+stable_given functions kinds vs old new l h = (stable_tagged functions vs old new l h.0, h.1)
+
 module _ (g : Setting) (mapped : AreMapped g.sizes) {sc : Context} (least : g.sizes ≡ sc.sizes) where
-  pub sure_routine : (r : Routine) (vs : List Value) (line : ℕ) → Sure sc (AreTagged (function_count sc) vs) (routine g r vs line) (IsTagged (function_count sc))
+  pub sure_routine : (r : Routine) (vs : List Value) (line : ℕ) → Sure sc (AreGiven (function_count sc) (routine_signature r).parameters vs) (routine g r vs line) (IsGiven (function_count sc) (routine_signature r).result)
   sure_routine Malloc vs line = sure_any (sure_malloc g mapped least (argument 0 vs).word line)
   sure_routine Calloc vs line = sure_any (sure_calloc g mapped least (argument 0 vs) (argument 1 vs) line)
   sure_routine Free vs line = sure_any (sure_free (argument 0 vs) line)
   sure_routine Realloc vs line = sure_any (sure_realloc g mapped least (argument 0 vs) (argument 1 vs) line)
-  sure_routine Memcpy vs line = sure_memmove (stable_tagged _ vs) (argument 0 vs) (argument 1 vs) (argument 2 vs) line (λ o h. h 0) (λ o h. h 1)
-  sure_routine Memmove vs line = sure_memmove (stable_tagged _ vs) (argument 0 vs) (argument 1 vs) (argument 2 vs) line (λ o h. h 0) (λ o h. h 1)
-  sure_routine Memset vs line = sure_memset (stable_tagged _ vs) (argument 0 vs) (argument 1 vs) (argument 2 vs) line (λ o h. h 0)
-  sure_routine Memcmp vs line = sure_memcmp (argument 0 vs) (argument 1 vs) (argument 2 vs) line (λ o h. h 0) (λ o h. h 1)
-  sure_routine Strlen vs line = sure_strlen (argument 0 vs) line (λ o h. h 0)
-  sure_routine Strcmp vs line = sure_compare_within (reach (argument 0 vs)) (argument 0 vs) (argument 1 vs) line (λ o h. h 0) (λ o h. h 1)
-  sure_routine Strcpy vs line = sure_strcpy (stable_tagged _ vs) (argument 0 vs) (argument 1 vs) line (λ o h. h 0) (λ o h. h 1)
-  sure_routine Strncpy vs line = sure_strncpy (stable_tagged _ vs) (argument 0 vs) (argument 1 vs) (argument 2 vs) line (λ o h. h 0) (λ o h. h 1)
-  sure_routine Strcat vs line = sure_strcat (stable_tagged _ vs) (argument 0 vs) (argument 1 vs) line (λ o h. h 0) (λ o h. h 1)
-  sure_routine Strchr vs line = sure_seek_within (reach (argument 0 vs)) (fit Char (argument 1 vs).word) (argument 0 vs) line (λ o h. h 0)
+  sure_routine Memcpy vs line = sure_memmove (stable_given (function_count sc) (routine_signature Memcpy).parameters vs) (argument 0 vs) (argument 1 vs) (argument 2 vs) line (λ o h. h.0 0) (λ o h. h.1 0) (λ o h. h.0 1)
+  sure_routine Memmove vs line = sure_memmove (stable_given (function_count sc) (routine_signature Memmove).parameters vs) (argument 0 vs) (argument 1 vs) (argument 2 vs) line (λ o h. h.0 0) (λ o h. h.1 0) (λ o h. h.0 1)
+  sure_routine Memset vs line = sure_memset (stable_given (function_count sc) (routine_signature Memset).parameters vs) (argument 0 vs) (argument 1 vs) (argument 2 vs) line (λ o h. h.0 0) (λ o h. h.1 0)
+  sure_routine Memcmp vs line = sure_memcmp (argument 0 vs) (argument 1 vs) (argument 2 vs) line (λ o h. h.0 0) (λ o h. h.0 1)
+  sure_routine Strlen vs line = sure_strlen (argument 0 vs) line (λ o h. h.0 0)
+  sure_routine Strcmp vs line = sure_compare_within (reach (argument 0 vs)) (argument 0 vs) (argument 1 vs) line (λ o h. h.0 0) (λ o h. h.0 1)
+  sure_routine Strcpy vs line = sure_strcpy (stable_given (function_count sc) (routine_signature Strcpy).parameters vs) (argument 0 vs) (argument 1 vs) line (λ o h. h.0 0) (λ o h. h.1 0) (λ o h. h.0 1)
+  sure_routine Strncpy vs line = sure_strncpy (stable_given (function_count sc) (routine_signature Strncpy).parameters vs) (argument 0 vs) (argument 1 vs) (argument 2 vs) line (λ o h. h.0 0) (λ o h. h.1 0) (λ o h. h.0 1)
+  sure_routine Strcat vs line = sure_strcat (stable_given (function_count sc) (routine_signature Strcat).parameters vs) (argument 0 vs) (argument 1 vs) line (λ o h. h.0 0) (λ o h. h.1 0) (λ o h. h.0 1)
+  sure_routine Strchr vs line = sure_seek_within (reach (argument 0 vs)) (fit Char (argument 1 vs).word) (argument 0 vs) line (λ o h. h.0 0) (λ o h. h.1 0)
   sure_routine Putchar vs line = sure_putchar (argument 0 vs)
   sure_routine Getchar vs line = record { by = λ s good p. byte_by sc s.input s good }
-  sure_routine Puts vs line = sure_puts (argument 0 vs) line (λ o h. h 0)
+  sure_routine Puts vs line = sure_puts (argument 0 vs) line (λ o h. h.0 0)
   sure_routine Exit vs line = sure_stop
   sure_routine Abort vs line = sure_stop

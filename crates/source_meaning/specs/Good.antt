@@ -1,8 +1,13 @@
 -- Good states, and what every part of a run makes of them: objects and tags are sound, each variable whose block is
 -- entered has its home in a live object, and what an expression or an lvalue gives is sound.
-use Rattle.std.specs.Prelude.{◌≡◌, ◌⊎◌, ℕ, zero, suc, ◌+◌, ◌<◌, ◌≤◌, true, false, if◌then◌else◌, List, [], ◌∷◌, Option, Some, None, length, get_or}
+use Rattle.std.specs.Prelude.{◌≡◌, ◌⊎◌, ℕ, zero, suc, ◌+◌, ◌<◌, ◌≤◌, ◌^◌, true, false, if◌then◌else◌, List, [], ◌∷◌, Option, Some, None, length, get_or}
 use Rattle.behaviours.specs.Shown.{Access}
+use Rattle.obj_memory.specs.declared.int_type.IntType.TheVariants.{Int}
+use Rattle.obj_memory.specs.declared.value.Tag.TheVariants.{Untagged}
+use Rattle.obj_memory.specs.declared.value.Scalar.{Scalar}
+use Rattle.obj_memory.specs.declared.value.Scalar.TheVariants.{Integer, Pointer}
 use Rattle.obj_memory.specs.declared.value.Value.{Value}
+use Rattle.obj_memory.specs.Integers.{fit}
 use Rattle.obj_memory.specs.Objects.{ObjectState, Objects, object_at}
 use Rattle.obj_memory.specs.Heap.{is_allocated}
 use Rattle.obj_memory.specs.Sound.{IsSoundObject, IsSoundTag, AreDisjoint}
@@ -10,13 +15,13 @@ use Rattle.c_tree.specs.declared.expression.Kind.{Kind}
 use Rattle.c_tree.specs.declared.expression.Kind.TheVariants.{Void, Scalar as OfScalar, Structure, Array}
 use Rattle.c_tree.specs.declared.expression.Routine.{Routine}
 use Rattle.c_tree.specs.declared.program.Variable.{Variable}
-use Rattle.c_tree.specs.Kinds.{size_of_kind, Signature}
+use Rattle.c_tree.specs.Kinds.{size_of_kind, Signature, routine_signature}
 use Rattle.c_tree.specs.Tree.{Lvalue, lvalue, LvalueNode, automatic, static, deref, index, member, arrow, member_of_value, parenthesized_lvalue}
 use Rattle.c_tree.specs.Programs.{Program}
 use Rattle.c_tree.specs.Valid.{Scope, no_signature}
 use Rattle.c_tree.specs.ValidProgram.{scope_in}
 use Rattle.source_meaning.specs.State.{State, Rvalue, Home, NoObject, InObject, Outcome, Gives, Ended, Paused, Run, Env}
-use Rattle.addr_map.specs.Places.{MapSizes, AreMapped}
+use Rattle.addr_map.specs.Places.{MapSizes, AreMapped, function_address}
 use Rattle.source_meaning.specs.Actions.{integer}
 use Rattle.source_meaning.specs.Library.{routine}
 use Rattle.source_meaning.specs.Printing.{print_formatted}
@@ -84,6 +89,42 @@ pub record HasHome (frame : List Home) (objects : Objects) (x : ℕ) (kind : Kin
 abbrev pub AreLow : Objects → Type 0
 AreLow objects = (n : ℕ) → (object_at objects n).address + (object_at objects n).size ≤ 1610612736
 
+-- a word of 64 bits, where all functions of the program have addresses that are
+abbrev pub IsWord : (functions : ℕ) → ℕ → Type 0
+IsWord functions w = function_address functions ≤ 2 ^ 64 → w < 2 ^ 64
+
+-- a value of a scalar type: an integer has no tag, and its word is one of its type
+abbrev pub IsOfType : (functions : ℕ) → Scalar → Value → Type 0
+IsOfType functions (Integer t) v = (v.tag ≡ Untagged) × (fit t v.word ≡ v.word)
+IsOfType functions Pointer v = IsWord functions v.word
+
+-- a value of a kind
+abbrev pub IsOfKind : (functions : ℕ) → Kind → Value → Type 0
+IsOfKind functions Void v = IsWord functions v.word
+IsOfKind functions (OfScalar k) v = IsOfType functions k v
+IsOfKind functions (Structure n) v = IsWord functions v.word
+IsOfKind functions (Array n) v = IsWord functions v.word
+
+abbrev pub AreOfKinds : (functions : ℕ) → List Kind → List Value → Type 0
+AreOfKinds functions kinds values = (x : ℕ) → IsOfKind functions (get_or kinds x Void) (get_or values x (integer 0))
+
+abbrev pub scalar_if : Kind → Option Scalar
+scalar_if Void = None
+scalar_if (OfScalar k) = Some k
+scalar_if (Structure n) = None
+scalar_if (Array n) = None
+
+-- the type of a plain variable
+abbrev pub plain_type : List Variable → ℕ → Option Scalar
+plain_type [] x = None
+plain_type (v ∷ vs) zero = if v.is_object then None else scalar_if v.kind
+plain_type (v ∷ vs) (suc x) = plain_type vs x
+
+-- each plain variable of a function holds a value of its type, and those that can be named are as they are declared
+pub record AreTyped (functions : ℕ) (scope : Scope) (values : List Value) : Type 0 where
+  pub value : (x : ℕ) (k : Scalar) → plain_type scope.all x ≡ Some k → IsOfType functions k (get_or values x (integer 0))
+  pub named : (x : ℕ) (k : Scalar) → plain_type scope.variables x ≡ Some k → plain_type scope.all x ≡ Some k
+
 abbrev pub AreTagged : (functions : ℕ) → List Value → Objects → Type 0
 AreTagged functions values objects = (x : ℕ) → IsSoundTag functions objects (get_or values x (integer 0)).tag
 
@@ -102,6 +143,7 @@ pub record IsGoodBy (sc : Context) (objects : Objects) (frame : List Home) (valu
   pub statics : (n : ℕ) (kind : Kind) → static_kind sc.scope.statics n ≡ Some kind → IsHeld objects n kind
   pub homes : (x : ℕ) (kind : Kind) → object_kind sc.scope.variables x ≡ Some kind → HasHome frame objects x kind
   pub plain : AreTagged (function_count sc) values objects
+  pub typed : AreTyped (function_count sc) sc.scope values
   pub separate : AreSeparate sc.sizes stacked objects
 
 abbrev pub IsGood : Context → State → Type 0
@@ -156,10 +198,11 @@ OfKind functions (OfScalar k) v o = v.contents ≡ None
 OfKind functions (Structure n) v o = StructureIs functions n v.contents v.value o
 OfKind functions (Array n) v o = v.contents ≡ None
 
--- what an expression of a kind gives: its tag is sound, and of a structure its bytes are there
+-- what an expression of a kind gives: its tag is sound, it is of its kind, and of a structure its bytes are there
 pub record ValueIs (functions : ℕ) (kind : Kind) (v : Rvalue) (objects : Objects) : Type 0 where
   pub tag : IsSoundTag functions objects v.value.tag
   pub structure : OfKind functions kind v objects
+  pub word : IsOfKind functions kind v.value
 
 abbrev pub TakenIs : (functions size : ℕ) → Option ObjectState → Value → Objects → Type 0
 TakenIs functions n None v o = ⊥
@@ -174,6 +217,7 @@ TakenOf functions (Array n) v o = v.contents ≡ None
 pub record ArgumentIs (functions : ℕ) (kind : Kind) (v : Rvalue) (objects : Objects) : Type 0 where
   pub tag : IsSoundTag functions objects v.value.tag
   pub structure : TakenOf functions kind v objects
+  pub word : IsOfKind functions kind v.value
 
 abbrev pub ArgumentsAre : (functions : ℕ) → List Kind → List Rvalue → Objects → Type 0
 ArgumentsAre functions [] [] o = Unit {0}
@@ -189,6 +233,7 @@ RvalueReach functions OnValue size c v o = StructureIs functions size c v o
 pub record LvalueIs (functions : ℕ) (b : Basis) (kind : Kind) (q : Rvalue) (objects : Objects) : Type 0 where
   pub tag : IsSoundTag functions objects q.value.tag
   pub reach : RvalueReach functions b (size_of_kind kind) q.contents q.value objects
+  pub word : IsWord functions q.value.word
 
 -- the value of a return is a result of the function's kind
 abbrev pub CompletionIs : (functions : ℕ) → (result : Kind) → Completion → Objects → Type 0
@@ -204,11 +249,21 @@ taking sc f = (signature_in sc.scope.functions f).parameters
 abbrev pub giving : Context → ℕ → Kind
 giving sc f = (signature_in sc.scope.functions f).result
 
+-- a value of a kind that has no contents
+abbrev pub IsGiven : (functions : ℕ) → Kind → Value → Objects → Type 0
+IsGiven functions kind v o = IsTagged functions v o × IsOfKind functions kind v
+
+-- such values of some kinds
+abbrev pub AreGiven : (functions : ℕ) → List Kind → List Value → Objects → Type 0
+AreGiven functions kinds vs o = AreTagged functions vs o × AreOfKinds functions kinds vs
+
 -- what the calls of an environment do
 pub record Calling (sc : Context) (env : Env) : Type 0 where
   pub call : (f : ℕ) (vs : List Rvalue) (line : ℕ) → Sure sc (ArgumentsAre (function_count sc) (taking sc f) vs) (env.call f vs line) (ArgumentIs (function_count sc) (giving sc f))
-  pub library : (r : Routine) (vs : List Value) (line : ℕ) → Sure sc (AreTagged (function_count sc) vs) (routine env.setting r vs line) (IsTagged (function_count sc))
-  pub print : (format : List ℕ) (vs : List Value) (line : ℕ) → Sure sc (AreTagged (function_count sc) vs) (print_formatted format vs line) (IsTagged (function_count sc))
+  pub library : (r : Routine) (vs : List Value) (line : ℕ)
+      → Sure sc (AreGiven (function_count sc) (routine_signature r).parameters vs) (routine env.setting r vs line) (IsGiven (function_count sc) (routine_signature r).result)
+  pub print : (format : List ℕ) (vs : List Value) (line : ℕ)
+      → Sure sc (AreTagged (function_count sc) vs) (print_formatted format vs line) (IsGiven (function_count sc) (OfScalar (Integer Int)))
   -- a function that has a type takes and gives what the type says
   pub typed : (f type : ℕ) → has_type (header_at env.setting.functions f) type ≡ true → signature_in sc.scope.functions f ≡ signature_in sc.scope.types type
 

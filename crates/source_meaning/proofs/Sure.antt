@@ -1,6 +1,6 @@
 -- Runs that keep objects sound: from a good state they come to a good one, with what is known of the value that they give;
 -- where they end or pause, objects and accesses are kept.
-use Rattle.source_meaning.specs.Good.{function_count, After, Any, AreLow, AreTagged, ArgumentIs, ArgumentsAre, AreOfKinds, AreTyped, IsGiven, IsOfKind, IsOfType, IsWord, Basis, Context, HasContents, IsGood, IsGoodBy, IsTagged, Leaves, LvalueIs, OnName, OnPointer, OnValue, RvalueReach, Stops, StructureIs, Sure, TakenIs, ValueIs}
+use Rattle.source_meaning.specs.Good.{function_count, After, Any, AreLow, ArgumentIs, ArgumentsAre, AreOfKinds, AreTyped, IsGiven, IsOfKind, IsOfType, IsWord, Basis, Context, HasContents, IsGood, IsGoodBy, IsTagged, Leaves, LvalueIs, OnName, OnPointer, OnValue, RvalueReach, Stops, StructureIs, Sure, TakenIs, ValueIs}
 use Rattle.std.proofs.Common.{◌≡◌, ℕ, ◌<◌, ◌^◌, zero, suc, List, [], ◌∷◌, Bool, true, false, Option, Some, None, refl, sym, ◌∙◌, subst, arith}
 use Rattle.sb_base.specs.declared.ending.Ending.{Ending}
 use Rattle.addr_map.specs.Places.{MapSizes}
@@ -19,7 +19,7 @@ use Rattle.c_tree.specs.Kinds.{size_of_kind}
 use Rattle.source_meaning.specs.Structures.{rvalue, give, as_rvalue, as_pointer, values_of}
 use Rattle.source_meaning.specs.Expressions.{counted_as, counted}
 use Rattle.source_meaning.proofs.Naming.{IsWritable}
-use Rattle.source_meaning.specs.Keeping.{IsNoStructure}
+use Rattle.source_meaning.specs.Keeping.{AreTagged, IsNoStructure}
 use Rattle.source_meaning.specs.Keeping.{LivesOn, IsDirect, IsNamed, AreSeparate}
 use Rattle.source_meaning.proofs.Separating.{separate_kept, ends_as_many, ends_same, ends_then}
 use Rattle.source_meaning.proofs.Holding.{all_lie_on, lives_same, lives_then, lives_kept, named_on, held_on}
@@ -39,10 +39,10 @@ leaves_then sc s s1 s2 p q = record {
 }
 
 pub stops_same : (sc : Context) (s : State) → IsGood sc s → Stops (function_count sc) sc.sizes s.objects s
-stops_same sc s h = record { kept = h.kept; low = h.low; lives = lives_same s.objects; apart = h.separate.apart; placed = h.separate.placed }
+stops_same sc s h = record { kept = h.kept; plain = h.plain; low = h.low; lives = lives_same s.objects; apart = h.separate.apart; placed = h.separate.placed }
 
 pub stops_then : {functions : ℕ} {sizes : MapSizes} (old new : Objects) (s : State) → LivesOn old new → Stops functions sizes new s → Stops functions sizes old s
-stops_then old new s l h = record { kept = h.kept; low = h.low; lives = lives_then old new s.objects l h.lives; apart = h.apart; placed = h.placed }
+stops_then old new s l h = record { kept = h.kept; plain = h.plain; low = h.low; lives = lives_then old new s.objects l h.lives; apart = h.apart; placed = h.placed }
 
 after_then : {A : Type 0} (sc : Context) (s s1 : State) (Q : A → Objects → Type 0) (o : Outcome A) → Leaves sc s s1 → After sc s1 Q o → After sc s Q o
 after_then sc s s1 Q (Gives a s') p h = (leaves_then sc s s1 s' p h.0, h.1)

@@ -1,5 +1,5 @@
 -- The actions keep objects sound.
-use Rattle.source_meaning.specs.Good.{function_count, After, Any, AreTagged, AreTyped, IsGiven, IsOfKind, IsOfType, IsWord, plain_type, Basis, Context, IsGood, IsTagged, OnName, OnPointer, OnValue, Sure}
+use Rattle.source_meaning.specs.Good.{function_count, After, Any, AreTyped, IsGiven, IsOfKind, IsOfType, IsWord, plain_type, Basis, Context, IsGood, IsTagged, OnName, OnPointer, OnValue, Sure}
 use Rattle.std.proofs.Common.{◌≡◌, ℕ, zero, suc, ◌+◌, ◌-◌, ◌*◌, ◌%◌, ◌^◌, List, [], ◌∷◌, Bool, true, false, Option, Some, None, get_or, set, refl, sym, ap, ◌∙◌, subst, arith, nat_lt, IfSome}
 use Rattle.behaviours.specs.Shown.{AccessKind, Read, Write}
 use Rattle.sb_base.specs.declared.ending.Ending.TheVariants.{Keys}
@@ -42,7 +42,7 @@ use Rattle.source_meaning.specs.State.{State, stop, choose, change, Header, Sett
 use Rattle.source_meaning.specs.Actions.{integer, converted_to, converted, offset_value, value_or_divide, operate, updated, given, plain_value, set_plain, update_plain, place_or_stop, located, note, read_scalar, write_scalar, move_bytes, load, store, update, copy_structure, read_lvalue, put_bytes, take_key}
 use Rattle.source_meaning.specs.Expressions.{callee_by, callee}
 use Rattle.source_meaning.specs.Initializers.{zero_object, zero_home, zero_variable}
-use Rattle.source_meaning.specs.Keeping.{LiesInObject, IsDirect}
+use Rattle.source_meaning.specs.Keeping.{AreTagged, LiesInObject, IsDirect}
 use Rattle.source_meaning.proofs.Naming.{Updates}
 use Rattle.source_meaning.proofs.Separating.{ends_same}
 use Rattle.source_meaning.proofs.Holding.{all_lie_more, lives_same, direct_named, direct_allowed, allowed_lies, judged_direct, direct_kept}

@@ -1,6 +1,6 @@
 -- A block keeps objects sound: its own are new, and die where it is left, and the names around it are good again.
 use Rattle.source_meaning.specs.Good.{function_count, IsEntered, EntersBy}
-use Rattle.source_meaning.specs.Good.{After, Any, AreTyped, AreTagged, CompletionIs, Context, HasHome, IsGood, Leaves, Sure, context_of, object_kind}
+use Rattle.source_meaning.specs.Good.{After, Any, AreTyped, CompletionIs, Context, HasHome, IsGood, Leaves, Sure, context_of, object_kind}
 use Rattle.c_tree.specs.Valid.{Scope}
 use Rattle.std.proofs.Common.{◌≡◌, ℕ, zero, suc, ◌+◌, ◌≤◌, List, [], ◌∷◌, map, Bool, true, false, ◌||◌, Some, None, length, get_or, if◌then◌else◌, refl, sym, subst, nat_le, nat_lt}
 use Rattle.std.proofs.lemmas.Bool.{leb-true}
@@ -18,7 +18,7 @@ use Rattle.addr_map.specs.Places.{MapSizes, AreMapped, region_end}
 use Rattle.source_meaning.specs.Places.{stack_end}
 use Rattle.source_meaning.specs.Actions.{take_key}
 use Rattle.source_meaning.specs.Blocks.{pass_or_stop, objects_end, has_objects, place_variables, without_homes, test_keys, over, homes_over, Block, place_block, enter_block, leave_block, scoped}
-use Rattle.source_meaning.specs.Keeping.{AllLie, LivesOn}
+use Rattle.source_meaning.specs.Keeping.{AreTagged, AllLie, LivesOn}
 use Rattle.source_meaning.proofs.ActionsAct.{continues_without}
 use Rattle.source_meaning.proofs.Separating.{separate_without, separate_back}
 use Rattle.source_meaning.proofs.Holding.{all_lie_on, lives_then, held_on}

@@ -1,5 +1,6 @@
 -- The routines of the library that look at bytes and set them keep objects sound.
-use Rattle.source_meaning.specs.Good.{function_count, IsGiven, IsOfType, IsWord, AreTagged, Context, IsTagged, OnPointer, Sure}
+use Rattle.source_meaning.specs.Keeping.{AreTagged}
+use Rattle.source_meaning.specs.Good.{function_count, IsGiven, IsOfType, IsWord, Context, IsTagged, OnPointer, Sure}
 use Rattle.std.proofs.Common.{◌≡◌, ℕ, zero, suc, ◌+◌, ◌-◌, ◌*◌, ◌≤◌, ◌<◌, ◌^◌, List, [], ◌∷◌, ◌++◌, Bool, true, false, nat_lt, refl, ◌==◌, length, get_or, drop, replicate, if◌then◌else◌, sym, subst, arith, length-append}
 use Rattle.std.proofs.lemmas.List.{length-replicate}
 use Rattle.sb_base.specs.declared.ending.Ending.TheVariants.{Spatial}

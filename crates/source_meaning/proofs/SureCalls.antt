@@ -1,5 +1,5 @@
 -- Calls keep objects sound: those of the callee are new, and die at its return, and the caller's names are good again.
-use Rattle.source_meaning.specs.Good.{function_count, After, Any, AreLow, AreTyped, AreTagged, ArgumentIs, ArgumentsAre, CompletionIs, Context, Inside, IsGood, IsHeld, IsTagged, Leaves, OnName, Stops, Sure, signature_in}
+use Rattle.source_meaning.specs.Good.{function_count, After, Any, AreLow, AreTyped, ArgumentIs, ArgumentsAre, CompletionIs, Context, Inside, IsGood, IsHeld, IsTagged, Leaves, OnName, Stops, Sure, signature_in}
 use Rattle.std.proofs.Common.{◌≡◌, ℕ, zero, suc, ◌+◌, ◌≤◌, List, [], ◌∷◌, ◌++◌, map, Bool, true, false, length, if◌then◌else◌, refl, sym, ap, ◌∙◌, subst, nat_le, nat_lt}
 use Rattle.std.proofs.lemmas.Bool.{leb-true}
 use Rattle.sb_base.specs.declared.ending.Ending.TheVariants.{Stack, Keys}
@@ -25,7 +25,7 @@ use Rattle.source_meaning.specs.Statements.{in_order, each_of}
 use Rattle.source_meaning.specs.Calls.{header_of, body_objects, call_tests, parameter_values, plain_values, plain_count, parameter_count, write_parameter, write_parameters, lay_out, set_up, caller, back_to, returned_by, result_of, enter_begun, enter}
 use Rattle.source_meaning.specs.Blocks.{pass_or_stop, objects_end, has_objects, place_variables, without_homes, test_space, test_keys}
 use Rattle.source_meaning.proofs.Naming.{ProgramNames, FunctionNames, kinds_in, scope_of}
-use Rattle.source_meaning.specs.Keeping.{AllLie, ArePlaced, IsKept, LivesOn, AreSeparate}
+use Rattle.source_meaning.specs.Keeping.{AreTagged, AllLie, ArePlaced, IsKept, LivesOn, AreSeparate}
 use Rattle.source_meaning.proofs.ActionsAct.{continues_without}
 use Rattle.source_meaning.proofs.Separating.{separate_without, separate_back}
 use Rattle.source_meaning.proofs.Holding.{all_lie_on, lives_same, lives_then, held_on, held_named}
@@ -62,7 +62,7 @@ both_tagged functions (u ∷ us) vs o h g (suc x) = both_tagged _ us vs o (λ y.
 -- the tests
 
 abbrev Untouched : State → State → Type 0
-Untouched s s' = (s'.objects ≡ s.objects) × (s'.accesses ≡ s.accesses) × (s'.stacked ≡ s.stacked)
+Untouched s s' = (s'.objects ≡ s.objects) × (s'.accesses ≡ s.accesses) × (s'.stacked ≡ s.stacked) × (s'.plain ≡ s.plain)
 
 abbrev TestsBy : (bound : ℕ) → List Variable → State → Outcome (Unit {0}) → Type 0
 TestsBy bound vs s (Gives a s') = Untouched s s' × (objects_end vs s'.stacked ≤ bound)
@@ -71,21 +71,21 @@ TestsBy bound vs s (Paused s') = ⊥
 
 module _ (g : Setting) (h : Header) (line : ℕ) where
   key_passes : (s : State) → objects_end (body_objects h) s.stacked ≤ stack_end g → (b : Bool) → TestsBy (stack_end g) (body_objects h) s (choose b (change (λ s. record s { keys = s.keys + 1 })) (stop (Keys line)) s)
-  key_passes s fits true = ((refl, refl, refl), fits)
-  key_passes s fits false = (refl, refl, refl)
+  key_passes s fits true = ((refl, refl, refl, refl), fits)
+  key_passes s fits false = (refl, refl, refl, refl)
 
   keys_pass : (s : State) → objects_end (body_objects h) s.stacked ≤ stack_end g → (b : Bool) → TestsBy (stack_end g) (body_objects h) s (choose b (take_key g line) skip s)
   keys_pass s fits true = key_passes s fits (nat_lt s.keys g.sizes.budgets.keys)
-  keys_pass s fits false = ((refl, refl, refl), fits)
+  keys_pass s fits false = ((refl, refl, refl, refl), fits)
 
   stack_passes : (s : State) (b : Bool) → nat_le (objects_end (body_objects h) s.stacked) (stack_end g) ≡ b
       → TestsBy (stack_end g) (body_objects h) s (on (pass_or_stop b (Stack line) s) (λ _ s. test_keys g (body_objects h) line s))
   stack_passes s true e = keys_pass s (leb-true _ _ e) (has_objects (body_objects h))
-  stack_passes s false e = (refl, refl, refl)
+  stack_passes s false e = (refl, refl, refl, refl)
 
   charge_passes : (s : State) (b : Bool) → TestsBy (stack_end g) (body_objects h) s (on (pass_or_stop b (Stack line) s) (λ _ s. (test_space g (body_objects h) line >> test_keys g (body_objects h) line) s))
   charge_passes s true = stack_passes s (nat_le (objects_end (body_objects h) s.stacked) (stack_end g)) refl
-  charge_passes s false = (refl, refl, refl)
+  charge_passes s false = (refl, refl, refl, refl)
 
   tests_pass : (s : State) → TestsBy (stack_end g) (body_objects h) s (call_tests g h line s)
   tests_pass s = charge_passes s (nat_le (s.charged + h.room) g.sizes.budgets.calls)
@@ -195,6 +195,7 @@ module _ (u : ProgramNames) (f : Function) (names : FunctionNames u f) (g : Sett
         (in_stack (objects_end (body_objects head) s1.stacked) h.1))
     tested s good tagged (Ended x s1) h = record {
       kept = subst (λ o. IsKept (length u.functions) o s1.accesses) (sym h.0) (subst (λ a. IsKept (length u.functions) s.objects a) (sym h.1) good.kept);
+      plain = subst (λ o. AreTagged (length u.functions) s1.plain o) (sym h.0) (subst (λ vs. AreTagged (length u.functions) vs s.objects) (sym h.3) good.plain);
       low = subst AreLow (sym h.0) good.low;
       lives = subst (LivesOn s.objects) (sym h.0) (lives_same s.objects);
       apart = subst AreDisjoint (sym h.0) good.separate.apart;

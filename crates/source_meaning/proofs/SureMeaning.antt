@@ -269,9 +269,9 @@ placed_disjoint first bound os fresh = record { apart = λ m n other lm ln. by m
 -- the whole
 
 sound_after : {A : Type 0} (sc : Context) (s : State) (Q : A → Objects → Type 0) (o : Outcome A) → After sc s Q o → IsSoundState (function_count sc) sc.sizes (state_of o)
-sound_after sc s Q (Gives a s') h = record { kept = h.0.good.kept; apart = h.0.good.separate.apart; placed = h.0.good.separate.placed; low = h.0.good.low }
-sound_after sc s Q (Ended e s') h = record { kept = h.kept; apart = h.apart; placed = h.placed; low = h.low }
-sound_after sc s Q (Paused s') h = record { kept = h.kept; apart = h.apart; placed = h.placed; low = h.low }
+sound_after sc s Q (Gives a s') h = record { kept = h.0.good.kept; plain = h.0.good.plain; apart = h.0.good.separate.apart; placed = h.0.good.separate.placed; low = h.0.good.low }
+sound_after sc s Q (Ended e s') h = record { kept = h.kept; plain = h.plain; apart = h.apart; placed = h.placed; low = h.low }
+sound_after sc s Q (Paused s') h = record { kept = h.kept; plain = h.plain; apart = h.apart; placed = h.placed; low = h.low }
 
 statics_fit : (p : Program) (budgets : BudgetSizes) → statics_first (setting_of p budgets) + statics_end p.statics 0 ≤ region_end (setting_of p budgets).sizes Globals
 unfolding region_start region_size

@@ -29,7 +29,7 @@ use Rattle.source_meaning.specs.Expressions.{header_at, has_type}
 use Rattle.source_meaning.specs.Statements.{Completion, Normal, Broken, Continued, Returned}
 use Rattle.c_tree.specs.Blocks.{opened}
 use Rattle.source_meaning.specs.Blocks.{Block}
-use Rattle.source_meaning.specs.Keeping.{IsKept, ArePlaced, LivesOn, IsDirect, IsNamed, AreSeparate}
+use Rattle.source_meaning.specs.Keeping.{AreTagged, IsKept, ArePlaced, LivesOn, IsDirect, IsNamed, AreSeparate}
 
 -- names
 
@@ -125,9 +125,6 @@ pub record AreTyped (functions : ℕ) (scope : Scope) (values : List Value) : Ty
   pub value : (x : ℕ) (k : Scalar) → plain_type scope.all x ≡ Some k → IsOfType functions k (get_or values x (integer 0))
   pub named : (x : ℕ) (k : Scalar) → plain_type scope.variables x ≡ Some k → plain_type scope.all x ≡ Some k
 
-abbrev pub AreTagged : (functions : ℕ) → List Value → Objects → Type 0
-AreTagged functions values objects = (x : ℕ) → IsSoundTag functions objects (get_or values x (integer 0)).tag
-
 -- the names of a function, and the sizes of the memory
 pub record Context : Type 0 where
   pub scope : Scope
@@ -159,9 +156,10 @@ pub record Leaves (sc : Context) (s s' : State) : Type 0 where
   pub frame : s'.frame ≡ s.frame
   pub ended : EndsMade s.objects s'.objects
 
--- where a run ends or pauses, objects and accesses are kept
+-- where a run ends or pauses, objects, plain values and accesses are kept
 pub record Stops (functions : ℕ) (sizes : MapSizes) (old : Objects) (s' : State) : Type 0 where
   pub kept : IsKept functions s'.objects s'.accesses
+  pub plain : AreTagged functions s'.plain s'.objects
   pub low : AreLow s'.objects
   pub lives : LivesOn old s'.objects
   pub apart : AreDisjoint s'.objects

@@ -1,5 +1,5 @@
 -- What holds of the objects and accesses of a run.
-use Rattle.std.specs.Prelude.{◌≡◌, ℕ, ◌+◌, ◌<◌, ◌≤◌, true, false, List, [], ◌∷◌, length}
+use Rattle.std.specs.Prelude.{◌≡◌, ℕ, ◌+◌, ◌<◌, ◌≤◌, true, false, List, [], ◌∷◌, length, get_or}
 use Rattle.behaviours.specs.Shown.{Access}
 use Rattle.obj_memory.specs.declared.value.Bounds.{Bounds}
 use Rattle.obj_memory.specs.declared.value.Tag.TheVariants.{OfObject}
@@ -11,10 +11,11 @@ use Rattle.addr_map.specs.declared.region.Region.TheVariants.{Globals, Stack, He
 use Rattle.addr_map.specs.Places.{MapSizes, region_start, region_end}
 use Rattle.obj_memory.specs.Objects.{ObjectState, Objects, object_at}
 use Rattle.obj_memory.specs.Heap.{is_allocated, object_room}
-use Rattle.obj_memory.specs.Sound.{IsSound, AreDisjoint, Continues}
+use Rattle.obj_memory.specs.Sound.{IsSound, IsSoundTag, AreDisjoint, Continues}
 use Rattle.c_tree.specs.declared.expression.Kind.{Kind}
 use Rattle.c_tree.specs.declared.expression.Kind.TheVariants.{Void, Scalar as OfScalar, Structure, Array}
 use Rattle.source_meaning.specs.State.{State}
+use Rattle.source_meaning.specs.Actions.{integer}
 
 -- the bytes of an access are bytes of one object
 pub record LiesInObject (objects : Objects) (a : Access) : Type 0 where
@@ -48,10 +49,15 @@ pub record IsInRegion (sizes : MapSizes) (o : ObjectState) : Type 0 where
 abbrev pub ArePlaced : (sizes : MapSizes) → Objects → Type 0
 ArePlaced sizes objects = (n : ℕ) → n < length objects → IsInRegion sizes (object_at objects n)
 
--- what holds of the objects and accesses of a state that a run came to: live objects share no address that they take,
+-- the tags of values are sound
+abbrev pub AreTagged : (functions : ℕ) → List Value → Objects → Type 0
+AreTagged functions values objects = (x : ℕ) → IsSoundTag functions objects (get_or values x (integer 0)).tag
+
+-- what holds of the objects, plain values and accesses of a state that a run came to: all tags are sound, live objects share no address that they take,
 -- all stand in their regions, and so end at 0x60000000 at most, where the heap does
 pub record IsSoundState (functions : ℕ) (sizes : MapSizes) (s : State) : Type 0 where
   pub kept : IsKept functions s.objects s.accesses
+  pub plain : AreTagged functions s.plain s.objects
   pub apart : AreDisjoint s.objects
   pub placed : ArePlaced sizes s.objects
   pub low : (n : ℕ) → (object_at s.objects n).address + (object_at s.objects n).size ≤ 1610612736

@@ -28,5 +28,6 @@ pub mod ValidNames
 pub mod ValidProgramNames
 pub mod RunsAlike
 pub mod LiveAccesses
+pub mod Living
 pub mod JudgingTests
 pub mod StaysFlow

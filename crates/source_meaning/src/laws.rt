@@ -35,7 +35,7 @@ ghost use Rattle.c_tree.specs.Statements.{DeclaredVariable, Statement};
 ghost use Rattle.c_tree.specs.Blocks.{all_of, block_objects, opened};
 ghost use Rattle.c_tree.specs.Assigning.{declared_assign, statement_assigns};
 ghost use Rattle.c_tree.specs.Walk.{assigns, lvalue_assigns};
-ghost use Rattle.source_meaning.specs.Staying.{Stays};
+ghost use Rattle.source_meaning.specs.Staying.{Stays, Keeps, KeepsLives, frees};
 ghost use Rattle.c_tree.specs.Valid.{Scope, are_valid, is_valid, is_valid_lvalue};
 ghost use Rattle.source_meaning.specs.Initializers.{initialize_all};
 ghost use Rattle.source_meaning.specs.Statements.{execute};
@@ -205,4 +205,74 @@ pub fn unassigned_variables_stay()
         → Stays y (initialize_all (env_of functions g limit n variables) ds) }
     ensures call { (y : ℕ) (functions : List Function) (g : Setting) (limit n f : ℕ) (vs : List Rvalue) (line : ℕ)
         → Stays y (calls functions g limit n f vs line) }
+{}
+
+/// Objects die, by name, in `free` and `realloc`, where a block is left and where a call returns: in no other action.
+pub fn objects_die_where_they_are_freed()
+    ensures located { (j : Bool) (size : ℕ) (p : Value) (line : ℕ) → KeepsLives (located j size p line) }
+    ensures read { (k : Scalar) (address : ℕ) (p : Place) → KeepsLives (read_scalar k address p) }
+    ensures write { (k : Scalar) (address : ℕ) (p : Place) (v : Value) → KeepsLives (write_scalar k address p v) }
+    ensures moved { (size : ℕ) (d s : Place) → KeepsLives (move_bytes size d s) }
+    ensures load { (k : Scalar) (j : Bool) (p : Value) (line : ℕ) → KeepsLives (load k j p line) }
+    ensures store { (k : Scalar) (j : Bool) (p : Value) (line : ℕ) (v : Value) → KeepsLives (store k j p line v) }
+    ensures read_lvalue { (kind : Kind) (j : Bool) (p : Value) (line : ℕ) → KeepsLives (read_lvalue kind j p line) }
+    ensures write_lvalue { (kind : Kind) (j : Bool) (p : Value) (line : ℕ) (v : Value)
+        → KeepsLives (write_lvalue kind j p line v) }
+    ensures read_rvalue { (kind : Kind) (j : Bool) (q : Rvalue) (line : ℕ) → KeepsLives (read_rvalue kind j q line) }
+    ensures write_rvalue { (kind : Kind) (j : Bool) (p : Value) (line : ℕ) (v : Rvalue)
+        → KeepsLives (write_rvalue kind j p line v) }
+    ensures taken { (kind : Kind) (line : ℕ) (v : Rvalue) → KeepsLives (take_value kind line v) }
+    ensures updated { (u : Update) (k : Scalar) (right : Value) (line : ℕ) (old : Value)
+        → KeepsLives (updated u k right line old) }
+    ensures update { (u : Update) (k : Scalar) (j : Bool) (p : Value) (line : ℕ) (right : Value) (at : ℕ) (f : Fixity)
+        → KeepsLives (update k j p line (updated u k right at) f) }
+    ensures operate { (op : BinaryOperator) (t : IntType) (x y : Value) (line : ℕ)
+        → KeepsLives (operate op t x y line) }
+    ensures make { (storage : Storage) (address size : ℕ) → KeepsLives (make_object storage address size) }
+    ensures put { (bytes : List ℕ) → KeepsLives (put_bytes bytes) }
+    ensures key { (g : Setting) (line : ℕ) → KeepsLives (take_key g line) }
+    ensures plain { (x : ℕ) (v : Value) → KeepsLives (set_plain x v) }
+    ensures update_plain { (u : Update) (k : Scalar) (x : ℕ) (right : Value) (at : ℕ) (f : Fixity)
+        → KeepsLives (update_plain x (updated u k right at) f) }
+    ensures zero { (x : ℕ) → KeepsLives (zero_variable x) }
+    ensures bytes { (p : Value) (offset : ℕ) (bytes : List ℕ) → KeepsLives (store_bytes p offset bytes) }
+    ensures routine { (g : Setting) (r : Routine) (vs : List Value) (line : ℕ) → frees r ≡ false
+        → KeepsLives (routine g r vs line) }
+    ensures print { (format : List ℕ) (vs : List Value) (line : ℕ) → KeepsLives (print_formatted format vs line) }
+    ensures callee { (functions : List Header) (type_number : ℕ) (v : Value) (line : ℕ)
+        → KeepsLives (callee functions type_number v line) }
+    ensures set_up { (g : Setting) (f : Header) (vs : List Rvalue) (line : ℕ) → KeepsLives (set_up g f vs line) }
+    ensures enter { (g : Setting) (vs : List Variable) (line : ℕ) → KeepsLives (enter_block g vs line) }
+{}
+
+/// Plain variables and homes change where a variable is set, where a block is entered or left, and where a call begins
+/// and returns: in no other action.
+pub fn variables_change_where_they_are_set()
+    ensures located { (j : Bool) (size : ℕ) (p : Value) (line : ℕ) → Keeps (located j size p line) }
+    ensures read { (k : Scalar) (address : ℕ) (p : Place) → Keeps (read_scalar k address p) }
+    ensures write { (k : Scalar) (address : ℕ) (p : Place) (v : Value) → Keeps (write_scalar k address p v) }
+    ensures moved { (size : ℕ) (d s : Place) → Keeps (move_bytes size d s) }
+    ensures load { (k : Scalar) (j : Bool) (p : Value) (line : ℕ) → Keeps (load k j p line) }
+    ensures store { (k : Scalar) (j : Bool) (p : Value) (line : ℕ) (v : Value) → Keeps (store k j p line v) }
+    ensures read_lvalue { (kind : Kind) (j : Bool) (p : Value) (line : ℕ) → Keeps (read_lvalue kind j p line) }
+    ensures write_lvalue { (kind : Kind) (j : Bool) (p : Value) (line : ℕ) (v : Value)
+        → Keeps (write_lvalue kind j p line v) }
+    ensures read_rvalue { (kind : Kind) (j : Bool) (q : Rvalue) (line : ℕ) → Keeps (read_rvalue kind j q line) }
+    ensures write_rvalue { (kind : Kind) (j : Bool) (p : Value) (line : ℕ) (v : Rvalue)
+        → Keeps (write_rvalue kind j p line v) }
+    ensures taken { (kind : Kind) (line : ℕ) (v : Rvalue) → Keeps (take_value kind line v) }
+    ensures updated { (u : Update) (k : Scalar) (right : Value) (line : ℕ) (old : Value)
+        → Keeps (updated u k right line old) }
+    ensures update { (u : Update) (k : Scalar) (j : Bool) (p : Value) (line : ℕ) (right : Value) (at : ℕ) (f : Fixity)
+        → Keeps (update k j p line (updated u k right at) f) }
+    ensures operate { (op : BinaryOperator) (t : IntType) (x y : Value) (line : ℕ) → Keeps (operate op t x y line) }
+    ensures make { (storage : Storage) (address size : ℕ) → Keeps (make_object storage address size) }
+    ensures put { (bytes : List ℕ) → Keeps (put_bytes bytes) }
+    ensures key { (g : Setting) (line : ℕ) → Keeps (take_key g line) }
+    ensures zero { (x : ℕ) → Keeps (zero_variable x) }
+    ensures bytes { (p : Value) (offset : ℕ) (bytes : List ℕ) → Keeps (store_bytes p offset bytes) }
+    ensures routine { (g : Setting) (r : Routine) (vs : List Value) (line : ℕ) → Keeps (routine g r vs line) }
+    ensures print { (format : List ℕ) (vs : List Value) (line : ℕ) → Keeps (print_formatted format vs line) }
+    ensures callee { (functions : List Header) (type_number : ℕ) (v : Value) (line : ℕ)
+        → Keeps (callee functions type_number v line) }
 {}

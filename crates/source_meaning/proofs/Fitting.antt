@@ -1,5 +1,5 @@
 -- What operators give is of the type of their result.
-use Rattle.std.proofs.Common.{◌≡◌, ℕ, Bool, true, false, ◌==◌, IfSome, refl, sym, ◌∙◌, subst}
+use Rattle.std.proofs.Common.{◌≡◌, ℕ, true, ◌==◌, IfSome, refl, sym, ◌∙◌, subst}
 use Rattle.obj_memory.specs.declared.int_type.IntType.{IntType}
 use Rattle.obj_memory.specs.declared.int_type.IntType.TheVariants.{Int}
 use Rattle.obj_memory.specs.declared.operator.UnaryOperator.{UnaryOperator}
@@ -9,7 +9,7 @@ use Rattle.obj_memory.specs.declared.operator.BinaryOperator.TheVariants.{Add, S
 use Rattle.obj_memory.specs.declared.value.Scalar.TheVariants.{Integer, Pointer}
 use Rattle.obj_memory.specs.declared.value.Value.{Value}
 use Rattle.obj_memory.specs.Integers.{fit}
-use Rattle.obj_memory.specs.Operators.{one_if, unary_value, binary_value}
+use Rattle.obj_memory.specs.Operators.{unary_value, binary_value}
 use Rattle.obj_memory.proofs.Words.{fit_twice}
 use Rattle.obj_memory.proofs.Typed.{truth_stays, shift_stays, binary_stays}
 use Rattle.c_tree.specs.declared.expression.Kind.{Kind}

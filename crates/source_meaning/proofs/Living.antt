@@ -1,5 +1,5 @@
 -- No object dies, but by `free` and `realloc` and where a block or a call is left.
-use Rattle.std.proofs.Common.{◌≡◌, ℕ, zero, suc, ◌+◌, List, [], ◌∷◌, Bool, true, false, ◌==◌, Option, Some, None, length, drop, refl, sym, ap, ◌∙◌, subst}
+use Rattle.std.proofs.Common.{◌≡◌, ℕ, zero, suc, ◌+◌, List, [], ◌∷◌, Bool, true, false, ◌==◌, Option, Some, None, length, drop, refl, ap, ◌∙◌}
 use Rattle.sb_base.specs.declared.ending.Ending.{Ending}
 use Rattle.sb_base.specs.declared.ending.Ending.TheVariants.{Spatial}
 use Rattle.behaviours.specs.Shown.{AccessKind, Write}
@@ -7,7 +7,7 @@ use Rattle.obj_memory.specs.declared.int_type.IntType.{IntType}
 use Rattle.obj_memory.specs.declared.int_type.IntType.TheVariants.{Char}
 use Rattle.obj_memory.specs.declared.operator.BinaryOperator.{BinaryOperator}
 use Rattle.obj_memory.specs.declared.object.Storage.{Storage}
-use Rattle.obj_memory.specs.declared.object.Storage.TheVariants.{Allocated, Automatic}
+use Rattle.obj_memory.specs.declared.object.Storage.TheVariants.{Allocated}
 use Rattle.obj_memory.specs.declared.value.Tag.{Tag}
 use Rattle.obj_memory.specs.declared.value.Tag.TheVariants.{Untagged, OfFunction, OfObject}
 use Rattle.obj_memory.specs.declared.value.Value.{Value}
@@ -45,13 +45,13 @@ use Rattle.source_meaning.specs.Actions.{integer, value_or_divide, operate, upda
 use Rattle.source_meaning.specs.Structures.{as_rvalue, moved_into, put_range, put_contents, taken, take_value, copy_value, write_rvalue, read_part, read_rvalue, with_contents}
 use Rattle.source_meaning.specs.Initializers.{zero_object, zero_home, zero_variable, store_bytes}
 use Rattle.source_meaning.specs.Expressions.{callee_by, callee}
-use Rattle.source_meaning.specs.Heap.{tally_blocks, block_place, make_block, allocate, calloc}
+use Rattle.source_meaning.specs.Heap.{tally_blocks, block_place, make_block, allocate}
 use Rattle.source_meaning.specs.Bytes.{look, set_bytes}
 use Rattle.source_meaning.specs.Memory.{memmove, memset, memcmp}
-use Rattle.source_meaning.specs.Strings.{reach, scan_within, scan, strlen, compare_within, write_string, strcpy, strncpy, strcat, seek_within}
-use Rattle.source_meaning.specs.Printing.{puts, argument_bytes, formatted, pieces_or_none, print_formatted}
-use Rattle.source_meaning.specs.Library.{putchar, next_byte, argument, routine}
-use Rattle.source_meaning.specs.Blocks.{pass_or_stop, test_space, test_keys, place_object, place_variables, homes_over, place_block, enter_block}
+use Rattle.source_meaning.specs.Strings.{reach, scan_within, scan, compare_within, write_string, strcpy, strncpy, strcat, seek_within}
+use Rattle.source_meaning.specs.Printing.{argument_bytes, formatted, pieces_or_none, print_formatted}
+use Rattle.source_meaning.specs.Library.{next_byte, argument, routine}
+use Rattle.source_meaning.specs.Blocks.{pass_or_stop, test_space, test_keys, place_object, place_variables, homes_over, enter_block}
 use Rattle.source_meaning.specs.Calls.{test_charge, call_tests, body_objects, set_plain_values, write_parameter, write_parameters, first_of, rest_of, lay_out, set_up}
 use Rattle.source_meaning.proofs.Holding.{live_made}
 

@@ -22,7 +22,7 @@ use Rattle.source_meaning.specs.Blocks.{pass_or_stop, place_object, place_variab
 use Rattle.source_meaning.specs.Statements.{Completion, Normal, Broken, Continued, Returned, next_after, in_order, holds, perform, perform_first, after_body, turns, turns_before, LabeledRun, run_labeled, is_case_of, is_default, labels_from, items_at, items_from, labels_of, compared, or_default, run_items, after_switch, run_switch, execute, each_of, items_of}
 use Rattle.source_meaning.specs.Calls.{env_of}
 use Rattle.source_meaning.specs.Staying.{KeptBy, Stays}
-use Rattle.source_meaning.specs.Staying.{KeepsBy, KeepsVariables}
+use Rattle.source_meaning.specs.Staying.{KeepsBy}
 use Rattle.source_meaning.proofs.Local.{IsLocal, local_on, local_done, local_skip, local_stop, local_choose, local_read, local_tally, local_changes, local_basic}
 use Rattle.source_meaning.proofs.ActionsAct.{local_take_key, local_make_object, local_zero_variable, local_store_bytes, local_write_rvalue, local_take_value}
 use Rattle.source_meaning.proofs.Stays.{stays_on, stays_local, stays_done, stays_read, stays_counted, stays_choose, stays_set, neither, begin_stays, calls_stay, evaluate_stays}

@@ -1,6 +1,6 @@
 -- Runs that keep objects sound: from a good state they come to a good one, with what is known of the value that they give;
 -- where they end or pause, objects and accesses are kept.
-use Rattle.source_meaning.specs.Good.{function_count, After, Any, AreLow, ArgumentIs, ArgumentsAre, AreOfKinds, AreTyped, IsGiven, IsOfKind, IsOfType, IsWord, Basis, Context, HasContents, IsGood, IsGoodBy, IsTagged, Leaves, LvalueIs, OnName, OnPointer, OnValue, RvalueReach, Stops, StructureIs, Sure, TakenIs, ValueIs}
+use Rattle.source_meaning.specs.Good.{PlaceIs, ReachBy, function_count, After, Any, AreLow, ArgumentIs, ArgumentsAre, AreOfKinds, IsGiven, IsOfKind, IsOfType, IsWord, Basis, Context, HasContents, IsGood, IsGoodBy, IsTagged, Leaves, LvalueIs, OnName, OnPointer, OnValue, RvalueReach, Stops, StructureIs, Sure, TakenIs, ValueIs}
 use Rattle.std.proofs.Common.{◌≡◌, ℕ, ◌<◌, ◌^◌, zero, suc, List, [], ◌∷◌, Bool, true, false, Option, Some, None, refl, sym, ◌∙◌, subst, arith}
 use Rattle.sb_base.specs.declared.ending.Ending.{Ending}
 use Rattle.addr_map.specs.Places.{MapSizes}
@@ -20,7 +20,7 @@ use Rattle.source_meaning.specs.Structures.{rvalue, give, as_rvalue, as_pointer,
 use Rattle.source_meaning.specs.Expressions.{counted_as, counted}
 use Rattle.source_meaning.proofs.Naming.{IsWritable}
 use Rattle.source_meaning.specs.Keeping.{AreTagged, IsNoStructure}
-use Rattle.source_meaning.specs.Keeping.{LivesOn, IsDirect, IsNamed, AreSeparate}
+use Rattle.source_meaning.specs.Keeping.{LivesOn, IsDirect, AreSeparate}
 use Rattle.source_meaning.proofs.Separating.{separate_kept, ends_as_many, ends_same, ends_then}
 use Rattle.source_meaning.proofs.Holding.{all_lie_on, lives_same, lives_then, lives_kept, named_on, held_on}
 
@@ -175,17 +175,8 @@ pub record PlaceValueIs (functions : ℕ) (kind : Kind) (v : Value) (objects : O
 abbrev pub GivesScalar : (functions : ℕ) → Kind → Rvalue → Objects → Type 0
 GivesScalar functions kind v o = IsTagged functions v.value o × (v.contents ≡ None) × IsOfKind functions kind v.value
 
-abbrev pub ReachBy : Basis → (size : ℕ) → Value → Objects → Type 0
-ReachBy OnName size v objects = IsNamed objects v size
-ReachBy OnPointer size v objects = Unit {0}
-ReachBy OnValue size v objects = IsDirect objects v size
-
 pub stable_tag : (functions : ℕ) (v : Value) → IsStable (IsTagged functions v)
 stable_tag functions v old new l h = sound_tag_continues _ old new l.continues v.tag h
-
--- what a writable lvalue rests on
-abbrev pub PlaceIs : (functions : ℕ) → Basis → Kind → Value → Objects → Type 0
-PlaceIs functions b kind q o = IsTagged functions q o × ReachBy b (size_of_kind kind) q o
 
 writable_reach : (functions : ℕ) (b : Basis) → IsWritable b → (size : ℕ) (c : Option ObjectState) (v : Value) (o : Objects) → RvalueReach functions b size c v o → ReachBy b size v o
 writable_reach functions OnName w size c v o h = h.1

@@ -1,5 +1,5 @@
 -- The actions keep objects sound.
-use Rattle.source_meaning.specs.Good.{function_count, After, Any, AreTyped, IsGiven, IsOfKind, IsOfType, IsWord, plain_type, Basis, Context, IsGood, IsTagged, OnName, OnPointer, OnValue, Sure}
+use Rattle.source_meaning.specs.Good.{PlaceIs, ReachBy, on_pointer, function_count, After, Any, AreTyped, IsGiven, IsOfKind, IsOfType, IsWord, plain_type, Basis, Context, IsGood, IsTagged, OnName, OnPointer, OnValue, Sure}
 use Rattle.std.proofs.Common.{◌≡◌, ℕ, zero, suc, ◌+◌, ◌-◌, ◌*◌, ◌%◌, ◌^◌, List, [], ◌∷◌, Bool, true, false, Option, Some, None, get_or, set, refl, sym, ap, ◌∙◌, subst, arith, nat_lt, IfSome}
 use Rattle.behaviours.specs.Shown.{AccessKind, Read, Write}
 use Rattle.sb_base.specs.declared.ending.Ending.TheVariants.{Keys}
@@ -46,7 +46,7 @@ use Rattle.source_meaning.specs.Keeping.{AreTagged, LiesInObject, IsDirect}
 use Rattle.source_meaning.proofs.Naming.{Updates}
 use Rattle.source_meaning.proofs.Separating.{ends_same}
 use Rattle.source_meaning.proofs.Holding.{all_lie_more, lives_same, direct_named, direct_allowed, allowed_lies, judged_direct, direct_kept}
-use Rattle.source_meaning.proofs.Sure.{IsStable, stops_same, sure_on, sure_weak, sure_post, sure_frame, sure_done, sure_skip, sure_stop, sure_read, sure_tally, sure_choose, sure_objects, PlaceValueIs, PlaceIs, ReachBy, stable_tag}
+use Rattle.source_meaning.proofs.Sure.{IsStable, stops_same, sure_on, sure_weak, sure_post, sure_frame, sure_done, sure_skip, sure_stop, sure_read, sure_tally, sure_choose, sure_objects, PlaceValueIs, stable_tag}
 
 -- values
 
@@ -135,11 +135,6 @@ sure_callee {sc = sc} {P = P} functions type_number v line = by v.tag
     by (OfObject n b) = sure_stop
 
 -- accesses
-
-abbrev pub on_pointer : Basis → Bool
-on_pointer OnName = false
-on_pointer OnPointer = true
-on_pointer OnValue = false
 
 -- the access is allowed at the place, and the pointer is to its bytes
 abbrev pub IsFound : Value → (size : ℕ) → Place → Objects → Type 0

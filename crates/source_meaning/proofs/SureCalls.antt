@@ -1,5 +1,5 @@
 -- Calls keep objects sound: those of the callee are new, and die at its return, and the caller's names are good again.
-use Rattle.source_meaning.specs.Good.{function_count, After, Any, AreLow, AreTyped, ArgumentIs, ArgumentsAre, CompletionIs, Context, Inside, IsGood, IsHeld, IsTagged, Leaves, OnName, Stops, Sure, signature_in}
+use Rattle.source_meaning.specs.Good.{IsSetUp, PlaceIs, SetsUpBy, function_count, After, Any, AreLow, AreTyped, ArgumentIs, ArgumentsAre, CompletionIs, Context, Inside, IsGood, IsHeld, IsTagged, Leaves, OnName, Sure, signature_in}
 use Rattle.std.proofs.Common.{◌≡◌, ℕ, zero, suc, ◌+◌, ◌≤◌, List, [], ◌∷◌, ◌++◌, map, Bool, true, false, length, if◌then◌else◌, refl, sym, ap, ◌∙◌, subst, nat_le, nat_lt}
 use Rattle.std.proofs.lemmas.Bool.{leb-true}
 use Rattle.sb_base.specs.declared.ending.Ending.TheVariants.{Stack, Keys}
@@ -29,7 +29,7 @@ use Rattle.source_meaning.specs.Keeping.{AreTagged, AllLie, ArePlaced, IsKept, L
 use Rattle.source_meaning.proofs.ActionsAct.{continues_without}
 use Rattle.source_meaning.proofs.Separating.{separate_without, separate_back}
 use Rattle.source_meaning.proofs.Holding.{all_lie_on, lives_same, lives_then, held_on, held_named}
-use Rattle.source_meaning.proofs.Sure.{stops_then, IsStable, sure_on, sure_weak, sure_any, sure_post, sure_frame, sure_done, sure_skip, sure_read, sure_counted, PlaceIs, argument_on, argument_value, stable_tagged, stable_arguments}
+use Rattle.source_meaning.proofs.Sure.{stops_then, IsStable, sure_on, sure_weak, sure_any, sure_post, sure_frame, sure_done, sure_skip, sure_read, sure_counted, argument_on, argument_value, stable_tagged, stable_arguments}
 use Rattle.source_meaning.proofs.SureStructures.{sure_write_rvalue, zero_argument}
 use Rattle.source_meaning.proofs.SureFlow.{sure_begin_turn, row_sure}
 use Rattle.c_tree.specs.Blocks.{all_of, block_variables, body_variables}
@@ -120,17 +120,6 @@ module _ {sc : Context} (n : ℕ) (rest : List Variable) where
 
 -- what is set up
 
-pub record IsSetUp (sc : Context) (old : Objects) (s' : State) : Type 0 where
-  pub good : IsGood sc s'
-  pub lives : LivesOn old s'.objects
-  pub new : AllFrom (length old) s'.frame
-  pub ends : EndsBut old s'.objects s'.frame
-
-abbrev SetsUpBy : Context → Objects → Outcome (Unit {0}) → Type 0
-SetsUpBy sc old (Gives a s') = IsSetUp sc old s'
-SetsUpBy sc old (Ended e s') = Stops (function_count sc) sc.sizes old s'
-SetsUpBy sc old (Paused s') = Stops (function_count sc) sc.sizes old s'
-
 -- the names of a caller are of the same program
 abbrev pub calling_context : ProgramNames → (sizes : MapSizes) → Scope → Context
 calling_context u sizes around = record { scope = record around { statics = u.statics; functions = u.functions }; sizes = sizes }
@@ -203,7 +192,7 @@ module _ (u : ProgramNames) (f : Function) (names : FunctionNames u f) (g : Sett
     }
     tested s good tagged (Paused s1) h = absurd h
 
-    set_up_by : (s : State) → IsGood outer s → ArgumentsAre (length u.functions) (kinds_in f.parameters) vs s.objects → SetsUpBy inner s.objects (set_up g head vs line s)
+    pub set_up_by : (s : State) → IsGood outer s → ArgumentsAre (length u.functions) (kinds_in f.parameters) vs s.objects → SetsUpBy inner s.objects (set_up g head vs line s)
     set_up_by s good tagged =
         let s1 : State = record s { work = s.work + 1 } in
         tested s1 good tagged (call_tests g head line s1) (tests_pass g head line s1)
@@ -241,11 +230,15 @@ module _ (u : ProgramNames) (f : Function) (names : FunctionNames u f) (g : Sett
           ended = ended;
         }
 
+    pub left_good : (s : State) → IsGood outer s → (s1 s2 : State) → IsSetUp inner s.objects s1 → Leaves inner s1 s2 → Leaves outer s (back_to (caller s) s2)
+    left_good s good s1 s2 up h =
+        back_good s good s2 h.good (lives_then s.objects s1.objects s2.objects up.lives h.lives) (subst (λ x. AllFrom (length s.objects) x) (sym h.frame) up.new)
+        (subst (λ x. EndsBut s.objects s2.objects x) (sym h.frame) (ends_but_then s.objects s1.objects s2.objects s1.frame up.ends h.lives.continues h.ended))
+
     returns_by : (s : State) → IsGood outer s → (s1 : State) → IsSetUp inner s.objects s1 → (o : Outcome Completion) → After inner s1 (CompletionIs (length u.functions) given) o
         → After outer s (ArgumentIs (length u.functions) given) (on o (λ completion. change (back_to (caller s)) >> done (returned_by given completion)))
     returns_by s good s1 up (Gives completion s2) h = (
-      back_good s good s2 h.0.good (lives_then s.objects s1.objects s2.objects up.lives h.0.lives) (subst (λ x. AllFrom (length s.objects) x) (sym h.0.frame) up.new)
-          (subst (λ x. EndsBut s.objects s2.objects x) (sym h.0.frame) (ends_but_then s.objects s1.objects s2.objects s1.frame up.ends h.0.lives.continues h.0.ended)),
+      left_good s good s1 s2 up h.0,
       returned_is given completion s2.objects (without_homes s2.frame s2.objects) (continues_without s2.frame s2.objects) h.1,
     )
     returns_by s good s1 up (Ended e s2) h = stops_then s.objects s1.objects s2 up.lives h

@@ -36,7 +36,7 @@ use Rattle.source_meaning.specs.Actions.{integer, is_zero, make_object}
 use Rattle.source_meaning.specs.Heap.{tally_blocks, block_place, make_block, allocate, bad_free, is_block_start, freed_object, freed_by, freed, release, free, calloc, move_block, replace_block, realloc}
 use Rattle.source_meaning.specs.Library.{putchar, next_byte, argument, routine}
 use Rattle.source_meaning.specs.Strings.{reach}
-use Rattle.source_meaning.specs.Keeping.{AreTagged, IsDirect}
+use Rattle.source_meaning.specs.Keeping.{IsDirect}
 use Rattle.source_meaning.proofs.Holding.{beyond, length-new, length-dead, lives_same, lives_kept, lives_new, lives_dead_block}
 use Rattle.source_meaning.proofs.Sure.{IsStable, sure_frame, sure_beside, sure_objects, stable_tag, stable_tagged, sure_on, sure_weak, sure_any, sure_post, sure_done, sure_stop, sure_read, sure_tally, sure_choose, good_on}
 use Rattle.source_meaning.proofs.SureActions.{stable_beside, sure_located, sure_put_bytes, sure_take_key}

@@ -1,5 +1,5 @@
 -- A program that names what is there keeps its objects sound, and its accesses are of bytes of objects.
-use Rattle.source_meaning.specs.Good.{function_count, After, Any, AreLow, ArgumentIs, ArgumentsAre, Calling, Context, Inside, IsGood, IsHeld, Sure, context_of, signature_in, static_kind}
+use Rattle.source_meaning.specs.Good.{function_count, IsSetUp, SetsUpBy, Leaves, After, Any, AreLow, ArgumentIs, ArgumentsAre, Calling, Context, Inside, IsGood, IsHeld, Sure, context_of, signature_in, static_kind}
 use Rattle.std.proofs.Common.{◌≡◌, ℕ, zero, suc, ◌+◌, ◌/◌, ◌%◌, ◌≤◌, ◌<◌, List, [], ◌∷◌, map, Bool, true, false, Option, Some, None, length, get_or, replicate, refl, sym, ap, ◌∙◌, subst, arith, inl, inr, ◌⊎◌, ◌≢◌}
 use Rattle.std.proofs.lemmas.Bool.{cases_lt, eqb-true}
 use Rattle.std.proofs.lemmas.List.{length-map, length-replicate}
@@ -25,10 +25,10 @@ use Rattle.c_tree.specs.Blocks.{all_of}
 use Rattle.source_meaning.specs.Places.{statics_first, stack_first}
 use Rattle.c_tree.specs.Kinds.{size_of_kind, Signature}
 use Rattle.c_tree.specs.declared.expression.Kind.TheVariants.{Void}
-use Rattle.source_meaning.specs.Calls.{header_of, env_of, result_of, enter, enter_found, function_at, calls}
+use Rattle.source_meaning.specs.Calls.{header_of, env_of, result_of, set_up, caller, back_to, enter, enter_found, function_at, calls}
 use Rattle.source_meaning.specs.Meaning.{placed_statics, statics_end, setting_of, fresh, static_env, store_statics, objects_after, initial_objects, start, line_of, outcome}
 use Rattle.source_meaning.specs.Acting.{state_of}
-use Rattle.source_meaning.proofs.Naming.{ProgramNames, scope_of, FunctionNames, FunctionsName, file_scope, PartsName, StaticsName, function_signatures, names_of, NamesObjects}
+use Rattle.source_meaning.proofs.Naming.{ProgramNames, kinds_in, scope_of, FunctionNames, FunctionsName, file_scope, PartsName, StaticsName, function_signatures, names_of, NamesObjects}
 use Rattle.source_meaning.specs.Keeping.{region_of, IsInRegion, IsNamed, AreSeparate, IsSoundState}
 use Rattle.source_meaning.proofs.Separating.{separate_back}
 use Rattle.source_meaning.proofs.Holding.{live_made, held_named}
@@ -36,7 +36,7 @@ use Rattle.source_meaning.proofs.Laying.{low_word}
 use Rattle.c_tree.specs.Valid.{Scope}
 use Rattle.source_meaning.proofs.Sure.{sure_on, sure_any, sure_skip, sure_stop, sure_pause, sure_read}
 use Rattle.source_meaning.proofs.SureTree.{parts_sure}
-use Rattle.source_meaning.proofs.SureCalls.{calling_context, enter_sure}
+use Rattle.source_meaning.proofs.SureCalls.{calling_context, set_up_by, left_good, enter_sure}
 use Rattle.source_meaning.proofs.SureLibrary.{sure_routine}
 use Rattle.source_meaning.proofs.SureBytes.{sure_print}
 
@@ -352,3 +352,16 @@ module _ (p : Program) (budgets : BudgetSizes) (mapped : AreMapped (setting_of p
         at = refl;
         mapped = mapped;
       }
+
+  -- a call of a function is set up from a good state of its caller, and leaves one where it returns
+  module _ (n : ℕ) (f : Function) (found : function_at p.functions n ≡ Some f) (around : Scope) where
+    of_function : FunctionNames (names_of p) f
+    of_function = subst (NamesFound (names_of p)) found (found_names (names_of p) p.functions names.functions n)
+
+    pub call_set_up : (vs : List Rvalue) (line : ℕ) (s : State) → IsGood (calling_context (names_of p) (setting_of p budgets).sizes around) s → ArgumentsAre (length (names_of p).functions) (kinds_in f.parameters) vs s.objects
+        → SetsUpBy (record { scope = scope_of (names_of p) f; sizes = (setting_of p budgets).sizes }) s.objects (set_up (setting_of p budgets) (header_of f) vs line s)
+    call_set_up vs line s good args = set_up_by (names_of p) f of_function (setting_of p budgets) (setting_of p budgets).sizes refl mapped around vs line s good args
+
+    pub call_left : (s s1 s2 : State) → IsGood (calling_context (names_of p) (setting_of p budgets).sizes around) s → IsSetUp (record { scope = scope_of (names_of p) f; sizes = (setting_of p budgets).sizes }) s.objects s1
+        → Leaves (record { scope = scope_of (names_of p) f; sizes = (setting_of p budgets).sizes }) s1 s2 → Leaves (calling_context (names_of p) (setting_of p budgets).sizes around) s (back_to (caller s) s2)
+    call_left s s1 s2 good up h = left_good (names_of p) f of_function (setting_of p budgets) (setting_of p budgets).sizes refl mapped around [] 0 s good s1 s2 up h

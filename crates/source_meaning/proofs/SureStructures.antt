@@ -1,5 +1,5 @@
 -- Structures by value keep objects sound: contents are sound, and have all bytes of the structure.
-use Rattle.source_meaning.specs.Good.{function_count, AreLow, IsGiven, IsOfType, IsWord, Any, ArgumentIs, Basis, Context, HasContents, IsTagged, LvalueIs, OnName, OnPointer, OnValue, RvalueReach, StructureIs, Sure, ValueIs}
+use Rattle.source_meaning.specs.Good.{PlaceIs, ReachBy, on_pointer, function_count, AreLow, IsGiven, IsOfType, IsWord, Any, ArgumentIs, Basis, Context, HasContents, IsTagged, LvalueIs, OnName, OnPointer, OnValue, RvalueReach, StructureIs, Sure, ValueIs}
 use Rattle.std.proofs.Common.{◌≡◌, ℕ, ◌+◌, ◌/◌, ◌%◌, ◌<◌, ◌≤◌, [], ◌∷◌, true, false, ◌==◌, if◌then◌else◌, Option, Some, None, length, get_or, take, drop, refl, ◌∙◌, arith, length-take, length-drop}
 use Rattle.obj_memory.specs.declared.value.Tag.TheVariants.{Untagged}
 use Rattle.obj_memory.specs.declared.value.Value.{Value}
@@ -24,8 +24,8 @@ use Rattle.source_meaning.specs.Structures.{rvalue, moved_into, contents_of, wit
 use Rattle.source_meaning.specs.Keeping.{IsDirect}
 use Rattle.source_meaning.proofs.ActionsAct.{continues_put}
 use Rattle.source_meaning.proofs.Holding.{direct_kept}
-use Rattle.source_meaning.proofs.Sure.{zero_of_kind, zero_of_type, sure_value, sure_on, sure_weak, sure_frame, sure_done, sure_read, stable_tag, sure_tally, sure_objects, PlaceIs, ReachBy, place_value}
-use Rattle.source_meaning.proofs.SureActions.{on_pointer, sure_located, sure_store, sure_read_lvalue, sure_copy, IsFound}
+use Rattle.source_meaning.proofs.Sure.{zero_of_kind, zero_of_type, sure_value, sure_on, sure_weak, sure_frame, sure_done, sure_read, stable_tag, sure_tally, sure_objects, place_value}
+use Rattle.source_meaning.proofs.SureActions.{sure_located, sure_store, sure_read_lvalue, sure_copy, IsFound}
 
 -- contents
 

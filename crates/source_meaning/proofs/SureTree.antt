@@ -1,5 +1,5 @@
 -- Expressions, lvalues and initializers keep objects sound, and an lvalue that rests on a name is of bytes of a live object.
-use Rattle.source_meaning.specs.Good.{function_count, AreOfKinds, IsGiven, IsOfKind, IsOfType, IsWord, After, Any, ArgumentIs, ArgumentsAre, Basis, Calling, Context, HasContents, IsGood, IsTagged, LvalueIs, OfKind, OnName, OnPointer, OnValue, RvalueReach, StructureIs, Sure, ValueIs, basis_of, giving, node_basis, object_kind, signature_in, static_kind}
+use Rattle.source_meaning.specs.Good.{PlaceIs, on_pointer, function_count, AreOfKinds, IsGiven, IsOfKind, IsOfType, IsWord, After, Any, ArgumentIs, ArgumentsAre, Basis, Calling, Context, HasContents, IsGood, IsTagged, LvalueIs, OfKind, OnName, OnPointer, OnValue, RvalueReach, StructureIs, Sure, ValueIs, basis_of, giving, node_basis, object_kind, signature_in, static_kind}
 use Rattle.std.proofs.Common.{◌≡◌, ℕ, ◌+◌, ◌<◌, ◌≤◌, Bool, true, false, ◌&&◌, ◌==◌, List, [], ◌∷◌, Option, Some, None, length, refl, sym, subst, arith}
 use Rattle.obj_memory.specs.declared.int_type.IntType.TheVariants.{Char, Int, Long}
 use Rattle.obj_memory.specs.declared.operator.BinaryOperator.{BinaryOperator}
@@ -19,7 +19,6 @@ use Rattle.obj_memory.specs.declared.value.Scalar.TheVariants.{Integer, Pointer}
 use Rattle.obj_memory.specs.Objects.{ObjectState, Objects, pointer_to}
 use Rattle.obj_memory.specs.Integers.{size_of}
 use Rattle.obj_memory.specs.Judgement.{narrowed}
-use Rattle.obj_memory.specs.Access.{scalar_size}
 use Rattle.obj_memory.proofs.Judging.{sound_pointer, sound_narrowed}
 use Rattle.c_tree.specs.declared.expression.Fixity.{Fixity}
 use Rattle.c_tree.specs.declared.expression.Fixity.TheVariants.{Prefix}
@@ -39,9 +38,9 @@ use Rattle.source_meaning.proofs.Naming.{IsStructureWith, IsConstantOf, PlainNam
 use Rattle.source_meaning.specs.Keeping.{IsNamed}
 use Rattle.source_meaning.proofs.Holding.{direct_less, direct_narrowed, named_less, named_narrowed, named_on, held_named}
 use Rattle.source_meaning.proofs.Laying.{low_word}
-use Rattle.source_meaning.proofs.Sure.{IsStable, sure_on, sure_weak, sure_if_good, sure_any, sure_post, sure_frame, sure_beside, sure_done, sure_value, sure_skip, sure_stop, sure_read, sure_tally, sure_counted_as, sure_counted, sure_choose, GivesScalar, PlaceIs, ReachBy, writable_place, stable_place, stable_tag, stable_argument, argument_value, arguments_tagged, arguments_of_kinds, word_of_kind, plainly, of_kind, sure_give, as_sure, pointer_sure}
+use Rattle.source_meaning.proofs.Sure.{IsStable, sure_on, sure_weak, sure_if_good, sure_any, sure_post, sure_frame, sure_beside, sure_done, sure_value, sure_skip, sure_stop, sure_read, sure_tally, sure_counted_as, sure_counted, sure_choose, GivesScalar, writable_place, stable_place, stable_tag, stable_argument, argument_value, arguments_tagged, arguments_of_kinds, word_of_kind, plainly, of_kind, sure_give, as_sure, pointer_sure}
 use Rattle.source_meaning.proofs.SureStructures.{direct_word, sure_read_rvalue, sure_write_rvalue, take_sure}
-use Rattle.source_meaning.proofs.SureActions.{converted_tagged, converted_is, offset_tagged, offset_word, sure_operate, on_pointer, sure_store, sure_update, sure_set_plain, sure_update_plain, sure_zero_variable}
+use Rattle.source_meaning.proofs.SureActions.{converted_tagged, converted_is, offset_tagged, offset_word, sure_operate, sure_store, sure_update, sure_set_plain, sure_update_plain, sure_zero_variable}
 
 -- lvalues
 

@@ -9,8 +9,6 @@ use Rattle.obj_memory.specs.declared.value.Scalar.{Scalar}
 use Rattle.obj_memory.specs.declared.value.Scalar.TheVariants.{Integer, Pointer}
 use Rattle.obj_memory.specs.declared.operator.BinaryOperator.{BinaryOperator}
 use Rattle.obj_memory.specs.Integers.{fit}
-use Rattle.obj_memory.specs.declared.operator.UnaryOperator.{UnaryOperator}
-use Rattle.obj_memory.specs.declared.operator.UnaryOperator.TheVariants.{Plus, Negate, Complement, Not}
 use Rattle.c_tree.specs.declared.expression.Kind.{Kind}
 use Rattle.c_tree.specs.declared.expression.Kind.TheVariants.{Void, Scalar as OfScalar, Structure, Array}
 use Rattle.c_tree.specs.declared.expression.Update.{Update}
@@ -18,7 +16,7 @@ use Rattle.c_tree.specs.declared.expression.Update.TheVariants as update
 use Rattle.c_tree.specs.declared.expression.Routine.{Routine}
 use Rattle.c_tree.specs.declared.expression.Routine.TheVariants.{Malloc, Calloc, Free, Realloc, Memcpy, Memmove, Memset, Memcmp, Strlen, Strcmp, Strcpy, Strncpy, Strcat, Strchr, Putchar, Getchar, Puts, Exit, Abort}
 use Rattle.c_tree.specs.Tree.{Expression, expression, Expressions, no_expressions, expressions, Lvalue, lvalue, Node, constant, function, plain, read, decay, address, parenthesized, deref_function, address_function, cast, convert, unary, binary, offset_by, difference, logical_and, logical_or, comma, conditional, assign, assign_plain, compound, change_plain, step, step_plain, call, call_through, library, printf, LvalueNode, automatic, static, deref, index, member, arrow, member_of_value, parenthesized_lvalue, kind_of, lvalue_kind, kinds_of}
-use Rattle.c_tree.specs.Kinds.{is_size, is_step_operator, integer, pointer, int_number, is_int_type, is_kind, are_kinds, size_of_kind, is_integer, is_promoted_type, is_promoted, is_scalar, is_value, is_array, has_member, OperatorClass, Arithmetic, Shift, Comparison, class_of, are_operands, Signature, routine_signature}
+use Rattle.c_tree.specs.Kinds.{is_size, is_step_operator, integer, pointer, int_number, is_int_type, is_kind, are_kinds, size_of_kind, is_integer, is_promoted_type, is_scalar, is_value, is_array, has_member, class_of, are_operands, routine_signature}
 use Rattle.c_tree.specs.Valid.{is_constant, is_plain, is_operand, is_conversion, is_right_of, is_update, is_step, is_call, no_signature, is_lvalue, is_lvalue_node, is_member, is_valid, is_node, are_valid, is_valid_lvalue, is_valid_lvalue_node}
 use Rattle.c_tree.specs.declared.program.Variable.{Variable}
 use Rattle.c_tree.specs.Valid as valid

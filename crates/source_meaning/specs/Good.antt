@@ -1,6 +1,6 @@
 -- Good states, and what every part of a run makes of them: objects and tags are sound, each variable whose block is
 -- entered has its home in a live object, and what an expression or an lvalue gives is sound.
-use Rattle.std.specs.Prelude.{◌≡◌, ◌⊎◌, ℕ, zero, suc, ◌+◌, ◌<◌, ◌≤◌, ◌^◌, true, false, if◌then◌else◌, List, [], ◌∷◌, Option, Some, None, length, get_or}
+use Rattle.std.specs.Prelude.{◌≡◌, ◌⊎◌, ℕ, Bool, zero, suc, ◌+◌, ◌<◌, ◌≤◌, ◌^◌, true, false, if◌then◌else◌, List, [], ◌∷◌, Option, Some, None, length, get_or}
 use Rattle.behaviours.specs.Shown.{Access}
 use Rattle.obj_memory.specs.declared.int_type.IntType.TheVariants.{Int}
 use Rattle.obj_memory.specs.declared.value.Tag.TheVariants.{Untagged}
@@ -233,6 +233,22 @@ pub record LvalueIs (functions : ℕ) (b : Basis) (kind : Kind) (q : Rvalue) (ob
   pub reach : RvalueReach functions b (size_of_kind kind) q.contents q.value objects
   pub word : IsWord functions q.value.word
 
+-- an access is judged where a pointer leads to it
+abbrev pub on_pointer : Basis → Bool
+on_pointer OnName = false
+on_pointer OnPointer = true
+on_pointer OnValue = false
+
+-- what a place is that an access names or goes to
+abbrev pub ReachBy : Basis → (size : ℕ) → Value → Objects → Type 0
+ReachBy OnName size v objects = IsNamed objects v size
+ReachBy OnPointer size v objects = Unit {0}
+ReachBy OnValue size v objects = IsDirect objects v size
+
+-- a place that a value can be written to: its tag is sound, and a name's bytes are there
+abbrev pub PlaceIs : (functions : ℕ) → Basis → Kind → Value → Objects → Type 0
+PlaceIs functions b kind q o = IsTagged functions q o × ReachBy b (size_of_kind kind) q o
+
 -- the value of a return is a result of the function's kind
 abbrev pub CompletionIs : (functions : ℕ) → (result : Kind) → Completion → Objects → Type 0
 CompletionIs functions result Normal o = Unit {0}
@@ -304,3 +320,24 @@ abbrev pub EntersBy : Scope → (sizes : MapSizes) → (all vars : List Variable
 EntersBy base sizes all vars numbers s (Gives b s') = IsEntered base sizes all vars numbers s b s'
 EntersBy base sizes all vars numbers s (Ended e s') = Stops (length base.functions) sizes s.objects s'
 EntersBy base sizes all vars numbers s (Paused s') = ⊥
+
+-- calls
+
+-- what can be named in some scope of a program
+abbrev pub program_context : Program → (sizes : MapSizes) → Scope → Context
+program_context p sizes around = record {
+  scope = record around { statics = (file_scope p).statics; functions = (file_scope p).functions };
+  sizes = sizes;
+}
+
+-- a call is set up: the callee's variables have homes, in objects that are new
+pub record IsSetUp (sc : Context) (old : Objects) (s' : State) : Type 0 where
+  pub good : IsGood sc s'
+  pub lives : LivesOn old s'.objects
+  pub new : AllFrom (length old) s'.frame
+  pub ends : EndsBut old s'.objects s'.frame
+
+abbrev pub SetsUpBy : Context → Objects → Outcome (Unit {0}) → Type 0
+SetsUpBy sc old (Gives a s') = IsSetUp sc old s'
+SetsUpBy sc old (Ended e s') = Stops (function_count sc) sc.sizes old s'
+SetsUpBy sc old (Paused s') = Stops (function_count sc) sc.sizes old s'

@@ -1,6 +1,6 @@
 //! Laws of the definitions, each as the contract of a function that does nothing: layers above rest on
 //! them.
-ghost use Rattle.std.specs.Prelude.{◌≡◌, ◌≤◌, ℕ, List, Bool, true, false, length};
+ghost use Rattle.std.specs.Prelude.{◌≡◌, ℕ, List, Bool, true, false, length, map, Some};
 ghost use Rattle.behaviours.specs.Behaviour.{IsSource};
 ghost use Rattle.sb_base.specs.Budgets.{BudgetSizes};
 ghost use Rattle.addr_map.specs.Places.{AreMapped, MapSizes};
@@ -12,6 +12,10 @@ ghost use Rattle.obj_memory.specs.declared.value.Scalar.{Scalar};
 ghost use Rattle.obj_memory.specs.declared.value.Place.{Place};
 ghost use Rattle.obj_memory.specs.Sound.{Continues, IsAllowed, IsSoundTag};
 ghost use Rattle.c_tree.specs.declared.expression.Kind.{Kind};
+ghost use Rattle.c_tree.specs.declared.expression.Kind.TheVariants.{Scalar as OfScalar};
+ghost use Rattle.c_tree.specs.Kinds.{routine_signature};
+ghost use Rattle.obj_memory.specs.declared.int_type.IntType.TheVariants.{Int};
+ghost use Rattle.obj_memory.specs.declared.value.Scalar.TheVariants.{Integer};
 ghost use Rattle.c_tree.specs.declared.expression.Update.{Update};
 ghost use Rattle.c_tree.specs.declared.expression.Fixity.{Fixity};
 ghost use Rattle.c_tree.specs.declared.expression.Routine.{Routine};
@@ -26,7 +30,7 @@ ghost use Rattle.source_meaning.specs.Initializers.{zero_variable, store_bytes};
 ghost use Rattle.source_meaning.specs.Library.{routine};
 ghost use Rattle.source_meaning.specs.Printing.{print_formatted};
 ghost use Rattle.source_meaning.specs.Blocks.{Block, enter_block, leave_block};
-ghost use Rattle.source_meaning.specs.Calls.{Caller, back_to, calls, env_of, set_up};
+ghost use Rattle.source_meaning.specs.Calls.{Caller, back_to, caller, calls, env_of, function_at, header_of, set_up};
 ghost use Rattle.source_meaning.specs.Meaning.{meaning, outcome, initial_objects, setting_of, start};
 ghost use Rattle.source_meaning.specs.Acting.{IsAction, RunsAlike, state_of};
 ghost use Rattle.source_meaning.specs.Turns.{Grows};
@@ -39,9 +43,9 @@ ghost use Rattle.source_meaning.specs.Staying.{Stays, Keeps, KeepsLives, frees};
 ghost use Rattle.c_tree.specs.Valid.{Scope, are_valid, is_valid, is_valid_lvalue};
 ghost use Rattle.source_meaning.specs.Initializers.{initialize_all};
 ghost use Rattle.source_meaning.specs.Statements.{execute};
-ghost use Rattle.source_meaning.specs.Good.{EntersBy, IsEntered, Leaves, Any, ArgumentIs, ArgumentsAre, basis_of, Calling, CompletionIs, Context, context_of, file_scope, function_count, Inside, IsGood, LvalueIs, signature_in, Sure, ValueIs};
+ghost use Rattle.source_meaning.specs.Good.{EntersBy, IsEntered, Leaves, Any, ArgumentIs, ArgumentsAre, basis_of, Calling, CompletionIs, Context, context_of, file_scope, function_count, Inside, IsGood, LvalueIs, signature_in, Sure, ValueIs, program_context, SetsUpBy, IsSetUp, AreGiven, Basis, IsGiven, IsTagged, on_pointer, plain_type, PlaceIs};
 ghost use Rattle.source_meaning.specs.Judging.{tested};
-ghost use Rattle.source_meaning.specs.Keeping.{IsDirect, IsSoundState};
+ghost use Rattle.source_meaning.specs.Keeping.{AreTagged, IsDirect, IsSoundState};
 
 /// More turns show more of the same: what is shown never shrinks, no work and no turn is taken back, and
 /// a run that ended stays as it is.
@@ -275,4 +279,48 @@ pub fn variables_change_where_they_are_set()
     ensures print { (format : List ℕ) (vs : List Value) (line : ℕ) → Keeps (print_formatted format vs line) }
     ensures callee { (functions : List Header) (type_number : ℕ) (v : Value) (line : ℕ)
         → Keeps (callee functions type_number v line) }
+{}
+
+/// A call of a valid program that is set up from a good state is ended there, or leaves a good state of the function that
+/// is called; where it returns, the caller's state is good again.
+pub fn calls_are_entered_and_left()
+    ensures enter { (p : Program) (budgets : BudgetSizes) → AreMapped (setting_of p budgets).sizes
+        → is_valid_program p ≡ true → (n : ℕ) (f : Function) → function_at p.functions n ≡ Some f → (around : Scope)
+        → (vs : List Rvalue) (line : ℕ) (s : State)
+        → IsGood (program_context p (setting_of p budgets).sizes around) s
+        → ArgumentsAre (length (file_scope p).functions) (map (λ v. v.kind) f.parameters) vs s.objects
+        → SetsUpBy (record { scope = function_scope p f; sizes = (setting_of p budgets).sizes }) s.objects
+        (set_up (setting_of p budgets) (header_of f) vs line s) }
+    ensures leave { (p : Program) (budgets : BudgetSizes) → AreMapped (setting_of p budgets).sizes
+        → is_valid_program p ≡ true → (n : ℕ) (f : Function) → function_at p.functions n ≡ Some f → (around : Scope)
+        → (s s1 s2 : State) → IsGood (program_context p (setting_of p budgets).sizes around) s
+        → IsSetUp (record { scope = function_scope p f; sizes = (setting_of p budgets).sizes }) s.objects s1
+        → Leaves (record { scope = function_scope p f; sizes = (setting_of p budgets).sizes }) s1 s2
+        → Leaves (program_context p (setting_of p budgets).sizes around) s (back_to (caller s) s2) }
+{}
+
+/// Each action of an expression keeps states good, and gives what is of its kind: reads and writes of lvalues of each
+/// basis, updates, plain variables, operators, initializers, routines.
+pub fn actions_keep_states_good()
+    ensures read { (sc : Context) (b : Basis) (kind : Kind) (q : Rvalue) (line : ℕ)
+        → Sure sc (LvalueIs (function_count sc) b kind q) (read_rvalue kind (on_pointer b) q line)
+        (ValueIs (function_count sc) kind) }
+    ensures write { (sc : Context) (b : Basis) (kind : Kind) (q : Value) (line : ℕ) (v : Rvalue)
+        → Sure sc (λ o. PlaceIs (function_count sc) b kind q o × ValueIs (function_count sc) kind v o)
+        (write_rvalue kind (on_pointer b) q line v) (ValueIs (function_count sc) kind) }
+    ensures taken { (sc : Context) (kind : Kind) (line : ℕ) (v : Rvalue)
+        → Sure sc (ValueIs (function_count sc) kind v) (take_value kind line v) (ArgumentIs (function_count sc) kind) }
+    ensures plain { (sc : Context) (x : ℕ) (k : Scalar) → plain_type sc.scope.variables x ≡ Some k → (v : Value)
+        → Sure sc (IsGiven (function_count sc) (OfScalar k) v) (set_plain x v)
+        (λ done o. IsTagged (function_count sc) v o) }
+    ensures zero { (sc : Context) (x : ℕ) → Sure sc Any (zero_variable x) (λ done. Any) }
+    ensures put { (sc : Context) (bytes : List ℕ) → Sure sc Any (put_bytes bytes) (λ done. Any) }
+    ensures key { (sc : Context) (g : Setting) (line : ℕ) → Sure sc Any (take_key g line) (λ done. Any) }
+    ensures routine { (sc : Context) (g : Setting) → AreMapped g.sizes → g.sizes ≡ sc.sizes → (r : Routine)
+        → (vs : List Value) (line : ℕ)
+        → Sure sc (AreGiven (function_count sc) (routine_signature r).parameters vs) (routine g r vs line)
+        (IsGiven (function_count sc) (routine_signature r).result) }
+    ensures print { (sc : Context) (format : List ℕ) (vs : List Value) (line : ℕ)
+        → Sure sc (AreTagged (function_count sc) vs) (print_formatted format vs line)
+        (IsGiven (function_count sc) (OfScalar (Integer Int))) }
 {}

@@ -5,7 +5,8 @@ use Rattle.addr_map.specs.declared.region.Region.{Region}
 use Rattle.addr_map.specs.declared.region.Region.TheVariants.{JumpTable, Code, Globals, Stack, Heap, Shadow, Locks}
 use Rattle.addr_map.specs.declared.region.Region.TheVariants.{FreeLocks, Blocks, StructureValues, Cells}
 use Rattle.addr_map.specs.declared.region.Region.TheVariants.{Arguments, Calls, RuntimeCalls}
-use Rattle.addr_map.specs.Places.{MapSizes, AreMapped, whole_pages, order_of, region_size, region_start, region_end, behind_locks}
+use Rattle.addr_map.specs.Places.{MapSizes, AreMapped, whole_pages, order_of, region_size, region_start, region_end}
+use Rattle.addr_map.specs.Places.{behind_locks}
 use Rattle.addr_map.specs.Places.{code_begin, code_size, objects_begin, spaces_begin}
 
 pages_below : (n bound : ℕ) → n + 4095 ≤ bound → whole_pages n ≤ bound
@@ -255,8 +256,14 @@ start_whole m h Arguments = omega
     (arith, behind_blocks_whole m h, size_whole m h StructureValues, size_whole m h Cells)
 start_whole m h Calls = omega
     (arith, behind_blocks_whole m h, size_whole m h StructureValues, size_whole m h Cells, size_whole m h Arguments)
-start_whole m h RuntimeCalls = omega
-    (arith, behind_blocks_whole m h, size_whole m h StructureValues, size_whole m h Cells, size_whole m h Arguments, size_whole m h Calls)
+start_whole m h RuntimeCalls = omega (
+  arith,
+  behind_blocks_whole m h,
+  size_whole m h StructureValues,
+  size_whole m h Cells,
+  size_whole m h Arguments,
+  size_whole m h Calls,
+)
 
 pub starts_whole : (m : MapSizes) → AreMapped m → (r : Region) → region_start m r % 4096 ≡ 0
 starts_whole = start_whole
@@ -272,7 +279,19 @@ last_low m h =
     let t : region_size m Cells ≡ 4096 = size_of_cells m in
     let a : region_size m Arguments ≡ 8192 = size_of_arguments m in
     let r : region_size m RuntimeCalls ≡ 65536 = size_of_runtime_calls m in
-    omega (arith, shadow_small m h, locks_small m h, free_locks_small m h, blocks_small m h, c, v, t, a, r, h.budgets.calls.greatest)
+    omega (
+      arith,
+      shadow_small m h,
+      locks_small m h,
+      free_locks_small m h,
+      blocks_small m h,
+      c,
+      v,
+      t,
+      a,
+      r,
+      h.budgets.calls.greatest,
+    )
 
 pub ends_low : (m : MapSizes) → AreMapped m → (r : Region) → region_end m r < 0x60000000
 unfolding region_at

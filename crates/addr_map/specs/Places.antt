@@ -25,7 +25,8 @@ spaces_begin = 0x40000000
 abbrev pub code_size : ℕ
 code_size = 0x800000
 
--- whether an address is one of compiled code, and whether it is one of object space: the accesses of a program's own are
+-- whether an address is one of compiled code, and whether it is one of object space: the accesses of a program's own
+-- are
 -- those that instructions of compiled code make of object space
 abbrev pub is_code_address : ℕ → Bool
 is_code_address a = nat_le code_begin a && nat_lt a (code_begin + code_size)
@@ -93,9 +94,11 @@ region_start m StructureValues = behind_locks m + region_size m Blocks
 region_start m Cells = behind_locks m + region_size m Blocks + region_size m StructureValues
 region_start m Arguments = behind_locks m + region_size m Blocks + region_size m StructureValues + region_size m Cells
 region_start m Calls =
-    behind_locks m + region_size m Blocks + region_size m StructureValues + region_size m Cells + region_size m Arguments
+    behind_locks m + region_size m Blocks + region_size m StructureValues + region_size m Cells
+    + region_size m Arguments
 region_start m RuntimeCalls =
-    behind_locks m + region_size m Blocks + region_size m StructureValues + region_size m Cells + region_size m Arguments
+    behind_locks m + region_size m Blocks + region_size m StructureValues + region_size m Cells
+    + region_size m Arguments
     + region_size m Calls
 
 -- its last address, one below the first where it is empty

@@ -7,13 +7,18 @@
 //! | `Globals` | 0x10000000 | the objects of static storage duration, in whole pages of 4096 bytes |
 //! | `Stack` | behind `Globals` | the budget `stack`: automatic objects |
 //! | `Heap` | behind `Stack` | the budget `heap`: allocated objects |
-//! | `Shadow` | 0x40000000 | the entries of the words of `Globals`, `Stack` and `Heap`: of 32 bytes each (four for each byte of object space), 8 bytes of a first level for each page of object space, and a cell of 8 bytes |
-//! | `Locks` | behind `Shadow` | a lock word for `Globals`, for each 16 bytes of `Stack` and for each of the budget `blocks` |
+//! | `Shadow` | 0x40000000 | the entries of the words of `Globals`, `Stack` and `Heap`: of 32 bytes each (four for each
+//! byte of object space), 8 bytes of a first level for each page of object space, and a cell of 8 bytes |
+//! | `Locks` | behind `Shadow` | a lock word for `Globals`, for each 16 bytes of `Stack` and for each of the budget
+//! `blocks` |
 //! | `FreeLocks` | behind `Locks` | a word for each lock word, and a cell |
-//! | `Blocks` | behind `FreeLocks` | for each of the budget `blocks` an address, a size, a key and a lock word's address, and a cell |
-//! | `StructureValues` | behind `Blocks` | the budget `calls`: structures that wait as values, five bytes for each of theirs |
+//! | `Blocks` | behind `FreeLocks` | for each of the budget `blocks` an address, a size, a key and a lock word's
+//! address, and a cell |
+//! | `StructureValues` | behind `Blocks` | the budget `calls`: structures that wait as values, five bytes for each of
+//! theirs |
 //! | `Cells` | behind `StructureValues` | 4096: single words of the runtime |
-//! | `Arguments` | behind `Cells` | 8192: five words for each argument of a call, of which there are at most 127, and for its result |
+//! | `Arguments` | behind `Cells` | 8192: five words for each argument of a call, of which there are at most 127, and
+//! for its result |
 //! | `Calls` | behind `Arguments` | the budget `calls`: activation records of the program's functions |
 //! | `RuntimeCalls` | behind `Calls` | 65536: those of the runtime's functions, whose calls do not nest deeper |
 //!

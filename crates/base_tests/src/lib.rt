@@ -1,4 +1,5 @@
-//! Tests of the crates at the bottom: budgets and endings, regions of memory, words of a command, what is outside, images.
+//! Tests of the crates at the bottom: budgets and endings, regions of memory, words of a command, what is outside,
+//! images.
 #![tactic(auto)]
 
 #[cfg(test)]

@@ -1,5 +1,6 @@
 -- Following composes, and a machine that follows a source is faithful to it.
-use Rattle.std.proofs.Common.{◌≡◌, ◌≤◌, ◌*◌, ℕ, Option, Some, None, ◌⊎◌, inl, inr, ⊎_elim, refl, sym, ap, ◌∙◌, subst, arith}
+use Rattle.std.proofs.Common.{◌≡◌, ◌≤◌, ◌*◌, ℕ, Option, Some, None, ◌⊎◌, inl, inr, ⊎_elim, refl, sym, ap, ◌∙◌, subst}
+use Rattle.std.proofs.Common.{arith}
 use Rattle.std.proofs.lemmas.Bool.{cases_lt}
 use Rattle.std.proofs.Math.Nat.{mul-le-mul_left, mul_assoc}
 use Rattle.behaviours.specs.Shown.{End, Shown, IsEarlier}
@@ -35,8 +36,10 @@ module _ (c : ℕ) (a b : Behaviour) (f : Follows c a b) (s : IsSource a) (m : I
       let steps = m.turns k in
       omega arith
 
-  never_ahead_by : (n : ℕ) → ((a n).shown.ending ≡ None) ⊎ ((e : End) × ((a n).shown.ending ≡ Some e)) → IsEarlier (b n).shown (a n).shown
-  never_ahead_by n (inl running) = subst (IsEarlier (b n).shown) (sym (f.at n).1.shown) (m.grows n (f.at n).0 (ahead_while_running n running))
+  never_ahead_by : (n : ℕ) → ((a n).shown.ending ≡ None) ⊎ ((e : End) × ((a n).shown.ending ≡ Some e))
+      → IsEarlier (b n).shown (a n).shown
+  never_ahead_by n (inl running) = subst (IsEarlier (b n).shown) (sym (f.at n).1.shown)
+      (m.grows n (f.at n).0 (ahead_while_running n running))
   never_ahead_by n (inr ended) =
       let k = (f.at n).0 in
       let same : (a n).shown ≡ (b k).shown = (f.at n).1.shown in

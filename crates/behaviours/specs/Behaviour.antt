@@ -37,9 +37,11 @@ pub record IsMachine (b : Behaviour) : Type 0 where
 pub record Faithful (c : ℕ) (source machine : Behaviour) : Type 0 where
   -- what it has shown within n instructions is an earlier moment of what the source shows within n turns;
   pub never_ahead : (n : ℕ) → IsEarlier (machine n).shown (source n).shown
-  -- where it has ended within n instructions, with a status or a fault, the source has within n turns, and shows the same;
+  -- where it has ended within n instructions, with a status or a fault, the source has within n turns, and shows the
+  -- same;
   pub ends_as_source : (n : ℕ) (e : End) → (machine n).shown.ending ≡ Some e → (source n).shown ≡ (machine n).shown
-  -- what the source shows within n turns it shows within some number of instructions, at most c times the source's work;
+  -- what the source shows within n turns it shows within some number of instructions, at most c times the source's
+  -- work;
   pub reaches_all : (n : ℕ) → (m : ℕ) × (m ≤ c * (source n).work) × ((machine m).shown ≡ (source n).shown)
   -- and its accesses are the first of the source's.
   pub same_accesses : (n : ℕ) → IsPrefix (machine n).shown.accesses (source n).shown.accesses

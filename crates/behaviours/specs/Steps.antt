@@ -12,9 +12,11 @@ run step (suc n) s = run step n (step s)
 abbrev pub seen_after : {S : Type 0} → (S → S) → (S → Moment) → S → Behaviour
 seen_after step seen s = λ n. seen (run step n s)
 
--- A pass from steps to steps, as a simulation: where two states match, and the first comes to a state that is fine, some
+-- A pass from steps to steps, as a simulation: where two states match, and the first comes to a state that is fine,
+-- some
 -- steps of the second, maybe none, lead to a state that matches again; and states that match meet.
-pub record Simulates {S T : Type 0} (c : ℕ) (step : S → S) (seen : S → Moment) (step' : T → T) (seen' : T → Moment) (IsFine : S → Type 0) (Matches : S → T → Type 0) : Type 0 where
+pub record Simulates {S T : Type 0} (c : ℕ) (step : S → S) (seen : S → Moment) (step' : T → T) (seen' : T → Moment)
+    (IsFine : S → Type 0) (Matches : S → T → Type 0) : Type 0 where
   pub one : (s : S) (t : T) → Matches s t → IsFine (step s) → (j : ℕ) × Matches (step s) (run step' j t)
   pub meets : (s : S) (t : T) → Matches s t → Meets c (seen s) (seen' t)
 

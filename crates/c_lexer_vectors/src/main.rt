@@ -1,4 +1,5 @@
-// Compares the lexer with another one. Standard input has texts, with a line `%%` between each two. For each the program
+// Compares the lexer with another one. Standard input has texts, with a line `%%` between each two. For each the
+// program
 // prints its tokens, one on a line, with
 // - the line;
 // - `b` where it is the first on its line, else `s` where white space or a comment stands before it, else `-`;
@@ -7,9 +8,11 @@
 //   hexadecimal digits.
 // Then comes the line of the end, or the byte and the line of a fault, and a line `%%`.
 //
-// `stdin` and `stdout` are made by Debian clang 14.0.6 (Debian 12), as `vectors.py` beside them says. Left out are texts in
+// `stdin` and `stdout` are made by Debian clang 14.0.6 (Debian 12), as `vectors.py` beside them says. Left out are
+// texts in
 // which the subset of C differs: `##`, digraphs, trigraphs, universal character names, `$` and letters outside ASCII in
-// identifiers, a newline behind a backslash inside a token or behind a backslash and a space, a lone carriage return, and
+// identifiers, a newline behind a backslash inside a token or behind a backslash and a space, a lone carriage return,
+// and
 // a wide literal that is not one character or holds an escape sequence above 255.
 #![tactic(auto)]
 

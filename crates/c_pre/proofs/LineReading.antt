@@ -10,7 +10,8 @@ use Rattle.c_pre.specs.Reading.{read_line, read_text_line, with_room, followed, 
 use Rattle.c_pre.specs.Outcomes.{Fails}
 use Rattle.c_pre.proofs.Traces.{bind_read, bind_failed}
 
-module _ (s : State) (line : Tokens) (at : ℕ) (kind : Line) (at-is : at ≡ line_of line) (kind-is : kind ≡ line_kind line) where
+module _ (s : State) (line : Tokens) (at : ℕ) (kind : Line) (at-is : at ≡ line_of line)
+    (kind-is : kind ≡ line_kind line) where
   pub in_skipped : is_read s.sections ≡ false → read_line s line ≡ followed s at kind
   unfolding read_line
   in_skipped skips = rw (skips, at-is, kind-is) refl
@@ -27,14 +28,16 @@ module _ (s : State) (line : Tokens) (at : ℕ) (kind : Line) (at-is : at ≡ li
       let k : is_text (line_kind line) ≡ false = sym (ap is_text kind-is) ∙ text in
       rw (reads, k, at-is, kind-is) refl
 
-pub text_line_read : (s : State) (line old new : Tokens) (room : ℕ) → after old (expansion s.macros s.room (of_text line)) ≡ record { given = new; end = Ok room }
+pub text_line_read : (s : State) (line old new : Tokens) (room : ℕ)
+    → after old (expansion s.macros s.room (of_text line)) ≡ record { given = new; end = Ok room }
     → after old (read_text_line s line) ≡ record { given = new; end = Ok (record s { room = room }) }
 unfolding read_text_line
 text_line_read s line old new room h =
     bind_read old new (expansion s.macros s.room (of_text line)) (with_room s) room h
     ∙ ap (λ given. record { given = given; end = Ok (record s { room = room }) }) (append-nil new)
 
-pub text_line_failed : (s : State) (line old : Tokens) (error : PreError) → Fails (after old (expansion s.macros s.room (of_text line))) error
+pub text_line_failed : (s : State) (line old : Tokens) (error : PreError)
+    → Fails (after old (expansion s.macros s.room (of_text line))) error
     → Fails (after old (read_text_line s line)) error
 unfolding read_text_line
 text_line_failed s line old error h = bind_failed old (expansion s.macros s.room (of_text line)) (with_room s) error h

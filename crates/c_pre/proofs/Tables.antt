@@ -9,12 +9,15 @@ use Rattle.c_pre.specs.Reading.{redefined}
 use Rattle.c_pre.specs.Outcomes.{macros_of}
 
 listed : (b : Bool) (w old : Option (Bor Tokens))
-    → option_map (λ list. list.now) (cond b w old) ≡ (if b then option_map (λ list. list.now) w else option_map (λ list. list.now) old)
+    → option_map (λ list. list.now) (cond b w old)
+    ≡ (if b then option_map (λ list. list.now) w else option_map (λ list. list.now) old)
 listed true w old = refl
 listed false w old = refl
 
 -- one entry was changed
-pub redefines : {S : Type 0} (old new : IndexMap Name (Bor Tokens) S) (name : Name) (w : Option (Bor Tokens)) → Updates bytes_eq old new name w
+pub redefines : {S : Type 0} (old new : IndexMap Name (Bor Tokens) S) (name : Name) (w : Option (Bor Tokens))
+    → Updates bytes_eq old new name w
     → macros_of new ≡ redefined name (option_map (λ list. list.now) w) (macros_of old)
 redefines old new name w u =
-    λ i. λ other. (ap (option_map (λ list. list.now)) (u.0 other) ∙ listed (bytes_eq name other) w (get bytes_eq old other)) i
+    λ i. λ other. (ap (option_map (λ list. list.now)) (u.0 other)
+    ∙ listed (bytes_eq name other) w (get bytes_eq old other)) i

@@ -1,5 +1,6 @@
 -- What a line of a text is (C99 6.10 paragraph 1).
-use Rattle.std.specs.Prelude.{ℕ, Bool, true, false, ◌&&◌, not, List, [], ◌∷◌, Option, Some, None, if◌then◌else◌, codes, bytes_eq}
+use Rattle.std.specs.Prelude.{ℕ, Bool, true, false, ◌&&◌, not, List, [], ◌∷◌, Option, Some, None, if◌then◌else◌, codes}
+use Rattle.std.specs.Prelude.{bytes_eq}
 use Rattle.c_lexer.specs.declared.token.Word.{Word}
 use Rattle.c_lexer.specs.declared.token.Word.TheVariants.{Punctuator}
 use Rattle.c_lexer.specs.declared.token.Token.{Token}
@@ -78,7 +79,8 @@ is_touching token bytes = bytes_eq (spelling_of token.word) bytes && not token.i
 -- behind `#include`: `<`, the name, `.`, `h` and `>`, which touch (6.4.7, 6.10.2 paragraph 2)
 abbrev pub header_of : Tokens → Option Header
 header_of (less ∷ name ∷ dot ∷ h ∷ greater ∷ []) =
-    if bytes_eq (spelling_of less.word) (codes "<") && not name.is_spaced && is_touching dot (codes ".") && is_touching h (codes "h") && is_touching greater (codes ">")
+    if bytes_eq (spelling_of less.word) (codes "<") && not name.is_spaced && is_touching dot (codes ".")
+    && is_touching h (codes "h") && is_touching greater (codes ">")
     then header_named (spelling_of name.word)
     else None
 header_of _ = None

@@ -1,5 +1,6 @@
 -- Macro replacement (C99 6.10.3.4), by hide sets: each token has the names that it is not replaced by.
-use Rattle.std.specs.Prelude.{ℕ, zero, suc, ◌+◌, ◌-◌, List, [], ◌∷◌, ◌++◌, length, Option, Some, None, if◌then◌else◌, nat_le}
+use Rattle.std.specs.Prelude.{ℕ, zero, suc, ◌+◌, ◌-◌, List, [], ◌∷◌, ◌++◌, length, Option, Some, None, if◌then◌else◌}
+use Rattle.std.specs.Prelude.{nat_le}
 use Rattle.c_lexer.specs.declared.token.Token.{Token}
 use Rattle.c_lexer.specs.Spelled.{on_line}
 use Rattle.c_pre.specs.declared.fault.PreFaultKind.TheVariants.{TooMany}
@@ -36,7 +37,8 @@ replacement macros x = macro_named macros x.hidden (name_of x.token.word)
 
 -- a token is given; or the list that replaces it is read in its place, hidden from the name too, together with what
 -- follows (6.10.3.4). `room` is how many tokens replacement lists may still put in.
-abbrev pub turn : HidingToken → Option (Name × Tokens) → ℕ → List HidingToken → (ℕ → List HidingToken → Trace ℕ) → Trace ℕ
+abbrev pub turn : HidingToken → Option (Name × Tokens) → ℕ → List HidingToken → (ℕ → List HidingToken → Trace ℕ)
+    → Trace ℕ
 turn x None room follow go = gives x.token >>= λ _. go room follow
 turn x (Some m) room follow go =
     if nat_le (length m.1) room

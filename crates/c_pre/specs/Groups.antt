@@ -1,6 +1,7 @@
 -- Groups of lines, in which if-sections stand whole (C99 6.10 paragraph 1: group, if-section, if-group, else-group).
 use Rattle.std.specs.Prelude.{◌≡◌, ℕ, Bool, List, [], ◌∷◌, ◌++◌}
-use Rattle.c_pre.specs.Directives.{Line, text_line, if_defined, if_other, else_group, endif_line, define, undef, include, null_directive, unknown_include, unknown_directive, line_kind}
+use Rattle.c_pre.specs.Directives.{Line, text_line, if_defined, if_other, else_group, endif_line, define, undef}
+use Rattle.c_pre.specs.Directives.{include, null_directive, unknown_include, unknown_directive, line_kind}
 use Rattle.c_pre.specs.Lines.{Tokens}
 
 -- nothing; a line and what is behind it; an if-section without `#else` (its first line, its group and its last), or
@@ -9,7 +10,8 @@ pub data Group : Type 0 where
   no_lines : Group
   plain : (line : Tokens) (more : Group) → Group
   section : (opening : Tokens) (group : Group) (closing : Tokens) (more : Group) → Group
-  choice : (opening : Tokens) (group : Group) (middle : Tokens) (other : Group) (closing : Tokens) (more : Group) → Group
+  choice : (opening : Tokens) (group : Group) (middle : Tokens) (other : Group) (closing : Tokens) (more : Group)
+      → Group
 
 abbrev pub lines_of : Group → List Tokens
 lines_of no_lines = []
@@ -47,4 +49,5 @@ IsFormed (plain line more) = IsPlain (line_kind line) × IsFormed more
 IsFormed (section opening group closing more) =
     Opens (line_kind opening) × IsFormed group × Closes (line_kind closing) × IsFormed more
 IsFormed (choice opening group middle other closing more) =
-    Opens (line_kind opening) × IsFormed group × IsElse (line_kind middle) × IsFormed other × Closes (line_kind closing) × IsFormed more
+    Opens (line_kind opening) × IsFormed group × IsElse (line_kind middle) × IsFormed other × Closes (line_kind closing)
+    × IsFormed more

@@ -1,4 +1,5 @@
--- Names of macros (C99 6.10.3). While directives are obeyed there are no keywords: each is an identifier (6.4.1 paragraph 2).
+-- Names of macros (C99 6.10.3). While directives are obeyed there are no keywords: each is an identifier (6.4.1
+-- paragraph 2).
 use Rattle.std.specs.Prelude.{ℕ, Bool, false, true, ◌&&◌, List, [], ◌∷◌, Option, Some, None, bytes_eq}
 use Rattle.std.specs.List.{list_any}
 use Rattle.c_lexer.specs.declared.token.Word.{Word}
@@ -26,7 +27,8 @@ member name names = list_any (bytes_eq name) names
 abbrev pub Macros : Type 0
 Macros = Name → Option Tokens
 
--- whether two replacement lists have the same spellings in the same order (6.10.3 paragraph 1); white space does not count
+-- whether two replacement lists have the same spellings in the same order (6.10.3 paragraph 1); white space does not
+-- count
 abbrev pub same_list : Tokens → Tokens → Bool
 same_list [] [] = true
 same_list (a ∷ as_) (b ∷ bs) = bytes_eq (spelling_of a.word) (spelling_of b.word) && same_list as_ bs

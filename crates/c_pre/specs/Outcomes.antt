@@ -1,5 +1,6 @@
 -- What the calls of the code answer, against the definitions.
-use Rattle.std.specs.Prelude.{◌≡◌, ℕ, suc, ◌≤◌, [], ◌∷◌, length, Result, Ok, Err, option_map, bytes_eq, ⊤, if◌then◌else◌}
+use Rattle.std.specs.Prelude.{◌≡◌, ℕ, suc, ◌≤◌, [], ◌∷◌, length, Result, Ok, Err, option_map, bytes_eq, ⊤}
+use Rattle.std.specs.Prelude.{if◌then◌else◌}
 use denote.Ref.{Bor}
 use Rattle.indexmap.specs.IndexMap.{IndexMap, get}
 use Rattle.c_pre.specs.declared.fault.PreFault.{PreFault}
@@ -20,10 +21,12 @@ abbrev pub Fails : {A : Type 0} → Trace A → PreError → Type 0
 Fails t Memory = ⊤
 Fails t (Fault fault) = answer t ≡ Err fault
 
--- of a call that gives tokens, with those given before and those given now: it gave those of the trace; or the answer for
+-- of a call that gives tokens, with those given before and those given now: it gave those of the trace; or the answer
+-- for
 -- the whole text is this fault, whatever follows
 abbrev pub Emits : {A X : Type 0} → Trace A → (X → A) → Tokens → Tokens → Result X PreError → Type 0
-Emits t view old new (Ok x) = (after old t ≡ record { given = new; end = Ok (view x) }) × (length new ≤ max_expanded_tokens)
+Emits t view old new (Ok x) = (after old t ≡ record { given = new; end = Ok (view x) })
+    × (length new ≤ max_expanded_tokens)
 Emits t view old new (Err error) = Fails (after old t) error
 
 abbrev pub Stops : {A : Type 0} → Trace A → PreError → Type 0

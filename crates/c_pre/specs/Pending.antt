@@ -1,4 +1,5 @@
--- What the code keeps in place of hide sets: the replacement lists that are being read, each with its macro's name, and the text.
+-- What the code keeps in place of hide sets: the replacement lists that are being read, each with its macro's name, and
+-- the text.
 use Rattle.std.specs.Prelude.{◌≡◌, List, [], ◌∷◌, ◌++◌, Option, Some, None}
 use Rattle.c_lexer.specs.declared.token.Token.{Token}
 use Rattle.c_pre.specs.declared.reader.OpenList.{OpenList}

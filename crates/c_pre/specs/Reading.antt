@@ -1,5 +1,6 @@
 -- The reading of a text, line by line (C99 5.1.1.2 phase 4).
-use Rattle.std.specs.Prelude.{ℕ, Bool, true, false, not, List, [], ◌∷◌, Option, Some, None, is_some, Result, Ok, Err, if◌then◌else◌, bytes_eq}
+use Rattle.std.specs.Prelude.{ℕ, Bool, true, false, not, List, [], ◌∷◌, Option, Some, None, is_some, Result, Ok, Err}
+use Rattle.std.specs.Prelude.{if◌then◌else◌, bytes_eq}
 use Rattle.c_lexer.specs.Spelled.{TokenList}
 use Rattle.c_pre.specs.declared.fault.PreFault.{PreFault}
 use Rattle.c_pre.specs.declared.fault.PreFaultKind.TheVariants.{UnknownInclude, UnknownDirective, MacroRedefined}
@@ -9,7 +10,8 @@ use Rattle.c_pre.specs.Headers.{header_tokens}
 use Rattle.c_pre.specs.Names.{Name, Macros, same_list}
 use Rattle.c_pre.specs.Trace.{Trace, quiet, fails, ◌>>=◌, line_of, answer}
 use Rattle.c_pre.specs.Expansion.{expansion, of_text}
-use Rattle.c_pre.specs.Directives.{Line, text_line, if_defined, if_other, else_group, endif_line, define, undef, include, null_directive, unknown_include, unknown_directive, line_kind}
+use Rattle.c_pre.specs.Directives.{Line, text_line, if_defined, if_other, else_group, endif_line, define, undef}
+use Rattle.c_pre.specs.Directives.{include, null_directive, unknown_include, unknown_directive, line_kind}
 use Rattle.c_pre.specs.Sections.{State, is_read, opened, skipped, with_section, else_at, endif_at, finished}
 
 -- the macros, with another meaning of one name
@@ -26,7 +28,8 @@ may_be (Some old) list = same_list old list
 
 -- `#define`
 abbrev pub defined : State → ℕ → Name → Tokens → Trace State
-defined s at name list = if may_be (s.macros name) list then quiet (with_macro name (Some list) s) else fails at MacroRedefined
+defined s at name list = if may_be (s.macros name) list then quiet (with_macro name (Some list) s)
+    else fails at MacroRedefined
 
 -- a line of a header, which counts as one at the line of the `#include`
 abbrev pub define_line : State → ℕ → Line → Trace State

@@ -5,7 +5,8 @@ use Rattle.c_pre.specs.declared.fault.PreFaultKind.TheVariants.{Unclosed, StrayE
 use Rattle.c_pre.specs.Names.{Macros}
 use Rattle.c_pre.specs.Trace.{Trace, quiet, fails}
 
--- the if-sections that are open, the innermost first; what each name is defined as; how many tokens replacement lists may
+-- the if-sections that are open, the innermost first; what each name is defined as; how many tokens replacement lists
+-- may
 -- still put in
 pub record State : Type 0 where
   pub sections : List IfSection
@@ -38,13 +39,17 @@ else_at line well_formed s [] = fails line StrayEnd
 else_at line well_formed s (section ∷ outer) =
     if section.has_else then fails line StrayEnd
     else if section.in_read_text && not well_formed then fails line UnknownDirective
-    else quiet (record s { sections = record section { is_taken = true; has_else = true; is_reading = not section.is_taken } ∷ outer })
+    else quiet (record s {
+      sections = record section
+          { is_taken = true; has_else = true; is_reading = not section.is_taken } ∷ outer;
+    })
 
 -- `#endif`
 abbrev pub endif_at : ℕ → Bool → State → List IfSection → Trace State
 endif_at line well_formed s [] = fails line StrayEnd
 endif_at line well_formed s (section ∷ outer) =
-    if section.in_read_text && not well_formed then fails line UnknownDirective else quiet (record s { sections = outer })
+    if section.in_read_text && not well_formed then fails line UnknownDirective
+    else quiet (record s { sections = outer })
 
 -- the line of the outermost section, or this line where none is open
 abbrev pub outermost : ℕ → List IfSection → ℕ

@@ -110,7 +110,8 @@ fn undefinition<'t, 'a>(tokens: &'t [Token<'a>]) -> LineKind<'t, 'a>
 
 /// What `#ifdef` (`wanted`) or `#ifndef` with these tokens behind it is.
 fn opening<'t, 'a>(tokens: &'t [Token<'a>], wanted: bool) -> LineKind<'t, 'a>
-    ensures { line_of_kind result ≡ spec.named_or (λ name. spec.if_defined name wanted) spec.if_other (spec.only_name tokens.now) }
+    ensures { line_of_kind result ≡ spec.named_or (λ name. spec.if_defined name wanted) spec.if_other
+        (spec.only_name tokens.now) }
 {
     match only_name(tokens) {
         Some(name) => LineKind::IfDefined(name, wanted),

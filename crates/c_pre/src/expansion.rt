@@ -40,7 +40,8 @@ fn macro_for<'t, 'a>(
     token: &Token<'a>,
 ) -> Option<Definition<'t, 'a>>
     requires { spec.HasNames reader.now }
-    ensures fresh { IfSome result (λ m. names.member m.name (spec.names_of (spec.inner_first reader.now.lists.items)) ≡ false) }
+    ensures fresh { IfSome result
+        (λ m. names.member m.name (spec.names_of (spec.inner_first reader.now.lists.items)) ≡ false) }
     ensures value { option_map (λ m. (m.name, m.list.now)) result ≡ expansion.replacement (macros_of macros.now)
         (record { token = token.now; hidden = spec.names_of (spec.inner_first reader.now.lists.items) }) }
 {
@@ -61,7 +62,8 @@ pub fn expand_line<'t, 'a>(
     out: &mut Vec<Token<'a>>,
 ) -> Result<usize, PreError>
     requires { length out.old.items ≤ max_expanded_tokens }
-    ensures { Emits (expansion.expansion (macros_of macros.now) room (expansion.of_text line.now)) (λ x. x) out.old.items out.new.items result }
+    ensures { Emits (expansion.expansion (macros_of macros.now) room (expansion.of_text line.now)) (λ x. x)
+        out.old.items out.new.items result }
 {
     let mut reader = Reader::new(alloc, line);
     let mut room = room;

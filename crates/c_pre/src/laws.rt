@@ -23,13 +23,19 @@ pub fn expanded_tokens_are_tokens()
 pub fn groups_are_skipped()
     ensures nested { (g : Group) (s : State) (rest : List Tokens) → IsFormed g → is_read s.sections ≡ false →
         read_lines s (lines_of g ++ rest) ≡ read_lines s rest }
-    ensures unmet { (s : State) (opening closing : Tokens) (g : Group) (rest : List Tokens) (name : Name) (wanted : Bool) →
-        IsFormed g → is_read s.sections ≡ true → line_kind opening ≡ if_defined name wanted → line_kind closing ≡ endif_line true →
-        holds wanted (s.macros name) ≡ false → read_lines s (opening ∷ (lines_of g ++ (closing ∷ rest))) ≡ read_lines s rest }
-    ensures to_else { (s : State) (opening middle : Tokens) (g : Group) (rest : List Tokens) (name : Name) (wanted : Bool) →
-        IsFormed g → is_read s.sections ≡ true → line_kind opening ≡ if_defined name wanted → line_kind middle ≡ else_group true →
+    ensures unmet { (s : State) (opening closing : Tokens) (g : Group) (rest : List Tokens) (name : Name)
+        (wanted : Bool) →
+        IsFormed g → is_read s.sections ≡ true → line_kind opening ≡ if_defined name wanted
+        → line_kind closing ≡ endif_line true →
+        holds wanted (s.macros name) ≡ false
+        → read_lines s (opening ∷ (lines_of g ++ (closing ∷ rest))) ≡ read_lines s rest }
+    ensures to_else { (s : State) (opening middle : Tokens) (g : Group) (rest : List Tokens) (name : Name)
+        (wanted : Bool) →
+        IsFormed g → is_read s.sections ≡ true → line_kind opening ≡ if_defined name wanted
+        → line_kind middle ≡ else_group true →
         holds wanted (s.macros name) ≡ false →
-        read_lines s (opening ∷ (lines_of g ++ (middle ∷ rest))) ≡ read_lines (with_section (chosen (line_of opening)) s) rest }
+        read_lines s (opening ∷ (lines_of g ++ (middle ∷ rest)))
+        ≡ read_lines (with_section (chosen (line_of opening)) s) rest }
     ensures from_else { (s : State) (line : ℕ) (middle closing : Tokens) (g : Group) (rest : List Tokens) →
         IsFormed g → line_kind middle ≡ else_group true → line_kind closing ≡ endif_line true →
         read_lines (with_section (opened line true) s) (middle ∷ (lines_of g ++ (closing ∷ rest))) ≡ read_lines s rest }

@@ -105,7 +105,8 @@ impl<'t, 'a> Preprocessor<'t, 'a> {
     /// `#else`.
     #[tactic(auto, using(crate::proofs::Stacks::last_is_inner))]
     fn begin_else(&mut self, at: Line, well_formed: bool) -> Result<(), PreError>
-        ensures { Steps (sections.else_at at well_formed (state_of self.old) (inner_first self.old.sections.items)) (λ _. state_of self.new) result }
+        ensures { Steps (sections.else_at at well_formed (state_of self.old) (inner_first self.old.sections.items))
+            (λ _. state_of self.new) result }
     {
         let Some(section) = self.sections.pop() else {
             return Err(fault(PreFaultKind::StrayEnd, at));
@@ -129,7 +130,8 @@ impl<'t, 'a> Preprocessor<'t, 'a> {
     /// `#endif`.
     #[tactic(auto, using(crate::proofs::Stacks::last_is_inner))]
     fn close(&mut self, at: Line, well_formed: bool) -> Result<(), PreError>
-        ensures { Steps (sections.endif_at at well_formed (state_of self.old) (inner_first self.old.sections.items)) (λ _. state_of self.new) result }
+        ensures { Steps (sections.endif_at at well_formed (state_of self.old) (inner_first self.old.sections.items))
+            (λ _. state_of self.new) result }
     {
         let Some(section) = self.sections.pop() else {
             return Err(fault(PreFaultKind::StrayEnd, at));
@@ -143,7 +145,8 @@ impl<'t, 'a> Preprocessor<'t, 'a> {
     /// `#define`.
     #[tactic(auto, using(crate::proofs::Tables::redefines))]
     fn define(&mut self, at: Line, definition: Definition<'t, 'a>) -> Result<(), PreError>
-        ensures { Steps (spec.defined (state_of self.old) at definition.entry.name definition.entry.list.now) (λ _. state_of self.new) result }
+        ensures { Steps (spec.defined (state_of self.old) at definition.entry.name definition.entry.list.now)
+            (λ _. state_of self.new) result }
     {
         if let Some(old) = self.macros.get(&definition.name).copied() {
             if !same_list(old, definition.list) {
@@ -164,7 +167,8 @@ impl<'t, 'a> Preprocessor<'t, 'a> {
 
     /// `#include`: defines the macros of the header, as at this line.
     fn include(&mut self, at: Line, header: Header) -> Result<(), PreError>
-        ensures { Steps (spec.define_lines at (lines (header_tokens header)) (state_of self.old)) (λ _. state_of self.new) result }
+        ensures { Steps (spec.define_lines at (lines (header_tokens header)) (state_of self.old))
+            (λ _. state_of self.new) result }
     {
         let tokens = self.headers.tokens(header);
         let mut from = 0;
@@ -215,7 +219,8 @@ impl<'t, 'a> Preprocessor<'t, 'a> {
 
     /// A line of a skipped group.
     fn follow(&mut self, at: Line, kind: LineKind<'t, 'a>) -> Result<(), PreError>
-        ensures { Steps (spec.followed (state_of self.old) at (line_of_kind kind.entry)) (λ _. state_of self.new) result }
+        ensures { Steps (spec.followed (state_of self.old) at (line_of_kind kind.entry)) (λ _. state_of self.new)
+            result }
     {
         match kind {
             LineKind::IfDefined(_, _) | LineKind::IfOther => self.open(IfSection::skipped(at)),
@@ -232,7 +237,8 @@ impl<'t, 'a> Preprocessor<'t, 'a> {
         out: &mut Vec<Token<'a>>,
     ) -> Result<(), PreError>
         requires { length out.old.items ≤ max_expanded_tokens }
-        ensures { Emits (spec.read_text_line (state_of self.old) line.now) (λ _. state_of self.new) out.old.items out.new.items result }
+        ensures { Emits (spec.read_text_line (state_of self.old) line.now) (λ _. state_of self.new) out.old.items
+            out.new.items result }
     {
         self.room = expand_line(self.alloc, &self.macros, self.room, line, out)?;
         Ok(())
@@ -245,7 +251,8 @@ impl<'t, 'a> Preprocessor<'t, 'a> {
         out: &mut Vec<Token<'a>>,
     ) -> Result<(), PreError>
         requires { length out.old.items ≤ max_expanded_tokens }
-        ensures { Emits (spec.read_line (state_of self.old) line.now) (λ _. state_of self.new) out.old.items out.new.items result }
+        ensures { Emits (spec.read_line (state_of self.old) line.now) (λ _. state_of self.new) out.old.items
+            out.new.items result }
     {
         let at = line_of(line);
         let kind = LineKind::of(line);

@@ -23,7 +23,8 @@ pub struct OpenList<'t, 'a> {
     pub rest: &'t [Token<'a>],
 }
 
-/// The tokens that are still to be read: those of the replacement lists, the innermost last, and then those of the text.
+/// The tokens that are still to be read: those of the replacement lists, the innermost last, and then those of the
+/// text.
 #[derive(Drop)]
 pub struct Reader<'t, 'a> {
     /// The lists. A list at its end stays until the next token is taken: its name is hidden from the last token.
@@ -37,7 +38,8 @@ pub struct Reader<'t, 'a> {
 impl<'t, 'a> Reader<'t, 'a> {
     /// Begins with a text.
     pub fn new(alloc: Global, text: &'t [Token<'a>]) -> Self
-        ensures tokens { spec.pending (spec.inner_first result.lists.items) result.text.now ≡ expansion.of_text text.now }
+        ensures tokens { spec.pending (spec.inner_first result.lists.items) result.text.now
+            ≡ expansion.of_text text.now }
         ensures names { spec.HasNames result }
     {
         Reader {
@@ -51,7 +53,8 @@ impl<'t, 'a> Reader<'t, 'a> {
     #[tactic(auto, using(crate::proofs::Stacks::last_is_inner, crate::proofs::Stacks::last_name))]
     pub fn next(&mut self) -> Result<Option<Token<'a>>, AllocFailed<OpenList<'t, 'a>>>
         requires { spec.HasNames self.old }
-        ensures token { IfOk result (λ token. spec.Takes token (spec.pending (spec.inner_first self.old.lists.items) self.old.text.now)
+        ensures token { IfOk result
+            (λ token. spec.Takes token (spec.pending (spec.inner_first self.old.lists.items) self.old.text.now)
             (spec.inner_first self.new.lists.items) self.new.text.now) }
         ensures names { OnOk result (spec.HasNames self.new) }
     {
@@ -84,13 +87,16 @@ impl<'t, 'a> Reader<'t, 'a> {
         self.names.contains(name)
     }
 
-    /// Reads the replacement list of a macro that is used on this line, before all else. None of its name is being read.
+    /// Reads the replacement list of a macro that is used on this line, before all else. None of its name is being
+    /// read.
     #[tactic(auto, using(crate::proofs::Stacks::last_is_inner, crate::proofs::Stacks::last_name, crate::proofs::Stacks::name_added))]
     pub fn put_in(&mut self, definition: Definition<'t, 'a>, line: Line) -> Result<(), AllocError>
         requires kept { spec.HasNames self.old }
         requires fresh { names.member definition.name (spec.names_of (spec.inner_first self.old.lists.items)) ≡ false }
         ensures tokens { OnOk result (spec.pending (spec.inner_first self.new.lists.items) self.new.text.now
-            ≡ expansion.put_in line (definition.entry.name ∷ spec.names_of (spec.inner_first self.old.lists.items)) definition.entry.list.now
+            ≡ expansion.put_in line
+            (definition.entry.name ∷ spec.names_of
+            (spec.inner_first self.old.lists.items)) definition.entry.list.now
             ++ spec.pending (spec.inner_first self.old.lists.items) self.old.text.now) }
         ensures names { OnOk result (spec.HasNames self.new) }
     {

@@ -30,7 +30,8 @@ fn expansion_of(alloc: Global, text: &[u8]) -> Result<String, Fail> {
     }
 }
 
-/// Texts and what they expand to, by C99 6.10 and by the rules that the subset adds: `#if`, parameters, other headers and other
+/// Texts and what they expand to, by C99 6.10 and by the rules that the subset adds: `#if`, parameters, other headers
+/// and other
 /// forms are faults.
 const ROWS: [(&str, &str); 37] = [
     ("#define N 72\nputchar(N);", "putchar ( 72 ) ; end 2"),
@@ -113,7 +114,8 @@ fn limits(rt: HostRuntime) -> Result<(), Fail> {
     Ok(())
 }
 
-/// Definitions of a name with each number up to the last, each of which stands for the one before it twice, and the first for this
+/// Definitions of a name with each number up to the last, each of which stands for the one before it twice, and the
+/// first for this
 /// list.
 fn doubled(alloc: Global, first: &str, last: u32) -> Result<String, Fail> {
     let mut text = format!(in alloc; "#define a1 {}\n", first)?;
@@ -138,7 +140,8 @@ fn most_expanded_tokens(rt: HostRuntime) -> Result<(), Fail> {
     Ok(())
 }
 
-/// With an empty list at the bottom, a23 puts in 2 + 4 + .. + 2^23 = 16777214 tokens. With a1 they are 16777216, the most that
+/// With an empty list at the bottom, a23 puts in 2 + 4 + .. + 2^23 = 16777214 tokens. With a1 they are 16777216, the
+/// most that
 /// may be put in, and none of them is left.
 #[test]
 fn most_replacement_tokens(rt: HostRuntime) -> Result<(), Fail> {

@@ -1,11 +1,17 @@
-// Compares directives and macros with another preprocessor. Standard input has texts, with a line `%%` between each two. For
-// each the program prints its expanded tokens, those of a line of the text on one line behind its number; or the number and
+// Compares directives and macros with another preprocessor. Standard input has texts, with a line `%%` between each
+// two. For
+// each the program prints its expanded tokens, those of a line of the text on one line behind its number; or the number
+// and
 // the line of the fault. Then comes a line `%%`.
 //
-// `stdin` and `stdout` are made by gcc 12.2.0 and clang 14.0.6 (Debian 12), which agree, as `vectors.py` beside them says.
-// Left out are texts in which the subset of C differs: `#if`, `#elif` and the directives that it lacks in text that is read,
-// macros with parameters, headers, `##`, a replacement list that no white space parts from the name, a definition that differs
-// from an older one in white space alone, and `#` before a number, which gcc takes for the line of another text. The last
+// `stdin` and `stdout` are made by gcc 12.2.0 and clang 14.0.6 (Debian 12), which agree, as `vectors.py` beside them
+// says.
+// Left out are texts in which the subset of C differs: `#if`, `#elif` and the directives that it lacks in text that is
+// read,
+// macros with parameters, headers, `##`, a replacement list that no white space parts from the name, a definition that
+// differs
+// from an older one in white space alone, and `#` before a number, which gcc takes for the line of another text. The
+// last
 // text puts in more tokens than may be: gcc has no such limit, and what is to be printed there follows from the limit.
 #![tactic(auto)]
 

@@ -17,14 +17,17 @@ pair_of {X} {A} {B} (Some x) f h a b same first second =
 
 -- the name and the rows of a subcommand, from each alone
 subcommand_is : (matches : ArgMatches) (name : Text) (rows : List Row) → subcommand_name_of matches ≡ Some name
-    → option_map (λ (p : Text × List Row). p.1) (subcommand_rows_of matches) ≡ Some rows → subcommand_rows_of matches ≡ Some (name, rows)
+    → option_map (λ (p : Text × List Row). p.1) (subcommand_rows_of matches) ≡ Some rows
+    → subcommand_rows_of matches ≡ Some (name, rows)
 subcommand_is matches name rows named found =
     pair_of (out-ArgMatches matches).subcommand (λ b. (out-SubCommand (box_value b)).name.now)
-    (λ b. ((out-SubCommand (box_value b)).name.now, rows_of (found_of (out-SubCommand (box_value b)).matches))) name rows (λ b. refl) named found
+    (λ b. ((out-SubCommand (box_value b)).name.now, rows_of (found_of (out-SubCommand (box_value b)).matches))) name
+    rows (λ b. refl) named found
 
 -- the command of a subcommand that is known by its name
 pub command_of_name : (matches inner : ArgMatches) (name known : Text) → Some name ≡ subcommand_name_of matches
-    → Some (rows_of (found_of inner)) ≡ option_map (λ (p : Text × List Row). p.1) (subcommand_rows_of matches) → name ≡ known
+    → Some (rows_of (found_of inner)) ≡ option_map (λ (p : Text × List Row). p.1) (subcommand_rows_of matches)
+    → name ≡ known
     → command_at (known, rows_in inner) ≡ option_and_then command_at (subcommand_rows_of matches)
 unfolding rows_in
 command_of_name matches inner name known named found same =

@@ -16,7 +16,8 @@ zero_is n e = rw e refl
 
 size_passes : (p : WrittenImage) → IsInOrder p → size_fault (content p).segments ≡ None
 size_passes p o =
-    let fits = le-leb (p.jump_table.size + (p.code.size + (p.objects.size + (p.runtime.size + 0)))) 536870912 (omega arith) in
+    let fits = le-leb (p.jump_table.size + (p.code.size + (p.objects.size + (p.runtime.size + 0)))) 536870912
+    (omega arith) in
     rw fits refl
 
 overlap_passes : (p : WrittenImage) → IsInOrder p → overlap_fault (content p).segments ≡ None

@@ -2,7 +2,8 @@
 use Rattle.std.proofs.Common.{◌≡◌, ℕ, ◌-◌, List, [], ◌++◌, length, take, drop, refl, ap, ◌∙◌, append_assoc, arith}
 use Rattle.std.proofs.Common.{length-append}
 use Rattle.std.proofs.lemmas.List.{take_at, drop_at, length-replicate, append-nil}
-use Rattle.elf_image.specs.Writing.{WrittenSegment, WrittenImage, zeros, page_end, header_bytes, u32_bytes, u64_bytes, load_bytes}
+use Rattle.elf_image.specs.Writing.{WrittenSegment, WrittenImage, zeros, page_end, header_bytes, u32_bytes, u64_bytes}
+use Rattle.elf_image.specs.Writing.{load_bytes}
 use Rattle.elf_image.specs.Writing.{padded, code_offset, objects_offset, runtime_offset, image_size, image_bytes}
 
 pub length-header_bytes : (entry : ℕ) → length (header_bytes entry) ≡ 64
@@ -63,8 +64,13 @@ image_pages p = refl
 pub length-image_bytes : (p : WrittenImage) → length (image_bytes p) ≡ image_size p
 length-image_bytes p =
     ap length (image_pages p)
-    ∙ simp length-append (omega
-    (arith, length-first_page p, length-padded p.jump_table.bytes, length-padded p.code.bytes, length-padded p.objects.bytes))
+    ∙ simp length-append (omega (
+      arith,
+      length-first_page p,
+      length-padded p.jump_table.bytes,
+      length-padded p.code.bytes,
+      length-padded p.objects.bytes,
+    ))
 
 -- bytes that stand at an offset are read there
 bytes_at : (before bytes rest : List ℕ) (offset : ℕ) → length before ≡ offset
@@ -73,7 +79,8 @@ bytes_at before bytes rest offset e =
     let back : drop offset (before ++ (bytes ++ rest)) ≡ bytes ++ rest = drop_at before (bytes ++ rest) offset e in
     rw back (take_at bytes rest (length bytes) refl)
 
-pub jump_table_at : (p : WrittenImage) → take (length p.jump_table.bytes) (drop 4096 (image_bytes p)) ≡ p.jump_table.bytes
+pub jump_table_at : (p : WrittenImage)
+    → take (length p.jump_table.bytes) (drop 4096 (image_bytes p)) ≡ p.jump_table.bytes
 jump_table_at p =
     let split : image_bytes p ≡ first_page p ++ (p.jump_table.bytes
     ++ (padding p.jump_table.bytes ++ (padded p.code.bytes ++ (padded p.objects.bytes
@@ -107,5 +114,12 @@ runtime_at p =
     let before = first_page p ++ padded p.jump_table.bytes ++ padded p.code.bytes ++ padded p.objects.bytes in
     let split : image_bytes p ≡ before ++ (p.runtime.bytes ++ []) = image_pages p ∙ simp append-nil in
     let long : length before ≡ runtime_offset p = simp length-append
-    (omega (arith, length-first_page p, length-padded p.jump_table.bytes, length-padded p.code.bytes, length-padded p.objects.bytes)) in
+    (omega (
+      arith,
+      length-first_page p,
+      length-padded p.jump_table.bytes,
+      length-padded p.code.bytes,
+      length-padded
+          p.objects.bytes,
+    )) in
     rw split (bytes_at before p.runtime.bytes [] (runtime_offset p) long)

@@ -12,7 +12,8 @@ use Rattle.elf_image.specs.declared.header.ProgramHeader.{ProgramHeader}
 use Rattle.elf_image.specs.Layout.{file_header, program_header, loads, loads_of, segment_of, content_of}
 use Rattle.elf_image.specs.Tests.{◌then◌, ◌unless◌, header_fault, count_fault, load_fault, loads_fault, memory_size}
 use Rattle.elf_image.specs.Tests.{size_fault, overlap_fault, entry_fault, content_fault, headers_fault, image_fault}
-use Rattle.elf_image.specs.Writing.{WrittenSegment, WrittenImage, zeros, header_bytes, u32_bytes, u64_bytes, load_bytes, padded}
+use Rattle.elf_image.specs.Writing.{WrittenSegment, WrittenImage, zeros, header_bytes, u32_bytes, u64_bytes, load_bytes}
+use Rattle.elf_image.specs.Writing.{padded}
 use Rattle.elf_image.specs.Writing.{code_offset, objects_offset, runtime_offset, image_size, image_bytes, content}
 use Rattle.elf_image.specs.Writing.{SegmentsFit}
 use Rattle.elf_image.proofs.Pages.{length-header_bytes, length-load_bytes, length-image_bytes, jump_table_at, code_at}
@@ -92,7 +93,8 @@ table_on : WrittenImage → List ℕ
 table_on p =
     load_bytes 1 4096 p.jump_table ++ (load_bytes 1 (code_offset p) p.code
     ++ (load_bytes 6 (objects_offset p) p.objects ++ (load_bytes 6 (runtime_offset p) p.runtime
-    ++ (zeros 3808 ++ (padded p.jump_table.bytes ++ (padded p.code.bytes ++ (padded p.objects.bytes ++ p.runtime.bytes)))))))
+    ++ (zeros 3808 ++ (padded p.jump_table.bytes
+    ++ (padded p.code.bytes ++ (padded p.objects.bytes ++ p.runtime.bytes)))))))
 
 image_headers : (p : WrittenImage) → image_bytes p ≡ header_bytes p.entry ++ table_on p
 unfolding image_bytes table_on
@@ -111,7 +113,8 @@ pub record SegmentsSmall (p : WrittenImage) : Type 0 where
   pub objects : SegmentSmall p.objects
   pub runtime : SegmentSmall p.runtime
 
-load_fits : (flags offset : ℕ) (p : WrittenSegment) → flags < 2 ^ 32 → offset < 2 ^ 64 → SegmentSmall p → LoadFits flags offset p
+load_fits : (flags offset : ℕ) (p : WrittenSegment) → flags < 2 ^ 32 → offset < 2 ^ 64 → SegmentSmall p
+    → LoadFits flags offset p
 load_fits flags offset p a b s = record {
   flags_fit = a;
   offset_fits = b;
@@ -122,7 +125,8 @@ load_fits flags offset p a b s = record {
 
 abbrev written_loads : WrittenImage → List ProgramHeader
 written_loads p =
-    written_load 1 4096 p.jump_table ∷ written_load 1 (code_offset p) p.code ∷ written_load 6 (objects_offset p) p.objects
+    written_load 1 4096 p.jump_table ∷ written_load 1 (code_offset p) p.code
+    ∷ written_load 6 (objects_offset p) p.objects
     ∷ written_load 6 (runtime_offset p) p.runtime ∷ []
 
 table_read : (p : WrittenImage) → SegmentsSmall p → loads 4 (table_on p) ≡ written_loads p

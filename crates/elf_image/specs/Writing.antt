@@ -12,7 +12,8 @@ pub record WrittenSegment : Type 0 where
   pub bytes : List ℕ
   pub size : ℕ
 
--- An image to be written. `jump_table` and `code` are executable alone, `objects` and `runtime` are readable and writable.
+-- An image to be written. `jump_table` and `code` are executable alone, `objects` and `runtime` are readable and
+-- writable.
 pub record WrittenImage : Type 0 where
   pub entry : ℕ
   pub jump_table : WrittenSegment
@@ -117,7 +118,8 @@ pub record SegmentsFit (p : WrittenImage) : Type 0 where
   pub runtime : SegmentFits p.runtime
   pub together : content_fault (content p) ≡ None
 
--- Each segment has no more bytes in the file than in memory, they stand one after another, take at most 512 MiB together,
+-- Each segment has no more bytes in the file than in memory, they stand one after another, take at most 512 MiB
+-- together,
 -- and the run begins at an instruction of the first.
 pub record IsInOrder (p : WrittenImage) : Type 0 where
   pub jump_table_bytes : length p.jump_table.bytes ≤ p.jump_table.size

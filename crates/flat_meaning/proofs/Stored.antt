@@ -1,5 +1,6 @@
 -- Numbers that stand in memory.
-use Rattle.std.proofs.Common.{◌≡◌, ℕ, zero, suc, ◌+◌, ◌*◌, ◌/◌, ◌%◌, ◌^◌, ◌<◌, ◌≤◌, ◌⊎◌, inl, inr, ⊎_elim, refl, sym, ap, ◌∙◌, subst, arith}
+use Rattle.std.proofs.Common.{◌≡◌, ℕ, zero, suc, ◌+◌, ◌*◌, ◌/◌, ◌%◌, ◌^◌, ◌<◌, ◌≤◌, ◌⊎◌, inl, inr, ⊎_elim, refl, sym}
+use Rattle.std.proofs.Common.{ap, ◌∙◌, subst, arith}
 use Rattle.std.proofs.lemmas.Bool.{cases_eq, eq-eqb, ne_eqb, cond-true, cond-false}
 use Rattle.std.proofs.Math.Nat.{pow-suc}
 use Rattle.std.proofs.lemmas.Nat.{div_below}
@@ -27,7 +28,8 @@ unfolding load
 load_kept zero m m' a h = refl
 load_kept (suc n) m m' a h =
     let here : m' a ≡ m a = let e : a + 0 ≡ a = omega arith in subst (λ b. m' b ≡ m b) e (h 0 (omega arith)) in
-    let rest : Keeps (suc a) n m m' = λ i l. (let e : a + suc i ≡ suc a + i = omega arith in subst (λ b. m' b ≡ m b) e (h (suc i) (omega arith))) in
+    let rest : Keeps (suc a) n m m' = λ i l.
+    (let e : a + suc i ≡ suc a + i = omega arith in subst (λ b. m' b ≡ m b) e (h (suc i) (omega arith))) in
     ap (λ x. x + 256 * load n m' (suc a)) here ∙ ap (λ x. m a + 256 * x) (load_kept n m m' (suc a) rest)
 
 -- a number that fits is loaded as it was stored
@@ -49,7 +51,8 @@ kept_beside a k b n m m' h apart i l = h (b + i) (⊎_elim (λ x. inl (omega ari
 
 -- a store leaves the numbers beside it
 pub load_beside : (n k : ℕ) (m : Bytes) (a b v : ℕ) → (b + n ≤ a) ⊎ (a + k ≤ b) → load n (store k m a v) b ≡ load n m b
-load_beside n k m a b v h = load_kept n m (store k m a v) b (kept_beside a k b n m (store k m a v) (store_beside k m a v) h)
+load_beside n k m a b v h = load_kept n m (store k m a v) b
+    (kept_beside a k b n m (store k m a v) (store_beside k m a v) h)
 
 -- what all but some bytes leaves leaves all but more; and two such changes are one
 pub keeps_within : (a k b n : ℕ) (m m' : Bytes) → b ≤ a → a + k ≤ b + n → KeepsBut a k m m' → KeepsBut b n m m'

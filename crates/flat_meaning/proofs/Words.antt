@@ -1,5 +1,6 @@
 -- Values stay words, and bytes bytes.
-use Rattle.std.proofs.Common.{ℕ, ◌+◌, ◌-◌, ◌%◌, ◌^◌, ◌<◌, Bool, true, false, if◌then◌else◌, List, [], ◌∷◌, Option, Some, None, nat_eq, nat_lt, ◌==◌, ◌&&◌, arith}
+use Rattle.std.proofs.Common.{ℕ, ◌+◌, ◌-◌, ◌%◌, ◌^◌, ◌<◌, Bool, true, false, if◌then◌else◌, List, [], ◌∷◌, Option, Some}
+use Rattle.std.proofs.Common.{None, nat_eq, nat_lt, ◌==◌, ◌&&◌, arith}
 use Rattle.behaviours.specs.Shown.{AccessKind, Read, Write}
 use Rattle.addr_map.specs.Places.{MapSizes}
 use Rattle.rv_isa.specs.declared.instruction.LoadOp.{LoadOp}
@@ -9,14 +10,20 @@ use Rattle.rv_isa.proofs.Words.{reg_fits, reg32_fits, load_fits}
 use Rattle.flat_meaning.specs.declared.instruction.RightOperand.{RightOperand}
 use Rattle.flat_meaning.specs.declared.instruction.RightOperand.TheVariants.{Register, Number}
 use Rattle.flat_meaning.specs.declared.instruction.FlatInstruction.{FlatInstruction}
-use Rattle.flat_meaning.specs.declared.instruction.FlatInstruction.TheVariants.{Constant, Move, Operate, Operate32, Load, Store, Branch, JumpForward, JumpBack, Turn, Call, CallAddress, Return, Get, Put, Exit, End, Charged}
+use Rattle.flat_meaning.specs.declared.instruction.FlatInstruction.TheVariants.{Constant, Move, Operate, Operate32}
+use Rattle.flat_meaning.specs.declared.instruction.FlatInstruction.TheVariants.{Load, Store, Branch, JumpForward}
+use Rattle.flat_meaning.specs.declared.instruction.FlatInstruction.TheVariants.{JumpBack, Turn, Call, CallAddress}
+use Rattle.flat_meaning.specs.declared.instruction.FlatInstruction.TheVariants.{Return, Get, Put, Exit, End, Charged}
 use Rattle.flat_meaning.specs.declared.function.FlatFunction.{FlatFunction}
 use Rattle.flat_meaning.specs.declared.function.FlatProgram.{FlatProgram}
 use Rattle.flat_meaning.specs.Memory.{put, load, store}
 use Rattle.flat_meaning.specs.Spaces.{is_allowed}
 use Rattle.flat_meaning.specs.State.{Values, State, Frame, Stage, Stands, Over, Stuck}
 use Rattle.flat_meaning.specs.Calls.{function_in, arguments, with_results, function_at}
-use Rattle.flat_meaning.specs.Meaning.{Context, Local, Goes, Ends, Leaves, Fails, right_value, with_register, with_access, loads, stores, received, local, has_room, enters, enters_at, returns, parameters_of, results_of, waiting, address_in, leaves, goes_to, at_instruction, instruction_at, context, cost, step}
+use Rattle.flat_meaning.specs.Meaning.{Context, Local, Goes, Ends, Leaves, Fails, right_value, with_register}
+use Rattle.flat_meaning.specs.Meaning.{with_access, loads, stores, received, local, has_room, enters, enters_at}
+use Rattle.flat_meaning.specs.Meaning.{returns, parameters_of, results_of, waiting, address_in, leaves, goes_to}
+use Rattle.flat_meaning.specs.Meaning.{at_instruction, instruction_at, context, cost, step}
 use Rattle.flat_meaning.specs.Words.{AreWords, IsOfWords, WaitWithWords, HasWords}
 use Rattle.flat_meaning.proofs.Stored as stored
 
@@ -32,7 +39,8 @@ put_fits values x v h fits y = either (λ n. n < 2 ^ 64) (nat_eq y x) v (values 
 register_fits : (x v : ℕ) (s : State) → IsOfWords s → v < 2 ^ 64 → IsOfWords (with_register x v s)
 register_fits x v s h fits = record { values = put_fits s.values x v h.values fits; memory = h.memory }
 
-access_fits : (c : Context) (a n : ℕ) (kind : AccessKind) (s : State) → IsOfWords s → IsOfWords (with_access c a n kind s)
+access_fits : (c : Context) (a n : ℕ) (kind : AccessKind) (s : State) → IsOfWords s
+    → IsOfWords (with_access c a n kind s)
 access_fits c a n kind s h = either IsOfWords _ _ s (record { values = h.values; memory = h.memory }) h
 
 right_fits : (r : RightOperand) (values : Values) → AreWords values → right_value r values < 2 ^ 64
@@ -59,7 +67,8 @@ store_keeps c op a v pc s h =
     let t : State = record s { memory = store (store_bytes op) s.memory a v } in
     let k : IsOfWords t =
     record { values = h.values; memory = stored.store_keeps_bytes (store_bytes op) s.memory a v h.memory } in
-    either LocalFits (is_allowed c.sizes a (store_bytes op)) (Goes (pc + 1) (with_access c a (store_bytes op) Write t)) Fails
+    either LocalFits (is_allowed c.sizes a (store_bytes op))
+    (Goes (pc + 1) (with_access c a (store_bytes op) Write t)) Fails
     (access_fits c a (store_bytes op) Write t k) tt
 
 received_fits : (x : ℕ) (o : Option ℕ) (s : State) → IsOfWords s → IsOfWords (received x o s)
@@ -71,7 +80,8 @@ local_fits : (c : Context) (i : FlatInstruction) (pc : ℕ) (s : State) → IsOf
 local_fits c (Constant x n) pc s h = register_fits x _ s h (omega arith)
 local_fits c (Move x y) pc s h = register_fits x _ s h (h.values y)
 local_fits c (Operate op x y z) pc s h =
-    register_fits x _ s h (reg_fits op (s.values y) (right_value z s.values) (h.values y) (right_fits z s.values h.values))
+    register_fits x _ s h
+    (reg_fits op (s.values y) (right_value z s.values) (h.values y) (right_fits z s.values h.values))
 local_fits c (Operate32 op x y z) pc s h = register_fits x _ s h (reg32_fits op _ _ (omega arith) (omega arith))
 local_fits c (Load op x y offset) pc s h = load_keeps c op x (address_in s y offset) pc s h
 local_fits c (Store op y offset x) pc s h = store_keeps c op (address_in s y offset) (s.values x) pc s h
@@ -90,13 +100,15 @@ local_fits c (Charged x) pc s h = register_fits x _ s h (omega arith)
 
 -- calls and returns
 arguments_fit : (first n : ℕ) (values : Values) → AreWords values → AreWords (arguments first n values)
-arguments_fit first n values h y = either (λ v. v < 2 ^ 64) (nat_lt y n) (values (first + y)) 0 (h (first + y)) (omega arith)
+arguments_fit first n values h y = either (λ v. v < 2 ^ 64) (nat_lt y n) (values (first + y)) 0 (h (first + y))
+    (omega arith)
 
 results_fit : (into n : ℕ) (results : Values) (from : ℕ) (values : Values) → AreWords results → AreWords values
     → AreWords (with_results into n results from values)
 results_fit into n results from values r h y = either (λ v. v < 2 ^ 64) _ _ _ (r (from + (y - into))) (h y)
 
-enters_fits : (m : MapSizes) (p : FlatProgram) (f first n r : ℕ) (callee : Option FlatFunction) (frames : List Frame) (s : State)
+enters_fits : (m : MapSizes) (p : FlatProgram) (f first n r : ℕ) (callee : Option FlatFunction) (frames : List Frame)
+    (s : State)
     → IsOfWords s → WaitWithWords frames → HasWords (enters m p f first n r callee frames s)
 enters_fits m p f first n r None frames s h w = tt
 enters_fits m p f first n r (Some callee) frames s h w =
@@ -110,7 +122,8 @@ enters_at_fits : (m : MapSizes) (p : FlatProgram) (o : Option ℕ) (first n r : 
 enters_at_fits m p None first n r frames s h w = tt
 enters_at_fits m p (Some f) first n r frames s h w = enters_fits m p f first n r _ frames s h w
 
-returns_fits : (n y : ℕ) (frames : List Frame) (s : State) → IsOfWords s → WaitWithWords frames → HasWords (returns n y frames s)
+returns_fits : (n y : ℕ) (frames : List Frame) (s : State) → IsOfWords s → WaitWithWords frames
+    → HasWords (returns n y frames s)
 returns_fits n y [] s h w = tt
 returns_fits n y (x ∷ xs) s h w =
     (record { values = results_fit x.into n s.values y x.values h.values w.0; memory = h.memory }, w.1)
@@ -139,14 +152,16 @@ leaves_fits m p (Exit x) f pc s frames h w = tt
 leaves_fits m p (End e) f pc s frames h w = tt
 leaves_fits m p (Charged x) f pc s frames h w = tt
 
-goes_to_fits : (m : MapSizes) (p : FlatProgram) (i : FlatInstruction) (f pc : ℕ) (s : State) (frames : List Frame) (l : Local)
+goes_to_fits : (m : MapSizes) (p : FlatProgram) (i : FlatInstruction) (f pc : ℕ) (s : State) (frames : List Frame)
+    (l : Local)
     → IsOfWords s → WaitWithWords frames → LocalFits l → HasWords (goes_to m p i f pc s frames l)
 goes_to_fits m p i f pc s frames (Goes q s') h w g = (g, w)
 goes_to_fits m p i f pc s frames (Ends status report s') h w g = tt
 goes_to_fits m p i f pc s frames Leaves h w g = leaves_fits m p i f pc s frames h w
 goes_to_fits m p i f pc s frames Fails h w g = tt
 
-at_instruction_fits : (m : MapSizes) (p : FlatProgram) (o : Option FlatInstruction) (f pc : ℕ) (s : State) (frames : List Frame)
+at_instruction_fits : (m : MapSizes) (p : FlatProgram) (o : Option FlatInstruction) (f pc : ℕ) (s : State)
+    (frames : List Frame)
     → IsOfWords s → WaitWithWords frames → HasWords (at_instruction m p o f pc s frames)
 at_instruction_fits m p None f pc s frames h w = tt
 at_instruction_fits m p (Some i) f pc s frames h w =

@@ -1,9 +1,11 @@
 -- What flat code does, step by step.
-use Rattle.std.specs.Prelude.{ℕ, ◌+◌, ◌-◌, ◌%◌, ◌^◌, Bool, true, false, not, ◌&&◌, ◌==◌, nat_le, if◌then◌else◌, List, [], ◌∷◌, ◌++◌, drop, length, Option, Some, None, slice_get}
+use Rattle.std.specs.Prelude.{ℕ, ◌+◌, ◌-◌, ◌%◌, ◌^◌, Bool, true, false, not, ◌&&◌, ◌==◌, nat_le, if◌then◌else◌, List}
+use Rattle.std.specs.Prelude.{[], ◌∷◌, ◌++◌, drop, length, Option, Some, None, slice_get}
 use Rattle.words.specs.TwosComplement.{low_bits}
 use Rattle.rv_isa.specs.declared.instruction.LoadOp.{LoadOp}
 use Rattle.rv_isa.specs.declared.instruction.StoreOp.{StoreOp}
-use Rattle.rv_isa.specs.Results.{wrap, low_word, branch_taken, reg_result, reg32_result, load_bytes, extended, store_bytes}
+use Rattle.rv_isa.specs.Results.{wrap, low_word, branch_taken, reg_result, reg32_result, load_bytes, extended}
+use Rattle.rv_isa.specs.Results.{store_bytes}
 use Rattle.sb_base.specs.Endings.{code_of, report_of}
 use Rattle.behaviours.specs.Shown.{AccessKind, Read, Write}
 use Rattle.behaviours.specs.Behaviour.{Behaviour}
@@ -13,7 +15,10 @@ use Rattle.addr_map.specs.Places.{MapSizes, region_size}
 use Rattle.flat_meaning.specs.declared.instruction.RightOperand.{RightOperand}
 use Rattle.flat_meaning.specs.declared.instruction.RightOperand.TheVariants.{Register, Number}
 use Rattle.flat_meaning.specs.declared.instruction.FlatInstruction.{FlatInstruction}
-use Rattle.flat_meaning.specs.declared.instruction.FlatInstruction.TheVariants.{Constant, Move, Operate, Operate32, Load, Store, Branch, JumpForward, JumpBack, Turn, Call, CallAddress, Return, Get, Put, Exit, End, Charged}
+use Rattle.flat_meaning.specs.declared.instruction.FlatInstruction.TheVariants.{Constant, Move, Operate, Operate32}
+use Rattle.flat_meaning.specs.declared.instruction.FlatInstruction.TheVariants.{Load, Store, Branch, JumpForward}
+use Rattle.flat_meaning.specs.declared.instruction.FlatInstruction.TheVariants.{JumpBack, Turn, Call, CallAddress}
+use Rattle.flat_meaning.specs.declared.instruction.FlatInstruction.TheVariants.{Return, Get, Put, Exit, End, Charged}
 use Rattle.flat_meaning.specs.declared.function.FlatFunction.{FlatFunction}
 use Rattle.flat_meaning.specs.declared.function.FlatProgram.{FlatProgram}
 use Rattle.flat_meaning.specs.Memory.{Bytes, put, load, store}
@@ -23,13 +28,15 @@ use Rattle.flat_meaning.specs.Calls.{function_in, room_if, rooms, charged, argum
 
 -- ---- instructions that stay in their function
 
--- what they depend on: the map of the memory, whether the function is one of the runtime, and the bytes that are charged
+-- what they depend on: the map of the memory, whether the function is one of the runtime, and the bytes that are
+-- charged
 pub record Context : Type 0 where
   pub sizes : MapSizes
   pub is_runtime : Bool
   pub charge : ℕ
 
--- Where they lead: to a place of the function, to the end of the run with a status and a report, out of the function by a
+-- Where they lead: to a place of the function, to the end of the run with a status and a report, out of the function by
+-- a
 -- call or a return, or to where nothing comes.
 pub data Local : Type 0 where
   Goes : (place : ℕ) → (s : State) → Local
@@ -58,7 +65,8 @@ address_in s x offset = wrap (s.values x + offset)
 abbrev pub loads : Context → LoadOp → (into address place : ℕ) → State → Local
 loads c op x a pc s =
     if is_allowed c.sizes a (load_bytes op)
-    then Goes (pc + 1) (with_register x (extended op (load (load_bytes op) s.memory a)) (with_access c a (load_bytes op) Read s))
+    then Goes (pc + 1) (with_register x (extended op (load (load_bytes op) s.memory a))
+    (with_access c a (load_bytes op) Read s))
     else Fails
 
 abbrev pub stores : Context → StoreOp → (address value place : ℕ) → State → Local
@@ -76,7 +84,8 @@ received x (Some byte) s = record (with_register x (byte % 256) s) { input = dro
 abbrev pub local : Context → FlatInstruction → (place : ℕ) → State → Local
 local c (Constant x n) pc s = Goes (pc + 1) (with_register x (low_bits 64 n) s)
 local c (Move x y) pc s = Goes (pc + 1) (with_register x (s.values y) s)
-local c (Operate op x y z) pc s = Goes (pc + 1) (with_register x (reg_result op (s.values y) (right_value z s.values)) s)
+local c (Operate op x y z) pc s = Goes (pc + 1)
+    (with_register x (reg_result op (s.values y) (right_value z s.values)) s)
 local c (Operate32 op x y z) pc s =
     Goes (pc + 1) (with_register x (reg32_result op (low_word (s.values y)) (low_word (right_value z s.values))) s)
 local c (Load op x y offset) pc s = loads c op x (address_in s y offset) pc s
@@ -104,7 +113,8 @@ has_room m p frames callee =
     && nat_le (room_if true (Some callee) + rooms true p frames) (region_size m RuntimeCalls)
 
 -- a call is stuck where there is no such function, it takes or gives another number of values, or there is no room
-abbrev pub enters : MapSizes → FlatProgram → (function first count results : ℕ) → Option FlatFunction → (frames : List Frame) → State → Stage
+abbrev pub enters : MapSizes → FlatProgram → (function first count results : ℕ) → Option FlatFunction
+    → (frames : List Frame) → State → Stage
 enters m p f first n r None frames s = Stuck
 enters m p f first n r (Some callee) frames s =
     if (callee.parameters == n) && ((callee.results == r) && has_room m p frames callee)
@@ -119,7 +129,8 @@ abbrev pub results_of : Option FlatFunction → ℕ
 results_of None = 0
 results_of (Some f) = f.results
 
-abbrev pub enters_at : MapSizes → FlatProgram → (callee : Option ℕ) → (first count results : ℕ) → (frames : List Frame) → State → Stage
+abbrev pub enters_at : MapSizes → FlatProgram → (callee : Option ℕ) → (first count results : ℕ) → (frames : List Frame)
+    → State → Stage
 enters_at m p None first n r frames s = Stuck
 enters_at m p (Some f) first n r frames s = enters m p f first n r (function_in p f) frames s
 
@@ -150,7 +161,8 @@ cost p f (Return y) = 1 + results_of (function_in p f)
 cost p f (End e) = 1 + length (report_of e)
 cost p f _ = 1
 
-abbrev pub goes_to : MapSizes → FlatProgram → FlatInstruction → (function place : ℕ) → State → List Frame → Local → Stage
+abbrev pub goes_to : MapSizes → FlatProgram → FlatInstruction → (function place : ℕ) → State → List Frame → Local
+    → Stage
 goes_to m p i f pc s frames (Goes q s') = Stands f q s' frames
 goes_to m p i f pc s frames (Ends status report s') = Over status report s'
 goes_to m p i f pc s frames Leaves = leaves m p i f pc s frames
@@ -171,7 +183,8 @@ context m p f frames = record {
   charge = charged p f frames;
 }
 
-abbrev pub at_instruction : MapSizes → FlatProgram → Option FlatInstruction → (function place : ℕ) → State → List Frame → Stage
+abbrev pub at_instruction : MapSizes → FlatProgram → Option FlatInstruction → (function place : ℕ) → State → List Frame
+    → Stage
 at_instruction m p None f pc s frames = Stuck
 at_instruction m p (Some i) f pc s frames =
     let t = record s { work = s.work + cost p f i } in

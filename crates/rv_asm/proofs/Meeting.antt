@@ -1,5 +1,6 @@
 -- The words of a labelled list meet every target, in reach.
-use Rattle.std.proofs.Common.{◌≡◌, ℕ, zero, suc, ◌+◌, ◌<◌, ◌≤◌, ◌^◌, List, [], ◌∷◌, length, Some, None, Option, Bool, true, false, refl, sym, ap, ◌∙◌, arith, subst, ◌⊎◌, inl, inr}
+use Rattle.std.proofs.Common.{◌≡◌, ℕ, zero, suc, ◌+◌, ◌<◌, ◌≤◌, ◌^◌, List, [], ◌∷◌, length, Some, None, Option, Bool}
+use Rattle.std.proofs.Common.{true, false, refl, sym, ap, ◌∙◌, arith, subst, ◌⊎◌, inl, inr}
 use Rattle.std.specs.Prelude.{slice_get, nat_lt, if◌then◌else◌}
 use Rattle.std.proofs.Math.ListN.{get_or}
 use Rattle.std.proofs.lemmas.Bool.{ltb-true, cases_lt}
@@ -9,7 +10,8 @@ use Rattle.rv_asm.specs.declared.form.Form.TheVariants.{Short, Near, Far}
 use Rattle.rv_asm.specs.declared.item.Item.{Item}
 use Rattle.rv_asm.specs.declared.item.Item.TheVariants.{Label, Instr, Jump, Call, Branch}
 use Rattle.rv_asm.specs.Items.{target_of, AreApart}
-use Rattle.rv_asm.specs.Forms.{size_of, size, start, longest, chosen, shortest, distance, label_place, target_place, forms_of, Reaches, IsAssemblable}
+use Rattle.rv_asm.specs.Forms.{size_of, size, start, longest, chosen, shortest, distance, label_place, target_place}
+use Rattle.rv_asm.specs.Forms.{forms_of, Reaches, IsAssemblable}
 use Rattle.rv_asm.specs.Words.{instrs_of, words_from, words_of, HasWords, IsMetAt, Assembled}
 use Rattle.rv_asm.proofs.Choices.{size_within, longest_length, forms_length, label_stands, words_count, target_known}
 use Rattle.rv_asm.proofs.Emitted.{stands}
@@ -46,14 +48,17 @@ start_closer (f ∷ fs) (i ∷ is) zero (suc d) le =
     let r = start_closer fs is zero d (omega arith) in
     omega (arith, s, r, start_first fs is, start_first (longest is) is)
 start_closer (f ∷ fs) (i ∷ is) (suc k) zero le = absurd (omega (arith, le))
-start_closer (f ∷ fs) (i ∷ is) (suc k) (suc d) le = let r = start_closer fs is k d (omega (arith, le)) in omega (arith, r)
+start_closer (f ∷ fs) (i ∷ is) (suc k) (suc d) le = let r = start_closer fs is k d (omega (arith, le)) in omega
+    (arith, r)
 
 distance_closer : (fs : List Form) (is : List Item) (k d : ℕ)
     → distance (start fs is k) (start fs is d) ≤ distance (start (longest is) is k) (start (longest is) is d)
 distance_closer fs is k d = by (cases_lt k d)
   where
-    by : (k < d) ⊎ (d ≤ k) → distance (start fs is k) (start fs is d) ≤ distance (start (longest is) is k) (start (longest is) is d)
-    by (inl less) = let a = start_closer fs is k d (omega (arith, less)) in let b = start_later fs is k d (omega (arith, less)) in omega (arith, a, b)
+    by : (k < d) ⊎ (d ≤ k) → distance (start fs is k) (start fs is d) ≤ distance (start (longest is) is k)
+        (start (longest is) is d)
+    by (inl less) = let a = start_closer fs is k d (omega (arith, less)) in let b = start_later fs is k d
+        (omega (arith, less)) in omega (arith, a, b)
     by (inr more) = let a = start_closer fs is d k more in let b = start_later fs is d k more in omega (arith, a, b)
 
 -- the form that is chosen for item k
@@ -77,7 +82,8 @@ reaches p t q u closer far = first (nat_lt (distance p t) 1024) refl
     second true e = let l = ltb-true (distance p t) 262143 e in omega (arith, closer, l)
     second false e = omega (arith, closer, far)
 
-    first : (b : Bool) → nat_lt (distance p t) 1024 ≡ b → Reaches (if b then Short else (if nat_lt (distance p t) 262143 then Near else Far)) q u
+    first : (b : Bool) → nat_lt (distance p t) 1024 ≡ b
+        → Reaches (if b then Short else (if nat_lt (distance p t) 262143 then Near else Far)) q u
     first true e = let l = ltb-true (distance p t) 1024 e in omega (arith, closer, l)
     first false e = second (nat_lt (distance p t) 262143) refl
 
@@ -100,29 +106,34 @@ unfolding words_of label_of
 stands_here items k i h =
     let P = label_place (forms_of items) items 0 in
     let z : 0 + start (forms_of items) items k ≡ start (forms_of items) items k = omega arith in
-    subst (λ p. HasWords (words_from P 0 (forms_of items) items) p (instrs_of (get_or (forms_of items) k Far) p (target_place P i) i)) z
+    subst (λ p. HasWords (words_from P 0 (forms_of items) items) p
+    (instrs_of (get_or (forms_of items) k Far) p (target_place P i) i)) z
     (stands P [] (forms_of items) items k i Far (forms_length items) h)
 
-label_of_stands : (items : List Item) (l d : ℕ) → AreApart items → slice_get items d ≡ Some (Label l) → label_of items l ≡ start (forms_of items) items d
+label_of_stands : (items : List Item) (l d : ℕ) → AreApart items → slice_get items d ≡ Some (Label l)
+    → label_of items l ≡ start (forms_of items) items d
 unfolding label_of
 label_of_stands items l d apart h = label_stands (forms_of items) items l d apart (forms_length items) h
 
 -- the form that item k has
-form_at : (items : List Item) (k d l : ℕ) (i : Item) → AreApart items → slice_get items k ≡ Some i → target_of i ≡ Some l → slice_get items d ≡ Some (Label l)
+form_at : (items : List Item) (k d l : ℕ) (i : Item) → AreApart items → slice_get items k ≡ Some i
+    → target_of i ≡ Some l → slice_get items d ≡ Some (Label l)
     → get_or (forms_of items) k Far ≡ shortest (start (longest items) items k) (start (longest items) items d)
 unfolding forms_of
 form_at items k d l i apart h t g =
     let P = label_place (longest items) items 0 in
     let place = target_known P i l t ∙ label_stands (longest items) items l d apart (longest_length items) g in
     let z : 0 + start (longest items) items k ≡ start (longest items) items k = omega arith in
-    chosen_at P 0 items k i Far h ∙ (ap (λ p. shortest p (target_place P i)) z ∙ ap (shortest (start (longest items) items k)) place)
+    chosen_at P 0 items k i Far h ∙
+    (ap (λ p. shortest p (target_place P i)) z ∙ ap (shortest (start (longest items) items k)) place)
 
 pub assembled : (items : List Item) → IsAssemblable items → Assembled items (words_of items)
 assembled items able = record {
   form = λ k. get_or (forms_of items) k Far;
   place = start (forms_of items) items;
   first = start_first (forms_of items) items;
-  next = λ k i h. start_step (forms_of items) items k (suc k) i Far (forms_length items) (slice_get_within items k i h) (sym (get_or_from_slice_get items k i i h)) refl;
+  next = λ k i h. start_step (forms_of items) items k (suc k) i Far (forms_length items) (slice_get_within items k i h)
+      (sym (get_or_from_slice_get items k i i h)) refl;
   last = start_last (forms_of items) items (forms_length items) ∙ sym (words_count items);
   words = λ k d i h m. met k d i h m (target_of i) refl;
   reach = λ k d l i h t g. in_reach k d l i h t g;
@@ -134,18 +145,22 @@ assembled items able = record {
     form : ℕ → Form
     form k = get_or (forms_of items) k Far
 
-    met : (k d : ℕ) (i : Item) → slice_get items k ≡ Some i → IsMetAt items (target_of i) d → (o : Option ℕ) → target_of i ≡ o
+    met : (k d : ℕ) (i : Item) → slice_get items k ≡ Some i → IsMetAt items (target_of i) d → (o : Option ℕ)
+        → target_of i ≡ o
         → HasWords (words_of items) (at k) (instrs_of (form k) (at k) (at d) i)
     met k d i h m None e =
-        subst (HasWords (words_of items) (at k)) (no_target i (form k) (at k) (target_place (label_of items) i) (at d) e) (stands_here items k i h)
+        subst (HasWords (words_of items) (at k))
+        (no_target i (form k) (at k) (target_place (label_of items) i) (at d) e) (stands_here items k i h)
     met k d i h m (Some l) e =
         let there : slice_get items d ≡ Some (Label l) = subst (λ o. IsMetAt items o d) e m in
         let place = target_known (label_of items) i l e ∙ label_of_stands items l d able.apart there in
         subst (λ t. HasWords (words_of items) (at k) (instrs_of (form k) (at k) t i)) place (stands_here items k i h)
 
-    in_reach : (k d l : ℕ) (i : Item) → slice_get items k ≡ Some i → target_of i ≡ Some l → slice_get items d ≡ Some (Label l) → Reaches (form k) (at k) (at d)
+    in_reach : (k d l : ℕ) (i : Item) → slice_get items k ≡ Some i → target_of i ≡ Some l
+        → slice_get items d ≡ Some (Label l) → Reaches (form k) (at k) (at d)
     in_reach k d l i h t g =
         let a = start_at_most (longest items) items k in
         let b = start_at_most (longest items) items d in
         subst (λ f. Reaches f (at k) (at d)) (sym (form_at items k d l i able.apart h t g))
-        (reaches (start (longest items) items k) (start (longest items) items d) (at k) (at d) (distance_closer (forms_of items) items k d) (omega (arith, a, b, able.room)))
+        (reaches (start (longest items) items k) (start (longest items) items d) (at k) (at d)
+        (distance_closer (forms_of items) items k d) (omega (arith, a, b, able.room)))

@@ -1,5 +1,6 @@
 -- Which form each branch, jump and call has, and where each item stands. Places count words.
-use Rattle.std.specs.Prelude.{ℕ, zero, suc, ◌+◌, ◌-◌, ◌<◌, ◌^◌, List, [], ◌∷◌, map, Bool, false, nat_eq, nat_lt, if◌then◌else◌, Option, Some, None}
+use Rattle.std.specs.Prelude.{ℕ, zero, suc, ◌+◌, ◌-◌, ◌<◌, ◌^◌, List, [], ◌∷◌, map, Bool, false, nat_eq, nat_lt}
+use Rattle.std.specs.Prelude.{if◌then◌else◌, Option, Some, None}
 use Rattle.rv_asm.specs.declared.form.Form.{Form}
 use Rattle.rv_asm.specs.declared.form.Form.TheVariants.{Short, Near, Far}
 use Rattle.rv_asm.specs.declared.item.Item.{Item}
@@ -61,7 +62,8 @@ target_place places i = at (target_of i)
 abbrev pub distance : ℕ → ℕ → ℕ
 distance p t = (p - t) + (t - p)
 
--- the shortest form that reaches: a branch has 12 bits for a number of words with its sign, JAL 19, and a JAL behind a branch
+-- the shortest form that reaches: a branch has 12 bits for a number of words with its sign, JAL 19, and a JAL behind a
+-- branch
 -- stands one word further
 abbrev pub shortest : ℕ → ℕ → Form
 shortest p t = if nat_lt (distance p t) 1024 then Short else (if nat_lt (distance p t) 262143 then Near else Far)
@@ -80,7 +82,8 @@ pub record IsAssemblable (items : List Item) : Type 0 where
   pub there : AreThere items
   pub room : longest_size items < 2 ^ 28
 
--- the forms of items from place p on, where places are those of the longest forms: in the forms that are chosen, nothing is further
+-- the forms of items from place p on, where places are those of the longest forms: in the forms that are chosen,
+-- nothing is further
 abbrev pub chosen : (ℕ → ℕ) → ℕ → List Item → List Form
 chosen places p [] = []
 chosen places p (i ∷ is) = shortest p (target_place places i) ∷ chosen places (p + size_of Far i) is

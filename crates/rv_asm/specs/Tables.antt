@@ -1,5 +1,6 @@
 -- What the assembler's table of labels tells.
-use Rattle.std.specs.Prelude.{◌≡◌, ℕ, ◌<◌, Bool, true, List, length, Option, Some, None, slice_get, slice_set, slice_index, false}
+use Rattle.std.specs.Prelude.{◌≡◌, ℕ, ◌<◌, Bool, true, List, length, Option, Some, None, slice_get, slice_set}
+use Rattle.std.specs.Prelude.{slice_index, false}
 use Rattle.rv_asm.specs.declared.form.Form.{Form}
 use Rattle.rv_asm.specs.declared.item.Item.{Item}
 use Rattle.rv_asm.specs.declared.item.Item.TheVariants.{Label, Instr, Jump, Call, Branch}
@@ -55,7 +56,8 @@ pub record Stand (items : List Item) (count : ℕ) (table : List Bool) : Type 0 
   pub room : (k l : ℕ) → slice_get items k ≡ Some (Label l) → l < length table
   pub place : (l : ℕ) → slice_get table l ≡ Some true → (d : ℕ) × (d < count) × (slice_get items d ≡ Some (Label l))
   pub told : (k l : ℕ) → k < count → slice_get items k ≡ Some (Label l) → slice_get table l ≡ Some true
-  pub once : (j k l : ℕ) → j < count → k < count → slice_get items j ≡ Some (Label l) → slice_get items k ≡ Some (Label l) → j ≡ k
+  pub once : (j k l : ℕ) → j < count → k < count → slice_get items j ≡ Some (Label l)
+      → slice_get items k ≡ Some (Label l) → j ≡ k
 
 -- the table of the labels of a list, or none where a label stands twice
 abbrev pub StandApart : List Item → Option (List Bool) → Type 0

@@ -1,5 +1,6 @@
 -- The words of a labelled list.
-use Rattle.std.specs.Prelude.{◌≡◌, ℕ, suc, ◌+◌, ◌-◌, ◌*◌, ◌/◌, ◌%◌, ◌^◌, List, [], ◌∷◌, ◌++◌, map, length, Option, Some, None, slice_get}
+use Rattle.std.specs.Prelude.{◌≡◌, ℕ, suc, ◌+◌, ◌-◌, ◌*◌, ◌/◌, ◌%◌, ◌^◌, List, [], ◌∷◌, ◌++◌, map, length, Option, Some}
+use Rattle.std.specs.Prelude.{None, slice_get}
 use Rattle.rv_isa.specs.declared.instruction.BranchOp.{BranchOp}
 use Rattle.rv_isa.specs.declared.instruction.BranchOp.TheVariants.{Beq, Bne, Blt, Bge, Bltu, Bgeu}
 use Rattle.rv_isa.specs.declared.instruction.Instr.{Instr}
@@ -76,5 +77,6 @@ pub record Assembled (items : List Item) (ws : List ℕ) : Type 0 where
   pub last : place (length items) ≡ length ws
   pub words : (k d : ℕ) (i : Item) → slice_get items k ≡ Some i → IsMetAt items (target_of i) d
       → HasWords ws (place k) (instrs_of (form k) (place k) (place d) i)
-  pub reach : (k d l : ℕ) (i : Item) → slice_get items k ≡ Some i → target_of i ≡ Some l → slice_get items d ≡ Some (item.Label l)
+  pub reach : (k d l : ℕ) (i : Item) → slice_get items k ≡ Some i → target_of i ≡ Some l
+      → slice_get items d ≡ Some (item.Label l)
       → Reaches (form k) (place k) (place d)

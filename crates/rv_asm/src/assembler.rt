@@ -31,7 +31,8 @@ pub fn word_count(alloc: Global, items: &[Item]) -> Result<u32, AllocError>
 }
 
 /// The words of a labelled list: instructions as they stand, and each branch, jump and call in the shortest form that
-/// reaches its label, which may change x31 (`Form`). The caller shows that the list can be assembled: no label stands twice, each
+/// reaches its label, which may change x31 (`Form`). The caller shows that the list can be assembled: no label stands
+/// twice, each
 /// label that an item goes to stands somewhere, and the longest forms have fewer than 2^28 words together
 /// (`is_assemblable` tests it).
 #[tactic(auto, using(crate::proofs::Choices::choices))]

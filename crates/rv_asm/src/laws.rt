@@ -4,7 +4,8 @@ ghost use Rattle.rv_asm.specs.declared.item.Item.{Item};
 ghost use Rattle.rv_asm.specs.Forms.{IsAssemblable};
 ghost use Rattle.rv_asm.specs.Words.{Assembled, words_of};
 
-/// In the words of a labelled list each item's instructions stand at its place, one item behind the other, and each branch, jump
+/// In the words of a labelled list each item's instructions stand at its place, one item behind the other, and each
+/// branch, jump
 /// and call goes to the place of its label, in a form that reaches it.
 #[tactic(auto, using(crate::proofs::Meeting::assembled))]
 pub fn targets_are_met()

@@ -1,4 +1,5 @@
-//! An assembler: from a list of labels, instructions, and branches, jumps and calls to labels, to the words of RV64IM. Each
+//! An assembler: from a list of labels, instructions, and branches, jumps and calls to labels, to the words of RV64IM.
+//! Each
 //! branch, jump and call has the shortest form with which its label is in reach.
 #![tactic(auto)]
 

@@ -1,9 +1,13 @@
-//! Compares the assembler with another one. Standard input has labelled lists, with a line `%%` between each two, an item a line:
-//! `label L`, `word W`, `jump L`, `call L`, a branch's name with two registers and a label, or `nops N`, so many times NOP. For
-//! each list the program prints the places and words of all instructions but NOP, how many words there are, and a line `%%`; or
+//! Compares the assembler with another one. Standard input has labelled lists, with a line `%%` between each two, an
+//! item a line:
+//! `label L`, `word W`, `jump L`, `call L`, a branch's name with two registers and a label, or `nops N`, so many times
+//! NOP. For
+//! each list the program prints the places and words of all instructions but NOP, how many words there are, and a line
+//! `%%`; or
 //! `refused` where the list cannot be assembled.
 //!
-//! `stdin` and `stdout` are made by the assembler of GNU Binutils for Debian 2.40 (Debian 12, binutils-riscv64-linux-gnu), as
+//! `stdin` and `stdout` are made by the assembler of GNU Binutils for Debian 2.40 (Debian 12,
+//! binutils-riscv64-linux-gnu), as
 //! `vectors.py` beside them says.
 #![tactic(auto)]
 

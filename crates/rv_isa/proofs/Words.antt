@@ -1,5 +1,6 @@
 -- What instructions compute fits a register.
-use Rattle.std.proofs.Common.{◌≡◌, ℕ, ◌+◌, ◌-◌, ◌*◌, ◌/◌, ◌%◌, ◌^◌, ◌<◌, ◌≤◌, Bool, true, false, ◌==◌, if◌then◌else◌, arith, refl, sym, subst}
+use Rattle.std.proofs.Common.{◌≡◌, ℕ, ◌+◌, ◌-◌, ◌*◌, ◌/◌, ◌%◌, ◌^◌, ◌<◌, ◌≤◌, Bool, true, false, ◌==◌, if◌then◌else◌}
+use Rattle.std.proofs.Common.{arith, refl, sym, subst}
 use Rattle.std.proofs.Math.Nat.{div-le_self, mod-lt, mod-le}
 use Rattle.std.proofs.lemmas.Bool.{leb-true}
 use Rattle.std.proofs.lemmas.Nat.{or_lt, xor_lt}
@@ -15,7 +16,8 @@ use Rattle.rv_isa.specs.declared.instruction.RegOp32.TheVariants.{Remw, Remuw}
 use Rattle.rv_isa.specs.declared.instruction.LoadOp.{LoadOp}
 use Rattle.rv_isa.specs.declared.instruction.LoadOp.TheVariants.{Lb, Lh, Lw, Ld, Lbu, Lhu, Lwu}
 use Rattle.rv_isa.specs.Word.{sext}
-use Rattle.rv_isa.specs.Results.{high_half, quotient_or_ones, remainder_or_dividend, reg_result, reg32_result, load_bytes, extended}
+use Rattle.rv_isa.specs.Results.{high_half, quotient_or_ones, remainder_or_dividend, reg_result, reg32_result}
+use Rattle.rv_isa.specs.Results.{load_bytes, extended}
 
 choice_fits : (b : Bool) (x y n : ℕ) → x < n → y < n → (if b then x else y) < n
 choice_fits true x y n h k = h
@@ -108,7 +110,8 @@ reg32_fits Divuw a b h k = sext_fits 32 _ (omega arith)
     (quotient_fits 32 b _ (omega arith) (quotient_below a b (2 ^ 32) h))
 reg32_fits Remw a b h k = sext_fits 32 _ (omega arith)
     (remainder_fits a b _ (2 ^ 32) h (signed_remainder_fits 32 a b (omega arith) (omega arith) h))
-reg32_fits Remuw a b h k = sext_fits 32 _ (omega arith) (remainder_fits a b _ (2 ^ 32) h (remainder_below a b (2 ^ 32) h))
+reg32_fits Remuw a b h k = sext_fits 32 _ (omega arith)
+    (remainder_fits a b _ (2 ^ 32) h (remainder_below a b (2 ^ 32) h))
 
 pub load_fits : (op : LoadOp) (n : ℕ) → n < 256 ^ load_bytes op → extended op n < 2 ^ 64
 unfolding extended

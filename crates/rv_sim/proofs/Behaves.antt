@@ -1,5 +1,6 @@
 -- The behaviour of the machine grows with the number of instructions.
-use Rattle.std.proofs.Common.{◌≡◌, ℕ, zero, suc, ◌+◌, ◌-◌, ◌≤◌, Bool, true, false, List, ◌++◌, Option, Some, None, refl, sym, ap, ◌∙◌, arith}
+use Rattle.std.proofs.Common.{◌≡◌, ℕ, zero, suc, ◌+◌, ◌-◌, ◌≤◌, Bool, true, false, List, ◌++◌, Option, Some, None, refl}
+use Rattle.std.proofs.Common.{sym, ap, ◌∙◌, arith}
 use Rattle.std.specs.Prelude.{if◌then◌else◌, ◌==◌, ◌||◌}
 use Rattle.behaviours.specs.Shown.{Shown, IsPrefix, IsEarlier}
 use Rattle.behaviours.specs.Behaviour.{IsMachine}
@@ -11,7 +12,8 @@ use Rattle.rv_sim.specs.Memory.{may_write}
 use Rattle.rv_sim.specs.State.{MachineState, register}
 use Rattle.rv_sim.specs.Step.{step}
 use Rattle.rv_isa.specs.Registers.{a0, a1, a2, a7}
-use Rattle.rv_sim.specs.Run.{Configuration, Turn, answered, received, sent, turned, turn, calls, read_call, write_call, onwards, runs}
+use Rattle.rv_sim.specs.Run.{Configuration, Turn, answered, received, sent, turned, turn, calls, read_call, write_call}
+use Rattle.rv_sim.specs.Run.{onwards, runs}
 use Rattle.rv_sim.specs.Behaviour.{begun, shown_by, behaviour}
 use Rattle.rv_sim.proofs.Runs.{runs-suc}
 
@@ -60,7 +62,8 @@ grows_received c (Some byte) = record {
   accesses = prefix_refl c.accesses;
 }
 
-grows_output : (c : Configuration) (bytes : List ℕ) (v : ℕ) → Grows c (answered (record c { output = c.output ++ bytes }) v).0
+grows_output : (c : Configuration) (bytes : List ℕ) (v : ℕ)
+    → Grows c (answered (record c { output = c.output ++ bytes }) v).0
 grows_output c bytes v = record {
   output = prefix_append c.output bytes;
   errors = prefix_refl c.errors;
@@ -68,7 +71,8 @@ grows_output c bytes v = record {
   accesses = prefix_refl c.accesses;
 }
 
-grows_errors : (c : Configuration) (bytes : List ℕ) (v : ℕ) → Grows c (answered (record c { errors = c.errors ++ bytes }) v).0
+grows_errors : (c : Configuration) (bytes : List ℕ) (v : ℕ)
+    → Grows c (answered (record c { errors = c.errors ++ bytes }) v).0
 grows_errors c bytes v = record {
   output = prefix_refl c.output;
   errors = prefix_append c.errors bytes;
@@ -79,14 +83,16 @@ grows_errors c bytes v = record {
 grows_sent : (c : Configuration) (bytes : Option (List ℕ)) → Grows c (sent c bytes).0
 grows_sent c None = grows_same c
 grows_sent c (Some bytes) =
-    grows_if c (register c.state a0 == 1) _ _ (grows_output c bytes (register c.state a2)) (grows_errors c bytes (register c.state a2))
+    grows_if c (register c.state a0 == 1) _ _ (grows_output c bytes (register c.state a2))
+    (grows_errors c bytes (register c.state a2))
 
 grows_read : (c : Configuration) → Grows c (read_call c).0
 unfolding read_call
 grows_read c =
     grows_if c (register c.state a0 == 0) _ _
     (grows_if c (register c.state a2 == 0) _ _ (grows_answered c _)
-    (grows_if c (may_write c.state.memory (register c.state a1) (register c.state a2)) _ _ (grows_received c _) (grows_same c)))
+    (grows_if c (may_write c.state.memory (register c.state a1) (register c.state a2)) _ _ (grows_received c _)
+    (grows_same c)))
     (grows_answered c _)
 
 grows_write : (c : Configuration) → Grows c (write_call c).0
@@ -123,7 +129,14 @@ earlier_onwards (c, None) =
     let g = grows_turn c in
     record { output = g.output; errors = g.errors; taken = g.taken; accesses = g.accesses; ended = λ e h. cc }
 earlier_onwards (c, Some stop) =
-    record { output = prefix_refl c.output; errors = prefix_refl c.errors; taken = omega arith; accesses = prefix_refl c.accesses; ended = λ e h. refl }
+    record {
+      output = prefix_refl c.output;
+      errors = prefix_refl c.errors;
+      taken = omega arith;
+      accesses = prefix_refl
+          c.accesses;
+      ended = λ e h. refl;
+    }
 
 earlier_same : (x : Shown) → IsEarlier x x
 earlier_same x = record {
@@ -151,7 +164,8 @@ earlier_more zero n c =
     rw same (earlier_same (shown_by (runs n c)))
 earlier_more (suc k) n c =
     let same : runs (suc k + n) c ≡ onwards (runs (k + n) c) = ap (λ m. runs m c) (omega arith) ∙ runs-suc (k + n) c in
-    rw same (earlier_trans (shown_by (runs n c)) (shown_by (runs (k + n) c)) (shown_by (onwards (runs (k + n) c))) (earlier_more k n c) (earlier_onwards (runs (k + n) c)))
+    rw same (earlier_trans (shown_by (runs n c)) (shown_by (runs (k + n) c)) (shown_by (onwards (runs (k + n) c)))
+    (earlier_more k n c) (earlier_onwards (runs (k + n) c)))
 
 -- what a run shows within m instructions is an earlier moment of what it shows within n
 pub earlier_runs : (m n : ℕ) (c : Configuration) → m ≤ n → IsEarlier (shown_by (runs m c)) (shown_by (runs n c))

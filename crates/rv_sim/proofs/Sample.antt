@@ -12,10 +12,12 @@ use Rattle.rv_sim.specs.Run.{turn, runs, calls, read_call}
 use Rattle.rv_sim.specs.Behaviour.{begun}
 
 executable_segment : ℕ → List ℕ → SegmentState
-executable_segment address bytes = record { address = address; bytes = bytes; readable = false; writable = false; executable = true }
+executable_segment address bytes = record
+    { address = address; bytes = bytes; readable = false; writable = false; executable = true }
 
 objects_segment : ℕ → SegmentState
-objects_segment address = record { address = address; bytes = replicate 16 0; readable = true; writable = true; executable = false }
+objects_segment address = record
+    { address = address; bytes = replicate 16 0; readable = true; writable = true; executable = false }
 
 -- lui x7, 0x10000; sd x0, 8(x7); lbu x5, 9(x7)
 code : List ℕ
@@ -26,7 +28,8 @@ compiled : MachineState
 compiled = record {
   pc = 0x100000;
   registers = replicate 32 0;
-  memory = executable_segment 0x10000 (replicate 4 0) ∷ executable_segment 0x100000 code ∷ objects_segment 0x10000000 ∷ [];
+  memory = executable_segment 0x10000 (replicate 4 0) ∷ executable_segment 0x100000 code ∷ objects_segment 0x10000000
+      ∷ [];
 }
 
 -- the code below
@@ -34,19 +37,24 @@ not_compiled : MachineState
 not_compiled = record {
   pc = 0x10000;
   registers = replicate 32 0;
-  memory = executable_segment 0x10000 code ∷ executable_segment 0x200000 (replicate 4 0) ∷ objects_segment 0x10000000 ∷ [];
+  memory = executable_segment 0x10000 code ∷ executable_segment 0x200000 (replicate 4 0) ∷ objects_segment 0x10000000
+      ∷ [];
 }
 
-accesses-compiled : (runs 3 (begun compiled [])).0.accesses ≡ record { address = 0x10000008; size = 8; kind = Write } ∷ record { address = 0x10000009; size = 1; kind = Read } ∷ []
-unfolding executable_segment objects_segment code compiled runs turn step executes gives loads stores extended place_of load fetch store next_access object_access decoded by_opcode load_of store_of load_at store_at
+accesses-compiled : (runs 3 (begun compiled [])).0.accesses ≡ record { address = 0x10000008; size = 8; kind = Write }
+    ∷ record { address = 0x10000009; size = 1; kind = Read } ∷ []
+unfolding executable_segment objects_segment code compiled runs turn step executes gives loads stores extended place_of
+    load fetch store next_access object_access decoded by_opcode load_of store_of load_at store_at
 accesses-compiled = refl
 
 accesses-not_compiled : (runs 3 (begun not_compiled [])).0.accesses ≡ []
-unfolding executable_segment objects_segment code not_compiled runs turn step executes gives loads stores extended place_of load fetch store next_access object_access decoded by_opcode load_of store_of load_at store_at
+unfolding executable_segment objects_segment code not_compiled runs turn step executes gives loads stores extended
+    place_of load fetch store next_access object_access decoded by_opcode load_of store_of load_at store_at
 accesses-not_compiled = refl
 
 goes-compiled : (runs 3 (begun compiled [])).1 ≡ None
-unfolding executable_segment objects_segment code compiled runs turn step executes gives loads stores extended place_of load fetch store next_access object_access decoded by_opcode load_of store_of load_at store_at
+unfolding executable_segment objects_segment code compiled runs turn step executes gives loads stores extended place_of
+    load fetch store next_access object_access decoded by_opcode load_of store_of load_at store_at
 goes-compiled = refl
 
 -- a call to read one byte, and then the end of the input
@@ -58,13 +66,16 @@ reading = record {
 }
 
 taken-reading : (runs 1 (begun reading (7 ∷ 8 ∷ []))).0.taken ≡ 1
-unfolding executable_segment objects_segment reading runs turn step executes gives place_of fetch store may_write calls read_call decoded by_opcode system_of
+unfolding executable_segment objects_segment reading runs turn step executes gives place_of fetch store may_write calls
+    read_call decoded by_opcode system_of
 taken-reading = refl
 
 input-reading : (runs 1 (begun reading (7 ∷ 8 ∷ []))).0.input ≡ 8 ∷ []
-unfolding executable_segment objects_segment reading runs turn step executes gives place_of fetch store may_write calls read_call decoded by_opcode system_of
+unfolding executable_segment objects_segment reading runs turn step executes gives place_of fetch store may_write calls
+    read_call decoded by_opcode system_of
 input-reading = refl
 
 taken-end : (runs 1 (begun reading [])).0.taken ≡ 0
-unfolding executable_segment objects_segment reading runs turn step executes gives place_of fetch store may_write calls read_call decoded by_opcode system_of
+unfolding executable_segment objects_segment reading runs turn step executes gives place_of fetch store may_write calls
+    read_call decoded by_opcode system_of
 taken-end = refl

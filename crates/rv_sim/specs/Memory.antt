@@ -1,6 +1,8 @@
--- Memory: segments of bytes, each with its permissions. An access lies in the one segment that holds its first byte, or is
+-- Memory: segments of bytes, each with its permissions. An access lies in the one segment that holds its first byte, or
+-- is
 -- refused; it may be misaligned. Numbers are little endian.
-use Rattle.std.specs.Prelude.{ℕ, ◌+◌, ◌-◌, Bool, false, ◌&&◌, nat_lt, nat_le, if◌then◌else◌, List, length, take, drop, ◌++◌, Option, Some, None, option_and_then, position, slice_get, slice_set}
+use Rattle.std.specs.Prelude.{ℕ, ◌+◌, ◌-◌, Bool, false, ◌&&◌, nat_lt, nat_le, if◌then◌else◌, List, length, take, drop}
+use Rattle.std.specs.Prelude.{◌++◌, Option, Some, None, option_and_then, position, slice_get, slice_set}
 use Rattle.byteorder.specs.Endian.{little_number, little_bytes}
 
 pub record SegmentState : Type 0 where
@@ -64,7 +66,8 @@ fetch memory a = segment_at memory a >>= λ s. fetched_in s a
 -- memory after the low n bytes of a number were stored
 unfoldable pub store : List SegmentState → ℕ → ℕ → ℕ → Option (List SegmentState)
 store memory a n v =
-    place_of memory a >>= λ place. slice_get memory place >>= λ s. written_in s a n v >>= λ after. Some (slice_set memory place after)
+    place_of memory a >>= λ place. slice_get memory place >>= λ s. written_in s a n v
+    >>= λ after. Some (slice_set memory place after)
 
 -- the buffer of n bytes from an address on, to be read by the environment
 unfoldable pub bytes_at : List SegmentState → ℕ → ℕ → Option (List ℕ)

@@ -1,5 +1,6 @@
 -- Runs of the machine in its environment.
-use Rattle.std.specs.Prelude.{ℕ, zero, suc, ◌+◌, ◌-◌, ◌%◌, ◌^◌, ◌==◌, ◌||◌, if◌then◌else◌, List, ◌++◌, drop, Option, Some, None, slice_get, unwrap_or}
+use Rattle.std.specs.Prelude.{ℕ, zero, suc, ◌+◌, ◌-◌, ◌%◌, ◌^◌, ◌==◌, ◌||◌, if◌then◌else◌, List, ◌++◌, drop, Option}
+use Rattle.std.specs.Prelude.{Some, None, slice_get, unwrap_or}
 use Rattle.behaviours.specs.Shown.{Access}
 use Rattle.rv_isa.specs.Registers.{a0, a1, a2, a7}
 use Rattle.rv_sim.specs.declared.trap.TrapKind.{TrapKind}
@@ -28,7 +29,8 @@ Turn = Configuration × Option Stop
 abbrev pub trapped : Configuration → TrapKind → Turn
 trapped c kind = (c, Some (Trap kind c.state.pc))
 
--- The environment call: its number is in a7, its arguments are in a0, a1 and a2, and its result goes to a0 (System V ABI
+-- The environment call: its number is in a7, its arguments are in a0, a1 and a2, and its result goes to a0 (System V
+-- ABI
 -- for RISC-V, "Integer Calling Convention"; the numbers are those of Linux).
 
 -- -9, for a descriptor that the call does not know
@@ -45,7 +47,12 @@ with_byte s a byte = record s { memory = unwrap_or (store s.memory a 1 byte) s.m
 abbrev pub received : Configuration → Option ℕ → Turn
 received c None = answered c 0
 received c (Some byte) =
-    answered (record c { state = with_byte c.state (register c.state a1) byte; input = drop 1 c.input; taken = c.taken + 1 }) 1
+    answered (record c {
+      state = with_byte c.state (register c.state a1) byte;
+      input = drop 1 c.input;
+      taken = c.taken
+          + 1;
+    }) 1
 
 unfoldable pub read_call : Configuration → Turn
 read_call c =

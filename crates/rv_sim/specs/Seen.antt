@@ -13,7 +13,8 @@ use Rattle.rv_sim.specs.Run.{Configuration, runs, calls}
 
 -- The state, the rest of the input and what the two sinks have taken are those of a moment, where o and e are what the
 -- sinks had taken when nothing was shown. A sink that does not tell its content is None throughout.
-pub record IsSeen (o e : Option (List ℕ)) (state : MachineState) (rest : List ℕ) (output errors : Option (List ℕ)) (c : Configuration) : Type 0 where
+pub record IsSeen (o e : Option (List ℕ)) (state : MachineState) (rest : List ℕ) (output errors : Option (List ℕ))
+    (c : Configuration) : Type 0 where
   pub state_is : state ≡ c.state
   pub rest_is : rest ≡ c.input
   pub output_is : output ≡ gained o c.output
@@ -28,7 +29,8 @@ pub record KeepsPart (told : Option (List ℕ)) (shown wanted : List ℕ) (now :
 
 -- A sink failed in an environment call at the moment c: the machine and the input stand as at c, and each sink has the
 -- first of the bytes that the call sends.
-pub record IsCut (o e : Option (List ℕ)) (state : MachineState) (rest : List ℕ) (output errors : Option (List ℕ)) (c : Configuration) : Type 0 where
+pub record IsCut (o e : Option (List ℕ)) (state : MachineState) (rest : List ℕ) (output errors : Option (List ℕ))
+    (c : Configuration) : Type 0 where
   pub state_is : state ≡ c.state
   pub rest_is : rest ≡ c.input
   pub output_part : KeepsPart o c.output (calls c).0.output output
@@ -46,7 +48,8 @@ pub record IsFaultAt (limit : ℕ) (c : Configuration) (state : MachineState) (k
   pub left : Left
 
 -- what a run of at most so many instructions from the moment c answers, and what it leaves
-abbrev pub IsRun : (o e : Option (List ℕ)) → Stop → ℕ → Configuration → MachineState → (rest : List ℕ) → (output errors : Option (List ℕ)) → Type 0
+abbrev pub IsRun : (o e : Option (List ℕ)) → Stop → ℕ → Configuration → MachineState → (rest : List ℕ)
+    → (output errors : Option (List ℕ)) → Type 0
 IsRun o e InputFault limit c state rest output errors =
     (k : ℕ) × IsFaultAt limit c state k (IsSeen o e state rest output errors (runs k c).0)
 IsRun o e OutputFault limit c state rest output errors =
@@ -82,15 +85,18 @@ pub record SendsTo (descriptor : ℕ) (s : MachineState) : Type 0 where
   pub bytes : List ℕ
   pub buffer : bytes_at s.memory (register s a1) (register s a2) ≡ Some bytes
 
--- InputFault comes of a call that asks for a byte of the input, and the input's count of faults rose with it; it stands else
+-- InputFault comes of a call that asks for a byte of the input, and the input's count of faults rose with it; it stands
+-- else
 abbrev pub CountsInput : Option Stop → MachineState → ℕ → ℕ → Type 0
 CountsInput result s before now = ByFault result (AsksInput s × Rose before now) (now ≡ before) (now ≡ before)
 
--- OutputFault comes of a call that sends bytes to a sink, and that sink's count of faults rose with it; that of the other
+-- OutputFault comes of a call that sends bytes to a sink, and that sink's count of faults rose with it; that of the
+-- other
 -- stands, and both stand else
 abbrev pub CountsOutput : Option Stop → MachineState → (output output_now errors errors_now : ℕ) → Type 0
 CountsOutput result s output output_now errors errors_now =
     ByFault result
     ((output_now ≡ output) × (errors_now ≡ errors))
-    ((SendsTo 1 s × Rose output output_now × (errors_now ≡ errors)) ⊎ (SendsTo 2 s × (output_now ≡ output) × Rose errors errors_now))
+    ((SendsTo 1 s × Rose output output_now × (errors_now ≡ errors))
+    ⊎ (SendsTo 2 s × (output_now ≡ output) × Rose errors errors_now))
     ((output_now ≡ output) × (errors_now ≡ errors))

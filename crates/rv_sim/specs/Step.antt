@@ -3,7 +3,9 @@ use Rattle.std.specs.Prelude.{ℕ, ◌+◌, ◌*◌, ◌/◌, ◌%◌, ◌^◌, 
 use Rattle.rv_isa.specs.declared.instruction.LoadOp.{LoadOp}
 use Rattle.rv_isa.specs.declared.instruction.StoreOp.{StoreOp}
 use Rattle.rv_isa.specs.declared.instruction.Instr.{Instr}
-use Rattle.rv_isa.specs.declared.instruction.Instr.TheVariants.{Lui, Auipc, Jal, Jalr, Branch, Load, Store, OpImm, ShiftImm, Addiw, ShiftImm32, Op, Op32, Fence, Ecall, Ebreak}
+use Rattle.rv_isa.specs.declared.instruction.Instr.TheVariants.{Lui, Auipc, Jal, Jalr, Branch, Load, Store, OpImm}
+use Rattle.rv_isa.specs.declared.instruction.Instr.TheVariants.{ShiftImm, Addiw, ShiftImm32, Op, Op32, Fence, Ecall}
+use Rattle.rv_isa.specs.declared.instruction.Instr.TheVariants.{Ebreak}
 use Rattle.rv_isa.specs.Decoding.{decoded}
 use Rattle.rv_isa.specs.Word.{sext}
 use Rattle.rv_isa.specs.Results.{load_bytes, extended, store_bytes}
@@ -13,7 +15,8 @@ use Rattle.rv_sim.specs.declared.trap.Action.{Action}
 use Rattle.rv_sim.specs.declared.trap.Action.TheVariants.{Done, Ask, Refuse}
 use Rattle.rv_sim.specs.Memory.{SegmentState, load, fetch, store}
 use Rattle.rv_sim.specs.State.{MachineState, register, with_register}
-use Rattle.rv_isa.specs.Results.{wrap, low_word, branch_taken, imm_result, shift_result, shift32_result, reg_result, reg32_result}
+use Rattle.rv_isa.specs.Results.{wrap, low_word, branch_taken, imm_result, shift_result, shift32_result, reg_result}
+use Rattle.rv_isa.specs.Results.{reg32_result}
 
 -- the state after it, and what the step comes to
 abbrev pub Stepped : Type 0
@@ -73,7 +76,8 @@ executes (Lui rd imm) s = gives s rd (sext 32 (imm * 2 ^ 12))
 executes (Auipc rd imm) s = gives s rd (from_pc s (sext 32 (imm * 2 ^ 12)))
 executes (Jal rd imm) s = jumps s rd (from_pc s (sext 21 imm))
 executes (Jalr rd rs1 imm) s = jumps s rd (address_of s rs1 imm / 2 * 2)
-executes (Branch op rs1 rs2 imm) s = branches s (branch_taken op (register s rs1) (register s rs2)) (from_pc s (sext 13 imm))
+executes (Branch op rs1 rs2 imm) s = branches s (branch_taken op (register s rs1) (register s rs2))
+    (from_pc s (sext 13 imm))
 executes (Load op rd rs1 imm) s = loads s op rd (address_of s rs1 imm)
 executes (Store op rs1 rs2 imm) s = stores s op (address_of s rs1 imm) (register s rs2)
 executes (OpImm op rd rs1 imm) s = gives s rd (imm_result op (register s rs1) (sext 12 imm))

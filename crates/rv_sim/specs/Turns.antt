@@ -7,14 +7,16 @@ use Rattle.rv_sim.specs.Run.{Configuration, Turn, turn, calls, read_call, write_
 use Rattle.rv_sim.specs.Seen.{IsSeen, IsCut, KeepsPart, Asks, ByFault}
 
 -- a call to read, or to write, came to t, and leaves the rest of the moment c
-pub record IsRead (result : Option Stop) (t : Turn) (state : MachineState) (rest : List ℕ) (c : Configuration) : Type 0 where
+pub record IsRead (result : Option Stop) (t : Turn) (state : MachineState) (rest : List ℕ) (c : Configuration) : Type
+    0 where
   pub stop_is : result ≡ t.1
   pub state_is : state ≡ t.0.state
   pub rest_is : rest ≡ t.0.input
   pub output_stays : t.0.output ≡ c.output
   pub errors_stay : t.0.errors ≡ c.errors
 
-pub record IsWritten (o e : Option (List ℕ)) (result : Option Stop) (t : Turn) (state : MachineState) (output errors : Option (List ℕ)) (c : Configuration) : Type 0 where
+pub record IsWritten (o e : Option (List ℕ)) (result : Option Stop) (t : Turn) (state : MachineState)
+    (output errors : Option (List ℕ)) (c : Configuration) : Type 0 where
   pub stop_is : result ≡ t.1
   pub state_is : state ≡ t.0.state
   pub output_is : output ≡ gained o t.0.output
@@ -26,14 +28,17 @@ abbrev pub ReadOrFault : Option Stop → Configuration → MachineState → List
 ReadOrFault result c state rest =
     ByFault result ((state ≡ c.state) × (rest ≡ c.input)) ⊥ (IsRead result (read_call c) state rest c)
 
-abbrev pub WrittenOrFault : (o e : Option (List ℕ)) → Option Stop → Configuration → MachineState → (output errors : Option (List ℕ)) → Type 0
+abbrev pub WrittenOrFault : (o e : Option (List ℕ)) → Option Stop → Configuration → MachineState
+    → (output errors : Option (List ℕ)) → Type 0
 WrittenOrFault o e result c state output errors =
     ByFault result ⊥
-    ((state ≡ c.state) × KeepsPart o c.output (write_call c).0.output output × KeepsPart e c.errors (write_call c).0.errors errors)
+    ((state ≡ c.state) × KeepsPart o c.output (write_call c).0.output output
+    × KeepsPart e c.errors (write_call c).0.errors errors)
     (IsWritten o e result (write_call c) state output errors c)
 
 -- an environment call at the moment c
-abbrev pub CalledOrFault : (o e : Option (List ℕ)) → Option Stop → Configuration → MachineState → (rest : List ℕ) → (output errors : Option (List ℕ)) → Type 0
+abbrev pub CalledOrFault : (o e : Option (List ℕ)) → Option Stop → Configuration → MachineState → (rest : List ℕ)
+    → (output errors : Option (List ℕ)) → Type 0
 CalledOrFault o e result c state rest output errors =
     ByFault result
     (IsSeen o e state rest output errors c)
@@ -41,7 +46,8 @@ CalledOrFault o e result c state rest output errors =
     ((result ≡ (calls c).1) × IsSeen o e state rest output errors (calls c).0)
 
 -- an instruction at the moment c, in the state before
-abbrev pub TurnedOrFault : (o e : Option (List ℕ)) → Option Stop → Configuration → (before state : MachineState) → (rest : List ℕ) → (output errors : Option (List ℕ)) → Type 0
+abbrev pub TurnedOrFault : (o e : Option (List ℕ)) → Option Stop → Configuration → (before state : MachineState)
+    → (rest : List ℕ) → (output errors : Option (List ℕ)) → Type 0
 TurnedOrFault o e result c before state rest output errors =
     ByFault result
     (Asks before × IsSeen o e state rest output errors c)

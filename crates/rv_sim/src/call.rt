@@ -35,13 +35,15 @@ pub fn answer_call<I: Source, O: Sink, E: Sink>(
     output: &mut O,
     errors: &mut E,
 ) -> Option<Stop>
-    ensures told { ForEveryInput (I.rest input.old) (I.rest input.new) (λ was rest. (o e : Option (List ℕ)) (c : Configuration) →
+    ensures told { ForEveryInput (I.rest input.old) (I.rest input.new)
+        (λ was rest. (o e : Option (List ℕ)) (c : Configuration) →
         IsSeen o e state.old was (O.taken output.old) (E.taken errors.old) c →
         CalledOrFault o e result c state.new rest (O.taken output.new) (E.taken errors.new)) }
     ensures fault { FaultKeeps result state.old state.new }
     ensures no_limit { result ≡ Some Stop.Limit → ⊥ }
     ensures input_counts { CountsInput result state.new (I.faults input.old) (I.faults input.new) }
-    ensures output_counts { CountsOutput result state.new (O.faults output.old) (O.faults output.new) (E.faults errors.old) (E.faults errors.new) }
+    ensures output_counts { CountsOutput result state.new (O.faults output.old) (O.faults output.new) (E.faults errors.old)
+        (E.faults errors.new) }
 {
     match state.register(Reg::A7) {
         READ => read(state, input),
@@ -74,7 +76,8 @@ fn answer(state: &mut State, value: u64)
 #[tactic(auto, unfolding(crate::specs::Run::read_call))]
 fn read<I: Source>(state: &mut State, input: &mut I) -> Option<Stop>
     requires { register state.old a7 ≡ 63 }
-    ensures told { ForEveryInput (I.rest input.old) (I.rest input.new) (λ was rest. (c : Configuration) → state.old ≡ c.state → was ≡ c.input →
+    ensures told { ForEveryInput (I.rest input.old) (I.rest input.new)
+        (λ was rest. (c : Configuration) → state.old ≡ c.state → was ≡ c.input →
         ReadOrFault result c state.new rest) }
     ensures fault { FaultKeeps result state.old state.new }
     ensures no_limit { result ≡ Some Stop.Limit → ⊥ }
@@ -117,7 +120,8 @@ fn write<O: Sink, E: Sink>(state: &mut State, output: &mut O, errors: &mut E) ->
         WrittenOrFault o e result c state.new (O.taken output.new) (E.taken errors.new) }
     ensures fault { FaultKeeps result state.old state.new }
     ensures no_limit { result ≡ Some Stop.Limit → ⊥ }
-    ensures counts { CountsOutput result state.new (O.faults output.old) (O.faults output.new) (E.faults errors.old) (E.faults errors.new) }
+    ensures counts { CountsOutput result state.new (O.faults output.old) (O.faults output.new) (E.faults errors.old)
+        (E.faults errors.new) }
     ensures no_input_fault { result ≡ Some Stop.InputFault → ⊥ }
 {
     let descriptor = state.register(Reg::A0);

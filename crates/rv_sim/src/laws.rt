@@ -19,7 +19,8 @@ pub fn machine_is_machine()
 /// Where the word of an instruction stands at the program counter, the step is what the instruction
 /// does.
 pub fn step_executes_the_word_at_pc()
-    ensures { (s : MachineState) (i : Instr) → IsOfTable i → fetch s.memory s.pc ≡ Some (word_of i) → step s ≡ executes i s }
+    ensures { (s : MachineState) (i : Instr) → IsOfTable i → fetch s.memory s.pc ≡ Some (word_of i)
+        → step s ≡ executes i s }
 {}
 
 /// A run of no instructions has shown nothing more, and a run of one more makes one more turn at its

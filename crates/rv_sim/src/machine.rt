@@ -60,14 +60,20 @@ impl Machine {
         errors: &mut E,
         limit: u64,
     ) -> Stop
-        ensures again { IfSome self.old.stopped (λ stop. (result ≡ stop) × (self.new ≡ self.old) × (input.new ≡ input.old) × (output.new ≡ output.old) × (errors.new ≡ errors.old)) }
+        ensures again { IfSome self.old.stopped
+            (λ stop. (result ≡ stop) × (self.new ≡ self.old) × (input.new ≡ input.old) × (output.new ≡ output.old)
+            × (errors.new ≡ errors.old)) }
         // For each list of input that begins with the bytes that were taken, and ends there where the end was met.
-        ensures told { self.old.stopped ≡ None → ForEveryInput (I.rest input.old) (I.rest input.new) (λ was rest. (o e : Option (List ℕ)) (c : Configuration) →
+        ensures told { self.old.stopped ≡ None
+            → ForEveryInput (I.rest input.old) (I.rest input.new)
+            (λ was rest. (o e : Option (List ℕ)) (c : Configuration) →
             IsSeen o e self.old.state was (O.taken output.old) (E.taken errors.old) c →
             IsRun o e result limit c self.new.state rest (O.taken output.new) (E.taken errors.new)) }
         ensures stays { self.old.stopped ≡ None → self.new.stopped ≡ last_stop result }
-        ensures input_counts { self.old.stopped ≡ None → CountsInput (Some result) self.new.state (I.faults input.old) (I.faults input.new) }
-        ensures output_counts { self.old.stopped ≡ None → CountsOutput (Some result) self.new.state (O.faults output.old) (O.faults output.new) (E.faults errors.old) (E.faults errors.new) }
+        ensures input_counts { self.old.stopped ≡ None
+            → CountsInput (Some result) self.new.state (I.faults input.old) (I.faults input.new) }
+        ensures output_counts { self.old.stopped ≡ None → CountsOutput (Some result) self.new.state (O.faults output.old)
+            (O.faults output.new) (E.faults errors.old) (E.faults errors.new) }
     {
         if let Some(stop) = self.stopped {
             return stop;
@@ -109,11 +115,13 @@ fn run_from<I: Source, O: Sink, E: Sink>(
     errors: &mut E,
     limit: u64,
 ) -> Stop
-    ensures told { ForEveryInput (I.rest input.old) (I.rest input.new) (λ was rest. (o e : Option (List ℕ)) (c : Configuration) →
+    ensures told { ForEveryInput (I.rest input.old) (I.rest input.new)
+        (λ was rest. (o e : Option (List ℕ)) (c : Configuration) →
         IsSeen o e state.old was (O.taken output.old) (E.taken errors.old) c →
         IsRun o e result limit c state.new rest (O.taken output.new) (E.taken errors.new)) }
     ensures input_counts { CountsInput (Some result) state.new (I.faults input.old) (I.faults input.new) }
-    ensures output_counts { CountsOutput (Some result) state.new (O.faults output.old) (O.faults output.new) (E.faults errors.old) (E.faults errors.new) }
+    ensures output_counts { CountsOutput (Some result) state.new (O.faults output.old) (O.faults output.new) (E.faults errors.old)
+        (E.faults errors.new) }
 {
     for _count in 0..limit {
         if let Some(stop) = turn(state, input, output, errors) {
@@ -131,13 +139,15 @@ fn turn<I: Source, O: Sink, E: Sink>(
     output: &mut O,
     errors: &mut E,
 ) -> Option<Stop>
-    ensures told { ForEveryInput (I.rest input.old) (I.rest input.new) (λ was rest. (o e : Option (List ℕ)) (c : Configuration) →
+    ensures told { ForEveryInput (I.rest input.old) (I.rest input.new)
+        (λ was rest. (o e : Option (List ℕ)) (c : Configuration) →
         IsSeen o e state.old was (O.taken output.old) (E.taken errors.old) c →
         TurnedOrFault o e result c state.old state.new rest (O.taken output.new) (E.taken errors.new)) }
     ensures fault { FaultKeeps result state.old state.new }
     ensures no_limit { result ≡ Some Stop.Limit → ⊥ }
     ensures input_counts { CountsInput result state.new (I.faults input.old) (I.faults input.new) }
-    ensures output_counts { CountsOutput result state.new (O.faults output.old) (O.faults output.new) (E.faults errors.old) (E.faults errors.new) }
+    ensures output_counts { CountsOutput result state.new (O.faults output.old) (O.faults output.new) (E.faults errors.old)
+        (E.faults errors.new) }
 {
     match state.step() {
         Action::Done => None,

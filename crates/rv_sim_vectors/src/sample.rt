@@ -8,7 +8,8 @@ use rv_sim::{Machine, Stop};
 use sb_outside::{MemSink, MemSource};
 use std::alloc::{AllocError, Global};
 
-/// Rows at 0x10000, of 32 bytes, and code at 0x100000, of one ECALL, which may be executed alone; objects at 0x10000000,
+/// Rows at 0x10000, of 32 bytes, and code at 0x100000, of one ECALL, which may be executed alone; objects at
+/// 0x10000000,
 /// of 0x2000 bytes, and runtime at 0x40000000, of 0x1000 bytes, which may be read and written. The run begins at the
 /// rows. In the file the program headers stand at 64, 120, 176 and 232.
 pub fn parts(alloc: Global, jump_table: Vec<u8>, objects: Vec<u8>) -> Result<NewImage, AllocError>

@@ -1,12 +1,16 @@
 -- What a bounded reading took from a reader that tells what it has left.
-use Rattle.std.proofs.Common.{◌≡◌, ◌≤◌, ◌<◌, ◌+◌, ℕ, List, ◌++◌, length, take, Option, Some, None, Err, ap, ◌∙◌, arith, length-append}
+use Rattle.std.proofs.Common.{◌≡◌, ◌≤◌, ◌<◌, ◌+◌, ℕ, List, ◌++◌, length, take, Option, Some, None, Err, ap, ◌∙◌, arith}
+use Rattle.std.proofs.Common.{length-append}
 use Rattle.std.specs.Prelude.{IfSome}
 use Rattle.std.specs.Io.KnownBytes.{Consumes}
 use Rattle.sb_outside.specs.declared.files.FileFault.TheVariants.{TooLong}
 use Rattle.sb_outside.specs.Content.{ReadsAtMost}
 
 -- so many bytes of a chunk came behind those that were read, and are more than are asked for
-pub too_many : (all between left : Option (List ℕ)) (bytes chunk : List ℕ) (count max : ℕ) → Consumes all between bytes → Consumes between left (take count chunk) → count ≡ length (take count chunk) → max < length bytes + count → length bytes + count ≤ max + 1 → IfSome all (λ a. IfSome left (λ l. ReadsAtMost a l max (Err (TooLong (max + 1)))))
+pub too_many : (all between left : Option (List ℕ)) (bytes chunk : List ℕ) (count max : ℕ) → Consumes all between bytes
+    → Consumes between left (take count chunk) → count ≡ length (take count chunk) → max < length bytes + count
+    → length bytes + count ≤ max + 1
+    → IfSome all (λ a. IfSome left (λ l. ReadsAtMost a l max (Err (TooLong (max + 1)))))
 too_many None between left bytes chunk count max p q same more few = tt
 too_many (Some a) None left bytes chunk count max p q same more few = absurd p
 too_many (Some a) (Some b) None bytes chunk count max p q same more few = absurd q

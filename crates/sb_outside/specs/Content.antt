@@ -1,5 +1,6 @@
 -- What the calls of the outside give and leave, where the content is told.
-use Rattle.std.specs.Prelude.{◌≡◌, ◌≢◌, ◌<◌, ◌≤◌, ◌⊎◌, ℕ, List, [], ◌∷◌, ◌++◌, drop, length, slice_get, Option, Some, None, Result, Ok, Err, IfOk, Vec, ◌+◌}
+use Rattle.std.specs.Prelude.{◌≡◌, ◌≢◌, ◌<◌, ◌≤◌, ◌⊎◌, ℕ, List, [], ◌∷◌, ◌++◌, drop, length, slice_get, Option, Some}
+use Rattle.std.specs.Prelude.{None, Result, Ok, Err, IfOk, Vec, ◌+◌}
 use Rattle.std.specs.declared.alloc.Global.{Global}
 use Rattle.sb_outside.specs.declared.source.Failed.{Failed}
 use Rattle.sb_outside.specs.declared.files.FileFault.{FileFault}
@@ -79,11 +80,13 @@ WritesFile old new bytes (Ok done) = new ≡ Some bytes
 WritesFile old new bytes (Err failed) = HoldsPart new bytes ⊎ ((old ≡ None) × (new ≡ None))
 
 -- the file of this name was written, and the others stay
-pub record WritesFiles {T : Type 0} (old new : List ℕ → Option (List ℕ)) (name bytes : List ℕ) (result : Result T Failed) : Type 0 where
+pub record WritesFiles {T : Type 0} (old new : List ℕ → Option (List ℕ)) (name bytes : List ℕ)
+    (result : Result T Failed) : Type 0 where
   pub written : WritesFile (old name) (new name) bytes result
   pub others : (other : List ℕ) → other ≢ name → new other ≡ old other
 
-abbrev pub Writes : {T : Type 0} → Option (List ℕ → Option (List ℕ)) → Option (List ℕ → Option (List ℕ)) → List ℕ → List ℕ → Result T Failed → Type 0
+abbrev pub Writes : {T : Type 0} → Option (List ℕ → Option (List ℕ)) → Option (List ℕ → Option (List ℕ)) → List ℕ
+    → List ℕ → Result T Failed → Type 0
 Writes None new name bytes result = new ≡ None
 Writes (Some old) None name bytes result = ⊥
 Writes (Some old) (Some new) name bytes result = WritesFiles old new name bytes result

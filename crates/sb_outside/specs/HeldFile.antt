@@ -1,5 +1,6 @@
 -- Files in memory by their names.
-use Rattle.std.specs.Prelude.{ℕ, max, List, [], ◌∷◌, length, Option, Some, None, if◌then◌else◌, bytes_eq, String, string_bytes, Vec}
+use Rattle.std.specs.Prelude.{ℕ, max, List, [], ◌∷◌, length, Option, Some, None, if◌then◌else◌, bytes_eq, String}
+use Rattle.std.specs.Prelude.{string_bytes, Vec}
 use Rattle.std.specs.declared.alloc.Global.{Global}
 
 -- a file's name, its bytes, and how many it has room for
@@ -16,7 +17,8 @@ held_in (f ∷ fs) name = if bytes_eq f.name name then Some f.bytes else held_in
 -- the files, of which the first of this name now holds these bytes
 abbrev pub written_in : List HeldFile → List ℕ → List ℕ → List HeldFile
 written_in [] name bytes = []
-written_in (f ∷ fs) name bytes = if bytes_eq f.name name then record f { bytes = bytes } ∷ fs else f ∷ written_in fs name bytes
+written_in (f ∷ fs) name bytes = if bytes_eq f.name name then record f { bytes = bytes } ∷ fs
+    else f ∷ written_in fs name bytes
 
 -- a pair of a name and bytes as a file with room for them and for so many
 abbrev pub file_of : ℕ → (String Global × Vec ℕ Global) → HeldFile

@@ -1,5 +1,6 @@
 //! Files in memory.
-ghost use Rattle.std.specs.Prelude.{◌≡◌, ◌<◌, ◌≤◌, length, take, All, option_map, is_some, Some, IfSome, IfOk, IsErrOf, map, bytes_eq};
+ghost use Rattle.std.specs.Prelude.{◌≡◌, ◌<◌, ◌≤◌, length, take, All, option_map, is_some, Some, IfSome, IfOk, IsErrOf};
+ghost use Rattle.std.specs.Prelude.{map, bytes_eq};
 ghost use Rattle.std.specs.List.{position_from};
 ghost use Rattle.sb_outside.specs.HeldFile.{HeldFile, held_in, written_in, file_of};
 ghost use Rattle.sb_outside.specs.Content.{ReadsFile};
@@ -24,7 +25,8 @@ impl Model for MemFile {
 
     ghost Value = { HeldFile };
 
-    ghost view = { λ f. record { name = string_bytes f.name; bytes = take f.len f.buffer.items; room = length f.buffer.items } };
+    ghost view = { λ f. record
+        { name = string_bytes f.name; bytes = take f.len f.buffer.items; room = length f.buffer.items } };
 
     ghost invariant = { λ f. f.len ≤ length f.buffer.items };
 }
@@ -35,7 +37,8 @@ impl MemFile {
 
     // A file with room for its bytes and for `room`.
     fn new(alloc: Global, name: &String, bytes: &[u8], room: u64) -> Result<Self, AllocError>
-        ensures { IfOk result (λ f. f ≡ record { name = string_bytes name.now; bytes = bytes.now; room = max room (length bytes.now) }) }
+        ensures { IfOk result
+            (λ f. f ≡ record { name = string_bytes name.now; bytes = bytes.now; room = max room (length bytes.now) }) }
     {
         let name = name.clone()?;
         let size = room.max(bytes.len() as u64) as usize;
@@ -88,7 +91,8 @@ pub struct MemFiles {
 impl MemFiles {
     ghost use Rattle.std.specs.Prelude.{◌≡◌, map, IfOk};
     ghost use Rattle.sb_outside.specs.HeldFile.{HeldFile, file_of};
-    ghost use Rattle.sb_outside.specs.MemoryFiles.{files_of, write_room, failing_reads, failing_writes, next_read, next_write, read_faults, write_faults};
+    ghost use Rattle.sb_outside.specs.MemoryFiles.{files_of, write_room, failing_reads, failing_writes, next_read};
+    ghost use Rattle.sb_outside.specs.MemoryFiles.{next_write, read_faults, write_faults};
 
     /// Files with these names and bytes, each with room for `room` bytes. The reads with the numbers
     /// `read_fails` and the writes with those of `write_fails`, counted apart from 0, fail; with each
@@ -131,7 +135,8 @@ impl Files for MemFiles {
     ghost use Rattle.sb_outside.specs.Content.{Reads, Writes};
     ghost use Rattle.sb_outside.specs.Faults.{CountsFaults, CountsReadFaults, next_count};
     ghost use Rattle.sb_outside.specs.Failures.{kept_by, kept_count};
-    ghost use Rattle.sb_outside.specs.MemoryFiles.{files_of, write_room, failing_reads, failing_writes, next_read, next_write, read_faults, write_faults};
+    ghost use Rattle.sb_outside.specs.MemoryFiles.{files_of, write_room, failing_reads, failing_writes, next_read};
+    ghost use Rattle.sb_outside.specs.MemoryFiles.{next_write, read_faults, write_faults};
 
     ghost held = { λ m. Some (held_in (files_of m)) };
 

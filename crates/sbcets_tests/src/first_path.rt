@@ -139,7 +139,8 @@ fn refused_sources(rt: HostRuntime) -> Result<(), Fail> {
     Ok(())
 }
 
-// How many pairs of parentheses stand around `0` behind `return`, what stands before each `(` and `0`, and the line of the
+// How many pairs of parentheses stand around `0` behind `return`, what stands before each `(` and `0`, and the line of
+// the
 // refusal. Each pair is a level (c_syntax/specs/Levels.antt), of which 200 are read; the part has no parentheses there.
 const NESTED: [(usize, &[u8], &[u8]); 4] = [
     (200, b"", b"unsupported ( at line 1"),

@@ -120,7 +120,16 @@ quotient_below k x y n d h p none e f = ⊎_elim (λ l. l) (λ l. absurd (none (
             let one : magnitude k y ≡ 1 = omega (arith, p.small) in
             let times = ap (λ i. n * i) one in
             record {
-              least = omega (arith, times, p.whole, p.dividend_fits, magnitude_of_negative k x e, half k h.some, h.left);
+              least = omega (
+                arith,
+                times,
+                p.whole,
+                p.dividend_fits,
+                magnitude_of_negative k x e,
+                half k
+                    h.some,
+                h.left,
+              );
               minus_one = omega (arith, one, magnitude_of_negative k y f, h.right);
             }
 

@@ -36,19 +36,35 @@ less_as_integers k x y some left right = by (is_negative k x) (is_negative k y) 
     by true true e f =
         let from = negative_from k x e in
         let other = negative_from k y f in
-        rw (turned_negative k x some left e, turned_negative k y some right f, signed_of_negative k x e left, signed_of_negative k y f right)
+        rw (
+          turned_negative k x some left e,
+          turned_negative k y some right f,
+          signed_of_negative k x e left,
+          signed_of_negative k y f right,
+        )
         (λ h. grind (arith, ints, nat_tests), λ h. grind (arith, ints, nat_tests))
     by true false e f =
         let whole = p in
         let from = negative_from k x e in
         let other = positive_below k y f in
-        rw (turned_negative k x some left e, turned_positive k y some f, signed_of_negative k x e left, signed_of_positive k y f)
+        rw (
+          turned_negative k x some left e,
+          turned_positive k y some f,
+          signed_of_negative k x e left,
+          signed_of_positive k y f,
+        )
         (λ h. grind (arith, ints, nat_tests), λ h. grind (arith, ints, nat_tests))
     by false true e f =
         let whole = p in
         let from = positive_below k x e in
         let other = negative_from k y f in
-        rw (turned_positive k x some e, turned_negative k y some right f, signed_of_positive k x e, signed_of_negative k y f right)
+        rw (
+          turned_positive k x some e,
+          turned_negative k y some right f,
+          signed_of_positive k x e,
+          signed_of_negative k
+              y f right,
+        )
         (λ h. grind (arith, ints, nat_tests), λ h. grind (arith, ints, nat_tests))
     by false false e f =
         rw (turned_positive k x some e, turned_positive k y some f, signed_of_positive k x e, signed_of_positive k y f)

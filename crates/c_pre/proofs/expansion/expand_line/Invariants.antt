@@ -9,7 +9,8 @@ use Rattle.c_pre.proofs.expansion.expand_line.Given as goal
 abbrev pub invariant-loop-reader : goal.invariant-loop-reader
 invariant-loop-reader l = record {
   same : after l.fn.out.items (expansion (macros_of l.macros) l.fn.room (of_text l.line))
-      ≡ after l.out.items (expansion (macros_of l.macros) l.room (pending (inner_first l.reader.lists.items) l.reader.text.now));
+      ≡ after l.out.items (expansion (macros_of l.macros) l.room
+      (pending (inner_first l.reader.lists.items) l.reader.text.now));
   few : length l.out.items ≤ max_expanded_tokens;
   kept : HasNames l.reader;
 }

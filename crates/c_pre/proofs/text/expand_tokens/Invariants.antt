@@ -8,7 +8,8 @@ use Rattle.c_pre.proofs.text.expand_tokens.Given as goal
 
 abbrev pub invariant-loop-at : goal.invariant-loop-at
 invariant-loop-at l = record {
-  same : read_lines start (lines l.tokens) ≡ after l.out.items (read_lines (state_of l.preprocessor) (lines (drop l.at l.tokens)));
+  same : read_lines start (lines l.tokens)
+      ≡ after l.out.items (read_lines (state_of l.preprocessor) (lines (drop l.at l.tokens)));
   few : length l.out.items ≤ max_expanded_tokens;
   within : l.at ≤ length l.tokens;
 }

@@ -12,17 +12,21 @@ pub returns-in_err-matches-clause-usage : goal.returns-in_err-matches-clause-usa
 returns-in_err-matches-clause-usage g c = λ usage.
     let error = c.in_err-matches.field-0.0 in
     let other : kind_of error ≢ OutOfMemory =
-    subst (λ (r : Result Command WordsFault). IsErrAnd r (λ fault. fault ≡ Usage → kind_of error ≢ OutOfMemory)) usage c.from_residual-in_err-matches.ensures.1 refl in
-    refused_is (app_of c.in_ok-program.field-0) (map g.S.AsStr.text c.args.words.now) error c.in_ok-program.ensures c.in_err-matches.ensures.kinds other
+    subst (λ (r : Result Command WordsFault). IsErrAnd r (λ fault. fault ≡ Usage → kind_of error ≢ OutOfMemory)) usage
+    c.from_residual-in_err-matches.ensures.1 refl in
+    refused_is (app_of c.in_ok-program.field-0) (map g.S.AsStr.text c.args.words.now) error c.in_ok-program.ensures
+    c.in_err-matches.ensures.kinds other
 
 pub returns-in-Some-clause-ok : goal.returns-in-Some-clause-ok
 returns-in-Some-clause-ok g c =
-    let taken = taken_is (app_of c.in_ok-program.field-0) (map g.S.AsStr.text c.args.words.now) c.in_ok-matches.matches c.in_ok-program.ensures
+    let taken = taken_is (app_of c.in_ok-program.field-0) (map g.S.AsStr.text c.args.words.now)
+    c.in_ok-matches.matches c.in_ok-program.ensures
     c.in_ok-matches.ensures.kinds c.in_ok-matches.ensures.matches in
     sym taken ∙ sym c.in-Some.ensures.asked
 
 pub returns-clause-usage : goal.returns-clause-usage
 returns-clause-usage g c = λ usage.
-    let taken = taken_is (app_of c.in_ok-program.field-0) (map g.S.AsStr.text c.args.words.now) c.in_ok-matches.matches c.in_ok-program.ensures
+    let taken = taken_is (app_of c.in_ok-program.field-0) (map g.S.AsStr.text c.args.words.now)
+    c.in_ok-matches.matches c.in_ok-program.ensures
     c.in_ok-matches.ensures.kinds c.in_ok-matches.ensures.matches in
     sym taken ∙ sym c.in-None.ensures.asked

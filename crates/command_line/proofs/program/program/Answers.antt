@@ -10,13 +10,18 @@ pub returns : goal.returns
 unfolding program
 returns c =
     let bare : app_of c.new.result ≡ new_app (codes "sbcets") = c.new.ensures.app in
-    let unnamed = ap app_of_fields c.no_binary_name.ensures ∙ ap (λ (a : App). record a { top = record a.top { no_binary_name = true } }) bare in
+    let unnamed = ap app_of_fields c.no_binary_name.ensures
+    ∙ ap (λ (a : App). record a { top = record a.top { no_binary_name = true } }) bare in
     let top : app_of c.subcommand_required.result ≡ tool_words =
-    ap app_of_fields c.subcommand_required.ensures ∙ ap (λ (a : App). record a { top = record a.top { subcommand_required = true } }) unnamed in
+    ap app_of_fields c.subcommand_required.ensures
+    ∙ ap (λ (a : App). record a { top = record a.top { subcommand_required = true } }) unnamed in
     let build_is = c.in_ok-build_words.ensures in
     let run_is = c.in_ok-run_words.ensures in
     let go_is = c.in_ok-go_words.ensures in
-    let build = c.in_ok-subcommand.ensures.shape (no_globals _ _ build_is refl) ∙ ap₂ with_subcommand top (ap (λ (a : App). a.top) build_is) in
-    let run = c.in_ok-subcommand-2.ensures.shape (no_globals _ _ run_is refl) ∙ ap₂ with_subcommand build (ap (λ (a : App). a.top) run_is) in
+    let build = c.in_ok-subcommand.ensures.shape (no_globals _ _ build_is refl)
+    ∙ ap₂ with_subcommand top (ap (λ (a : App). a.top) build_is) in
+    let run = c.in_ok-subcommand-2.ensures.shape (no_globals _ _ run_is refl)
+    ∙ ap₂ with_subcommand build (ap (λ (a : App). a.top) run_is) in
     IfOk-weaker c.subcommand-3.result _ _
-    (λ r adds. adds.shape (no_globals _ _ go_is refl) ∙ ap₂ with_subcommand run (ap (λ (a : App). a.top) go_is)) c.subcommand-3.ensures
+    (λ r adds. adds.shape (no_globals _ _ go_is refl)
+    ∙ ap₂ with_subcommand run (ap (λ (a : App). a.top) go_is)) c.subcommand-3.ensures

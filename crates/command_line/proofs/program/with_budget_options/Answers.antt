@@ -15,4 +15,5 @@ returns c =
     let stack = c.in_ok-arg-2.ensures.shape c.option-2.ensures.local ∙ ap₂ with_rule heap stack_is in
     let calls = c.in_ok-arg-3.ensures.shape c.option-3.ensures.local ∙ ap₂ with_rule stack calls_is in
     let blocks = c.in_ok-arg-4.ensures.shape c.option-4.ensures.local ∙ ap₂ with_rule calls blocks_is in
-    IfOk-weaker c.arg-5.result _ _ (λ r adds. adds.shape c.option-5.ensures.local ∙ ap₂ with_rule blocks keys_is) c.arg-5.ensures
+    IfOk-weaker c.arg-5.result _ _
+    (λ r adds. adds.shape c.option-5.ensures.local ∙ ap₂ with_rule blocks keys_is) c.arg-5.ensures

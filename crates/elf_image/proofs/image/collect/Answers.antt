@@ -23,7 +23,8 @@ loop-i-preserved c =
       after_is = c.split_at.ensures.back;
     } in
     let n = goes_on c.args.bytes.now
-    (loads c.args.count c.args.table.now) c.loop-i.segments.items c.add_segment.new.segments.items s c.in_ok-add_segment.ensures c.loop-i.invariant.fault c.loop-i.invariant.so_far in
+    (loads c.args.count c.args.table.now) c.loop-i.segments.items c.add_segment.new.segments.items s
+    c.in_ok-add_segment.ensures c.loop-i.invariant.fault c.loop-i.invariant.so_far in
     record {
       room = omega (arith, c.split_at.ensures.back_len);
       fault = n.fault;

@@ -5,6 +5,7 @@ use Rattle.rv_asm.proofs.layout.chosen_forms.Given as goal
 
 abbrev pub invariant-loop-item : goal.invariant-loop-item
 invariant-loop-item l = record {
-  forms : l.forms.items ++ chosen (entry l.table) l.place (drop l.item-index l.items) ≡ chosen (entry l.table) 0 l.items;
+  forms : l.forms.items ++ chosen (entry l.table) l.place (drop l.item-index l.items)
+      ≡ chosen (entry l.table) 0 l.items;
   left : l.place + longest_size (drop l.item-index l.items) ≡ longest_size l.items;
 }

@@ -13,8 +13,10 @@ loop-index-init c = record {
 
 pub mark-requires : goal.mark-requires
 mark-requires c =
-    let inside : c.loop-index.index < length c.args.items.now = omega (arith, c.loop-index-test.true, c.loop-index.auto.index-end) in
-    is_within c.args.items.now c.loop-index.table.items c.loop-index.index c.index-items-index.result inside c.index-items-index.is c.loop-index.invariant.room
+    let inside : c.loop-index.index < length c.args.items.now = omega
+    (arith, c.loop-index-test.true, c.loop-index.auto.index-end) in
+    is_within c.args.items.now c.loop-index.table.items c.loop-index.index c.index-items-index.result inside
+    c.index-items-index.is c.loop-index.invariant.room
 
 pub loop-index-preserved : goal.loop-index-preserved
 loop-index-preserved c =
@@ -26,7 +28,9 @@ loop-index-preserved c =
     let size = size_step forms items k (k + 1) i Short c.requires.many inside c.index-items-index.is (omega arith) in
     let next = start_step forms items k (k + 1) i Short c.requires.many inside c.index-items-index.is (omega arith) in
     let room = has_room_still items c.loop-index.table.items i c.loop-index.place c.loop-index.invariant.room in
-    let held = holds_further forms items c.loop-index.table.items k (k + 1) c.loop-index.place i c.requires.apart c.loop-index.invariant.room inside c.index-items-index.is c.loop-index.invariant.at (omega arith) c.loop-index.invariant.held in
+    let held = holds_further forms items c.loop-index.table.items k (k + 1) c.loop-index.place i c.requires.apart
+    c.loop-index.invariant.room inside c.index-items-index.is c.loop-index.invariant.at (omega arith)
+    c.loop-index.invariant.held in
     record {
       left = omega (arith, size, c.loop-index.invariant.left, c.size-place.ensures.value);
       at = omega (arith, next, c.loop-index.invariant.at, c.size-place.ensures.value);

@@ -5,5 +5,7 @@ use Rattle.rv_asm.proofs.layout.size.Goals as goal
 
 pub loop-index-preserved : goal.loop-index-preserved
 loop-index-preserved c =
-    let step = size_step c.args.forms.now c.args.items.now c.loop-index.index (c.loop-index.index + 1) c.index-items-index.result Short c.requires.many (omega (arith, c.loop-index-test.true, c.loop-index.auto.index-end)) c.index-items-index.is (omega arith) in
+    let step = size_step c.args.forms.now c.args.items.now c.loop-index.index (c.loop-index.index + 1)
+    c.index-items-index.result Short c.requires.many
+    (omega (arith, c.loop-index-test.true, c.loop-index.auto.index-end)) c.index-items-index.is (omega arith) in
     omega (arith, step, c.loop-index.invariant, c.size-sum.ensures.value)

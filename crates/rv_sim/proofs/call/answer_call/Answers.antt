@@ -18,7 +18,8 @@ pub returns-in-64-clause-told : goal.returns-in-64-clause-told
 returns-in-64-clause-told g c =
     untaken _ _ (λ left o e now seen.
     let k : register now.state a7 ≡ 64 = cc in
-    by_write o e now _ _ _ _ _ k seen.rest_is (c.write.ensures.told o e now seen.state_is seen.output_is seen.errors_is))
+    by_write o e now _ _ _ _ _ k seen.rest_is
+    (c.write.ensures.told o e now seen.state_is seen.output_is seen.errors_is))
 
 pub returns-in-93-clause-told : goal.returns-in-93-clause-told
 unfolding calls

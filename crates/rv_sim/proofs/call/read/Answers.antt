@@ -46,6 +46,8 @@ returns-in-Some-clause-told g c =
           let a : c.register-buffer.result ≡ register now.state a1 = cc in
           let room : may_write now.state.memory c.register-buffer.result c.register-count.result ≡ true = cc in
           let asks = asks_byte now _ _ _ d k a (cc) c.if-count-eq0.false room in
-          let put : c.put_byte.new.self ≡ with_byte now.state (register now.state a1) byte = c.put_byte.ensures ∙ ap (λ s. with_byte s c.register-buffer.result byte) same ∙ ap (λ b. with_byte now.state b byte) a in
-          read_some now byte _ _ rest asks (ap (λ l. slice_get l 0) is) (ap (drop 1) (sym is)) put c.answer-in-Some.ensures;
+          let put : c.put_byte.new.self ≡ with_byte now.state (register now.state a1) byte = c.put_byte.ensures
+          ∙ ap (λ s. with_byte s c.register-buffer.result byte) same ∙ ap (λ b. with_byte now.state b byte) a in
+          read_some now byte _ _ rest asks (ap (λ l. slice_get l 0) is) (ap (drop 1) (sym is))
+          put c.answer-in-Some.ensures;
     }

@@ -16,7 +16,8 @@ loop-count-preserved g c = record {
   told = then_inputs _ _ _ _ _ _
       (λ was left rest before next o e now seen.
       let so_far = before o e now seen in
-      goes_on o e c.loop-count._count now c.loop-count.state c.turn.new.state _ _ _ so_far.goes (next o e _ so_far.seen))
+      goes_on o e c.loop-count._count now c.loop-count.state c.turn.new.state _ _ _ so_far.goes
+      (next o e _ so_far.seen))
       c.loop-count.invariant.told c.in_default.ensures.told;
   input = search rules;
   output = search rules;
@@ -28,7 +29,8 @@ returns-in-Some-clause-told g c =
     then_inputs _ _ _ _ _ _
     (λ was left rest before next o e now seen.
     let so_far = before o e now seen in
-    run_ends o e c.in-Some.stop c.loop-count._count c.args.limit now _ _ _ _ _ (omega arith) c.in-Some.ensures.no_limit c.in-Some.ensures.fault so_far.goes (next o e _ so_far.seen))
+    run_ends o e c.in-Some.stop c.loop-count._count c.args.limit now _ _ _ _ _ (omega arith) c.in-Some.ensures.no_limit
+    c.in-Some.ensures.fault so_far.goes (next o e _ so_far.seen))
     c.loop-count.invariant.told c.in-Some.ensures.told
 
 pub returns-clause-told : goal.returns-clause-told

@@ -20,5 +20,11 @@ returns-in-Ask-clause-told g c =
     map_inputs _ _ _ _
     (λ was rest said o e now seen.
     by_ask o e now _ _ _ _ _ _ seen.state_is asks
-    (said o e now record { state_is = kept ∙ seen.state_is; rest_is = seen.rest_is; output_is = seen.output_is; errors_is = seen.errors_is }))
+    (said o e now record {
+      state_is = kept
+          ∙ seen.state_is;
+      rest_is = seen.rest_is;
+      output_is = seen.output_is;
+      errors_is = seen.errors_is;
+    }))
     c.answer_call.ensures.told

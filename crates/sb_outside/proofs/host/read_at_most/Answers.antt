@@ -10,4 +10,5 @@ returns-then-count-room-clause-told g c =
     let more : c.args.max < length bytes + count = omega arith in
     let within : length c.read.new.buf ≤ c.wanted_of-wanted.result = rw (c.read.auto.buf, length-take) (omega arith) in
     let few : length bytes + count ≤ c.args.max + 1 = omega (arith, c.in-Ok.ensures.bound.0) in
-    too_many _ (g.R.Read.remaining c.loop-bytes.reader) _ bytes _ count c.args.max c.loop-bytes.invariant.1 c.in-Ok.ensures.bytes.0 c.in-Ok.ensures.bound.1 more few
+    too_many _ (g.R.Read.remaining c.loop-bytes.reader) _ bytes _ count c.args.max c.loop-bytes.invariant.1
+    c.in-Ok.ensures.bytes.0 c.in-Ok.ensures.bound.1 more few

@@ -13,11 +13,14 @@ returns-in_err-define_line c =
     let tokens = c.tokens-tokens.result.now in
     let from = c.loop-from.from in
     let len = c.line_len-len.result in
-    let same = ap (λ t. define_lines c.args.at (lines t) (state_of c.args.self.now)) (sym c.tokens-tokens.ensures) ∙ c.loop-from.invariant.same in
+    let same = ap (λ t. define_lines c.args.at (lines t) (state_of c.args.self.now)) (sym c.tokens-tokens.ensures)
+    ∙ c.loop-from.invariant.same in
     let error = err_from_is_err_and c.from_residual.result c.from_residual.ensures.1 in
     rw (error.1, error.2)
-    (line_refused c.args.at _ (state_of c.loop-from.self) (drop from tokens) (take len (take (length tokens - from) (drop from tokens))) (drop (from + len) tokens)
-    same (first_line tokens from len c.loop-from-test.true c.line_len-len.ensures.value) c.in_err-define_line.field-0.0 c.in_err-define_line.ensures)
+    (line_refused c.args.at _ (state_of c.loop-from.self) (drop from tokens)
+    (take len (take (length tokens - from) (drop from tokens))) (drop (from + len) tokens)
+    same (first_line tokens from len c.loop-from-test.true c.line_len-len.ensures.value)
+    c.in_err-define_line.field-0.0 c.in_err-define_line.ensures)
 
 pub loop-from-preserved : goal.loop-from-preserved
 loop-from-preserved c =
@@ -25,7 +28,15 @@ loop-from-preserved c =
     let from = c.loop-from.from in
     let len = c.line_len-len.result in
     record {
-      same = line_defined c.args.at _ (state_of c.loop-from.self) (drop from tokens) (take len (take (length tokens - from) (drop from tokens))) (drop (from + len) tokens)
-          c.loop-from.invariant.same (first_line tokens from len c.loop-from-test.true c.line_len-len.ensures.value) (state_of c.define_line.new.self) c.in_ok-define_line.ensures;
-      within = omega (arith, c.line_len-len.ensures.within, length-drop from tokens, length-take-le (length tokens - from) (drop from tokens) (omega (arith, length-drop from tokens)));
+      same = line_defined c.args.at _ (state_of c.loop-from.self) (drop from tokens)
+          (take len (take (length tokens - from) (drop from tokens))) (drop (from + len) tokens)
+          c.loop-from.invariant.same (first_line tokens from len c.loop-from-test.true c.line_len-len.ensures.value)
+          (state_of c.define_line.new.self) c.in_ok-define_line.ensures;
+      within = omega (
+        arith,
+        c.line_len-len.ensures.within,
+        length-drop from tokens,
+        length-take-le
+            (length tokens - from) (drop from tokens) (omega (arith, length-drop from tokens)),
+      );
     }

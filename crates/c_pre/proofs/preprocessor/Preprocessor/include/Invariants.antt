@@ -6,7 +6,8 @@ use Rattle.c_pre.proofs.preprocessor.Preprocessor.include.Given as goal
 
 abbrev pub invariant-loop-from : goal.invariant-loop-from
 invariant-loop-from l = record {
-  same : define_lines l.at (lines l.tokens) (state_of l.initial.self) ≡ define_lines l.at (lines (drop l.from l.tokens)) (state_of l.self);
+  same : define_lines l.at (lines l.tokens) (state_of l.initial.self)
+      ≡ define_lines l.at (lines (drop l.from l.tokens)) (state_of l.self);
   within : l.from ≤ length l.tokens;
 }
 

@@ -3,13 +3,15 @@ use Rattle.std.proofs.Common.{◌≡◌, ℕ, List, Option, inl, inr, ⊎_elim, 
 use Rattle.command_line.specs.Asked.{Asked}
 use Rattle.sbcets_core.specs.declared.outcome.Outcome.{Outcome}
 use Rattle.sbcets_core.specs.declared.outcome.ReadFault.{ReadFault}
-use Rattle.sbcets_core.specs.declared.outcome.Outcome.TheVariants.{Exited, Built, Usage, WriteFault, InputFault, Memory, Limit, Refused, ImageRefused, Trap}
+use Rattle.sbcets_core.specs.declared.outcome.Outcome.TheVariants.{Exited, Built, Usage, WriteFault, InputFault, Memory}
+use Rattle.sbcets_core.specs.declared.outcome.Outcome.TheVariants.{Limit, Refused, ImageRefused, Trap}
 use Rattle.sbcets_core.specs.declared.outcome.Outcome.TheVariants as outcomes
 use Rattle.sbcets_core.specs.Counting.{Counts, CommandCounts}
 use Rattle.sbcets_core.specs.Commands.{Outside}
 use Rattle.sbcets_core.specs.Top.{Does, Moment, with_errors, Finishes, AnswersInFull, Answers}
 
-in_full : (command : Option Asked) (outcome : Outcome) (image : List ℕ) (before after : Moment) → AnswersInFull command outcome image before after → Answers command outcome image before after
+in_full : (command : Option Asked) (outcome : Outcome) (image : List ℕ) (before after : Moment)
+    → AnswersInFull command outcome image before after → Answers command outcome image before after
 in_full command WriteFault image before after f = inl f
 in_full command (Exited code) image before after f = f
 in_full command Built image before after f = f
@@ -24,9 +26,14 @@ in_full command (Trap kind pc) image before after f = f
 
 -- the moment after the line, where the error output tells this and has failed so often
 abbrev pub finished : Outside → Counts → Option (List ℕ) → ℕ → Moment
-finished outside counts told faults = record { outside = with_errors outside told; counts = record counts { errors = faults } }
+finished outside counts told faults = record
+    { outside = with_errors outside told; counts = record counts { errors = faults } }
 
-pub answers : (command : Option Asked) (outcome answer : Outcome) (image : List ℕ) (before : Moment) (outside : Outside) (counts : Counts) (told : Option (List ℕ)) (faults : ℕ) → Does command outcome image before.outside outside → CommandCounts outcome before.counts counts → Finishes outcome answer outside.streams.errors told counts.errors faults → Answers command answer image before (finished outside counts told faults)
+pub answers : (command : Option Asked) (outcome answer : Outcome) (image : List ℕ) (before : Moment) (outside : Outside)
+    (counts : Counts) (told : Option (List ℕ)) (faults : ℕ) → Does command outcome image before.outside outside
+    → CommandCounts outcome before.counts counts
+    → Finishes outcome answer outside.streams.errors told counts.errors faults
+    → Answers command answer image before (finished outside counts told faults)
 answers command outcome answer image before outside counts told faults does quiet finish =
     let P : Outcome → Type 0 = λ o. Answers command o image before (finished outside counts told faults) in
     ⊎_elim

@@ -6,18 +6,21 @@ use Rattle.rv_sim.specs.declared.stop.Stop.TheVariants as stops
 use Rattle.sbcets_core.specs.declared.outcome.ReadFault.TheVariants.{TooLong}
 use Rattle.sbcets_core.specs.declared.outcome.ReadFault.TheVariants as reads
 use Rattle.sbcets_core.specs.declared.outcome.Outcome.{Outcome}
-use Rattle.sbcets_core.specs.declared.outcome.Outcome.TheVariants.{Exited, Built, Usage, WriteFault, InputFault, Memory, Limit, Refused, ImageRefused, Trap}
+use Rattle.sbcets_core.specs.declared.outcome.Outcome.TheVariants.{Exited, Built, Usage, WriteFault, InputFault, Memory}
+use Rattle.sbcets_core.specs.declared.outcome.Outcome.TheVariants.{Limit, Refused, ImageRefused, Trap}
 use Rattle.sbcets_core.specs.declared.outcome.Outcome.TheVariants as outcomes
 use Rattle.sbcets_core.specs.Outcomes.{max_source, max_image_file}
 use Rattle.sbcets_core.specs.Counting.{Counts, CommandCounts, StopCounts}
 use Rattle.sb_outside.specs.Faults.{next_count}
 use Rattle.rv_sim.specs.State.{MachineState}
 use Rattle.rv_sim.specs.Seen.{CountsInput, CountsOutput}
-use Rattle.sbcets_core.specs.Commands.{Outside, DoesNothing, Went, RanFile, Goes, Runs, Builds, IsUnread, IsUnbuilt, IsBuiltOf, ReadCounts, RunsImage, outcome_of}
+use Rattle.sbcets_core.specs.Commands.{Outside, DoesNothing, Went, RanFile, Goes, Runs, Builds, IsUnread, IsUnbuilt}
+use Rattle.sbcets_core.specs.Commands.{IsBuiltOf, ReadCounts, RunsImage, outcome_of}
 use Rattle.sbcets_core.proofs.Running.{never_traps}
 
 -- a command that got nothing does nothing
-pub unbuilt_goes : (name : List ℕ) (limit : ℕ) (outcome : Outcome) (image : List ℕ) (before after : Outside) → DoesNothing image before after → IsUnbuilt name outcome before.files → Goes name limit outcome image before after
+pub unbuilt_goes : (name : List ℕ) (limit : ℕ) (outcome : Outcome) (image : List ℕ) (before after : Outside)
+    → DoesNothing image before after → IsUnbuilt name outcome before.files → Goes name limit outcome image before after
 unbuilt_goes name limit (outcomes.ReadFault reads.Failed) image before after d u = d
 unbuilt_goes name limit (outcomes.ReadFault (TooLong n most)) image before after d u = (u, d)
 unbuilt_goes name limit Memory image before after d u = d
@@ -31,7 +34,9 @@ unbuilt_goes name limit (Limit n) image before after d u = absurd u
 unbuilt_goes name limit (ImageRefused fault) image before after d u = absurd u
 unbuilt_goes name limit (Trap kind pc) image before after d u = absurd u
 
-pub unbuilt_builds : (name target : List ℕ) (outcome : Outcome) (image : List ℕ) (before after : Outside) → DoesNothing image before after → IsUnbuilt name outcome before.files → Builds name target outcome image before after
+pub unbuilt_builds : (name target : List ℕ) (outcome : Outcome) (image : List ℕ) (before after : Outside)
+    → DoesNothing image before after → IsUnbuilt name outcome before.files
+    → Builds name target outcome image before after
 unbuilt_builds name target (outcomes.ReadFault reads.Failed) image before after d u = d
 unbuilt_builds name target (outcomes.ReadFault (TooLong n most)) image before after d u = (u, d)
 unbuilt_builds name target Memory image before after d u = d
@@ -45,7 +50,10 @@ unbuilt_builds name target (Limit n) image before after d u = absurd u
 unbuilt_builds name target (ImageRefused fault) image before after d u = absurd u
 unbuilt_builds name target (Trap kind pc) image before after d u = absurd u
 
-pub unwritten_builds : (name target image : List ℕ) (before after : Outside) → IsBuiltOf name image before.files → Writes {T = Unit {0}} before.files after.files target image (Err record {}) → after.writes ≡ next_count before.writes → after.streams ≡ before.streams → Builds name target WriteFault [] before after
+pub unwritten_builds : (name target image : List ℕ) (before after : Outside) → IsBuiltOf name image before.files
+    → Writes {T = Unit {0}} before.files after.files target image (Err record {})
+    → after.writes ≡ next_count before.writes → after.streams ≡ before.streams
+    → Builds name target WriteFault [] before after
 unwritten_builds name target image before after b w once same =
     inl (record {
       into = record {
@@ -62,7 +70,9 @@ unwritten_builds name target image before after b w once same =
       output = ap (λ s. s.output) same;
     })
 
-pub unread_runs : (name : List ℕ) (limit : ℕ) (outcome : Outcome) (image : List ℕ) (before after : Outside) → DoesNothing image before after → IsUnread name max_image_file outcome before.files → Runs name limit outcome image before after
+pub unread_runs : (name : List ℕ) (limit : ℕ) (outcome : Outcome) (image : List ℕ) (before after : Outside)
+    → DoesNothing image before after → IsUnread name max_image_file outcome before.files
+    → Runs name limit outcome image before after
 unread_runs name limit (outcomes.ReadFault reads.Failed) image before after d u = d
 unread_runs name limit (outcomes.ReadFault (TooLong n most)) image before after d u = (u, d)
 unread_runs name limit Memory image before after d u = d
@@ -76,7 +86,8 @@ unread_runs name limit (Limit n) image before after d u = absurd u
 unread_runs name limit (ImageRefused fault) image before after d u = absurd u
 unread_runs name limit (Trap kind pc) image before after d u = absurd u
 
-pub unread_unbuilt : (name : List ℕ) (outcome : Outcome) (held : Option (List ℕ → Option (List ℕ))) → IsUnread name max_source outcome held → IsUnbuilt name outcome held
+pub unread_unbuilt : (name : List ℕ) (outcome : Outcome) (held : Option (List ℕ → Option (List ℕ)))
+    → IsUnread name max_source outcome held → IsUnbuilt name outcome held
 unread_unbuilt name (outcomes.ReadFault reads.Failed) held u = u
 unread_unbuilt name (outcomes.ReadFault (TooLong n most)) held u = u
 unread_unbuilt name Memory held u = u
@@ -91,18 +102,25 @@ unread_unbuilt name (ImageRefused fault) held u = absurd u
 unread_unbuilt name (Trap kind pc) held u = absurd u
 
 -- a run, by how it ended
-went_by : (name : List ℕ) (limit : ℕ) (image : List ℕ) (stop : Stop) (before after : Outside) → Went name limit image stop before after → Goes name limit (outcome_of stop limit) image before after
+went_by : (name : List ℕ) (limit : ℕ) (image : List ℕ) (stop : Stop) (before after : Outside)
+    → Went name limit image stop before after → Goes name limit (outcome_of stop limit) image before after
 went_by name limit image (stops.Exited code) before after w = w
-went_by name limit image (stops.Trap kind pc) before after w = never_traps w.source image limit kind pc before.streams after.streams w.built w.run
+went_by name limit image (stops.Trap kind pc) before after w = never_traps w.source image limit kind pc before.streams
+    after.streams w.built w.run
 went_by name limit image stops.Limit before after w = (refl, w)
 went_by name limit image stops.InputFault before after w = w
 went_by name limit image stops.OutputFault before after w = w
 
-pub went_goes : (name : List ℕ) (limit : ℕ) (image : List ℕ) (stop : Stop) (before after : Outside) → IsBuiltOf name image before.files → RunsImage image limit stop before.streams after.streams → after.files ≡ before.files → after.writes ≡ before.writes → Goes name limit (outcome_of stop limit) image before after
+pub went_goes : (name : List ℕ) (limit : ℕ) (image : List ℕ) (stop : Stop) (before after : Outside)
+    → IsBuiltOf name image before.files → RunsImage image limit stop before.streams after.streams
+    → after.files ≡ before.files → after.writes ≡ before.writes
+    → Goes name limit (outcome_of stop limit) image before after
 went_goes name limit image stop before after b r files unwritten =
-    went_by name limit image stop before after (record { source = b.source; read = b.read; built = b.built; run = r; files = files; unwritten = unwritten })
+    went_by name limit image stop before after
+    (record { source = b.source; read = b.read; built = b.built; run = r; files = files; unwritten = unwritten })
 
-pub ran_runs : (name : List ℕ) (limit : ℕ) (image : List ℕ) (stop : Stop) (before after : Outside) → RanFile name limit stop image before after → Runs name limit (outcome_of stop limit) image before after
+pub ran_runs : (name : List ℕ) (limit : ℕ) (image : List ℕ) (stop : Stop) (before after : Outside)
+    → RanFile name limit stop image before after → Runs name limit (outcome_of stop limit) image before after
 ran_runs name limit image (stops.Exited code) before after r = r
 ran_runs name limit image (stops.Trap kind pc) before after r = r
 ran_runs name limit image stops.Limit before after r = (refl, r)
@@ -110,9 +128,13 @@ ran_runs name limit image stops.InputFault before after r = r
 ran_runs name limit image stops.OutputFault before after r = r
 
 -- the counts of a command that got nothing
-pub unread_counts : (name : List ℕ) (max : ℕ) (outcome : Outcome) (held : Option (List ℕ → Option (List ℕ))) (before after : Counts) → after ≡ record before { reads = after.reads } → IsUnread name max outcome held → ReadCounts outcome before.reads after.reads → CommandCounts outcome before after
-unread_counts name max (outcomes.ReadFault reads.Failed) held before after same u c = same ∙ ap (λ r. record before { reads = r }) c
-unread_counts name max (outcomes.ReadFault (TooLong n most)) held before after same u c = same ∙ ap (λ r. record before { reads = r }) c
+pub unread_counts : (name : List ℕ) (max : ℕ) (outcome : Outcome) (held : Option (List ℕ → Option (List ℕ)))
+    (before after : Counts) → after ≡ record before { reads = after.reads } → IsUnread name max outcome held
+    → ReadCounts outcome before.reads after.reads → CommandCounts outcome before after
+unread_counts name max (outcomes.ReadFault reads.Failed) held before after same u c = same
+    ∙ ap (λ r. record before { reads = r }) c
+unread_counts name max (outcomes.ReadFault (TooLong n most)) held before after same u c = same
+    ∙ ap (λ r. record before { reads = r }) c
 unread_counts name max Memory held before after same u c = same ∙ ap (λ r. record before { reads = r }) c
 unread_counts name max (Refused refusal) held before after same u c = absurd u
 unread_counts name max (Exited code) held before after same u c = absurd u
@@ -124,9 +146,13 @@ unread_counts name max (Limit n) held before after same u c = absurd u
 unread_counts name max (ImageRefused fault) held before after same u c = absurd u
 unread_counts name max (Trap kind pc) held before after same u c = absurd u
 
-pub unbuilt_counts : (name : List ℕ) (outcome : Outcome) (held : Option (List ℕ → Option (List ℕ))) (before after : Counts) → after ≡ record before { reads = after.reads } → IsUnbuilt name outcome held → ReadCounts outcome before.reads after.reads → CommandCounts outcome before after
-unbuilt_counts name (outcomes.ReadFault reads.Failed) held before after same u c = same ∙ ap (λ r. record before { reads = r }) c
-unbuilt_counts name (outcomes.ReadFault (TooLong n most)) held before after same u c = same ∙ ap (λ r. record before { reads = r }) c
+pub unbuilt_counts : (name : List ℕ) (outcome : Outcome) (held : Option (List ℕ → Option (List ℕ)))
+    (before after : Counts) → after ≡ record before { reads = after.reads } → IsUnbuilt name outcome held
+    → ReadCounts outcome before.reads after.reads → CommandCounts outcome before after
+unbuilt_counts name (outcomes.ReadFault reads.Failed) held before after same u c = same
+    ∙ ap (λ r. record before { reads = r }) c
+unbuilt_counts name (outcomes.ReadFault (TooLong n most)) held before after same u c = same
+    ∙ ap (λ r. record before { reads = r }) c
 unbuilt_counts name Memory held before after same u c = same ∙ ap (λ r. record before { reads = r }) c
 unbuilt_counts name (Refused refusal) held before after same u c = same ∙ ap (λ r. record before { reads = r }) c
 unbuilt_counts name (Exited code) held before after same u c = absurd u
@@ -139,18 +165,24 @@ unbuilt_counts name (ImageRefused fault) held before after same u c = absurd u
 unbuilt_counts name (Trap kind pc) held before after same u c = absurd u
 
 -- the counts of a run
-pub stop_counts : (stop : Stop) (state : MachineState) (i i' o o' e e' : ℕ) → CountsInput (Some stop) state i i' → CountsOutput (Some stop) state o o' e e' → StopCounts stop i i' o o' e e'
+pub stop_counts : (stop : Stop) (state : MachineState) (i i' o o' e e' : ℕ) → CountsInput (Some stop) state i i'
+    → CountsOutput (Some stop) state o o' e e' → StopCounts stop i i' o o' e e'
 stop_counts stops.InputFault state i i' o o' e e' p q = (p.1, q.0, q.1)
 stop_counts stops.OutputFault state i i' o o' e e' p q = (p, ⊎_elim (λ s. inl (s.1, s.2)) (λ s. inr (s.1, s.2)) q)
 stop_counts stops.Limit state i i' o o' e e' p q = (p, q.0, q.1)
 stop_counts (stops.Exited code) state i i' o o' e e' p q = (p, q.0, q.1)
 stop_counts (stops.Trap kind pc) state i i' o o' e e' p q = (p, q.0, q.1)
 
-ran_quiet : (before after : Counts) → after.reads ≡ before.reads → after.writes ≡ before.writes → after.input ≡ before.input → after.output ≡ before.output → after.errors ≡ before.errors → after ≡ before
+ran_quiet : (before after : Counts) → after.reads ≡ before.reads → after.writes ≡ before.writes
+    → after.input ≡ before.input → after.output ≡ before.output → after.errors ≡ before.errors → after ≡ before
 ran_quiet before after r w i o e = λ j. record { reads = r j; writes = w j; input = i j; output = o j; errors = e j }
 
-pub ran_counts : (stop : Stop) (limit : ℕ) (before after : Counts) → after.reads ≡ before.reads → after.writes ≡ before.writes → StopCounts stop before.input after.input before.output after.output before.errors after.errors → CommandCounts (outcome_of stop limit) before after
-ran_counts stops.InputFault limit before after r w c = ran_quiet (record before { input = next_count before.input }) after r w c.0 c.1 c.2
+pub ran_counts : (stop : Stop) (limit : ℕ) (before after : Counts) → after.reads ≡ before.reads
+    → after.writes ≡ before.writes
+    → StopCounts stop before.input after.input before.output after.output before.errors after.errors
+    → CommandCounts (outcome_of stop limit) before after
+ran_counts stops.InputFault limit before after r w c = ran_quiet (record before { input = next_count before.input })
+    after r w c.0 c.1 c.2
 ran_counts stops.OutputFault limit before after r w c =
     inr (⊎_elim
     (λ s. inl (ran_quiet (record before { output = next_count before.output }) after r w c.0 s.0 s.1))

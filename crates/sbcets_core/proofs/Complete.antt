@@ -4,7 +4,8 @@ use Rattle.std.specs.Prelude.{IfSome}
 use Rattle.sbcets_core.specs.declared.outcome.ReadFault.TheVariants.{TooLong}
 use Rattle.sbcets_core.specs.declared.outcome.ReadFault.TheVariants as reads
 use Rattle.sbcets_core.specs.declared.outcome.Outcome.{Outcome}
-use Rattle.sbcets_core.specs.declared.outcome.Outcome.TheVariants.{Exited, Built, Usage, WriteFault, InputFault, Memory, Limit, Refused, ImageRefused, Trap}
+use Rattle.sbcets_core.specs.declared.outcome.Outcome.TheVariants.{Exited, Built, Usage, WriteFault, InputFault, Memory}
+use Rattle.sbcets_core.specs.declared.outcome.Outcome.TheVariants.{Limit, Refused, ImageRefused, Trap}
 use Rattle.sbcets_core.specs.declared.outcome.Outcome.TheVariants as outcomes
 use Rattle.command_line.specs.Asked.{Asked, build, run, go}
 use Rattle.sbcets_core.specs.Outcomes.{max_source, max_image_file}
@@ -16,31 +17,39 @@ use Rattle.sbcets_core.specs.Top.{Does, IsAcceptedFile, IsReadableFile, IsOfRun,
 use Rattle.sbcets_core.proofs.Judging.{not_both}
 
 -- what is read is what the file of the name holds
-pub read_is : (held : Option (List ℕ → Option (List ℕ))) (files : List ℕ → Option (List ℕ)) (name bytes read : List ℕ) (max : ℕ) → held ≡ Some files → files name ≡ Some bytes → IsRead held name max read → read ≡ bytes
+pub read_is : (held : Option (List ℕ → Option (List ℕ))) (files : List ℕ → Option (List ℕ)) (name bytes read : List ℕ)
+    (max : ℕ) → held ≡ Some files → files name ≡ Some bytes → IsRead held name max read → read ≡ bytes
 read_is held files name bytes read max told there r =
-    let at_files : IfSome (Some files) (λ f. f name ≡ Some read) = subst (λ h. IfSome h (λ f. f name ≡ Some read)) told r.holds in
+    let at_files : IfSome (Some files) (λ f. f name ≡ Some read) = subst (λ h. IfSome h (λ f. f name ≡ Some read)) told
+    r.holds in
     cc (at_files, there)
 
-pub not_too_long : (held : Option (List ℕ → Option (List ℕ))) (files : List ℕ → Option (List ℕ)) (name bytes : List ℕ) (max n most : ℕ) → held ≡ Some files → files name ≡ Some bytes → length bytes ≤ max → IsTooLong name max n most held → ⊥
+pub not_too_long : (held : Option (List ℕ → Option (List ℕ))) (files : List ℕ → Option (List ℕ)) (name bytes : List ℕ)
+    (max n most : ℕ) → held ≡ Some files → files name ≡ Some bytes → length bytes ≤ max → IsTooLong name max n most held
+    → ⊥
 not_too_long held files name bytes max n most told there short t =
-    let at_files : IfSome (Some files) (λ f. IfSome (f name) (λ b. length b ≡ n)) = subst (λ h. IfSome h (λ f. IfSome (f name) (λ b. length b ≡ n))) told t.length_is in
+    let at_files : IfSome (Some files) (λ f. IfSome (f name) (λ b. length b ≡ n)) = subst
+    (λ h. IfSome h (λ f. IfSome (f name) (λ b. length b ≡ n))) told t.length_is in
     let at_bytes : IfSome (Some bytes) (λ b. length b ≡ n) = subst (λ o. IfSome o (λ b. length b ≡ n)) there at_files in
     let more = t.more in
     omega (arith, more, at_bytes, short)
 
-not_refused : (held : Option (List ℕ → Option (List ℕ))) (name : List ℕ) (refusal : SourceRefusal) → IsAcceptedFile held name → RefusesSource name refusal held → ⊥
+not_refused : (held : Option (List ℕ → Option (List ℕ))) (name : List ℕ) (refusal : SourceRefusal)
+    → IsAcceptedFile held name → RefusesSource name refusal held → ⊥
 not_refused held name refusal f r =
     let same = read_is held f.files name f.source r.source max_source f.told f.there r.read in
     not_both f.source f.program refusal f.accepts (subst (λ s. Judges s (Err refusal)) same r.refused)
 
-not_image_refused : (held : Option (List ℕ → Option (List ℕ))) (name : List ℕ) (fault : ImageFault) → IsReadableFile held name → RefusesImage name fault held → ⊥
+not_image_refused : (held : Option (List ℕ → Option (List ℕ))) (name : List ℕ) (fault : ImageFault)
+    → IsReadableFile held name → RefusesImage name fault held → ⊥
 not_image_refused held name fault f r =
     let same = read_is held f.files name f.image r.bytes max_image_file f.told f.there r.read in
     let readable = f.readable in
     let refused = r.refused in
     cc (same, readable, refused)
 
-go_ends : (name : List ℕ) (limit : ℕ) (outcome : Outcome) (image : List ℕ) (before after : Outside) → IsAcceptedFile before.files name → Goes name limit outcome image before after → IsOfRun outcome
+go_ends : (name : List ℕ) (limit : ℕ) (outcome : Outcome) (image : List ℕ) (before after : Outside)
+    → IsAcceptedFile before.files name → Goes name limit outcome image before after → IsOfRun outcome
 go_ends name limit (Exited code) image before after f d = tt
 go_ends name limit (Limit n) image before after f d = tt
 go_ends name limit Memory image before after f d = tt
@@ -48,13 +57,15 @@ go_ends name limit WriteFault image before after f d = tt
 go_ends name limit InputFault image before after f d = tt
 go_ends name limit (Trap kind pc) image before after f d = absurd d
 go_ends name limit (outcomes.ReadFault reads.Failed) image before after f d = tt
-go_ends name limit (outcomes.ReadFault (TooLong n most)) image before after f d = absurd (not_too_long before.files f.files name f.source max_source n most f.told f.there f.short d.0)
+go_ends name limit (outcomes.ReadFault (TooLong n most)) image before after f d = absurd
+    (not_too_long before.files f.files name f.source max_source n most f.told f.there f.short d.0)
 go_ends name limit (Refused refusal) image before after f d = absurd (not_refused before.files name refusal f d.0)
 go_ends name limit (ImageRefused fault) image before after f d = absurd d
 go_ends name limit Built image before after f d = absurd d
 go_ends name limit Usage image before after f d = absurd d
 
-run_ends : (name : List ℕ) (limit : ℕ) (outcome : Outcome) (image : List ℕ) (before after : Outside) → IsReadableFile before.files name → Runs name limit outcome image before after → IsOfRun outcome
+run_ends : (name : List ℕ) (limit : ℕ) (outcome : Outcome) (image : List ℕ) (before after : Outside)
+    → IsReadableFile before.files name → Runs name limit outcome image before after → IsOfRun outcome
 run_ends name limit (Exited code) image before after f d = tt
 run_ends name limit (Limit n) image before after f d = tt
 run_ends name limit Memory image before after f d = tt
@@ -62,13 +73,16 @@ run_ends name limit WriteFault image before after f d = tt
 run_ends name limit InputFault image before after f d = tt
 run_ends name limit (Trap kind pc) image before after f d = tt
 run_ends name limit (outcomes.ReadFault reads.Failed) image before after f d = tt
-run_ends name limit (outcomes.ReadFault (TooLong n most)) image before after f d = absurd (not_too_long before.files f.files name f.image max_image_file n most f.told f.there f.short d.0)
+run_ends name limit (outcomes.ReadFault (TooLong n most)) image before after f d = absurd
+    (not_too_long before.files f.files name f.image max_image_file n most f.told f.there f.short d.0)
 run_ends name limit (Refused refusal) image before after f d = absurd d
-run_ends name limit (ImageRefused fault) image before after f d = absurd (not_image_refused before.files name fault f d.0)
+run_ends name limit (ImageRefused fault) image before after f d = absurd
+    (not_image_refused before.files name fault f d.0)
 run_ends name limit Built image before after f d = absurd d
 run_ends name limit Usage image before after f d = absurd d
 
-build_ends : (name target : List ℕ) (outcome : Outcome) (image : List ℕ) (before after : Outside) → IsAcceptedFile before.files name → Builds name target outcome image before after → IsOfBuild outcome
+build_ends : (name target : List ℕ) (outcome : Outcome) (image : List ℕ) (before after : Outside)
+    → IsAcceptedFile before.files name → Builds name target outcome image before after → IsOfBuild outcome
 build_ends name target (Exited code) image before after f d = absurd d
 build_ends name target (Limit n) image before after f d = absurd d
 build_ends name target Memory image before after f d = tt
@@ -76,14 +90,18 @@ build_ends name target WriteFault image before after f d = tt
 build_ends name target InputFault image before after f d = absurd d
 build_ends name target (Trap kind pc) image before after f d = absurd d
 build_ends name target (outcomes.ReadFault reads.Failed) image before after f d = tt
-build_ends name target (outcomes.ReadFault (TooLong n most)) image before after f d = absurd (not_too_long before.files f.files name f.source max_source n most f.told f.there f.short d.0)
+build_ends name target (outcomes.ReadFault (TooLong n most)) image before after f d = absurd
+    (not_too_long before.files f.files name f.source max_source n most f.told f.there f.short d.0)
 build_ends name target (Refused refusal) image before after f d = absurd (not_refused before.files name refusal f d.0)
 build_ends name target (ImageRefused fault) image before after f d = absurd d
 build_ends name target Built image before after f d = tt
 build_ends name target Usage image before after f d = absurd d
 
-pub complete : (command : Option Asked) (outcome : Outcome) (image : List ℕ) (before after : Outside) → Does command outcome image before after → IsComplete command outcome before.files
-complete (Some (go name budgets limit)) outcome image before after d = λ f. go_ends name limit outcome image before after f d
+pub complete : (command : Option Asked) (outcome : Outcome) (image : List ℕ) (before after : Outside)
+    → Does command outcome image before after → IsComplete command outcome before.files
+complete (Some (go name budgets limit)) outcome image before after d = λ f. go_ends name limit outcome image before
+    after f d
 complete (Some (run name limit)) outcome image before after d = λ f. run_ends name limit outcome image before after f d
-complete (Some (build name target budgets)) outcome image before after d = λ f. build_ends name target outcome image before after f d
+complete (Some (build name target budgets)) outcome image before after d = λ f. build_ends name target outcome image
+    before after f d
 complete None outcome image before after d = tt

@@ -8,19 +8,23 @@ use Rattle.rv_sim.specs.declared.stop.Stop.TheVariants as stops
 use Rattle.sbcets_core.specs.declared.outcome.ReadFault.TheVariants.{TooLong}
 use Rattle.sbcets_core.specs.declared.outcome.ReadFault.TheVariants as reads
 use Rattle.sbcets_core.specs.declared.outcome.Outcome.{Outcome}
-use Rattle.sbcets_core.specs.declared.outcome.Outcome.TheVariants.{Exited, Built, Usage, WriteFault, InputFault, Memory, Limit, Refused, ImageRefused, Trap}
+use Rattle.sbcets_core.specs.declared.outcome.Outcome.TheVariants.{Exited, Built, Usage, WriteFault, InputFault, Memory}
+use Rattle.sbcets_core.specs.declared.outcome.Outcome.TheVariants.{Limit, Refused, ImageRefused, Trap}
 use Rattle.sbcets_core.specs.declared.outcome.Outcome.TheVariants as outcomes
 use Rattle.sbcets_core.specs.Outcomes.{max_source, max_image_file}
 use Rattle.sbcets_core.specs.Accepted.{IsBuiltFrom}
-use Rattle.sbcets_core.specs.Commands.{Outside, Streams, DoesNothing, IsRead, RunsImage, RanFile, Builds, Goes, Runs, outcome_of}
+use Rattle.sbcets_core.specs.Commands.{Outside, Streams, DoesNothing, IsRead, RunsImage, RanFile, Builds, Goes, Runs}
+use Rattle.sbcets_core.specs.Commands.{outcome_of}
 use Rattle.sbcets_core.proofs.Cases.{went_goes}
 use Rattle.sbcets_core.proofs.Complete.{read_is, not_too_long}
 
 -- the file that was written holds the bytes
-written_is : (old new : Option (List ℕ → Option (List ℕ))) (files : List ℕ → Option (List ℕ)) (name bytes : List ℕ) → Writes {T = Unit {0}} old new name bytes (Ok tt) → new ≡ Some files → files name ≡ Some bytes
+written_is : (old new : Option (List ℕ → Option (List ℕ))) (files : List ℕ → Option (List ℕ)) (name bytes : List ℕ)
+    → Writes {T = Unit {0}} old new name bytes (Ok tt) → new ≡ Some files → files name ≡ Some bytes
 written_is None new files name bytes w told = absurd (cc (w, told))
 written_is (Some old) None files name bytes w told = absurd w
-written_is (Some old) (Some new) files name bytes w told = subst (λ h. IfSome h (λ f. f name ≡ Some bytes)) told w.written
+written_is (Some old) (Some new) files name bytes w told = subst (λ h. IfSome h (λ f. f name ≡ Some bytes))
+    told w.written
 
 -- the files before the build, with other streams
 abbrev pub beside : Outside → Streams → Outside
@@ -36,31 +40,49 @@ record WasBuilt (name target : List ℕ) (before start : Outside) : Type 0 where
   read : IsRead before.files name max_source source
   built : IsBuiltFrom source image
 
-ran : (name target : List ℕ) (limit : ℕ) (stop : Stop) (before start after : Outside) → WasBuilt name target before start → RanFile target limit stop [] start after → (image : List ℕ) × Goes name limit (outcome_of stop limit) image (beside before start.streams) (beside before after.streams)
+ran : (name target : List ℕ) (limit : ℕ) (stop : Stop) (before start after : Outside)
+    → WasBuilt name target before start → RanFile target limit stop [] start after
+    → (image : List ℕ) × Goes name limit (outcome_of stop limit) image (beside before start.streams)
+    (beside before after.streams)
 ran name target limit stop before start after b r =
     let same = read_is start.files b.files target b.image r.bytes max_image_file b.told b.there r.read in
-    let run : RunsImage b.image limit stop start.streams after.streams = subst (λ bytes. RunsImage bytes limit stop start.streams after.streams) same r.run in
-    (b.image, went_goes name limit b.image stop (beside before start.streams) (beside before after.streams) (record { source = b.source; read = b.read; built = b.built }) run refl refl)
+    let run : RunsImage b.image limit stop start.streams after.streams = subst
+    (λ bytes. RunsImage bytes limit stop start.streams after.streams) same r.run in (
+      b.image,
+      went_goes name limit b.image stop (beside before start.streams) (beside before after.streams)
+          (record { source = b.source; read = b.read; built = b.built }) run refl refl,
+    )
 
-idle : (before start after : Outside) → DoesNothing [] start after → DoesNothing [] (beside before start.streams) (beside before after.streams)
+idle : (before start after : Outside) → DoesNothing [] start after
+    → DoesNothing [] (beside before start.streams) (beside before after.streams)
 idle before start after d = record { none = refl; same = ap (λ (o : Outside). beside before o.streams) d.same }
 
-readable_is : (name target : List ℕ) (before start : Outside) (bytes : List ℕ) → WasBuilt name target before start → IsRead start.files target max_image_file bytes → image_fault bytes ≡ None
+readable_is : (name target : List ℕ) (before start : Outside) (bytes : List ℕ) → WasBuilt name target before start
+    → IsRead start.files target max_image_file bytes → image_fault bytes ≡ None
 readable_is name target before start bytes b read =
-    subst (λ i. image_fault i ≡ None) (sym (read_is start.files b.files target b.image bytes max_image_file b.told b.there read)) b.built.faithful.readable
+    subst (λ i. image_fault i ≡ None)
+    (sym (read_is start.files b.files target b.image bytes max_image_file b.told b.there
+    read)) b.built.faithful.readable
 
-by_outcome : (name target : List ℕ) (limit : ℕ) (outcome : Outcome) (before start after : Outside) → WasBuilt name target before start → Runs target limit outcome [] start after → (image : List ℕ) × Goes name limit outcome image (beside before start.streams) (beside before after.streams)
-by_outcome name target limit (Exited code) before start after b r = ran name target limit (stops.Exited code) before start after b r
+by_outcome : (name target : List ℕ) (limit : ℕ) (outcome : Outcome) (before start after : Outside)
+    → WasBuilt name target before start → Runs target limit outcome [] start after
+    → (image : List ℕ) × Goes name limit outcome image (beside before start.streams) (beside before after.streams)
+by_outcome name target limit (Exited code) before start after b r = ran name target limit (stops.Exited code) before
+    start after b r
 by_outcome name target limit (Limit n) before start after b r =
     let w = ran name target limit stops.Limit before start after b r.1 in
     (w.0, (r.0, w.1.1))
-by_outcome name target limit WriteFault before start after b r = ran name target limit stops.OutputFault before start after b r
-by_outcome name target limit InputFault before start after b r = ran name target limit stops.InputFault before start after b r
-by_outcome name target limit (Trap kind pc) before start after b r = absurd (ran name target limit (stops.Trap kind pc) before start after b r).1
+by_outcome name target limit WriteFault before start after b r = ran name target limit stops.OutputFault before start
+    after b r
+by_outcome name target limit InputFault before start after b r = ran name target limit stops.InputFault before start
+    after b r
+by_outcome name target limit (Trap kind pc) before start after b r = absurd
+    (ran name target limit (stops.Trap kind pc) before start after b r).1
 by_outcome name target limit Memory before start after b r = ([], idle before start after r)
 by_outcome name target limit (outcomes.ReadFault reads.Failed) before start after b r = ([], idle before start after r)
 by_outcome name target limit (outcomes.ReadFault (TooLong n most)) before start after b r =
-    absurd (not_too_long start.files b.files target b.image max_image_file n most b.told b.there b.built.faithful.size r.0)
+    absurd (not_too_long start.files b.files target b.image max_image_file n most b.told b.there
+    b.built.faithful.size r.0)
 by_outcome name target limit (ImageRefused fault) before start after b r =
     let readable = readable_is name target before start r.0.bytes b r.0.read in
     let refused = r.0.refused in
@@ -69,7 +91,11 @@ by_outcome name target limit (Refused refusal) before start after b r = absurd r
 by_outcome name target limit Built before start after b r = absurd r
 by_outcome name target limit Usage before start after b r = absurd r
 
-pub run_of_built : (name target : List ℕ) (limit : ℕ) (outcome : Outcome) (before between start after : Outside) (files : List ℕ → Option (List ℕ)) → between.files ≡ Some files → start.files ≡ between.files → Builds name target Built [] before between → Runs target limit outcome [] start after → (image : List ℕ) × Goes name limit outcome image (record before { streams = start.streams }) (record before { streams = after.streams })
+pub run_of_built : (name target : List ℕ) (limit : ℕ) (outcome : Outcome) (before between start after : Outside)
+    (files : List ℕ → Option (List ℕ)) → between.files ≡ Some files → start.files ≡ between.files
+    → Builds name target Built [] before between → Runs target limit outcome [] start after
+    → (image : List ℕ) × Goes name limit outcome image (record before { streams = start.streams })
+    (record before { streams = after.streams })
 run_of_built name target limit outcome before between start after files told same b r =
     let into = b.0 in
     by_outcome name target limit outcome before start after

@@ -25,13 +25,16 @@ le_times : (c m x y : ℕ) → m ≤ c * x → x ≤ y → m ≤ c * y
 le_times c m x y few le = le_trans few (mul-le-mul_left c le)
 
 -- what is faithful to a source is so to one that shows the same and does no less work
-pub faithful_to_more : (c : ℕ) (a b machine : Behaviour) → ((n : ℕ) → (b n).shown ≡ (a n).shown) → ((n : ℕ) → (a n).work ≤ (b n).work) → Faithful c a machine → Faithful c b machine
+pub faithful_to_more : (c : ℕ) (a b machine : Behaviour) → ((n : ℕ) → (b n).shown ≡ (a n).shown)
+    → ((n : ℕ) → (a n).work ≤ (b n).work) → Faithful c a machine → Faithful c b machine
 faithful_to_more c a b machine same more f = record {
   never_ahead = λ n. subst (λ x. IsEarlier (machine n).shown x) (sym (same n)) (f.never_ahead n);
   ends_as_source = λ n e h. same n ∙ f.ends_as_source n e h;
   reaches_all = λ n. reaches n (f.reaches_all n);
-  same_accesses = λ n. subst (λ (x : Shown). IsPrefix (machine n).shown.accesses x.accesses) (sym (same n)) (f.same_accesses n);
+  same_accesses = λ n. subst (λ (x : Shown). IsPrefix (machine n).shown.accesses x.accesses) (sym (same n))
+      (f.same_accesses n);
 }
   where
-    reaches : (n : ℕ) → (m : ℕ) × (m ≤ c * (a n).work) × ((machine m).shown ≡ (a n).shown) → (m : ℕ) × (m ≤ c * (b n).work) × ((machine m).shown ≡ (b n).shown)
+    reaches : (n : ℕ) → (m : ℕ) × (m ≤ c * (a n).work) × ((machine m).shown ≡ (a n).shown)
+        → (m : ℕ) × (m ≤ c * (b n).work) × ((machine m).shown ≡ (b n).shown)
     reaches n (m, few, shown) = (m, le_times c m (a n).work (b n).work few (more n), shown ∙ sym (same n))

@@ -12,14 +12,19 @@ use Rattle.sbcets_core.specs.Commands.{Outside, Went}
 use Rattle.sbcets_core.specs.TypedProgram.{ForMeaning}
 use Rattle.sbcets_core.specs.Meant.{EndsAsMeant, GoesAsMeant}
 
-pub exit_meant : (name : List ℕ) (limit code : ℕ) (image : List ℕ) (before after : Outside) (went : Went name limit image (stops.Exited code) before after) → ForEveryInput before.streams.input after.streams.input (λ input rest. ForMeaning went.built.program (λ means. EndsAsMeant means input limit code before.streams after.streams))
+pub exit_meant : (name : List ℕ) (limit code : ℕ) (image : List ℕ) (before after : Outside)
+    (went : Went name limit image (stops.Exited code) before after)
+    → ForEveryInput before.streams.input after.streams.input
+    (λ input rest. ForMeaning went.built.program
+    (λ means. EndsAsMeant means input limit code before.streams after.streams))
 unfolding behaviour
 exit_meant name limit code image before after went =
     let s = start_of (content_of image) in
     map_inputs _ _ _ _
     (λ input rest ran tree budgets typed in_range.
     let ended : (behaviour s input limit).shown.ending ≡ Some (Status code) = ap end_of ran.0 in
-    let same = (went.built.faithful.faithful tree budgets typed in_range input).ends_as_source limit (Status code) ended in
+    let same = (went.built.faithful.faithful tree budgets typed in_range input).ends_as_source limit (Status code)
+    ended in
     record {
       ending = ap (λ (x : Shown). x.ending) same ∙ ended;
       output = ran.1.output_is ∙ sym (ap (λ (x : Shown). gained before.streams.output x.output) same);
@@ -27,7 +32,10 @@ exit_meant name limit code image before after went =
     })
     went.run.run
 
-pub limit_meant : (name : List ℕ) (limit : ℕ) (image : List ℕ) (before after : Outside) (went : Went name limit image stops.Limit before after) → ForEveryInput before.streams.input after.streams.input (λ input rest. ForMeaning went.built.program (λ means. GoesAsMeant means input limit before.streams after.streams))
+pub limit_meant : (name : List ℕ) (limit : ℕ) (image : List ℕ) (before after : Outside)
+    (went : Went name limit image stops.Limit before after)
+    → ForEveryInput before.streams.input after.streams.input
+    (λ input rest. ForMeaning went.built.program (λ means. GoesAsMeant means input limit before.streams after.streams))
 unfolding behaviour
 limit_meant name limit image before after went =
     let s = start_of (content_of image) in

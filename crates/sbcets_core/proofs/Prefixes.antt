@@ -1,5 +1,6 @@
 -- Which tokens begin a text of the part.
-use Rattle.std.proofs.Common.{◌≡◌, ℕ, List, [], ◌∷◌, ◌++◌, Option, Some, None, Ok, Err, false, codes, refl, sym, ap, ◌∙◌, subst}
+use Rattle.std.proofs.Common.{◌≡◌, ℕ, List, [], ◌∷◌, ◌++◌, Option, Some, None, Ok, Err, false, codes, refl, sym, ap}
+use Rattle.std.proofs.Common.{◌∙◌, subst}
 use Rattle.c_lexer.specs.declared.keyword.Keyword.TheVariants as keyword
 use Rattle.c_lexer.specs.declared.punctuator.Punctuator.TheVariants as punctuator
 use Rattle.c_lexer.specs.declared.token.Word.{Word}
@@ -11,7 +12,8 @@ use Rattle.sbcets_core.specs.declared.part.Expected.TheVariants as place
 use Rattle.sbcets_core.specs.declared.part.Step.{Step}
 use Rattle.sbcets_core.specs.declared.part.Step.TheVariants.{Goes, Puts}
 use Rattle.sbcets_core.specs.Source.{SourceProgram}
-use Rattle.sbcets_core.specs.Part.{Parted, after_word, place_after, put_by, puts_before, ended, stepped, program_from, program_of}
+use Rattle.sbcets_core.specs.Part.{Parted, after_word, place_after, put_by, puts_before, ended, stepped, program_from}
+use Rattle.sbcets_core.specs.Part.{program_of}
 use Rattle.sbcets_core.specs.Parting.{Begins, IsFirstUnfit}
 
 -- some tokens begin what may follow a place
@@ -23,22 +25,27 @@ record BeginsFrom (p : Expected) (front : List Token) : Type 0 where
 abbrev some_token : Word → Token
 some_token w = record { word = w; line = 1; begins_line = false; is_spaced = false }
 
-puts_ok : (ns : List ℕ) (program : SourceProgram) → puts_before ns (Ok program) ≡ Ok (record { numbers = ns ++ program.numbers; result_number = program.result_number })
+puts_ok : (ns : List ℕ) (program : SourceProgram)
+    → puts_before ns (Ok program) ≡ Ok
+    (record { numbers = ns ++ program.numbers; result_number = program.result_number })
 puts_ok ns program = refl
 
 -- a token that goes on, before tokens that go on from there
-behind : (p : Expected) (s : Step) (t : Token) (front : List Token) → after_word p t.word ≡ Some s → BeginsFrom (place_after s) front → BeginsFrom p (t ∷ front)
+behind : (p : Expected) (s : Step) (t : Token) (front : List Token) → after_word p t.word ≡ Some s
+    → BeginsFrom (place_after s) front → BeginsFrom p (t ∷ front)
 behind p s t front step b = record {
   rest = b.rest;
   program = record { numbers = put_by s ++ b.program.numbers; result_number = b.program.result_number };
   whole =
-      ap (λ o. stepped o (t ∷ front ++ b.rest) (λ q. program_from q (front ++ b.rest))) step ∙ ap (puts_before (put_by s)) b.whole;
+      ap (λ o. stepped o (t ∷ front ++ b.rest) (λ q. program_from q (front ++ b.rest))) step
+      ∙ ap (puts_before (put_by s)) b.whole;
 }
 
 opened : (p : Expected) (t : Token) → BeginsFrom p (t ∷ []) → BeginsFrom p []
 opened p t b = record { rest = t ∷ b.rest; program = b.program; whole = b.whole }
 
-by_word : (p : Expected) (s : Step) (w : Word) → after_word p w ≡ Some s → BeginsFrom (place_after s) [] → BeginsFrom p []
+by_word : (p : Expected) (s : Step) (w : Word) → after_word p w ≡ Some s → BeginsFrom (place_after s) []
+    → BeginsFrom p []
 by_word p s w step b = opened p (some_token w) (behind p s (some_token w) [] step b)
 
 zero_step : after_word place.ReturnNumber (Integer (codes "0")) ≡ Some (Goes (place.ReturnSemicolon 0))
@@ -74,7 +81,8 @@ at_put_semicolon n = by_word _ (Puts n) (Punctuator punctuator.Semicolon) refl a
 
 at_put_close : (n : ℕ) → BeginsFrom (place.PutClose n) []
 unfolding after_word
-at_put_close n = by_word _ (Goes (place.PutSemicolon n)) (Punctuator punctuator.RightParenthesis) refl (at_put_semicolon n)
+at_put_close n = by_word _ (Goes (place.PutSemicolon n)) (Punctuator punctuator.RightParenthesis) refl
+    (at_put_semicolon n)
 
 at_put_number : BeginsFrom place.PutNumber []
 at_put_number = by_word _ (Goes (place.PutClose 0)) (Integer (codes "0")) put_zero (at_put_close 0)
@@ -108,7 +116,8 @@ goes_to_an_end place.Void = at_void
 goes_to_an_end place.Close = at_close
 goes_to_an_end place.Body = at_body
 goes_to_an_end place.Statement = at_statement
-goes_to_an_end place.PutOpen = by_word _ (Goes place.PutNumber) (Punctuator punctuator.LeftParenthesis) refl at_put_number
+goes_to_an_end place.PutOpen = by_word _ (Goes place.PutNumber) (Punctuator punctuator.LeftParenthesis)
+    refl at_put_number
 goes_to_an_end place.PutNumber = at_put_number
 goes_to_an_end (place.PutClose n) = at_put_close n
 goes_to_an_end (place.PutSemicolon n) = at_put_semicolon n
@@ -137,7 +146,8 @@ put_was ns (Ok p) program e = record { program = p; is = refl }
 put_was ns (Err u) program e = absurd (cc)
 
 -- the first token goes on, so what begins behind it begins at the next place
-from_next : (p : Expected) (s : Step) (t : Token) (front : List Token) → after_word p t.word ≡ Some s → BeginsFrom p (t ∷ front) → BeginsFrom (place_after s) front
+from_next : (p : Expected) (s : Step) (t : Token) (front : List Token) → after_word p t.word ≡ Some s
+    → BeginsFrom p (t ∷ front) → BeginsFrom (place_after s) front
 from_next p s t front step b =
     let here : puts_before (put_by s) (program_from (place_after s) (front ++ b.rest)) ≡ Ok b.program =
     ap (λ o. stepped o (t ∷ front ++ b.rest) (λ q. program_from q (front ++ b.rest))) (sym step) ∙ b.whole in
@@ -171,7 +181,8 @@ ended_unfit : (p : Expected) (unfit : List Token) → ended p ≡ Err unfit → 
 ended_unfit p [] e = record { front = []; split = refl; begins = goes_to_an_end p; ends = λ t more none b. absurd (cc) }
 ended_unfit p (t ∷ ts) e = absurd (no_end p t ts e)
 
-stopped : (p : Expected) (t : Token) (ts unfit : List Token) → after_word p t.word ≡ None → t ∷ ts ≡ unfit → UnfitFrom p (t ∷ ts) unfit
+stopped : (p : Expected) (t : Token) (ts unfit : List Token) → after_word p t.word ≡ None → t ∷ ts ≡ unfit
+    → UnfitFrom p (t ∷ ts) unfit
 stopped p t ts unfit step same = record {
   front = [];
   split = same;
@@ -181,7 +192,8 @@ stopped p t ts unfit step same = record {
       none_from p t [] step (subst (λ v. BeginsFrom p (v ∷ [])) first b);
 }
 
-later : (p : Expected) (s : Step) (t : Token) (ts unfit : List Token) → after_word p t.word ≡ Some s → UnfitFrom (place_after s) ts unfit → UnfitFrom p (t ∷ ts) unfit
+later : (p : Expected) (s : Step) (t : Token) (ts unfit : List Token) → after_word p t.word ≡ Some s
+    → UnfitFrom (place_after s) ts unfit → UnfitFrom p (t ∷ ts) unfit
 later p s t ts unfit step u = record {
   front = t ∷ u.front;
   split = ap (λ l. t ∷ l) u.split;
@@ -189,9 +201,12 @@ later p s t ts unfit step u = record {
   ends = λ v more is b. u.ends v more is (from_next p s t (u.front ++ (v ∷ [])) step b);
 }
 
-by_step : (p : Expected) (t : Token) (ts unfit : List Token) (o : Option Step) → after_word p t.word ≡ o → stepped o (t ∷ ts) (λ q. program_from q ts) ≡ Err unfit → ((q : Expected) → program_from q ts ≡ Err unfit → UnfitFrom q ts unfit) → UnfitFrom p (t ∷ ts) unfit
+by_step : (p : Expected) (t : Token) (ts unfit : List Token) (o : Option Step) → after_word p t.word ≡ o
+    → stepped o (t ∷ ts) (λ q. program_from q ts) ≡ Err unfit
+    → ((q : Expected) → program_from q ts ≡ Err unfit → UnfitFrom q ts unfit) → UnfitFrom p (t ∷ ts) unfit
 by_step p t ts unfit None step e others = let same : t ∷ ts ≡ unfit = cc in stopped p t ts unfit step same
-by_step p t ts unfit (Some s) step e others = later p s t ts unfit step (others (place_after s) (none_put (put_by s) (program_from (place_after s) ts) unfit e))
+by_step p t ts unfit (Some s) step e others = later p s t ts unfit step
+    (others (place_after s) (none_put (put_by s) (program_from (place_after s) ts) unfit e))
 
 unfit_from : (p : Expected) (ts unfit : List Token) → program_from p ts ≡ Err unfit → UnfitFrom p ts unfit
 unfit_from p [] unfit e = ended_unfit p unfit e

@@ -26,20 +26,35 @@ use Rattle.sbcets_core.specs.Commands.{Streams, RunsImage}
 -- what a machine that stands so answers of a run
 abbrev pub Told : Simulation → ℕ → Stop → MachineState → Streams → Streams → Type 0
 Told machine limit stop state before after =
-    machine.stopped ≡ None → ForEveryInput before.input after.input (λ was rest. (o e : Option (List ℕ)) (c : Configuration) → IsSeen o e machine.state was before.output before.errors c → IsRun o e stop limit c state rest after.output after.errors)
+    machine.stopped ≡ None → ForEveryInput before.input after.input
+    (λ was rest. (o e : Option (List ℕ)) (c : Configuration)
+    → IsSeen o e machine.state was before.output before.errors c
+    → IsRun o e stop limit c state rest after.output after.errors)
 
 -- a run from the start on this input, of which that is left
 abbrev pub IsRunFrom : MachineState → ℕ → Stop → MachineState → Streams → Streams → (input rest : List ℕ) → Type 0
-IsRunFrom start limit stop state before after input rest = IsRun before.output before.errors stop limit (begun start input) state rest after.output after.errors
+IsRunFrom start limit stop state before after input rest = IsRun before.output before.errors stop limit
+    (begun start input) state rest after.output after.errors
 
-from_start : (start state : MachineState) (limit : ℕ) (stop : Stop) (before after : Streams) → Told (record { state = start; stopped = None }) limit stop state before after → ForEveryInput before.input after.input (IsRunFrom start limit stop state before after)
+from_start : (start state : MachineState) (limit : ℕ) (stop : Stop) (before after : Streams)
+    → Told (record { state = start; stopped = None }) limit stop state before after
+    → ForEveryInput before.input after.input (IsRunFrom start limit stop state before after)
 from_start start state limit stop before after told =
     map_inputs before.input after.input _ (IsRunFrom start limit stop state before after)
     (λ input rest run. run before.output before.errors (begun start input)
-    (record { state_is = refl; rest_is = refl; output_is = sym (gained_nil before.output); errors_is = sym (gained_nil before.errors) }))
+    (record {
+      state_is = refl;
+      rest_is = refl;
+      output_is = sym (gained_nil before.output);
+      errors_is = sym
+          (gained_nil before.errors);
+    }))
     (told refl)
 
-pub runs_image : (image : List ℕ) (content : Content) (machine : Simulation) (state : MachineState) (limit : ℕ) (stop : Stop) (before after : Streams) → image_fault image ≡ None → content ≡ content_of image → machine ≡ record { state = start_of content; stopped = None } → Told machine limit stop state before after → RunsImage image limit stop before after
+pub runs_image : (image : List ℕ) (content : Content) (machine : Simulation) (state : MachineState) (limit : ℕ)
+    (stop : Stop) (before after : Streams) → image_fault image ≡ None → content ≡ content_of image
+    → machine ≡ record { state = start_of content; stopped = None } → Told machine limit stop state before after
+    → RunsImage image limit stop before after
 runs_image image content machine state limit stop before after readable same loaded told =
     let at_start : machine ≡ record { state = start_of (content_of image); stopped = None } =
     loaded ∙ ap (λ k. record { state = start_of k; stopped = None }) same in
@@ -51,15 +66,22 @@ runs_image image content machine state limit stop before after readable same loa
       run = from_start (start_of (content_of image)) state limit stop before after told_of;
     }
 
-no_trap : (program : SourceProgram) (image input : List ℕ) (n : ℕ) (kind : TrapKind) (pc : ℕ) → IsFaithfulImage program image → (runs n (begun (start_of (content_of image)) input)).1 ≡ Some (stops.Trap kind pc) → ⊥
+no_trap : (program : SourceProgram) (image input : List ℕ) (n : ℕ) (kind : TrapKind) (pc : ℕ)
+    → IsFaithfulImage program image → (runs n (begun (start_of (content_of image)) input)).1 ≡ Some (stops.Trap kind pc)
+    → ⊥
 unfolding behaviour
 no_trap program image input n kind pc f e =
     let s = start_of (content_of image) in
     let ended : (behaviour s input n).shown.ending ≡ Some Fault = ap end_of e in
-    ends_no_fault program input n (ap (λ (x : Shown). x.ending) ((f.faithful (tree_of program) default_sizes (is_typed_tree program) defaults_in_range input).ends_as_source n Fault ended) ∙ ended)
+    ends_no_fault program input n
+    (ap (λ (x : Shown). x.ending)
+    ((f.faithful (tree_of program) default_sizes (is_typed_tree program) defaults_in_range input).ends_as_source n
+    Fault ended) ∙ ended)
 
 -- an image that was built never traps
-pub never_traps : (source image : List ℕ) (limit : ℕ) (kind : TrapKind) (pc : ℕ) (before after : Streams) → IsBuiltFrom source image → RunsImage image limit (stops.Trap kind pc) before after → ⊥
+pub never_traps : (source image : List ℕ) (limit : ℕ) (kind : TrapKind) (pc : ℕ) (before after : Streams)
+    → IsBuiltFrom source image → RunsImage image limit (stops.Trap kind pc) before after → ⊥
 never_traps source image limit kind pc before after b r =
     let given = gives_some after.input in
-    no_trap b.program image (r.run.taken ++ given.bytes) limit kind pc b.faithful (r.run.holds given.bytes given.given).0
+    no_trap b.program image (r.run.taken ++ given.bytes) limit kind pc b.faithful
+    (r.run.holds given.bytes given.given).0

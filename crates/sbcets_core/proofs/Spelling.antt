@@ -1,5 +1,6 @@
 -- The hexadecimal digits of a number spell it.
-use Rattle.std.proofs.Common.{◌≡◌, ◌<◌, ℕ, zero, suc, ◌+◌, ◌*◌, ◌/◌, ◌%◌, ◌^◌, Bool, true, false, List, [], ◌∷◌, take, drop, refl, sym, ap, ◌∙◌, subst, arith, cond}
+use Rattle.std.proofs.Common.{◌≡◌, ◌<◌, ℕ, zero, suc, ◌+◌, ◌*◌, ◌/◌, ◌%◌, ◌^◌, Bool, true, false, List, [], ◌∷◌, take}
+use Rattle.std.proofs.Common.{drop, refl, sym, ap, ◌∙◌, subst, arith, cond}
 use Rattle.std.specs.Prelude.{◌==◌}
 use Rattle.std.specs.List.{prefix_len}
 use Rattle.std.proofs.lemmas.Bool.{eqb-true}
@@ -24,7 +25,8 @@ behind n w big e =
 in_front : (n : ℕ) → n < 2 ^ 64 → 0 + digit_value (digit_at n 0x1000000000000000) ≡ n / 0x1000000000000000
 in_front n h =
     let none : n / 2 ^ 64 ≡ 0 = omega arith in
-    ap (λ v. 16 * v + digit_value (digit_at n 0x1000000000000000)) (sym none) ∙ behind n 0x1000000000000000 (2 ^ 64) refl
+    ap (λ v. 16 * v + digit_value (digit_at n 0x1000000000000000)) (sym none)
+    ∙ behind n 0x1000000000000000 (2 ^ 64) refl
 
 spelled_sixteen : (n : ℕ) → n < 2 ^ 64 → spelled_behind 0 (sixteen_digits n) ≡ n
 unfolding sixteen_digits
@@ -48,12 +50,16 @@ spelled_sixteen n h =
     rw (e15, e14, e13, e12, e11, e10, e9, e8, e7, e6, e5, e4, e3, e2, e1, e0) (div-one n)
 
 -- zeros in front change nothing
-without_zeros : (m : ℕ) (digits : List ℕ) → spelled_behind 0 (drop (prefix_len (λ d. d == 48) (take m digits)) digits) ≡ spelled_behind 0 digits
+without_zeros : (m : ℕ) (digits : List ℕ)
+    → spelled_behind 0 (drop (prefix_len (λ d. d == 48) (take m digits)) digits) ≡ spelled_behind 0 digits
 without_zeros zero digits = refl
 without_zeros (suc m) [] = refl
 without_zeros (suc m) (d ∷ ds) = by_zero (d == 48) refl (without_zeros m ds)
   where
-    by_zero : (b : Bool) → (d == 48) ≡ b → spelled_behind 0 (drop (prefix_len (λ d. d == 48) (take m ds)) ds) ≡ spelled_behind 0 ds → spelled_behind 0 (drop (cond b (1 + prefix_len (λ d. d == 48) (take m ds)) 0) (d ∷ ds)) ≡ spelled_behind 0 (d ∷ ds)
+    by_zero : (b : Bool) → (d == 48) ≡ b
+        → spelled_behind 0 (drop (prefix_len (λ d. d == 48) (take m ds)) ds) ≡ spelled_behind 0 ds
+        → spelled_behind 0 (drop (cond b (1 + prefix_len (λ d. d == 48) (take m ds)) 0) (d ∷ ds))
+        ≡ spelled_behind 0 (d ∷ ds)
     by_zero true e others =
         let is : d ≡ 48 = eqb-true d 48 e in
         let k = prefix_len (λ d. d == 48) (take m ds) in

@@ -1,5 +1,7 @@
 -- The reading of the part, word by word.
-use Rattle.std.proofs.Common.{◌≡◌, ◌≤◌, ◌<◌, ◌+◌, ◌*◌, ℕ, List, [], ◌∷◌, ◌++◌, Option, Some, None, Ok, Err, Bool, true, false, if◌then◌else◌, option_map, length, drop, get_or, refl, sym, ap, ◌∙◌, arith, append_assoc, length-append}
+use Rattle.std.proofs.Common.{◌≡◌, ◌≤◌, ◌<◌, ◌+◌, ◌*◌, ℕ, List, [], ◌∷◌, ◌++◌, Option, Some, None, Ok, Err, Bool, true}
+use Rattle.std.proofs.Common.{false, if◌then◌else◌, option_map, length, drop, get_or, refl, sym, ap, ◌∙◌, arith}
+use Rattle.std.proofs.Common.{append_assoc, length-append}
 use Rattle.std.proofs.lemmas.List.{drop_more}
 use Rattle.c_lexer.specs.declared.token.Token.{Token}
 use Rattle.c_lexer.specs.declared.token.Word.{Word}
@@ -7,7 +9,8 @@ use Rattle.sbcets_core.specs.declared.part.Expected.{Expected}
 use Rattle.sbcets_core.specs.declared.part.Expected.TheVariants as place
 use Rattle.sbcets_core.specs.declared.part.Step.{Step}
 use Rattle.sbcets_core.specs.declared.part.Step.TheVariants.{Goes, Puts}
-use Rattle.sbcets_core.specs.Part.{Parted, after_word, step_if, number_of, program_from, program_of, stepped, put_by, place_after, puts_before, is_return, is_semicolon}
+use Rattle.sbcets_core.specs.Part.{Parted, after_word, step_if, number_of, program_from, program_of, stepped, put_by}
+use Rattle.sbcets_core.specs.Part.{place_after, puts_before, is_return, is_semicolon}
 
 -- how many tokens of a `putchar(N);` stand before a place
 abbrev pub progress : Expected → ℕ
@@ -32,7 +35,8 @@ none_before (Ok program) = refl
 none_before (Err unfit) = refl
 
 more_before : (ns ms : List ℕ) (o : Parted) → puts_before (ns ++ ms) o ≡ puts_before ns (puts_before ms o)
-more_before ns ms (Ok program) = ap (λ l. Ok (record { numbers = l; result_number = program.result_number })) (append_assoc ns ms program.numbers)
+more_before ns ms (Ok program) = ap (λ l. Ok (record { numbers = l; result_number = program.result_number }))
+    (append_assoc ns ms program.numbers)
 more_before ns ms (Err unfit) = refl
 
 -- reading has come to a place, before the token of a number
@@ -45,13 +49,17 @@ pub begun : (tokens : List Token) → IsAt tokens [] place.Int 0
 unfolding program_of
 begun tokens = record { within = omega arith; few = omega arith; same = none_before (program_from place.Int tokens) }
 
-here : (tokens : List Token) (at : ℕ) (t : Token) → at < length tokens → t ≡ get_or tokens at t → drop at tokens ≡ t ∷ drop (at + 1) tokens
+here : (tokens : List Token) (at : ℕ) (t : Token) → at < length tokens → t ≡ get_or tokens at t
+    → drop at tokens ≡ t ∷ drop (at + 1) tokens
 here tokens at t h e = drop_more tokens at t h ∙ ap (λ u. u ∷ drop (at + 1) tokens) (sym e)
 
-read_here : (tokens : List Token) (p : Expected) (at : ℕ) (t : Token) (o : Option Step) → at < length tokens → t ≡ get_or tokens at t → o ≡ after_word p t.word
-    → program_from p (drop at tokens) ≡ stepped o (t ∷ drop (at + 1) tokens) (λ q. program_from q (drop (at + 1) tokens))
+read_here : (tokens : List Token) (p : Expected) (at : ℕ) (t : Token) (o : Option Step) → at < length tokens
+    → t ≡ get_or tokens at t → o ≡ after_word p t.word
+    → program_from p (drop at tokens)
+    ≡ stepped o (t ∷ drop (at + 1) tokens) (λ q. program_from q (drop (at + 1) tokens))
 read_here tokens p at t o h e s =
-    ap (program_from p) (here tokens at t h e) ∙ ap (λ o. stepped o (t ∷ drop (at + 1) tokens) (λ q. program_from q (drop (at + 1) tokens))) (sym s)
+    ap (program_from p) (here tokens at t h e)
+    ∙ ap (λ o. stepped o (t ∷ drop (at + 1) tokens) (λ q. program_from q (drop (at + 1) tokens))) (sym s)
 
 if_puts : (b : Bool) (n : ℕ) (r : Expected) → Some (Puts n) ≡ step_if b (Goes r) → ⊥
 if_puts true n r e = cc
@@ -62,7 +70,8 @@ no_put : (b : Bool) (n : ℕ) (q : Expected) → Some (Goes q) ≡ step_if b (Pu
 no_put true n q e = cc
 no_put false n q e = cc
 
-begins_no_put : (b c : Bool) (n : ℕ) → Some (Puts n) ≡ (if b then Some (Goes place.ReturnNumber) else step_if c (Goes place.PutOpen)) → ⊥
+begins_no_put : (b c : Bool) (n : ℕ)
+    → Some (Puts n) ≡ (if b then Some (Goes place.ReturnNumber) else step_if c (Goes place.PutOpen)) → ⊥
 begins_no_put true c n e = cc
 begins_no_put false c n e = if_puts c n place.PutOpen e
 
@@ -74,11 +83,13 @@ goes_within : (b : Bool) (q r : Expected) (n : ℕ) → Some (Goes q) ≡ step_i
 goes_within true q r n e h = let same : q ≡ r = cc in omega (arith, ap progress same)
 goes_within false q r n e h = absurd (cc)
 
-begins_within : (b c : Bool) (q : Expected) → Some (Goes q) ≡ (if b then Some (Goes place.ReturnNumber) else step_if c (Goes place.PutOpen)) → progress q ≤ 1
+begins_within : (b c : Bool) (q : Expected)
+    → Some (Goes q) ≡ (if b then Some (Goes place.ReturnNumber) else step_if c (Goes place.PutOpen)) → progress q ≤ 1
 begins_within true c q e = let same : q ≡ place.ReturnNumber = cc in omega (arith, ap progress same)
 begins_within false c q e = goes_within c q place.PutOpen 1 e (omega arith)
 
-number_within : (o : Option ℕ) (q : Expected) (p : ℕ → Expected) (n : ℕ) → Some (Goes q) ≡ option_map (λ k. Goes (p k)) o → ((k : ℕ) → progress (p k) ≤ n) → progress q ≤ n
+number_within : (o : Option ℕ) (q : Expected) (p : ℕ → Expected) (n : ℕ)
+    → Some (Goes q) ≡ option_map (λ k. Goes (p k)) o → ((k : ℕ) → progress (p k) ≤ n) → progress q ≤ n
 number_within None q p n e h = absurd (cc)
 number_within (Some k) q p n e h = let same : q ≡ p k = cc in omega (arith, ap progress same, h k)
 
@@ -118,12 +129,15 @@ puts_progress (place.ReturnSemicolon k) n w e = absurd (if_puts _ n (place.BodyE
 puts_progress (place.BodyEnd k) n w e = absurd (if_puts _ n (place.End k) e)
 puts_progress (place.End k) n w e = absurd (cc)
 
-step_progress : (p : Expected) (s : Step) (w : Word) → Some s ≡ after_word p w → 5 * length (put_by s) + progress (place_after s) ≤ progress p + 1
+step_progress : (p : Expected) (s : Step) (w : Word) → Some s ≡ after_word p w
+    → 5 * length (put_by s) + progress (place_after s) ≤ progress p + 1
 step_progress p (Goes q) w e = omega (arith, goes_progress p q w e)
 step_progress p (Puts n) w e = omega (arith, puts_progress p n w e)
 
 -- one token more is read, and it goes on
-pub step_on : (tokens : List Token) (ns : List ℕ) (p : Expected) (s : Step) (at : ℕ) (t : Token) → at < length tokens → t ≡ get_or tokens at t → Some s ≡ after_word p t.word → IsAt tokens ns p at → IsAt tokens (ns ++ put_by s) (place_after s) (at + 1)
+pub step_on : (tokens : List Token) (ns : List ℕ) (p : Expected) (s : Step) (at : ℕ) (t : Token) → at < length tokens
+    → t ≡ get_or tokens at t → Some s ≡ after_word p t.word → IsAt tokens ns p at
+    → IsAt tokens (ns ++ put_by s) (place_after s) (at + 1)
 step_on tokens ns p s at t h e step i = record {
   within = omega arith;
   few = omega (arith, i.few, step_progress p s t.word step, length-append ns (put_by s));

@@ -1,5 +1,6 @@
 -- The image of a program is faithful to it.
-use Rattle.std.proofs.Common.{◌≡◌, ◌≤◌, ◌<◌, ◌+◌, ◌*◌, ◌^◌, ℕ, zero, suc, List, [], ◌∷◌, None, length, refl, sym, ap, ◌∙◌, subst, arith, lit<, lit≤}
+use Rattle.std.proofs.Common.{◌≡◌, ◌≤◌, ◌<◌, ◌+◌, ◌*◌, ◌^◌, ℕ, zero, suc, List, [], ◌∷◌, None, length, refl, sym, ap}
+use Rattle.std.proofs.Common.{◌∙◌, subst, arith, lit<, lit≤}
 use Rattle.std.specs.Prelude.{map}
 use Rattle.behaviours.specs.Behaviour.{Meets, Follows, IsSource, Faithful}
 use Rattle.behaviours.proofs.Following.{faithful}
@@ -32,7 +33,12 @@ abbrev pub compiled : SourceProgram → List ℕ
 compiled program = code_bytes (code_of program.numbers (ending program))
 
 few_bytes : (program : SourceProgram) → length program.numbers ≤ 209715 → length (compiled program) ≤ 2 ^ 24
-few_bytes program few = omega (arith, length-code_bytes (code_of program.numbers (ending program)), length-code_of program.numbers (ending program))
+few_bytes program few = omega (
+  arith,
+  length-code_bytes (code_of program.numbers (ending program)),
+  length-code_of program.numbers
+      (ending program),
+)
 
 -- its pieces pass the tests of an image
 in_order : (program : SourceProgram) → length program.numbers ≤ 209715 → IsInOrder (pieces_of program)
@@ -63,7 +69,8 @@ unfolding pieces_of
 pieces_start program = starts (compiled program)
 
 -- a source that is still running has begun all its turns
-begins : (program : SourceProgram) (input : List ℕ) (n : ℕ) → (told program input n).shown.ending ≡ None → n ≤ (told program input n).turns
+begins : (program : SourceProgram) (input : List ℕ) (n : ℕ) → (told program input n).shown.ending ≡ None
+    → n ≤ (told program input n).turns
 unfolding told
 begins program input zero e = lit≤ tt
 begins program input (suc n) e = absurd (cc)
@@ -71,14 +78,18 @@ begins program input (suc n) e = absurd (cc)
 is_source : (program : SourceProgram) (input : List ℕ) → IsSource (told program input)
 is_source program input = record { begun = begins program input }
 
-exits : (program : SourceProgram) (input : List ℕ) → length program.numbers ≤ 209715 → Exits (started (compiled program)) input (map written program.numbers) (status (ending program)) (5 + (4 * length program.numbers + 3))
+exits : (program : SourceProgram) (input : List ℕ) → length program.numbers ≤ 209715
+    → Exits (started (compiled program)) input (map written program.numbers) (status (ending program))
+    (5 + (4 * length program.numbers + 3))
 exits program input few =
     let code = compiled program in
     let small : status (ending program) < 256 = omega arith in
-    runs_code program.numbers (ending program) 5 0 0 0 code input [] (started code) small (few_bytes program few) (stands_all (code_of program.numbers (ending program))) (reaches_code code input)
+    runs_code program.numbers (ending program) 5 0 0 0 code input [] (started code) small (few_bytes program few)
+    (stands_all (code_of program.numbers (ending program))) (reaches_code code input)
 
 -- the machine comes to each moment of the source
-comes : (program : SourceProgram) (input : List ℕ) → length program.numbers ≤ 209715 → (n : ℕ) → (m : ℕ) × Meets cost (told program input n) (behaviour (started (compiled program)) input m)
+comes : (program : SourceProgram) (input : List ℕ) → length program.numbers ≤ 209715 → (n : ℕ)
+    → (m : ℕ) × Meets cost (told program input n) (behaviour (started (compiled program)) input m)
 unfolding told behaviour runs
 comes program input few zero = (0, record { shown = refl; turns = lit≤ tt; work = lit≤ tt })
 comes program input few (suc n) =
@@ -87,19 +98,26 @@ comes program input few (suc n) =
     let within = x.within in
     (x.count, record { shown = sym (ap shown_by x.ends); turns = omega arith; work = omega arith })
 
-follows : (program : SourceProgram) (input : List ℕ) → length program.numbers ≤ 209715 → Follows cost (told program input) (behaviour (started (compiled program)) input)
+follows : (program : SourceProgram) (input : List ℕ) → length program.numbers ≤ 209715
+    → Follows cost (told program input) (behaviour (started (compiled program)) input)
 follows program input few = record { at = comes program input few }
 
 small_image : (program : SourceProgram) → length program.numbers ≤ 209715 → image_size (pieces_of program) ≤ max_image
 unfolding pieces_of code_bytes
 small_image program few = let small = few_bytes program few in omega arith
 
-pub faithful_image : (program : SourceProgram) (image : List ℕ) → length program.numbers ≤ 209715 → image_fault image ≡ None → content_of image ≡ content (pieces_of program) → length image ≡ image_size (pieces_of program) → IsFaithfulImage program image
+pub faithful_image : (program : SourceProgram) (image : List ℕ) → length program.numbers ≤ 209715
+    → image_fault image ≡ None → content_of image ≡ content (pieces_of program)
+    → length image ≡ image_size (pieces_of program) → IsFaithfulImage program image
 faithful_image program image few readable holds size = record {
   size = let small = small_image program few in omega arith;
   readable = readable;
   faithful = λ tree budgets typed in_range input.
       let same : start_of (content_of image) ≡ started (compiled program) = ap start_of holds ∙ pieces_start program in
       subst (λ s. Faithful cost (λ n. meaning tree budgets input n) (behaviour s input)) (sym same)
-      (faithful_to_more cost (told program input) (λ n. meaning tree budgets input n) (behaviour (started (compiled program)) input) (shown_same program tree budgets input typed in_range) (work_more program tree budgets input typed in_range) (faithful cost (told program input) (behaviour (started (compiled program)) input) (follows program input few) (is_source program input) (machine_is_machine (started (compiled program)) input)));
+      (faithful_to_more cost (told program input) (λ n. meaning tree budgets input n)
+      (behaviour (started (compiled program)) input) (shown_same program tree budgets input typed in_range)
+      (work_more program tree budgets input typed in_range)
+      (faithful cost (told program input) (behaviour (started (compiled program)) input) (follows program input few)
+      (is_source program input) (machine_is_machine (started (compiled program)) input)));
 }

@@ -1,5 +1,6 @@
 -- The trees of sources that were judged.
-use Rattle.std.proofs.Common.{◌≡◌, ℕ, Bool, true, false, List, [], ◌∷◌, length, Option, Some, None, Result, Ok, Err, refl, sym, ap, ◌∙◌, subst}
+use Rattle.std.proofs.Common.{◌≡◌, ℕ, Bool, true, false, List, [], ◌∷◌, length, Option, Some, None, Result, Ok, Err}
+use Rattle.std.proofs.Common.{refl, sym, ap, ◌∙◌, subst}
 use Rattle.std.specs.Prelude.{nat_lt, if◌then◌else◌}
 use Rattle.c_lexer.specs.declared.lexer.LexFault.{LexFault}
 use Rattle.c_lexer.specs.declared.token.Token.{Token}
@@ -17,12 +18,15 @@ use Rattle.sbcets_core.specs.declared.refusal.SourceRefusal.TheVariants.{Syntax,
 use Rattle.sbcets_core.specs.declared.refusal.Counted.TheVariants.{Source}
 use Rattle.sbcets_core.specs.Outcomes.{max_source}
 use Rattle.sbcets_core.specs.Source.{SourceProgram}
-use Rattle.sbcets_core.specs.Accepted.{Judged, Readable, expanded_tokens, supported_tokens, with_support, unless_unsupported, of_readable, of_expanded, of_tokens, JudgesTokens, JudgesReadable, Judges}
+use Rattle.sbcets_core.specs.Accepted.{Judged, Readable, expanded_tokens, supported_tokens, with_support}
+use Rattle.sbcets_core.specs.Accepted.{unless_unsupported, of_readable, of_expanded, of_tokens, JudgesTokens}
+use Rattle.sbcets_core.specs.Accepted.{JudgesReadable, Judges}
 use Rattle.sbcets_core.proofs.Judging.{refusal_is, by_judgement}
 use Rattle.sbcets_core.specs.Trees.{HasTokensAlone, HasOneTree, IsUnparsed}
 
 -- tokens with a tree have one
-one_of_tokens : (source : List ℕ) (list : TokenList) (u : statements.Unit) → supported_tokens source ≡ Ok list → IsTreeOf list.tokens u → HasOneTree source
+one_of_tokens : (source : List ℕ) (list : TokenList) (u : statements.Unit) → supported_tokens source ≡ Ok list
+    → IsTreeOf list.tokens u → HasOneTree source
 one_of_tokens source list u e t = record {
   list = list;
   expands = e;
@@ -31,7 +35,8 @@ one_of_tokens source list u e t = record {
   only = λ other o. one_tree other u o.formed t.formed (o.same ∙ sym t.same);
 }
 
-accepted_from : (source : List ℕ) (readable : Readable) (program : SourceProgram) → supported_tokens source ≡ readable → JudgesReadable readable (Ok program) → HasOneTree source
+accepted_from : (source : List ℕ) (readable : Readable) (program : SourceProgram) → supported_tokens source ≡ readable
+    → JudgesReadable readable (Ok program) → HasOneTree source
 accepted_from source (Err early) program e j = absurd (cc (j))
 accepted_from source (Ok list) program e j = one_of_tokens source list j.0.0 e j.0.1
 
@@ -69,22 +74,30 @@ early : (source : List ℕ) → IsEarly (supported_tokens source)
 unfolding supported_tokens expanded_tokens
 early source =
     early_readable (expanded_tokens source)
-    (early_if (nat_lt max_source (length source)) (Err (TooLarge Source (length source))) (of_tokens (tokens source)) tt (early_tokens (tokens source)))
+    (early_if (nat_lt max_source (length source)) (Err (TooLarge Source (length source))) (of_tokens (tokens source)) tt
+    (early_tokens (tokens source)))
 
 -- a refusal of the parser comes of tokens
-alone_from : (source : List ℕ) (readable : Readable) (refusal : SourceRefusal) → supported_tokens source ≡ readable → (IsEarly (Err refusal) → ⊥) → ((list : TokenList) → JudgesTokens list (Err refusal) → HasNoTree list.tokens) → JudgesReadable readable (Err refusal) → HasTokensAlone source
-alone_from source (Err other) refusal e late none j = absurd (late (subst IsEarly (e ∙ ap Err (sym (refusal_is refusal other j))) (early source)))
+alone_from : (source : List ℕ) (readable : Readable) (refusal : SourceRefusal) → supported_tokens source ≡ readable
+    → (IsEarly (Err refusal) → ⊥) → ((list : TokenList) → JudgesTokens list (Err refusal) → HasNoTree list.tokens)
+    → JudgesReadable readable (Err refusal) → HasTokensAlone source
+alone_from source (Err other) refusal e late none j = absurd
+    (late (subst IsEarly (e ∙ ap Err (sym (refusal_is refusal other j))) (early source)))
 alone_from source (Ok list) refusal e late none j = record { list = list; expands = e; no_tree = none list j }
 
 pub alone_of_syntax : (source : List ℕ) (at line : ℕ) → Judges source (Err (Syntax at line)) → HasTokensAlone source
-alone_of_syntax source at line j = alone_from source (supported_tokens source) (Syntax at line) refl (λ i. i) (λ list r. r.no_tree) j
+alone_of_syntax source at line j = alone_from source (supported_tokens source) (Syntax at line) refl (λ i. i)
+    (λ list r. r.no_tree) j
 
 pub alone_of_nesting : (source : List ℕ) (at line : ℕ) → Judges source (Err (Nesting at line)) → HasTokensAlone source
-alone_of_nesting source at line j = alone_from source (supported_tokens source) (Nesting at line) refl (λ i. i) (λ list r. r.no_tree) j
+alone_of_nesting source at line j = alone_from source (supported_tokens source) (Nesting at line) refl (λ i. i)
+    (λ list r. r.no_tree) j
 
 -- tokens without a tree are refused for want of one, and so judged
-unparsed_tokens : (list : TokenList) (judged : Judged) → HasNoTree list.tokens → JudgesTokens list judged → IsUnparsed judged
-unparsed_tokens list judged none j = by_judgement list judged IsUnparsed j (λ t e. absurd (none t.0 t.1)) (λ at line r. tt) (λ at line r. tt)
+unparsed_tokens : (list : TokenList) (judged : Judged) → HasNoTree list.tokens → JudgesTokens list judged
+    → IsUnparsed judged
+unparsed_tokens list judged none j = by_judgement list judged IsUnparsed j (λ t e. absurd (none t.0 t.1))
+    (λ at line r. tt) (λ at line r. tt)
 
 pub unparsed : (source : List ℕ) (judged : Judged) → HasTokensAlone source → Judges source judged → IsUnparsed judged
 unparsed source judged a j = unparsed_tokens a.list judged a.no_tree (subst (λ r. JudgesReadable r judged) a.expands j)

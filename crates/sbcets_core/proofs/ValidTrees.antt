@@ -25,7 +25,8 @@ inside_main = record {
 no_loop : Inside
 no_loop = record { may_break = false; may_continue = false }
 
-put_valid : (p : Put) → fit p.argument.type p.argument.number ≡ p.argument.number → is_statement inside_main no_loop (put_tree p) ≡ true
+put_valid : (p : Put) → fit p.argument.type p.argument.number ≡ p.argument.number
+    → is_statement inside_main no_loop (put_tree p) ≡ true
 unfolding inside_main no_loop
 put_valid p h = by (is_int_type p.argument.type Int) refl
   where
@@ -33,7 +34,8 @@ put_valid p h = by (is_int_type p.argument.type Int) refl
     by true e = rw (e, h, eq-eqb p.argument.number p.argument.number refl, e) refl
     by false e = rw (e, h, eq-eqb p.argument.number p.argument.number refl) refl
 
-result_valid : (c : Constant) → fit c.type c.number ≡ c.number → are_statements inside_main no_loop (body_tree [] c) ≡ true
+result_valid : (c : Constant) → fit c.type c.number ≡ c.number
+    → are_statements inside_main no_loop (body_tree [] c) ≡ true
 unfolding inside_main no_loop
 result_valid c h = by (is_int_type c.type Int) refl
   where
@@ -41,7 +43,8 @@ result_valid c h = by (is_int_type c.type Int) refl
     by true e = rw (e, h, eq-eqb c.number c.number refl, e) refl
     by false e = rw (e, h, eq-eqb c.number c.number refl) refl
 
-body_valid : (ps : List Put) (c : Constant) → AreOfTheirTypes ps → fit c.type c.number ≡ c.number → are_statements inside_main no_loop (body_tree ps c) ≡ true
+body_valid : (ps : List Put) (c : Constant) → AreOfTheirTypes ps → fit c.type c.number ≡ c.number
+    → are_statements inside_main no_loop (body_tree ps c) ≡ true
 body_valid [] c all h = result_valid c h
 body_valid (p ∷ ps) c all h = rw (put_valid p all.0, body_valid ps c all.1 h) refl
 
@@ -71,6 +74,7 @@ body_bytes : (ps : List Put) (c : Constant) → sum_of (map content_bytes (each_
 body_bytes [] c = rw (int_bytes c) refl
 body_bytes (p ∷ ps) c = rw (int_bytes p.argument, body_bytes ps c) refl
 
-pub tree_valid : (line : ℕ) (ps : List Put) (c : Constant) → AreOfTheirTypes ps → fit c.type c.number ≡ c.number → is_valid_program (program_tree line ps c) ≡ true
+pub tree_valid : (line : ℕ) (ps : List Put) (c : Constant) → AreOfTheirTypes ps → fit c.type c.number ≡ c.number
+    → is_valid_program (program_tree line ps c) ≡ true
 unfolding is_valid_program room inside_main no_loop
 tree_valid line ps c all h = rw (no_variables ps c, body_valid ps c all h, body_height ps c, body_bytes ps c) refl

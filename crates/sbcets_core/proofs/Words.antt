@@ -1,5 +1,6 @@
 -- Where the words of instructions stand in code.
-use Rattle.std.proofs.Common.{◌≡◌, ◌≤◌, ◌<◌, ◌+◌, ◌*◌, ◌^◌, ℕ, List, [], ◌∷◌, ◌++◌, length, drop, refl, sym, ap, ◌∙◌, arith, append_assoc}
+use Rattle.std.proofs.Common.{◌≡◌, ◌≤◌, ◌<◌, ◌+◌, ◌*◌, ◌^◌, ℕ, List, [], ◌∷◌, ◌++◌, length, drop, refl, sym, ap, ◌∙◌}
+use Rattle.std.proofs.Common.{arith, append_assoc}
 use Rattle.std.proofs.lemmas.List.{length-append}
 use Rattle.std.proofs.Math.Seq.{drop-append_seam}
 use Rattle.byteorder.specs.Endian.{little_number, little_bytes}
@@ -18,7 +19,8 @@ code_bytes-cons i is = refl
 pub length-code_bytes : (is : List Instr) → length (code_bytes is) ≡ 4 * length is
 unfolding code_bytes
 length-code_bytes [] = refl
-length-code_bytes (i ∷ is) = omega (arith, length-append (little_bytes 4 (word_of i)) (code_bytes is), length-code_bytes is, length-word (word_of i))
+length-code_bytes (i ∷ is) = omega
+    (arith, length-append (little_bytes 4 (word_of i)) (code_bytes is), length-code_bytes is, length-word (word_of i))
 
 -- these instructions stand in the code from this place to its end
 pub record StandsAt (code : List ℕ) (at : ℕ) (is : List Instr) : Type 0 where
@@ -29,7 +31,8 @@ pub record StandsAt (code : List ℕ) (at : ℕ) (is : List Instr) : Type 0 wher
 pub stands_all : (is : List Instr) → StandsAt (code_bytes is) 0 is
 stands_all is = record { front = []; place = refl; split = refl }
 
-pub stands_next : (code : List ℕ) (at : ℕ) (i : Instr) (is : List Instr) → StandsAt code at (i ∷ is) → StandsAt code (at + 4) is
+pub stands_next : (code : List ℕ) (at : ℕ) (i : Instr) (is : List Instr) → StandsAt code at (i ∷ is)
+    → StandsAt code (at + 4) is
 stands_next code at i is s =
     let w = little_bytes 4 (word_of i) in
     record {
@@ -38,14 +41,16 @@ stands_next code at i is s =
       split = s.split ∙ ap (λ l. s.front ++ l) (code_bytes-cons i is) ∙ sym (append_assoc s.front w (code_bytes is));
     }
 
-pub stands_within : (code : List ℕ) (at : ℕ) (i : Instr) (is : List Instr) → StandsAt code at (i ∷ is) → at + 4 ≤ length code
+pub stands_within : (code : List ℕ) (at : ℕ) (i : Instr) (is : List Instr) → StandsAt code at (i ∷ is)
+    → at + 4 ≤ length code
 stands_within code at i is s =
     let p = s.place in
     let count : length (code_bytes (i ∷ is)) ≡ 4 * length (i ∷ is) = length-code_bytes (i ∷ is) in
     omega (arith, ap length s.split, length-append s.front (code_bytes (i ∷ is)))
 
 -- the word that stands there
-pub word_here : (code : List ℕ) (at : ℕ) (i : Instr) (is : List Instr) → word_of i < 2 ^ 32 → StandsAt code at (i ∷ is) → little_number 4 (drop at code) ≡ word_of i
+pub word_here : (code : List ℕ) (at : ℕ) (i : Instr) (is : List Instr) → word_of i < 2 ^ 32 → StandsAt code at (i ∷ is)
+    → little_number 4 (drop at code) ≡ word_of i
 word_here code at i is fits s =
     let w = little_bytes 4 (word_of i) in
     ap (λ l. little_number 4 (drop at l)) (s.split ∙ ap (λ l. s.front ++ l) (code_bytes-cons i is))

@@ -1,5 +1,6 @@
 -- The program of an accepted source, or why the source is refused.
-use Rattle.std.specs.Prelude.{◌≡◌, ℕ, nat_lt, true, false, List, [], ◌∷◌, length, Option, Some, None, Result, Ok, Err, if◌then◌else◌, Vec}
+use Rattle.std.specs.Prelude.{◌≡◌, ℕ, nat_lt, true, false, List, [], ◌∷◌, length, Option, Some, None, Result, Ok, Err}
+use Rattle.std.specs.Prelude.{if◌then◌else◌, Vec}
 use Rattle.std.specs.declared.alloc.Global.{Global}
 use Rattle.c_lexer.specs.declared.lexer.LexFault.{LexFault}
 use Rattle.c_lexer.specs.declared.token.Token.{Token}
@@ -13,7 +14,8 @@ use Rattle.c_parser.specs.Unsupported.{told_as, first_unsupported}
 use Rattle.c_parser.specs.Parsed.{IsTreeOf, IsRefusedAt}
 use Rattle.sbcets_core.specs.declared.refusal.Counted.TheVariants.{Source}
 use Rattle.sbcets_core.specs.declared.refusal.SourceRefusal.{SourceRefusal}
-use Rattle.sbcets_core.specs.declared.refusal.SourceRefusal.TheVariants.{Lex, Pre, Unsupported, Syntax, Nesting, TooLarge, Memory}
+use Rattle.sbcets_core.specs.declared.refusal.SourceRefusal.TheVariants.{Lex, Pre, Unsupported, Syntax, Nesting}
+use Rattle.sbcets_core.specs.declared.refusal.SourceRefusal.TheVariants.{TooLarge, Memory}
 use Rattle.sbcets_core.specs.Outcomes.{max_source}
 use Rattle.sbcets_core.specs.Source.{SourceProgram}
 use Rattle.sbcets_core.specs.Refused.{refused_bytes}

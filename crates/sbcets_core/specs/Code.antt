@@ -1,4 +1,5 @@
--- The code of a program, and the parts of its image. Function k has its jump table entry at 0x10000 + 16 k, and the runtime
+-- The code of a program, and the parts of its image. Function k has its jump table entry at 0x10000 + 16 k, and the
+-- runtime
 -- follows the rows; the compiled code begins at 0x100000 with the first instruction of function 0.
 use Rattle.std.specs.Prelude.{ℕ, ◌-◌, ◌^◌, List, [], ◌∷◌, ◌++◌, length, replicate, flat_map}
 use Rattle.byteorder.specs.Endian.{little_bytes}

@@ -1,5 +1,6 @@
 -- What each command comes to, and what it leaves outside, its tool line apart.
-use Rattle.std.specs.Prelude.{◌≡◌, ◌⊎◌, ℕ, ◌<◌, ◌≤◌, List, [], ◌++◌, length, Option, Some, None, Result, Ok, Err, IfSome, codes, decimal}
+use Rattle.std.specs.Prelude.{◌≡◌, ◌⊎◌, ℕ, ◌<◌, ◌≤◌, List, [], ◌++◌, length, Option, Some, None, Result, Ok, Err}
+use Rattle.std.specs.Prelude.{IfSome, codes, decimal}
 use Rattle.sb_outside.specs.declared.source.Failed.{Failed}
 use Rattle.sb_outside.specs.Content.{gained, GainsPart, Writes}
 use Rattle.sb_outside.specs.Faults.{Rose, next_count}
@@ -17,7 +18,8 @@ use Rattle.sbcets_core.specs.declared.refusal.SourceRefusal.{SourceRefusal}
 use Rattle.sbcets_core.specs.declared.outcome.ReadFault.TheVariants.{TooLong}
 use Rattle.sbcets_core.specs.declared.outcome.ReadFault.TheVariants as reads
 use Rattle.sbcets_core.specs.declared.outcome.Outcome.{Outcome}
-use Rattle.sbcets_core.specs.declared.outcome.Outcome.TheVariants.{Exited, Built, Usage, WriteFault, InputFault, Memory, Limit, Refused, ImageRefused, Trap}
+use Rattle.sbcets_core.specs.declared.outcome.Outcome.TheVariants.{Exited, Built, Usage, WriteFault, InputFault, Memory}
+use Rattle.sbcets_core.specs.declared.outcome.Outcome.TheVariants.{Limit, Refused, ImageRefused, Trap}
 use Rattle.sbcets_core.specs.declared.outcome.Outcome.TheVariants as outcomes
 use Rattle.sbcets_core.specs.Outcomes.{max_source, max_image_file}
 use Rattle.sbcets_core.specs.Accepted.{Judges, IsBuiltFrom}
@@ -55,14 +57,17 @@ pub record DoesNothing (image : List ℕ) (before after : Outside) : Type 0 wher
   pub none : image ≡ []
   pub same : after ≡ before
 
--- The run of the image at the limit ended so, and left the streams so. That holds of each list of input that begins with the
--- bytes that were taken: of an input that tells its content, of just that; of one that does not, of each that ends there where
+-- The run of the image at the limit ended so, and left the streams so. That holds of each list of input that begins
+-- with the
+-- bytes that were taken: of an input that tells its content, of just that; of one that does not, of each that ends
+-- there where
 -- its end was met. (A sink that does not tell its content stays untold.)
 pub record RunsImage (image : List ℕ) (limit : ℕ) (stop : Stop) (before after : Streams) : Type 0 where
   pub readable : image_fault image ≡ None
   pub state : MachineState
   pub run : ForEveryInput before.input after.input
-      (λ input rest. IsRun before.output before.errors stop limit (begun (start_of (content_of image)) input) state rest after.output after.errors)
+      (λ input rest. IsRun before.output before.errors stop limit (begun (start_of (content_of image)) input) state rest
+      after.output after.errors)
 
 -- a file of this name was not read, since it has n bytes, more than max
 pub record IsTooLong (name : List ℕ) (max n most : ℕ) (held : Option (List ℕ → Option (List ℕ))) : Type 0 where
@@ -80,7 +85,8 @@ pub record Went (name : List ℕ) (limit : ℕ) (image : List ℕ) (stop : Stop)
   pub unwritten : after.writes ≡ before.writes
 
 -- a source was read and refused
-pub record RefusesSource (name : List ℕ) (refusal : SourceRefusal) (held : Option (List ℕ → Option (List ℕ))) : Type 0 where
+pub record RefusesSource (name : List ℕ) (refusal : SourceRefusal) (held : Option (List ℕ → Option (List ℕ))) : Type
+    0 where
   pub source : List ℕ
   pub read : IsRead held name max_source source
   pub refused : Judges source (Err refusal)
@@ -91,9 +97,11 @@ Goes name limit (Limit n) image before after = (n ≡ limit) × Went name limit 
 Goes name limit WriteFault image before after = Went name limit image stops.OutputFault before after
 Goes name limit InputFault image before after = Went name limit image stops.InputFault before after
 Goes name limit (Trap kind pc) image before after = ⊥
-Goes name limit (Refused refusal) image before after = RefusesSource name refusal before.files × DoesNothing image before after
+Goes name limit (Refused refusal) image before after = RefusesSource name refusal before.files
+    × DoesNothing image before after
 Goes name limit (outcomes.ReadFault reads.Failed) image before after = DoesNothing image before after
-Goes name limit (outcomes.ReadFault (TooLong n most)) image before after = IsTooLong name max_source n most before.files × DoesNothing image before after
+Goes name limit (outcomes.ReadFault (TooLong n most)) image before after = IsTooLong name max_source n most before.files
+    × DoesNothing image before after
 Goes name limit Memory image before after = DoesNothing image before after
 Goes name limit Usage image before after = ⊥
 Goes name limit Built image before after = ⊥
@@ -120,9 +128,11 @@ Runs name limit (Limit n) image before after = (n ≡ limit) × RanFile name lim
 Runs name limit WriteFault image before after = RanFile name limit stops.OutputFault image before after
 Runs name limit InputFault image before after = RanFile name limit stops.InputFault image before after
 Runs name limit (Trap kind pc) image before after = RanFile name limit (stops.Trap kind pc) image before after
-Runs name limit (ImageRefused fault) image before after = RefusesImage name fault before.files × DoesNothing image before after
+Runs name limit (ImageRefused fault) image before after = RefusesImage name fault before.files
+    × DoesNothing image before after
 Runs name limit (outcomes.ReadFault reads.Failed) image before after = DoesNothing image before after
-Runs name limit (outcomes.ReadFault (TooLong n most)) image before after = IsTooLong name max_image_file n most before.files × DoesNothing image before after
+Runs name limit (outcomes.ReadFault (TooLong n most)) image before after = IsTooLong name max_image_file n most
+    before.files × DoesNothing image before after
 Runs name limit Memory image before after = DoesNothing image before after
 Runs name limit Usage image before after = ⊥
 Runs name limit Built image before after = ⊥
@@ -132,8 +142,10 @@ Runs name limit (Refused refusal) image before after = ⊥
 unfoldable pub built_line : (checks dropped : ℕ) → List ℕ
 built_line checks dropped = decimal checks ++ (codes " checks, " ++ (decimal dropped ++ codes " dropped\n"))
 
--- a source was read, is accepted, and by one write the file now holds the image that was built from it, or a part of that
-pub record BuiltInto (name target : List ℕ) (written : Result (Unit {0}) Failed) (image : List ℕ) (before after : Outside) : Type 0 where
+-- a source was read, is accepted, and by one write the file now holds the image that was built from it, or a part of
+-- that
+pub record BuiltInto (name target : List ℕ) (written : Result (Unit {0}) Failed) (image : List ℕ)
+    (before after : Outside) : Type 0 where
   pub source : List ℕ
   pub read : IsRead before.files name max_source source
   pub bytes : List ℕ
@@ -156,11 +168,15 @@ pub record LineFails (name target : List ℕ) (image : List ℕ) (before after :
 
 abbrev pub Builds : (name target : List ℕ) → Outcome → List ℕ → Outside → Outside → Type 0
 Builds name target Built image before after =
-    BuiltInto name target (Ok tt) image before after × (after.streams.output ≡ gained before.streams.output (built_line 0 0))
-Builds name target WriteFault image before after = FileFails name target image before after ⊎ LineFails name target image before after
-Builds name target (Refused refusal) image before after = RefusesSource name refusal before.files × DoesNothing image before after
+    BuiltInto name target (Ok tt) image before after
+    × (after.streams.output ≡ gained before.streams.output (built_line 0 0))
+Builds name target WriteFault image before after = FileFails name target image before after
+    ⊎ LineFails name target image before after
+Builds name target (Refused refusal) image before after = RefusesSource name refusal before.files
+    × DoesNothing image before after
 Builds name target (outcomes.ReadFault reads.Failed) image before after = DoesNothing image before after
-Builds name target (outcomes.ReadFault (TooLong n most)) image before after = IsTooLong name max_source n most before.files × DoesNothing image before after
+Builds name target (outcomes.ReadFault (TooLong n most)) image before after = IsTooLong name max_source n most
+    before.files × DoesNothing image before after
 Builds name target Memory image before after = DoesNothing image before after
 Builds name target Usage image before after = ⊥
 Builds name target (Exited code) image before after = ⊥

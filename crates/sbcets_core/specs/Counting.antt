@@ -17,16 +17,19 @@ pub record Counts : Type 0 where
   pub errors : ℕ
 
 abbrev pub counts_of : (reads writes input output errors : ℕ) → Counts
-counts_of reads writes input output errors = record { reads = reads; writes = writes; input = input; output = output; errors = errors }
+counts_of reads writes input output errors = record
+    { reads = reads; writes = writes; input = input; output = output; errors = errors }
 
--- Beside the outcome of a command, its tool line apart: just one call failed where the outcome is a fault of the outside, and
+-- Beside the outcome of a command, its tool line apart: just one call failed where the outcome is a fault of the
+-- outside, and
 -- else none.
 abbrev pub CommandCounts : Outcome → Counts → Counts → Type 0
 CommandCounts (outcomes.ReadFault reads.Failed) before after = after ≡ record before { reads = next_count before.reads }
 CommandCounts InputFault before after = after ≡ record before { input = next_count before.input }
 CommandCounts WriteFault before after =
     (after ≡ record before { writes = next_count before.writes })
-    ⊎ ((after ≡ record before { output = next_count before.output }) ⊎ (after ≡ record before { errors = next_count before.errors }))
+    ⊎ ((after ≡ record before { output = next_count before.output })
+    ⊎ (after ≡ record before { errors = next_count before.errors }))
 CommandCounts outcome before after = after ≡ before
 
 -- beside the answer of a run

@@ -19,4 +19,5 @@ cost = 1024
 pub record IsFaithfulImage (program : SourceProgram) (image : List ℕ) : Type 0 where
   pub size : length image ≤ max_image
   pub readable : image_fault image ≡ None
-  pub faithful : ForMeaning program (λ means. (input : List ℕ) → Faithful cost (means input) (behaviour (start_of (content_of image)) input))
+  pub faithful : ForMeaning program
+      (λ means. (input : List ℕ) → Faithful cost (means input) (behaviour (start_of (content_of image)) input))

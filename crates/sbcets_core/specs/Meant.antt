@@ -6,7 +6,8 @@ use Rattle.behaviours.specs.Behaviour.{Behaviour}
 use Rattle.sbcets_core.specs.Commands.{Streams}
 
 -- the program ends with this status within so many turns, and the output and the error output gained just what it shows
-pub record EndsAsMeant (means : List ℕ → Behaviour) (input : List ℕ) (limit code : ℕ) (before after : Streams) : Type 0 where
+pub record EndsAsMeant (means : List ℕ → Behaviour) (input : List ℕ) (limit code : ℕ) (before after : Streams) : Type
+    0 where
   pub ending : (means input limit).shown.ending ≡ Some (Status code)
   pub output : after.output ≡ gained before.output (means input limit).shown.output
   pub errors : after.errors ≡ gained before.errors (means input limit).shown.errors

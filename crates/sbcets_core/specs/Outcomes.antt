@@ -1,5 +1,6 @@
 -- The exit status of each outcome, and the tool's own line for it.
-use Rattle.std.specs.Prelude.{ℕ, ◌+◌, ◌/◌, ◌%◌, nat_lt, ◌==◌, if◌then◌else◌, List, [], ◌∷◌, ◌++◌, take, drop, codes, decimal}
+use Rattle.std.specs.Prelude.{ℕ, ◌+◌, ◌/◌, ◌%◌, nat_lt, ◌==◌, if◌then◌else◌, List, [], ◌∷◌, ◌++◌, take, drop, codes}
+use Rattle.std.specs.Prelude.{decimal}
 use Rattle.std.specs.List.{prefix_len}
 use Rattle.c_pre.specs.Faults.{number_of}
 use Rattle.elf_image.specs.Tests.{fault_number}
@@ -7,11 +8,13 @@ use Rattle.rv_sim.specs.declared.trap.TrapKind.{TrapKind}
 use Rattle.rv_sim.specs.declared.trap.TrapKind.TheVariants.{Illegal, Access, Jump, Break, Call}
 use Rattle.sbcets_core.specs.declared.refusal.Counted.TheVariants.{Source}
 use Rattle.sbcets_core.specs.declared.refusal.SourceRefusal.{SourceRefusal}
-use Rattle.sbcets_core.specs.declared.refusal.SourceRefusal.TheVariants.{Lex, Pre, Unsupported, Syntax, Nesting, TooLarge}
+use Rattle.sbcets_core.specs.declared.refusal.SourceRefusal.TheVariants.{Lex, Pre, Unsupported, Syntax, Nesting}
+use Rattle.sbcets_core.specs.declared.refusal.SourceRefusal.TheVariants.{TooLarge}
 use Rattle.sbcets_core.specs.declared.refusal.SourceRefusal.TheVariants as refusals
 use Rattle.sbcets_core.specs.declared.outcome.ReadFault.TheVariants.{Failed, TooLong}
 use Rattle.sbcets_core.specs.declared.outcome.Outcome.{Outcome}
-use Rattle.sbcets_core.specs.declared.outcome.Outcome.TheVariants.{Exited, Built, Usage, WriteFault, InputFault, Memory, Limit, Refused, ImageRefused, Trap}
+use Rattle.sbcets_core.specs.declared.outcome.Outcome.TheVariants.{Exited, Built, Usage, WriteFault, InputFault, Memory}
+use Rattle.sbcets_core.specs.declared.outcome.Outcome.TheVariants.{Limit, Refused, ImageRefused, Trap}
 use Rattle.sbcets_core.specs.declared.outcome.Outcome.TheVariants as outcomes
 
 abbrev pub status_of : Outcome → ℕ
@@ -44,7 +47,8 @@ digit_at n weight = hexadecimal_digit (n / weight % 16)
 
 unfoldable pub sixteen_digits : ℕ → List ℕ
 sixteen_digits n =
-    digit_at n 0x1000000000000000 ∷ digit_at n 0x100000000000000 ∷ digit_at n 0x10000000000000 ∷ digit_at n 0x1000000000000
+    digit_at n 0x1000000000000000 ∷ digit_at n 0x100000000000000 ∷ digit_at n 0x10000000000000
+    ∷ digit_at n 0x1000000000000
     ∷ digit_at n 0x100000000000 ∷ digit_at n 0x10000000000 ∷ digit_at n 0x1000000000 ∷ digit_at n 0x100000000
     ∷ digit_at n 0x10000000 ∷ digit_at n 0x1000000 ∷ digit_at n 0x100000 ∷ digit_at n 0x10000
     ∷ digit_at n 0x1000 ∷ digit_at n 0x100 ∷ digit_at n 0x10 ∷ digit_at n 1 ∷ []
@@ -75,7 +79,8 @@ trap_name Call = codes "call"
 
 abbrev pub refusal_line : SourceRefusal → List ℕ
 refusal_line (Lex fault) = numbered_line (codes "lexical fault at line ") fault.line []
-refusal_line (Pre fault) = line_of (codes "directive fault ") (decimal (number_of fault.kind)) (codes " at line ") (decimal fault.line)
+refusal_line (Pre fault) = line_of (codes "directive fault ") (decimal (number_of fault.kind)) (codes " at line ")
+    (decimal fault.line)
 refusal_line (Unsupported word line) = line_of (codes "unsupported ") word (codes " at line ") (decimal line)
 refusal_line (Syntax at line) = numbered_line (codes "syntax at line ") line []
 refusal_line (Nesting at line) = numbered_line (codes "nesting at line ") line []

@@ -1,6 +1,8 @@
--- The part of C that is compiled: `int main(void){ putchar(N); .. return N; }`, where each N is an integer constant. It is read
+-- The part of C that is compiled: `int main(void){ putchar(N); .. return N; }`, where each N is an integer constant. It
+-- is read
 -- word by word: from each place some words go on to a text of the part, and every other word does not.
-use Rattle.std.specs.Prelude.{ℕ, Bool, true, false, List, [], ◌∷◌, ◌++◌, Option, Some, None, Result, Ok, Err, if◌then◌else◌, bytes_eq, codes, option_map}
+use Rattle.std.specs.Prelude.{ℕ, Bool, true, false, List, [], ◌∷◌, ◌++◌, Option, Some, None, Result, Ok, Err}
+use Rattle.std.specs.Prelude.{if◌then◌else◌, bytes_eq, codes, option_map}
 use Rattle.c_lexer.specs.declared.keyword.Keyword.TheVariants as keyword
 use Rattle.c_lexer.specs.declared.punctuator.Punctuator.TheVariants as punctuator
 use Rattle.c_lexer.specs.declared.token.Word.{Word}
@@ -93,7 +95,8 @@ abbrev pub place_after : Step → Expected
 place_after (Goes p) = p
 place_after (Puts n) = place.Statement
 
--- a program, or the tokens from the first on with which the tokens so far begin no text of the part; none where the text ends
+-- a program, or the tokens from the first on with which the tokens so far begin no text of the part; none where the
+-- text ends
 -- too early
 abbrev pub Parted : Type 0
 Parted = Result SourceProgram (List Token)

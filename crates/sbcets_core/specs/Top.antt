@@ -6,7 +6,8 @@ use Rattle.elf_image.specs.Tests.{image_fault}
 use Rattle.sbcets_core.specs.declared.outcome.ReadFault.TheVariants.{TooLong}
 use Rattle.sbcets_core.specs.declared.outcome.ReadFault.TheVariants as reads
 use Rattle.sbcets_core.specs.declared.outcome.Outcome.{Outcome}
-use Rattle.sbcets_core.specs.declared.outcome.Outcome.TheVariants.{Exited, Built, Usage, WriteFault, InputFault, Memory, Limit, Refused, ImageRefused, Trap}
+use Rattle.sbcets_core.specs.declared.outcome.Outcome.TheVariants.{Exited, Built, Usage, WriteFault, InputFault, Memory}
+use Rattle.sbcets_core.specs.declared.outcome.Outcome.TheVariants.{Limit, Refused, ImageRefused, Trap}
 use Rattle.sbcets_core.specs.declared.outcome.Outcome.TheVariants as outcomes
 use Rattle.sbcets_core.specs.Source.{SourceProgram}
 use Rattle.sbcets_core.specs.Outcomes.{max_source, max_image_file, HasLine, tool_line}
@@ -15,7 +16,8 @@ use Rattle.command_line.specs.Asked.{Asked, build, run, go}
 use Rattle.sbcets_core.specs.Counting.{Counts, CommandCounts}
 use Rattle.sbcets_core.specs.Commands.{Held, Outside, DoesNothing, Goes, Runs, Builds}
 
--- What the command comes to, its tool line apart. Words that are no command are Usage, and no others; want of memory may
+-- What the command comes to, its tool line apart. Words that are no command are Usage, and no others; want of memory
+-- may
 -- keep them from being read.
 abbrev pub Does : Option Asked → Outcome → List ℕ → Outside → Outside → Type 0
 Does (Some (go name budgets limit)) outcome image before after = Goes name limit outcome image before after
@@ -50,7 +52,8 @@ Finishes outcome answer before now faults faults_now =
     ⊎ ((answer ≡ WriteFault) × IsCutShort outcome before now faults faults_now)
 
 -- the command came to the outcome, and then its tool line came in
-pub record AnswersInFull (command : Option Asked) (outcome : Outcome) (image : List ℕ) (before after : Moment) : Type 0 where
+pub record AnswersInFull (command : Option Asked) (outcome : Outcome) (image : List ℕ) (before after : Moment) : Type
+    0 where
   pub between : Option (List ℕ)
   pub does : Does command outcome image before.outside (with_errors after.outside between)
   pub counts : CommandCounts outcome before.counts after.counts

@@ -1,4 +1,5 @@
--- The typed trees of a program of the first path, and what it means: what the meaning of typed programs says of each of them. They
+-- The typed trees of a program of the first path, and what it means: what the meaning of typed programs says of each of
+-- them. They
 -- differ in the types of the constants and in lines, which no moment of a run tells.
 use Rattle.std.specs.Prelude.{◌≡◌, ℕ, List, [], ◌∷◌, map, Some, None, if◌then◌else◌}
 use Rattle.behaviours.specs.Behaviour.{Behaviour}
@@ -31,10 +32,12 @@ constant_tree c = expression (integer c.type) c.line (constant c.number)
 
 -- a constant where an int is wanted (C99 6.5.2.2 paragraph 7, 6.8.6.4 paragraph 3)
 abbrev pub int_tree : Constant → Expression
-int_tree c = if is_int_type c.type Int then constant_tree c else expression (integer Int) c.line (convert (constant_tree c))
+int_tree c = if is_int_type c.type Int then constant_tree c
+    else expression (integer Int) c.line (convert (constant_tree c))
 
 abbrev pub put_tree : Put → Statement
-put_tree p = expression_statement (expression (integer Int) p.line (library Putchar (expressions (int_tree p.argument) no_expressions)))
+put_tree p = expression_statement
+    (expression (integer Int) p.line (library Putchar (expressions (int_tree p.argument) no_expressions)))
 
 abbrev pub body_tree : List Put → Constant → Statements
 body_tree [] result = statements (return (Some (int_tree result))) no_statements
@@ -46,7 +49,14 @@ program_tree line puts result = record {
   structures = [];
   statics = [];
   function_types = record { c_type = Gives ∷ IntegerWord Int ∷ []; parameters = []; result = integer Int } ∷ [];
-  functions = record { line = line; type_number = 0; parameters = []; variables = []; body = body_tree puts result; room = 168 } ∷ [];
+  functions = record {
+    line = line;
+    type_number = 0;
+    parameters = [];
+    variables = [];
+    body = body_tree puts result;
+    room = 168;
+  } ∷ [];
   main = 0;
 }
 
@@ -70,4 +80,5 @@ pub record IsTypedTree (program : SourceProgram) (tree : Program) : Type 0 where
 -- what holds of the meaning of each typed tree of a program, in all budgets that a build may have
 abbrev pub ForMeaning : SourceProgram → ((List ℕ → Behaviour) → Type 0) → Type 0
 ForMeaning program P =
-    (tree : Program) (budgets : BudgetSizes) → IsTypedTree program tree → budget_fault budgets ≡ None → P (λ input. meaning tree budgets input)
+    (tree : Program) (budgets : BudgetSizes) → IsTypedTree program tree → budget_fault budgets ≡ None
+    → P (λ input. meaning tree budgets input)

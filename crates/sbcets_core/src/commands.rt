@@ -1,10 +1,12 @@
 //! What the commands do, the tool's own line apart.
-ghost use Rattle.std.specs.Prelude.{◌≡◌, ◌≤◌, ◌++◌, [], None, Some, length, decimal, IfOk, IfErr, OnErr, OnOk, ℕ, List, Option};
+ghost use Rattle.std.specs.Prelude.{◌≡◌, ◌≤◌, ◌++◌, [], None, Some, length, decimal, IfOk, IfErr, OnErr, OnOk, ℕ, List};
+ghost use Rattle.std.specs.Prelude.{Option};
 ghost use Rattle.sb_outside.specs.Content.{gained, GainsPart};
 ghost use Rattle.sb_outside.specs.Faults.{CountsFaults};
 ghost use Rattle.elf_image.specs.Tests.{Fails, image_fault};
 ghost use Rattle.sb_outside.specs.Rest.{Rest};
-ghost use Rattle.sbcets_core.specs.Commands.{Outside, outside_of, Goes, Runs, Builds, IsRead, IsUnread, IsUnbuilt, IsBuiltOf, ReadCounts, RunsImage, outcome_of, built_line};
+ghost use Rattle.sbcets_core.specs.Commands.{Outside, outside_of, Goes, Runs, Builds, IsRead, IsUnread, IsUnbuilt};
+ghost use Rattle.sbcets_core.specs.Commands.{IsBuiltOf, ReadCounts, RunsImage, outcome_of, built_line};
 ghost use Rattle.sbcets_core.specs.Counting.{CommandCounts, StopCounts, counts_of};
 
 use crate::compiler::{MAX_SOURCE, compile};
@@ -32,11 +34,15 @@ pub fn go<F: Files, I: Source, O: Sink, E: Sink>(
     errors: &mut E,
 ) -> (Outcome, Vec<u8>)
     ensures goes { Goes name.now limit result.0 result.1.items
-        (outside_of (F.held files.old) (F.writes files.old) (I.rest input.old) (O.taken output.old) (E.taken errors.old))
-        (outside_of (F.held files.new) (F.writes files.new) (I.rest input.new) (O.taken output.new) (E.taken errors.new)) }
+        (outside_of (F.held files.old) (F.writes files.old) (I.rest input.old)
+        (O.taken output.old) (E.taken errors.old))
+        (outside_of (F.held files.new) (F.writes files.new) (I.rest input.new)
+        (O.taken output.new) (E.taken errors.new)) }
     ensures counts { CommandCounts result.0
-        (counts_of (F.read_faults files.old) (F.write_faults files.old) (I.faults input.old) (O.faults output.old) (E.faults errors.old))
-        (counts_of (F.read_faults files.new) (F.write_faults files.new) (I.faults input.new) (O.faults output.new) (E.faults errors.new)) }
+        (counts_of (F.read_faults files.old) (F.write_faults files.old) (I.faults input.old)
+        (O.faults output.old) (E.faults errors.old))
+        (counts_of (F.read_faults files.new) (F.write_faults files.new) (I.faults input.new)
+        (O.faults output.new) (E.faults errors.new)) }
 {
     let image = match built_of(alloc, name, files) {
         Ok(image) => image,
@@ -61,11 +67,15 @@ pub fn run<F: Files, I: Source, O: Sink, E: Sink>(
     errors: &mut E,
 ) -> Outcome
     ensures runs { Runs name.now limit result []
-        (outside_of (F.held files.old) (F.writes files.old) (I.rest input.old) (O.taken output.old) (E.taken errors.old))
-        (outside_of (F.held files.new) (F.writes files.new) (I.rest input.new) (O.taken output.new) (E.taken errors.new)) }
+        (outside_of (F.held files.old) (F.writes files.old) (I.rest input.old)
+        (O.taken output.old) (E.taken errors.old))
+        (outside_of (F.held files.new) (F.writes files.new) (I.rest input.new)
+        (O.taken output.new) (E.taken errors.new)) }
     ensures counts { CommandCounts result
-        (counts_of (F.read_faults files.old) (F.write_faults files.old) (I.faults input.old) (O.faults output.old) (E.faults errors.old))
-        (counts_of (F.read_faults files.new) (F.write_faults files.new) (I.faults input.new) (O.faults output.new) (E.faults errors.new)) }
+        (counts_of (F.read_faults files.old) (F.write_faults files.old) (I.faults input.old)
+        (O.faults output.old) (E.faults errors.old))
+        (counts_of (F.read_faults files.new) (F.write_faults files.new) (I.faults input.new)
+        (O.faults output.new) (E.faults errors.new)) }
 {
     let image = match read_of(alloc, name, MAX_IMAGE, files) {
         Ok(image) => image,
@@ -114,7 +124,8 @@ fn read_of<F: Files>(alloc: Global, name: &str, max: u64, files: &mut F) -> Resu
     ensures unread { IfErr result (λ outcome. IsUnread name.now max outcome (F.held files.old)) }
     ensures files { F.held files.new ≡ F.held files.old }
     ensures ok_counts { OnOk result (F.read_faults files.new ≡ F.read_faults files.old) }
-    ensures err_counts { IfErr result (λ outcome. ReadCounts outcome (F.read_faults files.old) (F.read_faults files.new)) }
+    ensures err_counts { IfErr result
+        (λ outcome. ReadCounts outcome (F.read_faults files.old) (F.read_faults files.new)) }
     ensures writes { F.write_faults files.new ≡ F.write_faults files.old }
     ensures unwritten { F.writes files.new ≡ F.writes files.old }
 {
@@ -133,7 +144,8 @@ fn built_of<F: Files>(alloc: Global, name: &str, files: &mut F) -> Result<Vec<u8
     ensures unbuilt { IfErr result (λ outcome. IsUnbuilt name.now outcome (F.held files.old)) }
     ensures files { F.held files.new ≡ F.held files.old }
     ensures ok_counts { OnOk result (F.read_faults files.new ≡ F.read_faults files.old) }
-    ensures err_counts { IfErr result (λ outcome. ReadCounts outcome (F.read_faults files.old) (F.read_faults files.new)) }
+    ensures err_counts { IfErr result
+        (λ outcome. ReadCounts outcome (F.read_faults files.old) (F.read_faults files.new)) }
     ensures writes { F.write_faults files.new ≡ F.write_faults files.old }
     ensures unwritten { F.writes files.new ≡ F.writes files.old }
 {
@@ -162,7 +174,9 @@ fn run_image<I: Source, O: Sink, E: Sink>(
         (record { input = I.rest input.old; output = O.taken output.old; errors = E.taken errors.old })
         (record { input = I.rest input.new; output = O.taken output.new; errors = E.taken errors.new })) }
     ensures refused { IfErr result (λ e. Fails e (image_fault image.now)) }
-    ensures counts { IfOk result (λ stop. StopCounts stop (I.faults input.old) (I.faults input.new) (O.faults output.old) (O.faults output.new) (E.faults errors.old) (E.faults errors.new)) }
+    ensures counts { IfOk result
+        (λ stop. StopCounts stop (I.faults input.old) (I.faults input.new) (O.faults output.old) (O.faults output.new)
+        (E.faults errors.old) (E.faults errors.new)) }
     ensures unread { OnErr result (input.new ≡ input.old) }
     ensures unwritten { OnErr result (output.new ≡ output.old) }
     ensures silent { OnErr result (errors.new ≡ errors.old) }

@@ -19,7 +19,8 @@ use std::alloc::Global;
 pub const MAX_SOURCE: u64 = 1_048_576;
 
 /// The image of a source, faithful to what the source means; or why the source is refused: it is too
-/// large, else it has no tokens, else a directive is at fault, else a word of it is unsupported, else it has no tree, else a word of
+/// large, else it has no tokens, else a directive is at fault, else a word of it is unsupported, else it has no tree,
+/// else a word of
 /// it is not supported.
 #[tactic(auto, using(crate::proofs::Judging::accepts, crate::proofs::Judging::refused_early, crate::proofs::Judging::refused_unparsed, crate::proofs::Judging::refused_by_part))]
 pub fn compile(alloc: Global, source: &[u8]) -> Result<Vec<u8>, SourceRefusal>
@@ -73,7 +74,8 @@ fn expanded_tokens<'a>(alloc: Global, source: &'a [u8]) -> Result<Tokens<'a>, So
 fn tree_of<'a>(alloc: Global, tokens: &Tokens<'a>) -> Result<Unit<'a>, SourceRefusal>
     ensures ok { IfOk result (λ tree. IsTreeOf tokens.now.tokens (unit_of tree)) }
     ensures supported { OnOk result (first_unsupported tokens.now.tokens ≡ None) }
-    ensures err { IfErr result (λ refusal. UnlessMemory refusal (JudgesReadable (with_support tokens.now) (Err refusal))) }
+    ensures err { IfErr result
+        (λ refusal. UnlessMemory refusal (JudgesReadable (with_support tokens.now) (Err refusal))) }
 {
     match parse(alloc, tokens) {
         Ok(tree) => Ok(tree),

@@ -1,7 +1,8 @@
 //! From a program to its image.
 ghost use Rattle.std.specs.Prelude.{◌≡◌, ◌++◌, ◌∷◌, [], ◌+◌, ◌*◌, ◌≤◌, ◌<◌, ◌%◌, ◌^◌, length, replicate, IfOk, OnOk};
 ghost use Rattle.elf_image.specs.Writing.{SegmentsFit};
-ghost use Rattle.sbcets_core.specs.Code.{code_of, code_bytes, exit_code, pieces_of, rows_bytes, row_code, runtime_code, putchar_code, li};
+ghost use Rattle.sbcets_core.specs.Code.{code_of, code_bytes, exit_code, pieces_of, rows_bytes, row_code, runtime_code};
+ghost use Rattle.sbcets_core.specs.Code.{putchar_code, li};
 ghost use Rattle.sbcets_core.specs.Meaning.{ending};
 ghost use Rattle.sbcets_core.specs.Faithful.{IsFaithfulImage};
 

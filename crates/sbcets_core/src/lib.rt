@@ -1,7 +1,8 @@
 //! The compiler, and the call that does all that the program does.
 //!
 //! So far it compiles the first path, `int main(void){ putchar(N); .. return N; }`, with a reader and a generator of
-//! its own (`part`, `generator`). What it means is what `source_meaning` says of its typed tree (`specs/TypedProgram.antt`).
+//! its own (`part`, `generator`). What it means is what `source_meaning` says of its typed tree
+//! (`specs/TypedProgram.antt`).
 #![tactic(auto)]
 
 mod commands;

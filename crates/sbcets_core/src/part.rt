@@ -1,6 +1,7 @@
 //! From tokens to a program: the part of C that is compiled so far, `int main(void){ putchar(N); .. return N; }`.
 ghost use Rattle.std.specs.Prelude.{◌≡◌, ◌≤◌, ◌++◌, length, OnOk, IfOk};
-ghost use Rattle.sbcets_core.specs.Part.{after_word, statement_step, is_name, number_of, is_int, is_void, is_return, is_open, is_close, is_begin, is_end, is_semicolon, put_by, place_after};
+ghost use Rattle.sbcets_core.specs.Part.{after_word, statement_step, is_name, number_of, is_int, is_void, is_return};
+ghost use Rattle.sbcets_core.specs.Part.{is_open, is_close, is_begin, is_end, is_semicolon, put_by, place_after};
 ghost use Rattle.sbcets_core.specs.Parting.{Parts};
 
 use crate::program::Program;
@@ -54,7 +55,8 @@ pub enum Step {
 /// Why tokens were not read as a program.
 #[derive(Clone, Copy, Debug, PartialEq, Eq)]
 pub enum PartError {
-    /// The tokens up to and with that of this number, from 0, begin no text of the part. It is the number of tokens where the
+    /// The tokens up to and with that of this number, from 0, begin no text of the part. It is the number of tokens
+    /// where the
     /// text ends too early.
     Unfit(usize),
     /// There was no memory for the program.

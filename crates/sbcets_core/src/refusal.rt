@@ -57,14 +57,19 @@ pub enum SourceRefusal {
     /// The first fault of a directive or a macro.
     #[error("a directive of the source is at fault")]
     Pre(PreFault),
-    /// The first of the expanded tokens that is of no part of C that is compiled: `float`, `double`, `_Bool`, `_Complex`,
-    /// `_Imaginary`, `volatile`, `restrict`, `goto`, `...` or a wide literal (the word `L`). Or, in a source without such a
-    /// word that has a tree, the first with which the tokens so far begin no text of the part; no word, and the line of the
-    /// end, where the text ends too early. (A text of the part that ends too early has no tree, so the last does not come;
+    /// The first of the expanded tokens that is of no part of C that is compiled: `float`, `double`, `_Bool`,
+    /// `_Complex`,
+    /// `_Imaginary`, `volatile`, `restrict`, `goto`, `...` or a wide literal (the word `L`). Or, in a source without
+    /// such a
+    /// word that has a tree, the first with which the tokens so far begin no text of the part; no word, and the line of
+    /// the
+    /// end, where the text ends too early. (A text of the part that ends too early has no tree, so the last does not
+    /// come;
     /// no clause says so.)
     #[error("the source is not of the part that is compiled")]
     Unsupported(RefusedWord, Line),
-    /// No well-formed tree of at most 200 levels has the expanded tokens (C99 6.5 to 6.9), and those up to the one where the
+    /// No well-formed tree of at most 200 levels has the expanded tokens (C99 6.5 to 6.9), and those up to the one
+    /// where the
     /// parser stood open at most 200 of `(`, `[` and `{` more than they close.
     #[error("the source is no text of the grammar")]
     Syntax {

@@ -3,7 +3,9 @@ ghost use Rattle.std.specs.Prelude.{◌≡◌, ◌<◌, ◌≤◌, ◌++◌, [],
 ghost use Rattle.std.specs.List.{prefix_len};
 ghost use Rattle.sb_outside.specs.Content.{gained, GainsPart};
 ghost use Rattle.sb_outside.specs.Faults.{CountsFaults};
-ghost use Rattle.sbcets_core.specs.Outcomes.{HasLine, tool_line, refusal_line, trap_name, line_of, plain_line, numbered_line, hexadecimal, sixteen_digits, zeros_in_front, digit_at, hexadecimal_digit};
+ghost use Rattle.sbcets_core.specs.Outcomes.{HasLine, tool_line, refusal_line, trap_name, line_of, plain_line};
+ghost use Rattle.sbcets_core.specs.Outcomes.{numbered_line, hexadecimal, sixteen_digits, zeros_in_front, digit_at};
+ghost use Rattle.sbcets_core.specs.Outcomes.{hexadecimal_digit};
 
 use crate::outcome::{Outcome, ReadFault};
 use crate::refusal::{Counted, SourceRefusal};
@@ -66,7 +68,8 @@ fn report_refusal<S: Sink>(sink: &mut S, refusal: &SourceRefusal) -> Result<(), 
 
 fn report_fault<S: Sink>(sink: &mut S, fault: PreFault) -> Result<(), Failed>
     ensures ok { OnOk result (S.taken sink.new ≡ gained (S.taken sink.old) (refusal_line (SourceRefusal.Pre fault))) }
-    ensures err { OnErr result (GainsPart (S.taken sink.old) (S.taken sink.new) (refusal_line (SourceRefusal.Pre fault))) }
+    ensures err { OnErr result
+        (GainsPart (S.taken sink.old) (S.taken sink.new) (refusal_line (SourceRefusal.Pre fault))) }
     ensures cause { CountsFaults (S.faults sink.old) (S.faults sink.new) result }
 {
     let mut kind = Buffer::new();
@@ -77,8 +80,10 @@ fn report_fault<S: Sink>(sink: &mut S, fault: PreFault) -> Result<(), Failed>
 }
 
 fn report_word<S: Sink>(sink: &mut S, word: &[u8], line: Line) -> Result<(), Failed>
-    ensures ok { OnOk result (S.taken sink.new ≡ gained (S.taken sink.old) (refusal_line (SourceRefusal.Unsupported word.now line))) }
-    ensures err { OnErr result (GainsPart (S.taken sink.old) (S.taken sink.new) (refusal_line (SourceRefusal.Unsupported word.now line))) }
+    ensures ok { OnOk result
+        (S.taken sink.new ≡ gained (S.taken sink.old) (refusal_line (SourceRefusal.Unsupported word.now line))) }
+    ensures err { OnErr result
+        (GainsPart (S.taken sink.old) (S.taken sink.new) (refusal_line (SourceRefusal.Unsupported word.now line))) }
     ensures cause { CountsFaults (S.faults sink.old) (S.faults sink.new) result }
 {
     let mut digits = Buffer::new();
@@ -128,8 +133,10 @@ fn put_numbered<S: Sink>(
     number: u64,
     behind: &[u8],
 ) -> Result<(), Failed>
-    ensures ok { OnOk result (S.taken sink.new ≡ gained (S.taken sink.old) (numbered_line front.now number behind.now)) }
-    ensures err { OnErr result (GainsPart (S.taken sink.old) (S.taken sink.new) (numbered_line front.now number behind.now)) }
+    ensures ok { OnOk result
+        (S.taken sink.new ≡ gained (S.taken sink.old) (numbered_line front.now number behind.now)) }
+    ensures err { OnErr result
+        (GainsPart (S.taken sink.old) (S.taken sink.new) (numbered_line front.now number behind.now)) }
     ensures cause { CountsFaults (S.faults sink.old) (S.faults sink.new) result }
 {
     let mut buffer = Buffer::new();

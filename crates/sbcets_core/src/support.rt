@@ -10,13 +10,15 @@ use crate::refusal::{RefusedWord, SourceRefusal};
 use c_lexer::{Tokens, Word};
 use std::alloc::Global;
 
-/// The program of the expanded tokens, where they are a text of the part. Unsupported is the first token with which the tokens
+/// The program of the expanded tokens, where they are a text of the part. Unsupported is the first token with which the
+/// tokens
 /// so far begin none, or the end of the text.
 #[tactic(auto, using(crate::proofs::Judging::part_refused))]
 pub fn part_of(alloc: Global, tokens: &Tokens) -> Result<Program, SourceRefusal>
     requires { length tokens.now.tokens ≤ 1048576 }
     ensures ok { IfOk result (λ program. program_of tokens.now.tokens ≡ Ok program) }
-    ensures err { IfErr result (λ refusal. UnlessMemory refusal (of_part tokens.now.end (program_of tokens.now.tokens) ≡ Err refusal)) }
+    ensures err { IfErr result
+        (λ refusal. UnlessMemory refusal (of_part tokens.now.end (program_of tokens.now.tokens) ≡ Err refusal)) }
 {
     match program_of(alloc, tokens.as_slice()) {
         Ok(program) => Ok(program),

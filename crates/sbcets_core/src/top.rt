@@ -21,7 +21,8 @@ use std::alloc::Global;
 /// Usage comes exactly for words that are no command or whose budgets are out of range; then ReadFault
 /// where the file is not read or too long; then Refused or ImageRefused, exactly where the source or the
 /// image is; then WriteFault where IMAGE is not written. A run ends with Exited, Limit or Trap as the
-/// machine does, or with InputFault or WriteFault where a stream fails; `go` never with Trap. A fault of the outside comes only
+/// machine does, or with InputFault or WriteFault where a stream fails; `go` never with Trap. A fault of the outside
+/// comes only
 /// where its count rose, and want of memory may come before anything is written or run.
 #[tactic(auto, using(crate::proofs::Answering::answers, crate::proofs::Complete::complete))]
 pub fn sbcets<F: Files, I: Source, O: Sink, E: Sink>(
@@ -35,12 +36,16 @@ pub fn sbcets<F: Files, I: Source, O: Sink, E: Sink>(
     // What was done, and then the line of its outcome, or a part of the line; and which counts of faults rose.
     ensures answer { Answers (commanded words.now) result.0 result.1.items
         (record {
-          outside = outside_of (F.held files.old) (F.writes files.old) (I.rest input.old) (O.taken output.old) (E.taken errors.old);
-          counts = counts_of (F.read_faults files.old) (F.write_faults files.old) (I.faults input.old) (O.faults output.old) (E.faults errors.old);
+          outside = outside_of (F.held files.old) (F.writes files.old) (I.rest input.old)
+              (O.taken output.old) (E.taken errors.old);
+          counts = counts_of (F.read_faults files.old) (F.write_faults files.old) (I.faults input.old)
+              (O.faults output.old) (E.faults errors.old);
         })
         (record {
-          outside = outside_of (F.held files.new) (F.writes files.new) (I.rest input.new) (O.taken output.new) (E.taken errors.new);
-          counts = counts_of (F.read_faults files.new) (F.write_faults files.new) (I.faults input.new) (O.faults output.new) (E.faults errors.new);
+          outside = outside_of (F.held files.new) (F.writes files.new) (I.rest input.new)
+              (O.taken output.new) (E.taken errors.new);
+          counts = counts_of (F.read_faults files.new) (F.write_faults files.new) (I.faults input.new)
+              (O.faults output.new) (E.faults errors.new);
         }) }
 
     // An accepted source is built and runs, and a readable image runs, where nothing fails and memory is there.
@@ -51,9 +56,11 @@ pub fn sbcets<F: Files, I: Source, O: Sink, E: Sink>(
     (answer, image)
 }
 
-/// Leaves the tool's own line of an outcome, where it has one. `WriteFault` comes in its place where the line cannot be written.
+/// Leaves the tool's own line of an outcome, where it has one. `WriteFault` comes in its place where the line cannot be
+/// written.
 pub fn finish<E: Sink>(errors: &mut E, outcome: Outcome) -> Outcome
-    ensures { Finishes outcome result (E.taken errors.old) (E.taken errors.new) (E.faults errors.old) (E.faults errors.new) }
+    ensures { Finishes outcome result (E.taken errors.old) (E.taken errors.new) (E.faults errors.old)
+        (E.faults errors.new) }
 {
     match report(errors, &outcome) {
         Ok(()) => outcome,
@@ -71,11 +78,15 @@ fn do_command<F: Files, I: Source, O: Sink, E: Sink>(
     errors: &mut E,
 ) -> (Outcome, Vec<u8>)
     ensures does { Does (commanded words.now) result.0 result.1.items
-        (outside_of (F.held files.old) (F.writes files.old) (I.rest input.old) (O.taken output.old) (E.taken errors.old))
-        (outside_of (F.held files.new) (F.writes files.new) (I.rest input.new) (O.taken output.new) (E.taken errors.new)) }
+        (outside_of (F.held files.old) (F.writes files.old) (I.rest input.old)
+        (O.taken output.old) (E.taken errors.old))
+        (outside_of (F.held files.new) (F.writes files.new) (I.rest input.new)
+        (O.taken output.new) (E.taken errors.new)) }
     ensures counts { CommandCounts result.0
-        (counts_of (F.read_faults files.old) (F.write_faults files.old) (I.faults input.old) (O.faults output.old) (E.faults errors.old))
-        (counts_of (F.read_faults files.new) (F.write_faults files.new) (I.faults input.new) (O.faults output.new) (E.faults errors.new)) }
+        (counts_of (F.read_faults files.old) (F.write_faults files.old) (I.faults input.old)
+        (O.faults output.old) (E.faults errors.old))
+        (counts_of (F.read_faults files.new) (F.write_faults files.new) (I.faults input.new)
+        (O.faults output.new) (E.faults errors.new)) }
 {
     match command(alloc, words) {
         Ok(Command::Build { source, image, .. }) => {

@@ -4,7 +4,8 @@ use Rattle.sbcets_core.proofs.Theorem.{pieces_fit, faithful_image}
 use Rattle.sbcets_core.proofs.generator.image_of.Goals as goal
 
 pub write-requires : goal.write-requires
-write-requires c = subst SegmentsFit (sym c.in_ok-parts.ensures.value) (pieces_fit c.args.program.now c.in_ok-parts.ensures.few)
+write-requires c = subst SegmentsFit (sym c.in_ok-parts.ensures.value)
+    (pieces_fit c.args.program.now c.in_ok-parts.ensures.few)
 
 pub returns : goal.returns
 returns c =

@@ -21,7 +21,7 @@ follows_trans c d x y z f g = record {
   at = λ n. let a = f.at n in let b = g.at a.0 in (b.0, meets_trans c d (x n) (y a.0) (z b.0) a.1 b.1);
 }
 
-running_or_ended : (o : Option End) → (o ≡ None) ⊎ ((e : End) × (o ≡ Some e))
+pub running_or_ended : (o : Option End) → (o ≡ None) ⊎ ((e : End) × (o ≡ Some e))
 running_or_ended None = inl refl
 running_or_ended (Some e) = inr (e, refl)
 

@@ -3,7 +3,11 @@
 //! The meaning of a source, of every language between, and of the machine are behaviours, so each
 //! pass of the compiler has one statement, and the statements compose. The definitions stand in
 //! `specs/`. The functions of this crate do nothing: each has a law of the definitions as its
-//! contract.
+//! contract. Laws over all step functions speak of all types and relations, which no contract can:
+//! they are the public lemmas of `proofs/Running.antt`, for the proofs of the crates above. A
+//! simulation gives for each moment of the one run a moment of the other that matches it
+//! (`matched`), and so that the other follows it (`follows_by_steps`); and what follows a source is
+//! never stuck (`never_stuck`).
 #![tactic(auto)]
 
 ghost use Rattle.std.specs.Prelude.{◌≡◌, ◌*◌, ◌≤◌, ℕ, List, [], None, Some};

@@ -1,0 +1,6 @@
+pub mod Stage
+pub mod Keys
+pub mod Accesses
+pub mod Costs
+pub mod Meaning
+pub mod Edges

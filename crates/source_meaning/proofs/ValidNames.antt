@@ -214,7 +214,7 @@ no_more : (n m : ℕ) → (n == m) ≡ true → n ≤ m
 no_more n m e = let same = eqb-true n m e in omega arith
 
 mutual
-  writable : (p : Lvalue) → is_lvalue p ≡ true → IsWritable (basis_of p)
+  pub writable : (p : Lvalue) → is_lvalue p ≡ true → IsWritable (basis_of p)
   writable (lvalue kind line node) e = node_writable node e
 
   node_writable : (n : LvalueNode) → is_lvalue_node n ≡ true → IsWritable (node_basis n)

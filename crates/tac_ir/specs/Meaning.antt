@@ -59,15 +59,19 @@ abbrev pub blocks_in : Option CodeFunction → List (List ℕ)
 blocks_in None = []
 blocks_in (Some c) = c.blocks
 
+abbrev pub if_there : Option (List ℕ) → List ℕ
+if_there None = []
+if_there (Some ns) = ns
+
 -- the variables of a function, of which those alone are objects that one of its blocks declares
 abbrev pub objects_in : Option CodeFunction → (block : ℕ) → List Variable
-objects_in c b = block_objects (variables_in c) (get_or (blocks_in c) b [])
+objects_in c b = block_objects (variables_in c) (if_there (slice_get (blocks_in c) b))
 
 abbrev pub function_in : Tac → ℕ → Option CodeFunction
 function_in t u = slice_get t.functions u
 
 abbrev pub text_in : Tac → ℕ → List ℕ
-text_in t n = get_or t.texts n []
+text_in t n = if_there (slice_get t.texts n)
 
 -- an access with a key is stuck unless the key gives its pointer
 abbrev pub keyed_by : Option Key → State → Value → Stage → Stage

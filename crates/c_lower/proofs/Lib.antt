@@ -1,0 +1,5 @@
+pub mod Comes
+pub mod KeyValues
+pub mod KeyStays
+pub mod Accesses
+pub mod Values

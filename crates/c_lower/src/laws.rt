@@ -1,0 +1,3 @@
+//! Laws.
+
+ghost use Rattle.c_lower.specs.Programs.{IsLowered};

@@ -3,3 +3,4 @@ pub mod KeyValues
 pub mod KeyStays
 pub mod Accesses
 pub mod Values
+pub mod Flow

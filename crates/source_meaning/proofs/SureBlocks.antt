@@ -209,7 +209,7 @@ module _ (base : Scope) (boundary : ℕ) (all vars : List Variable) (numbers : L
 
   -- a block without objects
 
-  good_inside : (s : State) → has_objects own ≡ false → IsGood sc s → IsGood inner s
+  pub good_inside : (s : State) → has_objects own ≡ false → IsGood sc s → IsGood inner s
   good_inside s none good = record {
     kept = good.kept;
     low = good.low;

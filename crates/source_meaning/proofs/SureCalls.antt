@@ -122,7 +122,7 @@ pub record IsSetUp (sc : Context) (old : Objects) (s' : State) : Type 0 where
   pub new : AllFrom (length old) s'.frame
   pub ends : EndsBut old s'.objects s'.frame
 
-abbrev SetsUpBy : Context → Objects → Outcome (Unit {0}) → Type 0
+abbrev pub SetsUpBy : Context → Objects → Outcome (Unit {0}) → Type 0
 SetsUpBy sc old (Gives a s') = IsSetUp sc old s'
 SetsUpBy sc old (Ended e s') = Stops old s'
 SetsUpBy sc old (Paused s') = Stops old s'
@@ -182,7 +182,7 @@ module _ (u : ProgramNames) (f : Function) (names : FunctionNames u f) (g : Sett
     }
     tested s good tagged (Paused s1) h = absurd h
 
-    set_up_by : (s : State) → IsGood outer s → ArgumentsAre (kinds_in f.parameters) vs s.objects → SetsUpBy inner s.objects (set_up g head vs line s)
+    pub set_up_by : (s : State) → IsGood outer s → ArgumentsAre (kinds_in f.parameters) vs s.objects → SetsUpBy inner s.objects (set_up g head vs line s)
     set_up_by s good tagged =
         let s1 : State = record s { work = s.work + 1 } in
         tested s1 good tagged (call_tests g head line s1) (tests_pass g head line s1)

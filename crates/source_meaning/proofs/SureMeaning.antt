@@ -40,11 +40,11 @@ use Rattle.source_meaning.proofs.SureBytes.{sure_print}
 
 -- calls
 
-abbrev NamesFound : ProgramNames → Option Function → Type 0
+abbrev pub NamesFound : ProgramNames → Option Function → Type 0
 NamesFound u None = Unit {0}
 NamesFound u (Some f) = FunctionNames u f
 
-found_names : (u : ProgramNames) (fs : List Function) → FunctionsName u fs → (f : ℕ) → NamesFound u (function_at fs f)
+pub found_names : (u : ProgramNames) (fs : List Function) → FunctionsName u fs → (f : ℕ) → NamesFound u (function_at fs f)
 found_names u [] h f = tt
 found_names u (x ∷ xs) h zero = h.0
 found_names u (x ∷ xs) h (suc f) = found_names u xs h.1 f
@@ -65,10 +65,10 @@ typed_found types (x ∷ xs) zero type e = ap (signature_in types) (eqb-true x.t
 typed_found types (x ∷ xs) (suc f) type e = typed_found types xs f type e
 
 -- the boundary is where the heap begins
-stack_below : (g : Setting) → AreMapped g.sizes → stack_end g ≤ heap_first g
+pub stack_below : (g : Setting) → AreMapped g.sizes → stack_end g ≤ heap_first g
 stack_below g mapped = in_order g.sizes mapped StackRegion HeapRegion (omega arith)
 
-heap_low : (g : Setting) → AreMapped g.sizes → heap_first g ≤ 1610612736
+pub heap_low : (g : Setting) → AreMapped g.sizes → heap_first g ≤ 1610612736
 heap_low g mapped = let low = ends_low g.sizes mapped HeapRegion in omega (arith, low)
 
 -- the functions of a program in its setting
@@ -82,7 +82,7 @@ module _ (u : ProgramNames) (functions : List Function) (names : FunctionsName u
   CallsSure n = (sc : Context) → sc.scope.statics ≡ u.statics → sc.boundary ≡ heap_first g → (f : ℕ) (vs : List Rvalue) (line : ℕ)
       → Sure sc (ArgumentsAre (signature_in u.functions f).parameters vs) (calls functions g limit n f vs line) (ArgumentIs (signature_in u.functions f).result)
 
-  typed : (f type : ℕ) → has_type (header_at g.functions f) type ≡ true → signature_in u.functions f ≡ signature_in u.types type
+  pub typed : (f type : ℕ) → has_type (header_at g.functions f) type ≡ true → signature_in u.functions f ≡ signature_in u.types type
   typed f type e =
       ap (λ l. signature_in l f) of.signatures ∙ typed_found u.types functions f type (subst (λ hs. has_type (header_at hs f) type ≡ true) of.headers e)
 
@@ -167,7 +167,7 @@ placed_held first (o ∷ os) offset (suc n) kind e =
 
 -- their initializers
 
-abbrev static_context : ProgramNames → Setting → Context
+abbrev pub static_context : ProgramNames → Setting → Context
 static_context u g = record { scope = file_scope u; boundary = heap_first g }
 
 pause_calls : (g : Setting) → AreMapped g.sizes → (sc : Context) → sc.boundary ≤ heap_first g
@@ -198,7 +198,7 @@ module _ (g : Setting) (mapped : AreMapped g.sizes) (u : ProgramNames) (typed : 
       sure_on (part_stored p o (name_variables o.parts) refl names.0) (λ _.
       store_sure (n + 1) os (rest_kinds n o os from) names.1))
 
-abbrev GoodStart : ProgramNames → Setting → (input : List ℕ) → Objects → Type 0
+abbrev pub GoodStart : ProgramNames → Setting → (input : List ℕ) → Objects → Type 0
 GoodStart u g input objects = IsGood (static_context u g) (fresh g objects input)
 
 -- a good state at which nothing has been done, with these objects
@@ -274,10 +274,10 @@ module _ (p : Program) (budgets : BudgetSizes) (mapped : AreMapped (setting_of p
   results_of (t ∷ ts) zero = refl
   results_of (t ∷ ts) (suc type) = results_of ts type
 
-  is_setting : IsSettingOf (names_of p) p.functions (setting_of p budgets)
+  pub is_setting : IsSettingOf (names_of p) p.functions (setting_of p budgets)
   is_setting = record { headers = refl; signatures = refl; results = results_of p.function_types }
 
-  typed_start : (f type : ℕ) → has_type (header_at (setting_of p budgets).functions f) type ≡ true → signature_in (names_of p).functions f ≡ signature_in (names_of p).types type
+  pub typed_start : (f type : ℕ) → has_type (header_at (setting_of p budgets).functions f) type ≡ true → signature_in (names_of p).functions f ≡ signature_in (names_of p).types type
   typed_start f type e = typed_found (names_of p).types p.functions f type e
 
   abbrev placed : Objects

@@ -4,3 +4,4 @@ pub mod KeyStays
 pub mod Accesses
 pub mod Values
 pub mod Flow
+pub mod Statements

@@ -203,7 +203,7 @@ two_left_by : (b : Bool) → 2 ≤ left_by b
 two_left_by true = omega arith
 two_left_by false = omega arith
 
-two_left : (e : Expression) → 2 ≤ left e
+pub two_left : (e : Expression) → 2 ≤ left e
 two_left e = two_left_by (is_converted e)
 
 three_left : (e : Expression) → is_converted e ≡ false → 3 ≤ left e
@@ -215,10 +215,10 @@ pointer_contents a is x objects h = plain_contents (kind_of a) x objects (none_l
 lvalue_contents : (p : Lvalue) → is_lvalue p ≡ true → (q : Rvalue) (objects : Objects) → LvalueIs (basis_of p) (lvalue_kind p) q objects → q ≡ rvalue q.value
 lvalue_contents p is q objects h = reach_contents (basis_of p) (writable p is) (size_of_kind (lvalue_kind p)) q objects h.reach
 
-text_at : (t : Tac) (n : ℕ) (text : List ℕ) → HasAt t.texts n text → text_in t n ≡ text
+pub text_at : (t : Tac) (n : ℕ) (text : List ℕ) → HasAt t.texts n text → text_in t n ≡ text
 text_at t n text h = ap if_there h
 
-false_by : (b : Bool) → not b ≡ true → b ≡ false
+pub false_by : (b : Bool) → not b ≡ true → b ≡ false
 false_by true e = cc
 false_by false e = refl
 
@@ -561,7 +561,7 @@ module _ (t : Tac) (n : ℕ) (env : Env) (sc : Context) (sure : Calling sc env) 
         let v = both (is_valid_lvalue sc.scope p) (is_kind kind (lvalue_kind p)) ok in
         goes_counted (goes_less {b = 15} 7 (omega arith) (goes_frame 8 0 7 (lvalue_runs p d n0 n1 temps k _ tr v.0 good lt)))
 
-    argument_at : (e : Expression) (d n0 j n1 : ℕ) (temps : Temps) (k : ℕ) (s : State) → LowersExpression (placed t u vars) e d n0 j → LowersTaking (placed t u vars) (kind_of e) (line_of e) d j n1 → is_valid sc.scope e ≡ true → IsGood sc s → limit < n + s.turns
+    pub argument_at : (e : Expression) (d n0 j n1 : ℕ) (temps : Temps) (k : ℕ) (s : State) → LowersExpression (placed t u vars) e d n0 j → LowersTaking (placed t u vars) (kind_of e) (line_of e) d j n1 → is_valid sc.scope e ≡ true → IsGood sc s → limit < n + s.turns
         → Goes g t limit 0 1 u frames (λ v. n1) (ValueIn d temps) (Stands u n0 temps frames (at_work k s)) k s (argument (kind_of e) (line_of e) (evaluate env e) s)
     argument_at (expression kind line node) d n0 j n1 temps k s tr take ok good lt =
         goes_sure _ (after (expression kind line node) ok _ good) (goes_less 2 (two_left_by (is_convert node)) (node_runs node kind line d n0 j temps k s tr ok good lt)) (λ v s1 t1 k1 p1 le1 is1 lv1 w1.

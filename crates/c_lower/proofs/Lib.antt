@@ -5,3 +5,4 @@ pub mod Accesses
 pub mod Values
 pub mod Flow
 pub mod Statements
+pub mod Programs

@@ -50,11 +50,11 @@ found_names u (x ∷ xs) h zero = h.0
 found_names u (x ∷ xs) h (suc f) = found_names u xs h.1 f
 
 -- the signature of a function is that of its type
-abbrev SignatureIs : List Signature → Signature → Option Function → Type 0
+abbrev pub SignatureIs : List Signature → Signature → Option Function → Type 0
 SignatureIs types q None = Unit {0}
 SignatureIs types q (Some f) = q ≡ signature_in types f.type_number
 
-signature_found : (types : List Signature) (fs : List Function) (f : ℕ) → SignatureIs types (signature_in (function_signatures types fs) f) (function_at fs f)
+pub signature_found : (types : List Signature) (fs : List Function) (f : ℕ) → SignatureIs types (signature_in (function_signatures types fs) f) (function_at fs f)
 signature_found types [] f = tt
 signature_found types (x ∷ xs) zero = refl
 signature_found types (x ∷ xs) (suc f) = signature_found types xs f

@@ -50,7 +50,7 @@ same_tags (OfObject o b) =
     ap (λ q. q && (b.base == b.base && b.bound == b.bound)) (eq-eqb o o refl)
     ∙ ap (λ q. q && b.bound == b.bound) (eq-eqb b.base b.base refl) ∙ eq-eqb b.bound b.bound refl
 
-right_gives : (key : Key) (s : State) (v : Value) → Right key s v → gives key s v ≡ true
+pub right_gives : (key : Key) (s : State) (v : Value) → Right key s v → gives key s v ≡ true
 right_gives key s v h =
     ap (λ q. q && same_tag v.tag (key_tag key s)) (eq-eqb _ _ h.word)
     ∙ ap (λ t. same_tag v.tag t) (sym h.tag) ∙ same_tags v.tag

@@ -6,3 +6,4 @@ pub mod Values
 pub mod Flow
 pub mod Statements
 pub mod Programs
+pub mod Homes

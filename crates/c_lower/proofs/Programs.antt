@@ -38,10 +38,12 @@ use Rattle.source_meaning.proofs.ValidProgramNames.{valid_names}
 use Rattle.tac_ir.specs.declared.instruction.Instruction.TheVariants as tac
 use Rattle.tac_ir.specs.declared.function.CodeFunction.{CodeFunction}
 use Rattle.tac_ir.specs.declared.function.Tac.{Tac}
-use Rattle.tac_ir.specs.Stage.{Temps, no_temps, with_temp, Frame, Waits, Stage, Begins, Stands, Over, came, seen}
+use Rattle.source_meaning.proofs.LimitLaw.{is_source}
+use Rattle.tac_ir.proofs.Turns.{follower_never_stuck}
+use Rattle.tac_ir.specs.Stage.{Temps, no_temps, with_temp, Frame, Waits, Stage, Begins, Stands, Over, Stuck, came, seen}
 use Rattle.tac_ir.specs.Meaning.{code_of, keys_of, variables_in, blocks_in, function_in, at_node, header_of_code, setting_of_code, begun, called_at, called, given_to, act_at, line_in, objects_before, step, first_stage, tac_meaning}
 use Rattle.c_lower.specs.Statements.{Exits}
-use Rattle.c_lower.specs.Programs.{function_exits, LowersBody, LowersFunction, result_in, LowersAt, IsLowered}
+use Rattle.c_lower.specs.Programs.{function_exits, LowersBody, LowersFunction, result_in, height_in, LowersAt, IsLowered}
 use Rattle.c_lower.proofs.Comes.{Reached, Goes, goes_counted, reached_from}
 use Rattle.c_lower.proofs.Values.{loops_in, placed, put_same, Called, Calls, CallsRun}
 use Rattle.c_lower.proofs.Flow.{exit_of, LeftBy, AllSized, sized_opened}
@@ -180,7 +182,7 @@ module _ (g : Setting) (t : Tac) (limit : ℕ) (q : Caller) (frames : List Frame
   end_goes result f end ret x k s (Paused s') he hr h =
       let b = h.by in let r = b.3 in (b.0, b.1, b.2, record { steps = r.steps; comes = r.comes; turns = r.turns; work = omega (arith, r.work) }, b.4)
 
-module _ (p : Program) (budgets : BudgetSizes) (mapped : AreMapped (setting_of p budgets).sizes) (valid : is_valid_program p ≡ true) (t : Tac) (limit : ℕ) (lowers : (f : ℕ) → LowersAt t.texts (result_in (setting_of p budgets).results (function_at p.functions f)) (function_at p.functions f) (function_in t f)) where
+module _ (p : Program) (budgets : BudgetSizes) (mapped : AreMapped (setting_of p budgets).sizes) (valid : is_valid_program p ≡ true) (t : Tac) (limit : ℕ) (lowers : (f : ℕ) → LowersAt t.texts (result_in (setting_of p budgets).results (function_at p.functions f)) (height_in p.statics f (function_at p.functions f)) (function_at p.functions f) (function_in t f)) where
   abbrev g : Setting
   g = setting_of p budgets
 
@@ -191,7 +193,7 @@ module _ (p : Program) (budgets : BudgetSizes) (mapped : AreMapped (setting_of p
   AllCallsRun n = (sc : Context) → sc.scope.statics ≡ u.statics → sc.scope.functions ≡ u.functions → sc.boundary ≡ heap_first g → CallsRun g t limit sc (calls p.functions g limit n) n
 
   -- a call whose turn has begun
-  begun_runs : (n f : ℕ) (fn : Function) (c : CodeFunction) (vs : List Rvalue) (line : ℕ) (frames : List Frame) (k : ℕ) (s : State) → AllCallsRun n → function_in t f ≡ Some c → LowersFunction t.texts (result_of g fn.type_number) fn c → FunctionNames u fn → IsValidFunction p fn → (sc : Context) → sc.scope.statics ≡ u.statics → sc.boundary ≡ heap_first g → IsGood sc s → ArgumentsAre (kinds_in fn.parameters) vs s.objects → limit < n + s.turns
+  begun_runs : (n f : ℕ) (fn : Function) (c : CodeFunction) (vs : List Rvalue) (line : ℕ) (frames : List Frame) (k : ℕ) (s : State) → AllCallsRun n → function_in t f ≡ Some c → LowersFunction t.texts (result_of g fn.type_number) (height_in p.statics f (Some fn)) fn c → FunctionNames u fn → IsValidFunction p fn → (sc : Context) → sc.scope.statics ≡ u.statics → sc.boundary ≡ heap_first g → IsGood sc s → ArgumentsAre (kinds_in fn.parameters) vs s.objects → limit < n + s.turns
       → Called g t limit 0 (caller s) frames (came (set_up g (header_of_code c) vs line (at_work k s)) (λ _ z. Stands f c.entry no_temps frames z)) k s (enter_begun (env_of p.functions g limit n (all_of fn)) fn vs line s)
   begun_runs n f fn c vs line frames k s callers is low named ok sc same level good arguments lt =
       let q = caller s in
@@ -214,7 +216,7 @@ module _ (p : Program) (budgets : BudgetSizes) (mapped : AreMapped (setting_of p
       (statements_run t n env refl base (heap_first g) inside (λ vs. callers (context_of base (heap_first g) (all_of fn) vs) refl refl refl) (λ y e. expression_stays p.functions g limit n (all_of fn) y e) f variables ok.sized
       (fn.parameters ++ body_variables fn) frames outside_loops fn.body c.entry _ no_temps k2 s3 (sized_body fn ok.sized) b.2 ok.body up.good (omega (arith, e2, lt))))))
 
-  call_by : (c0 n f : ℕ) (vs : List Rvalue) (line : ℕ) (frames : List Frame) (x : Stage) (k : ℕ) (s : State) (of : Option Function) (oc : Option CodeFunction) → AllCallsRun n → step g t x ≡ called_at g oc f vs line frames (at_work (k + c0) s) → seen x ≡ moment_at (at_work k s) [] None → function_in t f ≡ oc → LowersAt t.texts (result_in g.results of) of oc → NamesFound u of → ValidIf p of
+  call_by : (c0 n f : ℕ) (vs : List Rvalue) (line : ℕ) (frames : List Frame) (x : Stage) (k : ℕ) (s : State) (of : Option Function) (oc : Option CodeFunction) → AllCallsRun n → step g t x ≡ called_at g oc f vs line frames (at_work (k + c0) s) → seen x ≡ moment_at (at_work k s) [] None → function_in t f ≡ oc → LowersAt t.texts (result_in g.results of) (height_in p.statics f of) of oc → NamesFound u of → ValidIf p of
       → (q : Signature) → SignatureIs u.types q of → ArgumentsAre q.parameters vs s.objects → (sc : Context) → sc.scope.statics ≡ u.statics → sc.boundary ≡ heap_first g → IsGood sc s → limit < suc n + s.turns
       → Called g t limit c0 (caller s) frames x k s (enter_found (env_of p.functions g limit n []) of vs line s)
   call_by c0 n f vs line frames x k s None None callers e now is low named ok q signature arguments sc same level good lt = (k + c0, record { steps = 1; comes = e; turns = omega arith; work = omega arith })
@@ -264,13 +266,13 @@ module _ (g : Setting) (t : Tac) (limit : ℕ) where
         work = let a = ap (λ x. (seen x).work) r.comes in let b = ap (λ x. x.work) h.2 in omega (arith, r.work);
       })
 
-line_is : (texts : List (List ℕ)) (result : Kind) (of : Option Function) (oc : Option CodeFunction) → LowersAt texts result of oc → line_in oc ≡ line_of of
-line_is texts result None None h = refl
-line_is texts result None (Some c) h = absurd h
-line_is texts result (Some f) None h = absurd h
-line_is texts result (Some f) (Some c) h = ap (λ (x : Header). x.line) h.header
+line_is : (texts : List (List ℕ)) (result : Kind) (height : ℕ) (of : Option Function) (oc : Option CodeFunction) → LowersAt texts result height of oc → line_in oc ≡ line_of of
+line_is texts result height None None h = refl
+line_is texts result height None (Some c) h = absurd h
+line_is texts result height (Some f) None h = absurd h
+line_is texts result height (Some f) (Some c) h = ap (λ (x : Header). x.line) h.header
 
-module _ (p : Program) (budgets : BudgetSizes) (mapped : AreMapped (setting_of p budgets).sizes) (valid : is_valid_program p ≡ true) (t : Tac) (lowers : (f : ℕ) → LowersAt t.texts (result_in (setting_of p budgets).results (function_at p.functions f)) (function_at p.functions f) (function_in t f)) (input : List ℕ) (main : t.main ≡ p.main) where
+module _ (p : Program) (budgets : BudgetSizes) (mapped : AreMapped (setting_of p budgets).sizes) (valid : is_valid_program p ≡ true) (t : Tac) (lowers : (f : ℕ) → LowersAt t.texts (result_in (setting_of p budgets).results (function_at p.functions f)) (height_in p.statics f (function_at p.functions f)) (function_at p.functions f) (function_in t f)) (input : List ℕ) (main : t.main ≡ p.main) where
   abbrev first : State
   first = fresh (setting_of p budgets) (initial_objects p (setting_of p budgets)) input
 
@@ -281,7 +283,7 @@ module _ (p : Program) (budgets : BudgetSizes) (mapped : AreMapped (setting_of p
   started limit =
       let names = valid_names p valid in
       calls_run p budgets mapped valid t limit lowers (limit + 1) (static_context (names_of p) (setting_of p budgets)) refl refl refl 0 t.main [] (line_of (function_at p.functions t.main)) [] (Begins first) 0 first
-      (record { steps = ap (λ l. called (setting_of p budgets) t t.main [] l [] first) (line_is t.texts _ (function_at p.functions t.main) (function_in t t.main) (lowers t.main)); seen_now = refl })
+      (record { steps = ap (λ l. called (setting_of p budgets) t t.main [] l [] first) (line_is t.texts _ _ (function_at p.functions t.main) (function_in t t.main) (lowers t.main)); seen_now = refl })
       (start_good p budgets mapped names input)
       (subst (λ m. ArgumentsAre (signature_in (names_of p).functions m).parameters [] first.objects) (sym main) (subst (λ ks. ArgumentsAre ks [] first.objects) (sym names.main) tt)) (omega arith)
 
@@ -295,8 +297,8 @@ module _ (p : Program) (t : Tac) (h : IsLowered p t) where
       ∙ ap (λ rs. record { functions = map header_of p.functions; results = rs; sizes = record { budgets = budgets; global_bytes = t.global_bytes } }) h.results
       ∙ ap (λ n. record { functions = map header_of p.functions; results = (setting_of p budgets).results; sizes = record { budgets = budgets; global_bytes = n } }) h.bytes
 
-  functions_lower : (budgets : BudgetSizes) (f : ℕ) → LowersAt t.texts (result_in (setting_of p budgets).results (function_at p.functions f)) (function_at p.functions f) (function_in t f)
-  functions_lower budgets f = subst (λ rs. LowersAt t.texts (result_in rs (function_at p.functions f)) (function_at p.functions f) (function_in t f)) h.results (h.functions f)
+  functions_lower : (budgets : BudgetSizes) (f : ℕ) → LowersAt t.texts (result_in (setting_of p budgets).results (function_at p.functions f)) (height_in p.statics f (function_at p.functions f)) (function_at p.functions f) (function_in t f)
+  functions_lower budgets f = subst (λ rs. LowersAt t.texts (result_in rs (function_at p.functions f)) (height_in p.statics f (function_at p.functions f)) (function_at p.functions f) (function_in t f)) h.results (h.functions f)
 
   pub lower_follows : is_valid_program p ≡ true → (budgets : BudgetSizes) → AreMapped (setting_of p budgets).sizes → (input : List ℕ) → Follows 8 (meaning p budgets input) (tac_meaning t budgets input)
   lower_follows valid budgets mapped input =
@@ -305,3 +307,7 @@ module _ (p : Program) (t : Tac) (h : IsLowered p t) where
       (subst (λ objects. Follows 8 (meaning p budgets input) (seen_after (step g t) seen (Begins (fresh g objects input)))) (sym (h.statics budgets))
       (subst (λ m. Follows 8 (λ limit. moment_of (calls p.functions g limit (limit + 1) m [] (line_of (function_at p.functions m)) (fresh g (initial_objects p g) input))) (seen_after (step g t) seen (Begins (fresh g (initial_objects p g) input)))) h.main
       (follows_from p budgets mapped valid t (functions_lower budgets) input h.main)))
+
+  pub lower_never_stuck : is_valid_program p ≡ true → (budgets : BudgetSizes) → AreMapped (setting_of p budgets).sizes → (input : List ℕ) (k : ℕ) → run (step (setting_of_code t budgets) t) k (first_stage t budgets input) ≡ Stuck → ⊥
+  lower_never_stuck valid budgets mapped input k e =
+      follower_never_stuck t budgets input 8 (meaning p budgets input) (is_source p budgets input) (lower_follows valid budgets mapped input) k e

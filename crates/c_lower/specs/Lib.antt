@@ -4,3 +4,4 @@ pub mod Values
 pub mod Counted
 pub mod Statements
 pub mod Programs
+pub mod Homes

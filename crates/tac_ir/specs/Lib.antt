@@ -4,3 +4,4 @@ pub mod Accesses
 pub mod Costs
 pub mod Meaning
 pub mod Edges
+pub mod Temporaries

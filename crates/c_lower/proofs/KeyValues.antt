@@ -31,6 +31,7 @@ use Rattle.tac_ir.specs.declared.key.Member.{Member}
 use Rattle.tac_ir.specs.declared.key.Key.{Key}
 use Rattle.tac_ir.specs.Stage.{Stage}
 use Rattle.tac_ir.specs.Keys.{base_value, scaled_value, path_tag, key_word, key_tag, same_tag, gives}
+use Rattle.tac_ir.proofs.KeyWork.{word_work, tag_work}
 use Rattle.tac_ir.specs.Accesses.{only_if}
 use Rattle.tac_ir.specs.Meaning.{keyed_by, keyed}
 use Rattle.c_lower.specs.Keys.{constant_fit, constant_unary, constant_binary, constant_choice, constant_of, constant_node, variable_of, variable_node, Index, OfConstant, OfVariable, OfOther, index_by, index_of, base_key, moved_key, scaled_key, key_plus, key_minus, member_key, pointer_key, node_key, place_key, lvalue_key, assigns_base, assigns_scaled, assigns_path, assigns_key, unless, key_after}
@@ -55,29 +56,9 @@ right_gives key s v h =
     ap (λ q. q && same_tag v.tag (key_tag key s)) (eq-eqb _ _ h.word)
     ∙ ap (λ t. same_tag v.tag t) (sym h.tag) ∙ same_tags v.tag
 
-base_work : (b : Base) (k : ℕ) (s : State) → base_value b (at_work k s) ≡ base_value b s
-base_work (Plain x) k s = refl
-base_work (Automatic x) k s = refl
-base_work (Static n) k s = refl
-
-scaled_work : (v : Option Scaled) (k : ℕ) (s : State) → scaled_value v (at_work k s) ≡ scaled_value v s
-scaled_work None k s = refl
-scaled_work (Some v) k s = refl
-
-path_work : (b : Value) (path : List Member) (k : ℕ) (s : State) → path_tag b path (at_work k s) ≡ path_tag b path s
-path_work b [] k s = refl
-path_work b (m ∷ ms) k s =
-    ap (λ n. narrowed_tag ((b.word + (m.constant + n)) % 2 ^ 64) m.size (path_tag b ms (at_work k s))) (scaled_work m.scaled k s)
-    ∙ ap (λ t. narrowed_tag ((b.word + (m.constant + scaled_value m.scaled s)) % 2 ^ 64) m.size t) (path_work b ms k s)
-
 -- the count of work plays no part
 right_work : (key : Key) (k : ℕ) (s : State) (v : Value) → Right key s v → Right key (at_work k s) v
-right_work key k s v h = record {
-  word =
-      h.word ∙ sym (ap (λ (b : Value). (b.word + (key.constant + scaled_value key.scaled (at_work k s))) % 2 ^ 64) (base_work key.base k s)
-      ∙ ap (λ n. ((base_value key.base s).word + (key.constant + n)) % 2 ^ 64) (scaled_work key.scaled k s));
-  tag = h.tag ∙ sym (ap (λ (b : Value). path_tag b key.path (at_work k s)) (base_work key.base k s) ∙ path_work (base_value key.base s) key.path k s);
-}
+right_work key k s v h = record { word = h.word ∙ sym (word_work key k s); tag = h.tag ∙ sym (tag_work key k s) }
 
 -- in the table
 pub key_opens : (keys : List Key) (key : Option ℕ) (ok : Option Key) (s : State) (v : Value) → KeyIs keys key ok → ((k : Key) → ok ≡ Some k → Right k s v) → (k : ℕ) (next : Stage) → keyed keys key (at_work k s) v next ≡ next

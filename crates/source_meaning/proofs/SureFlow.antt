@@ -13,10 +13,9 @@ use Rattle.source_meaning.specs.Statements.{Normal, Broken, Continued, Returned}
 use Rattle.source_meaning.specs.State.{Run, done, pause, choose, change, Env}
 use Rattle.source_meaning.specs.Actions.{integer, begin_turn}
 use Rattle.source_meaning.specs.Statements.{next_after, in_order, holds, perform, perform_first, after_body, turns, turns_before, LabeledRun, run_labeled, is_case_of, is_default, labels_from, items_at, items_from, labels_of, compared, or_default, run_items, after_switch, run_switch, in_block, execute, each_of, items_of}
-use Rattle.source_meaning.proofs.Naming.{NamesIfAny, FirstNames, StatementNames, StatementsName, ItemsName}
+use Rattle.source_meaning.proofs.Naming.{IsNoStructure, NamesIfAny, FirstNames, StatementNames, StatementsName, ItemsName}
 use Rattle.c_tree.specs.declared.program.Variable.{Variable}
 use Rattle.c_tree.specs.declared.expression.Kind.{Kind}
-use Rattle.source_meaning.specs.Keeping.{IsNoStructure}
 use Rattle.source_meaning.specs.Structures.{rvalue}
 use Rattle.c_tree.specs.Blocks.{opened, block_variables, switch_variables, first_variables}
 use Rattle.source_meaning.proofs.SureBlocks.{scoped_sure}

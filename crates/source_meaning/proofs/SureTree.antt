@@ -7,7 +7,6 @@ use Rattle.obj_memory.proofs.Words.{fit_twice, fit_zero}
 use Rattle.obj_memory.proofs.Typed.{truth_stays}
 use Rattle.c_tree.specs.Kinds.{pointer, class_of, are_operands, routine_signature}
 use Rattle.c_tree.specs.Valid.{Scope}
-use Rattle.source_meaning.specs.Keeping.{IsNoStructure}
 use Rattle.source_meaning.proofs.Fitting.{unary_fits, binary_fits}
 use Rattle.source_meaning.proofs.ValidNames.{none_routine}
 use Rattle.obj_memory.specs.declared.value.Tag.{Tag}
@@ -34,7 +33,7 @@ use Rattle.source_meaning.specs.Actions.{integer, is_zero, scalar_of, integer_ty
 use Rattle.source_meaning.specs.Structures.{rvalue, give, as_rvalue, values_of, write_rvalue, read_rvalue, member_of}
 use Rattle.source_meaning.specs.Expressions.{header_at, has_type, callee_by, callee, argument, counted, nodes_of, is_judged, is_node_judged, value, place, node_place, values, evaluate}
 use Rattle.source_meaning.specs.Initializers.{store_bytes, store_content, store_parts, initialize, initialize_all}
-use Rattle.source_meaning.proofs.Naming.{IsStructureWith, IsConstantOf, PlainNames, UpdatesKind, ValueNames, LvalueNames, PlaceNames, RowNames, Names, ContentNames, PartsName, InitializerNames, DeclaredName}
+use Rattle.source_meaning.proofs.Naming.{IsNoStructure, IsStructureWith, IsConstantOf, PlainNames, UpdatesKind, ValueNames, LvalueNames, PlaceNames, RowNames, Names, ContentNames, PartsName, InitializerNames, DeclaredName}
 use Rattle.source_meaning.specs.Keeping.{IsNamed}
 use Rattle.source_meaning.proofs.Holding.{direct_less, direct_narrowed, named_less, named_narrowed, named_on, held_named}
 use Rattle.source_meaning.proofs.Laying.{low_word}

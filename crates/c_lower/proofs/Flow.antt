@@ -15,7 +15,7 @@ use Rattle.source_meaning.specs.State.{State, Rvalue, Home, NoObject, InObject, 
 use Rattle.source_meaning.specs.Actions.{is_zero, begin_turn, home_value, home_pointer}
 use Rattle.source_meaning.specs.Statements.{Completion, Normal, Broken, Continued, Returned, next_after, in_order, after_body, turns, turns_before, LabeledRun, is_case_of, is_default, labels_from, items_at, labels_of, compared, or_default, run_items, after_switch}
 use Rattle.source_meaning.specs.Blocks.{Block, has_objects, enter_block, leave_block}
-use Rattle.source_meaning.specs.Places.{stack_end}
+use Rattle.addr_map.specs.Places.{MapSizes, AreMapped}
 use Rattle.source_meaning.specs.Keeping.{LivesOn}
 use Rattle.source_meaning.specs.Good.{Context, object_kind, HasHome, IsGood, After, Sure, Any, CompletionIs, context_of, EntersBy}
 use Rattle.source_meaning.specs.Acting.{at_work}
@@ -143,10 +143,10 @@ module _ {g : Setting} {t : Tac} {limit u : ℕ} {frames : List Frame} where
   default_goes (Default ∷ ls) item other c0 c1 x i rest others vars temps k s tr hit miss = goes_at (sym tr.0) (hit (Default ∷ ls) k)
   default_goes (Case w ∷ ls) item other c0 c1 x i rest others vars temps k s tr hit miss = default_goes ls item other tr.0 c1 x i rest others vars temps k s tr.2 hit miss
 
-module _ (g : Setting) (t : Tac) (limit n u : ℕ) (frames : List Frame) (sc : Context) (result : Kind) where
+module _ (g : Setting) (t : Tac) (limit n u : ℕ) (frames : List Frame) (sc : Context) (functions : ℕ) (result : Kind) where
   -- a loop: its condition leads to the turn or out, its body to what comes between turns
   pub turns_run : (h turn b c : ℕ) (counted : Option ℕ) (x : Exits) (condition : Run Bool) (body : Run Completion) (between : Run (Unit {0}))
-      → Sure sc Any condition (λ _. Any) → Sure sc Any body (CompletionIs result) → Sure sc Any between (λ _. Any)
+      → Sure sc Any condition (λ _. Any) → Sure sc Any body (CompletionIs functions result) → Sure sc Any between (λ _. Any)
       → ((temps : Temps) (k : ℕ) (s : State) → IsGood sc s → limit < n + s.turns → Goes g t limit 0 0 u frames (λ q. cond q turn x.next) Anyhow (Stands u h temps frames (at_work k s)) k s (condition s))
       → ((temps : Temps) (k : ℕ) (s : State) → IsGood sc s → limit < n + s.turns → Goes g t limit 0 0 u frames (λ v. h) Anyhow (Stands u c temps frames (at_work k s)) k s (between s))
       → ((temps : Temps) (k : ℕ) (s : State) → IsGood sc s → limit < n + s.turns → Goes g t limit 0 2 u frames (exit_of (in_loop x c)) LeftBy (Stands u b temps frames (at_work k s)) k s (body s))
@@ -165,7 +165,7 @@ module _ (g : Setting) (t : Tac) (limit n u : ℕ) (frames : List Frame) (sc : C
 
   -- a loop whose condition comes behind its body
   pub turns_before_run : (turn b c : ℕ) (counted : Option ℕ) (x : Exits) (condition : Run Bool) (body : Run Completion)
-      → Sure sc Any condition (λ _. Any) → Sure sc Any body (CompletionIs result)
+      → Sure sc Any condition (λ _. Any) → Sure sc Any body (CompletionIs functions result)
       → ((temps : Temps) (k : ℕ) (s : State) → IsGood sc s → limit < n + s.turns → Goes g t limit 0 0 u frames (λ q. cond q turn x.next) Anyhow (Stands u c temps frames (at_work k s)) k s (condition s))
       → ((temps : Temps) (k : ℕ) (s : State) → IsGood sc s → limit < n + s.turns → Goes g t limit 0 2 u frames (exit_of (in_loop x c)) LeftBy (Stands u b temps frames (at_work k s)) k s (body s))
       → at_node t u turn ≡ Some (tac.Turn counted b) → (m : ℕ) → m ≤ suc n → (temps : Temps) (k : ℕ) (s : State) → IsGood sc s → limit < m + s.turns → limit < n + s.turns
@@ -193,7 +193,7 @@ module _ {g : Setting} {t : Tac} {limit u : ℕ} {frames : List Frame} where
   leave_goes e (Returned v) b y x vars temps k s tr p =
       goes_from {d = e} {k1 = k + 1} {s1 = s} 1 (ap (λ j. act_at g t j u temps (Entered b ∷ frames) (at_work k s)) tr.3) (omega arith) (omega arith) (goes_done (omega arith) refl refl p)
 
-module _ (g : Setting) (t : Tac) (limit u : ℕ) (frames : List Frame) (base : Scope) (boundary : ℕ) (most : stack_end g ≤ boundary) (low : boundary ≤ 1610612736) (all : List Variable) (same : variables_in (function_in t u) ≡ all) (vs : List Variable) (numbers : List ℕ) where
+module _ (g : Setting) (t : Tac) (limit u : ℕ) (frames : List Frame) (base : Scope) (sizes : MapSizes) (at : g.sizes ≡ sizes) (mapped : AreMapped sizes) (all : List Variable) (same : variables_in (function_in t u) ≡ all) (vs : List Variable) (numbers : List ℕ) where
   abbrev own : List Variable
   own = block_objects all numbers
 
@@ -201,20 +201,20 @@ module _ (g : Setting) (t : Tac) (limit u : ℕ) (frames : List Frame) (base : S
   objects_are b has = ap (λ vars. block_objects vars (if_there (slice_get (blocks_in (function_in t u)) b))) same ∙ ap (λ o. block_objects all (if_there o)) has
 
   -- What runs in a block: entering costs 2, and leaving 1 of what the body leaves. A block without objects is nothing.
-  scoped_by : (c e : ℕ) (q : Bool) → has_objects own ≡ q → (line n0 b0 : ℕ) (y x : Exits) (temps : Temps) (k : ℕ) (s : State) (body : Run Completion) → LowersEntry (placed t u all) q numbers line n0 b0 → LowersLeaving (placed t u all) q y x → IsGood (context_of base boundary all vs) s
-      → ((frames : List Frame) (k1 : ℕ) (s1 : State) → IsGood (context_of base boundary all (opened numbers 0 all vs)) s1 → s1.turns ≡ s.turns → Goes g t limit c (1 + e) u frames (exit_of y) LeftBy (Stands u b0 temps frames (at_work k1 s1)) k1 s1 (body s1))
+  scoped_by : (c e : ℕ) (q : Bool) → has_objects own ≡ q → (line n0 b0 : ℕ) (y x : Exits) (temps : Temps) (k : ℕ) (s : State) (body : Run Completion) → LowersEntry (placed t u all) q numbers line n0 b0 → LowersLeaving (placed t u all) q y x → IsGood (context_of base sizes all vs) s
+      → ((frames : List Frame) (k1 : ℕ) (s1 : State) → IsGood (context_of base sizes all (opened numbers 0 all vs)) s1 → s1.turns ≡ s.turns → Goes g t limit c (1 + e) u frames (exit_of y) LeftBy (Stands u b0 temps frames (at_work k1 s1)) k1 s1 (body s1))
       → Goes g t limit (2 + c) e u frames (exit_of x) LeftBy (Stands u n0 temps frames (at_work k s)) k s (choose q (enter_block g own line >>= (λ b. body >>= (λ completion. change (leave_block b) >> done completion))) body s)
   scoped_by c e true is line n0 b0 y x temps k s body entry ways good h =
       goes_steps 2 c entry.2 refl (ap (λ vars. came (enter_block g vars line (at_work (k + 2) s)) (λ b z. Stands u b0 temps (Entered b ∷ frames) z)) (objects_are entry.0 entry.1))
       (goes_came (λ b z. Stands u b0 temps (Entered b ∷ frames) z) (acts_enter_block g own line) (λ b s1 k1 e1 is1.
-      let up = subst (λ o. EntersBy base boundary all vs numbers s o) is1 (enters base boundary all vs numbers g most low line s good) in
+      let up = subst (λ o. EntersBy base sizes all vs numbers s o) is1 (enters base sizes all vs numbers g at mapped line s good) in
       goes_after (h (Entered b ∷ frames) k1 s1 up.good e1) (λ f s2 t2 k2 p2 le2 is2. leave_goes e f b y x all t2 k2 s2 ways p2)))
   scoped_by c e false is line n0 b0 y x temps k s body entry ways good h =
       goes_at entry
       (subst (λ z. Goes g t limit (2 + c) e u frames (exit_of z) LeftBy (Stands u b0 temps frames (at_work k s)) k s (body s)) ways
-      (goes_less {b = 1 + e} e (omega arith) (goes_spare c (omega arith) (h frames k s (good_inside base boundary all vs numbers s is good) refl))))
+      (goes_less {b = 1 + e} e (omega arith) (goes_spare c (omega arith) (h frames k s (good_inside base sizes all vs numbers s is good) refl))))
 
-  pub scoped_goes : (c e line n0 b0 : ℕ) (y x : Exits) (temps : Temps) (k : ℕ) (s : State) (body : Run Completion) → LowersEntry (placed t u all) (has_objects own) numbers line n0 b0 → LowersLeaving (placed t u all) (has_objects own) y x → IsGood (context_of base boundary all vs) s
-      → ((frames : List Frame) (k1 : ℕ) (s1 : State) → IsGood (context_of base boundary all (opened numbers 0 all vs)) s1 → s1.turns ≡ s.turns → Goes g t limit c (1 + e) u frames (exit_of y) LeftBy (Stands u b0 temps frames (at_work k1 s1)) k1 s1 (body s1))
+  pub scoped_goes : (c e line n0 b0 : ℕ) (y x : Exits) (temps : Temps) (k : ℕ) (s : State) (body : Run Completion) → LowersEntry (placed t u all) (has_objects own) numbers line n0 b0 → LowersLeaving (placed t u all) (has_objects own) y x → IsGood (context_of base sizes all vs) s
+      → ((frames : List Frame) (k1 : ℕ) (s1 : State) → IsGood (context_of base sizes all (opened numbers 0 all vs)) s1 → s1.turns ≡ s.turns → Goes g t limit c (1 + e) u frames (exit_of y) LeftBy (Stands u b0 temps frames (at_work k1 s1)) k1 s1 (body s1))
       → Goes g t limit (2 + c) e u frames (exit_of x) LeftBy (Stands u n0 temps frames (at_work k s)) k s (choose (has_objects own) (enter_block g own line >>= (λ b. body >>= (λ completion. change (leave_block b) >> done completion))) body s)
   scoped_goes c e line n0 b0 y x temps k s body entry ways good h = scoped_by c e (has_objects own) refl line n0 b0 y x temps k s body entry ways good h

@@ -41,13 +41,13 @@ unfolding pointer_to
 object_tag o objects = (_, refl)
 
 -- so an object that a sound pointer rests on is there
-made_by : (o : ℕ) (path : List Member) (s : State) (t : Tag) → t ≡ path_tag (pointer_to o s.objects) path s → IsSoundTag s.objects t → o < length s.objects
-made_by o path s t e sound =
+made_by : (functions : ℕ) (o : ℕ) (path : List Member) (s : State) (t : Tag) → t ≡ path_tag (pointer_to o s.objects) path s → IsSoundTag functions s.objects t → o < length s.objects
+made_by functions o path s t e sound =
     let h = object_tag o s.objects in
     let p = path_object (pointer_to o s.objects) o h.0 h.1 path s in
-    (subst (IsSoundTag s.objects) (e ∙ p.1) sound).made
+    (subst (IsSoundTag functions s.objects) (e ∙ p.1) sound).made
 
-module _ (a : Expression) (s1 s2 : State) (stays : (y : ℕ) → assigns y a ≡ false → plain_value y s2 ≡ plain_value y s1) (frame : s2.frame ≡ s1.frame) (continues : Continues s1.objects s2.objects) where
+module _ (functions : ℕ) (a : Expression) (s1 s2 : State) (stays : (y : ℕ) → assigns y a ≡ false → plain_value y s2 ≡ plain_value y s1) (frame : s2.frame ≡ s1.frame) (continues : Continues s1.objects s2.objects) where
   scaled_kept : (v : Option Scaled) → assigns_scaled a v ≡ false → scaled_value v s2 ≡ scaled_value v s1
   scaled_kept None e = refl
   scaled_kept (Some v) e = ap (λ (x : Value). x.word * v.size) (stays v.variable e)
@@ -63,14 +63,14 @@ module _ (a : Expression) (s1 s2 : State) (stays : (y : ℕ) → assigns y a ≡
   home_same NoObject made = refl
   home_same (InObject o) made = pointer_kept s1.objects s2.objects continues o (made o refl)
 
-  base_kept : (b : Base) (path : List Member) (t : Tag) → assigns_base a b ≡ false → t ≡ path_tag (base_value b s1) path s1 → IsSoundTag s1.objects t → base_value b s2 ≡ base_value b s1
+  base_kept : (b : Base) (path : List Member) (t : Tag) → assigns_base a b ≡ false → t ≡ path_tag (base_value b s1) path s1 → IsSoundTag functions s1.objects t → base_value b s2 ≡ base_value b s1
   base_kept (Plain x) path t e is sound = stays x e
-  base_kept (Static n) path t e is sound = pointer_kept s1.objects s2.objects continues n (made_by n path s1 t is sound)
+  base_kept (Static n) path t e is sound = pointer_kept s1.objects s2.objects continues n (made_by functions n path s1 t is sound)
   base_kept (Automatic x) path t e is sound =
       ap (λ f. home_value (get_or f x NoObject) s2.objects) frame
-      ∙ home_same (get_or s1.frame x NoObject) (λ o h. made_by o path s1 t (is ∙ ap (λ home. path_tag (home_value home s1.objects) path s1) h) sound)
+      ∙ home_same (get_or s1.frame x NoObject) (λ o h. made_by functions o path s1 t (is ∙ ap (λ home. path_tag (home_value home s1.objects) path s1) h) sound)
 
-  right_kept : (key : Key) (v : Value) → assigns_key a key ≡ false → IsSoundTag s1.objects v.tag → Right key s1 v → Right key s2 v
+  right_kept : (key : Key) (v : Value) → assigns_key a key ≡ false → IsSoundTag functions s1.objects v.tag → Right key s1 v → Right key s2 v
   right_kept key v e sound h =
       let two = neither (assigns_base a key.base || assigns_scaled a key.scaled) (assigns_path a key.path) e in
       let one = neither (assigns_base a key.base) (assigns_scaled a key.scaled) two.0 in
@@ -82,10 +82,10 @@ module _ (a : Expression) (s1 s2 : State) (stays : (y : ℕ) → assigns y a ≡
         tag = h.tag ∙ sym (ap (λ (b : Value). path_tag b key.path s2) b ∙ path_kept (base_value key.base s1) key.path two.1);
       }
 
-  unless_kept : (q : Bool) (key : Key) (v : Value) → assigns_key a key ≡ q → IsSoundTag s1.objects v.tag → Right key s1 v → (k : Key) → unless q key ≡ Some k → Right k s2 v
+  unless_kept : (q : Bool) (key : Key) (v : Value) → assigns_key a key ≡ q → IsSoundTag functions s1.objects v.tag → Right key s1 v → (k : Key) → unless q key ≡ Some k → Right k s2 v
   unless_kept true key v e sound h k is = cc
   unless_kept false key v e sound h k is = let same : key ≡ k = cc in subst (λ z. Right z s2 v) same (right_kept key v e sound h)
 
-  pub right_after : (ok : Option Key) (v : Value) → IsSoundTag s1.objects v.tag → ((k : Key) → ok ≡ Some k → Right k s1 v) → (k : Key) → key_after a ok ≡ Some k → Right k s2 v
+  pub right_after : (ok : Option Key) (v : Value) → IsSoundTag functions s1.objects v.tag → ((k : Key) → ok ≡ Some k → Right k s1 v) → (k : Key) → key_after a ok ≡ Some k → Right k s2 v
   right_after None v sound h k is = cc
   right_after (Some key) v sound h k is = unless_kept (assigns_key a key) key v refl sound (h key refl) k is

@@ -17,6 +17,7 @@ use Rattle.c_tree.specs.Kinds.{has_size, size_of_kind, is_scalar, Signature}
 use Rattle.c_tree.specs.Programs.{Function, Program}
 use Rattle.c_tree.specs.Statements.{Statements}
 use Rattle.c_tree.specs.Blocks.{no_variable, all_of, block_variables, body_variables, closed, opened}
+use Rattle.c_tree.specs.Valid.{Scope}
 use Rattle.c_tree.specs.ValidProgram.{is_variable, are_parameters, are_statements, declares_all, function_scope, signature_at, is_function_type, are_all_different, is_static_object, is_function, are_functions, is_main, is_valid_program, Inside as Surrounding}
 use Rattle.source_meaning.specs.State.{State, Rvalue, Outcome, Gives, Ended, Paused, Run, on, ◌>>=◌, ◌>>◌, done, change, choose, Header, Setting, Env}
 use Rattle.source_meaning.specs.Actions.{int_of}
@@ -25,14 +26,13 @@ use Rattle.source_meaning.specs.Expressions.{counted}
 use Rattle.source_meaning.specs.Statements.{Completion, Normal, Broken, Continued, Returned, in_order, each_of}
 use Rattle.source_meaning.specs.Calls.{header_of, function_at, Caller, caller, back_to, returned_by, result_of, set_up, enter_begun, enter_found, calls, env_of}
 use Rattle.source_meaning.specs.Meaning.{setting_of, initial_objects, fresh, line_of, moment_at, moment_of, ended_at, meaning}
-use Rattle.source_meaning.specs.Places.{heap_first}
 use Rattle.source_meaning.specs.Acting.{at_work, ActsBy}
-use Rattle.source_meaning.specs.Good.{Context, object_kind, IsGood, ArgumentsAre, signature_in, taking, Calling, context_of, Inside}
+use Rattle.source_meaning.specs.Good.{Context, object_kind, IsGood, ArgumentsAre, signature_in, taking, Calling, context_of, Inside, IsSetUp, SetsUpBy}
 use Rattle.source_meaning.proofs.ActionsAct.{acts_set_up}
 use Rattle.source_meaning.proofs.Naming.{ProgramNames, FunctionNames, kinds_in, scope_of, names_of, NamesObjects}
 use Rattle.source_meaning.proofs.Stays.{expression_stays}
-use Rattle.source_meaning.proofs.SureCalls.{IsSetUp, SetsUpBy, set_up_by}
-use Rattle.source_meaning.proofs.SureMeaning.{NamesFound, found_names, SignatureIs, signature_found, stack_below, heap_low, static_context, start_good, inside_good}
+use Rattle.source_meaning.proofs.SureCalls.{set_up_by}
+use Rattle.source_meaning.proofs.SureMeaning.{NamesFound, found_names, SignatureIs, signature_found, static_context, start_good, inside_good}
 use Rattle.source_meaning.proofs.ValidNames.{both, five, six}
 use Rattle.source_meaning.proofs.ValidProgramNames.{valid_names}
 use Rattle.tac_ir.specs.declared.instruction.Instruction.TheVariants as tac
@@ -189,55 +189,59 @@ module _ (p : Program) (budgets : BudgetSizes) (mapped : AreMapped (setting_of p
   abbrev u : ProgramNames
   u = names_of p
 
+  -- what can be named in some scope of the program
+  abbrev within_program : Scope → Context
+  within_program around = record { scope = record around { statics = u.statics; functions = u.functions }; sizes = g.sizes }
+
   abbrev AllCallsRun : ℕ → Type 0
-  AllCallsRun n = (sc : Context) → sc.scope.statics ≡ u.statics → sc.scope.functions ≡ u.functions → sc.boundary ≡ heap_first g → CallsRun g t limit sc (calls p.functions g limit n) n
+  AllCallsRun n = (around : Scope) → CallsRun g t limit (within_program around) (calls p.functions g limit n) n
 
   -- a call whose turn has begun
-  begun_runs : (n f : ℕ) (fn : Function) (c : CodeFunction) (vs : List Rvalue) (line : ℕ) (frames : List Frame) (k : ℕ) (s : State) → AllCallsRun n → function_in t f ≡ Some c → LowersFunction t.texts (result_of g fn.type_number) (height_in p.statics f (Some fn)) fn c → FunctionNames u fn → IsValidFunction p fn → (sc : Context) → sc.scope.statics ≡ u.statics → sc.boundary ≡ heap_first g → IsGood sc s → ArgumentsAre (kinds_in fn.parameters) vs s.objects → limit < n + s.turns
+  begun_runs : (n f : ℕ) (fn : Function) (c : CodeFunction) (vs : List Rvalue) (line : ℕ) (frames : List Frame) (k : ℕ) (s : State) → AllCallsRun n → function_in t f ≡ Some c → LowersFunction t.texts (result_of g fn.type_number) (height_in p.statics f (Some fn)) fn c → FunctionNames u fn → IsValidFunction p fn → (around : Scope) → IsGood (within_program around) s → ArgumentsAre (length u.functions) (kinds_in fn.parameters) vs s.objects → limit < n + s.turns
       → Called g t limit 0 (caller s) frames (came (set_up g (header_of_code c) vs line (at_work k s)) (λ _ z. Stands f c.entry no_temps frames z)) k s (enter_begun (env_of p.functions g limit n (all_of fn)) fn vs line s)
-  begun_runs n f fn c vs line frames k s callers is low named ok sc same level good arguments lt =
+  begun_runs n f fn c vs line frames k s callers is low named ok around good arguments lt =
       let q = caller s in
       let result = result_of g fn.type_number in
       let env : Env = env_of p.functions g limit n (all_of fn) in
       let F : Unit {0} → State → Stage = λ _ z. Stands f c.entry no_temps frames z in
       let R : Run Rvalue = counted (in_order (each_of env fn.body)) >>= (λ completion. change (back_to q) >> done (returned_by result completion)) in
       let base = scope_of u fn in
-      let inner : Context = record { scope = base; boundary = heap_first g } in
+      let inner : Context = record { scope = base; sizes = g.sizes } in
       let b : LowersBody (placed t f (all_of fn)) result c.entry fn.body =
       subst (λ o. LowersBody (record { code = code_of o; keys = keys_of o; blocks = blocks_in o; loops = loops_in o; texts = t.texts; variables = all_of fn }) result c.entry fn.body) (sym is) low.body in
       let variables : variables_in (function_in t f) ≡ all_of fn = ap variables_in is ∙ ap (λ (h : Header). h.parameters ++ h.variables) low.header in
-      let inside : Inside base (heap_first g) env = inside_good p budgets mapped (valid_names p valid) limit n fn in
+      let inside : Inside base g.sizes env = inside_good p budgets mapped (valid_names p valid) limit n fn in
       called_from g t limit q frames 0 0 _ (came (set_up g (header_of fn) vs line (at_work k s)) F) k k s s _ 0 (ap (λ h. came (set_up g h vs line (at_work k s)) F) low.header) (omega arith) (omega arith)
       (set_up_goes g t limit q frames inner s.objects 0 k s (set_up g (header_of fn) vs line s) (set_up g (header_of fn) vs line (at_work k s)) F R ((acts_set_up g (header_of fn) vs line).acts s k)
-      (set_up_by u fn named g (heap_first g) (stack_below g mapped) (heap_low g mapped) sc same level vs line s good arguments) (λ s2 k2 e2 up.
+      (set_up_by u fn named g g.sizes refl mapped around vs line s good arguments) (λ s2 k2 e2 up.
       let s3 : State = record s2 { work = s2.work + 1 } in
       called_from g t limit q frames 0 2 _ _ k2 k2 s2 s3 (on (in_order (each_of env fn.body) s3) (λ completion. change (back_to q) >> done (returned_by result completion))) 0 refl (omega arith) (omega arith)
       (end_goes g t limit q frames result f b.0 b.1 _ k2 s3 (in_order (each_of env fn.body) s3) b.3 b.4
-      (statements_run t n env refl base (heap_first g) inside (λ vs. callers (context_of base (heap_first g) (all_of fn) vs) refl refl refl) (λ y e. expression_stays p.functions g limit n (all_of fn) y e) f variables ok.sized
+      (statements_run t n env refl base g.sizes inside (λ vs. callers (context_of base g.sizes (all_of fn) vs).scope) (λ y e. expression_stays p.functions g limit n (all_of fn) y e) f variables ok.sized
       (fn.parameters ++ body_variables fn) frames outside_loops fn.body c.entry _ no_temps k2 s3 (sized_body fn ok.sized) b.2 ok.body up.good (omega (arith, e2, lt))))))
 
   call_by : (c0 n f : ℕ) (vs : List Rvalue) (line : ℕ) (frames : List Frame) (x : Stage) (k : ℕ) (s : State) (of : Option Function) (oc : Option CodeFunction) → AllCallsRun n → step g t x ≡ called_at g oc f vs line frames (at_work (k + c0) s) → seen x ≡ moment_at (at_work k s) [] None → function_in t f ≡ oc → LowersAt t.texts (result_in g.results of) (height_in p.statics f of) of oc → NamesFound u of → ValidIf p of
-      → (q : Signature) → SignatureIs u.types q of → ArgumentsAre q.parameters vs s.objects → (sc : Context) → sc.scope.statics ≡ u.statics → sc.boundary ≡ heap_first g → IsGood sc s → limit < suc n + s.turns
+      → (q : Signature) → SignatureIs u.types q of → ArgumentsAre (length u.functions) q.parameters vs s.objects → (around : Scope) → IsGood (within_program around) s → limit < suc n + s.turns
       → Called g t limit c0 (caller s) frames x k s (enter_found (env_of p.functions g limit n []) of vs line s)
-  call_by c0 n f vs line frames x k s None None callers e now is low named ok q signature arguments sc same level good lt = (k + c0, record { steps = 1; comes = e; turns = omega arith; work = omega arith })
-  call_by c0 n f vs line frames x k s None (Some c) callers e now is low named ok q signature arguments sc same level good lt = absurd low
-  call_by c0 n f vs line frames x k s (Some fn) None callers e now is low named ok q signature arguments sc same level good lt = absurd low
-  call_by c0 n f vs line frames x k s (Some fn) (Some c) callers e now is low named ok q signature arguments sc same level good lt = by_turn (nat_lt s.turns limit) refl
+  call_by c0 n f vs line frames x k s None None callers e now is low named ok q signature arguments around good lt = (k + c0, record { steps = 1; comes = e; turns = omega arith; work = omega arith })
+  call_by c0 n f vs line frames x k s None (Some c) callers e now is low named ok q signature arguments around good lt = absurd low
+  call_by c0 n f vs line frames x k s (Some fn) None callers e now is low named ok q signature arguments around good lt = absurd low
+  call_by c0 n f vs line frames x k s (Some fn) (Some c) callers e now is low named ok q signature arguments around good lt = by_turn (nat_lt s.turns limit) refl
     where
-      given : ArgumentsAre (kinds_in fn.parameters) vs s.objects
-      given = subst (λ ks. ArgumentsAre ks vs s.objects) (ap (λ (z : Signature). z.parameters) signature ∙ sym named.parameters) arguments
+      given : ArgumentsAre (length u.functions) (kinds_in fn.parameters) vs s.objects
+      given = subst (λ ks. ArgumentsAre (length u.functions) ks vs s.objects) (ap (λ (z : Signature). z.parameters) signature ∙ sym named.parameters) arguments
 
       by_turn : (b : Bool) → nat_lt s.turns limit ≡ b → Called g t limit c0 (caller s) frames x k s (on (choose b (λ s. Gives (tt {0}) (begun s)) (λ s. Paused s) s) (λ _. enter_begun (env_of p.functions g limit n (all_of fn)) fn vs line))
       by_turn false h = (x, k, now, record { steps = 0; comes = refl; turns = omega arith; work = omega arith }, ltb-false s.turns limit h)
       by_turn true h =
           called_from g t limit (caller s) frames c0 0 x _ k (k + c0) s (begun s) _ 1 e (omega arith) (omega arith)
-          (begun_runs n f fn c vs line frames (k + c0) (begun s) callers is low named ok sc same level good given (omega (arith, lt)))
+          (begun_runs n f fn c vs line frames (k + c0) (begun s) callers is low named ok around good given (omega (arith, lt)))
 
   calls_run : (n : ℕ) → AllCallsRun n
-  calls_run zero sc same functions level c f vs line frames x k s h good arguments lt = (x, k, h.seen_now, record { steps = 0; comes = refl; turns = omega arith; work = omega arith }, omega (arith, lt))
-  calls_run (suc n) sc same functions level c f vs line frames x k s h good arguments lt =
+  calls_run zero around c f vs line frames x k s h good arguments lt = (x, k, h.seen_now, record { steps = 0; comes = refl; turns = omega arith; work = omega arith }, omega (arith, lt))
+  calls_run (suc n) around c f vs line frames x k s h good arguments lt =
       call_by c n f vs line frames x k s (function_at p.functions f) (function_in t f) (calls_run n) h.steps h.seen_now refl (lowers f) (found_names u p.functions (valid_names p valid).functions f) (functions_valid p valid f)
-      (signature_in sc.scope.functions f) (subst (λ l. SignatureIs u.types (signature_in l f) (function_at p.functions f)) (sym functions) (signature_found u.types p.functions f)) arguments sc same level good lt
+      (signature_in u.functions f) (signature_found u.types p.functions f) arguments around good lt
 
 -- the run
 
@@ -282,10 +286,10 @@ module _ (p : Program) (budgets : BudgetSizes) (mapped : AreMapped (setting_of p
   started : (limit : ℕ) → Called (setting_of p budgets) t limit 0 (caller first) [] (Begins first) 0 first (outcome_in limit)
   started limit =
       let names = valid_names p valid in
-      calls_run p budgets mapped valid t limit lowers (limit + 1) (static_context (names_of p) (setting_of p budgets)) refl refl refl 0 t.main [] (line_of (function_at p.functions t.main)) [] (Begins first) 0 first
+      calls_run p budgets mapped valid t limit lowers (limit + 1) (static_context (names_of p) (setting_of p budgets)).scope 0 t.main [] (line_of (function_at p.functions t.main)) [] (Begins first) 0 first
       (record { steps = ap (λ l. called (setting_of p budgets) t t.main [] l [] first) (line_is t.texts _ _ (function_at p.functions t.main) (function_in t t.main) (lowers t.main)); seen_now = refl })
       (start_good p budgets mapped names input)
-      (subst (λ m. ArgumentsAre (signature_in (names_of p).functions m).parameters [] first.objects) (sym main) (subst (λ ks. ArgumentsAre ks [] first.objects) (sym names.main) tt)) (omega arith)
+      (subst (λ m. ArgumentsAre (length (names_of p).functions) (signature_in (names_of p).functions m).parameters [] first.objects) (sym main) (subst (λ ks. ArgumentsAre (length (names_of p).functions) ks [] first.objects) (sym names.main) tt)) (omega arith)
 
   follows_from : Follows 8 (λ limit. moment_of (outcome_in limit)) (seen_after (step (setting_of p budgets) t) seen (Begins first))
   follows_from = record { at = λ limit. meets_by (setting_of p budgets) t limit (outcome_in limit) (caller first) first refl refl (started limit) }

@@ -1,6 +1,7 @@
 -- The code of statements does what they mean.
 use Rattle.std.proofs.Common.{◌≡◌, ℕ, zero, suc, ◌+◌, ◌*◌, ◌<◌, ◌≤◌, List, [], ◌∷◌, Option, Some, None, Bool, true, false, refl, sym, ap, ◌∙◌, subst, arith}
 use Rattle.std.specs.Prelude.{not, cond, if◌then◌else◌, ◌&&◌, ◌||◌, length, map, get_or}
+use Rattle.addr_map.specs.Places.{MapSizes}
 use Rattle.obj_memory.specs.declared.value.Value.{Value}
 use Rattle.obj_memory.specs.Objects.{Objects, ObjectState, object_at, with_zeroed}
 use Rattle.obj_memory.specs.Judgement.{narrowed}
@@ -23,7 +24,7 @@ use Rattle.source_meaning.specs.Statements.{Completion, Normal, Broken, Continue
 use Rattle.source_meaning.specs.Blocks.{has_objects}
 use Rattle.source_meaning.specs.Acting.{at_work}
 use Rattle.source_meaning.specs.Staying.{Stays}
-use Rattle.source_meaning.specs.Good.{Context, object_kind, IsGood, Leaves, After, Sure, Any, ValueIs, CompletionIs, context_of, Calling, Inside}
+use Rattle.source_meaning.specs.Good.{Context, function_count, object_kind, IsGood, Leaves, After, Sure, Any, ValueIs, CompletionIs, context_of, Calling, Inside}
 use Rattle.source_meaning.proofs.ActionsAct.{acts_write_rvalue, acts_store_bytes}
 use Rattle.source_meaning.proofs.Holding.{named_less}
 use Rattle.source_meaning.proofs.Naming.{ContentNames, PartsName, InitializerNames}
@@ -108,7 +109,7 @@ module _ (t : Tac) (n : ℕ) (env : Env) (sc : Context) (sure : Calling sc env) 
       (ap (λ h. only_if (is_live_at size (narrowed offset size h) s1.objects) (moved_from ek (t1 0) s1.objects (came (write_rvalue ek false (narrowed offset size h) (line_of e) (t1 0) z) F))) hp1
       ∙ ap (λ y. only_if (is_live_at size q s1.objects) (moved_from ek y s1.objects (came (write_rvalue ek false q (line_of e) y z) F))) p1.value
       ∙ ap (λ b. only_if b (moved_from ek v s1.objects (came (write_rvalue ek false q (line_of e) v z) F))) (direct_is_live s1.objects q size part.1.direct)
-      ∙ value_moves ek v s1.objects w1.1 _)
+      ∙ value_moves (function_count sc) ek v s1.objects w1.1 _)
       (goes_came F (acts_write_rvalue ek false q (line_of e) v) (λ y s2 k2 e2 is2. goes_done (omega arith) refl refl tt))))
   content_runs x kind p whole offset (literal_content bytes) n0 n1 temps k s tr ok nm good base has hp lt =
       let m = length bytes in
@@ -183,10 +184,10 @@ module _ (t : Tac) (n : ℕ) (env : Env) (sc : Context) (sure : Calling sc env) 
   first_runs (first_expression e) n0 n1 temps k s tr ok good lt = part_runs (Some e) n0 n1 temps k s tr ok good lt
   first_runs (first_declaration ds) n0 n1 temps k s tr ok good lt = declared_run ds n0 n1 temps k s tr ok good lt
 
-module _ (t : Tac) (n : ℕ) (env : Env) (deep : env.depth ≡ suc n) (base : Scope) (boundary : ℕ) (inside : Inside base boundary env) (callers : (vs : List Variable) → CallsRun env.setting t env.limit (context_of base boundary env.variables vs) env.call n) (stays : (y : ℕ) (e : Expression) → assigns y e ≡ false → Stays y (evaluate env e)) (u : ℕ) (same : variables_in (function_in t u) ≡ env.variables) (all_sized : AllSized env.variables) where
+module _ (t : Tac) (n : ℕ) (env : Env) (deep : env.depth ≡ suc n) (base : Scope) (sizes : MapSizes) (inside : Inside base sizes env) (callers : (vs : List Variable) → CallsRun env.setting t env.limit (context_of base sizes env.variables vs) env.call n) (stays : (y : ℕ) (e : Expression) → assigns y e ≡ false → Stays y (evaluate env e)) (u : ℕ) (same : variables_in (function_in t u) ≡ env.variables) (all_sized : AllSized env.variables) where
   -- where some variables can be named
   abbrev at : List Variable → Context
-  at vs = context_of base boundary env.variables vs
+  at vs = context_of base sizes env.variables vs
 
   abbrev here : Placed
   here = placed t u env.variables
@@ -199,13 +200,13 @@ module _ (t : Tac) (n : ℕ) (env : Env) (deep : env.depth ≡ suc n) (base : Sc
       → Goes env.setting t env.limit 0 2 u frames (λ v. n1) (ValueIn 0 temps) (Stands u n0 temps frames (at_work k s)) k s (evaluate env e s)
   value_of vs frames e n0 n1 temps k s sized tr ok good lt = value_at t n env (at vs) (inside.calling vs) (callers vs) stays u frames env.variables sized e n0 n1 temps k s tr ok good lt
 
-  after_value : (vs : List Variable) (e : Expression) → is_valid (at vs).scope e ≡ true → (s : State) → IsGood (at vs) s → After (at vs) s (ValueIs (kind_of e)) (evaluate env e s)
+  after_value : (vs : List Variable) (e : Expression) → is_valid (at vs).scope e ≡ true → (s : State) → IsGood (at vs) s → After (at vs) s (ValueIs (length base.functions) (kind_of e)) (evaluate env e s)
   after_value vs e ok s good = (evaluate_sure (inside.calling vs) e (names (agree_same (at vs).scope) e ok)).by s good tt
 
   holds_at : (vs : List Variable) (e : Option Expression) → is_condition_if (at vs).scope e ≡ true → Sure (at vs) Any (holds env e) (λ _. Any)
   holds_at vs e ok = holds_sure (inside.calling vs) e (condition_if (agree_same (at vs).scope) e ok)
 
-  executed : (vs : List Variable) (within : Surrounding) (st : Statement) → is_statement (at vs).scope within st ≡ true → Sure (at vs) Any (execute env st) (CompletionIs base.result)
+  executed : (vs : List Variable) (within : Surrounding) (st : Statement) → is_statement (at vs).scope within st ≡ true → Sure (at vs) Any (execute env st) (CompletionIs (length base.functions) base.result)
   executed vs within st ok = execute_sure inside vs st (statement_names (agree_same (at vs).scope) within st ok)
 
   mutual
@@ -219,7 +220,7 @@ module _ (t : Tac) (n : ℕ) (env : Env) (deep : env.depth ≡ suc n) (base : Sc
     statement_runs vs frames within (block line body) n0 x temps k s sized tr ok good lt =
         let numbers = block_variables body in
         goes_counted (goes_less {b = 5} 2 (omega arith)
-        (scoped_goes env.setting t env.limit u frames base boundary inside.most inside.low env.variables same vs numbers 6 5 line n0 tr.0 tr.1 x temps k _ _ tr.2.0 tr.2.1 good (λ frames k1 s1 good1 e1.
+        (scoped_goes env.setting t env.limit u frames base sizes inside.at inside.mapped env.variables same vs numbers 6 5 line n0 tr.0 tr.1 x temps k _ _ tr.2.0 tr.2.1 good (λ frames k1 s1 good1 e1.
         goes_frame 6 0 0 (statements_run (opened numbers 0 env.variables vs) frames within body tr.0 tr.1 temps k1 s1 (sized_opened numbers 0 env.variables vs all_sized sized) tr.3 ok good1 (omega (arith, e1, lt))))))
     statement_runs vs frames within (if_then e st) n0 x temps k s sized tr ok good lt =
         let v = three (is_condition (at vs).scope e) (is_statement (at vs).scope within st) _ ok in
@@ -239,7 +240,7 @@ module _ (t : Tac) (n : ℕ) (env : Env) (deep : env.depth ≡ suc n) (base : Sc
         let v = three (is_condition (at vs).scope e) (is_statement (at vs).scope inside_loop st) _ ok in
         goes_counted
         (goes_spare 3 (omega arith)
-        (turns_run env.setting t env.limit n u frames (at vs) base.result n0 tr.0 tr.1 n0 None x _ _ _ (holds_at vs (Some e) v.0) (executed vs inside_loop st v.1) sure_skip
+        (turns_run env.setting t env.limit n u frames (at vs) (length base.functions) base.result n0 tr.0 tr.1 n0 None x _ _ _ (holds_at vs (Some e) v.0) (executed vs inside_loop st v.1) sure_skip
         (λ t k s w l. condition_at vs frames (Some e) n0 tr.0 x.next t k s sized tr.2 v.0 w l)
         (λ t k s w l. goes_done {a = tt} (omega arith) refl refl tt)
         (λ t k s w l. goes_less 2 (left_in_loop st v.2) (statement_runs vs frames inside_loop st tr.1 _ t k s sized tr.4 v.1 w l))
@@ -248,7 +249,7 @@ module _ (t : Tac) (n : ℕ) (env : Env) (deep : env.depth ≡ suc n) (base : Sc
         let v = three (is_statement (at vs).scope inside_loop st) _ (is_condition (at vs).scope e) ok in
         goes_counted
         (goes_spare 3 (omega arith)
-        (turns_before_run env.setting t env.limit n u frames (at vs) base.result n0 tr.0 tr.1 None x _ _ (holds_at vs (Some e) v.2) (executed vs inside_loop st v.0)
+        (turns_before_run env.setting t env.limit n u frames (at vs) (length base.functions) base.result n0 tr.0 tr.1 None x _ _ (holds_at vs (Some e) v.2) (executed vs inside_loop st v.0)
         (λ t k s w l. condition_at vs frames (Some e) tr.1 n0 x.next t k s sized tr.4 v.2 w l)
         (λ t k s w l. goes_less 2 (left_in_loop st v.1) (statement_runs vs frames inside_loop st tr.0 _ t k s sized tr.3 v.0 w l))
         tr.2 env.depth (omega (arith, deep)) temps k _ good (omega (arith, lt, deep)) lt))
@@ -258,11 +259,11 @@ module _ (t : Tac) (n : ℕ) (env : Env) (deep : env.depth ≡ suc n) (base : Sc
         let more = sized_opened numbers 0 env.variables vs all_sized sized in
         let v = five (is_first (at d).scope first) (is_condition_if (at d).scope condition) (is_expression_if (at d).scope step) (is_statement (at d).scope inside_loop st) _ ok in
         goes_counted (goes_less {b = 4} 2 (omega arith)
-        (scoped_goes env.setting t env.limit u frames base boundary inside.most inside.low env.variables same vs numbers 6 4 line n0 tr.0 tr.5 x temps k _ _ tr.7.0 tr.7.1 good (λ frames k0 s0 good0 e0.
+        (scoped_goes env.setting t env.limit u frames base sizes inside.at inside.mapped env.variables same vs numbers 6 4 line n0 tr.0 tr.5 x temps k _ _ tr.7.0 tr.7.1 good (λ frames k0 s0 good0 e0.
         goes_sure _ ((first_sure (inside.calling d) first (first_names (agree_same (at d).scope) first v.0)).by s0 good0 tt)
         (first_runs t n env (at d) (inside.calling d) (callers d) stays u frames env.variables more first tr.0 tr.1 temps k0 s0 tr.8 v.0 good0 (omega (arith, e0, lt))) (λ z s1 t1 k1 p1 le1 is1 lv1 w1.
         goes_frame 3 3 2
-        (turns_run env.setting t env.limit n u frames (at d) base.result tr.1 tr.2 tr.3 tr.4 tr.6 tr.5 _ _ _ (holds_at d condition v.1) (executed d inside_loop st v.3) (perform_sure (inside.calling d) step (expression_if (agree_same (at d).scope) step v.2))
+        (turns_run env.setting t env.limit n u frames (at d) (length base.functions) base.result tr.1 tr.2 tr.3 tr.4 tr.6 tr.5 _ _ _ (holds_at d condition v.1) (executed d inside_loop st v.3) (perform_sure (inside.calling d) step (expression_if (agree_same (at d).scope) step v.2))
         (λ t k s w l. condition_at d frames condition tr.1 tr.2 tr.5.next t k s more tr.9 v.1 w l)
         (λ temps k s w l. part_runs t n env (at d) (inside.calling d) (callers d) stays u frames env.variables more step tr.4 tr.1 temps k s tr.12 v.2 w l)
         (λ t k s w l. goes_less 2 (left_in_loop st v.4) (statement_runs d frames inside_loop st tr.3 _ t k s more tr.13 v.3 w l))
@@ -276,7 +277,7 @@ module _ (t : Tac) (n : ℕ) (env : Env) (deep : env.depth ≡ suc n) (base : Sc
         (goes_sure _ (after_value vs e v.0 _ good) (value_of vs frames e n0 tr.0 temps k _ sized tr.5 v.0 good lt) (λ w s1 t1 k1 p1 le1 is1 lv1 w1.
         let all = items_of env is in
         goes_counted (goes_less {b = 7} 2 (omega arith)
-        (scoped_goes env.setting t env.limit u frames base boundary inside.most inside.low env.variables same vs numbers 16 7 line tr.0 tr.1 tr.4 x t1 k1 _ _ tr.6.0 tr.6.1 lv1.good (λ frames k2 s2 good2 e2.
+        (scoped_goes env.setting t env.limit u frames base sizes inside.at inside.mapped env.variables same vs numbers 16 7 line tr.0 tr.1 tr.4 x t1 k1 _ _ tr.6.0 tr.6.1 lv1.good (λ frames k2 s2 good2 e2.
         goes_counted_as (compared w.value.word (labels_of all)) (16 + compared w.value.word (labels_of all)) (omega arith)
         (goes_after
         (cases_run d frames (inside_switch within) is tr.1 tr.2 tr.3 (in_switch tr.4) all w t1 k2 _ more tr.8 v.4 good2 p1.value (omega (arith, le1, e2, lt))

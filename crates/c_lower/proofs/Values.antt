@@ -30,7 +30,7 @@ use Rattle.source_meaning.specs.Calls.{Caller, caller, back_to}
 use Rattle.source_meaning.specs.Meaning.{moment_at}
 use Rattle.source_meaning.specs.Acting.{at_work, IsAction}
 use Rattle.source_meaning.specs.Staying.{KeptBy, Stays}
-use Rattle.source_meaning.specs.Good.{Context, IsGood, Leaves, After, Sure, Any, ValueIs, LvalueIs, ArgumentsAre, basis_of, signature_in, taking, Calling}
+use Rattle.source_meaning.specs.Good.{Context, function_count, IsGood, Leaves, After, Sure, Any, ValueIs, LvalueIs, ArgumentsAre, basis_of, signature_in, taking, Calling}
 use Rattle.source_meaning.proofs.Naming.{ValueNames}
 use Rattle.source_meaning.proofs.ValidNames.{both, three, four, five, six, same_kind, none_like, writable, names, value_names, lvalue_names, row_names}
 use Rattle.source_meaning.proofs.ValidProgramNames.{agree_same}
@@ -54,7 +54,7 @@ use Rattle.c_lower.specs.Values.{mode_for, KeyIs, LowersTaking, count, LowersExp
 use Rattle.c_lower.proofs.Comes.{Reached, Goes, goes_from, goes_counted, goes_counted_as, goes_spare, goes_frame, goes_steps, goes_step, goes_done, goes_over, goes_at, goes_weak, goes_less, goes_then, goes_sure, goes_came, goes_last, goes_branch}
 use Rattle.c_lower.proofs.KeyValues.{Right, key_opens, place_right}
 use Rattle.c_lower.proofs.KeyStays.{right_after}
-use Rattle.c_lower.proofs.Accesses.{through_is, access_cost, access_opens, value_moves, reach_later, reach_scalar, plain_contents, reach_contents}
+use Rattle.c_lower.proofs.Accesses.{through_is, access_cost, access_opens, value_moves, reach_later, reach_scalar, updates_scalar, plain_is_no_structure, plain_contents, reach_contents}
 
 abbrev pub loops_in : Option CodeFunction → List CountedLoop
 loops_in None = []
@@ -133,7 +133,7 @@ module _ (g : Setting) (t : Tac) (limit : ℕ) where
     pub seen_now : seen x ≡ moment_at (at_work k s) [] None
 
   abbrev pub CallsRun : Context → (ℕ → List Rvalue → ℕ → Run Rvalue) → ℕ → Type 0
-  CallsRun sc called_as n = (c f : ℕ) (vs : List Rvalue) (line : ℕ) (frames : List Frame) (x : Stage) (k : ℕ) (s : State) → Calls c f vs line frames x k s → IsGood sc s → ArgumentsAre (taking sc f) vs s.objects → limit < n + s.turns → Called c (caller s) frames x k s (called_as f vs line s)
+  CallsRun sc called_as n = (c f : ℕ) (vs : List Rvalue) (line : ℕ) (frames : List Frame) (x : Stage) (k : ℕ) (s : State) → Calls c f vs line frames x k s → IsGood sc s → ArgumentsAre (function_count sc) (taking sc f) vs s.objects → limit < n + s.turns → Called c (caller s) frames x k s (called_as f vs line s)
 
 module _ {g : Setting} {t : Tac} {limit u : ℕ} {frames : List Frame} where
   -- 1 or 0, by a test
@@ -163,13 +163,13 @@ module _ {g : Setting} {t : Tac} {limit u : ℕ} {frames : List Frame} where
   back_by n1 d before temps x k s (Paused s') below h = record { by = h }
 
   -- a call through a pointer
-  module _ (n : ℕ) (sc : Context) (env : Env) (sure : Calling sc env) (same : env.setting ≡ g) (calls : CallsRun g t limit sc env.call n) (vs : List Rvalue) (line n1 d : ℕ) (before temps : Temps) (x : Stage) (k : ℕ) (s : State) (good : IsGood sc s) (type_number : ℕ) (arguments : ArgumentsAre (signature_in sc.scope.types type_number).parameters vs s.objects) (now : seen x ≡ moment_at (at_work k s) [] None) (lt : limit < n + s.turns) (below : KeepsBelow d before temps) where
+  module _ (n : ℕ) (sc : Context) (env : Env) (sure : Calling sc env) (same : env.setting ≡ g) (calls : CallsRun g t limit sc env.call n) (vs : List Rvalue) (line n1 d : ℕ) (before temps : Temps) (x : Stage) (k : ℕ) (s : State) (good : IsGood sc s) (type_number : ℕ) (arguments : ArgumentsAre (function_count sc) (signature_in sc.scope.types type_number).parameters vs s.objects) (now : seen x ≡ moment_at (at_work k s) [] None) (lt : limit < n + s.turns) (below : KeepsBelow d before temps) where
     through_if : (word f : ℕ) (q : Bool) → (word == function_address f && has_type (header_at env.setting.functions f) type_number) ≡ q → advance g t x ≡ came (choose q (done f) (stop (BadCall line)) (at_work (k + 1) s)) (λ f z. called g t f vs line (Waits (record { function = u; node = n1; place = d; caller = caller s; temps = temps }) ∷ frames) z)
         → Goes g t limit 1 0 u frames (λ v. n1) (ValueIn d before) x k s (on (choose q (done f) (stop (BadCall line)) s) (λ f. env.call f vs line))
     through_if word f true is e =
         let typed = sure.typed f type_number (both _ _ is).1 in
         back_by n1 d before temps x k s (env.call f vs line s) below
-        (calls 1 f vs line _ x k s (record { steps = e; seen_now = now }) good (subst (λ q. ArgumentsAre q.parameters vs s.objects) (sym typed) arguments) lt)
+        (calls 1 f vs line _ x k s (record { steps = e; seen_now = now }) good (subst (λ q. ArgumentsAre (function_count sc) q.parameters vs s.objects) (sym typed) arguments) lt)
     through_if word f false is e = goes_from 1 e (omega arith) (omega arith) (goes_over {c = 0} {k = k + 1} {s = s} {s' = s} refl refl)
 
     through_goes : (word : ℕ) (tag : Tag) → advance g t x ≡ came (callee_by env.setting.functions type_number word tag line (at_work (k + 1) s)) (λ f z. called g t f vs line (Waits (record { function = u; node = n1; place = d; caller = caller s; temps = temps }) ∷ frames) z)
@@ -179,16 +179,16 @@ module _ {g : Setting} {t : Tac} {limit u : ℕ} {frames : List Frame} where
     through_goes word (OfFunction f) e = through_if word f _ refl e
 
   -- the contents of a structure are taken
-  taking_runs : (kind : Kind) (line d n0 n1 : ℕ) (before temps : Temps) (k : ℕ) (s : State) (v : Rvalue) (vars : List Variable) → LowersTaking (placed t u vars) kind line d n0 n1 → temps d ≡ v → KeepsBelow d before temps → ValueIs kind v s.objects
+  taking_runs : (fc : ℕ) (kind : Kind) (line d n0 n1 : ℕ) (before temps : Temps) (k : ℕ) (s : State) (v : Rvalue) (vars : List Variable) → LowersTaking (placed t u vars) kind line d n0 n1 → temps d ≡ v → KeepsBelow d before temps → ValueIs fc kind v s.objects
       → Goes g t limit 2 1 u frames (λ v. n1) (ValueIn d before) (Stands u n0 temps frames (at_work k s)) k s (take_value kind line v s)
-  taking_runs Void line d n0 n1 before temps k s v vars tr e below h = goes_at tr (goes_done (omega arith) refl refl (record { value = e; below = below }))
-  taking_runs (OfScalar c) line d n0 n1 before temps k s v vars tr e below h = goes_at tr (goes_done (omega arith) refl refl (record { value = e; below = below }))
-  taking_runs (Array m) line d n0 n1 before temps k s v vars tr e below h = goes_at tr (goes_done (omega arith) refl refl (record { value = e; below = below }))
-  taking_runs (Structure m) line d n0 n1 before temps k s v vars tr e below h =
+  taking_runs fc Void line d n0 n1 before temps k s v vars tr e below h = goes_at tr (goes_done (omega arith) refl refl (record { value = e; below = below }))
+  taking_runs fc (OfScalar c) line d n0 n1 before temps k s v vars tr e below h = goes_at tr (goes_done (omega arith) refl refl (record { value = e; below = below }))
+  taking_runs fc (Array m) line d n0 n1 before temps k s v vars tr e below h = goes_at tr (goes_done (omega arith) refl refl (record { value = e; below = below }))
+  taking_runs fc (Structure m) line d n0 n1 before temps k s v vars tr e below h =
       let F : Rvalue → State → Stage = given_in u n1 temps d frames in
       let z = at_work (k + 1) s in
       goes_step 1 tr refl
-      (ap (λ v. moved_from (Structure m) v s.objects (came (take_value (Structure m) line v z) F)) e ∙ value_moves (Structure m) v s.objects h _)
+      (ap (λ v. moved_from (Structure m) v s.objects (came (take_value (Structure m) line v z) F)) e ∙ value_moves fc (Structure m) v s.objects h _)
       (goes_last F (acts_take_value (Structure m) line v) (λ w s' k' e'. goes_done (omega arith) refl refl (put_value d w w before temps s' refl below)))
 
 -- what the code of an expression leaves for what follows: it pays for a conversion and two units more
@@ -209,11 +209,11 @@ two_left e = two_left_by (is_converted e)
 three_left : (e : Expression) → is_converted e ≡ false → 3 ≤ left e
 three_left e h = let same : left e ≡ 3 = ap left_by h in omega (arith, same)
 
-pointer_contents : (a : Expression) → is_kind (kind_of a) pointer ≡ true → (x : Rvalue) (objects : Objects) → ValueIs (kind_of a) x objects → x ≡ rvalue x.value
-pointer_contents a is x objects h = plain_contents (kind_of a) x objects (none_like (kind_of a) pointer is tt) h
+pointer_contents : (fc : ℕ) (a : Expression) → is_kind (kind_of a) pointer ≡ true → (x : Rvalue) (objects : Objects) → ValueIs fc (kind_of a) x objects → x ≡ rvalue x.value
+pointer_contents fc a is x objects h = plain_contents fc (kind_of a) x objects (none_like (kind_of a) pointer is tt) h
 
-lvalue_contents : (p : Lvalue) → is_lvalue p ≡ true → (q : Rvalue) (objects : Objects) → LvalueIs (basis_of p) (lvalue_kind p) q objects → q ≡ rvalue q.value
-lvalue_contents p is q objects h = reach_contents (basis_of p) (writable p is) (size_of_kind (lvalue_kind p)) q objects h.reach
+lvalue_contents : (fc : ℕ) (p : Lvalue) → is_lvalue p ≡ true → (q : Rvalue) (objects : Objects) → LvalueIs fc (basis_of p) (lvalue_kind p) q objects → q ≡ rvalue q.value
+lvalue_contents fc p is q objects h = reach_contents fc (basis_of p) (writable p is) (size_of_kind (lvalue_kind p)) q objects h.reach
 
 pub text_at : (t : Tac) (n : ℕ) (text : List ℕ) → HasAt t.texts n text → text_in t n ≡ text
 text_at t n text h = ap if_there h
@@ -229,23 +229,23 @@ module _ (t : Tac) (n : ℕ) (env : Env) (sc : Context) (sure : Calling sc env) 
   abbrev limit : ℕ
   limit = env.limit
 
-  after : (e : Expression) → is_valid sc.scope e ≡ true → (s : State) → IsGood sc s → After sc s (ValueIs (kind_of e)) (evaluate env e s)
+  after : (e : Expression) → is_valid sc.scope e ≡ true → (s : State) → IsGood sc s → After sc s (ValueIs (function_count sc) (kind_of e)) (evaluate env e s)
   after e ok s good = (evaluate_sure sure e (names (agree_same sc.scope) e ok)).by s good tt
 
-  after_place : (p : Lvalue) → is_valid_lvalue sc.scope p ≡ true → (s : State) → IsGood sc s → After sc s (LvalueIs (basis_of p) (lvalue_kind p)) (place env p s)
+  after_place : (p : Lvalue) → is_valid_lvalue sc.scope p ≡ true → (s : State) → IsGood sc s → After sc s (LvalueIs (function_count sc) (basis_of p) (lvalue_kind p)) (place env p s)
   after_place p ok s good = (place_sure sure p (lvalue_names (agree_same sc.scope) p ok)).by s good tt
 
-  after_each : (es : Expressions) → are_valid sc.scope es ≡ true → (s : State) → IsGood sc s → After sc s (ArgumentsAre (kinds_of es)) (each_value (values env es) s)
+  after_each : (es : Expressions) → are_valid sc.scope es ≡ true → (s : State) → IsGood sc s → After sc s (ArgumentsAre (function_count sc) (kinds_of es)) (each_value (values env es) s)
   after_each es ok s good = (values_sure sure es (row_names (agree_same sc.scope) es ok)).by s good tt
 
   named : (node : Node) (kind : Kind) → is_node sc.scope node kind ≡ true → ValueNames sc.scope node kind
   named node kind ok = value_names (agree_same sc.scope) node kind ok
 
   -- the key of an lvalue after the right side of an assignment
-  later : (a : Expression) (s1 s2 : State) (x : Rvalue) → evaluate env a s1 ≡ Gives x s2 → Leaves sc s1 s2 → (ok : Option Key) (v : Value) → IsSoundTag s1.objects v.tag → ((k : Key) → ok ≡ Some k → Right k s1 v)
+  later : (a : Expression) (s1 s2 : State) (x : Rvalue) → evaluate env a s1 ≡ Gives x s2 → Leaves sc s1 s2 → (ok : Option Key) (v : Value) → IsSoundTag (function_count sc) s1.objects v.tag → ((k : Key) → ok ≡ Some k → Right k s1 v)
       → (k : Key) → key_after a ok ≡ Some k → Right k s2 v
   later a s1 s2 x is lv ok v sound h =
-      right_after a s1 s2 (λ y ne. plain_kept y s1 s2 _ x is ((stays y a ne).stays s1)) lv.frame lv.lives.continues ok v sound h
+      right_after (function_count sc) a s1 s2 (λ y ne. plain_kept y s1 s2 _ x is ((stays y a ne).stays s1)) lv.frame lv.lives.continues ok v sound h
 
   mutual
     pub expression_runs : (e : Expression) (d n0 n1 : ℕ) (temps : Temps) (k : ℕ) (s : State) → LowersExpression (placed t u vars) e d n0 n1 → is_valid sc.scope e ≡ true → IsGood sc s → limit < n + s.turns
@@ -278,17 +278,17 @@ module _ (t : Tac) (n : ℕ) (env : Env) (sc : Context) (sure : Calling sc env) 
         (goes_steps w 3 tr.4 refl
         (ap (λ (v : Rvalue). keyed keys tr.1 z v.value (admitted (mode_for j) (size_of_kind pk) v s1.objects (came (read_rvalue pk (is_through (mode_for j)) v (lvalue_line p) z) F))) p1.value
         ∙ key_opens keys tr.1 (read_key p) s1 q.value tr.2 (if_right j (place_key p) s1 q.value (place_right env p s s1 q is1)) (k1 + w) _
-        ∙ access_opens p (size_of_kind pk) q s1.objects w1.reach _ ∙ ap (λ b. came (read_rvalue pk b q (lvalue_line p) z) F) (through_is j))
+        ∙ access_opens (function_count sc) p (size_of_kind pk) q s1.objects w1.reach _ ∙ ap (λ b. came (read_rvalue pk b q (lvalue_line p) z) F) (through_is j))
         (goes_last F (acts_read_rvalue pk j q (lvalue_line p)) (λ v s2 k2 e. goes_done (omega arith) refl refl (put_value d v v temps t1 s2 refl p1.below)))))
     node_runs (decay p) kind line d n0 n1 temps k s tr ok good lt =
         let v = four (is_valid_lvalue sc.scope p) (is_lvalue p) (is_array (lvalue_kind p)) (is_kind kind pointer) ok in
         goes_sure _ (after_place p v.0 _ good) (lvalue_runs p d n0 n1 temps k s tr v.0 good lt) (λ q s1 t1 k1 p1 le1 is1 lv1 w1.
-        goes_done (omega arith) refl refl (turned (lvalue_contents p v.1 q s1.objects w1) p1))
+        goes_done (omega arith) refl refl (turned (lvalue_contents (function_count sc) p v.1 q s1.objects w1) p1))
     node_runs (address p) kind line d n0 n1 temps k s tr ok good lt =
         let v = three (is_valid_lvalue sc.scope p) (is_lvalue p) (is_kind kind pointer) ok in
         goes_counted
         (goes_sure _ (after_place p v.0 _ good) (lvalue_runs p d n0 n1 temps k _ tr v.0 good lt) (λ q s1 t1 k1 p1 le1 is1 lv1 w1.
-        goes_done (omega arith) refl refl (turned (lvalue_contents p v.1 q s1.objects w1) p1)))
+        goes_done (omega arith) refl refl (turned (lvalue_contents (function_count sc) p v.1 q s1.objects w1) p1)))
     node_runs (parenthesized a) kind line d n0 n1 temps k s tr ok good lt =
         let v = both (is_valid sc.scope a) (is_kind kind (kind_of a)) ok in
         goes_counted (goes_less {b = 10} 3 (omega arith) (goes_frame 8 0 2 (two a d n0 n1 temps k _ tr v.0 good lt)))
@@ -296,12 +296,12 @@ module _ (t : Tac) (n : ℕ) (env : Env) (sc : Context) (sure : Calling sc env) 
         let v = three (is_valid sc.scope a) (is_kind (kind_of a) pointer) (is_kind kind pointer) ok in
         goes_counted
         (goes_sure _ (after a v.0 _ good) (two a d n0 n1 temps k _ tr v.0 good lt) (λ x s1 t1 k1 p1 le1 is1 lv1 w1.
-        goes_done (omega arith) refl refl (turned (pointer_contents a v.1 x s1.objects w1) p1)))
+        goes_done (omega arith) refl refl (turned (pointer_contents (function_count sc) a v.1 x s1.objects w1) p1)))
     node_runs (address_function a) kind line d n0 n1 temps k s tr ok good lt =
         let v = three (is_valid sc.scope a) (is_kind (kind_of a) pointer) (is_kind kind pointer) ok in
         goes_counted
         (goes_sure _ (after a v.0 _ good) (two a d n0 n1 temps k _ tr v.0 good lt) (λ x s1 t1 k1 p1 le1 is1 lv1 w1.
-        goes_done (omega arith) refl refl (turned (pointer_contents a v.1 x s1.objects w1) p1)))
+        goes_done (omega arith) refl refl (turned (pointer_contents (function_count sc) a v.1 x s1.objects w1) p1)))
     node_runs (cast a) kind line d n0 n1 temps k s tr ok good lt =
         let v = both (is_valid sc.scope a) (is_conversion (kind_of a) kind) ok in
         goes_counted
@@ -394,8 +394,8 @@ module _ (t : Tac) (n : ℕ) (env : Env) (sc : Context) (sure : Calling sc env) 
         (ap (λ (y : Rvalue). keyed keys tr.2 z y.value (admitted (mode_for j) size y s2.objects (moved_from pk (t2 (d + 1)) s2.objects (came (write_rvalue pk (is_through (mode_for j)) y.value at (t2 (d + 1)) z) F)))) (p2.below d (omega arith) ∙ p1.value)
         ∙ ap (λ (y : Rvalue). keyed keys tr.2 z q.value (admitted (mode_for j) size q s2.objects (moved_from pk y s2.objects (came (write_rvalue pk (is_through (mode_for j)) q.value at y z) F)))) p2.value
         ∙ key_opens keys tr.2 (write_key p a) s2 q.value tr.3 (if_right j (key_after a (place_key p)) s2 q.value (later a s1 s2 x is2 lv2 (place_key p) q.value w1.tag (place_right env p _ s1 q is1))) (k2 + w) _
-        ∙ access_opens p size q s2.objects (reach_later (basis_of p) nm.1 size q s1.objects s2.objects lv2.lives w1.reach) _
-        ∙ value_moves pk x s2.objects (subst (λ y. ValueIs y x s2.objects) (sym nm.3) w2) _ ∙ ap (λ b. came (write_rvalue pk b q.value at x z) F) (through_is j))
+        ∙ access_opens (function_count sc) p size q s2.objects (reach_later (function_count sc) (basis_of p) nm.1 size q s1.objects s2.objects lv2.lives w1.reach) _
+        ∙ value_moves (function_count sc) pk x s2.objects (subst (λ y. ValueIs (function_count sc) y x s2.objects) (sym nm.3) w2) _ ∙ ap (λ b. came (write_rvalue pk b q.value at x z) F) (through_is j))
         (goes_last F (acts_write_rvalue pk j q.value at x) (λ y s3 k3 e.
         goes_done (omega arith) refl refl (put_value d y y temps t2 s3 refl (λ i l. p2.below i (omega arith) ∙ p1.below i l))))))))
     node_runs (assign_plain x a) kind line d n0 n1 temps k s tr ok good lt =
@@ -404,7 +404,7 @@ module _ (t : Tac) (n : ℕ) (env : Env) (sc : Context) (sure : Calling sc env) 
         goes_counted_as (nodes_of x) 16 (omega arith)
         (goes_sure _ (after a v.0 _ good) (two a d n0 tr.0 temps k _ tr.1 v.0 good lt) (λ y s1 t1 k1 p1 le1 is1 lv1 w1.
         goes_step 17 tr.2 refl (ap (λ (w : Rvalue). Stands u n1 t1 frames (at_work (k1 + 1) (with_plain x.variable w.value s1))) p1.value)
-        (goes_done (omega arith) refl refl (turned (plain_contents kind y s1.objects nm.1 (subst (λ z. ValueIs z y s1.objects) (sym (same_kind kind (kind_of a) v.2)) w1)) p1))))
+        (goes_done (omega arith) refl refl (turned (plain_contents (function_count sc) (kind_of a) y s1.objects (plain_is_no_structure sc.scope x.variable (kind_of a) nm.1) w1) p1))))
     node_runs (compound w p a) kind line d n0 n1 temps k s tr ok good lt =
         let v = five (is_valid_lvalue sc.scope p) (is_lvalue p) (is_valid sc.scope a) _ _ ok in
         let nm = named (compound w p a) kind ok in
@@ -424,7 +424,7 @@ module _ (t : Tac) (n : ℕ) (env : Env) (sc : Context) (sure : Calling sc env) 
         (ap (λ (x : Rvalue). keyed keys tr.2 z x.value (admitted (mode_for j) (scalar_size sk) x s2.objects (came (as_rvalue (update sk (is_through (mode_for j)) x.value at (updated w sk (t2 (d + 1)).value line) Prefix) z) F))) (p2.below d (omega arith) ∙ p1.value)
         ∙ ap (λ (x : Rvalue). keyed keys tr.2 z q.value (admitted (mode_for j) (scalar_size sk) q s2.objects (came (as_rvalue (update sk (is_through (mode_for j)) q.value at (updated w sk x.value line) Prefix) z) F))) p2.value
         ∙ key_opens keys tr.2 (write_key p a) s2 q.value tr.3 (if_right j (key_after a (place_key p)) s2 q.value (later a s1 s2 y is2 lv2 (place_key p) q.value w1.tag (place_right env p _ s1 q is1))) (k2 + w') _
-        ∙ access_opens p (scalar_size sk) q s2.objects (reach_scalar (basis_of p) (lvalue_kind p) nm.2 q s2.objects (reach_later (basis_of p) nm.1 (size_of_kind (lvalue_kind p)) q s1.objects s2.objects lv2.lives w1.reach)) _
+        ∙ access_opens (function_count sc) p (scalar_size sk) q s2.objects (reach_scalar (function_count sc) (basis_of p) (lvalue_kind p) (updates_scalar w (lvalue_kind p) nm.2) q s2.objects (reach_later (function_count sc) (basis_of p) nm.1 (size_of_kind (lvalue_kind p)) q s1.objects s2.objects lv2.lives w1.reach)) _
         ∙ ap (λ b. came (as_rvalue (update sk b q.value at (updated w sk y.value line) Prefix) z) F) (through_is j))
         (goes_last F (acts_as (acts_update sk j q.value at w y.value line Prefix)) (λ x s3 k3 e.
         goes_done (omega arith) refl refl (put_value d x x temps t2 s3 refl (λ i l. p2.below i (omega arith) ∙ p1.below i l))))))))
@@ -455,7 +455,7 @@ module _ (t : Tac) (n : ℕ) (env : Env) (sc : Context) (sure : Calling sc env) 
         (goes_steps w' 11 tr.4 refl
         (ap (λ (x : Rvalue). keyed keys tr.1 z x.value (admitted (mode_for j) (scalar_size sk) x s1.objects (came (as_rvalue (update sk (is_through (mode_for j)) x.value at (updated w sk (integer 1) line) fixity) z) F))) p1.value
         ∙ key_opens keys tr.1 (read_key p) s1 q.value tr.2 (if_right j (place_key p) s1 q.value (place_right env p _ s1 q is1)) (k1 + w') _
-        ∙ access_opens p (scalar_size sk) q s1.objects (reach_scalar (basis_of p) (lvalue_kind p) nm.2 q s1.objects w1.reach) _
+        ∙ access_opens (function_count sc) p (scalar_size sk) q s1.objects (reach_scalar (function_count sc) (basis_of p) (lvalue_kind p) (updates_scalar w (lvalue_kind p) nm.2) q s1.objects w1.reach) _
         ∙ ap (λ b. came (as_rvalue (update sk b q.value at (updated w sk (integer 1) line) fixity) z) F) (through_is j))
         (goes_last F (acts_as (acts_update sk j q.value at w (integer 1) line fixity)) (λ x s2 k2 e.
         goes_done (omega arith) refl refl (put_value d x x temps t1 s2 refl p1.below))))))
@@ -475,7 +475,7 @@ module _ (t : Tac) (n : ℕ) (env : Env) (sc : Context) (sure : Calling sc env) 
         let does = ap (λ j. act_at g t j u t1 frames (at_work k1 s1)) tr.2 ∙ ap (λ l. called g t f l line (w ∷ frames) (at_work (k1 + 1) s1)) p1.values in
         goes_less {b = 7} 3 (omega arith)
         (goes_frame 7 1 0 (back_by n1 d temps t1 _ k1 s1 _ p1.below
-        (calls 1 f vs line (w ∷ frames) _ k1 s1 (record { steps = does; seen_now = refl }) lv1.good (subst (λ ks. ArgumentsAre ks vs s1.objects) nm.1 w1) (omega (arith, le1, lt)))))))
+        (calls 1 f vs line (w ∷ frames) _ k1 s1 (record { steps = does; seen_now = refl }) lv1.good (subst (λ ks. ArgumentsAre (function_count sc) ks vs s1.objects) nm.1 w1) (omega (arith, le1, lt)))))))
     node_runs (call_through type_number a args) kind line d n0 n1 temps k s tr ok good lt =
         let v = five (is_valid sc.scope a) _ (are_valid sc.scope args) _ _ ok in
         let nm = named (call_through type_number a args) kind ok in
@@ -492,7 +492,7 @@ module _ (t : Tac) (n : ℕ) (env : Env) (sc : Context) (sure : Calling sc env) 
         in
         goes_less {b = 9} 3 (omega arith)
         (goes_frame 9 1 0
-        (through_goes n sc env sure refl calls vs line n1 d temps t2 _ k2 s2 lv2.good type_number (subst (λ ks. ArgumentsAre ks vs s2.objects) nm.2 w2) refl (omega (arith, le1, le2, lt)) (λ i l. p2.below i (omega arith) ∙ p1.below i l) x.value.word x.value.tag does)))))
+        (through_goes n sc env sure refl calls vs line n1 d temps t2 _ k2 s2 lv2.good type_number (subst (λ ks. ArgumentsAre (function_count sc) ks vs s2.objects) nm.2 w2) refl (omega (arith, le1, le2, lt)) (λ i l. p2.below i (omega arith) ∙ p1.below i l) x.value.word x.value.tag does)))))
     node_runs (library name args) kind line d n0 n1 temps k s tr ok good lt =
         let v = both (are_valid sc.scope args) _ ok in
         goes_counted
@@ -530,7 +530,7 @@ module _ (t : Tac) (n : ℕ) (env : Env) (sc : Context) (sure : Calling sc env) 
         let v = three (is_valid sc.scope a) (is_kind (kind_of a) pointer) _ ok in
         goes_counted
         (goes_sure _ (after a v.0 _ good) (two a d n0 n1 temps k _ tr v.0 good lt) (λ x s1 t1 k1 p1 le1 is1 lv1 w1.
-        goes_done (omega arith) refl refl (turned (pointer_contents a v.1 x s1.objects w1) p1)))
+        goes_done (omega arith) refl refl (turned (pointer_contents (function_count sc) a v.1 x s1.objects w1) p1)))
     place_runs (index form size a b) kind d n0 n1 temps k s tr ok good lt =
         let p = both _ (is_size size) ok in
         let v = six (is_valid sc.scope a) (is_valid sc.scope b) _ _ _ _ p.0 in
@@ -565,7 +565,7 @@ module _ (t : Tac) (n : ℕ) (env : Env) (sc : Context) (sure : Calling sc env) 
         → Goes g t limit 0 1 u frames (λ v. n1) (ValueIn d temps) (Stands u n0 temps frames (at_work k s)) k s (argument (kind_of e) (line_of e) (evaluate env e) s)
     argument_at (expression kind line node) d n0 j n1 temps k s tr take ok good lt =
         goes_sure _ (after (expression kind line node) ok _ good) (goes_less 2 (two_left_by (is_convert node)) (node_runs node kind line d n0 j temps k s tr ok good lt)) (λ v s1 t1 k1 p1 le1 is1 lv1 w1.
-        taking_runs kind line d j n1 temps t1 k1 s1 v vars take p1.value p1.below w1)
+        taking_runs (function_count sc) kind line d j n1 temps t1 k1 s1 v vars take p1.value p1.below w1)
 
     arguments_run : (es : Expressions) (d n0 n1 : ℕ) (temps : Temps) (k : ℕ) (s : State) → LowersArguments (placed t u vars) es d n0 n1 → are_valid sc.scope es ≡ true → IsGood sc s → limit < n + s.turns
         → Goes g t limit 0 0 u frames (λ vs. n1) (ValuesIn d temps (count es)) (Stands u n0 temps frames (at_work k s)) k s (each_value (values env es) s)

@@ -30,12 +30,13 @@ granted b a size live q p e = go (nat_le b.base a) (nat_le (a + size) b.bound) l
     go true false l ex ey el h = absurd cc
     go false y l ex ey el h = absurd cc
 
-judged_inside : (objects : Objects) (size : ℕ) (t : Tag) (a : ℕ) (p : Place) → IsSoundTag objects t
+judged_inside : (functions : ℕ) (objects : Objects) (size : ℕ) (t : Tag) (a : ℕ) (p : Place)
+    → IsSoundTag functions objects t
     → judged size t a objects ≡ Inside p
     → IsAllowed objects (record { word = a; tag = t }) size p
-judged_inside objects size Untagged a p h e = absurd cc
-judged_inside objects size (OfFunction f) a p h e = absurd cc
-judged_inside objects size (OfObject o b) a p h e =
+judged_inside functions objects size Untagged a p h e = absurd cc
+judged_inside functions objects size (OfFunction f) a p h e = absurd cc
+judged_inside functions objects size (OfObject o b) a p h e =
     let g = granted b a size (object_at objects o).is_live (place_in objects o a) p e in
     subst (λ q. IsAllowed objects (record { word = a; tag = OfObject o b }) size q) g.place (record {
       place = record {
@@ -47,34 +48,48 @@ judged_inside objects size (OfObject o b) a p h e =
     })
 
 -- an access that is judged to be inside is of bytes of a live object, those at its address
-pub judge_inside : (objects : Objects) (size : ℕ) (v : Value) (p : Place) → IsSoundTag objects v.tag
+pub judge_inside : (functions : ℕ) (objects : Objects) (size : ℕ) (v : Value) (p : Place)
+    → IsSoundTag functions objects v.tag
     → judge size v objects ≡ Inside p → IsAllowed objects v size p
 unfolding judge
-judge_inside objects size v p h e = judged_inside objects size v.tag v.word p h e
+judge_inside functions objects size v p h e = judged_inside functions objects size v.tag v.word p h e
 
-pub sound_pointer : (n : ℕ) (objects : Objects) → n < length objects → IsSoundTag objects (pointer_to n objects).tag
+pub sound_pointer : (functions : ℕ) (n : ℕ) (objects : Objects) → n < length objects
+    → (object_at objects n).address + (object_at objects n).size < 2 ^ 64
+    → IsSoundTag functions objects (pointer_to n objects).tag
 unfolding pointer_to
-sound_pointer n objects h = record { made = h; base = omega arith; bound = omega arith }
+sound_pointer functions n objects h low = record {
+  made = h;
+  base = omega arith;
+  bound = omega arith;
+  base_word = omega arith;
+  bound_word = omega arith;
+}
 
-narrowed_tag_sound : (objects : Objects) (a size : ℕ) (t : Tag) → IsSoundTag objects t
-    → IsSoundTag objects (narrowed_tag a size t)
-narrowed_tag_sound objects a size Untagged h = tt
-narrowed_tag_sound objects a size (OfFunction f) h = tt
-narrowed_tag_sound objects a size (OfObject o b) h = record {
+narrowed_tag_sound : (functions : ℕ) (objects : Objects) (a size : ℕ) (t : Tag) → a < 2 ^ 64
+    → IsSoundTag functions objects t
+    → IsSoundTag functions objects (narrowed_tag a size t)
+narrowed_tag_sound functions objects a size Untagged w h = tt
+narrowed_tag_sound functions objects a size (OfFunction f) w h = h
+narrowed_tag_sound functions objects a size (OfObject o b) w h = record {
   made = h.made;
   base = omega (arith, h.base);
   bound = omega (arith, h.bound);
+  base_word = omega (arith, h.base_word, w);
+  bound_word = omega (arith, h.bound_word);
 }
 
-pub sound_narrowed : (objects : Objects) (offset size : ℕ) (v : Value) → IsSoundTag objects v.tag
-    → IsSoundTag objects (narrowed offset size v).tag
+pub sound_narrowed : (functions : ℕ) (objects : Objects) (offset size : ℕ) (v : Value)
+    → IsSoundTag functions objects v.tag
+    → IsSoundTag functions objects (narrowed offset size v).tag
 unfolding narrowed
-sound_narrowed objects offset size v h = narrowed_tag_sound objects ((v.word + offset) % 2 ^ 64) size v.tag h
+sound_narrowed functions objects offset size v h =
+    narrowed_tag_sound functions objects ((v.word + offset) % 2 ^ 64) size v.tag (omega arith) h
 
-pub sound_offset : (objects : Objects) (offset : ℕ) (v : Value) → IsSoundTag objects v.tag
-    → IsSoundTag objects (moved offset v).tag
+pub sound_offset : (functions : ℕ) (objects : Objects) (offset : ℕ) (v : Value) → IsSoundTag functions objects v.tag
+    → IsSoundTag functions objects (moved offset v).tag
 unfolding moved
-sound_offset objects offset v h = h
+sound_offset functions objects offset v h = h
 
 narrowed_tag_part : (a size : ℕ) (t : Tag) → IsPartOf (narrowed_tag a size t) t
 narrowed_tag_part a size Untagged = tt

@@ -1,8 +1,9 @@
 -- Objects that are made, set to zero and dead.
-use Rattle.std.proofs.Common.{◌≡◌, ◌≢◌, ℕ, zero, suc, ◌/◌, ◌<◌, true, false, if◌then◌else◌, inl, inr, List, [], ◌∷◌}
+use Rattle.std.proofs.Common.{◌≡◌, ◌≢◌, ℕ, zero, suc, ◌/◌, ◌<◌, ◌≤◌, true, false, if◌then◌else◌, inl, inr, [], ◌∷◌}
 use Rattle.std.proofs.Common.{◌++◌, length, drop, get_or, set, replicate, refl, ap, sym, ◌∙◌, subst, arith}
 use Rattle.std.proofs.lemmas.List.{get_or_append_left}
 use Rattle.obj_memory.specs.declared.object.Storage.{Storage}
+use Rattle.obj_memory.specs.declared.object.Storage.TheVariants.{Static, Automatic, Allocated}
 use Rattle.obj_memory.specs.declared.value.Tag.TheVariants.{Untagged}
 use Rattle.obj_memory.specs.declared.value.Place.{Place}
 use Rattle.obj_memory.specs.declared.value.Scalar.{Scalar}
@@ -12,7 +13,8 @@ use Rattle.obj_memory.specs.Objects.{ObjectState, Objects, no_object, object_at,
 use Rattle.obj_memory.specs.Objects.{with_zeroed}
 use Rattle.obj_memory.specs.Access.{is_aligned, bytes_at, tag_at, read_value}
 use Rattle.byteorder.specs.Endian.{little_number}
-use Rattle.obj_memory.specs.Sound.{KeepsObjects, AreDisjoint, DoNotMeet}
+use Rattle.obj_memory.specs.Sound.{KeepsObjects, AreBeside, AreDisjoint, DoNotMeet}
+use Rattle.obj_memory.specs.Heap.{object_room}
 use Rattle.obj_memory.proofs.Listed.{at_set, at_added, every_replicate, every_take, every_drop}
 use Rattle.obj_memory.proofs.Reading.{object_set, object_set_other}
 use Rattle.obj_memory.proofs.Words.{fit_zero}
@@ -52,6 +54,20 @@ dead_other n m objects h = object_set_other objects n m _ h
 pub zeroed_other : (n m : ℕ) (objects : Objects) → m ≢ n → object_at (with_zeroed n objects) m ≡ object_at objects m
 unfolding with_zeroed
 zeroed_other n m objects h = object_set_other objects n m _ h
+
+-- the whole object
+pub dead_object : (n : ℕ) (objects : Objects) → n < length objects
+    → object_at (with_dead n objects) n ≡ record (object_at objects n) { is_live = false }
+unfolding with_dead
+dead_object n objects h = object_set objects n _ h
+
+pub zeroed_object : (n : ℕ) (objects : Objects) → n < length objects
+    → object_at (with_zeroed n objects) n ≡ record (object_at objects n) {
+      bytes = replicate (object_at objects n).size 0;
+      tags = replicate ((object_at objects n).size / 8) Untagged;
+    }
+unfolding with_zeroed
+zeroed_object n objects h = object_set objects n _ h
 
 -- zero bytes
 pub record HasZeros (o : ObjectState) : Type 0 where
@@ -108,11 +124,12 @@ pub disjoint_kept : (old new : Objects) → KeepsObjects old new → AreDisjoint
 disjoint_kept old new k d = record {
   apart = λ m n other lm ln.
       let h = d.apart m n other (sym (k.at m).live ∙ lm) (sym (k.at n).live ∙ ln) in
-      rw ((k.at m).address, (k.at m).size, (k.at n).address, (k.at n).size) h;
+      rw ((k.at m).address, (k.at m).size, (k.at m).storage, (k.at n).address, (k.at n).size, (k.at n).storage) h;
 }
 
 -- an object that stays where it is, and is live only if it was
 record IsNoMoreLive (old new : ObjectState) : Type 0 where
+  storage : new.storage ≡ old.storage
   address : new.address ≡ old.address
   size : new.size ≡ old.size
   live : new.is_live ≡ true → old.is_live ≡ true
@@ -123,11 +140,12 @@ no_more_live n m objects =
     at_set (λ o. IsNoMoreLive (object_at objects m) o) no_object objects n m
     (record (object_at objects n) { is_live = false })
     (λ e. record {
+      storage = ap (λ k. (object_at objects k).storage) (sym e);
       address = ap (λ k. (object_at objects k).address) (sym e);
       size = ap (λ k. (object_at objects k).size) (sym e);
       live = λ h. absurd cc;
     })
-    (record { address = refl; size = refl; live = λ h. h })
+    (record { storage = refl; address = refl; size = refl; live = λ h. h })
 
 pub disjoint_dead : (n : ℕ) (objects : Objects) → AreDisjoint objects → AreDisjoint (with_dead n objects)
 disjoint_dead n objects d = record {
@@ -135,8 +153,26 @@ disjoint_dead n objects d = record {
       let a = no_more_live n m objects in
       let b = no_more_live n k objects in
       let h = d.apart m k other (a.live lm) (b.live lk) in
-      rw (a.address, a.size, b.address, b.size) h;
+      rw (a.storage, a.address, a.size, b.storage, b.address, b.size) h;
 }
+
+-- an object takes the bytes that it has
+fits_by : (storage : Storage) (size : ℕ) → size ≤ object_room storage size
+fits_by Static size = omega arith
+fits_by Automatic size = omega arith
+fits_by Allocated size = omega arith
+
+beside_bytes : (o x : ObjectState) → AreBeside o x → DoNotMeet o.address o.size x.address x.size
+beside_bytes o x (inl before) = inl (omega (arith, before, fits_by o.storage o.size))
+beside_bytes o x (inr behind) = inr (omega (arith, behind, fits_by x.storage x.size))
+
+pub disjoint_bytes : (objects : Objects) → AreDisjoint objects → (m n : ℕ) → m ≢ n
+    → (object_at objects m).is_live ≡ true
+    → (object_at objects n).is_live ≡ true
+    → DoNotMeet (object_at objects m).address (object_at objects m).size (object_at objects n).address
+    (object_at objects n).size
+disjoint_bytes objects d m n other lm ln =
+    beside_bytes (object_at objects m) (object_at objects n) (d.apart m n other lm ln)
 
 swapped : (a s b t : ℕ) → DoNotMeet a s b t → DoNotMeet b t a s
 swapped a s b t (inl before) = inr before
@@ -144,7 +180,7 @@ swapped a s b t (inr behind) = inl behind
 
 -- two objects that share no address if they are live
 Apart : (o x : ObjectState) → Type 0
-Apart o x = o.is_live ≡ true → x.is_live ≡ true → DoNotMeet o.address o.size x.address x.size
+Apart o x = o.is_live ≡ true → x.is_live ≡ true → AreBeside o x
 
 apart_added : (objects : Objects) (x : ObjectState) → AreDisjoint objects
     → ((n : ℕ) → Apart x (object_at objects n)) → (m n : ℕ) → m ≢ n
@@ -154,12 +190,12 @@ apart_added objects x d clear m n other =
     at_added (λ o. Apart o (object_at (objects ++ (x ∷ [])) n)) no_object objects m x
     (λ e. at_added (λ q. Apart x q) no_object objects n x (λ f. absurd (other (e ∙ sym f))) (clear n))
     (at_added (λ q. Apart (object_at objects m) q) no_object objects n x
-    (λ f lm lx. swapped x.address x.size _ _ (clear m lx lm))
+    (λ f lm lx. swapped x.address (object_room x.storage x.size) _ _ (clear m lx lm))
     (d.apart m n other))
 
 pub disjoint_new : (storage : Storage) (address size : ℕ) (objects : Objects) → AreDisjoint objects
-    → ((n : ℕ) → (object_at objects n).is_live ≡ true → DoNotMeet address size (object_at objects n).address
-    (object_at objects n).size)
+    → ((n : ℕ) → (object_at objects n).is_live ≡ true → AreBeside (new_object storage address size)
+    (object_at objects n))
     → AreDisjoint (with_new storage address size objects)
 unfolding with_new Apart new_object
 disjoint_new storage address size objects d clear = record {

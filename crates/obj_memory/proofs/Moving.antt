@@ -27,7 +27,7 @@ get_or-moved_tags size start source from word (t ∷ ts) (suc k) n e h =
     get_or-moved_tags size start source from (word + 1) ts k n (omega (arith, e)) (omega arith)
 
 -- the object that a move leaves at its destination
-moved_object : (size : ℕ) (d s : Place) (objects : Objects) → ObjectState
+abbrev moved_object : (size : ℕ) (d s : Place) (objects : Objects) → ObjectState
 moved_object size d s objects =
     let o = object_at objects d.object in
     record o {
@@ -36,9 +36,9 @@ moved_object size d s objects =
           (object_at objects s.object).tags 0 o.tags else o.tags;
     }
 
-moved_is : (size : ℕ) (d s : Place) (objects : Objects) → d.object < length objects
+pub moved_is : (size : ℕ) (d s : Place) (objects : Objects) → d.object < length objects
     → object_at (move_range size d s objects) d.object ≡ moved_object size d s objects
-unfolding move_range moved_object
+unfolding move_range
 moved_is size d s objects h = object_set objects d.object _ h
 
 -- other objects
@@ -48,10 +48,10 @@ unfolding move_range
 moved_other size d s n objects h = object_set_other objects d.object n _ h
 
 -- the bytes
-pub bytes_moved : (size : ℕ) (d s : Place) (objects : Objects) → IsSound objects → IsPlace objects d size
+pub bytes_moved : {functions : ℕ} (size : ℕ) (d s : Place) (objects : Objects) → IsSound functions objects
+    → IsPlace objects d size
     → IsPlace objects s size
     → bytes_at size d (move_range size d s objects) ≡ bytes_at size s objects
-unfolding moved_object
 bytes_moved size d s objects h to from =
     let o = object_at objects d.object in
     let new = bytes_at size s objects in
@@ -61,11 +61,11 @@ bytes_moved size d s objects h to from =
     ∙ subst (λ n. take n (drop d.offset (overwrite d.offset new o.bytes)) ≡ new) long
     (overwrite-read d.offset new o.bytes fits)
 
-beside_move : (size : ℕ) (d s : Place) (objects : Objects) → IsSound objects → IsPlace objects d size
+beside_move : {functions : ℕ} (size : ℕ) (d s : Place) (objects : Objects) → IsSound functions objects
+    → IsPlace objects d size
     → IsPlace objects s size → (i n : ℕ)
     → (i + n ≤ d.offset) ⊎ (d.offset + size ≤ i)
     → take n (drop i (moved_object size d s objects).bytes) ≡ take n (drop i (object_at objects d.object).bytes)
-unfolding moved_object
 beside_move size d s objects h to from i n apart =
     let o = object_at objects d.object in
     let new = bytes_at size s objects in
@@ -74,7 +74,8 @@ beside_move size d s objects h to from i n apart =
     (subst (λ k. (i + n ≤ d.offset) ⊎ (d.offset + k ≤ i)) (sym long) apart)
 
 -- the bytes beside, in the same object
-pub bytes_moved_beside : (size : ℕ) (d s : Place) (objects : Objects) (i n : ℕ) → IsSound objects
+pub bytes_moved_beside : {functions : ℕ} (size : ℕ) (d s : Place) (objects : Objects) (i n : ℕ)
+    → IsSound functions objects
     → IsPlace objects d size → IsPlace objects s size
     → (i + n ≤ d.offset) ⊎ (d.offset + size ≤ i)
     → take n (drop i (object_at (move_range size d s objects) d.object).bytes)
@@ -84,12 +85,12 @@ bytes_moved_beside size d s objects i n h to from apart =
     ∙ beside_move size d s objects h to from i n apart
 
 -- the tag of a whole word of the destination: its source's, where both places are equal modulo 8
-pub tag_moved : (size : ℕ) (d s : Place) (k : ℕ) (objects : Objects) → IsSound objects → IsPlace objects d size
+pub tag_moved : {functions : ℕ} (size : ℕ) (d s : Place) (k : ℕ) (objects : Objects) → IsSound functions objects
+    → IsPlace objects d size
     → d.offset % 8 ≡ s.offset % 8
     → d.offset ≤ 8 * k → 8 * k + 8 ≤ d.offset + size
     → get_or (object_at (move_range size d s objects) d.object).tags k Untagged
     ≡ get_or (object_at objects s.object).tags ((8 * k - d.offset + s.offset) / 8) Untagged
-unfolding moved_object
 tag_moved size d s k objects h to same ge le =
     let o = object_at objects d.object in
     let from = (object_at objects s.object).tags in
@@ -123,7 +124,6 @@ pub tag_not_moved : (size : ℕ) (d s : Place) (k : ℕ) (objects : Objects) →
     → (d.offset % 8 ≢ s.offset % 8) ⊎ ((8 * k < d.offset) ⊎ (d.offset + size < 8 * k + 8))
     → get_or (object_at (move_range size d s objects) d.object).tags k Untagged
     ≡ get_or (object_at objects d.object).tags k Untagged
-unfolding moved_object
 tag_not_moved size d s k objects h out =
     ap (λ x. get_or x.tags k Untagged) (moved_is size d s objects h) ∙ go out
   where

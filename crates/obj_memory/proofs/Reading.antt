@@ -1,5 +1,5 @@
 -- What is read after a write: what was written there, and what stood at other places.
-use Rattle.std.proofs.Common.{◌≡◌, ◌≢◌, ℕ, ◌+◌, ◌*◌, ◌/◌, ◌%◌, ◌^◌, ◌<◌, ◌≤◌, Bool, true, false, if◌then◌else◌, ◌⊎◌}
+use Rattle.std.proofs.Common.{◌≡◌, ◌≢◌, ℕ, ◌+◌, ◌/◌, ◌%◌, ◌^◌, ◌<◌, ◌≤◌, Bool, true, false, if◌then◌else◌, ◌⊎◌}
 use Rattle.std.proofs.Common.{inl, inr, List, length, take, drop, get_or, set, refl, ap, sym, ◌∙◌, subst, arith}
 use Rattle.std.proofs.lemmas.Bool.{eqb-true, eq-eqb}
 use Rattle.std.proofs.lemmas.Bool.Decides.{nat_tests}
@@ -23,7 +23,7 @@ use Rattle.obj_memory.specs.Sound.AreApart.{InOthers, Before, Behind}
 use Rattle.obj_memory.proofs.Listed.{at_set, overwrite-read, overwrite-other}
 use Rattle.obj_memory.proofs.Bytes.{little_bytes_below, little_number-bytes}
 use Rattle.obj_memory.proofs.Words.{fit_bytes, fit_below}
-use Rattle.obj_memory.proofs.Soundness.{bytes_at_below, length-bytes_at, sound_bytes}
+use Rattle.obj_memory.proofs.Soundness.{bytes_at_below, sound_bytes}
 use Rattle.obj_memory.proofs.Keeping.{keeps_bytes}
 
 -- the object of a write, and the others
@@ -43,7 +43,8 @@ field_kept f objects n m x e =
     (λ s. subst (λ k. f x ≡ f (object_at objects k)) (sym s) e) refl
 
 -- bytes
-pub bytes_written : (new : List ℕ) (p : Place) (objects : Objects) → IsSound objects → IsPlace objects p (length new)
+pub bytes_written : {functions : ℕ} (new : List ℕ) (p : Place) (objects : Objects) → IsSound functions objects
+    → IsPlace objects p (length new)
     → bytes_at (length new) p (write_bytes new p objects) ≡ new
 unfolding write_bytes
 bytes_written new p objects h place =
@@ -51,7 +52,8 @@ bytes_written new p objects h place =
     ap (λ x. take (length new) (drop p.offset x.bytes)) (object_set objects p.object _ place.made)
     ∙ overwrite-read p.offset new o.bytes (omega (arith, place.room, (h.at p.object).bytes))
 
-beside : (new : List ℕ) (p q : Place) (n : ℕ) (objects : Objects) → IsSound objects → IsPlace objects p (length new)
+beside : {functions : ℕ} (new : List ℕ) (p q : Place) (n : ℕ) (objects : Objects) → IsSound functions objects
+    → IsPlace objects p (length new)
     → (q.offset + n ≤ p.offset) ⊎ (p.offset + length new ≤ q.offset)
     → take n (drop q.offset (object_at (set objects p.object (record
     (object_at objects p.object) {
@@ -70,7 +72,7 @@ beside new p q n objects h place apart =
     (overwrite-other 0 p.offset new o.bytes q.offset n fits apart))
     refl
 
-pub bytes_apart : (new : List ℕ) (p q : Place) (n : ℕ) (objects : Objects) → IsSound objects
+pub bytes_apart : {functions : ℕ} (new : List ℕ) (p q : Place) (n : ℕ) (objects : Objects) → IsSound functions objects
     → IsPlace objects p (length new) → AreApart p (length new) q n
     → bytes_at n q (write_bytes new p objects) ≡ bytes_at n q objects
 unfolding write_bytes
@@ -99,7 +101,8 @@ bytes_after_tag t p q n objects =
     ]
 
 -- the tag of a word that was set
-pub tag_written : (t : Tag) (p : Place) (objects : Objects) → IsSound objects → IsPlace objects p 8
+pub tag_written : {functions : ℕ} (t : Tag) (p : Place) (objects : Objects) → IsSound functions objects
+    → IsPlace objects p 8
     → tag_at p (write_tag t p objects) ≡ (if is_aligned p.offset then t else Untagged)
 unfolding write_tag
 tag_written t p objects h place = go (is_aligned p.offset) refl
@@ -174,7 +177,8 @@ place_kept old new p size k place = record {
 }
 
 -- the bytes beside a write
-integer_apart : (t : IntType) (v : Value) (p q : Place) (n : ℕ) (objects : Objects) → IsSound objects
+integer_apart : {functions : ℕ} (t : IntType) (v : Value) (p q : Place) (n : ℕ) (objects : Objects)
+    → IsSound functions objects
     → IsPlace objects p (size_of t) → AreApart p (size_of t) q n
     → bytes_at n q (write_bytes (little_bytes (size_of t) v.word) p objects) ≡ bytes_at n q objects
 integer_apart t v p q n objects h place apart =
@@ -183,7 +187,8 @@ integer_apart t v p q n objects h place apart =
     bytes_apart new p q n objects h (subst (λ k. IsPlace objects p k) (sym long) place)
     (subst (λ k. AreApart p k q n) (sym long) apart)
 
-pointer_apart : (v : Value) (p q : Place) (n : ℕ) (objects : Objects) → IsSound objects → IsPlace objects p 8
+pointer_apart : {functions : ℕ} (v : Value) (p q : Place) (n : ℕ) (objects : Objects) → IsSound functions objects
+    → IsPlace objects p 8
     → AreApart p 8 q n
     → bytes_at n q (write_tag v.tag p (write_bytes (little_bytes 8 v.word) p objects)) ≡ bytes_at n q objects
 pointer_apart v p q n objects h place apart =
@@ -194,7 +199,7 @@ pointer_apart v p q n objects h place apart =
     (subst (λ k. AreApart p k q n) (sym long) apart)
 
 -- values
-pub read_written : (s : Scalar) (v : Value) (p : Place) (objects : Objects) → IsSound objects
+pub read_written : {functions : ℕ} (s : Scalar) (v : Value) (p : Place) (objects : Objects) → IsSound functions objects
     → IsPlace objects p (scalar_size s) → v.word < 2 ^ 64
     → read_value s p (write_value s v p objects) ≡ kept_value s v p
 unfolding read_value write_value kept_value
@@ -207,7 +212,7 @@ read_written (Integer t) v p objects h place small =
     ap (λ n. record { word = fit t n; tag = Untagged }) (ap (little_number (size_of t)) same
     ∙ little_number-bytes (size_of t) v.word)
     ∙ ap (λ n. record { word = n; tag = Untagged }) (fit_bytes t v.word)
-read_written Pointer v p objects h place small =
+read_written {functions = functions} Pointer v p objects h place small =
     let new = little_bytes 8 v.word in
     let after = write_bytes new p objects in
     let long : length new ≡ 8 = length-bytes_low_first 0 8 v.word in
@@ -217,13 +222,15 @@ read_written Pointer v p objects h place small =
     let bytes : bytes_at 8 p (write_tag v.tag p after) ≡ new = bytes_after_tag v.tag p p 8 after ∙ same in
     let number : little_number 8 (bytes_at 8 p (write_tag v.tag p after)) ≡ v.word =
     ap (little_number 8) bytes ∙ little_number-bytes 8 v.word ∙ mod-eq_of_lt small in
-    let sound : IsSound after = sound_bytes new p objects h (subst (λ n. IsPlace objects p n) (sym long) place)
+    let sound : IsSound functions after = sound_bytes new p objects h
+    (subst (λ n. IsPlace objects p n) (sym long) place)
     (little_bytes_below 8 v.word) in
     let there : IsPlace after p 8 = place_kept objects after p 8 (keeps_bytes new p objects) place in
     ap (λ n. record { word = n; tag = tag_at p (write_tag v.tag p after) }) number
     ∙ ap (λ t. record { word = v.word; tag = t }) (tag_written v.tag p after sound there)
 
-pub read_apart : (s : Scalar) (v : Value) (p : Place) (r : Scalar) (q : Place) (objects : Objects) → IsSound objects
+pub read_apart : {functions : ℕ} (s : Scalar) (v : Value) (p : Place) (r : Scalar) (q : Place) (objects : Objects)
+    → IsSound functions objects
     → IsPlace objects p (scalar_size s)
     → AreApart p (scalar_size s) q (scalar_size r) → read_value r q (write_value s v p objects) ≡ read_value r q objects
 unfolding read_value write_value
@@ -249,18 +256,23 @@ read_apart Pointer v p Pointer q objects h place apart =
     (tag_apart v.tag p q after apart ∙ tags_after_bytes (little_bytes 8 v.word) p q objects)
 
 -- a value that is read
-pub read_below : (s : Scalar) (p : Place) (objects : Objects) → IsSound objects → IsPlace objects p (scalar_size s)
+-- eight bytes are a word
+pub number_below : (bytes : List ℕ) → ((k : ℕ) → get_or bytes k 0 < 256) → little_number 8 bytes < 2 ^ 64
+number_below bytes h = little_from-lt 0 8 bytes h
+
+pub read_below : {functions : ℕ} (s : Scalar) (p : Place) (objects : Objects) → IsSound functions objects
+    → IsPlace objects p (scalar_size s)
     → (read_value s p objects).word < 2 ^ 64
 unfolding read_value
 read_below (Integer t) p objects h place = fit_below t _
-read_below Pointer p objects h place = little_from-lt 0 8 (bytes_at 8 p objects) (bytes_at_below 8 p objects h)
+read_below Pointer p objects h place = number_below (bytes_at 8 p objects) (bytes_at_below 8 p objects h)
 
-pub sound_read : (s : Scalar) (p : Place) (objects : Objects) → IsSound objects
-    → IsSoundTag objects (read_value s p objects).tag
+pub sound_read : {functions : ℕ} (s : Scalar) (p : Place) (objects : Objects) → IsSound functions objects
+    → IsSoundTag functions objects (read_value s p objects).tag
 unfolding read_value
 sound_read (Integer t) p objects h = tt
-sound_read Pointer p objects h =
-    elim (is_aligned p.offset) as (λ b. IsSoundTag objects (if b then get_or (object_at objects p.object).tags
+sound_read {functions = functions} Pointer p objects h =
+    elim (is_aligned p.offset) as (λ b. IsSoundTag functions objects (if b then get_or (object_at objects p.object).tags
     (p.offset / 8) Untagged else Untagged)) [
       | true ↦ (h.at p.object).tag (p.offset / 8)
       | false ↦ tt
@@ -305,6 +317,19 @@ written_other Pointer v p n objects h =
       | false ↦ object_set_other objects p.object n x h
     ]
 
+-- bytes that are written, which leave all else
+pub object_of_bytes : (new : List ℕ) (p : Place) (objects : Objects) → p.object < length objects
+    → object_at (write_bytes new p objects) p.object ≡ record (object_at objects p.object) {
+      bytes = overwrite p.offset new (object_at objects p.object).bytes;
+    }
+unfolding write_bytes
+object_of_bytes new p objects h = object_set objects p.object _ h
+
+pub bytes_other : (new : List ℕ) (p : Place) (n : ℕ) (objects : Objects) → n ≢ p.object
+    → object_at (write_bytes new p objects) n ≡ object_at objects n
+unfolding write_bytes
+bytes_other new p n objects h = object_set_other objects p.object n _ h
+
 -- its tags
 tag_kept : (new : List ℕ) (p : Place) (n k : ℕ) (objects : Objects)
     → tag_of n k (write_bytes new p objects) ≡ tag_of n k objects
@@ -329,15 +354,16 @@ tags_after_misaligned v p n k objects h =
     }) else after)) test
     ∙ tag_kept (little_bytes 8 v.word) p n k objects
 
-pub tag_after_pointer : (v : Value) (p : Place) (objects : Objects) → IsSound objects → IsPlace objects p 8
+pub tag_after_pointer : {functions : ℕ} (v : Value) (p : Place) (objects : Objects) → IsSound functions objects
+    → IsPlace objects p 8
     → p.offset % 8 ≡ 0
     → tag_of p.object (p.offset / 8) (write_value Pointer v p objects) ≡ v.tag
 unfolding write_value
-tag_after_pointer v p objects h place aligned =
+tag_after_pointer {functions = functions} v p objects h place aligned =
     let new = little_bytes 8 v.word in
     let after = write_bytes new p objects in
     let there = subst (λ n. IsPlace objects p n) (sym (length-bytes_low_first 0 8 v.word)) place in
-    let sound : IsSound after = sound_bytes new p objects h there (little_bytes_below 8 v.word) in
+    let sound : IsSound functions after = sound_bytes new p objects h there (little_bytes_below 8 v.word) in
     let written = tag_written v.tag p after sound (place_kept objects after p 8 (keeps_bytes new p objects) place) in
     let test : is_aligned p.offset ≡ true = eq-eqb _ _ aligned in
     sym (ap (λ b. if b then tag_of p.object (p.offset / 8) (write_tag v.tag p after) else Untagged) test)

@@ -23,69 +23,78 @@ use Rattle.obj_memory.proofs.Listed.{at_set, at_added, every_overwrite, every_re
 use Rattle.obj_memory.proofs.Listed.{length-overwrite}
 use Rattle.obj_memory.proofs.Continuing.{IsLater, continues_set, continues_added, continues_bytes}
 
-pub sound_tag_continues : (old new : Objects) → Continues old new → (t : Tag) → IsSoundTag old t → IsSoundTag new t
-sound_tag_continues old new c Untagged h = tt
-sound_tag_continues old new c (OfFunction f) h = tt
-sound_tag_continues old new c (OfObject o b) h = record {
+pub sound_tag_continues : (functions : ℕ) (old new : Objects) → Continues old new → (t : Tag)
+    → IsSoundTag functions old t → IsSoundTag functions new t
+sound_tag_continues functions old new c Untagged h = tt
+sound_tag_continues functions old new c (OfFunction f) h = h
+sound_tag_continues functions old new c (OfObject o b) h = record {
   made = omega (arith, c.longer, h.made);
   base = omega (arith, h.base, c.address o h.made);
   bound = omega (arith, h.bound, c.address o h.made, c.size o h.made);
+  base_word = h.base_word;
+  bound_word = h.bound_word;
 }
 
-pub sound_object_continues : (old new : Objects) → Continues old new → (o : ObjectState) → IsSoundObject old o
-    → IsSoundObject new o
-sound_object_continues old new c o h = record {
+pub sound_object_continues : {functions : ℕ} (old new : Objects) → Continues old new → (o : ObjectState)
+    → IsSoundObject functions old o
+    → IsSoundObject functions new o
+sound_object_continues {functions = functions} old new c o h = record {
   aligned = h.aligned;
   bytes = h.bytes;
   values = h.values;
   tags = h.tags;
-  tag = λ k. sound_tag_continues old new c _ (h.tag k);
+  tag = λ k. sound_tag_continues functions old new c _ (h.tag k);
 }
 
 -- an object changed, and an object added
-pub sound_set : (objects : Objects) (n : ℕ) (x : ObjectState) → IsSound objects → IsLater (object_at objects n) x
-    → IsSoundObject objects x → IsSound (set objects n x)
-sound_set objects n x h l s = record {
+pub sound_set : {functions : ℕ} (objects : Objects) (n : ℕ) (x : ObjectState) → IsSound functions objects
+    → IsLater (object_at objects n) x
+    → IsSoundObject functions objects x → IsSound functions (set objects n x)
+sound_set {functions = functions} objects n x h l s = record {
   at = λ m. sound_object_continues objects (set objects n x) (continues_set objects n x l) _
-      (at_set (λ o. IsSoundObject objects o) no_object objects n m x (λ e. s) (h.at m));
+      (at_set (λ o. IsSoundObject functions objects o) no_object objects n m x (λ e. s) (h.at m));
 }
 
-pub sound_added : (objects : Objects) (x : ObjectState) → IsSound objects → IsSoundObject objects x
-    → IsSound (objects ++ (x ∷ []))
-sound_added objects x h s = record {
+pub sound_added : {functions : ℕ} (objects : Objects) (x : ObjectState) → IsSound functions objects
+    → IsSoundObject functions objects x
+    → IsSound functions (objects ++ (x ∷ []))
+sound_added {functions = functions} objects x h s = record {
   at = λ m. sound_object_continues objects (objects ++ (x ∷ [])) (continues_added objects x) _
-      (at_added (λ o. IsSoundObject objects o) no_object objects m x (λ e. s) (h.at m));
+      (at_added (λ o. IsSoundObject functions objects o) no_object objects m x (λ e. s) (h.at m));
 }
 
-pub sound_none : IsSound []
+pub sound_none : {functions : ℕ} → IsSound functions []
 sound_none = record {
   at = λ n. record { aligned = refl; bytes = refl; values = λ k. omega arith; tags = refl; tag = λ k. tt };
 }
 
 -- zero bytes and no tags
-pub sound_zeros : (objects : Objects) (o : ObjectState) → o.address % 16 ≡ 0
-    → IsSoundObject objects (record o { bytes = replicate o.size 0; tags = replicate (o.size / 8) Untagged })
-sound_zeros objects o h = record {
+pub sound_zeros : {functions : ℕ} (objects : Objects) (o : ObjectState) → o.address % 16 ≡ 0
+    → IsSoundObject functions objects (record o { bytes = replicate o.size 0; tags = replicate (o.size / 8) Untagged })
+sound_zeros {functions = functions} objects o h = record {
   aligned = h;
   bytes = length-replicate o.size 0;
   values = every_replicate (λ b. b < 256) 0 o.size 0 (omega arith) (omega arith);
   tags = length-replicate (o.size / 8) Untagged;
-  tag = every_replicate (λ t. IsSoundTag objects t) Untagged (o.size / 8) Untagged tt tt;
+  tag = every_replicate (λ t. IsSoundTag functions objects t) Untagged (o.size / 8) Untagged tt tt;
 }
 
-pub sound_new : (storage : Storage) (address size : ℕ) (objects : Objects) → IsSound objects → address % 16 ≡ 0
-    → IsSound (with_new storage address size objects)
+pub sound_new : {functions : ℕ} (storage : Storage) (address size : ℕ) (objects : Objects) → IsSound functions objects
+    → address % 16 ≡ 0
+    → IsSound functions (with_new storage address size objects)
 unfolding with_new new_object
 sound_new storage address size objects h a =
     sound_added objects (new_object storage address size) h (sound_zeros objects (new_object storage address size) a)
 
-pub sound_zeroed : (n : ℕ) (objects : Objects) → IsSound objects → IsSound (with_zeroed n objects)
+pub sound_zeroed : {functions : ℕ} (n : ℕ) (objects : Objects) → IsSound functions objects
+    → IsSound functions (with_zeroed n objects)
 unfolding with_zeroed
 sound_zeroed n objects h =
     sound_set objects n _ h (record { storage = refl; address = refl; size = refl; dead = λ d. d })
     (sound_zeros objects (object_at objects n) (h.at n).aligned)
 
-pub sound_dead : (n : ℕ) (objects : Objects) → IsSound objects → IsSound (with_dead n objects)
+pub sound_dead : {functions : ℕ} (n : ℕ) (objects : Objects) → IsSound functions objects
+    → IsSound functions (with_dead n objects)
 unfolding with_dead
 sound_dead n objects h =
     let s = h.at n in
@@ -93,11 +102,11 @@ sound_dead n objects h =
     (record { aligned = s.aligned; bytes = s.bytes; values = s.values; tags = s.tags; tag = s.tag })
 
 -- other bytes in an object
-pub sound_overwritten : (objects : Objects) (o : ObjectState) (start : ℕ) (new : List ℕ) (tags : List Tag)
-    → IsSoundObject objects o
+pub sound_overwritten : {functions : ℕ} (objects : Objects) (o : ObjectState) (start : ℕ) (new : List ℕ)
+    (tags : List Tag) → IsSoundObject functions objects o
     → start + length new ≤ o.size → ((k : ℕ) → get_or new k 0 < 256) → length tags ≡ o.size / 8
-    → ((k : ℕ) → IsSoundTag objects (get_or tags k Untagged))
-    → IsSoundObject objects (record o { bytes = overwrite start new o.bytes; tags = tags })
+    → ((k : ℕ) → IsSoundTag functions objects (get_or tags k Untagged))
+    → IsSoundObject functions objects (record o { bytes = overwrite start new o.bytes; tags = tags })
 sound_overwritten objects o start new tags s fits values count sound = record {
   aligned = s.aligned;
   bytes = length-overwrite start new o.bytes (omega (arith, fits, s.bytes)) ∙ s.bytes;
@@ -106,8 +115,9 @@ sound_overwritten objects o start new tags s fits values count sound = record {
   tag = sound;
 }
 
-pub sound_bytes : (new : List ℕ) (p : Place) (objects : Objects) → IsSound objects → IsPlace objects p (length new)
-    → ((k : ℕ) → get_or new k 0 < 256) → IsSound (write_bytes new p objects)
+pub sound_bytes : {functions : ℕ} (new : List ℕ) (p : Place) (objects : Objects) → IsSound functions objects
+    → IsPlace objects p (length new)
+    → ((k : ℕ) → get_or new k 0 < 256) → IsSound functions (write_bytes new p objects)
 unfolding write_bytes
 sound_bytes new p objects h place values =
     let o = object_at objects p.object in
@@ -115,13 +125,14 @@ sound_bytes new p objects h place values =
     sound_set objects p.object _ h (record { storage = refl; address = refl; size = refl; dead = λ d. d })
     (sound_overwritten objects o p.offset new o.tags s place.room values s.tags s.tag)
 
-pub sound_tag : (t : Tag) (p : Place) (objects : Objects) → IsSound objects → IsSoundTag objects t
-    → IsSound (write_tag t p objects)
+pub sound_tag : {functions : ℕ} (t : Tag) (p : Place) (objects : Objects) → IsSound functions objects
+    → IsSoundTag functions objects t
+    → IsSound functions (write_tag t p objects)
 unfolding write_tag
-sound_tag t p objects h sound =
+sound_tag {functions = functions} t p objects h sound =
     let o = object_at objects p.object in
     let s = h.at p.object in
-    elim (is_aligned p.offset) as (λ b. IsSound (if b then set objects p.object
+    elim (is_aligned p.offset) as (λ b. IsSound functions (if b then set objects p.object
     (record o { tags = set o.tags (p.offset / 8) t }) else objects)) [
       | true ↦ sound_set objects p.object _ h (record { storage = refl; address = refl; size = refl; dead = λ d. d })
           (record {
@@ -129,25 +140,26 @@ sound_tag t p objects h sound =
             bytes = s.bytes;
             values = s.values;
             tags = length-set o.tags (p.offset / 8) t ∙ s.tags;
-            tag = λ k. at_set (λ x. IsSoundTag objects x) Untagged o.tags (p.offset / 8) k t (λ e. sound) (s.tag k);
+            tag = λ k. at_set (λ x. IsSoundTag functions objects x) Untagged o.tags (p.offset / 8) k t
+                (λ e. sound) (s.tag k);
           })
       | false ↦ h
     ]
 
-pub sound_value : (s : Scalar) (v : Value) (p : Place) (objects : Objects) → IsSound objects
-    → IsPlace objects p (scalar_size s) → IsSoundTag objects v.tag
-    → IsSound (write_value s v p objects)
+pub sound_value : {functions : ℕ} (s : Scalar) (v : Value) (p : Place) (objects : Objects) → IsSound functions objects
+    → IsPlace objects p (scalar_size s) → IsSoundTag functions objects v.tag
+    → IsSound functions (write_value s v p objects)
 unfolding write_value
 sound_value (Integer t) v p objects h place sound =
     sound_bytes (little_bytes (size_of t) v.word) p objects h
     (subst (λ n. IsPlace objects p n) (sym (length-bytes_low_first 0 (size_of t) v.word)) place)
     (little_bytes_below (size_of t) v.word)
-sound_value Pointer v p objects h place sound =
+sound_value {functions = functions} Pointer v p objects h place sound =
     let after = write_bytes (little_bytes 8 v.word) p objects in
     sound_tag v.tag p after
     (sound_bytes (little_bytes 8 v.word) p objects h
     (subst (λ n. IsPlace objects p n) (sym (length-bytes_low_first 0 8 v.word)) place) (little_bytes_below 8 v.word))
-    (sound_tag_continues objects after (continues_bytes _ p objects) v.tag sound)
+    (sound_tag_continues functions objects after (continues_bytes _ p objects) v.tag sound)
 
 pub length-moved_tags : (size start source : ℕ) (from : List Tag) (word : ℕ) (ts : List Tag)
     → length (moved_tags size start source from word ts) ≡ length ts
@@ -167,7 +179,8 @@ every_moved P size start source from f word (t ∷ ts) h zero =
 every_moved P size start source from f word (t ∷ ts) h (suc k) =
     every_moved P size start source from f (word + 1) ts (λ j. h (suc j)) k
 
-pub length-bytes_at : (size : ℕ) (p : Place) (objects : Objects) → IsSound objects → IsPlace objects p size
+pub length-bytes_at : {functions : ℕ} (size : ℕ) (p : Place) (objects : Objects) → IsSound functions objects
+    → IsPlace objects p size
     → length (bytes_at size p objects) ≡ size
 length-bytes_at size p objects h place =
     let o = object_at objects p.object in
@@ -180,18 +193,19 @@ length-bytes_at size p objects h place =
       length-drop p.offset o.bytes,
     )
 
-pub bytes_at_below : (size : ℕ) (p : Place) (objects : Objects) → IsSound objects → (k : ℕ)
+pub bytes_at_below : {functions : ℕ} (size : ℕ) (p : Place) (objects : Objects) → IsSound functions objects → (k : ℕ)
     → get_or (bytes_at size p objects) k 0 < 256
 bytes_at_below size p objects h =
     let o = object_at objects p.object in
     every_take (λ b. b < 256) 0 size (drop p.offset o.bytes) (omega arith)
     (every_drop (λ b. b < 256) 0 p.offset o.bytes (h.at p.object).values)
 
-pub sound_moved : (size : ℕ) (d s : Place) (objects : Objects) → IsSound objects → IsPlace objects d size
+pub sound_moved : {functions : ℕ} (size : ℕ) (d s : Place) (objects : Objects) → IsSound functions objects
+    → IsPlace objects d size
     → IsPlace objects s size
-    → IsSound (move_range size d s objects)
+    → IsSound functions (move_range size d s objects)
 unfolding move_range
-sound_moved size d s objects h to place =
+sound_moved {functions = functions} size d s objects h to place =
     let o = object_at objects d.object in
     let from = object_at objects s.object in
     let sound = h.at d.object in
@@ -204,14 +218,14 @@ sound_moved size d s objects h to place =
       | true ↦ length-moved_tags size d.offset s.offset from.tags 0 o.tags ∙ sound.tags
       | false ↦ sound.tags
     ])
-    (λ k. elim (d.offset % 8 == s.offset % 8) as (λ b. IsSoundTag objects
+    (λ k. elim (d.offset % 8 == s.offset % 8) as (λ b. IsSoundTag functions objects
     (get_or (if b then moved_tags size d.offset s.offset from.tags 0 o.tags else o.tags) k Untagged)) [
-      | true ↦ every_moved (λ t. IsSoundTag objects t) size d.offset s.offset from.tags
+      | true ↦ every_moved (λ t. IsSoundTag functions objects t) size d.offset s.offset from.tags
           (h.at s.object).tag 0 o.tags sound.tag k
       | false ↦ sound.tag k
     ]))
 
 -- objects stand at multiples of 16
-pub aligned_address : (objects : Objects) (p : Place) → IsSound objects
+pub aligned_address : {functions : ℕ} (objects : Objects) (p : Place) → IsSound functions objects
     → ((object_at objects p.object).address + p.offset) % 8 ≡ p.offset % 8
 aligned_address objects p h = let a = (h.at p.object).aligned in omega (arith, a)

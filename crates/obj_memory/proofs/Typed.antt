@@ -1,6 +1,6 @@
 -- Words of a type: what operators give of them that convert nothing.
-use Rattle.std.proofs.Common.{◌≡◌, ℕ, ◌+◌, ◌-◌, ◌/◌, ◌%◌, ◌^◌, ◌<◌, ◌≤◌, Bool, true, false, if◌then◌else◌, ◌==◌, Some}
-use Rattle.std.proofs.Common.{None, refl, ap, ◌∙◌, sym, subst, arith}
+use Rattle.std.proofs.Common.{◌≡◌, ℕ, ◌/◌, ◌%◌, ◌^◌, ◌<◌, ◌≤◌, Bool, true, false, if◌then◌else◌, ◌==◌, Some}
+use Rattle.std.proofs.Common.{None, refl, ap, ◌∙◌, sym, arith}
 use Rattle.std.proofs.Math.Nat.{mod-eq_of_lt, div-le_self}
 use Rattle.std.proofs.lemmas.Nat.{pow_pos, mod_below, and_mod, or_mod, xor_mod}
 use Rattle.std.specs.Int.Bits.{and_lt, or_lt, xor_lt}
@@ -20,7 +20,7 @@ use Rattle.obj_memory.specs.declared.operator.BinaryOperator.TheVariants.{ShiftL
 use Rattle.obj_memory.specs.declared.operator.BinaryOperator.TheVariants.{BitOr, Less, Greater, LessOrEqual}
 use Rattle.obj_memory.specs.declared.operator.BinaryOperator.TheVariants.{GreaterOrEqual, Equal, NotEqual}
 use Rattle.obj_memory.specs.Integers.{fit, is_signed}
-use Rattle.obj_memory.specs.Operators.{one_if, quotient, remainder, shift_right, shift_amount, binary_value}
+use Rattle.obj_memory.specs.Operators.{one_if, quotient, remainder, shift_right, binary_value}
 use Rattle.obj_memory.proofs.Words.{fit_twice, fit_zero}
 
 extendable : (k x : ℕ) → 0 < k → k ≤ 64 → IsExtendable k 64 (low_bits k x)
@@ -118,7 +118,7 @@ one_stays UnsignedLong = refl
 one_stays LongLong = refl
 one_stays UnsignedLongLong = refl
 
-truth_stays : (t : IntType) (b : Bool) → fit t (one_if b) ≡ one_if b
+pub truth_stays : (t : IntType) (b : Bool) → fit t (one_if b) ≡ one_if b
 truth_stays t true = one_stays t
 truth_stays t false = fit_zero t
 

@@ -20,6 +20,12 @@ is_allocated Static = false
 is_allocated Automatic = false
 is_allocated Allocated = true
 
+-- the bytes that an object takes where it stands: as many as it has, and a block of the heap its rounded room
+abbrev pub object_room : Storage → (size : ℕ) → ℕ
+object_room Static size = size
+object_room Automatic size = size
+object_room Allocated size = block_room size
+
 abbrev pub is_live_block : ObjectState → Bool
 is_live_block o = is_allocated o.storage && o.is_live
 

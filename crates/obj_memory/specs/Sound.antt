@@ -1,36 +1,39 @@
 -- What always holds of the objects of a run.
-use Rattle.std.specs.Prelude.{◌≡◌, ℕ, ◌+◌, ◌*◌, ◌/◌, ◌%◌, ◌⊎◌, ◌<◌, ◌≤◌, ◌≢◌, true, false, length, get_or}
+use Rattle.std.specs.Prelude.{◌≡◌, ℕ, ◌+◌, ◌*◌, ◌/◌, ◌%◌, ◌^◌, ◌⊎◌, ◌<◌, ◌≤◌, ◌≢◌, true, false, length, get_or}
 use Rattle.obj_memory.specs.declared.value.Bounds.{Bounds}
 use Rattle.obj_memory.specs.declared.value.Tag.{Tag}
 use Rattle.obj_memory.specs.declared.value.Tag.TheVariants.{Untagged, OfFunction, OfObject}
 use Rattle.obj_memory.specs.declared.value.Value.{Value}
 use Rattle.obj_memory.specs.declared.value.Place.{Place}
 use Rattle.obj_memory.specs.Objects.{ObjectState, Objects, object_at}
-use Rattle.obj_memory.specs.Heap.{block_room, is_live_block, has_room}
+use Rattle.obj_memory.specs.Heap.{block_room, object_room, is_live_block, has_room}
 
--- a tag names an object of the list, and its bounds, where there is anything between them, lie in that object
+-- a tag names an object of the list, and its bounds are words and, where there is anything between them, lie in that
+-- object
 pub record IsTagOf (objects : Objects) (object : ℕ) (b : Bounds) : Type 0 where
   pub made : object < length objects
   pub base : (object_at objects object).address ≤ b.base
   pub bound : b.bound ≤ (object_at objects object).address + (object_at objects object).size
+  pub base_word : b.base < 2 ^ 64
+  pub bound_word : b.bound < 2 ^ 64
 
--- a tag that is none, a function, or one of an object
-abbrev pub IsSoundTag : Objects → Tag → Type 0
-IsSoundTag objects Untagged = Unit {0}
-IsSoundTag objects (OfFunction f) = Unit {0}
-IsSoundTag objects (OfObject o b) = IsTagOf objects o b
+-- a tag that is none, that of one of so many functions, or one of an object
+abbrev pub IsSoundTag : (functions : ℕ) → Objects → Tag → Type 0
+IsSoundTag functions objects Untagged = Unit {0}
+IsSoundTag functions objects (OfFunction f) = f < functions
+IsSoundTag functions objects (OfObject o b) = IsTagOf objects o b
 
 -- an object has all its bytes and tags, stands at a multiple of 16, and holds sound tags
-pub record IsSoundObject (objects : Objects) (o : ObjectState) : Type 0 where
+pub record IsSoundObject (functions : ℕ) (objects : Objects) (o : ObjectState) : Type 0 where
   pub aligned : o.address % 16 ≡ 0
   pub bytes : length o.bytes ≡ o.size
   pub values : (k : ℕ) → get_or o.bytes k 0 < 256
   pub tags : length o.tags ≡ o.size / 8
-  pub tag : (k : ℕ) → IsSoundTag objects (get_or o.tags k Untagged)
+  pub tag : (k : ℕ) → IsSoundTag functions objects (get_or o.tags k Untagged)
 
 -- every object has its bytes and tags, and every tag that is stored is sound
-pub record IsSound (objects : Objects) : Type 0 where
-  pub at : (n : ℕ) → IsSoundObject objects (object_at objects n)
+pub record IsSound (functions : ℕ) (objects : Objects) : Type 0 where
+  pub at : (n : ℕ) → IsSoundObject functions objects (object_at objects n)
 
 -- some bytes from a place on lie in an object of the list
 pub record IsPlace (objects : Objects) (p : Place) (size : ℕ) : Type 0 where
@@ -99,8 +102,11 @@ IsPartOf _ _ = ⊥
 abbrev pub DoNotMeet : (start size other count : ℕ) → Type 0
 DoNotMeet start size other count = (start + size ≤ other) ⊎ (other + count ≤ start)
 
--- no two live objects share an address
+-- two objects share no address that they take
+abbrev pub AreBeside : (o x : ObjectState) → Type 0
+AreBeside o x = DoNotMeet o.address (object_room o.storage o.size) x.address (object_room x.storage x.size)
+
+-- no two live objects share an address that they take, blocks of the heap with their rounded room
 pub record AreDisjoint (objects : Objects) : Type 0 where
   pub apart : (m n : ℕ) → m ≢ n → (object_at objects m).is_live ≡ true → (object_at objects n).is_live ≡ true
-      → DoNotMeet (object_at objects m).address (object_at objects m).size (object_at objects n).address
-      (object_at objects n).size
+      → AreBeside (object_at objects m) (object_at objects n)

@@ -1,7 +1,7 @@
 //! Laws of the definitions, each as the contract of a function that does nothing: layers above rest on
 //! them.
 ghost use Rattle.std.specs.Prelude.{◌≡◌, ◌≢◌, ℕ, ◌+◌, ◌-◌, ◌*◌, ◌/◌, ◌%◌, ◌^◌, ◌<◌, ◌≤◌, ◌⊎◌, List, [], length, take};
-ghost use Rattle.std.specs.Prelude.{drop, get_or, true, false, IfSome, Some, None};
+ghost use Rattle.std.specs.Prelude.{drop, get_or, replicate, true, false, ◌==◌, if◌then◌else◌, IfSome, Some, None};
 ghost use Rattle.obj_memory.specs.declared.int_type.IntType.{IntType};
 ghost use Rattle.obj_memory.specs.declared.operator.UnaryOperator.{UnaryOperator};
 ghost use Rattle.obj_memory.specs.declared.operator.BinaryOperator.{BinaryOperator};
@@ -20,11 +20,11 @@ ghost use Rattle.obj_memory.specs.Objects.{Objects, object_at, new_object, with_
 ghost use Rattle.obj_memory.specs.Objects.{pointer_to};
 ghost use Rattle.obj_memory.specs.Judgement.{judge, named, moved, narrowed};
 ghost use Rattle.obj_memory.specs.Access.{scalar_size, overwrite, read_value, write_value, kept_value, write_bytes};
-ghost use Rattle.obj_memory.specs.Access.{bytes_at, tag_at, tag_of, move_range};
+ghost use Rattle.obj_memory.specs.Access.{bytes_at, tag_at, tag_of, moved_tags, move_range};
 ghost use Rattle.byteorder.specs.Endian.{little_bytes};
 ghost use Rattle.obj_memory.specs.Heap.{is_allocated, is_live_block, block_count, block_room, has_room, least_place};
 ghost use Rattle.obj_memory.specs.Sound.{IsSound, IsSoundTag, IsPlace, IsAllowed, IsPartOf, KeepsObjects, Continues};
-ghost use Rattle.obj_memory.specs.Sound.{AreApart, AreDisjoint, DoNotMeet, HasRoom, IsBlockPlace};
+ghost use Rattle.obj_memory.specs.Sound.{AreApart, AreBeside, AreDisjoint, DoNotMeet, HasRoom, IsBlockPlace};
 
 /// A conversion reads no more than the bytes of its type and gives a word, and a second one changes
 /// nothing.
@@ -54,11 +54,11 @@ pub fn operators_stay_in_their_type()
 /// At the place of a write its value is read, as the scalar there keeps it, and what was read at a
 /// place apart from it still is.
 pub fn what_was_written_is_read()
-    ensures there { (s : Scalar) (v : Value) (p : Place) (objects : Objects) → IsSound objects
+    ensures there { (functions : ℕ) (s : Scalar) (v : Value) (p : Place) (objects : Objects) → IsSound functions objects
         → IsPlace objects p (scalar_size s) → v.word < 2 ^ 64
         → read_value s p (write_value s v p objects) ≡ kept_value s v p }
-    ensures apart { (s : Scalar) (v : Value) (p : Place) (r : Scalar) (q : Place) (objects : Objects)
-        → IsSound objects → IsPlace objects p (scalar_size s) → AreApart p (scalar_size s) q (scalar_size r)
+    ensures apart { (functions : ℕ) (s : Scalar) (v : Value) (p : Place) (r : Scalar) (q : Place) (objects : Objects)
+        → IsSound functions objects → IsPlace objects p (scalar_size s) → AreApart p (scalar_size s) q (scalar_size r)
         → read_value r q (write_value s v p objects) ≡ read_value r q objects }
 {}
 
@@ -74,7 +74,8 @@ pub fn writes_change_one_object()
 /// A write of a pointer at a multiple of 8 sets the tag of the word there, and every other tag
 /// stays at every write.
 pub fn writes_change_one_tag()
-    ensures pointer { (v : Value) (p : Place) (objects : Objects) → IsSound objects → IsPlace objects p 8
+    ensures pointer { (functions : ℕ) (v : Value) (p : Place) (objects : Objects) → IsSound functions objects
+        → IsPlace objects p 8
         → p.offset % 8 ≡ 0 → tag_of p.object (p.offset / 8) (write_value Pointer v p objects) ≡ v.tag }
     ensures other { (v : Value) (p : Place) (n word : ℕ) (objects : Objects) → (n ≢ p.object) ⊎ (word ≢ p.offset / 8)
         → tag_of n word (write_value Pointer v p objects) ≡ tag_of n word objects }
@@ -86,31 +87,50 @@ pub fn writes_change_one_tag()
 
 /// The same of bytes, which leave every tag.
 pub fn written_bytes_are_read()
-    ensures there { (new : List ℕ) (p : Place) (objects : Objects) → IsSound objects → IsPlace objects p (length new)
+    ensures there { (functions : ℕ) (new : List ℕ) (p : Place) (objects : Objects) → IsSound functions objects
+        → IsPlace objects p (length new)
         → bytes_at (length new) p (write_bytes new p objects) ≡ new }
-    ensures apart { (new : List ℕ) (p q : Place) (count : ℕ) (objects : Objects) → IsSound objects
+    ensures apart { (functions : ℕ) (new : List ℕ) (p q : Place) (count : ℕ) (objects : Objects)
+        → IsSound functions objects
         → IsPlace objects p (length new) → AreApart p (length new) q count
         → bytes_at count q (write_bytes new p objects) ≡ bytes_at count q objects }
     ensures tags { (new : List ℕ) (p q : Place) (objects : Objects)
         → tag_at q (write_bytes new p objects) ≡ tag_at q objects }
+    ensures object { (new : List ℕ) (p : Place) (objects : Objects) → p.object < length objects
+        → object_at (write_bytes new p objects) p.object ≡ record (object_at objects p.object) {
+          bytes = overwrite p.offset new (object_at objects p.object).bytes;
+        } }
+    ensures other { (new : List ℕ) (p : Place) (n : ℕ) (objects : Objects) → n ≢ p.object
+        → object_at (write_bytes new p objects) n ≡ object_at objects n }
 {}
 
 /// What is read is a word, with a tag that names an object and reaches nothing outside it.
 pub fn what_is_read_is_sound()
-    ensures word { (s : Scalar) (p : Place) (objects : Objects) → IsSound objects → IsPlace objects p (scalar_size s)
+    ensures word { (functions : ℕ) (s : Scalar) (p : Place) (objects : Objects) → IsSound functions objects
+        → IsPlace objects p (scalar_size s)
         → (read_value s p objects).word < 2 ^ 64 }
-    ensures tag { (s : Scalar) (p : Place) (objects : Objects) → IsSound objects
-        → IsSoundTag objects (read_value s p objects).tag }
+    ensures tag { (functions : ℕ) (s : Scalar) (p : Place) (objects : Objects) → IsSound functions objects
+        → IsSoundTag functions objects (read_value s p objects).tag }
 {}
 
 /// A moved range has the bytes of its source as they were before, and those beside it stay.
 pub fn moved_bytes_are_read()
-    ensures there { (size : ℕ) (d s : Place) (objects : Objects) → IsSound objects → IsPlace objects d size
+    ensures there { (functions : ℕ) (size : ℕ) (d s : Place) (objects : Objects) → IsSound functions objects
+        → IsPlace objects d size
         → IsPlace objects s size → bytes_at size d (move_range size d s objects) ≡ bytes_at size s objects }
-    ensures beside { (size : ℕ) (d s : Place) (objects : Objects) (start count : ℕ) → IsSound objects
+    ensures beside { (functions : ℕ) (size : ℕ) (d s : Place) (objects : Objects) (start count : ℕ)
+        → IsSound functions objects
         → IsPlace objects d size → IsPlace objects s size → DoNotMeet start count d.offset size
         → take count (drop start (object_at (move_range size d s objects) d.object).bytes)
         ≡ take count (drop start (object_at objects d.object).bytes) }
+    ensures object { (size : ℕ) (d s : Place) (objects : Objects) → d.object < length objects
+        → object_at (move_range size d s objects) d.object ≡ record (object_at objects d.object) {
+          bytes = overwrite d.offset (bytes_at size s objects) (object_at objects d.object).bytes;
+          tags = if d.offset % 8 == s.offset % 8
+              then moved_tags size d.offset s.offset (object_at objects s.object).tags 0
+              (object_at objects d.object).tags
+              else (object_at objects d.object).tags;
+        } }
     ensures other { (size : ℕ) (d s : Place) (n : ℕ) (objects : Objects) → n ≢ d.object
         → object_at (move_range size d s objects) n ≡ object_at objects n }
 {}
@@ -118,7 +138,8 @@ pub fn moved_bytes_are_read()
 /// A word that lies in a moved range has the tag of its source, where both ranges begin at offsets
 /// that are equal modulo 8, and every other tag stays.
 pub fn moved_words_have_their_tags()
-    ensures moved { (size : ℕ) (d s : Place) (word : ℕ) (objects : Objects) → IsSound objects → IsPlace objects d size
+    ensures moved { (functions : ℕ) (size : ℕ) (d s : Place) (word : ℕ) (objects : Objects) → IsSound functions objects
+        → IsPlace objects d size
         → d.offset % 8 ≡ s.offset % 8 → d.offset ≤ 8 * word → 8 * word + 8 ≤ d.offset + size
         → tag_of d.object word (move_range size d s objects) ≡ tag_of s.object
         ((8 * word - d.offset + s.offset) / 8) objects }
@@ -142,12 +163,19 @@ pub fn new_object_stands_last()
 pub fn zeroed_object_reads_zero()
     ensures zero { (s : Scalar) (p : Place) (objects : Objects) → p.object < length objects
         → read_value s p (with_zeroed p.object objects) ≡ record { word = 0; tag = Untagged } }
+    ensures object { (n : ℕ) (objects : Objects) → n < length objects
+        → object_at (with_zeroed n objects) n ≡ record (object_at objects n) {
+          bytes = replicate (object_at objects n).size 0;
+          tags = replicate ((object_at objects n).size / 8) Untagged;
+        } }
     ensures other { (n m : ℕ) (objects : Objects) → m ≢ n → object_at (with_zeroed n objects) m ≡ object_at objects m }
 {}
 
 /// An object that died is dead, and the others stay.
 pub fn dead_object_is_dead()
     ensures dead { (n : ℕ) (objects : Objects) → (object_at (with_dead n objects) n).is_live ≡ false }
+    ensures object { (n : ℕ) (objects : Objects) → n < length objects
+        → object_at (with_dead n objects) n ≡ record (object_at objects n) { is_live = false } }
     ensures other { (n m : ℕ) (objects : Objects) → m ≢ n → object_at (with_dead n objects) m ≡ object_at objects m }
 {}
 
@@ -188,39 +216,50 @@ pub fn the_dead_stay_dead()
 pub fn actions_in_turn_continue()
     ensures none { (objects : Objects) → Continues objects objects }
     ensures more { (a b c : Objects) → Continues a b → Continues b c → Continues a c }
-    ensures tag { (old new : Objects) → Continues old new → (t : Tag) → IsSoundTag old t → IsSoundTag new t }
+    ensures tag { (functions : ℕ) (old new : Objects) → Continues old new → (t : Tag) → IsSoundTag functions old t
+        → IsSoundTag functions new t }
 {}
 
 /// Objects stay sound under every action.
 pub fn actions_keep_objects_sound()
-    ensures none { IsSound [] }
-    ensures new { (storage : Storage) (address size : ℕ) (objects : Objects) → IsSound objects → address % 16 ≡ 0
-        → IsSound (with_new storage address size objects) }
-    ensures dead { (n : ℕ) (objects : Objects) → IsSound objects → IsSound (with_dead n objects) }
-    ensures zeroed { (n : ℕ) (objects : Objects) → IsSound objects → IsSound (with_zeroed n objects) }
-    ensures bytes { (new : List ℕ) (p : Place) (objects : Objects) → IsSound objects → IsPlace objects p (length new)
-        → ((k : ℕ) → get_or new k 0 < 256) → IsSound (write_bytes new p objects) }
-    ensures value { (s : Scalar) (v : Value) (p : Place) (objects : Objects) → IsSound objects
-        → IsPlace objects p (scalar_size s) → IsSoundTag objects v.tag → IsSound (write_value s v p objects) }
-    ensures moved { (size : ℕ) (d s : Place) (objects : Objects) → IsSound objects → IsPlace objects d size
-        → IsPlace objects s size → IsSound (move_range size d s objects) }
+    ensures none { (functions : ℕ) → IsSound functions [] }
+    ensures new { (functions : ℕ) (storage : Storage) (address size : ℕ) (objects : Objects)
+        → IsSound functions objects → address % 16 ≡ 0
+        → IsSound functions (with_new storage address size objects) }
+    ensures dead { (functions : ℕ) (n : ℕ) (objects : Objects) → IsSound functions objects
+        → IsSound functions (with_dead n objects) }
+    ensures zeroed { (functions : ℕ) (n : ℕ) (objects : Objects) → IsSound functions objects
+        → IsSound functions (with_zeroed n objects) }
+    ensures bytes { (functions : ℕ) (new : List ℕ) (p : Place) (objects : Objects) → IsSound functions objects
+        → IsPlace objects p (length new)
+        → ((k : ℕ) → get_or new k 0 < 256) → IsSound functions (write_bytes new p objects) }
+    ensures value { (functions : ℕ) (s : Scalar) (v : Value) (p : Place) (objects : Objects) → IsSound functions objects
+        → IsPlace objects p (scalar_size s) → IsSoundTag functions objects v.tag
+        → IsSound functions (write_value s v p objects) }
+    ensures moved { (functions : ℕ) (size : ℕ) (d s : Place) (objects : Objects) → IsSound functions objects
+        → IsPlace objects d size
+        → IsPlace objects s size → IsSound functions (move_range size d s objects) }
 {}
 
 /// An access that is judged to be inside is of bytes of a live object, those at the pointer's
 /// address.
 pub fn judged_access_is_of_a_live_object()
-    ensures { (objects : Objects) (size : ℕ) (v : Value) (p : Place) → IsSoundTag objects v.tag
+    ensures { (functions : ℕ) (objects : Objects) (size : ℕ) (v : Value) (p : Place)
+        → IsSoundTag functions objects v.tag
         → judge size v objects ≡ Inside p → IsAllowed objects v size p }
 {}
 
 /// A pointer to an object, to a member and to another byte reaches nothing outside its object, and
 /// a pointer to a member no more than the one it was made from.
 pub fn derived_pointers_are_sound()
-    ensures whole { (n : ℕ) (objects : Objects) → n < length objects → IsSoundTag objects (pointer_to n objects).tag }
-    ensures moved { (objects : Objects) (offset : ℕ) (v : Value) → IsSoundTag objects v.tag
-        → IsSoundTag objects (moved offset v).tag }
-    ensures narrowed { (objects : Objects) (offset size : ℕ) (v : Value) → IsSoundTag objects v.tag
-        → IsSoundTag objects (narrowed offset size v).tag }
+    ensures whole { (functions : ℕ) (n : ℕ) (objects : Objects) → n < length objects
+        → (object_at objects n).address + (object_at objects n).size < 2 ^ 64
+        → IsSoundTag functions objects (pointer_to n objects).tag }
+    ensures moved { (functions : ℕ) (objects : Objects) (offset : ℕ) (v : Value) → IsSoundTag functions objects v.tag
+        → IsSoundTag functions objects (moved offset v).tag }
+    ensures narrowed { (functions : ℕ) (objects : Objects) (offset size : ℕ) (v : Value)
+        → IsSoundTag functions objects v.tag
+        → IsSoundTag functions objects (narrowed offset size v).tag }
     ensures part { (offset size : ℕ) (v : Value) → IsPartOf (narrowed offset size v).tag v.tag }
 {}
 
@@ -261,16 +300,20 @@ pub fn blocks_are_counted()
 
 /// A word begins at an offset just where its address is a multiple of 8.
 pub fn words_are_aligned()
-    ensures { (objects : Objects) (p : Place) → IsSound objects
+    ensures { (functions : ℕ) (objects : Objects) (p : Place) → IsSound functions objects
         → ((object_at objects p.object).address + p.offset) % 8 ≡ p.offset % 8 }
 {}
 
-/// Live objects that share no address stay so when one dies, and when one is made that meets none
-/// of them.
+/// Live objects that share no address that they take stay so when one dies, and when one is made that meets none
+/// of them. They share none of their bytes then.
 pub fn live_objects_stay_disjoint()
     ensures dead { (n : ℕ) (objects : Objects) → AreDisjoint objects → AreDisjoint (with_dead n objects) }
     ensures new { (storage : Storage) (address size : ℕ) (objects : Objects) → AreDisjoint objects → ((n : ℕ)
         → (object_at objects n).is_live ≡ true
-        → DoNotMeet address size (object_at objects n).address (object_at objects n).size)
+        → AreBeside (new_object storage address size) (object_at objects n))
         → AreDisjoint (with_new storage address size objects) }
+    ensures bytes { (objects : Objects) → AreDisjoint objects → (m n : ℕ) → m ≢ n
+        → (object_at objects m).is_live ≡ true → (object_at objects n).is_live ≡ true
+        → DoNotMeet (object_at objects m).address (object_at objects m).size (object_at objects n).address
+        (object_at objects n).size }
 {}

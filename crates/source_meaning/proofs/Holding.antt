@@ -158,9 +158,9 @@ judged_by objects size v p a (OfObject n b) e h =
       end = omega (arith, a.address, a.place.room);
     }
 
-pub judged_direct : (objects : Objects) (size : ℕ) (v : Value) (p : Place) → IsSoundTag objects v.tag → judge size v objects ≡ Inside p → IsDirect objects v size
+pub judged_direct : (functions : ℕ) (objects : Objects) (size : ℕ) (v : Value) (p : Place) → IsSoundTag functions objects v.tag → judge size v objects ≡ Inside p → IsDirect objects v size
 unfolding judge
-judged_direct objects size v p t e = judged_by objects size v p (judge_inside objects size v p t e) v.tag refl e
+judged_direct functions objects size v p t e = judged_by objects size v p (judge_inside _ objects size v p t e) v.tag refl e
 
 -- a member of what a pointer points to; addresses do not wrap
 narrowed_word : (objects : Objects) (v : Value) (whole offset size : ℕ) (d : IsDirect objects v whole) → (object_at objects d.object).address + (object_at objects d.object).size ≤ 1610612736 → offset + size ≤ whole

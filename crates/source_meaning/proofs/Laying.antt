@@ -1,12 +1,15 @@
 -- What a call lays out: the objects of its variables, which are new, and which die at its return.
 use Rattle.source_meaning.specs.Good.{AllFrom, IsIn, EndsBut}
 use Rattle.source_meaning.specs.Good.{AreLow, EndsMade, HasHome, IsHeld, object_kind}
-use Rattle.std.proofs.Common.{◌≡◌, ℕ, zero, suc, ◌+◌, ◌%◌, ◌≤◌, ◌<◌, ◌⊎◌, inl, inr, List, [], ◌∷◌, Bool, true, false, Some, None, length, if◌then◌else◌, refl, sym, ap, ◌∙◌, subst, arith, nat_eq}
+use Rattle.std.proofs.Common.{◌≡◌, ℕ, zero, suc, ◌+◌, ◌%◌, ◌^◌, ◌≤◌, ◌<◌, ◌⊎◌, inl, inr, List, [], ◌∷◌, Bool, true, false, Some, None, length, if◌then◌else◌, refl, sym, ap, ◌∙◌, subst, arith, nat_eq}
 use Rattle.std.proofs.lemmas.Bool.{cases_lt, eqb-true, eqb-false}
 use Rattle.obj_memory.specs.declared.object.Storage.{Storage}
 use Rattle.obj_memory.specs.declared.object.Storage.TheVariants.{Automatic}
 use Rattle.obj_memory.specs.Objects.{ObjectState, Objects, object_at, new_object, with_new, with_dead}
 use Rattle.obj_memory.specs.Heap.{is_allocated, rounded_up}
+use Rattle.addr_map.specs.declared.region.Region.TheVariants.{Stack}
+use Rattle.addr_map.specs.Places.{MapSizes, AreMapped, region_end}
+use Rattle.addr_map.proofs.Order.{ends_low}
 use Rattle.obj_memory.specs.Sound.{IsSound, Continues}
 use Rattle.obj_memory.proofs.Soundness.{sound_new, sound_dead}
 use Rattle.obj_memory.proofs.Continuing.{continues_then, continues_new, continues_dead}
@@ -27,6 +30,10 @@ use Rattle.source_meaning.proofs.Holding.{live_made, beyond, length-dead, length
 
 beyond_low : (objects : Objects) (n : ℕ) → length objects ≤ n → (object_at objects n).address + (object_at objects n).size ≤ 1610612736
 beyond_low objects n h = subst (λ (o : ObjectState). o.address + o.size ≤ 1610612736) (sym (beyond objects n h)) (omega arith)
+
+-- objects that are low stand below 2 ^ 64
+pub low_word : (objects : Objects) (n : ℕ) → AreLow objects → (object_at objects n).address + (object_at objects n).size < 2 ^ 64
+low_word objects n h = let end = h n in omega (arith, end)
 
 -- one of two, by their order
 abbrev OrderCase : (n m : ℕ) → Type 0
@@ -157,10 +164,10 @@ without_other n (NoObject ∷ hs) objects h m lt = without_other n hs objects h 
 without_other n (InObject k ∷ hs) objects h m lt =
     without_other n hs (with_dead k objects) h.1 m lt ∙ dead_other k m objects (λ e. let le = h.0 in absurd (omega (arith, e, le, lt)))
 
-pub without_sound : (homes : List Home) (objects : Objects) → IsSound objects → IsSound (without_homes homes objects)
-without_sound [] objects h = h
-without_sound (NoObject ∷ hs) objects h = without_sound hs objects h
-without_sound (InObject k ∷ hs) objects h = without_sound hs (with_dead k objects) (sound_dead k objects h)
+pub without_sound : (functions : ℕ) (homes : List Home) (objects : Objects) → IsSound functions objects → IsSound functions (without_homes homes objects)
+without_sound functions [] objects h = h
+without_sound functions (NoObject ∷ hs) objects h = without_sound _ hs objects h
+without_sound functions (InObject k ∷ hs) objects h = without_sound _ hs (with_dead k objects) (sound_dead k objects h)
 
 pub without_low : (homes : List Home) (objects : Objects) → AreLow objects → AreLow (without_homes homes objects)
 without_low [] objects h = h
@@ -236,18 +243,18 @@ ends_without old objects homes c h n le live =
 
 -- placing
 
-pub record HasPlaced (boundary : ℕ) (old : Objects) (n : ℕ) (vs : List Variable) (homes : List Home) (s : State) : Type 0 where
-  pub sound : IsSound s.objects
+pub record HasPlaced (functions : ℕ) (sizes : MapSizes) (old : Objects) (n : ℕ) (vs : List Variable) (homes : List Home) (s : State) : Type 0 where
+  pub sound : IsSound functions s.objects
   pub low : AreLow s.objects
   pub lives : LivesOn old s.objects
   pub placed : Placed n vs homes s.objects
-  pub separate : AreSeparate boundary s.stacked s.objects
+  pub separate : AreSeparate sizes s.stacked s.objects
   pub ends : EndsBut old s.objects homes
 
-abbrev pub PlacesBy : (boundary : ℕ) → State → (n : ℕ) → List Variable → Outcome (List Home) → Type 0
-PlacesBy boundary s n vs (Gives homes s') = HasPlaced boundary s.objects n vs homes s' × (s'.accesses ≡ s.accesses) × (s'.plain ≡ s.plain)
-PlacesBy boundary s n vs (Ended e s') = ⊥
-PlacesBy boundary s n vs (Paused s') = ⊥
+abbrev pub PlacesBy : (functions : ℕ) → (sizes : MapSizes) → State → (n : ℕ) → List Variable → Outcome (List Home) → Type 0
+PlacesBy functions sizes s n vs (Gives homes s') = HasPlaced functions sizes s.objects n vs homes s' × (s'.accesses ≡ s.accesses) × (s'.plain ≡ s.plain)
+PlacesBy functions sizes s n vs (Ended e s') = ⊥
+PlacesBy functions sizes s n vs (Paused s') = ⊥
 
 end_grows_by : (b : Bool) (size top end after : ℕ) → (if b then rounded_up 16 top + size else top) ≡ after → after ≤ end → top ≤ end
 end_grows_by true size top end after e h = omega (arith, e, h)
@@ -261,13 +268,13 @@ pub rounded_whole : (n : ℕ) → rounded_up 16 n % 16 ≡ 0
 rounded_whole n = omega arith
 
 -- the variables behind one that was placed, or that is no object
-abbrev PlacesRest : (boundary : ℕ) → List Variable → Type 0
-PlacesRest boundary vs = (s : State) → IsSound s.objects → AreLow s.objects → AreSeparate boundary s.stacked s.objects → objects_end vs s.stacked ≤ boundary
-    → PlacesBy boundary s (length s.objects) vs (place_variables vs s)
+abbrev PlacesRest : (functions : ℕ) → (sizes : MapSizes) → List Variable → Type 0
+PlacesRest functions sizes vs = (s : State) → IsSound functions s.objects → AreLow s.objects → AreSeparate sizes s.stacked s.objects → objects_end vs s.stacked ≤ region_end sizes Stack
+    → PlacesBy functions sizes s (length s.objects) vs (place_variables vs s)
 
-behind_object : (boundary : ℕ) (kind : Kind) (vs : List Variable) (s s1 : State) → s1.objects ≡ with_new Automatic (rounded_up 16 s.stacked) (size_of_kind kind) s.objects → s1.accesses ≡ s.accesses → s1.plain ≡ s.plain
-    → (o : Outcome (List Home)) → PlacesBy boundary s1 (length s1.objects) vs o → PlacesBy boundary s (length s.objects) (record { kind = kind; is_object = true } ∷ vs) (on o (λ homes. done (InObject (length s.objects) ∷ homes)))
-behind_object boundary kind vs s s1 e a w (Gives homes s2) h =
+behind_object : (functions : ℕ) (sizes : MapSizes) (kind : Kind) (vs : List Variable) (s s1 : State) → s1.objects ≡ with_new Automatic (rounded_up 16 s.stacked) (size_of_kind kind) s.objects → s1.accesses ≡ s.accesses → s1.plain ≡ s.plain
+    → (o : Outcome (List Home)) → PlacesBy functions sizes s1 (length s1.objects) vs o → PlacesBy functions sizes s (length s.objects) (record { kind = kind; is_object = true } ∷ vs) (on o (λ homes. done (InObject (length s.objects) ∷ homes)))
+behind_object functions sizes kind vs s s1 e a w (Gives homes s2) h =
     let made = length-new Automatic (rounded_up 16 s.stacked) (size_of_kind kind) s.objects in
     let lives = subst (LivesOn s.objects) (sym e) (lives_new Automatic (rounded_up 16 s.stacked) (size_of_kind kind) s.objects) in
     let held = subst (λ o. IsHeld o (length s.objects) kind) (sym e) (held_new Automatic (rounded_up 16 s.stacked) kind s.objects refl) in
@@ -283,29 +290,29 @@ behind_object boundary kind vs s s1 e a w (Gives homes s2) h =
       h.1 ∙ a,
       h.2 ∙ w,
     )
-behind_object boundary kind vs s s1 e a w (Ended x s2) h = h
-behind_object boundary kind vs s s1 e a w (Paused s2) h = h
+behind_object functions sizes kind vs s s1 e a w (Ended x s2) h = h
+behind_object functions sizes kind vs s s1 e a w (Paused s2) h = h
 
-behind_plain : (boundary : ℕ) (kind : Kind) (vs : List Variable) (s : State) → (o : Outcome (List Home)) → PlacesBy boundary s (length s.objects) vs o
-    → PlacesBy boundary s (length s.objects) (record { kind = kind; is_object = false } ∷ vs) (on o (λ homes. done (NoObject ∷ homes)))
-behind_plain boundary kind vs s (Gives homes s2) h =
+behind_plain : (functions : ℕ) (sizes : MapSizes) (kind : Kind) (vs : List Variable) (s : State) → (o : Outcome (List Home)) → PlacesBy functions sizes s (length s.objects) vs o
+    → PlacesBy functions sizes s (length s.objects) (record { kind = kind; is_object = false } ∷ vs) (on o (λ homes. done (NoObject ∷ homes)))
+behind_plain functions sizes kind vs s (Gives homes s2) h =
     (record { sound = h.0.sound; low = h.0.low; lives = h.0.lives; placed = (tt, h.0.placed); separate = h.0.separate; ends = h.0.ends }, h.1, h.2)
-behind_plain boundary kind vs s (Ended x s2) h = h
-behind_plain boundary kind vs s (Paused s2) h = h
+behind_plain functions sizes kind vs s (Ended x s2) h = h
+behind_plain functions sizes kind vs s (Paused s2) h = h
 
-places_one : (boundary : ℕ) → boundary ≤ 1610612736 → (kind : Kind) (b : Bool) (vs : List Variable) → PlacesRest boundary vs → (s : State) → IsSound s.objects → AreLow s.objects → AreSeparate boundary s.stacked s.objects
-    → objects_end vs (if b then rounded_up 16 s.stacked + size_of_kind kind else s.stacked) ≤ boundary
-    → PlacesBy boundary s (length s.objects) (record { kind = kind; is_object = b } ∷ vs) (on (choose b (place_object (size_of_kind kind)) (done NoObject) s) (λ home s1. on (place_variables vs s1) (λ homes. done (home ∷ homes))))
-places_one boundary least kind true vs rest s sound low separate fits =
+places_one : (functions : ℕ) (sizes : MapSizes) → AreMapped sizes → (kind : Kind) (b : Bool) (vs : List Variable) → PlacesRest functions sizes vs → (s : State) → IsSound functions s.objects → AreLow s.objects → AreSeparate sizes s.stacked s.objects
+    → objects_end vs (if b then rounded_up 16 s.stacked + size_of_kind kind else s.stacked) ≤ region_end sizes Stack
+    → PlacesBy functions sizes s (length s.objects) (record { kind = kind; is_object = b } ∷ vs) (on (choose b (place_object (size_of_kind kind)) (done NoObject) s) (λ home s1. on (place_variables vs s1) (λ homes. done (home ∷ homes))))
+places_one functions sizes mapped kind true vs rest s sound low separate fits =
     let top = rounded_up 16 s.stacked in
     let s1 : State = record s { stacked = top + size_of_kind kind; work = s.work + (1 + size_of_kind kind); objects = with_new Automatic top (size_of_kind kind) s.objects } in
     let grows = end_grows vs (top + size_of_kind kind) in
-    behind_object boundary kind vs s s1 refl refl refl (place_variables vs s1)
-    (rest s1 (sound_new Automatic top (size_of_kind kind) s.objects sound (rounded_whole s.stacked)) (low_new Automatic top (size_of_kind kind) s.objects (omega (arith, grows, fits, least)) low)
-    (separate_automatic boundary s.stacked top (size_of_kind kind) s.objects separate (omega arith) (omega (arith, grows, fits))) fits)
-places_one boundary least kind false vs rest s sound low separate fits = behind_plain boundary kind vs s (place_variables vs s) (rest s sound low separate fits)
+    behind_object functions sizes kind vs s s1 refl refl refl (place_variables vs s1)
+    (rest s1 (sound_new Automatic top (size_of_kind kind) s.objects sound (rounded_whole s.stacked)) (low_new Automatic top (size_of_kind kind) s.objects (let least = ends_low sizes mapped Stack in omega (arith, grows, fits, least)) low)
+    (separate_automatic sizes s.stacked top (size_of_kind kind) s.objects mapped separate (omega arith) (omega (arith, grows, fits))) fits)
+places_one functions sizes mapped kind false vs rest s sound low separate fits = behind_plain functions sizes kind vs s (place_variables vs s) (rest s sound low separate fits)
 
-pub places : (boundary : ℕ) → boundary ≤ 1610612736 → (vs : List Variable) → PlacesRest boundary vs
-places boundary least [] s sound low separate fits =
+pub places : (functions : ℕ) (sizes : MapSizes) → AreMapped sizes → (vs : List Variable) → PlacesRest functions sizes vs
+places functions sizes mapped [] s sound low separate fits =
     (record { sound = sound; low = low; lives = lives_same s.objects; placed = tt; separate = separate; ends = ends_but_same s.objects }, refl, refl)
-places boundary least (v ∷ vs) s sound low separate fits = places_one boundary least v.kind v.is_object vs (places boundary least vs) s sound low separate fits
+places functions sizes mapped (v ∷ vs) s sound low separate fits = places_one functions sizes mapped v.kind v.is_object vs (places functions sizes mapped vs) s sound low separate fits

@@ -6,6 +6,7 @@ pub mod LibraryActs
 pub mod Related
 pub mod RelatedFlow
 pub mod Stays
+pub mod Turning
 pub mod Growing
 pub mod TurnLaws
 pub mod LimitLaw
@@ -13,8 +14,10 @@ pub mod Holding
 pub mod Separating
 pub mod Sure
 pub mod SureActions
+pub mod Fitting
 pub mod SureStructures
 pub mod SureTree
+pub mod Typing
 pub mod Laying
 pub mod SureBlocks
 pub mod SureFlow
@@ -26,5 +29,6 @@ pub mod ValidNames
 pub mod ValidProgramNames
 pub mod RunsAlike
 pub mod LiveAccesses
+pub mod Living
 pub mod JudgingTests
 pub mod StaysFlow

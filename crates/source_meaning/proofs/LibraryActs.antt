@@ -29,7 +29,8 @@ use Rattle.source_meaning.specs.Printing.{puts, argument_bytes, formatted, piece
 use Rattle.source_meaning.specs.Library.{next_byte, argument, routine}
 use Rattle.source_meaning.specs.Acting.{at_work, ActsBy, IsAction}
 use Rattle.source_meaning.proofs.Acting.{later_same}
-use Rattle.source_meaning.proofs.Local.{KeepsBy, IsLocal, local_on, local_then, local_done, local_stop, local_tally, local_choose, local_objects, local_changes, local_basic}
+use Rattle.source_meaning.specs.Staying.{KeepsBy}
+use Rattle.source_meaning.proofs.Local.{IsLocal, local_on, local_then, local_done, local_stop, local_tally, local_choose, local_objects, local_changes, local_basic}
 use Rattle.source_meaning.proofs.ActionsAct.{local_located, local_move_bytes, local_make_object, local_put_bytes, local_take_key}
 
 local_tally_blocks : IsLocal tally_blocks

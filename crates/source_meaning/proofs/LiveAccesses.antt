@@ -17,8 +17,8 @@ found Outside line s s' place e = absurd (cc)
 found Dead line s s' place e = absurd (cc)
 found (Inside q) line s s' place e = let same : q ≡ place = cc in ap Inside same
 
-pub judged_live : (size : ℕ) (p : Value) (line : ℕ) (s s' : State) (place : Place) → IsSoundTag s.objects p.tag → located true size p line s ≡ Gives place s' → IsAllowed s.objects p size place
-judged_live size p line s s' place tag e = judge_inside s.objects size p place tag (found (judge size p s.objects) line s s' place e)
+pub judged_live : (functions : ℕ) (size : ℕ) (p : Value) (line : ℕ) (s s' : State) (place : Place) → IsSoundTag functions s.objects p.tag → located true size p line s ≡ Gives place s' → IsAllowed s.objects p size place
+judged_live functions size p line s s' place tag e = judge_inside _ s.objects size p place tag (found (judge size p s.objects) line s s' place e)
 
 same_place : (p q : Place) → Inside p ≡ Inside q → p ≡ q
 same_place p q e = cc

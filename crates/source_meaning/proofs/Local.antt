@@ -6,20 +6,15 @@ use Rattle.obj_memory.specs.Sound.{Continues}
 use Rattle.obj_memory.proofs.Continuing.{continues_same, continues_new, continues_dead, continues_zeroed, continues_value, continues_moved}
 use Rattle.source_meaning.specs.State.{State, Outcome, Gives, Ended, Paused, Run, on, ◌>>=◌, ◌>>◌, done, stop, choose, read_state, change, skip, tally}
 use Rattle.source_meaning.specs.Acting.{at_work, IsAction}
+use Rattle.source_meaning.specs.Staying.{KeepsVariables, KeepsBy, Keeps}
 use Rattle.source_meaning.proofs.Acting.{acts_on, acts_then, acts_done, acts_skip, acts_stop, acts_choose, acts_read, acts_tally, acts_change, acts_objects, no_fewer}
-
-pub record KeepsVariables (s s' : State) : Type 0 where
-  pub plain : s'.plain ≡ s.plain
-  pub frame : s'.frame ≡ s.frame
-
-abbrev pub KeepsBy : {A : Type 0} → State → Outcome A → Type 0
-KeepsBy s (Gives a s') = KeepsVariables s s'
-KeepsBy s (Ended e s') = Unit {0}
-KeepsBy s (Paused s') = Unit {0}
 
 pub record IsLocal {A : Type 0} (r : Run A) : Type 0 where
   pub action : IsAction r
   pub keeps : (s : State) → KeepsBy s (r s)
+
+pub local_keeps : {A : Type 0} {r : Run A} → IsLocal r → Keeps r
+local_keeps h = record { keeps = h.keeps }
 
 keeps_same : (s : State) → KeepsVariables s s
 keeps_same s = record { plain = refl; frame = refl }

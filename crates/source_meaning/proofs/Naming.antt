@@ -1,8 +1,8 @@
 -- What accesses that are not judged rest on. They name an object or a structure value, so the names must be of objects that
 -- are there, members must lie in what has them, and a structure value is used where it is made. Every program that types
 -- has this.
-use Rattle.source_meaning.specs.Good.{Basis, OnName, OnPointer, OnValue, basis_of, object_kind, signature_in, static_kind}
-use Rattle.std.specs.Prelude.{◌≡◌, ℕ, ◌+◌, ◌≤◌, false, List, [], ◌∷◌, ◌++◌, map, Option, Some, None, length}
+use Rattle.source_meaning.specs.Good.{Basis, OnName, OnPointer, OnValue, basis_of, object_kind, plain_type, signature_in, static_kind}
+use Rattle.std.specs.Prelude.{◌≡◌, ℕ, ◌+◌, ◌<◌, ◌≤◌, true, false, List, [], ◌∷◌, ◌++◌, map, Option, Some, None, length}
 use Rattle.c_tree.specs.declared.expression.Kind.{Kind}
 use Rattle.c_tree.specs.declared.expression.Kind.TheVariants.{Void, Scalar as OfScalar, Structure, Array}
 use Rattle.c_tree.specs.Tree.{Expression, expression, Expressions, no_expressions, expressions, Lvalue, lvalue, Node, constant, function, plain, read, decay, address, parenthesized, deref_function, address_function, cast, convert, unary, binary, offset_by, difference, logical_and, logical_or, comma, conditional, assign, assign_plain, compound, change_plain, step, step_plain, call, call_through, library, printf, LvalueNode, automatic, static, deref, index, member, arrow, member_of_value, parenthesized_lvalue, kind_of, lvalue_kind, kinds_of}
@@ -10,9 +10,14 @@ use Rattle.c_tree.specs.Statements.{Part, Content, value_content, literal_conten
 use Rattle.c_tree.specs.Statements.{First, nothing, first_expression, first_declaration, Statement, expression_statement, empty, declaration, block, if_then, if_else, while_do, do_while, for, switch, break, continue, return, Statements, no_statements, statements, SwitchItems, no_items, items}
 use Rattle.c_tree.specs.declared.program.Variable.{Variable}
 use Rattle.c_tree.specs.Programs.{Function, StaticObject, Program}
-use Rattle.c_tree.specs.Kinds.{size_of_kind, Signature}
-use Rattle.c_tree.specs.Valid.{Scope, within}
-use Rattle.source_meaning.specs.Keeping.{IsNoStructure}
+use Rattle.c_tree.specs.Kinds.{integer, pointer, size_of_kind, class_of, are_operands, Signature, routine_signature}
+use Rattle.c_tree.specs.declared.expression.Update.{Update}
+use Rattle.c_tree.specs.declared.expression.Update.TheVariants.{Arithmetic, Forward, Back}
+use Rattle.obj_memory.specs.declared.int_type.IntType.TheVariants.{Int, Long}
+use Rattle.obj_memory.specs.declared.value.Scalar.{Scalar}
+use Rattle.obj_memory.specs.declared.value.Scalar.TheVariants.{Integer, Pointer}
+use Rattle.obj_memory.specs.Integers.{fit}
+use Rattle.c_tree.specs.Valid.{Scope, within, is_operand}
 use Rattle.c_tree.specs.Blocks.{all_of, body_variables, block_variables, switch_variables, first_variables}
 use Rattle.c_tree.specs.ValidProgram.{name_variables, signatures_of}
 
@@ -28,6 +33,43 @@ IsScalar (OfScalar k) = Unit {0}
 IsScalar (Structure n) = ⊥
 IsScalar (Array n) = ⊥
 
+-- a kind of values that have no contents
+abbrev pub IsNoStructure : Kind → Type 0
+IsNoStructure Void = Unit {0}
+IsNoStructure (OfScalar k) = Unit {0}
+IsNoStructure (Structure n) = ⊥
+IsNoStructure (Array n) = Unit {0}
+
+-- a plain variable that can be named is of a type
+abbrev pub PlainNames : Scope → (variable : ℕ) → Kind → Type 0
+PlainNames sc x Void = ⊥
+PlainNames sc x (OfScalar k) = plain_type sc.variables x ≡ Some k
+PlainNames sc x (Structure n) = ⊥
+PlainNames sc x (Array n) = ⊥
+
+-- a constant is a word of its type
+abbrev pub IsConstantOf : (word : ℕ) → Kind → Type 0
+IsConstantOf w Void = ⊥
+IsConstantOf w (OfScalar (Integer t)) = fit t w ≡ w
+IsConstantOf w (OfScalar Pointer) = ⊥
+IsConstantOf w (Structure n) = ⊥
+IsConstantOf w (Array n) = ⊥
+
+-- an integer is updated by an operator, and a pointer by elements
+abbrev pub Updates : Update → Scalar → Type 0
+Updates (Arithmetic op t) (Integer s) = Unit {0}
+Updates (Arithmetic op t) Pointer = ⊥
+Updates (Forward size) (Integer s) = ⊥
+Updates (Forward size) Pointer = Unit {0}
+Updates (Back size) (Integer s) = ⊥
+Updates (Back size) Pointer = Unit {0}
+
+abbrev pub UpdatesKind : Update → Kind → Type 0
+UpdatesKind u Void = ⊥
+UpdatesKind u (OfScalar k) = Updates u k
+UpdatesKind u (Structure n) = ⊥
+UpdatesKind u (Array n) = ⊥
+
 abbrev pub IsStructureWith : Kind → (bytes : ℕ) → Type 0
 IsStructureWith Void bytes = ⊥
 IsStructureWith (OfScalar k) bytes = ⊥
@@ -39,40 +81,41 @@ abbrev mutual
   Names sc (expression kind line node) = ValueNames sc node kind
 
   pub ValueNames : Scope → Node → Kind → Type 0
-  ValueNames sc (constant w) kind = IsNoStructure kind
-  ValueNames sc (function f) kind = IsNoStructure kind
-  ValueNames sc (plain x) kind = IsNoStructure kind
+  ValueNames sc (constant w) kind = IsConstantOf w kind
+  ValueNames sc (function f) kind = (f < length sc.functions) × (kind ≡ pointer)
+  ValueNames sc (plain x) kind = PlainNames sc x kind
   ValueNames sc (read p) kind = LvalueNames sc p × (kind ≡ lvalue_kind p)
-  ValueNames sc (decay p) kind = LvalueNames sc p × IsNoStructure kind
-  ValueNames sc (address p) kind = LvalueNames sc p × IsNoStructure kind
+  ValueNames sc (decay p) kind = LvalueNames sc p × (kind ≡ pointer)
+  ValueNames sc (address p) kind = LvalueNames sc p × (kind ≡ pointer)
   ValueNames sc (parenthesized a) kind = Names sc a × (kind ≡ kind_of a)
-  ValueNames sc (deref_function a) kind = Names sc a × IsNoStructure kind
-  ValueNames sc (address_function a) kind = Names sc a × IsNoStructure kind
+  ValueNames sc (deref_function a) kind = Names sc a × (kind_of a ≡ pointer) × (kind ≡ pointer)
+  ValueNames sc (address_function a) kind = Names sc a × (kind_of a ≡ pointer) × (kind ≡ pointer)
   ValueNames sc (cast a) kind = Names sc a × IsNoStructure kind
   ValueNames sc (convert a) kind = Names sc a × IsNoStructure kind
-  ValueNames sc (unary op a) kind = Names sc a × IsNoStructure kind
-  ValueNames sc (binary op a b) kind = Names sc a × Names sc b × IsNoStructure kind
-  ValueNames sc (offset_by form size a b) kind = Names sc a × Names sc b × IsNoStructure kind
-  ValueNames sc (difference size a b) kind = Names sc a × Names sc b × IsNoStructure kind
-  ValueNames sc (logical_and a b) kind = Names sc a × Names sc b × IsNoStructure kind
-  ValueNames sc (logical_or a b) kind = Names sc a × Names sc b × IsNoStructure kind
+  ValueNames sc (unary op a) kind = Names sc a × (is_operand op (kind_of a) kind ≡ true)
+  ValueNames sc (binary op a b) kind = Names sc a × Names sc b × (are_operands (class_of op) (kind_of a) (kind_of b) kind ≡ true)
+  ValueNames sc (offset_by form size a b) kind = Names sc a × Names sc b × (kind ≡ pointer)
+  ValueNames sc (difference size a b) kind = Names sc a × Names sc b × (kind ≡ integer Long)
+  ValueNames sc (logical_and a b) kind = Names sc a × Names sc b × (kind ≡ integer Int)
+  ValueNames sc (logical_or a b) kind = Names sc a × Names sc b × (kind ≡ integer Int)
   ValueNames sc (comma a b) kind = Names sc a × Names sc b × (kind ≡ kind_of b)
   ValueNames sc (conditional a b c) kind =
       Names sc a × Names sc b × Names sc c × (kind ≡ kind_of b) × (kind ≡ kind_of c)
   ValueNames sc (assign p a) kind =
       LvalueNames sc p × IsWritable (basis_of p) × Names sc a × (lvalue_kind p ≡ kind_of a) × (kind ≡ lvalue_kind p)
-  ValueNames sc (assign_plain x a) kind = Names sc a × IsNoStructure kind
+  ValueNames sc (assign_plain x a) kind = Names sc a × PlainNames sc x.variable (kind_of a) × (kind ≡ kind_of a)
   ValueNames sc (compound u p a) kind =
-      LvalueNames sc p × IsWritable (basis_of p) × IsScalar (lvalue_kind p) × Names sc a × IsNoStructure kind
-  ValueNames sc (change_plain u x a) kind = Names sc a × IsNoStructure kind
-  ValueNames sc (step u fixity p) kind = LvalueNames sc p × IsWritable (basis_of p) × IsScalar (lvalue_kind p) × IsNoStructure kind
-  ValueNames sc (step_plain u fixity x) kind = IsNoStructure kind
+      LvalueNames sc p × IsWritable (basis_of p) × UpdatesKind u (lvalue_kind p) × Names sc a × (kind ≡ lvalue_kind p)
+  ValueNames sc (change_plain u x a) kind = Names sc a × PlainNames sc x.variable kind × UpdatesKind u kind
+  ValueNames sc (step u fixity p) kind = LvalueNames sc p × IsWritable (basis_of p) × UpdatesKind u (lvalue_kind p) × (kind ≡ lvalue_kind p)
+  ValueNames sc (step_plain u fixity x) kind = PlainNames sc x.variable kind × UpdatesKind u kind
   ValueNames sc (call f args) kind =
       RowNames sc args × (kinds_of args ≡ (signature_in sc.functions f).parameters) × (kind ≡ (signature_in sc.functions f).result)
   ValueNames sc (call_through type_number a args) kind =
       Names sc a × RowNames sc args × (kinds_of args ≡ (signature_in sc.types type_number).parameters) × (kind ≡ (signature_in sc.types type_number).result)
-  ValueNames sc (library name args) kind = RowNames sc args × IsNoStructure kind
-  ValueNames sc (printf format args) kind = RowNames sc args × IsNoStructure kind
+  ValueNames sc (library name args) kind =
+      RowNames sc args × (kinds_of args ≡ (routine_signature name).parameters) × (kind ≡ (routine_signature name).result)
+  ValueNames sc (printf format args) kind = RowNames sc args × (kind ≡ integer Int)
 
   pub LvalueNames : Scope → Lvalue → Type 0
   LvalueNames sc (lvalue kind line node) = PlaceNames sc node kind
@@ -108,7 +151,7 @@ PartsName sc bytes (q ∷ qs) = ContentNames sc bytes q.offset q.content × Part
 
 abbrev pub InitializerNames : Scope → (variable : ℕ) → Option Initializer → Type 0
 InitializerNames sc x None = Unit {0}
-InitializerNames sc x (Some (of_plain e)) = Names sc e
+InitializerNames sc x (Some (of_plain e)) = Names sc e × PlainNames sc x (kind_of e)
 InitializerNames sc x (Some (of_object parts)) = (kind : Kind) × (object_kind sc.variables x ≡ Some kind) × PartsName sc (size_of_kind kind) parts
 
 abbrev pub DeclaredName : Scope → List DeclaredVariable → Type 0

@@ -4,32 +4,83 @@ use Rattle.source_meaning.specs.Good.{EndsMade}
 use Rattle.std.proofs.Common.{◌≡◌, ℕ, ◌+◌, ◌≤◌, ◌<◌, ◌⊎◌, inl, inr, List, [], ◌∷◌, Bool, true, false, length, refl, sym, ap, ◌∙◌, subst, arith, nat_eq}
 use Rattle.std.proofs.lemmas.Bool.{eqb-true, eqb-false, cases_lt}
 use Rattle.obj_memory.specs.declared.object.Storage.{Storage}
-use Rattle.obj_memory.specs.declared.object.Storage.TheVariants.{Automatic, Allocated}
+use Rattle.obj_memory.specs.declared.object.Storage.TheVariants.{Static, Automatic, Allocated}
+use Rattle.addr_map.specs.declared.region.Region.TheVariants.{Stack, Heap}
+use Rattle.addr_map.specs.Places.{MapSizes, AreMapped, region_start, region_end}
+use Rattle.addr_map.proofs.Order.{in_order}
 use Rattle.obj_memory.specs.Objects.{ObjectState, Objects, object_at, new_object, with_new, with_dead}
-use Rattle.obj_memory.specs.Heap.{is_allocated}
-use Rattle.obj_memory.specs.Sound.{KeepsObjects, DoNotMeet, Continues}
+use Rattle.obj_memory.specs.Heap.{is_allocated, block_room, object_room}
+use Rattle.obj_memory.specs.Sound.{AreBeside, KeepsObjects, DoNotMeet, Continues}
 use Rattle.obj_memory.proofs.Making.{new_last, new_other, dead_is_dead, dead_other, disjoint_kept, disjoint_dead, disjoint_new}
 use Rattle.source_meaning.specs.State.{Home}
 use Rattle.source_meaning.specs.State.{NoObject, InObject}
 use Rattle.source_meaning.specs.Calls.{}
 use Rattle.source_meaning.specs.Blocks.{without_homes}
-use Rattle.source_meaning.specs.Keeping.{AreSeparate}
-use Rattle.source_meaning.proofs.Holding.{length-new, live_made}
+use Rattle.source_meaning.specs.Keeping.{region_of, IsInRegion, ArePlaced, AreSeparate}
+use Rattle.source_meaning.proofs.Holding.{length-new, length-dead, live_made}
+use Rattle.obj_memory.proofs.Continuing.{continues_dead}
 
-pub separate_kept : (boundary top : ℕ) (old new : Objects) → KeepsObjects old new → AreSeparate boundary top old → AreSeparate boundary top new
-separate_kept boundary top old new k h = record {
+-- objects stay in their regions
+
+pub in_region : (sizes : MapSizes) (old new : ObjectState) → new.storage ≡ old.storage → new.address ≡ old.address → new.size ≡ old.size → IsInRegion sizes old → IsInRegion sizes new
+in_region sizes old new s a z h = record {
+  start = rw (s, a) h.start;
+  end = rw (s, a, z) h.end;
+}
+
+pub placed_on : (sizes : MapSizes) (old new : Objects) → length new ≡ length old → Continues old new → ArePlaced sizes old → ArePlaced sizes new
+placed_on sizes old new same c h n lt =
+    let here : n < length old = omega (arith, same, lt) in
+    in_region sizes (object_at old n) (object_at new n) (c.storage n here) (c.address n here) (c.size n here) (h n here)
+
+pub placed_kept : (sizes : MapSizes) (old new : Objects) → KeepsObjects old new → ArePlaced sizes old → ArePlaced sizes new
+placed_kept sizes old new k h n lt =
+    let same = k.count in
+    let e = k.at n in
+    in_region sizes (object_at old n) (object_at new n) e.storage e.address e.size (h n (omega (arith, same, lt)))
+
+-- the new object of a list that has one more stands in its region too
+pub placed_new : (sizes : MapSizes) (storage : Storage) (address size : ℕ) (objects : Objects) → ArePlaced sizes objects → IsInRegion sizes (new_object storage address size) → ArePlaced sizes (with_new storage address size objects)
+placed_new sizes storage address size objects h fresh n lt = by (cases_lt n (length objects))
+  where
+    by : (n < length objects) ⊎ (length objects ≤ n) → IsInRegion sizes (object_at (with_new storage address size objects) n)
+    by (inl less) = subst (IsInRegion sizes) (sym (new_other storage address size n objects less)) (h n less)
+    by (inr le) =
+        let same : length objects ≡ n = omega (arith, lt, length-new storage address size objects, le) in
+        subst (λ k. IsInRegion sizes (object_at (with_new storage address size objects) k)) same
+        (subst (IsInRegion sizes) (sym (new_last storage address size objects)) fresh)
+
+-- a live block begins behind the object stack
+heap_begins : (storage : Storage) (sizes : MapSizes) → is_allocated storage ≡ true → region_start sizes (region_of storage) ≡ region_start sizes Heap
+heap_begins Static sizes e = absurd (cc)
+heap_begins Automatic sizes e = absurd (cc)
+heap_begins Allocated sizes e = refl
+
+pub behind_stack : (sizes : MapSizes) (top : ℕ) (objects : Objects) → AreMapped sizes → AreSeparate sizes top objects → (n : ℕ) → (object_at objects n).is_live ≡ true → is_allocated (object_at objects n).storage ≡ true
+    → region_end sizes Stack ≤ (object_at objects n).address
+behind_stack sizes top objects mapped h n live block =
+    let order = in_order sizes mapped Stack Heap (omega arith) in
+    let first = heap_begins (object_at objects n).storage sizes block in
+    let start = (h.placed n (live_made objects n live)).start in
+    omega (arith, order, first, start)
+
+-- an object that is no block takes the bytes that it has
+pub held_room : (storage : Storage) (size : ℕ) → is_allocated storage ≡ false → object_room storage size ≡ size
+held_room Static size e = refl
+held_room Automatic size e = refl
+held_room Allocated size e = absurd (cc)
+
+pub separate_kept : (sizes : MapSizes) (top : ℕ) (old new : Objects) → KeepsObjects old new → AreSeparate sizes top old → AreSeparate sizes top new
+separate_kept sizes top old new k h = record {
   apart = disjoint_kept old new k h.apart;
+  placed = placed_kept sizes old new k h.placed;
   below = λ n live held.
       let e = k.at n in
       let a = e.address in
       let z = e.size in
       let end = h.below n (sym e.live ∙ live) (ap is_allocated (sym e.storage) ∙ held) in
       omega (arith, a, z, end);
-  above = λ n live block.
-      let e = k.at n in
-      let a = e.address in
-      let start = h.above n (sym e.live ∙ live) (ap is_allocated (sym e.storage) ∙ block) in
-      omega (arith, a, start);
+  bottom = h.bottom;
   top = h.top;
 }
 
@@ -41,22 +92,21 @@ dead_same m n objects live = by (nat_eq n m) refl
     by true e = absurd (let same = eqb-true n m e in let both : true ≡ false = sym live ∙ ap (λ k. (object_at (with_dead m objects) k).is_live) same ∙ dead_is_dead m objects in cc)
     by false e = dead_other m n objects (eqb-false n m e)
 
-pub separate_dead : (boundary top m : ℕ) (objects : Objects) → AreSeparate boundary top objects → AreSeparate boundary top (with_dead m objects)
-separate_dead boundary top m objects h = record {
+pub separate_dead : (sizes : MapSizes) (top m : ℕ) (objects : Objects) → AreSeparate sizes top objects → AreSeparate sizes top (with_dead m objects)
+separate_dead sizes top m objects h = record {
   apart = disjoint_dead m objects h.apart;
+  placed = placed_on sizes objects (with_dead m objects) (length-dead m objects) (continues_dead m objects) h.placed;
   below = λ n live held.
       let e = dead_same m n objects live in
       subst (λ (o : ObjectState). o.address + o.size ≤ top) (sym e) (h.below n (ap (λ (o : ObjectState). o.is_live) (sym e) ∙ live) (ap (λ (o : ObjectState). is_allocated o.storage) (sym e) ∙ held));
-  above = λ n live block.
-      let e = dead_same m n objects live in
-      subst (λ (o : ObjectState). boundary ≤ o.address) (sym e) (h.above n (ap (λ (o : ObjectState). o.is_live) (sym e) ∙ live) (ap (λ (o : ObjectState). is_allocated o.storage) (sym e) ∙ block));
+  bottom = h.bottom;
   top = h.top;
 }
 
-pub separate_without : (boundary top : ℕ) (homes : List Home) (objects : Objects) → AreSeparate boundary top objects → AreSeparate boundary top (without_homes homes objects)
-separate_without boundary top [] objects h = h
-separate_without boundary top (NoObject ∷ hs) objects h = separate_without boundary top hs objects h
-separate_without boundary top (InObject k ∷ hs) objects h = separate_without boundary top hs (with_dead k objects) (separate_dead boundary top k objects h)
+pub separate_without : (sizes : MapSizes) (top : ℕ) (homes : List Home) (objects : Objects) → AreSeparate sizes top objects → AreSeparate sizes top (without_homes homes objects)
+separate_without sizes top [] objects h = h
+separate_without sizes top (NoObject ∷ hs) objects h = separate_without sizes top hs objects h
+separate_without sizes top (InObject k ∷ hs) objects h = separate_without sizes top hs (with_dead k objects) (separate_dead sizes top k objects h)
 
 -- a new object
 
@@ -88,14 +138,6 @@ allocated_is : (address size : ℕ) → is_allocated (new_object Allocated addre
 unfolding new_object
 allocated_is address size e = absurd (cc)
 
-allocated_at : (address size boundary : ℕ) → boundary ≤ address → boundary ≤ (new_object Allocated address size).address
-unfolding new_object
-allocated_at address size boundary h = h
-
-automatic_is : (address size : ℕ) → is_allocated (new_object Automatic address size).storage ≡ true → {A : Type 0} → A
-unfolding new_object
-automatic_is address size e = absurd (cc)
-
 automatic_end : (address size : ℕ) → (new_object Automatic address size).address + (new_object Automatic address size).size ≤ address + size
 unfolding new_object
 automatic_end address size = omega arith
@@ -108,29 +150,44 @@ by_storage o A block other = by (is_allocated o.storage) refl
     by true e = block e
     by false e = other e
 
--- a block behind the boundary that meets no other block
-pub separate_block : (boundary stacked address size : ℕ) (objects : Objects) → AreSeparate boundary stacked objects → boundary ≤ address
-    → ((n : ℕ) → (object_at objects n).is_live ≡ true → is_allocated (object_at objects n).storage ≡ true → DoNotMeet address size (object_at objects n).address (object_at objects n).size)
-    → AreSeparate boundary stacked (with_new Allocated address size objects)
-separate_block boundary stacked address size objects h at clear = record {
-  apart = disjoint_new Allocated address size objects h.apart (λ n live.
-      by_storage (object_at objects n) (DoNotMeet address size (object_at objects n).address (object_at objects n).size) (clear n live)
-      (λ held. inr (let end = h.below n live held in let top = h.top in omega arith)));
+-- what a new object is
+new_storage : (storage : Storage) (address size : ℕ) → (new_object storage address size).storage ≡ storage
+unfolding new_object
+new_storage storage address size = refl
+
+new_beside : (storage : Storage) (address size : ℕ) (o : ObjectState) → DoNotMeet address (object_room storage size) o.address (object_room o.storage o.size) → AreBeside (new_object storage address size) o
+unfolding new_object
+new_beside storage address size o h = h
+
+new_region : (sizes : MapSizes) (storage : Storage) (address size : ℕ) → region_start sizes (region_of storage) ≤ address → address + object_room storage size ≤ region_end sizes (region_of storage) → IsInRegion sizes (new_object storage address size)
+unfolding new_object
+new_region sizes storage address size s e = record { start = s; end = e }
+
+-- a block in the heap that meets no other block
+pub separate_block : (sizes : MapSizes) (stacked address size : ℕ) (objects : Objects) → AreMapped sizes → AreSeparate sizes stacked objects → region_start sizes Heap ≤ address → address + block_room size ≤ region_end sizes Heap
+    → ((n : ℕ) → (object_at objects n).is_live ≡ true → is_allocated (object_at objects n).storage ≡ true → DoNotMeet address (block_room size) (object_at objects n).address (object_room (object_at objects n).storage (object_at objects n).size))
+    → AreSeparate sizes stacked (with_new Allocated address size objects)
+separate_block sizes stacked address size objects mapped h at fits clear = record {
+  apart = disjoint_new Allocated address size objects h.apart (λ n live. new_beside Allocated address size (object_at objects n)
+      (by_storage (object_at objects n) (DoNotMeet address (block_room size) (object_at objects n).address (object_room (object_at objects n).storage (object_at objects n).size)) (clear n live)
+      (λ held. inr (let end = h.below n live held in let top = h.top in let order = in_order sizes mapped Stack Heap (omega arith) in let room = held_room (object_at objects n).storage (object_at objects n).size held in omega (arith, end, top, order, room, at)))));
+  placed = placed_new sizes Allocated address size objects h.placed (new_region sizes Allocated address size at fits);
   below = new_each (λ o. o.address + o.size ≤ stacked) false Allocated address size objects h.below (λ e. allocated_is address size e);
-  above = new_each (λ o. boundary ≤ o.address) true Allocated address size objects h.above (λ e. allocated_at address size boundary at);
+  bottom = h.bottom;
   top = h.top;
 }
 
 -- an automatic object on top of the object stack
-pub separate_automatic : (boundary stacked address size : ℕ) (objects : Objects) → AreSeparate boundary stacked objects → stacked ≤ address → address + size ≤ boundary
-    → AreSeparate boundary (address + size) (with_new Automatic address size objects)
-separate_automatic boundary stacked address size objects h at fits = record {
-  apart = disjoint_new Automatic address size objects h.apart (λ n live.
-      by_storage (object_at objects n) (DoNotMeet address size (object_at objects n).address (object_at objects n).size)
-      (λ block. inl (let start = h.above n live block in omega arith))
-      (λ held. inr (let end = h.below n live held in omega arith)));
+pub separate_automatic : (sizes : MapSizes) (stacked address size : ℕ) (objects : Objects) → AreMapped sizes → AreSeparate sizes stacked objects → stacked ≤ address → address + size ≤ region_end sizes Stack
+    → AreSeparate sizes (address + size) (with_new Automatic address size objects)
+separate_automatic sizes stacked address size objects mapped h at fits = record {
+  apart = disjoint_new Automatic address size objects h.apart (λ n live. new_beside Automatic address size (object_at objects n)
+      (by_storage (object_at objects n) (DoNotMeet address size (object_at objects n).address (object_room (object_at objects n).storage (object_at objects n).size))
+      (λ block. inl (let start = behind_stack sizes stacked objects mapped h n live block in omega (arith, start, fits)))
+      (λ held. inr (let end = h.below n live held in let room = held_room (object_at objects n).storage (object_at objects n).size held in omega (arith, end, room, at)))));
+  placed = placed_new sizes Automatic address size objects h.placed (new_region sizes Automatic address size (let bottom = h.bottom in omega (arith, bottom, at)) fits);
   below = new_each (λ o. o.address + o.size ≤ address + size) false Automatic address size objects (λ n live held. let end = h.below n live held in omega arith) (λ e. automatic_end address size);
-  above = new_each (λ o. boundary ≤ o.address) true Automatic address size objects h.above (λ e. automatic_is address size e);
+  bottom = let bottom = h.bottom in omega (arith, bottom, at);
   top = fits;
 }
 
@@ -168,11 +225,12 @@ ends_then old mid new c p q n le live = by (cases_lt n (length mid))
     by (inr ge) = q n ge live
 
 -- the state of a caller, whose stack's top goes back, where all objects that were made and still live are blocks
-pub separate_back : (boundary stacked top : ℕ) (old new : Objects) → AreSeparate boundary stacked old → AreSeparate boundary top new → Continues old new → EndsMade old new → AreSeparate boundary stacked new
-separate_back boundary stacked top old new h g c ends = record {
+pub separate_back : (sizes : MapSizes) (stacked top : ℕ) (old new : Objects) → AreSeparate sizes stacked old → AreSeparate sizes top new → Continues old new → EndsMade old new → AreSeparate sizes stacked new
+separate_back sizes stacked top old new h g c ends = record {
   apart = g.apart;
+  placed = g.placed;
   below = λ n live held. by n live held (cases_lt n (length old));
-  above = g.above;
+  bottom = h.bottom;
   top = h.top;
 }
   where

@@ -1,5 +1,5 @@
 -- An expression that does not assign a plain variable leaves it as it was, and keeps all homes.
-use Rattle.source_meaning.specs.Staying.{IsKeptAt, KeptBy, Stays}
+use Rattle.source_meaning.specs.Staying.{KeepsBy, IsKeptAt, KeptBy, Stays}
 use Rattle.std.proofs.Common.{◌≡◌, ℕ, zero, suc, ◌+◌, List, [], ◌∷◌, Bool, true, false, ◌||◌, ◌==◌, Option, Some, None, get_or, refl, sym, ap, ◌∙◌, nat_lt}
 use Rattle.std.proofs.lemmas.Bool.{eqb-false}
 use Rattle.std.proofs.lemmas.List.{get_or-set_other}
@@ -25,7 +25,7 @@ use Rattle.source_meaning.specs.Statements.{in_order, each_of}
 use Rattle.c_tree.specs.Blocks.{all_of}
 use Rattle.source_meaning.specs.Calls.{header_of, set_up, caller, back_to, returned_by, result_of, enter_found, function_at, calls, env_of}
 use Rattle.c_tree.specs.Walk.{assigns, lvalue_assigns, any_assigns}
-use Rattle.source_meaning.proofs.Local.{KeepsBy, IsLocal, local_tally}
+use Rattle.source_meaning.proofs.Local.{IsLocal, local_tally}
 use Rattle.source_meaning.proofs.ActionsAct.{local_operate, local_updated, local_update, local_read_rvalue, local_write_rvalue, local_take_value, local_callee}
 use Rattle.source_meaning.proofs.LibraryActs.{local_routine, local_print}
 

@@ -1,5 +1,5 @@
 -- A statement or an initializer that does not assign a plain variable leaves it as it was, and gives all homes back.
-use Rattle.std.proofs.Common.{◌≡◌, ℕ, zero, suc, ◌+◌, List, [], ◌∷◌, map, length, Bool, true, false, ◌||◌, ◌==◌, Option, Some, None, get_or, refl, ap, ◌∙◌, sym, subst, nat_le, nat_lt}
+use Rattle.std.proofs.Common.{◌≡◌, ℕ, zero, suc, ◌+◌, List, [], ◌∷◌, map, length, Bool, true, false, ◌||◌, ◌==◌, Option, Some, None, get_or, refl, ap, ◌∙◌}
 use Rattle.sb_base.specs.declared.ending.Ending.{Ending}
 use Rattle.sb_base.specs.declared.ending.Ending.TheVariants.{Stack}
 use Rattle.obj_memory.specs.declared.value.Value.{Value}
@@ -13,16 +13,17 @@ use Rattle.c_tree.specs.Statements.{Content, value_content, literal_content, Par
 use Rattle.c_tree.specs.Blocks.{block_objects, block_variables, switch_variables, first_variables}
 use Rattle.c_tree.specs.Walk.{assigns}
 use Rattle.c_tree.specs.Assigning.{content_assigns, parts_assign, initializer_assigns, declared_assign, first_assigns, if_assigns, statement_assigns, each_assigns, items_assign}
-use Rattle.source_meaning.specs.State.{State, Rvalue, Home, NoObject, InObject, Outcome, Gives, Ended, Paused, Run, on, ◌>>=◌, ◌>>◌, done, pause, choose, read_state, change, skip, tally, Setting, Env}
-use Rattle.source_meaning.specs.Actions.{integer, is_zero, plain_value, home_pointer, begin_turn}
+use Rattle.source_meaning.specs.State.{State, Rvalue, Home, Outcome, Gives, Ended, Paused, Run, on, ◌>>=◌, ◌>>◌, done, pause, change, skip, Setting, Env}
+use Rattle.source_meaning.specs.Actions.{integer, plain_value, home_pointer}
 use Rattle.source_meaning.specs.Structures.{rvalue}
-use Rattle.source_meaning.specs.Expressions.{counted, evaluate, argument}
+use Rattle.source_meaning.specs.Expressions.{evaluate}
 use Rattle.source_meaning.specs.Initializers.{store_content, store_parts, initialize, initialize_all}
-use Rattle.source_meaning.specs.Blocks.{pass_or_stop, objects_end, place_object, place_variable, place_variables, test_space, test_keys, has_objects, homes_over, Block, place_block, enter_block, leave_block, scoped}
-use Rattle.source_meaning.specs.Statements.{Completion, Normal, Broken, Continued, Returned, next_after, in_order, holds, perform, perform_first, after_body, turns, turns_before, LabeledRun, run_labeled, is_case_of, is_default, labels_from, items_at, items_from, labels_of, compared, or_default, run_items, after_switch, run_switch, in_block, execute, each_of, items_of}
-use Rattle.source_meaning.specs.Calls.{calls, env_of}
-use Rattle.source_meaning.specs.Staying.{IsKeptAt, KeptBy, Stays}
-use Rattle.source_meaning.proofs.Local.{KeepsBy, IsLocal, local_on, local_then, local_done, local_skip, local_stop, local_choose, local_read, local_tally, local_changes, local_basic}
+use Rattle.source_meaning.specs.Blocks.{pass_or_stop, place_object, place_variables, test_space, test_keys, has_objects, homes_over, Block, place_block, enter_block, leave_block, scoped}
+use Rattle.source_meaning.specs.Statements.{Completion, Normal, Broken, Continued, Returned, next_after, in_order, holds, perform, perform_first, after_body, turns, turns_before, LabeledRun, run_labeled, is_case_of, is_default, labels_from, items_at, items_from, labels_of, compared, or_default, run_items, after_switch, run_switch, execute, each_of, items_of}
+use Rattle.source_meaning.specs.Calls.{env_of}
+use Rattle.source_meaning.specs.Staying.{KeptBy, Stays}
+use Rattle.source_meaning.specs.Staying.{KeepsBy}
+use Rattle.source_meaning.proofs.Local.{IsLocal, local_on, local_done, local_skip, local_stop, local_choose, local_read, local_tally, local_changes, local_basic}
 use Rattle.source_meaning.proofs.ActionsAct.{local_take_key, local_make_object, local_zero_variable, local_store_bytes, local_write_rvalue, local_take_value}
 use Rattle.source_meaning.proofs.Stays.{stays_on, stays_local, stays_done, stays_read, stays_counted, stays_choose, stays_set, neither, begin_stays, calls_stay, evaluate_stays}
 

@@ -1,9 +1,14 @@
 -- Runs that keep objects sound: from a good state they come to a good one, with what is known of the value that they give;
 -- where they end or pause, objects and accesses are kept.
-use Rattle.source_meaning.specs.Good.{After, Any, AreLow, AreTagged, ArgumentIs, ArgumentsAre, Basis, Context, HasContents, IsGood, IsGoodBy, IsTagged, Leaves, LvalueIs, OnName, OnPointer, OnValue, RvalueReach, Stops, StructureIs, Sure, TakenIs, ValueIs}
-use Rattle.std.proofs.Common.{◌≡◌, ℕ, zero, suc, List, [], ◌∷◌, Bool, true, false, Option, Some, None, refl, sym, ◌∙◌, subst, arith}
+use Rattle.source_meaning.specs.Good.{PlaceIs, ReachBy, function_count, After, Any, AreLow, ArgumentIs, ArgumentsAre, AreOfKinds, IsGiven, IsOfKind, IsOfType, IsWord, Basis, Context, HasContents, IsGood, IsGoodBy, IsTagged, Leaves, LvalueIs, OnName, OnPointer, OnValue, RvalueReach, Stops, StructureIs, Sure, TakenIs, ValueIs}
+use Rattle.std.proofs.Common.{◌≡◌, ℕ, ◌<◌, ◌^◌, zero, suc, List, [], ◌∷◌, Bool, true, false, Option, Some, None, refl, sym, ◌∙◌, subst, arith}
 use Rattle.sb_base.specs.declared.ending.Ending.{Ending}
+use Rattle.addr_map.specs.Places.{MapSizes}
 use Rattle.obj_memory.specs.declared.value.Value.{Value}
+use Rattle.obj_memory.specs.declared.value.Scalar.{Scalar}
+use Rattle.obj_memory.specs.declared.value.Scalar.TheVariants.{Integer, Pointer}
+use Rattle.obj_memory.proofs.Words.{fit_below, fit_zero}
+use Rattle.source_meaning.specs.Actions.{integer}
 use Rattle.obj_memory.specs.Objects.{ObjectState, Objects}
 use Rattle.obj_memory.specs.Sound.{IsSound, IsSoundTag, KeepsObjects, Continues}
 use Rattle.obj_memory.proofs.Soundness.{sound_tag_continues, sound_object_continues}
@@ -13,9 +18,9 @@ use Rattle.source_meaning.specs.State.{State, Rvalue, Outcome, Gives, Ended, Pau
 use Rattle.c_tree.specs.Kinds.{size_of_kind}
 use Rattle.source_meaning.specs.Structures.{rvalue, give, as_rvalue, as_pointer, values_of}
 use Rattle.source_meaning.specs.Expressions.{counted_as, counted}
-use Rattle.source_meaning.proofs.Naming.{IsWritable}
-use Rattle.source_meaning.specs.Keeping.{IsNoStructure}
-use Rattle.source_meaning.specs.Keeping.{LivesOn, IsDirect, IsNamed, AreSeparate}
+use Rattle.source_meaning.proofs.Naming.{IsNoStructure, IsWritable}
+use Rattle.source_meaning.specs.Keeping.{AreTagged}
+use Rattle.source_meaning.specs.Keeping.{LivesOn, IsDirect, AreSeparate}
 use Rattle.source_meaning.proofs.Separating.{separate_kept, ends_as_many, ends_same, ends_then}
 use Rattle.source_meaning.proofs.Holding.{all_lie_on, lives_same, lives_then, lives_kept, named_on, held_on}
 
@@ -33,11 +38,11 @@ leaves_then sc s s1 s2 p q = record {
   ended = ends_then s.objects s1.objects s2.objects q.lives.continues p.ended q.ended;
 }
 
-pub stops_same : (sc : Context) (s : State) → IsGood sc s → Stops s.objects s
-stops_same sc s h = record { kept = h.kept; low = h.low; lives = lives_same s.objects; apart = h.separate.apart }
+pub stops_same : (sc : Context) (s : State) → IsGood sc s → Stops (function_count sc) sc.sizes s.objects s
+stops_same sc s h = record { kept = h.kept; plain = h.plain; low = h.low; lives = lives_same s.objects; apart = h.separate.apart; placed = h.separate.placed }
 
-pub stops_then : (old new : Objects) (s : State) → LivesOn old new → Stops new s → Stops old s
-stops_then old new s l h = record { kept = h.kept; low = h.low; lives = lives_then old new s.objects l h.lives; apart = h.apart }
+pub stops_then : {functions : ℕ} {sizes : MapSizes} (old new : Objects) (s : State) → LivesOn old new → Stops functions sizes new s → Stops functions sizes old s
+stops_then old new s l h = record { kept = h.kept; plain = h.plain; low = h.low; lives = lives_then old new s.objects l h.lives; apart = h.apart; placed = h.placed }
 
 after_then : {A : Type 0} (sc : Context) (s s1 : State) (Q : A → Objects → Type 0) (o : Outcome A) → Leaves sc s s1 → After sc s1 Q o → After sc s Q o
 after_then sc s s1 Q (Gives a s') p h = (leaves_then sc s s1 s' p h.0, h.1)
@@ -117,7 +122,7 @@ sure_choose true h g = h
 sure_choose false h g = g
 
 -- objects that change: names and tags stay good where the objects live on
-pub good_on : (sc : Context) (s : State) (new : Objects) → IsGood sc s → LivesOn s.objects new → IsSound new → AreLow new → AreSeparate sc.boundary s.stacked new → IsGoodBy sc new s.frame s.plain s.accesses s.stacked
+pub good_on : (sc : Context) (s : State) (new : Objects) → IsGood sc s → LivesOn s.objects new → IsSound (function_count sc) new → AreLow new → AreSeparate sc.sizes s.stacked new → IsGoodBy sc new s.frame s.plain s.accesses s.stacked
 good_on sc s new h l sound low separate = record {
   kept = record { sound = sound; lie = all_lie_on s.objects new l.continues s.accesses h.kept.lie };
   low = low;
@@ -125,7 +130,8 @@ good_on sc s new h l sound low separate = record {
   homes = λ x kind e.
       let home = h.homes x kind e in
       record { object = home.object; home = home.home; held = held_on s.objects new l home.object kind home.held };
-  plain = λ x. sound_tag_continues s.objects new l.continues _ (h.plain x);
+  plain = λ x. sound_tag_continues _ s.objects new l.continues _ (h.plain x);
+  typed = h.typed;
   separate = separate;
 }
 
@@ -133,14 +139,14 @@ pub low_kept : (old new : Objects) → KeepsObjects old new → AreLow old → A
 low_kept old new k h = λ n. let a = (k.at n).address in let z = (k.at n).size in omega (arith, a, z, h n)
 
 -- a change of the objects that leaves them where they are
-pub sure_objects : {sc : Context} {P Q : Objects → Type 0} (f : Objects → Objects) → ((o : Objects) → KeepsObjects o (f o)) → ((o : Objects) → Continues o (f o)) → ((o : Objects) → P o → IsSound o → IsSound (f o)) → ((o : Objects) → P o → Q (f o))
+pub sure_objects : {sc : Context} {P Q : Objects → Type 0} (f : Objects → Objects) → ((o : Objects) → KeepsObjects o (f o)) → ((o : Objects) → Continues o (f o)) → ((o : Objects) → P o → IsSound (function_count sc) o → IsSound (function_count sc) (f o)) → ((o : Objects) → P o → Q (f o))
     → Sure sc P (change (λ s. record s { objects = f s.objects })) (λ _. Q)
 sure_objects {sc = sc} f k c sound q = record {
   by = λ s good p.
       let lives = lives_kept s.objects (f s.objects) (c s.objects) (k s.objects) in (
         record {
           good = good_on sc s (f s.objects) good lives (sound s.objects p good.kept.sound) (low_kept s.objects (f s.objects) (k s.objects) good.low)
-              (separate_kept sc.boundary s.stacked s.objects (f s.objects) (k s.objects) good.separate);
+              (separate_kept sc.sizes s.stacked s.objects (f s.objects) (k s.objects) good.separate);
           lives = lives;
           frame = refl;
           ended = ends_as_many s.objects (f s.objects) (k s.objects).count;
@@ -158,116 +164,138 @@ DirectIf (Structure n) v objects = IsDirect objects v n
 DirectIf (Array n) v objects = Unit {0}
 
 -- a value without contents of a kind: its tag is sound, and a structure value is a pointer to its bytes
-pub record PlaceValueIs (kind : Kind) (v : Value) (objects : Objects) : Type 0 where
-  pub tag : IsSoundTag objects v.tag
+pub record PlaceValueIs (functions : ℕ) (kind : Kind) (v : Value) (objects : Objects) : Type 0 where
+  pub tag : IsSoundTag functions objects v.tag
   pub structure : DirectIf kind v objects
+  pub word : IsOfKind functions kind v
 
 -- an argument or a result of a kind: a structure has its contents
 
 -- a scalar, as an expression gives it
-abbrev pub GivesScalar : Rvalue → Objects → Type 0
-GivesScalar v o = IsTagged v.value o × (v.contents ≡ None)
+abbrev pub GivesScalar : (functions : ℕ) → Kind → Rvalue → Objects → Type 0
+GivesScalar functions kind v o = IsTagged functions v.value o × (v.contents ≡ None) × IsOfKind functions kind v.value
 
-abbrev pub ReachBy : Basis → (size : ℕ) → Value → Objects → Type 0
-ReachBy OnName size v objects = IsNamed objects v size
-ReachBy OnPointer size v objects = Unit {0}
-ReachBy OnValue size v objects = IsDirect objects v size
+pub stable_tag : (functions : ℕ) (v : Value) → IsStable (IsTagged functions v)
+stable_tag functions v old new l h = sound_tag_continues _ old new l.continues v.tag h
 
-pub stable_tag : (v : Value) → IsStable (IsTagged v)
-stable_tag v old new l h = sound_tag_continues old new l.continues v.tag h
+writable_reach : (functions : ℕ) (b : Basis) → IsWritable b → (size : ℕ) (c : Option ObjectState) (v : Value) (o : Objects) → RvalueReach functions b size c v o → ReachBy b size v o
+writable_reach functions OnName w size c v o h = h.1
+writable_reach functions OnPointer w size c v o h = tt
+writable_reach functions OnValue w size c v o h = absurd w
 
--- what a writable lvalue rests on
-abbrev pub PlaceIs : Basis → Kind → Value → Objects → Type 0
-PlaceIs b kind q o = IsTagged q o × ReachBy b (size_of_kind kind) q o
+pub writable_place : (functions : ℕ) (b : Basis) → IsWritable b → (kind : Kind) (q : Rvalue) (o : Objects) → LvalueIs functions b kind q o → PlaceIs functions b kind q.value o
+writable_place functions b w kind q o h = (h.tag, writable_reach _ b w (size_of_kind kind) q.contents q.value o h.reach)
 
-writable_reach : (b : Basis) → IsWritable b → (size : ℕ) (c : Option ObjectState) (v : Value) (o : Objects) → RvalueReach b size c v o → ReachBy b size v o
-writable_reach OnName w size c v o h = h.1
-writable_reach OnPointer w size c v o h = tt
-writable_reach OnValue w size c v o h = absurd w
+pub stable_place : (functions : ℕ) (b : Basis) → IsWritable b → (kind : Kind) (v : Value) → IsStable (PlaceIs functions b kind v)
+stable_place functions OnName w kind v old new l h = (stable_tag _ v old new l h.0, named_on old new l v (size_of_kind kind) h.1)
+stable_place functions OnPointer w kind v old new l h = (stable_tag _ v old new l h.0, tt)
+stable_place functions OnValue w kind v old new l h = absurd w
 
-pub writable_place : (b : Basis) → IsWritable b → (kind : Kind) (q : Rvalue) (o : Objects) → LvalueIs b kind q o → PlaceIs b kind q.value o
-writable_place b w kind q o h = (h.tag, writable_reach b w (size_of_kind kind) q.contents q.value o h.reach)
+contents_on : (functions : ℕ) (size offset : ℕ) (c : ObjectState) (old new : Objects) → Continues old new → HasContents functions size offset c old → HasContents functions size offset c new
+contents_on functions size offset c old new l h = record { sound = sound_object_continues old new l c h.sound; room = h.room }
 
-pub stable_place : (b : Basis) → IsWritable b → (kind : Kind) (v : Value) → IsStable (PlaceIs b kind v)
-stable_place OnName w kind v old new l h = (stable_tag v old new l h.0, named_on old new l v (size_of_kind kind) h.1)
-stable_place OnPointer w kind v old new l h = (stable_tag v old new l h.0, tt)
-stable_place OnValue w kind v old new l h = absurd w
+taken_on : (functions : ℕ) (n : ℕ) (c : Option ObjectState) (v : Value) (old new : Objects) → Continues old new → TakenIs functions n c v old → TakenIs functions n c v new
+taken_on functions n None v old new l h = h
+taken_on functions n (Some c) v old new l h = contents_on _ n v.word c old new l h
 
-contents_on : (size offset : ℕ) (c : ObjectState) (old new : Objects) → Continues old new → HasContents size offset c old → HasContents size offset c new
-contents_on size offset c old new l h = record { sound = sound_object_continues old new l c h.sound; room = h.room }
+pub argument_on : (functions : ℕ) (kind : Kind) (v : Rvalue) (old new : Objects) → Continues old new → ArgumentIs functions kind v old → ArgumentIs functions kind v new
+argument_on functions Void v old new l h = record { tag = sound_tag_continues _ old new l v.value.tag h.tag; structure = h.structure; word = h.word }
+argument_on functions (OfScalar k) v old new l h = record { tag = sound_tag_continues _ old new l v.value.tag h.tag; structure = h.structure; word = h.word }
+argument_on functions (Structure n) v old new l h = record { tag = sound_tag_continues _ old new l v.value.tag h.tag; structure = taken_on _ n v.contents v.value old new l h.structure; word = h.word }
+argument_on functions (Array n) v old new l h = record { tag = sound_tag_continues _ old new l v.value.tag h.tag; structure = h.structure; word = h.word }
 
-taken_on : (n : ℕ) (c : Option ObjectState) (v : Value) (old new : Objects) → Continues old new → TakenIs n c v old → TakenIs n c v new
-taken_on n None v old new l h = h
-taken_on n (Some c) v old new l h = contents_on n v.word c old new l h
+pub stable_argument : (functions : ℕ) (kind : Kind) (v : Rvalue) → IsStable (ArgumentIs functions kind v)
+stable_argument functions kind v old new l h = argument_on _ kind v old new l.continues h
 
-pub argument_on : (kind : Kind) (v : Rvalue) (old new : Objects) → Continues old new → ArgumentIs kind v old → ArgumentIs kind v new
-argument_on Void v old new l h = record { tag = sound_tag_continues old new l v.value.tag h.tag; structure = h.structure }
-argument_on (OfScalar k) v old new l h = record { tag = sound_tag_continues old new l v.value.tag h.tag; structure = h.structure }
-argument_on (Structure n) v old new l h = record { tag = sound_tag_continues old new l v.value.tag h.tag; structure = taken_on n v.contents v.value old new l h.structure }
-argument_on (Array n) v old new l h = record { tag = sound_tag_continues old new l v.value.tag h.tag; structure = h.structure }
+pub stable_arguments : (functions : ℕ) (ks : List Kind) (vs : List Rvalue) → IsStable (ArgumentsAre functions ks vs)
+stable_arguments functions [] [] old new l h = tt
+stable_arguments functions [] (v ∷ vs) old new l h = h
+stable_arguments functions (k ∷ ks) [] old new l h = h
+stable_arguments functions (k ∷ ks) (v ∷ vs) old new l h = (stable_argument _ k v old new l h.0, stable_arguments _ ks vs old new l h.1)
 
-pub stable_argument : (kind : Kind) (v : Rvalue) → IsStable (ArgumentIs kind v)
-stable_argument kind v old new l h = argument_on kind v old new l.continues h
+taken_structure : (functions : ℕ) (n : ℕ) (c : Option ObjectState) (v : Value) (o : Objects) → TakenIs functions n c v o → StructureIs functions n c v o
+taken_structure functions n None v o h = absurd h
+taken_structure functions n (Some c) v o h = h
 
-pub stable_arguments : (ks : List Kind) (vs : List Rvalue) → IsStable (ArgumentsAre ks vs)
-stable_arguments [] [] old new l h = tt
-stable_arguments [] (v ∷ vs) old new l h = h
-stable_arguments (k ∷ ks) [] old new l h = h
-stable_arguments (k ∷ ks) (v ∷ vs) old new l h = (stable_argument k v old new l h.0, stable_arguments ks vs old new l h.1)
-
-taken_structure : (n : ℕ) (c : Option ObjectState) (v : Value) (o : Objects) → TakenIs n c v o → StructureIs n c v o
-taken_structure n None v o h = absurd h
-taken_structure n (Some c) v o h = h
-
-pub argument_value : (kind : Kind) (v : Rvalue) (o : Objects) → ArgumentIs kind v o → ValueIs kind v o
-argument_value Void v o h = record { tag = h.tag; structure = h.structure }
-argument_value (OfScalar k) v o h = record { tag = h.tag; structure = h.structure }
-argument_value (Structure n) v o h = record { tag = h.tag; structure = taken_structure n v.contents v.value o h.structure }
-argument_value (Array n) v o h = record { tag = h.tag; structure = h.structure }
+pub argument_value : (functions : ℕ) (kind : Kind) (v : Rvalue) (o : Objects) → ArgumentIs functions kind v o → ValueIs functions kind v o
+argument_value functions Void v o h = record { tag = h.tag; structure = h.structure; word = h.word }
+argument_value functions (OfScalar k) v o h = record { tag = h.tag; structure = h.structure; word = h.word }
+argument_value functions (Structure n) v o h = record { tag = h.tag; structure = taken_structure _ n v.contents v.value o h.structure; word = h.word }
+argument_value functions (Array n) v o h = record { tag = h.tag; structure = h.structure; word = h.word }
 
 -- the tags of arguments
-pub arguments_tagged : (ks : List Kind) (vs : List Rvalue) (o : Objects) → ArgumentsAre ks vs o → AreTagged (values_of vs) o
-arguments_tagged [] [] o h x = tt
-arguments_tagged [] (v ∷ vs) o h x = absurd h
-arguments_tagged (k ∷ ks) [] o h x = absurd h
-arguments_tagged (k ∷ ks) (v ∷ vs) o h zero = h.0.tag
-arguments_tagged (k ∷ ks) (v ∷ vs) o h (suc x) = arguments_tagged ks vs o h.1 x
+pub arguments_tagged : (functions : ℕ) (ks : List Kind) (vs : List Rvalue) (o : Objects) → ArgumentsAre functions ks vs o → AreTagged functions (values_of vs) o
+arguments_tagged functions [] [] o h x = tt
+arguments_tagged functions [] (v ∷ vs) o h x = absurd h
+arguments_tagged functions (k ∷ ks) [] o h x = absurd h
+arguments_tagged functions (k ∷ ks) (v ∷ vs) o h zero = h.0.tag
+arguments_tagged functions (k ∷ ks) (v ∷ vs) o h (suc x) = arguments_tagged _ ks vs o h.1 x
+
+-- the arguments of a routine
+pub arguments_of_kinds : (functions : ℕ) (ks : List Kind) (vs : List Rvalue) (o : Objects) → ArgumentsAre functions ks vs o → AreOfKinds functions ks (values_of vs)
+arguments_of_kinds functions [] [] o h x = λ _. omega arith
+arguments_of_kinds functions [] (v ∷ vs) o h x = absurd h
+arguments_of_kinds functions (k ∷ ks) [] o h x = absurd h
+arguments_of_kinds functions (k ∷ ks) (v ∷ vs) o h zero = h.0.word
+arguments_of_kinds functions (k ∷ ks) (v ∷ vs) o h (suc x) = arguments_of_kinds functions ks vs o h.1 x
+
+-- words
+
+pub word_of_type : (functions : ℕ) (k : Scalar) (v : Value) → IsOfType functions k v → IsWord functions v.word
+word_of_type functions (Integer t) v h = λ _. subst (λ w. w < 2 ^ 64) h.1 (fit_below t v.word)
+word_of_type functions Pointer v h = h
+
+pub word_of_kind : (functions : ℕ) (kind : Kind) (v : Value) → IsOfKind functions kind v → IsWord functions v.word
+word_of_kind functions Void v h = h
+word_of_kind functions (OfScalar k) v h = word_of_type functions k v h
+word_of_kind functions (Structure n) v h = h
+word_of_kind functions (Array n) v h = h
+
+pub zero_of_type : (functions : ℕ) (k : Scalar) → IsOfType functions k (integer 0)
+zero_of_type functions (Integer t) = (refl, fit_zero t)
+zero_of_type functions Pointer = λ _. omega arith
+
+pub zero_of_kind : (functions : ℕ) (kind : Kind) → IsOfKind functions kind (integer 0)
+zero_of_kind functions Void = λ _. omega arith
+zero_of_kind functions (OfScalar k) = zero_of_type functions k
+zero_of_kind functions (Structure n) = λ _. omega arith
+zero_of_kind functions (Array n) = λ _. omega arith
 
 -- values of a kind that is no structure
 
-pub value_is : (kind : Kind) (v : Rvalue) (objects : Objects) → IsNoStructure kind → GivesScalar v objects → ValueIs kind v objects
-value_is Void v objects n h = record { tag = h.0; structure = h.1 }
-value_is (OfScalar k) v objects n h = record { tag = h.0; structure = h.1 }
-value_is (Structure m) v objects n h = absurd n
-value_is (Array m) v objects n h = record { tag = h.0; structure = h.1 }
+pub value_is : (functions : ℕ) (kind : Kind) (v : Rvalue) (objects : Objects) → IsNoStructure kind → GivesScalar functions kind v objects → ValueIs functions kind v objects
+value_is functions Void v objects n h = record { tag = h.0; structure = h.1; word = h.2 }
+value_is functions (OfScalar k) v objects n h = record { tag = h.0; structure = h.1; word = h.2 }
+value_is functions (Structure m) v objects n h = absurd n
+value_is functions (Array m) v objects n h = record { tag = h.0; structure = h.1; word = h.2 }
 
-pub argument_is : (kind : Kind) (v : Rvalue) (objects : Objects) → IsNoStructure kind → GivesScalar v objects → ArgumentIs kind v objects
-argument_is Void v objects n h = record { tag = h.0; structure = h.1 }
-argument_is (OfScalar k) v objects n h = record { tag = h.0; structure = h.1 }
-argument_is (Structure m) v objects n h = absurd n
-argument_is (Array m) v objects n h = record { tag = h.0; structure = h.1 }
+pub argument_is : (functions : ℕ) (kind : Kind) (v : Rvalue) (objects : Objects) → IsNoStructure kind → GivesScalar functions kind v objects → ArgumentIs functions kind v objects
+argument_is functions Void v objects n h = record { tag = h.0; structure = h.1; word = h.2 }
+argument_is functions (OfScalar k) v objects n h = record { tag = h.0; structure = h.1; word = h.2 }
+argument_is functions (Structure m) v objects n h = absurd n
+argument_is functions (Array m) v objects n h = record { tag = h.0; structure = h.1; word = h.2 }
 
-pub place_value : (kind : Kind) (v : Value) (objects : Objects) → PlaceValueIs kind v objects → ValueIs kind (rvalue v) objects
-place_value Void v objects h = record { tag = h.tag; structure = refl }
-place_value (OfScalar k) v objects h = record { tag = h.tag; structure = refl }
-place_value (Structure n) v objects h = record { tag = h.tag; structure = h.structure }
-place_value (Array n) v objects h = record { tag = h.tag; structure = refl }
+pub place_value : (functions : ℕ) (kind : Kind) (v : Value) (objects : Objects) → PlaceValueIs functions kind v objects → ValueIs functions kind (rvalue v) objects
+place_value functions Void v objects h = record { tag = h.tag; structure = refl; word = h.word }
+place_value functions (OfScalar k) v objects h = record { tag = h.tag; structure = refl; word = h.word }
+place_value functions (Structure n) v objects h = record { tag = h.tag; structure = h.structure; word = h.word }
+place_value functions (Array n) v objects h = record { tag = h.tag; structure = refl; word = h.word }
 
 -- of a kind that is no structure
-pub plainly : {sc : Context} {P : Objects → Type 0} {r : Run Rvalue} {kind : Kind} → IsNoStructure kind → Sure sc P r GivesScalar → Sure sc P r (ValueIs kind)
-plainly {kind = kind} n h = sure_post (λ v o t. value_is kind v o n t) h
+pub plainly : {sc : Context} {P : Objects → Type 0} {r : Run Rvalue} {kind : Kind} → IsNoStructure kind → Sure sc P r (GivesScalar (function_count sc) kind) → Sure sc P r (ValueIs (function_count sc) kind)
+plainly {kind = kind} n h = sure_post (λ v o t. value_is _ kind v o n t) h
 
-pub of_kind : {sc : Context} {P : Objects → Type 0} {r : Run Rvalue} {kind other : Kind} → kind ≡ other → Sure sc P r (ValueIs other) → Sure sc P r (ValueIs kind)
-of_kind {sc = sc} {P = P} {r = r} e h = subst (λ k. Sure sc P r (ValueIs k)) (sym e) h
+pub of_kind : {sc : Context} {P : Objects → Type 0} {r : Run Rvalue} {kind other : Kind} → kind ≡ other → Sure sc P r (ValueIs (function_count sc) other) → Sure sc P r (ValueIs (function_count sc) kind)
+of_kind {sc = sc} {P = P} {r = r} e h = subst (λ k. Sure sc P r (ValueIs (function_count sc) k)) (sym e) h
 
-pub sure_give : {sc : Context} {P : Objects → Type 0} {v : Value} → ((o : Objects) → P o → IsTagged v o) → Sure sc P (give v) GivesScalar
-sure_give w = sure_done (λ o p. (w o p, refl))
+pub sure_give : {sc : Context} {P : Objects → Type 0} {v : Value} (kind : Kind) → ((o : Objects) → P o → IsGiven (function_count sc) kind v o) → Sure sc P (give v) (GivesScalar (function_count sc) kind)
+sure_give kind w = sure_done (λ o p. ((w o p).0, refl, (w o p).1))
 
-pub as_sure : {sc : Context} {P : Objects → Type 0} {r : Run Value} → Sure sc P r IsTagged → Sure sc P (as_rvalue r) GivesScalar
-as_sure h = sure_on h (λ v. sure_give {v = v} (λ o t. t))
+pub as_sure : {sc : Context} {P : Objects → Type 0} {r : Run Value} (kind : Kind) → Sure sc P r (IsGiven (function_count sc) kind) → Sure sc P (as_rvalue r) (GivesScalar (function_count sc) kind)
+as_sure kind h = sure_on h (λ v. sure_give {v = v} kind (λ o t. t))
 
-pub pointer_sure : {sc : Context} {P : Objects → Type 0} {r : Run Rvalue} → Sure sc P r (λ v o. IsTagged v.value o) → Sure sc P (as_pointer r) GivesScalar
-pointer_sure h = sure_on h (λ v. sure_give {v = v.value} (λ o t. t))
+pub pointer_sure : {sc : Context} {P : Objects → Type 0} {r : Run Rvalue} (kind : Kind) → Sure sc P r (λ v o. IsGiven (function_count sc) kind v.value o) → Sure sc P (as_pointer r) (GivesScalar (function_count sc) kind)
+pointer_sure kind h = sure_on h (λ v. sure_give {v = v.value} kind (λ o t. t))
 
-pub stable_tagged : (vs : List Value) → IsStable (AreTagged vs)
-stable_tagged vs old new l h = λ x. sound_tag_continues old new l.continues _ (h x)
+pub stable_tagged : (functions : ℕ) (vs : List Value) → IsStable (AreTagged functions vs)
+stable_tagged functions vs old new l h = λ x. sound_tag_continues _ old new l.continues _ (h x)

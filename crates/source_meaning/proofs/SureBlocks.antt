@@ -1,8 +1,8 @@
 -- A block keeps objects sound: its own are new, and die where it is left, and the names around it are good again.
-use Rattle.source_meaning.specs.Good.{IsEntered, EntersBy}
-use Rattle.source_meaning.specs.Good.{After, Any, AreTagged, CompletionIs, Context, HasHome, IsGood, Leaves, Sure, context_of, object_kind}
+use Rattle.source_meaning.specs.Good.{function_count, IsEntered, EntersBy}
+use Rattle.source_meaning.specs.Good.{After, Any, AreTyped, CompletionIs, Context, HasHome, IsGood, Leaves, Sure, context_of, object_kind}
 use Rattle.c_tree.specs.Valid.{Scope}
-use Rattle.std.proofs.Common.{◌≡◌, ℕ, zero, suc, ◌+◌, ◌≤◌, List, [], ◌∷◌, map, Bool, true, false, ◌||◌, Some, None, length, get_or, if◌then◌else◌, refl, sym, subst, arith, nat_le, nat_lt}
+use Rattle.std.proofs.Common.{◌≡◌, ℕ, zero, suc, ◌+◌, ◌≤◌, List, [], ◌∷◌, map, Bool, true, false, ◌||◌, Some, None, length, get_or, if◌then◌else◌, refl, sym, subst, nat_le, nat_lt}
 use Rattle.std.proofs.lemmas.Bool.{leb-true}
 use Rattle.sb_base.specs.declared.ending.Ending.TheVariants.{Stack, Keys}
 use Rattle.obj_memory.specs.Objects.{Objects}
@@ -13,22 +13,26 @@ use Rattle.c_tree.specs.declared.program.Variable.{Variable}
 use Rattle.c_tree.specs.Blocks.{no_variable, closed, is_among, opened, block_objects}
 use Rattle.source_meaning.specs.State.{Home, NoObject, InObject, State, Outcome, Gives, Ended, Paused, Run, on, ◌>>=◌, ◌>>◌, done, stop, choose, change, skip, Setting}
 use Rattle.source_meaning.specs.Statements.{Completion, Normal, Broken, Continued, Returned}
+use Rattle.addr_map.specs.declared.region.Region.TheVariants.{Stack as StackRegion}
+use Rattle.addr_map.specs.Places.{MapSizes, AreMapped, region_end}
 use Rattle.source_meaning.specs.Places.{stack_end}
 use Rattle.source_meaning.specs.Actions.{take_key}
 use Rattle.source_meaning.specs.Blocks.{pass_or_stop, objects_end, has_objects, place_variables, without_homes, test_keys, over, homes_over, Block, place_block, enter_block, leave_block, scoped}
-use Rattle.source_meaning.specs.Keeping.{AllLie, LivesOn}
+use Rattle.source_meaning.specs.Keeping.{AreTagged, AllLie, LivesOn}
 use Rattle.source_meaning.proofs.ActionsAct.{continues_without}
 use Rattle.source_meaning.proofs.Separating.{separate_without, separate_back}
 use Rattle.source_meaning.proofs.Holding.{all_lie_on, lives_then, held_on}
+use Rattle.source_meaning.proofs.Typing.{opened_as}
+use Rattle.obj_memory.specs.declared.value.Value.{Value}
 use Rattle.source_meaning.proofs.Sure.{stops_same, stops_then, argument_on, stable_tagged}
 use Rattle.source_meaning.proofs.Laying.{PlacedHome, placed_home, placed_from, without_sound, without_low, without_lives, ends_but_then, ends_without, Placed, PlacesBy, places}
 use Rattle.source_meaning.specs.Good.{AllFrom, EndsBut}
 
-pub completion_on : (result : Kind) (f : Completion) (old new : Objects) → Continues old new → CompletionIs result f old → CompletionIs result f new
-completion_on result Normal old new c h = tt
-completion_on result Broken old new c h = tt
-completion_on result Continued old new c h = tt
-completion_on result (Returned v) old new c h = argument_on result v old new c h
+pub completion_on : (functions : ℕ) (result : Kind) (f : Completion) (old new : Objects) → Continues old new → CompletionIs functions result f old → CompletionIs functions result f new
+completion_on functions result Normal old new c h = tt
+completion_on functions result Broken old new c h = tt
+completion_on functions result Continued old new c h = tt
+completion_on functions result (Returned v) old new c h = argument_on _ result v old new c h
 
 -- the homes of variables
 
@@ -104,16 +108,20 @@ names_same numbers first (d ∷ ds) [] none x kind e = absurd (cc)
 names_same numbers first (d ∷ ds) (v ∷ vs) none zero kind e = first_same (is_among numbers first) d v (neither _ _ none).0 kind e
 names_same numbers first (d ∷ ds) (v ∷ vs) none (suc x) kind e = names_same numbers (suc first) ds vs (neither _ _ none).1 x kind e
 
-module _ (base : Scope) (boundary : ℕ) (all vars : List Variable) (numbers : List ℕ) where
+module _ (base : Scope) (sizes : MapSizes) (all vars : List Variable) (numbers : List ℕ) where
   abbrev sc : Context
-  sc = context_of base boundary all vars
+  sc = context_of base sizes all vars
 
   abbrev inner : Context
-  inner = context_of base boundary all (opened numbers 0 all vars)
+  inner = context_of base sizes all (opened numbers 0 all vars)
 
   -- the objects of the block
   abbrev own : List Variable
   own = block_objects all numbers
+
+  -- where the block is entered, more objects can be named, and the same plain variables
+  opened_typed : (functions : ℕ) (values : List Value) → AreTyped functions sc.scope values → AreTyped functions inner.scope values
+  opened_typed functions values h = record { value = h.value; named = opened_as numbers 0 all vars h.named }
 
   homes_lived : (s s' : State) → IsGood sc s → LivesOn s.objects s'.objects → s'.frame ≡ s.frame → HomesOf vars s'.frame s'.objects
   homes_lived s s' good l same x kind e =
@@ -121,12 +129,12 @@ module _ (base : Scope) (boundary : ℕ) (all vars : List Variable) (numbers : L
       record { object = home.object; home = subst (λ f. get_or f x NoObject ≡ InObject home.object) (sym same) home.home; held = held_on s.objects s'.objects l home.object kind home.held }
 
   abbrev Entered : State → Block → State → Type 0
-  Entered s b s' = IsEntered base boundary all vars numbers s b s'
+  Entered s b s' = IsEntered base sizes all vars numbers s b s'
 
   abbrev Enters : State → Outcome Block → Type 0
-  Enters s o = EntersBy base boundary all vars numbers s o
+  Enters s o = EntersBy base sizes all vars numbers s o
 
-  placed_block : (s : State) (k : ℕ) → IsGood sc s → (o : Outcome (List Home)) → PlacesBy boundary (record s { keys = k }) (length s.objects) own o
+  placed_block : (s : State) (k : ℕ) → IsGood sc s → (o : Outcome (List Home)) → PlacesBy (function_count sc) sizes (record s { keys = k }) (length s.objects) own o
       → Enters s (on o (λ homes. change (λ z. record z { frame = homes_over s.frame homes }) >> done (record { homes = homes; frame = s.frame; stacked = s.stacked })))
   placed_block s k good (Gives homes s2) h = record {
     block = refl;
@@ -137,7 +145,8 @@ module _ (base : Scope) (boundary : ℕ) (all vars : List Variable) (numbers : L
       homes = homes_entered (length s.objects) numbers 0 all vars s.frame homes s2.objects
           (λ x kind e. let home = good.homes x kind e in record { object = home.object; home = home.home; held = held_on s.objects s2.objects h.0.lives home.object kind home.held })
           h.0.placed;
-      plain = subst (λ x. AreTagged x s2.objects) (sym h.2) (stable_tagged s.plain s.objects s2.objects h.0.lives good.plain);
+      plain = subst (λ x. AreTagged (function_count sc) x s2.objects) (sym h.2) (stable_tagged _ s.plain s.objects s2.objects h.0.lives good.plain);
+      typed = subst (AreTyped (function_count sc) inner.scope) (sym h.2) (opened_typed (function_count sc) s.plain good.typed);
       separate = h.0.separate;
     };
     lives = h.0.lives;
@@ -147,10 +156,14 @@ module _ (base : Scope) (boundary : ℕ) (all vars : List Variable) (numbers : L
   placed_block s k good (Ended e s2) h = absurd h
   placed_block s k good (Paused s2) h = absurd h
 
-  module _ (g : Setting) (most : stack_end g ≤ boundary) (low : boundary ≤ 1610612736) (line : ℕ) where
+  module _ (g : Setting) (same : g.sizes ≡ sizes) (mapped : AreMapped sizes) (line : ℕ) where
+    -- what passes the test of the stack lies in its region
+    in_stack : (end : ℕ) → end ≤ stack_end g → end ≤ region_end sizes StackRegion
+    in_stack end fits = subst (λ m. end ≤ region_end m StackRegion) same fits
+
     placing : (s : State) (k : ℕ) → IsGood sc s → objects_end own s.stacked ≤ stack_end g → Enters s (place_block own (record s { keys = k }))
     placing s k good fits =
-        placed_block s k good (place_variables own (record s { keys = k })) (places boundary low own (record s { keys = k }) good.kept.sound good.low good.separate (omega (arith, fits, most)))
+        placed_block s k good (place_variables own (record s { keys = k })) (places (function_count sc) sizes mapped own (record s { keys = k }) good.kept.sound good.low good.separate (in_stack (objects_end own s.stacked) fits))
 
     key_enters : (s : State) → IsGood sc s → objects_end own s.stacked ≤ stack_end g → (b : Bool) → Enters s (on (choose b (change (λ s. record s { keys = s.keys + 1 })) (stop (Keys line)) s) (λ _. place_block own))
     key_enters s good fits true = placing s (s.keys + 1) good fits
@@ -176,14 +189,15 @@ module _ (base : Scope) (boundary : ℕ) (all vars : List Variable) (numbers : L
       let ended = ends_without s.objects s2.objects homes c ends in
       record {
         good = record {
-          kept = record { sound = without_sound homes s2.objects after.kept.sound; lie = all_lie_on s2.objects (without_homes homes s2.objects) c s2.accesses after.kept.lie };
+          kept = record { sound = without_sound _ homes s2.objects after.kept.sound; lie = all_lie_on s2.objects (without_homes homes s2.objects) c s2.accesses after.kept.lie };
           low = without_low homes s2.objects after.low;
           statics = λ n kind e. held_on s.objects (without_homes homes s2.objects) l n kind (good.statics n kind e);
           homes = λ x kind e.
               let home = good.homes x kind e in
               record { object = home.object; home = home.home; held = held_on s.objects (without_homes homes s2.objects) l home.object kind home.held };
-          plain = λ x. sound_tag_continues s2.objects (without_homes homes s2.objects) c _ (after.plain x);
-          separate = separate_back boundary s.stacked s2.stacked s.objects (without_homes homes s2.objects) good.separate (separate_without boundary s2.stacked homes s2.objects after.separate) l.continues ended;
+          plain = λ x. sound_tag_continues _ s2.objects (without_homes homes s2.objects) c _ (after.plain x);
+          typed = record { value = after.typed.value; named = good.typed.named };
+          separate = separate_back sizes s.stacked s2.stacked s.objects (without_homes homes s2.objects) good.separate (separate_without sizes s2.stacked homes s2.objects after.separate) l.continues ended;
         };
         lives = l;
         frame = refl;
@@ -197,12 +211,12 @@ module _ (base : Scope) (boundary : ℕ) (all vars : List Variable) (numbers : L
       (left_good s good b.homes s2 h.good (lives_then s.objects s1.objects s2.objects up.lives h.lives) up.new
       (ends_but_then s.objects s1.objects s2.objects b.homes up.ends h.lives.continues h.ended))
 
-  completed : (s : State) → IsGood sc s → (b : Block) (s1 : State) → Entered s b s1 → (o : Outcome Completion) → After inner s1 (CompletionIs base.result) o → After sc s (CompletionIs base.result) (on o (λ completion. change (leave_block b) >> done completion))
-  completed s good b s1 up (Gives f s2) h = (left_by s good b s1 s2 up h.0, completion_on base.result f s2.objects (without_homes b.homes s2.objects) (continues_without b.homes s2.objects) h.1)
+  completed : (s : State) → IsGood sc s → (b : Block) (s1 : State) → Entered s b s1 → (o : Outcome Completion) → After inner s1 (CompletionIs (function_count sc) base.result) o → After sc s (CompletionIs (function_count sc) base.result) (on o (λ completion. change (leave_block b) >> done completion))
+  completed s good b s1 up (Gives f s2) h = (left_by s good b s1 s2 up h.0, completion_on _ base.result f s2.objects (without_homes b.homes s2.objects) (continues_without b.homes s2.objects) h.1)
   completed s good b s1 up (Ended e s2) h = stops_then s.objects s1.objects s2 up.lives h
   completed s good b s1 up (Paused s2) h = stops_then s.objects s1.objects s2 up.lives h
 
-  entered_by : (s : State) → IsGood sc s → (o : Outcome Block) → Enters s o → (body : Run Completion) → Sure inner Any body (CompletionIs base.result) → After sc s (CompletionIs base.result) (on o (λ b. body >>= (λ completion. change (leave_block b) >> done completion)))
+  entered_by : (s : State) → IsGood sc s → (o : Outcome Block) → Enters s o → (body : Run Completion) → Sure inner Any body (CompletionIs (function_count sc) base.result) → After sc s (CompletionIs (function_count sc) base.result) (on o (λ b. body >>= (λ completion. change (leave_block b) >> done completion)))
   entered_by s good (Gives b s1) up body h = completed s good b s1 up (body s1) (h.by s1 up.good tt)
   entered_by s good (Ended e s1) up body h = up
   entered_by s good (Paused s1) up body h = absurd up
@@ -216,26 +230,27 @@ module _ (base : Scope) (boundary : ℕ) (all vars : List Variable) (numbers : L
     statics = good.statics;
     homes = λ x kind e. good.homes x kind (names_same numbers 0 all vars none x kind e);
     plain = good.plain;
+    typed = opened_typed (function_count sc) s.plain good.typed;
     separate = good.separate;
   }
 
   leaves_outside : (s s' : State) → IsGood sc s → Leaves inner s s' → Leaves sc s s'
   leaves_outside s s' good h = record {
-    good = record { kept = h.good.kept; low = h.good.low; statics = h.good.statics; homes = homes_lived s s' good h.lives h.frame; plain = h.good.plain; separate = h.good.separate };
+    good = record { kept = h.good.kept; low = h.good.low; statics = h.good.statics; homes = homes_lived s s' good h.lives h.frame; plain = h.good.plain; typed = record { value = h.good.typed.value; named = good.typed.named }; separate = h.good.separate };
     lives = h.lives;
     frame = h.frame;
     ended = h.ended;
   }
 
-  after_outside : (s : State) → IsGood sc s → (o : Outcome Completion) → After inner s (CompletionIs base.result) o → After sc s (CompletionIs base.result) o
+  after_outside : (s : State) → IsGood sc s → (o : Outcome Completion) → After inner s (CompletionIs (function_count sc) base.result) o → After sc s (CompletionIs (function_count sc) base.result) o
   after_outside s good (Gives f s') h = (leaves_outside s s' good h.0, h.1)
   after_outside s good (Ended e s') h = h
   after_outside s good (Paused s') h = h
 
-  scoped_by : (g : Setting) → stack_end g ≤ boundary → boundary ≤ 1610612736 → (line : ℕ) (body : Run Completion) → Sure inner Any body (CompletionIs base.result) → (b : Bool) → has_objects own ≡ b
-      → Sure sc Any (choose b (enter_block g own line >>= (λ b. body >>= (λ completion. change (leave_block b) >> done completion))) body) (CompletionIs base.result)
-  scoped_by g most low line body h true e = record { by = λ s good p. entered_by s good (enter_block g own line s) (enters g most low line s good) body h }
-  scoped_by g most low line body h false e = record { by = λ s good p. after_outside s good (body s) (h.by s (good_inside s e good) tt) }
+  scoped_by : (g : Setting) → g.sizes ≡ sizes → AreMapped sizes → (line : ℕ) (body : Run Completion) → Sure inner Any body (CompletionIs (function_count sc) base.result) → (b : Bool) → has_objects own ≡ b
+      → Sure sc Any (choose b (enter_block g own line >>= (λ b. body >>= (λ completion. change (leave_block b) >> done completion))) body) (CompletionIs (function_count sc) base.result)
+  scoped_by g same mapped line body h true e = record { by = λ s good p. entered_by s good (enter_block g own line s) (enters g same mapped line s good) body h }
+  scoped_by g same mapped line body h false e = record { by = λ s good p. after_outside s good (body s) (h.by s (good_inside s e good) tt) }
 
-  pub scoped_sure : (g : Setting) → stack_end g ≤ boundary → boundary ≤ 1610612736 → (line : ℕ) (body : Run Completion) → Sure inner Any body (CompletionIs base.result) → Sure sc Any (scoped g own line body) (CompletionIs base.result)
-  scoped_sure g most low line body h = scoped_by g most low line body h (has_objects own) refl
+  pub scoped_sure : (g : Setting) → g.sizes ≡ sizes → AreMapped sizes → (line : ℕ) (body : Run Completion) → Sure inner Any body (CompletionIs (function_count sc) base.result) → Sure sc Any (scoped g own line body) (CompletionIs (function_count sc) base.result)
+  scoped_sure g same mapped line body h = scoped_by g same mapped line body h (has_objects own) refl

@@ -1,13 +1,14 @@
 -- A valid program names what is there.
-use Rattle.source_meaning.specs.Good.{basis_of, node_basis, object_kind, signature_in, static_kind}
+use Rattle.source_meaning.specs.Good.{basis_of, node_basis, object_kind, plain_type, scalar_if, signature_in, static_kind}
 use Rattle.c_tree.specs.Valid.{Scope}
-use Rattle.std.proofs.Common.{◌≡◌, ℕ, ◌+◌, ◌^◌, ◌≤◌, nat_le, List, [], ◌∷◌, Bool, true, false, ◌&&◌, ◌==◌, not, zero, suc, None, if◌then◌else◌, Some, get_or, refl, sym, ap, ◌∙◌, subst, arith}
-use Rattle.std.proofs.lemmas.Bool.{eqb-true, leb-true}
+use Rattle.std.proofs.Common.{◌≡◌, ℕ, ◌+◌, ◌^◌, ◌<◌, ◌≤◌, nat_le, nat_lt, length, List, [], ◌∷◌, Bool, true, false, ◌&&◌, ◌==◌, not, zero, suc, None, if◌then◌else◌, Some, get_or, refl, sym, ap, ◌∙◌, subst, arith}
+use Rattle.std.proofs.lemmas.Bool.{eqb-true, leb-true, ltb-true}
 use Rattle.obj_memory.specs.declared.int_type.IntType.{IntType}
 use Rattle.obj_memory.specs.declared.int_type.IntType.TheVariants.{Char, SignedChar, UnsignedChar, Short, UnsignedShort, Int, UnsignedInt, Long, UnsignedLong, LongLong, UnsignedLongLong}
+use Rattle.obj_memory.specs.declared.value.Scalar.{Scalar}
 use Rattle.obj_memory.specs.declared.value.Scalar.TheVariants.{Integer, Pointer}
-use Rattle.obj_memory.specs.declared.operator.UnaryOperator.{UnaryOperator}
-use Rattle.obj_memory.specs.declared.operator.UnaryOperator.TheVariants.{Plus, Negate, Complement, Not}
+use Rattle.obj_memory.specs.declared.operator.BinaryOperator.{BinaryOperator}
+use Rattle.obj_memory.specs.Integers.{fit}
 use Rattle.c_tree.specs.declared.expression.Kind.{Kind}
 use Rattle.c_tree.specs.declared.expression.Kind.TheVariants.{Void, Scalar as OfScalar, Structure, Array}
 use Rattle.c_tree.specs.declared.expression.Update.{Update}
@@ -15,12 +16,11 @@ use Rattle.c_tree.specs.declared.expression.Update.TheVariants as update
 use Rattle.c_tree.specs.declared.expression.Routine.{Routine}
 use Rattle.c_tree.specs.declared.expression.Routine.TheVariants.{Malloc, Calloc, Free, Realloc, Memcpy, Memmove, Memset, Memcmp, Strlen, Strcmp, Strcpy, Strncpy, Strcat, Strchr, Putchar, Getchar, Puts, Exit, Abort}
 use Rattle.c_tree.specs.Tree.{Expression, expression, Expressions, no_expressions, expressions, Lvalue, lvalue, Node, constant, function, plain, read, decay, address, parenthesized, deref_function, address_function, cast, convert, unary, binary, offset_by, difference, logical_and, logical_or, comma, conditional, assign, assign_plain, compound, change_plain, step, step_plain, call, call_through, library, printf, LvalueNode, automatic, static, deref, index, member, arrow, member_of_value, parenthesized_lvalue, kind_of, lvalue_kind, kinds_of}
-use Rattle.c_tree.specs.Kinds.{is_size, is_step_operator, integer, pointer, int_number, is_int_type, is_kind, are_kinds, size_of_kind, is_integer, is_promoted_type, is_promoted, is_scalar, is_value, is_array, has_member, OperatorClass, Arithmetic, Shift, Comparison, class_of, are_operands, Signature, routine_signature}
+use Rattle.c_tree.specs.Kinds.{is_size, is_step_operator, integer, pointer, int_number, is_int_type, is_kind, are_kinds, size_of_kind, is_integer, is_promoted_type, is_scalar, is_value, is_array, has_member, class_of, are_operands, routine_signature}
 use Rattle.c_tree.specs.Valid.{is_constant, is_plain, is_operand, is_conversion, is_right_of, is_update, is_step, is_call, no_signature, is_lvalue, is_lvalue_node, is_member, is_valid, is_node, are_valid, is_valid_lvalue, is_valid_lvalue_node}
 use Rattle.c_tree.specs.declared.program.Variable.{Variable}
 use Rattle.c_tree.specs.Valid as valid
-use Rattle.source_meaning.proofs.Naming.{IsWritable, IsScalar, IsStructureWith, Names, ValueNames, LvalueNames, PlaceNames, RowNames}
-use Rattle.source_meaning.specs.Keeping.{IsNoStructure}
+use Rattle.source_meaning.proofs.Naming.{IsNoStructure, IsWritable, IsStructureWith, IsConstantOf, PlainNames, UpdatesKind, Names, ValueNames, LvalueNames, PlaceNames, RowNames}
 
 -- tests that hold
 
@@ -107,23 +107,12 @@ same_kinds (k ∷ ks) (t ∷ ts) e =
 pub none_like : (k t : Kind) → is_kind k t ≡ true → IsNoStructure t → IsNoStructure k
 none_like k t e h = subst IsNoStructure (sym (same_kind k t e)) h
 
-none_scalar : (k : Kind) → is_scalar k ≡ true → IsNoStructure k
-none_scalar Void e = tt
-none_scalar (OfScalar s) e = tt
-none_scalar (Structure n) e = never e
-none_scalar (Array n) e = tt
-
-none_promoted : (k : Kind) → is_promoted k ≡ true → IsNoStructure k
-none_promoted Void e = tt
-none_promoted (OfScalar s) e = tt
-none_promoted (Structure n) e = never e
-none_promoted (Array n) e = tt
-
-none_constant : (w : ℕ) (k : Kind) → is_constant w k ≡ true → IsNoStructure k
-none_constant w Void e = tt
-none_constant w (OfScalar s) e = tt
-none_constant w (Structure n) e = never e
-none_constant w (Array n) e = tt
+constant_of : (w : ℕ) (k : Kind) → is_constant w k ≡ true → IsConstantOf w k
+constant_of w Void e = never e
+constant_of w (OfScalar (Integer t)) e = eqb-true (fit t w) w e
+constant_of w (OfScalar Pointer) e = never e
+constant_of w (Structure n) e = never e
+constant_of w (Array n) e = never e
 
 none_conversion : (from to : Kind) → is_conversion from to ≡ true → IsNoStructure to
 none_conversion from Void e = tt
@@ -131,20 +120,7 @@ none_conversion from (OfScalar s) e = tt
 none_conversion from (Structure n) e = never e
 none_conversion from (Array n) e = tt
 
-none_operand : (op : UnaryOperator) (k result : Kind) → is_operand op k result ≡ true → IsNoStructure result
-none_operand Plus k result e = let h = both (is_promoted k) (is_kind result k) e in none_like result k h.1 (none_promoted k h.0)
-none_operand Negate k result e = let h = both (is_promoted k) (is_kind result k) e in none_like result k h.1 (none_promoted k h.0)
-none_operand Complement k result e = let h = both (is_promoted k) (is_kind result k) e in none_like result k h.1 (none_promoted k h.0)
-none_operand Not k result e = let h = both (is_scalar k) (is_kind result (integer Int)) e in none_like result (integer Int) h.1 tt
-
-none_operands : (c : OperatorClass) (left right result : Kind) → are_operands c left right result ≡ true → IsNoStructure result
-none_operands Arithmetic left right result e =
-    let h = three (is_promoted left) (is_kind left right) (is_kind result left) e in none_like result left h.2 (none_promoted left h.0)
-none_operands Shift left right result e =
-    let h = three (is_promoted left) (is_promoted right) (is_kind result left) e in none_like result left h.2 (none_promoted left h.0)
-none_operands Comparison left right result e = let h = three _ (is_kind left right) (is_kind result (integer Int)) e in none_like result (integer Int) h.2 tt
-
-none_routine : (r : Routine) → IsNoStructure (routine_signature r).result
+pub none_routine : (r : Routine) → IsNoStructure (routine_signature r).result
 none_routine Malloc = tt
 none_routine Calloc = tt
 none_routine Free = tt
@@ -165,36 +141,24 @@ none_routine Puts = tt
 none_routine Exit = tt
 none_routine Abort = tt
 
-scalar_integer : (k : Kind) → is_integer k ≡ true → IsScalar k
-scalar_integer Void e = never e
-scalar_integer (OfScalar s) e = tt
-scalar_integer (Structure n) e = never e
-scalar_integer (Array n) e = never e
+-- updates
 
-scalar_like : (k t : Kind) → is_kind k t ≡ true → IsScalar t → IsScalar k
-scalar_like k t e h = subst IsScalar (sym (same_kind k t e)) h
+integer_update : (op : BinaryOperator) (t : IntType) (k : Kind) → is_integer k ≡ true → UpdatesKind (update.Arithmetic op t) k
+integer_update op t Void e = never e
+integer_update op t (OfScalar (Integer s)) e = tt
+integer_update op t (OfScalar Pointer) e = never e
+integer_update op t (Structure n) e = never e
+integer_update op t (Array n) e = never e
 
-scalar_update : (u : Update) (k right : Kind) → is_update u k right ≡ true → IsScalar k
-scalar_update (update.Arithmetic op t) k right e = scalar_integer k (three (is_integer k) (is_promoted_type t) (is_right_of (class_of op) t right) e).0
-scalar_update (update.Forward size) k right e = scalar_like k pointer (three (is_kind k pointer) _ _ e).0 tt
-scalar_update (update.Back size) k right e = scalar_like k pointer (three (is_kind k pointer) _ _ e).0 tt
+update_kind : (u : Update) (k right : Kind) → is_update u k right ≡ true → UpdatesKind u k
+update_kind (update.Arithmetic op t) k right e = integer_update op t k (three (is_integer k) (is_promoted_type t) (is_right_of (class_of op) t right) e).0
+update_kind (update.Forward size) k right e = subst (UpdatesKind (update.Forward size)) (sym (same_kind k pointer (three (is_kind k pointer) _ _ e).0)) tt
+update_kind (update.Back size) k right e = subst (UpdatesKind (update.Back size)) (sym (same_kind k pointer (three (is_kind k pointer) _ _ e).0)) tt
 
-scalar_step : (u : Update) (k : Kind) → is_step u k ≡ true → IsScalar k
-scalar_step (update.Arithmetic op t) k e = scalar_update (update.Arithmetic op t) k (integer t) (both (is_step_operator op) _ e).1
-scalar_step (update.Forward size) k e = scalar_update (update.Forward size) k (integer Int) e
-scalar_step (update.Back size) k e = scalar_update (update.Back size) k (integer Int) e
-
-none_of_scalar : (k : Kind) → IsScalar k → IsNoStructure k
-none_of_scalar Void h = tt
-none_of_scalar (OfScalar s) h = tt
-none_of_scalar (Structure n) h = h
-none_of_scalar (Array n) h = tt
-
-none_plain : (scope : valid.Scope) (x : ℕ) (k : Kind) → is_plain scope x k ≡ true → IsNoStructure k
-none_plain scope x k e = none_scalar k (three (not (valid.variable_at scope x).is_object) (is_kind (valid.variable_at scope x).kind k) (is_scalar k) e).2
-
-none_call : (s : Signature) (arguments : List Kind) (result : Kind) → IsNoStructure s.result → is_call s arguments result ≡ true → IsNoStructure result
-none_call s arguments result h e = none_like result s.result (both (are_kinds arguments s.parameters) (is_kind result s.result) e).1 h
+step_kind : (u : Update) (k : Kind) → is_step u k ≡ true → UpdatesKind u k
+step_kind (update.Arithmetic op t) k e = update_kind (update.Arithmetic op t) k (integer t) (both (is_step_operator op) _ e).1
+step_kind (update.Forward size) k e = update_kind (update.Forward size) k (integer Int) e
+step_kind (update.Back size) k e = update_kind (update.Back size) k (integer Int) e
 
 -- members
 
@@ -245,6 +209,31 @@ object_at [] x e = never e
 object_at (v ∷ vs) zero e = object_by v v.is_object refl e
 object_at (v ∷ vs) (suc x) e = object_at vs x e
 
+-- a plain variable of a scalar type
+plain_by : (v : Variable) (k : Scalar) (b : Bool) → v.is_object ≡ b → not b ≡ true → v.kind ≡ OfScalar k → (if v.is_object then None else scalar_if v.kind) ≡ Some k
+plain_by v k true e h same = never h
+plain_by v k false e h same = subst (λ c. (if c then None else scalar_if v.kind) ≡ Some k) (sym e) (ap scalar_if same)
+
+none_named : (k : Scalar) {A : Type 0} → Void ≡ OfScalar k → A
+none_named k e = absurd (cc)
+
+plain_at : (vs : List Variable) (x : ℕ) (k : Scalar) → not (valid.at_number vs x).is_object ≡ true → (valid.at_number vs x).kind ≡ OfScalar k → plain_type vs x ≡ Some k
+plain_at [] x k e same = none_named k same
+plain_at (v ∷ vs) zero k e same = plain_by v k v.is_object refl e same
+plain_at (v ∷ vs) (suc x) k e same = plain_at vs x k e same
+
+plain_of : (vs : List Variable) (sc : Scope) (x : ℕ) (k : Kind) → vs ≡ sc.variables → not (valid.at_number vs x).is_object ≡ true → (valid.at_number vs x).kind ≡ k → is_scalar k ≡ true → PlainNames sc x k
+plain_of vs sc x Void g e same scalar = never scalar
+plain_of vs sc x (OfScalar k) g e same scalar = subst (λ l. plain_type l x ≡ Some k) g (plain_at vs x k e same)
+plain_of vs sc x (Structure n) g e same scalar = never scalar
+plain_of vs sc x (Array n) g e same scalar = never scalar
+
+pub plain_names : {scope : valid.Scope} {sc : Scope} → Agree scope sc → (x : ℕ) (k : Kind) → is_plain scope x k ≡ true → PlainNames sc x k
+plain_names {scope = scope} {sc = sc} g x k e =
+    let v = valid.variable_at scope x in
+    let h = three (not v.is_object) (is_kind v.kind k) (is_scalar k) e in
+    plain_of scope.variables sc x k g.variables h.0 (same_kind v.kind k h.1) h.2
+
 pub object_named : {scope : valid.Scope} {sc : Scope} → Agree scope sc → (x : ℕ) → (valid.variable_at scope x).is_object ≡ true → object_kind sc.variables x ≡ Some (valid.variable_at scope x).kind
 object_named {scope = scope} g x e = subst (λ vs. object_kind vs x ≡ Some (valid.variable_at scope x).kind) g.variables (object_at scope.variables x e)
 
@@ -254,33 +243,35 @@ module _ {scope : valid.Scope} {sc : Scope} (g : Agree scope sc) where
     names (expression kind line node) e = value_names node kind e
 
     pub value_names : (n : Node) (k : Kind) → is_node scope n k ≡ true → ValueNames sc n k
-    value_names (constant w) k e = none_constant w k e
-    value_names (function f) k e = none_like k pointer (both _ (is_kind k pointer) e).1 tt
-    value_names (plain x) k e = none_plain scope x k e
+    value_names (constant w) k e = constant_of w k e
+    value_names (function f) k e =
+        let h = both (nat_lt f (length scope.functions)) (is_kind k pointer) e in
+        (subst (λ l. f < length l) g.functions (ltb-true f (length scope.functions) h.0), same_kind k pointer h.1)
+    value_names (plain x) k e = plain_names g x k e
     value_names (read l) k e =
         let h = three (is_valid_lvalue scope l) (is_kind k (lvalue_kind l)) (is_value k) e in (lvalue_names l h.0, same_kind k (lvalue_kind l) h.1)
     value_names (decay l) k e =
-        let h = four (is_valid_lvalue scope l) (is_lvalue l) (is_array (lvalue_kind l)) (is_kind k pointer) e in (lvalue_names l h.0, none_like k pointer h.3 tt)
+        let h = four (is_valid_lvalue scope l) (is_lvalue l) (is_array (lvalue_kind l)) (is_kind k pointer) e in (lvalue_names l h.0, same_kind k pointer h.3)
     value_names (address l) k e =
-        let h = three (is_valid_lvalue scope l) (is_lvalue l) (is_kind k pointer) e in (lvalue_names l h.0, none_like k pointer h.2 tt)
+        let h = three (is_valid_lvalue scope l) (is_lvalue l) (is_kind k pointer) e in (lvalue_names l h.0, same_kind k pointer h.2)
     value_names (parenthesized a) k e = let h = both (is_valid scope a) (is_kind k (kind_of a)) e in (names a h.0, same_kind k (kind_of a) h.1)
     value_names (deref_function a) k e =
-        let h = three (is_valid scope a) (is_kind (kind_of a) pointer) (is_kind k pointer) e in (names a h.0, none_like k pointer h.2 tt)
+        let h = three (is_valid scope a) (is_kind (kind_of a) pointer) (is_kind k pointer) e in (names a h.0, same_kind (kind_of a) pointer h.1, same_kind k pointer h.2)
     value_names (address_function a) k e =
-        let h = three (is_valid scope a) (is_kind (kind_of a) pointer) (is_kind k pointer) e in (names a h.0, none_like k pointer h.2 tt)
+        let h = three (is_valid scope a) (is_kind (kind_of a) pointer) (is_kind k pointer) e in (names a h.0, same_kind (kind_of a) pointer h.1, same_kind k pointer h.2)
     value_names (cast a) k e = let h = both (is_valid scope a) (is_conversion (kind_of a) k) e in (names a h.0, none_conversion (kind_of a) k h.1)
     value_names (convert a) k e = let h = three (is_valid scope a) (is_conversion (kind_of a) k) _ e in (names a h.0, none_conversion (kind_of a) k h.1)
-    value_names (unary op a) k e = let h = both (is_valid scope a) (is_operand op (kind_of a) k) e in (names a h.0, none_operand op (kind_of a) k h.1)
+    value_names (unary op a) k e = let h = both (is_valid scope a) (is_operand op (kind_of a) k) e in (names a h.0, h.1)
     value_names (binary op a b) k e =
-        let h = three (is_valid scope a) (is_valid scope b) (are_operands (class_of op) (kind_of a) (kind_of b) k) e in (names a h.0, names b h.1, none_operands (class_of op) (kind_of a) (kind_of b) k h.2)
+        let h = three (is_valid scope a) (is_valid scope b) (are_operands (class_of op) (kind_of a) (kind_of b) k) e in (names a h.0, names b h.1, h.2)
     value_names (offset_by form size a b) k e =
-        let h = six (is_valid scope a) (is_valid scope b) _ _ _ (is_kind k pointer) e in (names a h.0, names b h.1, none_like k pointer h.5 tt)
+        let h = six (is_valid scope a) (is_valid scope b) _ _ _ (is_kind k pointer) e in (names a h.0, names b h.1, same_kind k pointer h.5)
     value_names (difference size a b) k e =
-        let h = six (is_valid scope a) (is_valid scope b) _ _ _ (is_kind k (integer Long)) e in (names a h.0, names b h.1, none_like k (integer Long) h.5 tt)
+        let h = six (is_valid scope a) (is_valid scope b) _ _ _ (is_kind k (integer Long)) e in (names a h.0, names b h.1, same_kind k (integer Long) h.5)
     value_names (logical_and a b) k e =
-        let h = five (is_valid scope a) (is_valid scope b) _ _ (is_kind k (integer Int)) e in (names a h.0, names b h.1, none_like k (integer Int) h.4 tt)
+        let h = five (is_valid scope a) (is_valid scope b) _ _ (is_kind k (integer Int)) e in (names a h.0, names b h.1, same_kind k (integer Int) h.4)
     value_names (logical_or a b) k e =
-        let h = five (is_valid scope a) (is_valid scope b) _ _ (is_kind k (integer Int)) e in (names a h.0, names b h.1, none_like k (integer Int) h.4 tt)
+        let h = five (is_valid scope a) (is_valid scope b) _ _ (is_kind k (integer Int)) e in (names a h.0, names b h.1, same_kind k (integer Int) h.4)
     value_names (comma a b) k e =
         let h = three (is_valid scope a) (is_valid scope b) (is_kind k (kind_of b)) e in (names a h.0, names b h.1, same_kind k (kind_of b) h.2)
     value_names (conditional a b c) k e =
@@ -290,16 +281,17 @@ module _ {scope : valid.Scope} {sc : Scope} (g : Agree scope sc) where
         let h = six (is_valid_lvalue scope l) (is_lvalue l) (is_valid scope a) (is_kind (lvalue_kind l) (kind_of a)) (is_kind k (lvalue_kind l)) (is_value k) e in
         (lvalue_names l h.0, writable l h.1, names a h.2, same_kind (lvalue_kind l) (kind_of a) h.3, same_kind k (lvalue_kind l) h.4)
     value_names (assign_plain x a) k e =
-        let h = three (is_valid scope a) (is_plain scope x.variable (kind_of a)) (is_kind k (kind_of a)) e in (names a h.0, none_like k (kind_of a) h.2 (none_plain scope x.variable (kind_of a) h.1))
+        let h = three (is_valid scope a) (is_plain scope x.variable (kind_of a)) (is_kind k (kind_of a)) e in (names a h.0, plain_names g x.variable (kind_of a) h.1, same_kind k (kind_of a) h.2)
     value_names (compound u l a) k e =
         let h = five (is_valid_lvalue scope l) (is_lvalue l) (is_valid scope a) (is_update u (lvalue_kind l) (kind_of a)) (is_kind k (lvalue_kind l)) e in
-        (lvalue_names l h.0, writable l h.1, scalar_update u (lvalue_kind l) (kind_of a) h.3, names a h.2, none_like k (lvalue_kind l) h.4 (none_of_scalar (lvalue_kind l) (scalar_update u (lvalue_kind l) (kind_of a) h.3)))
+        (lvalue_names l h.0, writable l h.1, update_kind u (lvalue_kind l) (kind_of a) h.3, names a h.2, same_kind k (lvalue_kind l) h.4)
     value_names (change_plain u x a) k e =
-        let h = three (is_valid scope a) (is_plain scope x.variable k) (is_update u k (kind_of a)) e in (names a h.0, none_plain scope x.variable k h.1)
+        let h = three (is_valid scope a) (is_plain scope x.variable k) (is_update u k (kind_of a)) e in (names a h.0, plain_names g x.variable k h.1, update_kind u k (kind_of a) h.2)
     value_names (step u fixity l) k e =
         let h = four (is_valid_lvalue scope l) (is_lvalue l) (is_step u (lvalue_kind l)) (is_kind k (lvalue_kind l)) e in
-        (lvalue_names l h.0, writable l h.1, scalar_step u (lvalue_kind l) h.2, none_like k (lvalue_kind l) h.3 (none_of_scalar (lvalue_kind l) (scalar_step u (lvalue_kind l) h.2)))
-    value_names (step_plain u fixity x) k e = none_plain scope x.variable k (both (is_plain scope x.variable k) (is_step u k) e).0
+        (lvalue_names l h.0, writable l h.1, step_kind u (lvalue_kind l) h.2, same_kind k (lvalue_kind l) h.3)
+    value_names (step_plain u fixity x) k e =
+        let h = both (is_plain scope x.variable k) (is_step u k) e in (plain_names g x.variable k h.0, step_kind u k h.1)
     value_names (call f args) k e =
         let q = signature_in scope.functions f in
         let h = three (are_valid scope args) _ (is_call q (kinds_of args) k) e in
@@ -315,9 +307,11 @@ module _ {scope : valid.Scope} {sc : Scope} (g : Agree scope sc) where
           same_kind k q.result c.1 ∙ ap (λ l. (signature_in l type_number).result) g.types,
         )
     value_names (library r args) k e =
-        let h = both (are_valid scope args) (is_call (routine_signature r) (kinds_of args) k) e in (row_names args h.0, none_call (routine_signature r) (kinds_of args) k (none_routine r) h.1)
+        let h = both (are_valid scope args) (is_call (routine_signature r) (kinds_of args) k) e in
+        let c = both (are_kinds (kinds_of args) (routine_signature r).parameters) (is_kind k (routine_signature r).result) h.1 in
+        (row_names args h.0, same_kinds (kinds_of args) (routine_signature r).parameters c.0, same_kind k (routine_signature r).result c.1)
     value_names (printf format args) k e =
-        let h = three (are_valid scope args) _ (is_kind k (integer Int)) e in (row_names args h.0, none_like k (integer Int) h.2 tt)
+        let h = three (are_valid scope args) _ (is_kind k (integer Int)) e in (row_names args h.0, same_kind k (integer Int) h.2)
 
     pub row_names : (es : Expressions) → are_valid scope es ≡ true → RowNames sc es
     row_names no_expressions e = tt

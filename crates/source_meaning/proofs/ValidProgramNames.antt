@@ -17,7 +17,7 @@ use Rattle.c_tree.specs.Valid.{has_number, within, is_valid, is_condition, is_pl
 use Rattle.c_tree.specs.ValidProgram.{content_size, is_content, is_part, are_parts, is_initializer, are_declared, is_first, is_condition_if, is_expression_if, is_return, Inside, in_loop, in_switch, is_statement, are_statements, are_items, is_function_type, are_all_different, signature_at, scope_in, function_scope, are_parameters, is_function, are_functions, name_variables, variables_of_function, static_scope, is_function_number, is_static_object, is_main, is_main_signature, is_valid_program}
 use Rattle.c_tree.specs.Blocks.{opened, all_of, body_variables, block_variables, switch_variables, first_variables}
 use Rattle.source_meaning.proofs.Naming.{Names, NamesIfAny, ContentNames, PartsName, InitializerNames, DeclaredName, FirstNames, ReturnNames, StatementNames, StatementsName, ItemsName, kinds_in, names_of, FunctionNames, FunctionsName, file_scope, StaticsName, NamesObjects}
-use Rattle.source_meaning.proofs.ValidNames.{both, three, five, six, never, same_kind, Agree, object_named, names}
+use Rattle.source_meaning.proofs.ValidNames.{both, three, five, six, never, same_kind, Agree, object_named, plain_names, names}
 
 -- a block that declares some variables
 within_agree : {scope : valid.Scope} {sc : Scope} (numbers : List ℕ) → Agree scope sc → Agree (within scope numbers) (within sc numbers)
@@ -47,7 +47,7 @@ module _ {scope : valid.Scope} {sc : Scope} (g : Agree scope sc) where
 
   pub initializer_names : (x : ℕ) (i : Option Initializer) → is_initializer scope x i ≡ true → InitializerNames sc x i
   initializer_names x None h = tt
-  initializer_names x (Some (of_plain e)) h = names g e (both (is_valid scope e) (is_plain scope x (kind_of e)) h).0
+  initializer_names x (Some (of_plain e)) h = let q = both (is_valid scope e) (is_plain scope x (kind_of e)) h in (names g e q.0, plain_names g x (kind_of e) q.1)
   initializer_names x (Some (of_object parts)) h =
       let v = valid.variable_at scope x in
       let e = both v.is_object (are_parts scope (size_of_kind v.kind) parts) h in

@@ -1,8 +1,13 @@
 -- Good states, and what every part of a run makes of them: objects and tags are sound, each variable whose block is
 -- entered has its home in a live object, and what an expression or an lvalue gives is sound.
-use Rattle.std.specs.Prelude.{◌≡◌, ◌⊎◌, ℕ, zero, suc, ◌+◌, ◌<◌, ◌≤◌, true, false, if◌then◌else◌, List, [], ◌∷◌, Option, Some, None, length, get_or}
+use Rattle.std.specs.Prelude.{◌≡◌, ◌⊎◌, ℕ, Bool, zero, suc, ◌+◌, ◌<◌, ◌≤◌, ◌^◌, true, false, if◌then◌else◌, List, [], ◌∷◌, Option, Some, None, length, get_or}
 use Rattle.behaviours.specs.Shown.{Access}
+use Rattle.obj_memory.specs.declared.int_type.IntType.TheVariants.{Int}
+use Rattle.obj_memory.specs.declared.value.Tag.TheVariants.{Untagged}
+use Rattle.obj_memory.specs.declared.value.Scalar.{Scalar}
+use Rattle.obj_memory.specs.declared.value.Scalar.TheVariants.{Integer, Pointer}
 use Rattle.obj_memory.specs.declared.value.Value.{Value}
+use Rattle.obj_memory.specs.Integers.{fit}
 use Rattle.obj_memory.specs.Objects.{ObjectState, Objects, object_at}
 use Rattle.obj_memory.specs.Heap.{is_allocated}
 use Rattle.obj_memory.specs.Sound.{IsSoundObject, IsSoundTag, AreDisjoint}
@@ -10,13 +15,13 @@ use Rattle.c_tree.specs.declared.expression.Kind.{Kind}
 use Rattle.c_tree.specs.declared.expression.Kind.TheVariants.{Void, Scalar as OfScalar, Structure, Array}
 use Rattle.c_tree.specs.declared.expression.Routine.{Routine}
 use Rattle.c_tree.specs.declared.program.Variable.{Variable}
-use Rattle.c_tree.specs.Kinds.{size_of_kind, Signature}
+use Rattle.c_tree.specs.Kinds.{size_of_kind, Signature, routine_signature}
 use Rattle.c_tree.specs.Tree.{Lvalue, lvalue, LvalueNode, automatic, static, deref, index, member, arrow, member_of_value, parenthesized_lvalue}
 use Rattle.c_tree.specs.Programs.{Program}
 use Rattle.c_tree.specs.Valid.{Scope, no_signature}
 use Rattle.c_tree.specs.ValidProgram.{scope_in}
 use Rattle.source_meaning.specs.State.{State, Rvalue, Home, NoObject, InObject, Outcome, Gives, Ended, Paused, Run, Env}
-use Rattle.source_meaning.specs.Places.{stack_end}
+use Rattle.addr_map.specs.Places.{MapSizes, AreMapped, function_address}
 use Rattle.source_meaning.specs.Actions.{integer}
 use Rattle.source_meaning.specs.Library.{routine}
 use Rattle.source_meaning.specs.Printing.{print_formatted}
@@ -24,7 +29,7 @@ use Rattle.source_meaning.specs.Expressions.{header_at, has_type}
 use Rattle.source_meaning.specs.Statements.{Completion, Normal, Broken, Continued, Returned}
 use Rattle.c_tree.specs.Blocks.{opened}
 use Rattle.source_meaning.specs.Blocks.{Block}
-use Rattle.source_meaning.specs.Keeping.{IsKept, LivesOn, IsDirect, IsNamed, AreSeparate}
+use Rattle.source_meaning.specs.Keeping.{AreTagged, IsKept, ArePlaced, LivesOn, IsDirect, IsNamed, AreSeparate}
 
 -- names
 
@@ -84,21 +89,59 @@ pub record HasHome (frame : List Home) (objects : Objects) (x : ℕ) (kind : Kin
 abbrev pub AreLow : Objects → Type 0
 AreLow objects = (n : ℕ) → (object_at objects n).address + (object_at objects n).size ≤ 1610612736
 
-abbrev pub AreTagged : List Value → Objects → Type 0
-AreTagged values objects = (x : ℕ) → IsSoundTag objects (get_or values x (integer 0)).tag
+-- a word of 64 bits, where all functions of the program have addresses that are
+abbrev pub IsWord : (functions : ℕ) → ℕ → Type 0
+IsWord functions w = function_address functions ≤ 2 ^ 64 → w < 2 ^ 64
 
--- the names of a function, and the address at which automatic objects end and allocated ones begin
+-- a value of a scalar type: an integer has no tag, and its word is one of its type
+abbrev pub IsOfType : (functions : ℕ) → Scalar → Value → Type 0
+IsOfType functions (Integer t) v = (v.tag ≡ Untagged) × (fit t v.word ≡ v.word)
+IsOfType functions Pointer v = IsWord functions v.word
+
+-- a value of a kind
+abbrev pub IsOfKind : (functions : ℕ) → Kind → Value → Type 0
+IsOfKind functions Void v = IsWord functions v.word
+IsOfKind functions (OfScalar k) v = IsOfType functions k v
+IsOfKind functions (Structure n) v = IsWord functions v.word
+IsOfKind functions (Array n) v = IsWord functions v.word
+
+abbrev pub AreOfKinds : (functions : ℕ) → List Kind → List Value → Type 0
+AreOfKinds functions kinds values = (x : ℕ) → IsOfKind functions (get_or kinds x Void) (get_or values x (integer 0))
+
+abbrev pub scalar_if : Kind → Option Scalar
+scalar_if Void = None
+scalar_if (OfScalar k) = Some k
+scalar_if (Structure n) = None
+scalar_if (Array n) = None
+
+-- the type of a plain variable
+abbrev pub plain_type : List Variable → ℕ → Option Scalar
+plain_type [] x = None
+plain_type (v ∷ vs) zero = if v.is_object then None else scalar_if v.kind
+plain_type (v ∷ vs) (suc x) = plain_type vs x
+
+-- each plain variable of a function holds a value of its type, and those that can be named are as they are declared
+pub record AreTyped (functions : ℕ) (scope : Scope) (values : List Value) : Type 0 where
+  pub value : (x : ℕ) (k : Scalar) → plain_type scope.all x ≡ Some k → IsOfType functions k (get_or values x (integer 0))
+  pub named : (x : ℕ) (k : Scalar) → plain_type scope.variables x ≡ Some k → plain_type scope.all x ≡ Some k
+
+-- the names of a function, and the sizes of the memory
 pub record Context : Type 0 where
   pub scope : Scope
-  pub boundary : ℕ
+  pub sizes : MapSizes
+
+-- the number of functions of the program
+abbrev pub function_count : Context → ℕ
+function_count sc = length sc.scope.functions
 
 pub record IsGoodBy (sc : Context) (objects : Objects) (frame : List Home) (values : List Value) (accesses : List Access) (stacked : ℕ) : Type 0 where
-  pub kept : IsKept objects accesses
+  pub kept : IsKept (function_count sc) objects accesses
   pub low : AreLow objects
   pub statics : (n : ℕ) (kind : Kind) → static_kind sc.scope.statics n ≡ Some kind → IsHeld objects n kind
   pub homes : (x : ℕ) (kind : Kind) → object_kind sc.scope.variables x ≡ Some kind → HasHome frame objects x kind
-  pub plain : AreTagged values objects
-  pub separate : AreSeparate sc.boundary stacked objects
+  pub plain : AreTagged (function_count sc) values objects
+  pub typed : AreTyped (function_count sc) sc.scope values
+  pub separate : AreSeparate sc.sizes stacked objects
 
 abbrev pub IsGood : Context → State → Type 0
 IsGood sc s = IsGoodBy sc s.objects s.frame s.plain s.accesses s.stacked
@@ -113,17 +156,19 @@ pub record Leaves (sc : Context) (s s' : State) : Type 0 where
   pub frame : s'.frame ≡ s.frame
   pub ended : EndsMade s.objects s'.objects
 
--- where a run ends or pauses, objects and accesses are kept
-pub record Stops (old : Objects) (s' : State) : Type 0 where
-  pub kept : IsKept s'.objects s'.accesses
+-- where a run ends or pauses, objects, plain values and accesses are kept
+pub record Stops (functions : ℕ) (sizes : MapSizes) (old : Objects) (s' : State) : Type 0 where
+  pub kept : IsKept functions s'.objects s'.accesses
+  pub plain : AreTagged functions s'.plain s'.objects
   pub low : AreLow s'.objects
   pub lives : LivesOn old s'.objects
   pub apart : AreDisjoint s'.objects
+  pub placed : ArePlaced sizes s'.objects
 
 abbrev pub After : {A : Type 0} → Context → State → (A → Objects → Type 0) → Outcome A → Type 0
 After sc s Q (Gives a s') = Leaves sc s s' × Q a s'.objects
-After sc s Q (Ended e s') = Stops s.objects s'
-After sc s Q (Paused s') = Stops s.objects s'
+After sc s Q (Ended e s') = Stops (function_count sc) sc.sizes s.objects s'
+After sc s Q (Paused s') = Stops (function_count sc) sc.sizes s.objects s'
 
 pub record Sure {A : Type 0} (sc : Context) (P : Objects → Type 0) (r : Run A) (Q : A → Objects → Type 0) : Type 0 where
   pub by : (s : State) → IsGood sc s → P s.objects → After sc s Q (r s)
@@ -132,65 +177,84 @@ pub record Sure {A : Type 0} (sc : Context) (P : Objects → Type 0) (r : Run A)
 abbrev pub Any : Objects → Type 0
 Any objects = Unit {0}
 
-abbrev pub IsTagged : Value → Objects → Type 0
-IsTagged v objects = IsSoundTag objects v.tag
+abbrev pub IsTagged : (functions : ℕ) → Value → Objects → Type 0
+IsTagged functions v objects = IsSoundTag functions objects v.tag
 
 -- contents are sound, and have some bytes from an offset on
-pub record HasContents (size offset : ℕ) (c : ObjectState) (objects : Objects) : Type 0 where
-  pub sound : IsSoundObject objects c
+pub record HasContents (functions size offset : ℕ) (c : ObjectState) (objects : Objects) : Type 0 where
+  pub sound : IsSoundObject functions objects c
   pub room : offset + size ≤ c.size
 
 -- the value of a structure of some bytes: a pointer to them, or its contents
-abbrev pub StructureIs : (size : ℕ) → Option ObjectState → Value → Objects → Type 0
-StructureIs n None v o = IsDirect o v n
-StructureIs n (Some c) v o = HasContents n v.word c o
+abbrev pub StructureIs : (functions size : ℕ) → Option ObjectState → Value → Objects → Type 0
+StructureIs functions n None v o = IsDirect o v n
+StructureIs functions n (Some c) v o = HasContents functions n v.word c o
 
-abbrev pub OfKind : Kind → Rvalue → Objects → Type 0
-OfKind Void v o = v.contents ≡ None
-OfKind (OfScalar k) v o = v.contents ≡ None
-OfKind (Structure n) v o = StructureIs n v.contents v.value o
-OfKind (Array n) v o = v.contents ≡ None
+abbrev pub OfKind : (functions : ℕ) → Kind → Rvalue → Objects → Type 0
+OfKind functions Void v o = v.contents ≡ None
+OfKind functions (OfScalar k) v o = v.contents ≡ None
+OfKind functions (Structure n) v o = StructureIs functions n v.contents v.value o
+OfKind functions (Array n) v o = v.contents ≡ None
 
--- what an expression of a kind gives: its tag is sound, and of a structure its bytes are there
-pub record ValueIs (kind : Kind) (v : Rvalue) (objects : Objects) : Type 0 where
-  pub tag : IsSoundTag objects v.value.tag
-  pub structure : OfKind kind v objects
+-- what an expression of a kind gives: its tag is sound, it is of its kind, and of a structure its bytes are there
+pub record ValueIs (functions : ℕ) (kind : Kind) (v : Rvalue) (objects : Objects) : Type 0 where
+  pub tag : IsSoundTag functions objects v.value.tag
+  pub structure : OfKind functions kind v objects
+  pub word : IsOfKind functions kind v.value
 
-abbrev pub TakenIs : (size : ℕ) → Option ObjectState → Value → Objects → Type 0
-TakenIs n None v o = ⊥
-TakenIs n (Some c) v o = HasContents n v.word c o
+abbrev pub TakenIs : (functions size : ℕ) → Option ObjectState → Value → Objects → Type 0
+TakenIs functions n None v o = ⊥
+TakenIs functions n (Some c) v o = HasContents functions n v.word c o
 
-abbrev pub TakenOf : Kind → Rvalue → Objects → Type 0
-TakenOf Void v o = v.contents ≡ None
-TakenOf (OfScalar k) v o = v.contents ≡ None
-TakenOf (Structure n) v o = TakenIs n v.contents v.value o
-TakenOf (Array n) v o = v.contents ≡ None
+abbrev pub TakenOf : (functions : ℕ) → Kind → Rvalue → Objects → Type 0
+TakenOf functions Void v o = v.contents ≡ None
+TakenOf functions (OfScalar k) v o = v.contents ≡ None
+TakenOf functions (Structure n) v o = TakenIs functions n v.contents v.value o
+TakenOf functions (Array n) v o = v.contents ≡ None
 
-pub record ArgumentIs (kind : Kind) (v : Rvalue) (objects : Objects) : Type 0 where
-  pub tag : IsSoundTag objects v.value.tag
-  pub structure : TakenOf kind v objects
+pub record ArgumentIs (functions : ℕ) (kind : Kind) (v : Rvalue) (objects : Objects) : Type 0 where
+  pub tag : IsSoundTag functions objects v.value.tag
+  pub structure : TakenOf functions kind v objects
+  pub word : IsOfKind functions kind v.value
 
-abbrev pub ArgumentsAre : List Kind → List Rvalue → Objects → Type 0
-ArgumentsAre [] [] o = Unit {0}
-ArgumentsAre [] (v ∷ vs) o = ⊥
-ArgumentsAre (k ∷ ks) [] o = ⊥
-ArgumentsAre (k ∷ ks) (v ∷ vs) o = ArgumentIs k v o × ArgumentsAre ks vs o
+abbrev pub ArgumentsAre : (functions : ℕ) → List Kind → List Rvalue → Objects → Type 0
+ArgumentsAre functions [] [] o = Unit {0}
+ArgumentsAre functions [] (v ∷ vs) o = ⊥
+ArgumentsAre functions (k ∷ ks) [] o = ⊥
+ArgumentsAre functions (k ∷ ks) (v ∷ vs) o = ArgumentIs functions k v o × ArgumentsAre functions ks vs o
 
-abbrev pub RvalueReach : Basis → (size : ℕ) → Option ObjectState → Value → Objects → Type 0
-RvalueReach OnName size c v o = (c ≡ None) × IsNamed o v size
-RvalueReach OnPointer size c v o = c ≡ None
-RvalueReach OnValue size c v o = StructureIs size c v o
+abbrev pub RvalueReach : (functions : ℕ) → Basis → (size : ℕ) → Option ObjectState → Value → Objects → Type 0
+RvalueReach functions OnName size c v o = (c ≡ None) × IsNamed o v size
+RvalueReach functions OnPointer size c v o = c ≡ None
+RvalueReach functions OnValue size c v o = StructureIs functions size c v o
 
-pub record LvalueIs (b : Basis) (kind : Kind) (q : Rvalue) (objects : Objects) : Type 0 where
-  pub tag : IsSoundTag objects q.value.tag
-  pub reach : RvalueReach b (size_of_kind kind) q.contents q.value objects
+pub record LvalueIs (functions : ℕ) (b : Basis) (kind : Kind) (q : Rvalue) (objects : Objects) : Type 0 where
+  pub tag : IsSoundTag functions objects q.value.tag
+  pub reach : RvalueReach functions b (size_of_kind kind) q.contents q.value objects
+  pub word : IsWord functions q.value.word
+
+-- an access is judged where a pointer leads to it
+abbrev pub on_pointer : Basis → Bool
+on_pointer OnName = false
+on_pointer OnPointer = true
+on_pointer OnValue = false
+
+-- what a place is that an access names or goes to
+abbrev pub ReachBy : Basis → (size : ℕ) → Value → Objects → Type 0
+ReachBy OnName size v objects = IsNamed objects v size
+ReachBy OnPointer size v objects = Unit {0}
+ReachBy OnValue size v objects = IsDirect objects v size
+
+-- a place that a value can be written to: its tag is sound, and a name's bytes are there
+abbrev pub PlaceIs : (functions : ℕ) → Basis → Kind → Value → Objects → Type 0
+PlaceIs functions b kind q o = IsTagged functions q o × ReachBy b (size_of_kind kind) q o
 
 -- the value of a return is a result of the function's kind
-abbrev pub CompletionIs : (result : Kind) → Completion → Objects → Type 0
-CompletionIs result Normal o = Unit {0}
-CompletionIs result Broken o = Unit {0}
-CompletionIs result Continued o = Unit {0}
-CompletionIs result (Returned v) o = ArgumentIs result v o
+abbrev pub CompletionIs : (functions : ℕ) → (result : Kind) → Completion → Objects → Type 0
+CompletionIs functions result Normal o = Unit {0}
+CompletionIs functions result Broken o = Unit {0}
+CompletionIs functions result Continued o = Unit {0}
+CompletionIs functions result (Returned v) o = ArgumentIs functions result v o
 
 -- what a function of a number takes and gives
 abbrev pub taking : Context → ℕ → List Kind
@@ -199,23 +263,33 @@ taking sc f = (signature_in sc.scope.functions f).parameters
 abbrev pub giving : Context → ℕ → Kind
 giving sc f = (signature_in sc.scope.functions f).result
 
+-- a value of a kind that has no contents
+abbrev pub IsGiven : (functions : ℕ) → Kind → Value → Objects → Type 0
+IsGiven functions kind v o = IsTagged functions v o × IsOfKind functions kind v
+
+-- such values of some kinds
+abbrev pub AreGiven : (functions : ℕ) → List Kind → List Value → Objects → Type 0
+AreGiven functions kinds vs o = AreTagged functions vs o × AreOfKinds functions kinds vs
+
 -- what the calls of an environment do
 pub record Calling (sc : Context) (env : Env) : Type 0 where
-  pub call : (f : ℕ) (vs : List Rvalue) (line : ℕ) → Sure sc (ArgumentsAre (taking sc f) vs) (env.call f vs line) (ArgumentIs (giving sc f))
-  pub library : (r : Routine) (vs : List Value) (line : ℕ) → Sure sc (AreTagged vs) (routine env.setting r vs line) IsTagged
-  pub print : (format : List ℕ) (vs : List Value) (line : ℕ) → Sure sc (AreTagged vs) (print_formatted format vs line) IsTagged
+  pub call : (f : ℕ) (vs : List Rvalue) (line : ℕ) → Sure sc (ArgumentsAre (function_count sc) (taking sc f) vs) (env.call f vs line) (ArgumentIs (function_count sc) (giving sc f))
+  pub library : (r : Routine) (vs : List Value) (line : ℕ)
+      → Sure sc (AreGiven (function_count sc) (routine_signature r).parameters vs) (routine env.setting r vs line) (IsGiven (function_count sc) (routine_signature r).result)
+  pub print : (format : List ℕ) (vs : List Value) (line : ℕ)
+      → Sure sc (AreTagged (function_count sc) vs) (print_formatted format vs line) (IsGiven (function_count sc) (OfScalar (Integer Int)))
   -- a function that has a type takes and gives what the type says
   pub typed : (f type : ℕ) → has_type (header_at env.setting.functions f) type ≡ true → signature_in sc.scope.functions f ≡ signature_in sc.scope.types type
 
 -- where some variables can be named
-abbrev pub context_of : Scope → (boundary : ℕ) → (all variables : List Variable) → Context
-context_of base boundary all variables = record { scope = record base { all = all; variables = variables }; boundary = boundary }
+abbrev pub context_of : Scope → (sizes : MapSizes) → (all variables : List Variable) → Context
+context_of base sizes all variables = record { scope = record base { all = all; variables = variables }; sizes = sizes }
 
--- calls keep objects sound, whatever variables have homes; and all of the object stack lies below the heap
-pub record Inside (base : Scope) (boundary : ℕ) (env : Env) : Type 0 where
-  pub calling : (variables : List Variable) → Calling (context_of base boundary env.variables variables) env
-  pub most : stack_end env.setting ≤ boundary
-  pub low : boundary ≤ 1610612736
+-- calls keep objects sound, whatever variables have homes
+pub record Inside (base : Scope) (sizes : MapSizes) (env : Env) : Type 0 where
+  pub calling : (variables : List Variable) → Calling (context_of base sizes env.variables variables) env
+  pub at : env.setting.sizes ≡ sizes
+  pub mapped : AreMapped sizes
 
 -- blocks
 
@@ -235,14 +309,35 @@ abbrev pub EndsBut : (old new : Objects) → List Home → Type 0
 EndsBut old new homes = (n : ℕ) → length old ≤ n → (object_at new n).is_live ≡ true → (is_allocated (object_at new n).storage ≡ true) ⊎ IsIn n homes
 
 -- a block that declares some variables is entered: these have homes too, in objects that are new
-pub record IsEntered (base : Scope) (boundary : ℕ) (all vars : List Variable) (numbers : List ℕ) (s : State) (b : Block) (s' : State) : Type 0 where
+pub record IsEntered (base : Scope) (sizes : MapSizes) (all vars : List Variable) (numbers : List ℕ) (s : State) (b : Block) (s' : State) : Type 0 where
   pub block : b ≡ record { homes = b.homes; frame = s.frame; stacked = s.stacked }
-  pub good : IsGood (context_of base boundary all (opened numbers 0 all vars)) s'
+  pub good : IsGood (context_of base sizes all (opened numbers 0 all vars)) s'
   pub lives : LivesOn s.objects s'.objects
   pub new : AllFrom (length s.objects) b.homes
   pub ends : EndsBut s.objects s'.objects b.homes
 
-abbrev pub EntersBy : Scope → (boundary : ℕ) → (all vars : List Variable) → (numbers : List ℕ) → State → Outcome Block → Type 0
-EntersBy base boundary all vars numbers s (Gives b s') = IsEntered base boundary all vars numbers s b s'
-EntersBy base boundary all vars numbers s (Ended e s') = Stops s.objects s'
-EntersBy base boundary all vars numbers s (Paused s') = ⊥
+abbrev pub EntersBy : Scope → (sizes : MapSizes) → (all vars : List Variable) → (numbers : List ℕ) → State → Outcome Block → Type 0
+EntersBy base sizes all vars numbers s (Gives b s') = IsEntered base sizes all vars numbers s b s'
+EntersBy base sizes all vars numbers s (Ended e s') = Stops (length base.functions) sizes s.objects s'
+EntersBy base sizes all vars numbers s (Paused s') = ⊥
+
+-- calls
+
+-- what can be named in some scope of a program
+abbrev pub program_context : Program → (sizes : MapSizes) → Scope → Context
+program_context p sizes around = record {
+  scope = record around { statics = (file_scope p).statics; functions = (file_scope p).functions };
+  sizes = sizes;
+}
+
+-- a call is set up: the callee's variables have homes, in objects that are new
+pub record IsSetUp (sc : Context) (old : Objects) (s' : State) : Type 0 where
+  pub good : IsGood sc s'
+  pub lives : LivesOn old s'.objects
+  pub new : AllFrom (length old) s'.frame
+  pub ends : EndsBut old s'.objects s'.frame
+
+abbrev pub SetsUpBy : Context → Objects → Outcome (Unit {0}) → Type 0
+SetsUpBy sc old (Gives a s') = IsSetUp sc old s'
+SetsUpBy sc old (Ended e s') = Stops (function_count sc) sc.sizes old s'
+SetsUpBy sc old (Paused s') = Stops (function_count sc) sc.sizes old s'

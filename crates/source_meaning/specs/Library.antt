@@ -17,10 +17,10 @@ putchar c = do
   put_bytes (c.word % 256 ∷ [])
   done (integer (c.word % 256))
 
--- the next byte of the input, or EOF, -1, at its end (7.19.7.6); no work but the call's
+-- the next byte of the input, an unsigned char, or EOF, -1, at its end (7.19.7.1, 7.19.7.6); no work but the call's
 abbrev pub next_byte : List ℕ → State → Outcome Value
 next_byte [] s = Gives (integer (2 ^ 64 - 1)) s
-next_byte (b ∷ bs) s = Gives (integer b) (record s { input = bs; taken = s.taken + 1 })
+next_byte (b ∷ bs) s = Gives (integer (b % 256)) (record s { input = bs; taken = s.taken + 1 })
 
 abbrev pub getchar : Run Value
 getchar = λ s. next_byte s.input s

@@ -1,7 +1,11 @@
--- Runs that leave a plain variable and all homes of the function as they were.
-use Rattle.std.specs.Prelude.{◌≡◌, ℕ}
+-- Runs that leave variables of the function as they were, and runs in which no object dies.
+use Rattle.std.specs.Prelude.{◌≡◌, ℕ, Bool, true, false}
+use Rattle.obj_memory.specs.Objects.{object_at}
+use Rattle.c_tree.specs.declared.expression.Routine.{Routine}
+use Rattle.c_tree.specs.declared.expression.Routine.TheVariants.{Free, Realloc}
 use Rattle.source_meaning.specs.State.{State, Outcome, Gives, Ended, Paused, Run}
 use Rattle.source_meaning.specs.Actions.{plain_value}
+use Rattle.source_meaning.specs.Acting.{state_of}
 
 -- where a run gives a value, the variable is as before, and so are all homes
 pub record IsKeptAt (y : ℕ) (s s' : State) : Type 0 where
@@ -15,3 +19,27 @@ KeptBy y s (Paused s') = Unit {0}
 
 pub record Stays {A : Type 0} (y : ℕ) (r : Run A) : Type 0 where
   pub stays : (s : State) → KeptBy y s (r s)
+
+-- all plain values and all homes are as before
+pub record KeepsVariables (s s' : State) : Type 0 where
+  pub plain : s'.plain ≡ s.plain
+  pub frame : s'.frame ≡ s.frame
+
+abbrev pub KeepsBy : {A : Type 0} → State → Outcome A → Type 0
+KeepsBy s (Gives a s') = KeepsVariables s s'
+KeepsBy s (Ended e s') = Unit {0}
+KeepsBy s (Paused s') = Unit {0}
+
+-- a run that changes no variable
+pub record Keeps {A : Type 0} (r : Run A) : Type 0 where
+  pub keeps : (s : State) → KeepsBy s (r s)
+
+-- a run in which no object dies
+pub record KeepsLives {A : Type 0} (r : Run A) : Type 0 where
+  pub live : (s : State) (n : ℕ) → (object_at s.objects n).is_live ≡ true → (object_at (state_of (r s)).objects n).is_live ≡ true
+
+-- the routines that may end the life of a block
+abbrev pub frees : Routine → Bool
+frees Free = true
+frees Realloc = true
+frees _ = false

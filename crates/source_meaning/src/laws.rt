@@ -1,9 +1,9 @@
 //! Laws of the definitions, each as the contract of a function that does nothing: layers above rest on
 //! them.
-ghost use Rattle.std.specs.Prelude.{◌≡◌, ◌≤◌, ℕ, List, Bool, true, false};
+ghost use Rattle.std.specs.Prelude.{◌≡◌, ℕ, List, Bool, true, false, length, map, Some};
 ghost use Rattle.behaviours.specs.Behaviour.{IsSource};
 ghost use Rattle.sb_base.specs.Budgets.{BudgetSizes};
-ghost use Rattle.addr_map.specs.Places.{AreMapped};
+ghost use Rattle.addr_map.specs.Places.{AreMapped, MapSizes};
 ghost use Rattle.obj_memory.specs.declared.int_type.IntType.{IntType};
 ghost use Rattle.obj_memory.specs.declared.object.Storage.{Storage};
 ghost use Rattle.obj_memory.specs.declared.operator.BinaryOperator.{BinaryOperator};
@@ -12,6 +12,10 @@ ghost use Rattle.obj_memory.specs.declared.value.Scalar.{Scalar};
 ghost use Rattle.obj_memory.specs.declared.value.Place.{Place};
 ghost use Rattle.obj_memory.specs.Sound.{Continues, IsAllowed, IsSoundTag};
 ghost use Rattle.c_tree.specs.declared.expression.Kind.{Kind};
+ghost use Rattle.c_tree.specs.declared.expression.Kind.TheVariants.{Scalar as OfScalar};
+ghost use Rattle.c_tree.specs.Kinds.{routine_signature};
+ghost use Rattle.obj_memory.specs.declared.int_type.IntType.TheVariants.{Int};
+ghost use Rattle.obj_memory.specs.declared.value.Scalar.TheVariants.{Integer};
 ghost use Rattle.c_tree.specs.declared.expression.Update.{Update};
 ghost use Rattle.c_tree.specs.declared.expression.Fixity.{Fixity};
 ghost use Rattle.c_tree.specs.declared.expression.Routine.{Routine};
@@ -26,7 +30,7 @@ ghost use Rattle.source_meaning.specs.Initializers.{zero_variable, store_bytes};
 ghost use Rattle.source_meaning.specs.Library.{routine};
 ghost use Rattle.source_meaning.specs.Printing.{print_formatted};
 ghost use Rattle.source_meaning.specs.Blocks.{Block, enter_block, leave_block};
-ghost use Rattle.source_meaning.specs.Calls.{Caller, back_to, calls, env_of, set_up};
+ghost use Rattle.source_meaning.specs.Calls.{Caller, back_to, caller, calls, env_of, function_at, header_of, set_up};
 ghost use Rattle.source_meaning.specs.Meaning.{meaning, outcome, initial_objects, setting_of, start};
 ghost use Rattle.source_meaning.specs.Acting.{IsAction, RunsAlike, state_of};
 ghost use Rattle.source_meaning.specs.Turns.{Grows};
@@ -35,14 +39,13 @@ ghost use Rattle.c_tree.specs.Statements.{DeclaredVariable, Statement};
 ghost use Rattle.c_tree.specs.Blocks.{all_of, block_objects, opened};
 ghost use Rattle.c_tree.specs.Assigning.{declared_assign, statement_assigns};
 ghost use Rattle.c_tree.specs.Walk.{assigns, lvalue_assigns};
-ghost use Rattle.source_meaning.specs.Staying.{Stays};
+ghost use Rattle.source_meaning.specs.Staying.{Stays, Keeps, KeepsLives, frees};
 ghost use Rattle.c_tree.specs.Valid.{Scope, are_valid, is_valid, is_valid_lvalue};
 ghost use Rattle.source_meaning.specs.Initializers.{initialize_all};
-ghost use Rattle.source_meaning.specs.Places.{heap_first, stack_end};
 ghost use Rattle.source_meaning.specs.Statements.{execute};
-ghost use Rattle.source_meaning.specs.Good.{EntersBy, IsEntered, Leaves, Any, ArgumentIs, ArgumentsAre, basis_of, Calling, CompletionIs, Context, context_of, file_scope, Inside, IsGood, LvalueIs, signature_in, Sure, ValueIs};
+ghost use Rattle.source_meaning.specs.Good.{EntersBy, IsEntered, Leaves, Any, ArgumentIs, ArgumentsAre, basis_of, Calling, CompletionIs, Context, context_of, file_scope, function_count, Inside, IsGood, LvalueIs, signature_in, Sure, ValueIs, program_context, SetsUpBy, IsSetUp, AreGiven, Basis, IsGiven, IsTagged, on_pointer, plain_type, PlaceIs};
 ghost use Rattle.source_meaning.specs.Judging.{tested};
-ghost use Rattle.source_meaning.specs.Keeping.{IsDirect, IsSoundState};
+ghost use Rattle.source_meaning.specs.Keeping.{AreTagged, IsDirect, IsSoundState};
 
 /// More turns show more of the same: what is shown never shrinks, no work and no turn is taken back, and
 /// a run that ended stays as it is.
@@ -67,13 +70,14 @@ pub fn objects_continue_along_a_run()
 pub fn runs_keep_objects_sound()
     ensures { (p : Program) (budgets : BudgetSizes) → AreMapped (setting_of p budgets).sizes
         → is_valid_program p ≡ true → (input : List ℕ) (t : ℕ)
-        → IsSoundState (state_of (outcome p budgets input t)) }
+        → IsSoundState (length p.functions) (setting_of p budgets).sizes (state_of (outcome p budgets input t)) }
 {}
 
 /// An access that is made is, at that moment, of bytes of a live object: one that is judged, through a pointer whose
 /// tag is sound, and one that names its object, where that is live.
 pub fn accesses_are_of_live_objects()
-    ensures judged { (size : ℕ) (p : Value) (line : ℕ) (s s' : State) (place : Place) → IsSoundTag s.objects p.tag
+    ensures judged { (functions size : ℕ) (p : Value) (line : ℕ) (s s' : State) (place : Place)
+        → IsSoundTag functions s.objects p.tag
         → located true size p line s ≡ Gives place s' → IsAllowed s.objects p size place }
     ensures named { (size : ℕ) (p : Value) (line : ℕ) (s s' : State) (place : Place) → IsDirect s.objects p size
         → located false size p line s ≡ Gives place s' → IsAllowed s.objects p size place }
@@ -133,38 +137,40 @@ pub fn calls_do_the_same_at_any_work()
 /// live object.
 pub fn expressions_keep_states_good()
     ensures value { (sc : Context) (env : Env) → Calling sc env → (e : Expression) → is_valid sc.scope e ≡ true
-        → Sure sc Any (evaluate env e) (ValueIs (kind_of e)) }
+        → Sure sc Any (evaluate env e) (ValueIs (function_count sc) (kind_of e)) }
     ensures lvalue { (sc : Context) (env : Env) → Calling sc env → (p : Lvalue) → is_valid_lvalue sc.scope p ≡ true
-        → Sure sc Any (place env p) (LvalueIs (basis_of p) (lvalue_kind p)) }
+        → Sure sc Any (place env p) (LvalueIs (function_count sc) (basis_of p) (lvalue_kind p)) }
     ensures arguments { (sc : Context) (env : Env) → Calling sc env → (es : Expressions) → are_valid sc.scope es ≡ true
-        → Sure sc Any (each_value (values env es)) (ArgumentsAre (kinds_of es)) }
+        → Sure sc Any (each_value (values env es)) (ArgumentsAre (function_count sc) (kinds_of es)) }
     ensures initializers { (sc : Context) (env : Env) → Calling sc env → (ds : List DeclaredVariable)
         → are_declared sc.scope ds ≡ true → Sure sc Any (initialize_all env ds) (λ _. Any) }
 {}
 
 /// So does every statement, wherever it stands, and leaves the names around it as they were.
 pub fn statements_keep_states_good()
-    ensures { (base : Scope) (boundary : ℕ) (env : Env) → Inside base boundary env → (vs : List Variable)
+    ensures { (base : Scope) (sizes : MapSizes) (env : Env) → Inside base sizes env → (vs : List Variable)
         (within : Surrounding) (s : Statement)
-        → is_statement (context_of base boundary env.variables vs).scope within s ≡ true
-        → Sure (context_of base boundary env.variables vs) Any (execute env s) (CompletionIs base.result) }
+        → is_statement (context_of base sizes env.variables vs).scope within s ≡ true
+        → Sure (context_of base sizes env.variables vs) Any (execute env s)
+        (CompletionIs (length base.functions) base.result) }
 {}
 
 /// So does every call of a valid program, and its first state is good: what the two laws above ask of calls.
 pub fn calls_keep_states_good()
     ensures call { (p : Program) (budgets : BudgetSizes) → AreMapped (setting_of p budgets).sizes → is_valid_program p ≡ true
         → (limit n : ℕ) (sc : Context) → sc.scope.statics ≡ (file_scope p).statics
-        → sc.boundary ≡ heap_first (setting_of p budgets) → (f : ℕ) (vs : List Rvalue) (line : ℕ)
-        → Sure sc (ArgumentsAre (signature_in (file_scope p).functions f).parameters vs)
+        → sc.scope.functions ≡ (file_scope p).functions → sc.sizes ≡ (setting_of p budgets).sizes
+        → (f : ℕ) (vs : List Rvalue) (line : ℕ)
+        → Sure sc (ArgumentsAre (function_count sc) (signature_in (file_scope p).functions f).parameters vs)
         (calls p.functions (setting_of p budgets) limit n f vs line)
-        (ArgumentIs (signature_in (file_scope p).functions f).result) }
+        (ArgumentIs (function_count sc) (signature_in (file_scope p).functions f).result) }
     ensures inside { (p : Program) (budgets : BudgetSizes) → AreMapped (setting_of p budgets).sizes
         → is_valid_program p ≡ true → (limit n : ℕ) (f : Function)
-        → Inside (function_scope p f) (heap_first (setting_of p budgets))
+        → Inside (function_scope p f) (setting_of p budgets).sizes
         (env_of p.functions (setting_of p budgets) limit n (all_of f)) }
     ensures start { (p : Program) (budgets : BudgetSizes) → AreMapped (setting_of p budgets).sizes
         → is_valid_program p ≡ true → (input : List ℕ)
-        → IsGood (record { scope = file_scope p; boundary = heap_first (setting_of p budgets) })
+        → IsGood (record { scope = file_scope p; sizes = (setting_of p budgets).sizes })
         (start p (setting_of p budgets) input) }
 {}
 
@@ -177,15 +183,15 @@ pub fn judgement_is_two_tests()
 /// A block that is entered from a good state is ended in it, or leaves a good one in which its variables have homes
 /// too; where it is left, the names around it are good again.
 pub fn blocks_keep_states_good()
-    ensures enter { (base : Scope) (boundary : ℕ) (all vars : List Variable) (numbers : List ℕ) (g : Setting)
-        → stack_end g ≤ boundary → boundary ≤ 1610612736 → (line : ℕ) (s : State)
-        → IsGood (context_of base boundary all vars) s
-        → EntersBy base boundary all vars numbers s (enter_block g (block_objects all numbers) line s) }
-    ensures leave { (base : Scope) (boundary : ℕ) (all vars : List Variable) (numbers : List ℕ) (s : State)
-        → IsGood (context_of base boundary all vars) s → (b : Block) (s1 s2 : State)
-        → IsEntered base boundary all vars numbers s b s1
-        → Leaves (context_of base boundary all (opened numbers 0 all vars)) s1 s2
-        → Leaves (context_of base boundary all vars) s (leave_block b s2) }
+    ensures enter { (base : Scope) (sizes : MapSizes) (all vars : List Variable) (numbers : List ℕ) (g : Setting)
+        → g.sizes ≡ sizes → AreMapped sizes → (line : ℕ) (s : State)
+        → IsGood (context_of base sizes all vars) s
+        → EntersBy base sizes all vars numbers s (enter_block g (block_objects all numbers) line s) }
+    ensures leave { (base : Scope) (sizes : MapSizes) (all vars : List Variable) (numbers : List ℕ) (s : State)
+        → IsGood (context_of base sizes all vars) s → (b : Block) (s1 s2 : State)
+        → IsEntered base sizes all vars numbers s b s1
+        → Leaves (context_of base sizes all (opened numbers 0 all vars)) s1 s2
+        → Leaves (context_of base sizes all vars) s (leave_block b s2) }
 {}
 
 /// A plain variable that an expression, an lvalue, a statement or an initializer does not assign, and every home, is as
@@ -203,4 +209,118 @@ pub fn unassigned_variables_stay()
         → Stays y (initialize_all (env_of functions g limit n variables) ds) }
     ensures call { (y : ℕ) (functions : List Function) (g : Setting) (limit n f : ℕ) (vs : List Rvalue) (line : ℕ)
         → Stays y (calls functions g limit n f vs line) }
+{}
+
+/// Objects die, by name, in `free` and `realloc`, where a block is left and where a call returns: in no other action.
+pub fn objects_die_where_they_are_freed()
+    ensures located { (j : Bool) (size : ℕ) (p : Value) (line : ℕ) → KeepsLives (located j size p line) }
+    ensures read { (k : Scalar) (address : ℕ) (p : Place) → KeepsLives (read_scalar k address p) }
+    ensures write { (k : Scalar) (address : ℕ) (p : Place) (v : Value) → KeepsLives (write_scalar k address p v) }
+    ensures moved { (size : ℕ) (d s : Place) → KeepsLives (move_bytes size d s) }
+    ensures load { (k : Scalar) (j : Bool) (p : Value) (line : ℕ) → KeepsLives (load k j p line) }
+    ensures store { (k : Scalar) (j : Bool) (p : Value) (line : ℕ) (v : Value) → KeepsLives (store k j p line v) }
+    ensures read_lvalue { (kind : Kind) (j : Bool) (p : Value) (line : ℕ) → KeepsLives (read_lvalue kind j p line) }
+    ensures write_lvalue { (kind : Kind) (j : Bool) (p : Value) (line : ℕ) (v : Value)
+        → KeepsLives (write_lvalue kind j p line v) }
+    ensures read_rvalue { (kind : Kind) (j : Bool) (q : Rvalue) (line : ℕ) → KeepsLives (read_rvalue kind j q line) }
+    ensures write_rvalue { (kind : Kind) (j : Bool) (p : Value) (line : ℕ) (v : Rvalue)
+        → KeepsLives (write_rvalue kind j p line v) }
+    ensures taken { (kind : Kind) (line : ℕ) (v : Rvalue) → KeepsLives (take_value kind line v) }
+    ensures updated { (u : Update) (k : Scalar) (right : Value) (line : ℕ) (old : Value)
+        → KeepsLives (updated u k right line old) }
+    ensures update { (u : Update) (k : Scalar) (j : Bool) (p : Value) (line : ℕ) (right : Value) (at : ℕ) (f : Fixity)
+        → KeepsLives (update k j p line (updated u k right at) f) }
+    ensures operate { (op : BinaryOperator) (t : IntType) (x y : Value) (line : ℕ)
+        → KeepsLives (operate op t x y line) }
+    ensures make { (storage : Storage) (address size : ℕ) → KeepsLives (make_object storage address size) }
+    ensures put { (bytes : List ℕ) → KeepsLives (put_bytes bytes) }
+    ensures key { (g : Setting) (line : ℕ) → KeepsLives (take_key g line) }
+    ensures plain { (x : ℕ) (v : Value) → KeepsLives (set_plain x v) }
+    ensures update_plain { (u : Update) (k : Scalar) (x : ℕ) (right : Value) (at : ℕ) (f : Fixity)
+        → KeepsLives (update_plain x (updated u k right at) f) }
+    ensures zero { (x : ℕ) → KeepsLives (zero_variable x) }
+    ensures bytes { (p : Value) (offset : ℕ) (bytes : List ℕ) → KeepsLives (store_bytes p offset bytes) }
+    ensures routine { (g : Setting) (r : Routine) (vs : List Value) (line : ℕ) → frees r ≡ false
+        → KeepsLives (routine g r vs line) }
+    ensures print { (format : List ℕ) (vs : List Value) (line : ℕ) → KeepsLives (print_formatted format vs line) }
+    ensures callee { (functions : List Header) (type_number : ℕ) (v : Value) (line : ℕ)
+        → KeepsLives (callee functions type_number v line) }
+    ensures set_up { (g : Setting) (f : Header) (vs : List Rvalue) (line : ℕ) → KeepsLives (set_up g f vs line) }
+    ensures enter { (g : Setting) (vs : List Variable) (line : ℕ) → KeepsLives (enter_block g vs line) }
+{}
+
+/// Plain variables and homes change where a variable is set, where a block is entered or left, and where a call begins
+/// and returns: in no other action.
+pub fn variables_change_where_they_are_set()
+    ensures located { (j : Bool) (size : ℕ) (p : Value) (line : ℕ) → Keeps (located j size p line) }
+    ensures read { (k : Scalar) (address : ℕ) (p : Place) → Keeps (read_scalar k address p) }
+    ensures write { (k : Scalar) (address : ℕ) (p : Place) (v : Value) → Keeps (write_scalar k address p v) }
+    ensures moved { (size : ℕ) (d s : Place) → Keeps (move_bytes size d s) }
+    ensures load { (k : Scalar) (j : Bool) (p : Value) (line : ℕ) → Keeps (load k j p line) }
+    ensures store { (k : Scalar) (j : Bool) (p : Value) (line : ℕ) (v : Value) → Keeps (store k j p line v) }
+    ensures read_lvalue { (kind : Kind) (j : Bool) (p : Value) (line : ℕ) → Keeps (read_lvalue kind j p line) }
+    ensures write_lvalue { (kind : Kind) (j : Bool) (p : Value) (line : ℕ) (v : Value)
+        → Keeps (write_lvalue kind j p line v) }
+    ensures read_rvalue { (kind : Kind) (j : Bool) (q : Rvalue) (line : ℕ) → Keeps (read_rvalue kind j q line) }
+    ensures write_rvalue { (kind : Kind) (j : Bool) (p : Value) (line : ℕ) (v : Rvalue)
+        → Keeps (write_rvalue kind j p line v) }
+    ensures taken { (kind : Kind) (line : ℕ) (v : Rvalue) → Keeps (take_value kind line v) }
+    ensures updated { (u : Update) (k : Scalar) (right : Value) (line : ℕ) (old : Value)
+        → Keeps (updated u k right line old) }
+    ensures update { (u : Update) (k : Scalar) (j : Bool) (p : Value) (line : ℕ) (right : Value) (at : ℕ) (f : Fixity)
+        → Keeps (update k j p line (updated u k right at) f) }
+    ensures operate { (op : BinaryOperator) (t : IntType) (x y : Value) (line : ℕ) → Keeps (operate op t x y line) }
+    ensures make { (storage : Storage) (address size : ℕ) → Keeps (make_object storage address size) }
+    ensures put { (bytes : List ℕ) → Keeps (put_bytes bytes) }
+    ensures key { (g : Setting) (line : ℕ) → Keeps (take_key g line) }
+    ensures zero { (x : ℕ) → Keeps (zero_variable x) }
+    ensures bytes { (p : Value) (offset : ℕ) (bytes : List ℕ) → Keeps (store_bytes p offset bytes) }
+    ensures routine { (g : Setting) (r : Routine) (vs : List Value) (line : ℕ) → Keeps (routine g r vs line) }
+    ensures print { (format : List ℕ) (vs : List Value) (line : ℕ) → Keeps (print_formatted format vs line) }
+    ensures callee { (functions : List Header) (type_number : ℕ) (v : Value) (line : ℕ)
+        → Keeps (callee functions type_number v line) }
+{}
+
+/// A call of a valid program that is set up from a good state is ended there, or leaves a good state of the function that
+/// is called; where it returns, the caller's state is good again.
+pub fn calls_are_entered_and_left()
+    ensures enter { (p : Program) (budgets : BudgetSizes) → AreMapped (setting_of p budgets).sizes
+        → is_valid_program p ≡ true → (n : ℕ) (f : Function) → function_at p.functions n ≡ Some f → (around : Scope)
+        → (vs : List Rvalue) (line : ℕ) (s : State)
+        → IsGood (program_context p (setting_of p budgets).sizes around) s
+        → ArgumentsAre (length (file_scope p).functions) (map (λ v. v.kind) f.parameters) vs s.objects
+        → SetsUpBy (record { scope = function_scope p f; sizes = (setting_of p budgets).sizes }) s.objects
+        (set_up (setting_of p budgets) (header_of f) vs line s) }
+    ensures leave { (p : Program) (budgets : BudgetSizes) → AreMapped (setting_of p budgets).sizes
+        → is_valid_program p ≡ true → (n : ℕ) (f : Function) → function_at p.functions n ≡ Some f → (around : Scope)
+        → (s s1 s2 : State) → IsGood (program_context p (setting_of p budgets).sizes around) s
+        → IsSetUp (record { scope = function_scope p f; sizes = (setting_of p budgets).sizes }) s.objects s1
+        → Leaves (record { scope = function_scope p f; sizes = (setting_of p budgets).sizes }) s1 s2
+        → Leaves (program_context p (setting_of p budgets).sizes around) s (back_to (caller s) s2) }
+{}
+
+/// Each action of an expression keeps states good, and gives what is of its kind: reads and writes of lvalues of each
+/// basis, updates, plain variables, operators, initializers, routines.
+pub fn actions_keep_states_good()
+    ensures read { (sc : Context) (b : Basis) (kind : Kind) (q : Rvalue) (line : ℕ)
+        → Sure sc (LvalueIs (function_count sc) b kind q) (read_rvalue kind (on_pointer b) q line)
+        (ValueIs (function_count sc) kind) }
+    ensures write { (sc : Context) (b : Basis) (kind : Kind) (q : Value) (line : ℕ) (v : Rvalue)
+        → Sure sc (λ o. PlaceIs (function_count sc) b kind q o × ValueIs (function_count sc) kind v o)
+        (write_rvalue kind (on_pointer b) q line v) (ValueIs (function_count sc) kind) }
+    ensures taken { (sc : Context) (kind : Kind) (line : ℕ) (v : Rvalue)
+        → Sure sc (ValueIs (function_count sc) kind v) (take_value kind line v) (ArgumentIs (function_count sc) kind) }
+    ensures plain { (sc : Context) (x : ℕ) (k : Scalar) → plain_type sc.scope.variables x ≡ Some k → (v : Value)
+        → Sure sc (IsGiven (function_count sc) (OfScalar k) v) (set_plain x v)
+        (λ done o. IsTagged (function_count sc) v o) }
+    ensures zero { (sc : Context) (x : ℕ) → Sure sc Any (zero_variable x) (λ done. Any) }
+    ensures put { (sc : Context) (bytes : List ℕ) → Sure sc Any (put_bytes bytes) (λ done. Any) }
+    ensures key { (sc : Context) (g : Setting) (line : ℕ) → Sure sc Any (take_key g line) (λ done. Any) }
+    ensures routine { (sc : Context) (g : Setting) → AreMapped g.sizes → g.sizes ≡ sc.sizes → (r : Routine)
+        → (vs : List Value) (line : ℕ)
+        → Sure sc (AreGiven (function_count sc) (routine_signature r).parameters vs) (routine g r vs line)
+        (IsGiven (function_count sc) (routine_signature r).result) }
+    ensures print { (sc : Context) (format : List ℕ) (vs : List Value) (line : ℕ)
+        → Sure sc (AreTagged (function_count sc) vs) (print_formatted format vs line)
+        (IsGiven (function_count sc) (OfScalar (Integer Int))) }
 {}

@@ -4,11 +4,11 @@ use Rattle.obj_memory.proofs.laws.actions_keep_objects_sound.Goals as goal
 
 pub returns : goal.returns
 returns c = record {
-  none = sound_none;
-  new = sound_new;
-  dead = sound_dead;
-  zeroed = sound_zeroed;
-  bytes = sound_bytes;
-  value = sound_value;
-  moved = sound_moved;
+  none = λ functions. sound_none {functions = functions};
+  new = λ functions. sound_new {functions = functions};
+  dead = λ functions. sound_dead {functions = functions};
+  zeroed = λ functions. sound_zeroed {functions = functions};
+  bytes = λ functions. sound_bytes {functions = functions};
+  value = λ functions. sound_value {functions = functions};
+  moved = λ functions. sound_moved {functions = functions};
 }

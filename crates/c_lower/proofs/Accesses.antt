@@ -1,7 +1,6 @@
 -- An access of an lvalue is admitted, and a structure value that is moved is there.
-use Rattle.std.proofs.Common.{◌≡◌, ℕ, ◌+◌, ◌≤◌, List, Option, Some, None, Bool, true, false, refl, sym, ap, ◌∙◌, subst, arith, le-leb}
+use Rattle.std.proofs.Common.{◌≡◌, ℕ, ◌+◌, ◌≤◌, Option, Some, None, Bool, true, false, refl, ap, ◌∙◌, subst, arith, le-leb}
 use Rattle.std.specs.Prelude.{◌&&◌, nat_le}
-use Rattle.obj_memory.specs.declared.value.Scalar.{Scalar}
 use Rattle.obj_memory.specs.declared.value.Scalar.TheVariants.{Integer, Pointer}
 use Rattle.obj_memory.specs.declared.value.Value.{Value}
 use Rattle.obj_memory.specs.Objects.{ObjectState, Objects, object_at}
@@ -9,14 +8,14 @@ use Rattle.obj_memory.specs.Access.{scalar_size}
 use Rattle.c_tree.specs.declared.expression.Kind.{Kind}
 use Rattle.c_tree.specs.declared.expression.Kind.TheVariants.{Void, Scalar as OfScalar, Structure, Array}
 use Rattle.c_tree.specs.Kinds.{size_of_kind}
-use Rattle.c_tree.specs.Tree.{Lvalue, lvalue_kind}
+use Rattle.c_tree.specs.Tree.{Lvalue}
 use Rattle.source_meaning.specs.State.{Rvalue}
 use Rattle.source_meaning.specs.Actions.{scalar_of}
 use Rattle.source_meaning.specs.Structures.{rvalue}
 use Rattle.source_meaning.specs.Expressions.{is_judged}
-use Rattle.source_meaning.specs.Keeping.{LivesOn, IsDirect, IsNamed}
+use Rattle.source_meaning.specs.Keeping.{LivesOn, IsDirect}
 use Rattle.source_meaning.proofs.Naming.{IsNoStructure}
-use Rattle.source_meaning.specs.Good.{Basis, OnName, OnPointer, OnValue, basis_of, on_pointer, StructureIs, OfKind, ValueIs, RvalueReach, LvalueIs}
+use Rattle.source_meaning.specs.Good.{Basis, OnName, OnPointer, OnValue, basis_of, on_pointer, StructureIs, ValueIs, RvalueReach}
 use Rattle.source_meaning.proofs.Holding.{named_on}
 use Rattle.c_tree.specs.declared.expression.Update.{Update}
 use Rattle.c_tree.specs.Valid.{Scope}

@@ -1,9 +1,7 @@
 -- The code of initializers, loops, switches and blocks does what they mean, where that of their parts does.
-use Rattle.std.proofs.Common.{◌≡◌, ℕ, zero, suc, ◌+◌, ◌*◌, ◌<◌, ◌≤◌, List, [], ◌∷◌, Option, Some, None, Bool, true, false, refl, sym, ap, ◌∙◌, subst, arith, eq-eqb, ne_eqb}
+use Rattle.std.proofs.Common.{◌≡◌, ℕ, zero, suc, ◌+◌, ◌<◌, ◌≤◌, List, [], ◌∷◌, Option, Some, None, Bool, true, false, refl, sym, ap, ◌∙◌, subst, arith, eq-eqb, ne_eqb}
 use Rattle.std.proofs.lemmas.Bool.{eqb-true, eqb-false}
-use Rattle.std.specs.Prelude.{not, cond, if◌then◌else◌, ◌||◌, ◌==◌, ◌++◌, length, get_or, slice_get}
-use Rattle.obj_memory.specs.declared.value.Value.{Value}
-use Rattle.obj_memory.specs.Objects.{Objects}
+use Rattle.std.specs.Prelude.{not, cond, if◌then◌else◌, ◌==◌, ◌++◌, get_or, slice_get}
 use Rattle.c_tree.specs.declared.program.Variable.{Variable}
 use Rattle.c_tree.specs.declared.expression.Kind.{Kind}
 use Rattle.c_tree.specs.declared.statement.CaseLabel.{CaseLabel}
@@ -11,21 +9,21 @@ use Rattle.c_tree.specs.declared.statement.CaseLabel.TheVariants.{Case, Default}
 use Rattle.c_tree.specs.Kinds.{size_of_kind}
 use Rattle.c_tree.specs.Blocks.{block_objects, opened, is_among}
 use Rattle.c_tree.specs.Valid.{Scope}
-use Rattle.source_meaning.specs.State.{State, Rvalue, Home, NoObject, InObject, Outcome, Gives, Run, on, ◌>>=◌, ◌>>◌, choose, done, change, Setting, Env}
-use Rattle.source_meaning.specs.Actions.{is_zero, begin_turn, home_value, home_pointer}
-use Rattle.source_meaning.specs.Statements.{Completion, Normal, Broken, Continued, Returned, next_after, in_order, after_body, turns, turns_before, LabeledRun, is_case_of, is_default, labels_from, items_at, labels_of, compared, or_default, run_items, after_switch}
+use Rattle.source_meaning.specs.State.{State, Rvalue, NoObject, Gives, Run, ◌>>=◌, ◌>>◌, choose, done, change, Setting}
+use Rattle.source_meaning.specs.Actions.{is_zero, home_value, home_pointer}
+use Rattle.source_meaning.specs.Statements.{Completion, Normal, Broken, Continued, Returned, next_after, after_body, turns, turns_before, LabeledRun, is_case_of, is_default, labels_from, items_at, compared, or_default, run_items, after_switch}
 use Rattle.source_meaning.specs.Blocks.{Block, has_objects, enter_block, leave_block}
 use Rattle.addr_map.specs.Places.{MapSizes, AreMapped}
 use Rattle.source_meaning.specs.Keeping.{LivesOn}
-use Rattle.source_meaning.specs.Good.{Context, object_kind, HasHome, IsGood, After, Sure, Any, CompletionIs, context_of, EntersBy}
+use Rattle.source_meaning.specs.Good.{Context, object_kind, HasHome, IsGood, Sure, Any, CompletionIs, context_of, EntersBy}
 use Rattle.source_meaning.specs.Acting.{at_work}
 use Rattle.source_meaning.proofs.ActionsAct.{acts_enter_block}
 use Rattle.source_meaning.proofs.SureBlocks.{enters, good_inside}
 use Rattle.tac_ir.specs.declared.instruction.Instruction.TheVariants as tac
 use Rattle.tac_ir.specs.declared.function.Tac.{Tac}
-use Rattle.tac_ir.specs.Stage.{Temps, Frame, Entered, Stage, Stands, came}
+use Rattle.tac_ir.specs.Stage.{Temps, Frame, Entered, Stands, came}
 use Rattle.tac_ir.specs.Meaning.{if_there, variables_in, blocks_in, objects_in, function_in, at_node, begun, act, act_at}
-use Rattle.c_lower.specs.Placed.{Placed, Holds, HasAt}
+use Rattle.c_lower.specs.Placed.{HasAt}
 use Rattle.c_lower.specs.Statements.{Exits, LowersEntry, LowersLeaving, in_loop, in_switch, LowersLabels, any_default}
 use Rattle.c_lower.proofs.Comes.{Goes, goes_from, goes_spare, goes_frame, goes_steps, goes_step, goes_done, goes_at, goes_less, goes_after, goes_sure, goes_came, goes_turn, goes_pause}
 use Rattle.c_lower.proofs.KeyStays.{pointer_kept}

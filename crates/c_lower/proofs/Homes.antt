@@ -1,11 +1,11 @@
 -- The code of an expression never needs more temporaries than the height of the expression counts.
-use Rattle.std.proofs.Common.{◌≡◌, ℕ, zero, suc, ◌+◌, ◌≤◌, List, [], ◌∷◌, refl, arith}
+use Rattle.std.proofs.Common.{ℕ, suc, ◌≤◌, List, [], ◌∷◌, arith}
 use Rattle.std.specs.Prelude.{max}
 use Rattle.c_tree.specs.declared.expression.Kind.{Kind}
 use Rattle.c_tree.specs.Tree.{Expression, expression, Expressions, no_expressions, expressions, Lvalue, lvalue, Node, constant, function, plain, read, decay, address, parenthesized, deref_function, address_function, cast, convert, unary, binary, offset_by, difference, logical_and, logical_or, comma, conditional, assign, assign_plain, compound, change_plain, step, step_plain, call, call_through, library, printf, LvalueNode, automatic, static, deref, index, member, arrow, member_of_value, parenthesized_lvalue}
-use Rattle.c_tree.specs.Walk.{Visited, visited, visited_lvalue, walk, walk_lvalue, walk_operands, walk_lvalue_operands, walk_each, greatest}
-use Rattle.c_tree.specs.Room.{in_turn, height_made, height}
-use Rattle.c_lower.specs.Homes.{used_made, used}
+use Rattle.c_tree.specs.Walk.{visited, visited_lvalue, walk, walk_lvalue, walk_operands, walk_lvalue_operands, walk_each, greatest}
+use Rattle.c_tree.specs.Room.{in_turn, height_made}
+use Rattle.c_lower.specs.Homes.{used_made}
 
 -- each is at most the other
 pub data AllMost : List ℕ → List ℕ → Type 0 where

@@ -1,24 +1,24 @@
 -- A key that gives a pointer gives it still after an expression that assigns none of the key's variables.
-use Rattle.std.proofs.Common.{◌≡◌, ℕ, zero, suc, ◌+◌, ◌*◌, ◌%◌, ◌^◌, ◌<◌, ◌≤◌, List, [], ◌∷◌, Option, Some, None, Bool, true, false, refl, sym, ap, ◌∙◌, subst, arith}
+use Rattle.std.proofs.Common.{◌≡◌, ℕ, ◌+◌, ◌*◌, ◌%◌, ◌^◌, ◌<◌, List, [], ◌∷◌, Option, Some, None, Bool, true, false, refl, sym, ap, ◌∙◌, subst}
 use Rattle.std.specs.Prelude.{◌||◌, get_or, length}
 use Rattle.obj_memory.specs.declared.value.Bounds.{Bounds}
 use Rattle.obj_memory.specs.declared.value.Tag.{Tag}
-use Rattle.obj_memory.specs.declared.value.Tag.TheVariants.{Untagged, OfFunction, OfObject}
+use Rattle.obj_memory.specs.declared.value.Tag.TheVariants.{OfObject}
 use Rattle.obj_memory.specs.declared.value.Value.{Value}
 use Rattle.obj_memory.specs.Objects.{Objects, object_at, pointer_to}
 use Rattle.obj_memory.specs.Judgement.{narrowed_tag}
 use Rattle.obj_memory.specs.Sound.{Continues, IsSoundTag}
-use Rattle.c_tree.specs.Tree.{Expression, Lvalue}
+use Rattle.c_tree.specs.Tree.{Expression}
 use Rattle.c_tree.specs.Walk.{assigns}
 use Rattle.source_meaning.specs.State.{State, Home, NoObject, InObject}
-use Rattle.source_meaning.specs.Actions.{integer, plain_value, home_value, home_pointer}
+use Rattle.source_meaning.specs.Actions.{plain_value, home_value}
 use Rattle.source_meaning.proofs.Stays.{neither}
 use Rattle.tac_ir.specs.declared.key.Base.{Base}
 use Rattle.tac_ir.specs.declared.key.Base.TheVariants.{Plain, Automatic, Static}
 use Rattle.tac_ir.specs.declared.key.Scaled.{Scaled}
 use Rattle.tac_ir.specs.declared.key.Member.{Member}
 use Rattle.tac_ir.specs.declared.key.Key.{Key}
-use Rattle.tac_ir.specs.Keys.{base_value, scaled_value, path_tag, key_word, key_tag}
+use Rattle.tac_ir.specs.Keys.{base_value, scaled_value, path_tag}
 use Rattle.c_lower.specs.Keys.{assigns_base, assigns_scaled, assigns_path, assigns_key, unless, key_after}
 use Rattle.c_lower.proofs.KeyValues.{Right}
 

@@ -1,40 +1,35 @@
 -- The key of an lvalue gives its pointer: shown of the source alone. What has a key changes nothing but the count of work.
-use Rattle.std.proofs.Common.{◌≡◌, ℕ, zero, suc, ◌+◌, ◌-◌, ◌*◌, ◌%◌, ◌^◌, ◌<◌, ◌≤◌, List, [], ◌∷◌, Option, Some, None, Bool, true, false, refl, sym, ap, ◌∙◌, subst, arith, eq-eqb}
-use Rattle.std.specs.Prelude.{◌&&◌, ◌||◌, ◌==◌, if◌then◌else◌, slice_get, get_or, length}
+use Rattle.std.proofs.Common.{◌≡◌, ℕ, ◌+◌, ◌-◌, ◌*◌, ◌%◌, ◌^◌, List, [], ◌∷◌, Option, Some, None, Bool, true, false, refl, sym, ap, ◌∙◌, subst, arith, eq-eqb}
+use Rattle.std.specs.Prelude.{◌&&◌, ◌==◌, if◌then◌else◌}
 use Rattle.obj_memory.specs.declared.operator.BinaryOperator.{BinaryOperator}
 use Rattle.obj_memory.specs.declared.operator.UnaryOperator.{UnaryOperator}
 use Rattle.obj_memory.specs.declared.int_type.IntType.{IntType}
-use Rattle.obj_memory.specs.declared.value.Bounds.{Bounds}
 use Rattle.obj_memory.specs.declared.value.Tag.{Tag}
 use Rattle.obj_memory.specs.declared.value.Tag.TheVariants.{Untagged, OfFunction, OfObject}
 use Rattle.obj_memory.specs.declared.value.Value.{Value}
 use Rattle.obj_memory.specs.declared.value.Scalar.TheVariants.{Integer, Pointer}
-use Rattle.obj_memory.specs.Integers.{fit}
 use Rattle.obj_memory.specs.Operators.{unary_value, binary_value}
-use Rattle.obj_memory.specs.Objects.{Objects, object_at, pointer_to}
+use Rattle.obj_memory.specs.Objects.{pointer_to}
 use Rattle.obj_memory.specs.Judgement.{moved, narrowed, narrowed_tag}
-use Rattle.obj_memory.specs.Sound.{Continues, IsSoundTag}
 use Rattle.c_tree.specs.declared.expression.Kind.{Kind}
 use Rattle.c_tree.specs.declared.expression.Kind.TheVariants.{Void, Scalar as OfScalar, Structure, Array}
 use Rattle.c_tree.specs.declared.expression.OffsetForm.TheVariants.{PointerPlusIndex, IndexPlusPointer, PointerMinusIndex}
 use Rattle.c_tree.specs.Tree.{Expression, expression, Lvalue, lvalue, Node, constant, plain, decay, address, parenthesized, cast, convert, unary, binary, offset_by, conditional, LvalueNode, automatic, static, deref, index, member, arrow, parenthesized_lvalue, kind_of}
-use Rattle.c_tree.specs.Walk.{assigns}
-use Rattle.source_meaning.specs.State.{State, Rvalue, Home, NoObject, InObject, Outcome, Gives, Ended, Paused, Run, on, ◌>>=◌, ◌>>◌, choose, Env}
-use Rattle.source_meaning.specs.Actions.{integer, is_zero, scalar_of, integer_type, converted, offset_value, operate, value_or_divide, plain_value, home_value, home_pointer}
-use Rattle.source_meaning.specs.Structures.{rvalue, give, as_rvalue, as_pointer, member_of}
+use Rattle.source_meaning.specs.State.{State, Rvalue, Gives, Run, on, ◌>>=◌, choose, Env}
+use Rattle.source_meaning.specs.Actions.{integer, is_zero, scalar_of, integer_type, converted, offset_value, operate, value_or_divide, plain_value, home_pointer}
+use Rattle.source_meaning.specs.Structures.{rvalue, give, as_rvalue, as_pointer}
 use Rattle.source_meaning.specs.Expressions.{counted, evaluate, value, place, node_place}
 use Rattle.source_meaning.specs.Acting.{at_work}
 use Rattle.tac_ir.specs.declared.key.Base.{Base}
 use Rattle.tac_ir.specs.declared.key.Base.TheVariants.{Plain, Automatic, Static}
 use Rattle.tac_ir.specs.declared.key.Scaled.{Scaled}
-use Rattle.tac_ir.specs.declared.key.Member.{Member}
 use Rattle.tac_ir.specs.declared.key.Key.{Key}
 use Rattle.tac_ir.specs.Stage.{Stage}
 use Rattle.tac_ir.specs.Keys.{base_value, scaled_value, path_tag, key_word, key_tag, same_tag, gives}
 use Rattle.tac_ir.proofs.KeyWork.{word_work, tag_work}
 use Rattle.tac_ir.specs.Accesses.{only_if}
 use Rattle.tac_ir.specs.Meaning.{keyed_by, keyed}
-use Rattle.c_lower.specs.Keys.{constant_fit, constant_unary, constant_binary, constant_choice, constant_of, constant_node, variable_of, variable_node, Index, OfConstant, OfVariable, OfOther, index_by, index_of, base_key, moved_key, scaled_key, key_plus, key_minus, member_key, pointer_key, node_key, place_key, lvalue_key, assigns_base, assigns_scaled, assigns_path, assigns_key, unless, key_after}
+use Rattle.c_lower.specs.Keys.{constant_fit, constant_unary, constant_binary, constant_choice, constant_of, constant_node, variable_of, variable_node, Index, OfConstant, OfVariable, OfOther, index_by, index_of, moved_key, scaled_key, key_plus, key_minus, member_key, pointer_key, node_key, place_key, lvalue_key}
 use Rattle.c_lower.specs.Values.{KeyIs}
 
 -- what a key gives

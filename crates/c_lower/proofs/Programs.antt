@@ -1,9 +1,9 @@
 -- The code of a program does what the program means.
 use Rattle.std.proofs.Common.{◌≡◌, ℕ, zero, suc, ◌+◌, ◌*◌, ◌<◌, ◌≤◌, List, [], ◌∷◌, ◌++◌, Option, Some, None, Bool, true, false, refl, sym, ap, ◌∙◌, subst, arith}
-use Rattle.std.specs.Prelude.{slice_get, map, length, nat_lt, nat_le, ◌&&◌, if◌then◌else◌, get_or}
+use Rattle.std.specs.Prelude.{map, length, nat_lt, nat_le, if◌then◌else◌}
 use Rattle.std.specs.List.{list_all}
 use Rattle.std.proofs.lemmas.Bool.{ltb-false, leb-true}
-use Rattle.behaviours.specs.Behaviour.{Meets, Follows, IsSource}
+use Rattle.behaviours.specs.Behaviour.{Meets, Follows}
 use Rattle.behaviours.specs.Steps.{run, seen_after}
 use Rattle.behaviours.proofs.Running.{run_add}
 use Rattle.sb_base.specs.Budgets.{BudgetSizes}
@@ -15,8 +15,7 @@ use Rattle.c_tree.specs.declared.program.Variable.{Variable}
 use Rattle.c_tree.specs.declared.expression.Kind.{Kind}
 use Rattle.c_tree.specs.Kinds.{has_size, size_of_kind, is_scalar, Signature}
 use Rattle.c_tree.specs.Programs.{Function, Program}
-use Rattle.c_tree.specs.Statements.{Statements}
-use Rattle.c_tree.specs.Blocks.{no_variable, all_of, block_variables, body_variables, closed, opened}
+use Rattle.c_tree.specs.Blocks.{no_variable, all_of, block_variables, body_variables, closed}
 use Rattle.c_tree.specs.Valid.{Scope}
 use Rattle.c_tree.specs.ValidProgram.{is_variable, are_parameters, are_statements, declares_all, function_scope, signature_at, is_function_type, are_all_different, is_static_object, is_function, are_functions, is_main, is_valid_program, Inside as Surrounding}
 use Rattle.source_meaning.specs.State.{State, Rvalue, Outcome, Gives, Ended, Paused, Run, on, ◌>>=◌, ◌>>◌, done, change, choose, Header, Setting, Env}
@@ -27,9 +26,9 @@ use Rattle.source_meaning.specs.Statements.{Completion, Normal, Broken, Continue
 use Rattle.source_meaning.specs.Calls.{header_of, function_at, Caller, caller, back_to, returned_by, result_of, set_up, enter_begun, enter_found, calls, env_of}
 use Rattle.source_meaning.specs.Meaning.{setting_of, initial_objects, fresh, line_of, moment_at, moment_of, ended_at, meaning}
 use Rattle.source_meaning.specs.Acting.{at_work, ActsBy}
-use Rattle.source_meaning.specs.Good.{Context, object_kind, IsGood, ArgumentsAre, signature_in, taking, Calling, context_of, Inside, IsSetUp, SetsUpBy}
+use Rattle.source_meaning.specs.Good.{Context, IsGood, ArgumentsAre, signature_in, context_of, Inside, IsSetUp, SetsUpBy}
 use Rattle.source_meaning.proofs.ActionsAct.{acts_set_up}
-use Rattle.source_meaning.proofs.Naming.{ProgramNames, FunctionNames, kinds_in, scope_of, names_of, NamesObjects}
+use Rattle.source_meaning.proofs.Naming.{ProgramNames, FunctionNames, kinds_in, scope_of, names_of}
 use Rattle.source_meaning.proofs.Stays.{expression_stays}
 use Rattle.source_meaning.proofs.SureCalls.{set_up_by}
 use Rattle.source_meaning.proofs.SureMeaning.{NamesFound, found_names, SignatureIs, signature_found, static_context, start_good, inside_good}
@@ -40,12 +39,11 @@ use Rattle.tac_ir.specs.declared.function.CodeFunction.{CodeFunction}
 use Rattle.tac_ir.specs.declared.function.Tac.{Tac}
 use Rattle.source_meaning.proofs.LimitLaw.{is_source}
 use Rattle.tac_ir.proofs.Turns.{follower_never_stuck}
-use Rattle.tac_ir.specs.Stage.{Temps, no_temps, with_temp, Frame, Waits, Stage, Begins, Stands, Over, Stuck, came, seen}
+use Rattle.tac_ir.specs.Stage.{Temps, no_temps, with_temp, Frame, Stage, Begins, Stands, Stuck, came, seen}
 use Rattle.tac_ir.specs.Meaning.{code_of, keys_of, variables_in, blocks_in, function_in, at_node, header_of_code, setting_of_code, begun, called_at, called, given_to, act_at, line_in, objects_before, step, first_stage, tac_meaning}
-use Rattle.c_lower.specs.Statements.{Exits}
 use Rattle.c_lower.specs.Programs.{function_exits, LowersBody, LowersFunction, result_in, height_in, LowersAt, IsLowered}
-use Rattle.c_lower.proofs.Comes.{Reached, Goes, goes_counted, reached_from}
-use Rattle.c_lower.proofs.Values.{loops_in, placed, put_same, Called, Calls, CallsRun}
+use Rattle.c_lower.proofs.Comes.{Reached, Goes, reached_from}
+use Rattle.c_lower.proofs.Values.{loops_in, placed, put_same, Called, CallsRun}
 use Rattle.c_lower.proofs.Flow.{exit_of, LeftBy, AllSized, sized_opened}
 use Rattle.c_lower.proofs.Statements.{statements_run}
 
@@ -249,26 +247,32 @@ module _ (g : Setting) (t : Tac) (limit : ℕ) where
   meets_by : (o : Outcome Rvalue) (q : Caller) (s : State) → s.work ≡ 0 → s.turns ≡ 0 → Called g t limit 0 q [] (Begins s) 0 s o → (m : ℕ) × Meets 8 (moment_of o) (seen (run (step g t) m (Begins s)))
   meets_by (Gives v s') q s w z h =
       let r = h.3 in
-      let n = length (report_of (Exit (int_of v.value.word))) in
-      (r.steps, record {
-        shown = ap (λ (x : State). (ended_at (Exit (int_of v.value.word)) x).shown) h.2 ∙ ap (λ x. (seen x).shown) (sym r.comes);
-        turns = let a = ap (λ x. (seen x).turns) r.comes in let b = ap (λ (x : State). x.turns) h.2 in omega (arith, r.turns);
-        work = let a = ap (λ x. (seen x).work) r.comes in let b = ap (λ (x : State). x.work) h.2 in omega (arith, r.work);
-      })
+      let n = length (report_of (Exit (int_of v.value.word))) in (
+        r.steps,
+        record {
+          shown = ap (λ (x : State). (ended_at (Exit (int_of v.value.word)) x).shown) h.2 ∙ ap (λ x. (seen x).shown) (sym r.comes);
+          turns = let a = ap (λ x. (seen x).turns) r.comes in let b = ap (λ (x : State). x.turns) h.2 in omega (arith, r.turns);
+          work = let a = ap (λ x. (seen x).work) r.comes in let b = ap (λ (x : State). x.work) h.2 in omega (arith, r.work);
+        },
+      )
   meets_by (Ended x s') q s w z h =
-      let r = h.1 in
-      (r.steps, record {
-        shown = ap (λ x. (seen x).shown) (sym r.comes);
-        turns = let a = ap (λ x. (seen x).turns) r.comes in omega arith;
-        work = let a = ap (λ x. (seen x).work) r.comes in omega (arith, r.work);
-      })
+      let r = h.1 in (
+        r.steps,
+        record {
+          shown = ap (λ x. (seen x).shown) (sym r.comes);
+          turns = let a = ap (λ x. (seen x).turns) r.comes in omega arith;
+          work = let a = ap (λ x. (seen x).work) r.comes in omega (arith, r.work);
+        },
+      )
   meets_by (Paused s') q s w z h =
-      let r = h.3 in
-      (r.steps, record {
-        shown = sym (ap (λ x. x.shown) h.2) ∙ ap (λ x. (seen x).shown) (sym r.comes);
-        turns = let a = ap (λ x. (seen x).turns) r.comes in let b = ap (λ x. x.turns) h.2 in omega arith;
-        work = let a = ap (λ x. (seen x).work) r.comes in let b = ap (λ x. x.work) h.2 in omega (arith, r.work);
-      })
+      let r = h.3 in (
+        r.steps,
+        record {
+          shown = sym (ap (λ x. x.shown) h.2) ∙ ap (λ x. (seen x).shown) (sym r.comes);
+          turns = let a = ap (λ x. (seen x).turns) r.comes in let b = ap (λ x. x.turns) h.2 in omega arith;
+          work = let a = ap (λ x. (seen x).work) r.comes in let b = ap (λ x. x.work) h.2 in omega (arith, r.work);
+        },
+      )
 
 line_is : (texts : List (List ℕ)) (result : Kind) (height : ℕ) (of : Option Function) (oc : Option CodeFunction) → LowersAt texts result height of oc → line_in oc ≡ line_of of
 line_is texts result height None None h = refl

@@ -1,51 +1,48 @@
 -- The code of statements does what they mean.
-use Rattle.std.proofs.Common.{◌≡◌, ℕ, zero, suc, ◌+◌, ◌*◌, ◌<◌, ◌≤◌, List, [], ◌∷◌, Option, Some, None, Bool, true, false, refl, sym, ap, ◌∙◌, subst, arith}
-use Rattle.std.specs.Prelude.{not, cond, if◌then◌else◌, ◌&&◌, ◌||◌, length, map, get_or}
+use Rattle.std.proofs.Common.{◌≡◌, ℕ, zero, suc, ◌+◌, ◌<◌, ◌≤◌, List, [], ◌∷◌, Option, Some, None, Bool, true, false, refl, sym, ap, ◌∙◌, subst, arith}
+use Rattle.std.specs.Prelude.{not, cond, if◌then◌else◌, ◌||◌, length, map}
 use Rattle.addr_map.specs.Places.{MapSizes}
 use Rattle.obj_memory.specs.declared.value.Value.{Value}
-use Rattle.obj_memory.specs.Objects.{Objects, ObjectState, object_at, with_zeroed}
+use Rattle.obj_memory.specs.Objects.{object_at, with_zeroed}
 use Rattle.obj_memory.specs.Judgement.{narrowed}
 use Rattle.c_tree.specs.declared.program.Variable.{Variable}
 use Rattle.c_tree.specs.declared.expression.Kind.{Kind}
-use Rattle.c_tree.specs.declared.statement.CaseLabel.{CaseLabel}
-use Rattle.c_tree.specs.Kinds.{size_of_kind, is_kind, is_value, is_promoted}
+use Rattle.c_tree.specs.Kinds.{size_of_kind, is_kind, is_value}
 use Rattle.c_tree.specs.Tree.{Expression, kind_of, line_of}
 use Rattle.c_tree.specs.Statements.{Content, value_content, literal_content, Part, Initializer, of_plain, of_object, DeclaredVariable, First, nothing, first_expression, first_declaration, Statement, expression_statement, empty, declaration, block, if_then, if_else, while_do, do_while, for, switch, break, continue, return, Statements, no_statements, statements, SwitchItems, no_items, items}
-use Rattle.c_tree.specs.Blocks.{block_objects, block_variables, switch_variables, first_variables, opened}
+use Rattle.c_tree.specs.Blocks.{block_variables, switch_variables, first_variables, opened}
 use Rattle.c_tree.specs.Walk.{assigns}
-use Rattle.c_tree.specs.Valid.{Scope, at_number, within, is_valid, is_plain, is_condition}
-use Rattle.c_tree.specs.ValidProgram.{is_content, content_size, is_part, are_parts, is_initializer, are_declared, is_first, is_condition_if, is_expression_if, is_declaration, Inside as Surrounding, in_loop as inside_loop, in_switch as inside_switch, is_statement, are_statements, are_items}
-use Rattle.source_meaning.specs.State.{State, Rvalue, Home, NoObject, InObject, Outcome, Gives, Run, on, ◌>>=◌, ◌>>◌, read_state, choose, skip, tally, Setting, Env}
-use Rattle.source_meaning.specs.Actions.{integer, is_zero, with_plain, home_value, home_pointer}
+use Rattle.c_tree.specs.Valid.{Scope, at_number, within, is_valid, is_condition}
+use Rattle.c_tree.specs.ValidProgram.{is_content, is_part, are_parts, is_initializer, are_declared, is_first, is_condition_if, is_expression_if, is_declaration, Inside as Surrounding, in_loop as inside_loop, in_switch as inside_switch, is_statement, are_statements, are_items}
+use Rattle.source_meaning.specs.State.{State, Rvalue, Home, InObject, Run, on, ◌>>=◌, ◌>>◌, read_state, tally, Env}
+use Rattle.source_meaning.specs.Actions.{integer, is_zero, with_plain, home_pointer}
 use Rattle.source_meaning.specs.Structures.{rvalue, write_rvalue}
 use Rattle.source_meaning.specs.Expressions.{argument, evaluate}
-use Rattle.source_meaning.specs.Initializers.{zero_object, zero_home, zero_variable, store_bytes, store_content, store_parts, initialize, initialize_all}
-use Rattle.source_meaning.specs.Statements.{Completion, Normal, Broken, Continued, Returned, in_order, holds, perform, perform_first, turns, turns_before, LabeledRun, run_labeled, is_case_of, is_default, items_from, labels_of, compared, or_default, run_items, run_switch, execute, each_of, items_of}
-use Rattle.source_meaning.specs.Blocks.{has_objects}
+use Rattle.source_meaning.specs.Initializers.{zero_home, store_bytes, store_content, store_parts, initialize, initialize_all}
+use Rattle.source_meaning.specs.Statements.{Normal, Broken, Continued, Returned, in_order, holds, perform, perform_first, LabeledRun, run_labeled, is_case_of, is_default, items_from, labels_of, compared, or_default, run_items, execute, each_of, items_of}
 use Rattle.source_meaning.specs.Acting.{at_work}
 use Rattle.source_meaning.specs.Staying.{Stays}
-use Rattle.source_meaning.specs.Good.{Context, function_count, object_kind, IsGood, Leaves, After, Sure, Any, ValueIs, CompletionIs, context_of, Calling, Inside}
+use Rattle.source_meaning.specs.Good.{Context, function_count, object_kind, IsGood, After, Sure, Any, ValueIs, CompletionIs, context_of, Calling, Inside}
 use Rattle.source_meaning.proofs.ActionsAct.{acts_write_rvalue, acts_store_bytes}
 use Rattle.source_meaning.proofs.Holding.{named_less}
 use Rattle.source_meaning.proofs.Naming.{ContentNames, PartsName, InitializerNames}
 use Rattle.source_meaning.proofs.ValidNames.{both, three, five, names}
-use Rattle.source_meaning.proofs.ValidProgramNames.{agree_same, condition_names, content_names, parts_names, initializer_names, first_names, condition_if, expression_if, statement_names}
+use Rattle.source_meaning.proofs.ValidProgramNames.{agree_same, initializer_names, first_names, condition_if, expression_if, statement_names}
 use Rattle.source_meaning.proofs.Sure.{sure_skip, sure_beside}
 use Rattle.source_meaning.proofs.SureActions.{sure_zero_variable}
 use Rattle.source_meaning.proofs.SureTree.{evaluate_sure, IsBase, stable_base, base_part, content_sure, initialize_sure, home_sure}
 use Rattle.source_meaning.proofs.SureFlow.{holds_sure, perform_sure, first_sure, execute_sure}
-use Rattle.tac_ir.specs.declared.instruction.Instruction.TheVariants as tac
 use Rattle.tac_ir.specs.declared.function.Tac.{Tac}
-use Rattle.tac_ir.specs.Stage.{Temps, Frame, Entered, Stage, Stands, came}
+use Rattle.tac_ir.specs.Stage.{Temps, Frame, Stage, Stands, came}
 use Rattle.tac_ir.specs.Accesses.{only_if, is_live_at, moved_from, is_home}
 use Rattle.tac_ir.specs.Costs.{entries_of}
-use Rattle.tac_ir.specs.Meaning.{text_in, part_pointer, variables_in, function_in, act, act_at}
-use Rattle.c_lower.specs.Placed.{Placed, Holds, HasAt}
+use Rattle.tac_ir.specs.Meaning.{variables_in, function_in, act_at}
+use Rattle.c_lower.specs.Placed.{Placed}
 use Rattle.c_lower.specs.Values.{LowersExpression, LowersArgument}
-use Rattle.c_lower.specs.Statements.{Exits, LowersContent, LowersParts, LowersInitializer, LowersDeclared, LowersCondition, LowersPart, LowersFirst, in_loop, in_switch, any_default, has_default, LowersStatement, LowersStatements, LowersItems}
-use Rattle.c_lower.proofs.Comes.{Goes, goes_from, goes_counted, goes_counted_as, goes_spare, goes_frame, goes_steps, goes_step, goes_done, goes_at, goes_weak, goes_less, goes_after, goes_then, goes_sure, goes_with, goes_came, goes_last}
+use Rattle.c_lower.specs.Statements.{Exits, LowersContent, LowersParts, LowersInitializer, LowersDeclared, LowersCondition, LowersPart, LowersFirst, in_switch, has_default, LowersStatement, LowersStatements, LowersItems}
+use Rattle.c_lower.proofs.Comes.{Goes, goes_from, goes_counted, goes_counted_as, goes_spare, goes_frame, goes_steps, goes_step, goes_done, goes_at, goes_less, goes_after, goes_then, goes_sure, goes_came, goes_last}
 use Rattle.c_lower.proofs.Accesses.{store_cost, direct_is_live, value_moves}
-use Rattle.c_lower.proofs.Values.{placed, put_same, ValueIn, CallsRun, left, two_left, text_at, false_by, expression_runs, argument_at}
+use Rattle.c_lower.proofs.Values.{placed, put_same, ValueIn, CallsRun, two_left, text_at, false_by, expression_runs, argument_at}
 use Rattle.c_lower.proofs.Flow.{exit_of, LeftBy, Anyhow, home_kept, AllSized, sized_opened, next_goes, test_goes, switch_left, choose_goes, labels_go, default_goes, turns_run, turns_before_run, scoped_goes}
 
 -- what a statement leaves for a turn that follows

@@ -1,11 +1,10 @@
 -- The code of expressions and lvalues does what they mean.
-use Rattle.std.proofs.Common.{◌≡◌, ◌≢◌, ℕ, zero, suc, ◌+◌, ◌*◌, ◌<◌, ◌≤◌, List, [], ◌∷◌, Option, Some, None, Bool, true, false, refl, sym, ap, ◌∙◌, subst, arith, eq-eqb, ne_eqb}
-use Rattle.std.specs.Prelude.{◌&&◌, not, cond, ◌==◌, if◌then◌else◌, slice_get, get_or, nat_lt}
+use Rattle.std.proofs.Common.{◌≡◌, ◌≢◌, ℕ, ◌+◌, ◌<◌, ◌≤◌, List, [], ◌∷◌, Option, Some, None, Bool, true, false, refl, sym, ap, ◌∙◌, subst, arith, eq-eqb, ne_eqb}
+use Rattle.std.specs.Prelude.{◌&&◌, not, cond, ◌==◌, if◌then◌else◌}
 use Rattle.addr_map.specs.Places.{function_address}
 use Rattle.sb_base.specs.declared.ending.Ending.TheVariants.{BadCall}
 use Rattle.obj_memory.specs.declared.value.Tag.{Tag}
 use Rattle.obj_memory.specs.declared.value.Tag.TheVariants.{Untagged, OfFunction, OfObject}
-use Rattle.obj_memory.specs.declared.value.Scalar.TheVariants.{Integer, Pointer}
 use Rattle.obj_memory.specs.declared.value.Value.{Value}
 use Rattle.obj_memory.specs.Objects.{Objects, pointer_to}
 use Rattle.obj_memory.specs.Operators.{one_if, unary_value}
@@ -16,28 +15,27 @@ use Rattle.c_tree.specs.declared.program.Variable.{Variable}
 use Rattle.c_tree.specs.declared.expression.Kind.{Kind}
 use Rattle.c_tree.specs.declared.expression.Kind.TheVariants.{Void, Scalar as OfScalar, Structure, Array}
 use Rattle.c_tree.specs.declared.expression.Fixity.TheVariants.{Prefix}
-use Rattle.c_tree.specs.Kinds.{size_of_kind, is_kind, is_value, is_array, is_scalar, is_size, are_operands, class_of, are_offset, has_member, pointer}
+use Rattle.c_tree.specs.Kinds.{size_of_kind, is_kind, is_value, is_array, is_size, has_member, pointer}
 use Rattle.c_tree.specs.Tree.{Expression, expression, Expressions, no_expressions, expressions, Lvalue, lvalue, Node, constant, function, plain, read, decay, address, parenthesized, deref_function, address_function, cast, convert, unary, binary, offset_by, difference, logical_and, logical_or, comma, conditional, assign, assign_plain, compound, change_plain, step, step_plain, call, call_through, library, printf, LvalueNode, automatic, static, deref, index, member, arrow, member_of_value, parenthesized_lvalue, kind_of, line_of, kinds_of, lvalue_kind, lvalue_line}
 use Rattle.c_tree.specs.Walk.{assigns}
-use Rattle.c_tree.specs.Valid.{is_lvalue, is_converted, is_convert, is_conversion, is_valid, is_node, are_valid, is_valid_lvalue, is_valid_lvalue_node, is_plain, is_operand, is_index}
-use Rattle.source_meaning.specs.State.{State, Rvalue, Outcome, Gives, Ended, Paused, Run, on, ◌>>=◌, ◌>>◌, done, stop, choose, Header, Setting, Env}
-use Rattle.source_meaning.specs.Actions.{integer, is_zero, scalar_of, integer_type, converted, offset_value, difference_value, operate, updated, plain_value, with_plain, set_plain, update_plain, update, home_pointer, each_value}
-use Rattle.source_meaning.specs.Structures.{rvalue, give, as_rvalue, values_of, take_value, read_rvalue, write_rvalue, member_of}
+use Rattle.c_tree.specs.Valid.{is_lvalue, is_converted, is_convert, is_conversion, is_valid, is_node, are_valid, is_valid_lvalue, is_valid_lvalue_node, is_plain, is_operand}
+use Rattle.source_meaning.specs.State.{State, Rvalue, Outcome, Gives, Ended, Paused, Run, on, done, stop, choose, Setting, Env}
+use Rattle.source_meaning.specs.Actions.{integer, is_zero, scalar_of, integer_type, converted, offset_value, difference_value, operate, updated, plain_value, with_plain, update_plain, update, home_pointer, each_value}
+use Rattle.source_meaning.specs.Structures.{rvalue, as_rvalue, values_of, take_value, read_rvalue, write_rvalue, member_of}
 use Rattle.source_meaning.specs.Library.{routine}
 use Rattle.source_meaning.specs.Printing.{print_formatted}
 use Rattle.source_meaning.specs.Expressions.{nodes_of, function_pointer, header_at, has_type, callee_by, callee, is_judged, argument, evaluate, value, place, node_place, values}
 use Rattle.source_meaning.specs.Calls.{Caller, caller, back_to}
 use Rattle.source_meaning.specs.Meaning.{moment_at}
-use Rattle.source_meaning.specs.Acting.{at_work, IsAction}
+use Rattle.source_meaning.specs.Acting.{at_work}
 use Rattle.source_meaning.specs.Staying.{KeptBy, Stays}
-use Rattle.source_meaning.specs.Good.{Context, function_count, IsGood, Leaves, After, Sure, Any, ValueIs, LvalueIs, ArgumentsAre, basis_of, signature_in, taking, Calling}
+use Rattle.source_meaning.specs.Good.{Context, function_count, IsGood, Leaves, After, ValueIs, LvalueIs, ArgumentsAre, basis_of, signature_in, taking, Calling}
 use Rattle.source_meaning.proofs.Naming.{ValueNames}
-use Rattle.source_meaning.proofs.ValidNames.{both, three, four, five, six, same_kind, none_like, writable, names, value_names, lvalue_names, row_names}
+use Rattle.source_meaning.proofs.ValidNames.{both, three, four, five, six, none_like, writable, names, value_names, lvalue_names, row_names}
 use Rattle.source_meaning.proofs.ValidProgramNames.{agree_same}
 use Rattle.source_meaning.proofs.SureTree.{evaluate_sure, place_sure, values_sure, argument_sure}
 use Rattle.source_meaning.proofs.ActionsAct.{acts_operate, acts_updated, acts_update, acts_update_plain, acts_take_value, acts_read_rvalue, acts_write_rvalue}
 use Rattle.source_meaning.proofs.LibraryActs.{acts_routine, acts_print}
-use Rattle.tac_ir.specs.declared.instruction.RightOperand.TheVariants.{Temporary, One}
 use Rattle.tac_ir.specs.declared.instruction.Instruction.TheVariants as tac
 use Rattle.tac_ir.specs.declared.key.Key.{Key}
 use Rattle.tac_ir.specs.declared.function.CodeFunction.{CodeFunction}
@@ -45,13 +43,13 @@ use Rattle.tac_ir.specs.declared.function.CountedLoop.{CountedLoop}
 use Rattle.tac_ir.specs.declared.function.Tac.{Tac}
 use Rattle.tac_ir.specs.Stage.{Temps, with_temp, gathered, Frame, Waits, Stage, Stands, Over, came, seen}
 use Rattle.tac_ir.specs.Accesses.{admitted, moved_from, is_through}
-use Rattle.tac_ir.specs.Costs.{entries_of, checks_of, cost}
-use Rattle.tac_ir.specs.Meaning.{code_of, keys_of, blocks_in, function_in, if_there, text_in, at_node, keyed, given_in, given_to, called, act, act_at, step as advance}
+use Rattle.tac_ir.specs.Costs.{entries_of, checks_of}
+use Rattle.tac_ir.specs.Meaning.{code_of, keys_of, blocks_in, function_in, if_there, text_in, at_node, keyed, given_in, given_to, called, act_at, step as advance}
 use Rattle.tac_ir.proofs.Turns.{acts_as}
-use Rattle.c_lower.specs.Placed.{Placed, Holds, HasAt}
+use Rattle.c_lower.specs.Placed.{Placed, HasAt}
 use Rattle.c_lower.specs.Keys.{place_key, key_after, key_if, read_key, write_key}
-use Rattle.c_lower.specs.Values.{mode_for, KeyIs, LowersTaking, count, LowersExpression, LowersNode, LowersLvalue, LowersPlace, LowersArguments, LowersArgument}
-use Rattle.c_lower.proofs.Comes.{Reached, Goes, goes_from, goes_counted, goes_counted_as, goes_spare, goes_frame, goes_steps, goes_step, goes_done, goes_over, goes_at, goes_weak, goes_less, goes_then, goes_sure, goes_came, goes_last, goes_branch}
+use Rattle.c_lower.specs.Values.{mode_for, LowersTaking, count, LowersExpression, LowersNode, LowersLvalue, LowersPlace, LowersArguments}
+use Rattle.c_lower.proofs.Comes.{Reached, Goes, goes_from, goes_counted, goes_counted_as, goes_spare, goes_frame, goes_steps, goes_step, goes_done, goes_over, goes_at, goes_weak, goes_less, goes_then, goes_sure, goes_last, goes_branch}
 use Rattle.c_lower.proofs.KeyValues.{Right, key_opens, place_right}
 use Rattle.c_lower.proofs.KeyStays.{right_after}
 use Rattle.c_lower.proofs.Accesses.{through_is, access_cost, access_opens, value_moves, reach_later, reach_scalar, updates_scalar, plain_is_no_structure, plain_contents, reach_contents}
@@ -153,12 +151,19 @@ module _ {g : Setting} {t : Tac} {limit u : ℕ} {frames : List Frame} where
   back_by n1 d before temps x k s (Gives v s') below h =
       let e = h.2 in
       let r = h.3 in
-      record { by = (with_temp temps d v, h.1, put_value d v v before temps s' refl below, record {
-        steps = r.steps;
-        comes = r.comes ∙ ap (λ z. Stands u n1 (with_temp temps d v) frames (at_work h.1 z)) (sym e);
-        turns = let a = ap (λ (z : State). z.turns) e in omega (arith, r.turns);
-        work = let a = ap (λ (z : State). z.work) e in omega (arith, r.work);
-      }) }
+      record {
+        by = (
+          with_temp temps d v,
+          h.1,
+          put_value d v v before temps s' refl below,
+          record {
+            steps = r.steps;
+            comes = r.comes ∙ ap (λ z. Stands u n1 (with_temp temps d v) frames (at_work h.1 z)) (sym e);
+            turns = let a = ap (λ (z : State). z.turns) e in omega (arith, r.turns);
+            work = let a = ap (λ (z : State). z.work) e in omega (arith, r.work);
+          },
+        );
+      }
   back_by n1 d before temps x k s (Ended e s') below h = record { by = h }
   back_by n1 d before temps x k s (Paused s') below h = record { by = h }
 

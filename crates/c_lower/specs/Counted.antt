@@ -1,17 +1,13 @@
 -- A `for` that counts a plain int variable v up by 1 over a range of constants: `for (v = A; v < B; v++)`, with A and B
 -- integer constant expressions of type int, where the body assigns v nowhere.
-use Rattle.std.specs.Prelude.{◌≡◌, ℕ, suc, Bool, true, false, not, ◌&&◌, ◌==◌, List, [], ◌∷◌, Option, Some, None}
-use Rattle.obj_memory.specs.declared.int_type.IntType.{IntType}
+use Rattle.std.specs.Prelude.{ℕ, Bool, true, false, not, ◌&&◌, ◌==◌, [], ◌∷◌, Option, Some, None}
 use Rattle.obj_memory.specs.declared.int_type.IntType.TheVariants.{Int}
-use Rattle.obj_memory.specs.declared.operator.BinaryOperator.{BinaryOperator}
 use Rattle.obj_memory.specs.declared.operator.BinaryOperator.TheVariants.{Less, Add}
 use Rattle.obj_memory.specs.declared.value.Scalar.TheVariants.{Integer}
-use Rattle.c_tree.specs.declared.expression.Kind.{Kind}
 use Rattle.c_tree.specs.declared.expression.Kind.TheVariants.{Scalar as OfScalar}
-use Rattle.c_tree.specs.declared.expression.Update.{Update}
 use Rattle.c_tree.specs.declared.expression.Update.TheVariants.{Arithmetic}
-use Rattle.c_tree.specs.Tree.{Expression, expression, Node, plain, binary, assign_plain, step_plain}
-use Rattle.c_tree.specs.Statements.{Initializer, of_plain, DeclaredVariable, First, nothing, first_expression, first_declaration, Statement}
+use Rattle.c_tree.specs.Tree.{Expression, expression, plain, binary, assign_plain, step_plain}
+use Rattle.c_tree.specs.Statements.{Initializer, of_plain, First, first_expression, first_declaration, Statement}
 use Rattle.c_tree.specs.Assigning.{statement_assigns}
 use Rattle.c_lower.specs.Keys.{constant_of}
 

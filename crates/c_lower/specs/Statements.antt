@@ -1,14 +1,8 @@
 -- Where the code of initializers and statements stands.
-use Rattle.std.specs.Prelude.{◌≡◌, ℕ, zero, suc, ◌+◌, Bool, true, false, not, ◌&&◌, ◌||◌, ◌==◌, List, [], ◌∷◌, ◌++◌, Option, Some, None, slice_get}
-use Rattle.obj_memory.specs.declared.int_type.IntType.TheVariants.{Int}
-use Rattle.obj_memory.specs.declared.operator.BinaryOperator.TheVariants.{Less, Add}
-use Rattle.obj_memory.specs.declared.value.Scalar.TheVariants.{Integer}
-use Rattle.c_tree.specs.declared.expression.Kind.{Kind}
-use Rattle.c_tree.specs.declared.expression.Kind.TheVariants.{Void, Scalar as OfScalar, Structure, Array}
+use Rattle.std.specs.Prelude.{◌≡◌, ℕ, Bool, true, false, ◌||◌, List, [], ◌∷◌, Option, Some, None}
 use Rattle.c_tree.specs.declared.statement.CaseLabel.{CaseLabel}
 use Rattle.c_tree.specs.declared.statement.CaseLabel.TheVariants.{Case, Default}
-use Rattle.c_tree.specs.Kinds.{size_of_kind}
-use Rattle.c_tree.specs.Tree.{Expression, expression, kind_of, line_of}
+use Rattle.c_tree.specs.Tree.{Expression, kind_of, line_of}
 use Rattle.c_tree.specs.Statements.{Content, value_content, literal_content, Part, Initializer, of_plain, of_object, DeclaredVariable, First, nothing, first_expression, first_declaration, Statement, expression_statement, empty, declaration, block, if_then, if_else, while_do, do_while, for, switch, break, continue, return, Statements, no_statements, statements, SwitchItems, no_items, items}
 use Rattle.c_tree.specs.Blocks.{block_objects, block_variables, switch_variables, first_variables}
 use Rattle.source_meaning.specs.Blocks.{has_objects}

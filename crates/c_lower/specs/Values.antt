@@ -1,6 +1,6 @@
 -- Where the code of expressions and lvalues stands: from one node to another it puts a value into a temporary, and
 -- changes none below it. The nodes between are whatever they are.
-use Rattle.std.specs.Prelude.{◌≡◌, ℕ, suc, ◌+◌, Bool, true, false, List, Option, Some, None, slice_get}
+use Rattle.std.specs.Prelude.{◌≡◌, ℕ, suc, ◌+◌, Bool, true, false, List, Option, Some, None}
 use Rattle.c_tree.specs.declared.expression.Kind.{Kind}
 use Rattle.c_tree.specs.declared.expression.Kind.TheVariants.{Void, Scalar as OfScalar, Structure, Array}
 use Rattle.c_tree.specs.declared.expression.Fixity.TheVariants.{Prefix}

@@ -1,41 +1,36 @@
 -- Code with checks does what code without them does.
-use Rattle.std.proofs.Common.{◌≡◌, ℕ, zero, suc, ◌+◌, ◌*◌, ◌≤◌, List, [], ◌∷◌, Option, Some, None, Bool, true, false, refl, sym, ap, ◌∙◌, subst, arith}
+use Rattle.std.proofs.Common.{◌≡◌, ℕ, ◌+◌, ◌*◌, ◌≤◌, List, [], ◌∷◌, Option, Some, None, Bool, true, false, refl, sym, ap, ◌∙◌, subst, arith}
 use Rattle.std.specs.Prelude.{slice_get, map, ◌&&◌, length, ◌++◌}
 use Rattle.behaviours.specs.Behaviour.{Behaviour, Meets, Follows, IsSource}
-use Rattle.behaviours.specs.Steps.{run, Simulates}
+use Rattle.behaviours.specs.Steps.{run}
 use Rattle.behaviours.proofs.Following.{follows_trans}
 use Rattle.behaviours.proofs.Running.{follows_by_steps}
 use Rattle.sb_base.specs.Budgets.{BudgetSizes}
 use Rattle.sb_base.specs.declared.ending.Ending.{Ending}
 use Rattle.sb_base.specs.declared.ending.Ending.TheVariants as ending
 use Rattle.obj_memory.specs.declared.value.Scalar.{Scalar}
-use Rattle.obj_memory.specs.declared.value.Scalar.TheVariants.{Integer, Pointer}
 use Rattle.obj_memory.specs.declared.value.Value.{Value}
 use Rattle.obj_memory.specs.Objects.{ObjectState, Objects}
 use Rattle.obj_memory.specs.Access.{scalar_size}
 use Rattle.c_tree.specs.declared.expression.Kind.{Kind}
 use Rattle.c_tree.specs.declared.expression.Kind.TheVariants.{Void, Scalar as OfScalar, Structure, Array}
-use Rattle.c_tree.specs.declared.expression.Update.{Update as UpdateBy}
 use Rattle.c_tree.specs.declared.expression.Fixity.{Fixity}
-use Rattle.c_tree.specs.Kinds.{size_of_kind}
 use Rattle.c_tree.specs.Blocks.{block_objects}
 use Rattle.source_meaning.specs.Places.{statics_first}
 use Rattle.source_meaning.specs.State.{State, Rvalue, Outcome, Gives, Ended, Paused, Run, on, ◌>>=◌, ◌>>◌, done, tally, Header, Setting}
-use Rattle.source_meaning.specs.Actions.{given, located, read_scalar, write_scalar, move_bytes, updated, update, read_lvalue, home_pointer}
-use Rattle.source_meaning.specs.Structures.{rvalue, give, as_rvalue, values_of, put_contents, copy_value, write_rvalue, read_part, read_rvalue}
+use Rattle.source_meaning.specs.Actions.{given, located, read_scalar, write_scalar, move_bytes, updated, update, home_pointer}
+use Rattle.source_meaning.specs.Structures.{give, as_rvalue, values_of, put_contents, copy_value, write_rvalue, read_part, read_rvalue}
 use Rattle.source_meaning.specs.Printing.{print_formatted}
 use Rattle.source_meaning.specs.Initializers.{store_bytes}
 use Rattle.source_meaning.specs.Expressions.{callee}
 use Rattle.source_meaning.specs.Blocks.{pass_or_stop, enter_block}
 use Rattle.source_meaning.specs.Calls.{set_up}
 use Rattle.source_meaning.specs.Meaning.{fresh}
-use Rattle.source_meaning.specs.Judging.{is_within, is_live_tag, test_life, tested}
+use Rattle.source_meaning.specs.Judging.{is_within, is_live_tag, test_life}
 use Rattle.source_meaning.specs.Acting.{at_work}
 use Rattle.source_meaning.proofs.JudgingTests.{two_tests}
-use Rattle.tac_ir.specs.declared.instruction.Mode.{Mode}
 use Rattle.tac_ir.specs.declared.instruction.Mode.TheVariants.{Named, Unchecked, Judged}
 use Rattle.tac_ir.specs.declared.instruction.Test.TheVariants.{Spatial, Temporal}
-use Rattle.tac_ir.specs.declared.instruction.RightOperand.{RightOperand}
 use Rattle.tac_ir.specs.declared.instruction.Instruction.{Instruction}
 use Rattle.tac_ir.specs.declared.instruction.Instruction.TheVariants.{StoreText, Read, Write, Update, Judge, Print, Call, CallThrough, EnterBlock}
 use Rattle.tac_ir.specs.declared.key.Key.{Key}
@@ -43,12 +38,12 @@ use Rattle.tac_ir.specs.declared.function.CodeFunction.{CodeFunction}
 use Rattle.tac_ir.specs.declared.function.Tac.{Tac}
 use Rattle.tac_ir.specs.Stage.{Temps, no_temps, gathered, Frame, Entered, Stage, Begins, Stands, Over, Stuck, came, seen}
 use Rattle.tac_ir.specs.Keys.{gives}
-use Rattle.tac_ir.specs.Accesses.{only_if, is_live_at, is_there, is_inside, is_place, admitted, moved_from}
+use Rattle.tac_ir.specs.Accesses.{only_if, is_live_at, is_there, is_place, admitted, moved_from}
 use Rattle.tac_ir.specs.Costs.{entries_of, cost, spent}
-use Rattle.tac_ir.specs.Meaning.{code_of, keys_of, objects_in, function_in, if_there, text_in, keyed_by, keyed, right_value, header_of_code, setting_of_code, begun, called_at, called, given_in, act, act_at, line_in, at_node, step, objects_before, placed_data, first_stage, tac_meaning}
+use Rattle.tac_ir.specs.Meaning.{code_of, keys_of, objects_in, function_in, if_there, keyed_by, keyed, right_value, header_of_code, setting_of_code, begun, called_at, called, given_in, act, act_at, line_in, at_node, step, objects_before, placed_data, first_stage, tac_meaning}
 use Rattle.tac_ir.proofs.KeyWork.{gives_work}
 use Rattle.tac_ir.proofs.Turns.{follower_never_stuck}
-use Rattle.check_insert.specs.Inserted.{Has, Checked, StandsFor, FunctionIn, InsertedAt, Inserted}
+use Rattle.check_insert.specs.Inserted.{Has, StandsFor, InsertedAt, Inserted}
 
 abbrev pub IsFine : Stage → Type 0
 IsFine x = x ≡ Stuck → ⊥
@@ -260,14 +255,18 @@ module _ (g : Setting) (t t' : Tac) (ins : Inserted t t') where
 
     checked_by : (b b' : Bool) → is_within v.tag v.word size ≡ b → is_live_tag v.tag s.objects ≡ b' → (j : ℕ) × Matches x (run (step g t') j (Stands u n temps frames s))
     checked_by false b' e e' =
-        let z : State = at_work before s in
-        (1, subst (λ y. Matches y (run (step g t') 1 (Stands u n temps frames s))) (sym (x_came ∙ ap (λ o. came o F) (ended.by (ending.Spatial line) z (outside_by size v line z e))))
-        (s.work + 1, first_step false e, omega (arith, paid)))
+        let z : State = at_work before s in (
+          1,
+          subst (λ y. Matches y (run (step g t') 1 (Stands u n temps frames s))) (sym (x_came ∙ ap (λ o. came o F) (ended.by (ending.Spatial line) z (outside_by size v line z e))))
+              (s.work + 1, first_step false e, omega (arith, paid)),
+        )
     checked_by true false e e' =
         let z : State = at_work before s in
-        let both : run (step g t') 2 (Stands u n temps frames s) ≡ Over (ending.Temporal line) (at_work (s.work + 1 + 1) s) = ap (run (step g t') 1) (first_step true e) ∙ second_step false e' in
-        (2, subst (λ y. Matches y (run (step g t') 2 (Stands u n temps frames s))) (sym (x_came ∙ ap (λ o. came o F) (ended.by (ending.Temporal line) z (dead_by size v line z e e'))))
-        (s.work + 1 + 1, both, omega (arith, paid)))
+        let both : run (step g t') 2 (Stands u n temps frames s) ≡ Over (ending.Temporal line) (at_work (s.work + 1 + 1) s) = ap (run (step g t') 1) (first_step true e) ∙ second_step false e' in (
+          2,
+          subst (λ y. Matches y (run (step g t') 2 (Stands u n temps frames s))) (sym (x_came ∙ ap (λ o. came o F) (ended.by (ending.Temporal line) z (dead_by size v line z e e'))))
+              (s.work + 1 + 1, both, omega (arith, paid)),
+        )
     checked_by true true e e' =
         let all : run (step g t') 3 (Stands u n temps frames s) ≡ placed = ap (run (step g t') 2) (first_step true e) ∙ ap (run (step g t') 1) (second_step true e') ∙ third_step e e' in
         (3, same_matches x _ fine (all ∙ sym x_is))

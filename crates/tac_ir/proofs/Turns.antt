@@ -1,5 +1,5 @@
 -- A step begins at most one turn, and code that follows a source is never stuck.
-use Rattle.std.proofs.Common.{◌≡◌, ℕ, zero, suc, ◌+◌, ◌≤◌, List, [], ◌∷◌, length, Option, Some, None, Bool, true, false, refl, sym, ap, ◌∙◌, arith}
+use Rattle.std.proofs.Common.{◌≡◌, ℕ, ◌+◌, ◌≤◌, List, [], ◌∷◌, length, Option, Some, None, Bool, true, false, refl, ap, arith}
 use Rattle.std.specs.Prelude.{slice_get, get_or}
 use Rattle.behaviours.specs.Shown.{End}
 use Rattle.behaviours.specs.Behaviour.{Behaviour, Follows, IsSource}
@@ -12,36 +12,34 @@ use Rattle.obj_memory.specs.Access.{scalar_size}
 use Rattle.c_tree.specs.declared.expression.Kind.{Kind}
 use Rattle.c_tree.specs.declared.expression.Kind.TheVariants.{Void, Scalar as OfScalar, Structure, Array}
 use Rattle.c_tree.specs.Kinds.{size_of_kind}
-use Rattle.source_meaning.specs.State.{◌>>=◌, State, Rvalue, NoObject, Outcome, Gives, Ended, Paused, Run, Setting}
-use Rattle.source_meaning.specs.Actions.{operate, updated, update, set_plain, update_plain, home_pointer}
-use Rattle.source_meaning.specs.Structures.{rvalue, as_rvalue, values_of, take_value, read_rvalue, write_rvalue}
+use Rattle.source_meaning.specs.State.{State, Rvalue, NoObject, Outcome, Gives, Ended, Paused, Run, Setting}
+use Rattle.source_meaning.specs.Actions.{updated, home_pointer}
+use Rattle.source_meaning.specs.Structures.{as_rvalue, values_of}
 use Rattle.source_meaning.specs.Initializers.{zero_variable}
-use Rattle.source_meaning.specs.Library.{routine}
-use Rattle.source_meaning.specs.Printing.{print_formatted}
 use Rattle.source_meaning.specs.Expressions.{callee}
-use Rattle.source_meaning.specs.Blocks.{pass_or_stop, enter_block}
+use Rattle.source_meaning.specs.Blocks.{pass_or_stop}
 use Rattle.sb_base.specs.declared.ending.Ending.{Ending}
 use Rattle.sb_base.specs.declared.ending.Ending.TheVariants as ending
 use Rattle.source_meaning.specs.Calls.{set_up}
-use Rattle.source_meaning.specs.Judging.{is_within, is_live_tag}
+use Rattle.source_meaning.specs.Judging.{is_within}
 use Rattle.source_meaning.specs.Acting.{at_work, ActsBy, IsAction}
 use Rattle.source_meaning.proofs.Acting.{acts_then, acts_on, acts_done, acts_skip, acts_stop, acts_read, acts_tally}
-use Rattle.source_meaning.proofs.ActionsAct.{acts_set_plain, acts_update_plain, acts_operate, acts_updated, acts_update, acts_take_value, acts_read_rvalue, acts_write_rvalue, acts_callee, acts_set_up, acts_enter_block, acts_zero_variable, acts_store_bytes}
+use Rattle.source_meaning.proofs.ActionsAct.{acts_update_plain, acts_operate, acts_updated, acts_update, acts_take_value, acts_read_rvalue, acts_write_rvalue, acts_callee, acts_set_up, acts_enter_block, acts_zero_variable, acts_store_bytes}
 use Rattle.source_meaning.proofs.LibraryActs.{acts_routine, acts_print}
 use Rattle.tac_ir.specs.declared.instruction.Mode.{Mode}
 use Rattle.tac_ir.specs.declared.instruction.Mode.TheVariants.{Named, Unchecked, Judged}
 use Rattle.tac_ir.specs.declared.instruction.Test.{Test}
 use Rattle.tac_ir.specs.declared.instruction.Test.TheVariants.{Spatial, Temporal}
 use Rattle.tac_ir.specs.declared.instruction.Instruction.{Instruction}
-use Rattle.tac_ir.specs.declared.instruction.Instruction.TheVariants.{Reserved, Constant, FunctionPointer, GetPlain, SetPlain, UpdatePlain, HomePointer, StaticPointer, ZeroOf, Convert, Unary, Binary, Offset, Difference, Narrow, Member, Take, Read, Write, Update, Judge, Zero, StorePart, StoreText, Branch, Case, Turn, Library, Print, Call, CallThrough, EnterBlock, LeaveBlock, Return}
+use Rattle.tac_ir.specs.declared.instruction.Instruction.TheVariants.{SetPlain, UpdatePlain, Binary, Take, Read, Write, Update, Judge, Zero, StorePart, StoreText, Library, Print, Call, CallThrough, EnterBlock, LeaveBlock, Return}
 use Rattle.tac_ir.specs.declared.key.Key.{Key}
 use Rattle.tac_ir.specs.declared.function.CodeFunction.{CodeFunction}
 use Rattle.tac_ir.specs.declared.function.Tac.{Tac}
 use Rattle.tac_ir.specs.Stage.{Temps, gathered, Frame, Waits, Entered, Stage, Begins, Stands, Over, Stuck, came, seen}
 use Rattle.tac_ir.specs.Keys.{gives}
-use Rattle.tac_ir.specs.Accesses.{only_if, is_live_at, is_there, is_inside, is_place, admitted, moved_from, is_home, is_through}
+use Rattle.tac_ir.specs.Accesses.{only_if, is_live_at, is_there, is_place, admitted, moved_from, is_home, is_through}
 use Rattle.tac_ir.specs.Costs.{cost, spent}
-use Rattle.tac_ir.specs.Meaning.{keys_of, objects_in, function_in, text_in, keyed_by, keyed, right_value, part_pointer, check, header_of_code, setting_of_code, given_to, left_for, called_at, called, act, act_at, at_node, step, first_stage, tac_meaning}
+use Rattle.tac_ir.specs.Meaning.{objects_in, function_in, text_in, keyed_by, keyed, right_value, part_pointer, check, header_of_code, setting_of_code, given_to, left_for, called_at, called, act, act_at, at_node, step, first_stage, tac_meaning}
 
 -- no more than so many turns are begun
 abbrev pub Within : ℕ → Stage → Type 0

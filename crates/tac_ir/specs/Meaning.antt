@@ -14,7 +14,7 @@ use Rattle.obj_memory.specs.Judgement.{narrowed}
 use Rattle.c_tree.specs.declared.program.Variable.{Variable}
 use Rattle.c_tree.specs.Kinds.{size_of_kind}
 use Rattle.c_tree.specs.Blocks.{block_objects}
-use Rattle.source_meaning.specs.State.{State, Rvalue, NoObject, Run, ◌>>=◌, ◌>>◌, done, skip, read_state, tally, Header, Setting}
+use Rattle.source_meaning.specs.State.{State, Rvalue, NoObject, Run, ◌>>◌, tally, Header, Setting}
 use Rattle.source_meaning.specs.Actions.{integer, is_zero, int_of, converted, offset_value, difference_value, operate, updated, plain_value, set_plain, update_plain, update, home_pointer}
 use Rattle.source_meaning.specs.Structures.{rvalue, as_rvalue, values_of, take_value, read_rvalue, write_rvalue, member_of, zero_of}
 use Rattle.source_meaning.specs.Library.{routine}

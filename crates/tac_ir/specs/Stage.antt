@@ -1,10 +1,9 @@
 -- Where a run of three-address code is: its node, the values of its temporaries, what it goes back to, and the state,
 -- which is the source's.
-use Rattle.std.specs.Prelude.{ℕ, zero, suc, ◌+◌, ◌==◌, if◌then◌else◌, List, [], ◌∷◌, Option, Some, None}
+use Rattle.std.specs.Prelude.{ℕ, zero, suc, ◌+◌, ◌==◌, if◌then◌else◌, List, [], ◌∷◌, None}
 use Rattle.behaviours.specs.Shown.{nothing_shown}
 use Rattle.behaviours.specs.Behaviour.{Moment}
 use Rattle.sb_base.specs.declared.ending.Ending.{Ending}
-use Rattle.obj_memory.specs.declared.value.Value.{Value}
 use Rattle.source_meaning.specs.State.{State, Rvalue, Outcome, Gives, Ended, Paused}
 use Rattle.source_meaning.specs.Actions.{integer}
 use Rattle.source_meaning.specs.Structures.{rvalue}

@@ -41,13 +41,29 @@ pub enum Instruction {
     /// Nothing stands here yet.
     Reserved,
     /// An integer.
-    Constant { to: usize, word: u64, next: usize },
+    Constant {
+        to: usize,
+        word: u64,
+        next: usize,
+    },
     /// A pointer to a function, by its number.
-    FunctionPointer { to: usize, function: usize, next: usize },
+    FunctionPointer {
+        to: usize,
+        function: usize,
+        next: usize,
+    },
     /// The value of a plain variable.
-    GetPlain { to: usize, variable: usize, next: usize },
+    GetPlain {
+        to: usize,
+        variable: usize,
+        next: usize,
+    },
     /// A plain variable gets a value.
-    SetPlain { variable: usize, from: usize, next: usize },
+    SetPlain {
+        variable: usize,
+        from: usize,
+        next: usize,
+    },
     /// A plain variable is updated, at the line of the operator; the result is the old value or the new one.
     UpdatePlain {
         update: Update,
@@ -60,13 +76,30 @@ pub enum Instruction {
         next: usize,
     },
     /// The pointer to the object of a variable.
-    HomePointer { to: usize, variable: usize, next: usize },
+    HomePointer {
+        to: usize,
+        variable: usize,
+        next: usize,
+    },
     /// The pointer to a static object, by its number.
-    StaticPointer { to: usize, number: usize, next: usize },
+    StaticPointer {
+        to: usize,
+        number: usize,
+        next: usize,
+    },
     /// 0 of a kind.
-    ZeroOf { kind: Kind, to: usize, next: usize },
+    ZeroOf {
+        kind: Kind,
+        to: usize,
+        next: usize,
+    },
     /// A conversion to a kind.
-    Convert { kind: Kind, to: usize, from: usize, next: usize },
+    Convert {
+        kind: Kind,
+        to: usize,
+        from: usize,
+        next: usize,
+    },
     Unary {
         operator: UnaryOperator,
         int_type: IntType,
@@ -117,7 +150,13 @@ pub enum Instruction {
         next: usize,
     },
     /// The contents of a structure value, as an argument or a result has them.
-    Take { kind: Kind, line: Line, to: usize, from: usize, next: usize },
+    Take {
+        kind: Kind,
+        line: Line,
+        to: usize,
+        from: usize,
+        next: usize,
+    },
     /// What a pointer points to, or a part of contents; `key` is the number of the pointer's key.
     Read {
         kind: Kind,
@@ -164,7 +203,10 @@ pub enum Instruction {
         next: usize,
     },
     /// All bytes of the object of a variable become zero.
-    Zero { variable: usize, next: usize },
+    Zero {
+        variable: usize,
+        next: usize,
+    },
     /// A part of the object of a variable gets a value.
     StorePart {
         kind: Kind,
@@ -175,13 +217,30 @@ pub enum Instruction {
         next: usize,
     },
     /// A part of the object of a variable gets the bytes of a text, by its number.
-    StoreText { text: usize, variable: usize, offset: u64, next: usize },
+    StoreText {
+        text: usize,
+        variable: usize,
+        offset: u64,
+        next: usize,
+    },
     /// Two ways, by whether a temporary is 0.
-    Branch { from: usize, not_zero: usize, zero: usize },
+    Branch {
+        from: usize,
+        not_zero: usize,
+        zero: usize,
+    },
     /// Two ways, by whether a temporary is equal to a word.
-    Case { from: usize, word: u64, equal: usize, other: usize },
+    Case {
+        from: usize,
+        word: u64,
+        equal: usize,
+        other: usize,
+    },
     /// A turn of a loop begins; `counted` is its number among the counted loops, if it is one.
-    Turn { counted: Option<usize>, next: usize },
+    Turn {
+        counted: Option<usize>,
+        next: usize,
+    },
     /// A call of a library routine with so many arguments from a temporary on, which gets the result.
     Library {
         routine: Routine,
@@ -216,9 +275,17 @@ pub enum Instruction {
         next: usize,
     },
     /// A block with objects is entered, by its number.
-    EnterBlock { block: usize, line: Line, next: usize },
+    EnterBlock {
+        block: usize,
+        line: Line,
+        next: usize,
+    },
     /// The block that was entered last is left.
-    LeaveBlock { next: usize },
+    LeaveBlock {
+        next: usize,
+    },
     /// The function returns a value.
-    Return { from: usize },
+    Return {
+        from: usize,
+    },
 }

@@ -1,9 +1,9 @@
 -- Runs of steps: a simulation gives that one behaviour follows the other, and what follows a source is never stuck.
-use Rattle.std.proofs.Common.{◌≡◌, ℕ, zero, suc, ◌+◌, ◌-◌, ◌<◌, ◌≤◌, Option, Some, None, refl, sym, ap, ◌∙◌, subst}
-use Rattle.std.proofs.Common.{arith, ◌⊎◌, inl, inr, ⊎_elim}
+use Rattle.std.proofs.Common.{◌≡◌, ℕ, zero, suc, ◌+◌, ◌-◌, ◌≤◌, Some, None, refl, sym, ap, ◌∙◌, subst, arith, ◌⊎◌, inl}
+use Rattle.std.proofs.Common.{inr, ⊎_elim}
 use Rattle.std.proofs.lemmas.Bool.{cases_lt}
 use Rattle.behaviours.specs.Shown.{End, Shown}
-use Rattle.behaviours.specs.Behaviour.{Moment, Behaviour, Meets, Follows, IsSource}
+use Rattle.behaviours.specs.Behaviour.{Moment, Behaviour, Follows, IsSource}
 use Rattle.behaviours.specs.Steps.{run, seen_after, Simulates, IsStepping}
 use Rattle.behaviours.proofs.Following.{running_or_ended}
 

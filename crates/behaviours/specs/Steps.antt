@@ -1,5 +1,5 @@
 -- Runs of a step function, and passes from one step function to another.
-use Rattle.std.specs.Prelude.{◌≡◌, ℕ, zero, suc, ◌+◌, ◌≤◌, Option, Some, None}
+use Rattle.std.specs.Prelude.{◌≡◌, ℕ, zero, suc, ◌+◌, ◌≤◌, Some, None}
 use Rattle.behaviours.specs.Shown.{End}
 use Rattle.behaviours.specs.Behaviour.{Moment, Behaviour, Meets}
 

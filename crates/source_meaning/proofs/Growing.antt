@@ -4,7 +4,7 @@ use Rattle.behaviours.proofs.Moments.{prefix_refl}
 use Rattle.obj_memory.proofs.Continuing.{continues_same}
 use Rattle.source_meaning.specs.State.{State, Outcome, Gives, Ended, Paused, Run, on, ◌>>=◌, done, pause, choose}
 use Rattle.source_meaning.specs.Acting.{Later, ActsBy, IsAction, state_of}
-use Rattle.source_meaning.specs.Turns.{GoesLater, IsBelow, LeadsTo, IsWithin, PausesAt}
+use Rattle.source_meaning.proofs.Turning.{GoesLater, IsBelow, LeadsTo, IsWithin, PausesAt}
 use Rattle.source_meaning.proofs.Acting.{later_same, later_then, acts_done}
 
 later_of_action : {A : Type 0} (k : ℕ) (s : State) (o o' : Outcome A) → ActsBy k s o o' → Later s (state_of o)

@@ -6,6 +6,7 @@ pub mod LibraryActs
 pub mod Related
 pub mod RelatedFlow
 pub mod Stays
+pub mod Turning
 pub mod Growing
 pub mod TurnLaws
 pub mod LimitLaw

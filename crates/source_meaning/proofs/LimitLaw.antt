@@ -14,7 +14,7 @@ use Rattle.source_meaning.specs.Actions.{begin_turn}
 use Rattle.source_meaning.specs.Statements.{after_body, turns, turns_before}
 use Rattle.source_meaning.specs.Calls.{enter_begun, enter_found, function_at, calls}
 use Rattle.source_meaning.specs.Meaning.{setting_of, start, line_of, moment_of, meaning}
-use Rattle.source_meaning.specs.Turns.{GoesLater, LeadsTo, IsWithin, PausesAt}
+use Rattle.source_meaning.proofs.Turning.{GoesLater, LeadsTo, IsWithin, PausesAt}
 use Rattle.source_meaning.proofs.Acting.{acts_done, acts_skip, acts_stop}
 use Rattle.source_meaning.proofs.Growing.{later_on, pauses_on, later_done, later_choose, pauses_action, pauses_less, pauses_choose}
 use Rattle.source_meaning.proofs.Related.{Related}

@@ -18,7 +18,6 @@ use Rattle.obj_memory.specs.declared.value.Scalar.{Scalar}
 use Rattle.obj_memory.specs.declared.value.Scalar.TheVariants.{Integer, Pointer}
 use Rattle.obj_memory.specs.Integers.{fit}
 use Rattle.c_tree.specs.Valid.{Scope, within, is_operand}
-use Rattle.source_meaning.specs.Keeping.{IsNoStructure}
 use Rattle.c_tree.specs.Blocks.{all_of, body_variables, block_variables, switch_variables, first_variables}
 use Rattle.c_tree.specs.ValidProgram.{name_variables, signatures_of}
 
@@ -33,6 +32,13 @@ IsScalar Void = ⊥
 IsScalar (OfScalar k) = Unit {0}
 IsScalar (Structure n) = ⊥
 IsScalar (Array n) = ⊥
+
+-- a kind of values that have no contents
+abbrev pub IsNoStructure : Kind → Type 0
+IsNoStructure Void = Unit {0}
+IsNoStructure (OfScalar k) = Unit {0}
+IsNoStructure (Structure n) = ⊥
+IsNoStructure (Array n) = Unit {0}
 
 -- a plain variable that can be named is of a type
 abbrev pub PlainNames : Scope → (variable : ℕ) → Kind → Type 0

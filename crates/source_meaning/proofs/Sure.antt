@@ -18,8 +18,8 @@ use Rattle.source_meaning.specs.State.{State, Rvalue, Outcome, Gives, Ended, Pau
 use Rattle.c_tree.specs.Kinds.{size_of_kind}
 use Rattle.source_meaning.specs.Structures.{rvalue, give, as_rvalue, as_pointer, values_of}
 use Rattle.source_meaning.specs.Expressions.{counted_as, counted}
-use Rattle.source_meaning.proofs.Naming.{IsWritable}
-use Rattle.source_meaning.specs.Keeping.{AreTagged, IsNoStructure}
+use Rattle.source_meaning.proofs.Naming.{IsNoStructure, IsWritable}
+use Rattle.source_meaning.specs.Keeping.{AreTagged}
 use Rattle.source_meaning.specs.Keeping.{LivesOn, IsDirect, AreSeparate}
 use Rattle.source_meaning.proofs.Separating.{separate_kept, ends_as_many, ends_same, ends_then}
 use Rattle.source_meaning.proofs.Holding.{all_lie_on, lives_same, lives_then, lives_kept, named_on, held_on}

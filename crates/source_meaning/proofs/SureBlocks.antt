@@ -223,7 +223,7 @@ module _ (base : Scope) (sizes : MapSizes) (all vars : List Variable) (numbers :
 
   -- a block without objects
 
-  good_inside : (s : State) → has_objects own ≡ false → IsGood sc s → IsGood inner s
+  pub good_inside : (s : State) → has_objects own ≡ false → IsGood sc s → IsGood inner s
   good_inside s none good = record {
     kept = good.kept;
     low = good.low;

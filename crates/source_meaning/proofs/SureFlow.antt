@@ -13,10 +13,9 @@ use Rattle.source_meaning.specs.Statements.{Normal, Broken, Continued, Returned}
 use Rattle.source_meaning.specs.State.{Run, done, pause, choose, change, Env}
 use Rattle.source_meaning.specs.Actions.{integer, begin_turn}
 use Rattle.source_meaning.specs.Statements.{next_after, in_order, holds, perform, perform_first, after_body, turns, turns_before, LabeledRun, run_labeled, is_case_of, is_default, labels_from, items_at, items_from, labels_of, compared, or_default, run_items, after_switch, run_switch, in_block, execute, each_of, items_of}
-use Rattle.source_meaning.proofs.Naming.{NamesIfAny, FirstNames, StatementNames, StatementsName, ItemsName}
+use Rattle.source_meaning.proofs.Naming.{IsNoStructure, NamesIfAny, FirstNames, StatementNames, StatementsName, ItemsName}
 use Rattle.c_tree.specs.declared.program.Variable.{Variable}
 use Rattle.c_tree.specs.declared.expression.Kind.{Kind}
-use Rattle.source_meaning.specs.Keeping.{IsNoStructure}
 use Rattle.source_meaning.specs.Structures.{rvalue}
 use Rattle.c_tree.specs.Blocks.{opened, block_variables, switch_variables, first_variables}
 use Rattle.source_meaning.proofs.SureBlocks.{scoped_sure}
@@ -103,15 +102,15 @@ module _ (sc : Context) (result : Kind) where
       sure_on (run_sure (or_default (items_from (is_case_of word) all) all) (default_sure (items_from (is_case_of word) all) (from_sure (is_case_of word) all h) all h)) switched_sure)
 
 module _ {sc : Context} {env : Env} (c : Calling sc env) where
-  holds_sure : (e : Option Expression) → NamesIfAny sc.scope e → Sure sc Any (holds env e) (λ _. Any)
+  pub holds_sure : (e : Option Expression) → NamesIfAny sc.scope e → Sure sc Any (holds env e) (λ _. Any)
   holds_sure None h = sure_done (λ o p. tt)
   holds_sure (Some e) h = sure_on (evaluate_sure c e h) (λ v. sure_done (λ o p. tt))
 
-  perform_sure : (e : Option Expression) → NamesIfAny sc.scope e → Sure sc Any (perform env e) (λ _. Any)
+  pub perform_sure : (e : Option Expression) → NamesIfAny sc.scope e → Sure sc Any (perform env e) (λ _. Any)
   perform_sure None h = sure_skip
   perform_sure (Some e) h = sure_on (evaluate_sure c e h) (λ v. sure_any sure_skip)
 
-  first_sure : (f : First) → FirstNames sc.scope f → Sure sc Any (perform_first env f) (λ _. Any)
+  pub first_sure : (f : First) → FirstNames sc.scope f → Sure sc Any (perform_first env f) (λ _. Any)
   first_sure nothing h = sure_skip
   first_sure (first_expression e) h = perform_sure (Some e) h
   first_sure (first_declaration ds) h = initialize_all_sure c ds h

@@ -42,21 +42,21 @@ use Rattle.source_meaning.proofs.SureBytes.{sure_print}
 
 -- calls
 
-abbrev NamesFound : ProgramNames → Option Function → Type 0
+abbrev pub NamesFound : ProgramNames → Option Function → Type 0
 NamesFound u None = Unit {0}
 NamesFound u (Some f) = FunctionNames u f
 
-found_names : (u : ProgramNames) (fs : List Function) → FunctionsName u fs → (f : ℕ) → NamesFound u (function_at fs f)
+pub found_names : (u : ProgramNames) (fs : List Function) → FunctionsName u fs → (f : ℕ) → NamesFound u (function_at fs f)
 found_names u [] h f = tt
 found_names u (x ∷ xs) h zero = h.0
 found_names u (x ∷ xs) h (suc f) = found_names u xs h.1 f
 
 -- the signature of a function is that of its type
-abbrev SignatureIs : List Signature → Signature → Option Function → Type 0
+abbrev pub SignatureIs : List Signature → Signature → Option Function → Type 0
 SignatureIs types q None = Unit {0}
 SignatureIs types q (Some f) = q ≡ signature_in types f.type_number
 
-signature_found : (types : List Signature) (fs : List Function) (f : ℕ) → SignatureIs types (signature_in (function_signatures types fs) f) (function_at fs f)
+pub signature_found : (types : List Signature) (fs : List Function) (f : ℕ) → SignatureIs types (signature_in (function_signatures types fs) f) (function_at fs f)
 signature_found types [] f = tt
 signature_found types (x ∷ xs) zero = refl
 signature_found types (x ∷ xs) (suc f) = signature_found types xs f
@@ -163,7 +163,7 @@ placed_held first (o ∷ os) offset (suc n) kind e =
 
 -- their initializers
 
-abbrev static_context : ProgramNames → Setting → Context
+abbrev pub static_context : ProgramNames → Setting → Context
 static_context u g = record { scope = file_scope u; sizes = g.sizes }
 
 pause_calls : (g : Setting) → AreMapped g.sizes → (sc : Context) → g.sizes ≡ sc.sizes
@@ -194,7 +194,7 @@ module _ (g : Setting) (mapped : AreMapped g.sizes) (u : ProgramNames) (typed : 
       sure_on (part_stored p o (name_variables o.parts) refl names.0) (λ _.
       store_sure (n + 1) os (rest_kinds n o os from) names.1))
 
-abbrev GoodStart : ProgramNames → Setting → (input : List ℕ) → Objects → Type 0
+abbrev pub GoodStart : ProgramNames → Setting → (input : List ℕ) → Objects → Type 0
 GoodStart u g input objects = IsGood (static_context u g) (fresh g objects input)
 
 -- a good state at which nothing has been done, with these objects
@@ -283,10 +283,10 @@ module _ (p : Program) (budgets : BudgetSizes) (mapped : AreMapped (setting_of p
   results_of (t ∷ ts) zero = refl
   results_of (t ∷ ts) (suc type) = results_of ts type
 
-  is_setting : IsSettingOf (names_of p) p.functions (setting_of p budgets)
+  pub is_setting : IsSettingOf (names_of p) p.functions (setting_of p budgets)
   is_setting = record { headers = refl; signatures = refl; results = results_of p.function_types }
 
-  typed_start : (f type : ℕ) → has_type (header_at (setting_of p budgets).functions f) type ≡ true → signature_in (names_of p).functions f ≡ signature_in (names_of p).types type
+  pub typed_start : (f type : ℕ) → has_type (header_at (setting_of p budgets).functions f) type ≡ true → signature_in (names_of p).functions f ≡ signature_in (names_of p).types type
   typed_start f type e = typed_found (names_of p).types p.functions f type e
 
   abbrev placed : Objects

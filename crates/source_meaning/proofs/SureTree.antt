@@ -7,7 +7,6 @@ use Rattle.obj_memory.proofs.Words.{fit_twice, fit_zero}
 use Rattle.obj_memory.proofs.Typed.{truth_stays}
 use Rattle.c_tree.specs.Kinds.{pointer, class_of, are_operands, routine_signature}
 use Rattle.c_tree.specs.Valid.{Scope}
-use Rattle.source_meaning.specs.Keeping.{IsNoStructure}
 use Rattle.source_meaning.proofs.Fitting.{unary_fits, binary_fits}
 use Rattle.source_meaning.proofs.ValidNames.{none_routine}
 use Rattle.obj_memory.specs.declared.value.Tag.{Tag}
@@ -34,7 +33,7 @@ use Rattle.source_meaning.specs.Actions.{integer, is_zero, scalar_of, integer_ty
 use Rattle.source_meaning.specs.Structures.{rvalue, give, as_rvalue, values_of, write_rvalue, read_rvalue, member_of}
 use Rattle.source_meaning.specs.Expressions.{header_at, has_type, callee_by, callee, argument, counted, nodes_of, is_judged, is_node_judged, value, place, node_place, values, evaluate}
 use Rattle.source_meaning.specs.Initializers.{store_bytes, store_content, store_parts, initialize, initialize_all}
-use Rattle.source_meaning.proofs.Naming.{IsStructureWith, IsConstantOf, PlainNames, UpdatesKind, ValueNames, LvalueNames, PlaceNames, RowNames, Names, ContentNames, PartsName, InitializerNames, DeclaredName}
+use Rattle.source_meaning.proofs.Naming.{IsNoStructure, IsStructureWith, IsConstantOf, PlainNames, UpdatesKind, ValueNames, LvalueNames, PlaceNames, RowNames, Names, ContentNames, PartsName, InitializerNames, DeclaredName}
 use Rattle.source_meaning.specs.Keeping.{IsNamed}
 use Rattle.source_meaning.proofs.Holding.{direct_less, direct_narrowed, named_less, named_narrowed, named_on, held_named}
 use Rattle.source_meaning.proofs.Laying.{low_word}
@@ -153,7 +152,7 @@ structure_reach functions (OfScalar s) bytes v h k = absurd h
 structure_reach functions (Structure n) bytes v h k = k n h (λ o d. d)
 structure_reach functions (Array n) bytes v h k = absurd h
 
-home_sure : {sc : Context} (x : ℕ) (kind : Kind) → object_kind sc.scope.variables x ≡ Some kind → (s : State) → IsGood sc s → PlaceIs (function_count sc) OnName kind (home_pointer x s) s.objects
+pub home_sure : {sc : Context} (x : ℕ) (kind : Kind) → object_kind sc.scope.variables x ≡ Some kind → (s : State) → IsGood sc s → PlaceIs (function_count sc) OnName kind (home_pointer x s) s.objects
 home_sure {sc = sc} x kind e s good =
     let h = good.homes x kind e in
     subst (λ (home : Home). PlaceIs (function_count sc) OnName kind (home_value home s.objects) s.objects) (sym h.home)
@@ -318,13 +317,13 @@ module _ {sc : Context} {env : Env} (c : Calling sc env) where
   -- initializers
 
   -- a pointer to all bytes of an object that lives on
-  abbrev IsBase : Value → (size : ℕ) → Objects → Type 0
+  abbrev pub IsBase : Value → (size : ℕ) → Objects → Type 0
   IsBase p size o = IsTagged (function_count sc) p o × IsNamed o p size
 
-  stable_base : (p : Value) (size : ℕ) → IsStable (IsBase p size)
+  pub stable_base : (p : Value) (size : ℕ) → IsStable (IsBase p size)
   stable_base p size old new l h = (stable_tag _ p old new l h.0, named_on old new l p size h.1)
 
-  base_part : (p : Value) (whole offset size : ℕ) → offset + size ≤ whole → (s : State) → IsGood sc s → IsBase p whole s.objects → IsBase (narrowed offset size p) size s.objects
+  pub base_part : (p : Value) (whole offset size : ℕ) → offset + size ≤ whole → (s : State) → IsGood sc s → IsBase p whole s.objects → IsBase (narrowed offset size p) size s.objects
   base_part p whole offset size le s good h = (sound_narrowed _ s.objects offset size p h.0, named_narrowed s.objects p whole offset size h.1 (good.low h.1.direct.object) le)
 
   bytes_sure : (p : Value) (whole offset : ℕ) (bytes : List ℕ) → offset + length bytes ≤ whole → Sure sc (IsBase p whole) (store_bytes p offset bytes) (λ _. IsBase p whole)
@@ -335,7 +334,7 @@ module _ {sc : Context} {env : Env} (c : Calling sc env) where
       (sure_frame (stable_base p whole) (sure_store OnName (Integer Char) (narrowed offset 1 p) 0 (integer b))))) (λ _.
       bytes_sure p whole (offset + 1) bs (omega (arith, le)))
 
-  content_sure : (p : Value) (whole offset : ℕ) (content : Content) → ContentNames sc.scope whole offset content → Sure sc (IsBase p whole) (store_content env p offset content) (λ _. IsBase p whole)
+  pub content_sure : (p : Value) (whole offset : ℕ) (content : Content) → ContentNames sc.scope whole offset content → Sure sc (IsBase p whole) (store_content env p offset content) (λ _. IsBase p whole)
   content_sure p whole offset (value_content e) h =
       sure_on (sure_beside (stable_base p whole) (evaluate_sure e h.0)) (λ v.
       sure_on (sure_post (λ _ o x. x.0) (sure_if_good (λ s good x. (
@@ -352,7 +351,7 @@ module _ {sc : Context} {env : Env} (c : Calling sc env) where
   parts_sure p whole [] h = sure_done (λ o x. tt)
   parts_sure p whole (q ∷ qs) h = sure_on (content_sure p whole q.offset q.content h.0) (λ _. parts_sure p whole qs h.1)
 
-  initialize_sure : (x : ℕ) (i : Option Initializer) → InitializerNames sc.scope x i → Sure sc Any (initialize env x i) (λ _. Any)
+  pub initialize_sure : (x : ℕ) (i : Option Initializer) → InitializerNames sc.scope x i → Sure sc Any (initialize env x i) (λ _. Any)
   initialize_sure x None h = sure_skip
   initialize_sure x (Some (of_plain e)) h =
       sure_on (evaluate_sure e h.0) (λ v. sure_post (λ _ o y. tt) (set_sure x (kind_of e) h.1 v))

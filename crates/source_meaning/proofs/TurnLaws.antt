@@ -18,7 +18,8 @@ use Rattle.source_meaning.specs.Statements.{after_body, turns, turns_before}
 use Rattle.source_meaning.specs.Calls.{enter_found, function_at, calls}
 use Rattle.source_meaning.specs.Meaning.{setting_of, initial_objects, start, line_of, outcome, moment_at, ended_at, moment_of, meaning}
 use Rattle.source_meaning.specs.Acting.{Later, state_of}
-use Rattle.source_meaning.specs.Turns.{GoesOn, Grows, GoesLater, IsBelow, LeadsTo}
+use Rattle.source_meaning.specs.Turns.{GoesOn, Grows}
+use Rattle.source_meaning.proofs.Turning.{GoesLater, IsBelow, LeadsTo}
 use Rattle.source_meaning.proofs.Acting.{later_same, acts_done, acts_skip}
 use Rattle.source_meaning.proofs.Growing.{later_on, leads_on, later_done, later_pause, later_choose, leads_action, leads_pause, leads_choose, later_turn}
 use Rattle.source_meaning.proofs.Related.{Related}

@@ -20,8 +20,7 @@ use Rattle.c_tree.specs.Kinds.{is_size, is_step_operator, integer, pointer, int_
 use Rattle.c_tree.specs.Valid.{is_constant, is_plain, is_operand, is_conversion, is_right_of, is_update, is_step, is_call, no_signature, is_lvalue, is_lvalue_node, is_member, is_valid, is_node, are_valid, is_valid_lvalue, is_valid_lvalue_node}
 use Rattle.c_tree.specs.declared.program.Variable.{Variable}
 use Rattle.c_tree.specs.Valid as valid
-use Rattle.source_meaning.proofs.Naming.{IsWritable, IsStructureWith, IsConstantOf, PlainNames, UpdatesKind, Names, ValueNames, LvalueNames, PlaceNames, RowNames}
-use Rattle.source_meaning.specs.Keeping.{IsNoStructure}
+use Rattle.source_meaning.proofs.Naming.{IsNoStructure, IsWritable, IsStructureWith, IsConstantOf, PlainNames, UpdatesKind, Names, ValueNames, LvalueNames, PlaceNames, RowNames}
 
 -- tests that hold
 
@@ -179,7 +178,7 @@ no_more : (n m : ℕ) → (n == m) ≡ true → n ≤ m
 no_more n m e = let same = eqb-true n m e in omega arith
 
 mutual
-  writable : (p : Lvalue) → is_lvalue p ≡ true → IsWritable (basis_of p)
+  pub writable : (p : Lvalue) → is_lvalue p ≡ true → IsWritable (basis_of p)
   writable (lvalue kind line node) e = node_writable node e
 
   node_writable : (n : LvalueNode) → is_lvalue_node n ≡ true → IsWritable (node_basis n)

@@ -31,10 +31,10 @@ within_agree {scope = scope} numbers g = record {
 }
 
 module _ {scope : valid.Scope} {sc : Scope} (g : Agree scope sc) where
-  condition_names : (e : Expression) → is_condition scope e ≡ true → Names sc e
+  pub condition_names : (e : Expression) → is_condition scope e ≡ true → Names sc e
   condition_names e h = names g e (both (is_valid scope e) (is_scalar (kind_of e)) h).0
 
-  content_names : (size offset : ℕ) (content : Content) → is_content scope content ≡ true → nat_le (offset + content_size content) size ≡ true → ContentNames sc size offset content
+  pub content_names : (size offset : ℕ) (content : Content) → is_content scope content ≡ true → nat_le (offset + content_size content) size ≡ true → ContentNames sc size offset content
   content_names size offset (value_content e) h fits = (names g e (both (is_valid scope e) (is_value (kind_of e)) h).0, leb-true (offset + size_of_kind (kind_of e)) size fits)
   content_names size offset (literal_content bytes) h fits = leb-true (offset + length bytes) size fits
 
@@ -45,7 +45,7 @@ module _ {scope : valid.Scope} {sc : Scope} (g : Agree scope sc) where
       let q = both (is_content scope p.content) (nat_le (p.offset + content_size p.content) size) e.0 in
       (content_names size p.offset p.content q.0 q.1, parts_names size ps e.1)
 
-  initializer_names : (x : ℕ) (i : Option Initializer) → is_initializer scope x i ≡ true → InitializerNames sc x i
+  pub initializer_names : (x : ℕ) (i : Option Initializer) → is_initializer scope x i ≡ true → InitializerNames sc x i
   initializer_names x None h = tt
   initializer_names x (Some (of_plain e)) h = let q = both (is_valid scope e) (is_plain scope x (kind_of e)) h in (names g e q.0, plain_names g x (kind_of e) q.1)
   initializer_names x (Some (of_object parts)) h =
@@ -57,20 +57,20 @@ module _ {scope : valid.Scope} {sc : Scope} (g : Agree scope sc) where
   declared_names [] h = tt
   declared_names (d ∷ ds) h = let e = both (is_initializer scope d.variable d.initializer) (are_declared scope ds) h in (initializer_names d.variable d.initializer e.0, declared_names ds e.1)
 
-  first_names : (f : First) → is_first scope f ≡ true → FirstNames sc f
+  pub first_names : (f : First) → is_first scope f ≡ true → FirstNames sc f
   first_names nothing h = tt
   first_names (first_expression e) h = names g e h
   first_names (first_declaration ds) h = declared_names ds h
 
-  condition_if : (e : Option Expression) → is_condition_if scope e ≡ true → NamesIfAny sc e
+  pub condition_if : (e : Option Expression) → is_condition_if scope e ≡ true → NamesIfAny sc e
   condition_if None h = tt
   condition_if (Some e) h = condition_names e h
 
-  expression_if : (e : Option Expression) → is_expression_if scope e ≡ true → NamesIfAny sc e
+  pub expression_if : (e : Option Expression) → is_expression_if scope e ≡ true → NamesIfAny sc e
   expression_if None h = tt
   expression_if (Some e) h = names g e h
 
-  return_names : (e : Option Expression) → is_return scope e ≡ true → ReturnNames sc e
+  pub return_names : (e : Option Expression) → is_return scope e ≡ true → ReturnNames sc e
   return_names None h = sym g.result ∙ same_kind scope.result Void h
   return_names (Some e) h =
       let q = three (is_valid scope e) (is_kind (kind_of e) scope.result) (is_value (kind_of e)) h in (names g e q.0, same_kind (kind_of e) scope.result q.1 ∙ g.result)
@@ -107,7 +107,7 @@ mutual
   row_names {scope = scope} g inside (statements s ss) h =
       let q = both (is_statement scope inside s) (are_statements scope inside ss) h in (statement_names g inside s q.0, row_names g inside ss q.1)
 
-  item_names : {scope : valid.Scope} {sc : Scope} (g : Agree scope sc) (inside : Inside) (is : SwitchItems) → are_items scope inside is ≡ true → ItemsName sc is
+  pub item_names : {scope : valid.Scope} {sc : Scope} (g : Agree scope sc) (inside : Inside) (is : SwitchItems) → are_items scope inside is ≡ true → ItemsName sc is
   item_names g inside no_items h = tt
   item_names {scope = scope} g inside (items labels s is) h =
       let q = both (is_statement scope inside s) (are_items scope inside is) h in (statement_names g inside s q.0, item_names g inside is q.1)
@@ -144,7 +144,7 @@ module _ (p : Program) where
   parameter_kinds (v ∷ vs) (k ∷ ks) e =
       let q = three (is_kind v.kind k) (is_value k) (are_parameters vs ks) e in ap (λ x. x ∷ kinds_in vs) (same_kind v.kind k q.0) ∙ ap (λ xs. k ∷ xs) (parameter_kinds vs ks q.2)
 
-  function_names : (n : ℕ) (f : Function) → is_function p n f ≡ true → FunctionNames (names_of p) f
+  pub function_names : (n : ℕ) (f : Function) → is_function p n f ≡ true → FunctionNames (names_of p) f
   function_names n f e =
       let q = six _ (are_parameters f.parameters (signature_at p f.type_number).parameters) _ _ (are_statements (function_scope p f) (record { may_break = false; may_continue = false }) f.body) _ e in
       record {

@@ -12,8 +12,6 @@ use Rattle.addr_map.specs.Places.{MapSizes, region_start, region_end}
 use Rattle.obj_memory.specs.Objects.{ObjectState, Objects, object_at}
 use Rattle.obj_memory.specs.Heap.{is_allocated, object_room}
 use Rattle.obj_memory.specs.Sound.{IsSound, IsSoundTag, AreDisjoint, Continues}
-use Rattle.c_tree.specs.declared.expression.Kind.{Kind}
-use Rattle.c_tree.specs.declared.expression.Kind.TheVariants.{Void, Scalar as OfScalar, Structure, Array}
 use Rattle.source_meaning.specs.State.{State}
 use Rattle.source_meaning.specs.Actions.{integer}
 
@@ -91,9 +89,3 @@ pub record AreSeparate (sizes : MapSizes) (stacked : ℕ) (objects : Objects) : 
       → (object_at objects n).address + (object_at objects n).size ≤ stacked
   pub bottom : region_start sizes Stack ≤ stacked
   pub top : stacked ≤ region_end sizes Stack
-
-abbrev pub IsNoStructure : Kind → Type 0
-IsNoStructure Void = Unit {0}
-IsNoStructure (OfScalar k) = Unit {0}
-IsNoStructure (Structure n) = ⊥
-IsNoStructure (Array n) = Unit {0}

@@ -1,5 +1,5 @@
 -- What makes a program valid, each rule both ways: a program that breaks just this rule, and beside it one that keeps it.
-use Rattle.std.proofs.Common.{◌≡◌, ◌∷◌, [], ◌^◌, ◌+◌, Some, None, refl, true, false}
+use Rattle.std.proofs.Common.{◌≡◌, ℕ, ◌∷◌, [], ◌^◌, ◌+◌, ◌-◌, Some, None, refl, true, false}
 use Rattle.c_tree.specs.Programs.{Program}
 use Rattle.c_tree.specs.Statements.{Statement, expression_statement, declaration, if_then, empty, return, while_do}
 use Rattle.c_tree.specs.Tree.{automatic, static}
@@ -11,11 +11,12 @@ use Rattle.c_tree.specs.declared.expression.Update.TheVariants.{Arithmetic}
 use Rattle.obj_memory.specs.declared.int_type.IntType.TheVariants.{Int, Long}
 use Rattle.obj_memory.specs.declared.operator.BinaryOperator.{BinaryOperator}
 use Rattle.obj_memory.specs.declared.operator.BinaryOperator.TheVariants.{Add, Multiply}
+use Rattle.c_tree.specs.declared.expression.OffsetForm.TheVariants.{PointerPlusIndex}
 use Rattle.c_tree.specs.declared.expression.Kind.{Kind}
 use Rattle.c_tree.specs.declared.program.Variable.{Variable}
 use Rattle.c_tree.specs.Programs.{StaticObject, FunctionType}
 use Rattle.c_tree.specs.Tree.{Expression}
-use Rattle.source_meaning_rows.proofs.Samples.{computing, none, one, two, int, integer_kind, pointer, number, cast, convert, function, address, read, lvalue, member, step_plain, plain_variable, object_variable, without_value, content, part, static_object, static_within, main_alone, main_type, function_type, defined, program_of}
+use Rattle.source_meaning_rows.proofs.Samples.{computing, none, one, two, int, integer_kind, pointer, number, cast, convert, function, address, read, lvalue, member, arrow, offset, step_plain, plain_variable, object_variable, without_value, content, part, static_object, static_within, main_alone, main_type, function_type, defined, program_of}
 
 -- `int main(void){E;return 0;}`
 main_of : Expression → Program
@@ -66,6 +67,60 @@ member_of_one_byte : is_valid_program (member_of (Array 1)) ≡ true
 unfolding member_of computing
 member_of_one_byte = refl
 
+-- Behind a pointer it has at most 2^32, with the bytes before it.
+
+member_behind : Kind → (at : ℕ) → Program
+member_behind kind at = main_of (address 1 (arrow 1 kind at (cast 1 pointer (number 1 0))))
+
+member_of_most_bytes : is_valid_program (member_behind (Array (2 ^ 32 - 8)) 8) ≡ true
+unfolding member_behind main_of computing
+member_of_most_bytes = refl
+
+member_of_more_bytes : is_valid_program (member_behind (Array (2 ^ 32 - 7)) 8) ≡ false
+unfolding member_behind main_of computing
+member_of_more_bytes = refl
+
+-- So has an element, by which a pointer is moved.
+
+moved_by : Expression → (size : ℕ) → Program
+moved_by index size = main_alone none none 208 (two (expression_statement (offset 1 PointerPlusIndex size (cast 1 pointer (number 1 0)) index)) (return (Some (number 1 0))))
+
+element_of_no_bytes : is_valid_program (moved_by (number 1 1) 0) ≡ false
+unfolding moved_by computing
+element_of_no_bytes = refl
+
+element_of_one_byte : is_valid_program (moved_by (number 1 1) 1) ≡ true
+unfolding moved_by computing
+element_of_one_byte = refl
+
+element_of_most_bytes : is_valid_program (moved_by (number 1 1) (2 ^ 32)) ≡ true
+unfolding moved_by computing
+element_of_most_bytes = refl
+
+element_of_more_bytes : is_valid_program (moved_by (number 1 1) (2 ^ 32 + 1)) ≡ false
+unfolding moved_by computing
+element_of_more_bytes = refl
+
+-- An index counts as it stands, also where it has another type: it is not converted.
+
+converted_index : is_valid_program (moved_by (convert (integer_kind Long) (number 1 1)) 1) ≡ false
+unfolding moved_by computing
+converted_index = refl
+
+cast_index : is_valid_program (moved_by (cast 1 (integer_kind Long) (number 1 1)) 1) ≡ true
+unfolding moved_by computing
+cast_index = refl
+
+-- A constant is a word of its type.
+
+greatest_int : is_valid_program (main_of (number 1 (2 ^ 31 - 1))) ≡ true
+unfolding main_of computing
+greatest_int = refl
+
+above_int : is_valid_program (main_of (number 1 (2 ^ 31))) ≡ false
+unfolding main_of computing
+above_int = refl
+
 -- A variable that is no object is a scalar.
 
 plain_of : Kind → Program
@@ -95,6 +150,10 @@ empty_in_a_branch = refl
 declared_in_a_loop : is_valid_program (main_alone none none 168 (two (while_do (number 1 0) (declaration none)) (return (Some (number 1 0))))) ≡ false
 unfolding computing
 declared_in_a_loop = refl
+
+empty_in_a_loop : is_valid_program (main_alone none none 168 (two (while_do (number 1 0) empty) (return (Some (number 1 0))))) ≡ true
+unfolding computing
+empty_in_a_loop = refl
 
 -- Each variable is declared once, in the order of the numbers.
 

@@ -1,0 +1,62 @@
+-- When a program in three-address code is a program lowered.
+use Rattle.std.specs.Prelude.{◌≡◌, ◌≤◌, ℕ, max, List, map, Option, Some, None, slice_get, get_or}
+use Rattle.sb_base.specs.Budgets.{BudgetSizes}
+use Rattle.c_tree.specs.declared.expression.Kind.{Kind}
+use Rattle.c_tree.specs.declared.expression.Kind.TheVariants.{Void}
+use Rattle.c_tree.specs.Programs.{Function, FunctionType, StaticObject, Program}
+use Rattle.c_tree.specs.Room.{function_height}
+use Rattle.c_tree.specs.Blocks.{all_of}
+use Rattle.c_tree.specs.Statements.{Statements}
+use Rattle.source_meaning.specs.Calls.{header_of, function_at}
+use Rattle.source_meaning.specs.Meaning.{statics_end, setting_of, initial_objects}
+use Rattle.tac_ir.specs.declared.instruction.Instruction.{Instruction}
+use Rattle.tac_ir.specs.declared.instruction.Instruction.TheVariants as tac
+use Rattle.tac_ir.specs.Temporaries.{temporaries}
+use Rattle.tac_ir.specs.declared.function.CodeFunction.{CodeFunction}
+use Rattle.tac_ir.specs.declared.function.Tac.{Tac}
+use Rattle.tac_ir.specs.Meaning.{header_of_code, objects_before}
+use Rattle.c_lower.specs.Placed.{Placed, Holds}
+use Rattle.c_lower.specs.Statements.{Exits, LowersStatements}
+
+-- the exits of a function's body: its end, and its return
+abbrev pub function_exits : (end return : ℕ) → Exits
+function_exits end return = record { next = end; breaks = end; continues = end; returns = return }
+
+-- the body of a function, at whose end it gives 0 of its kind, and its only return
+abbrev pub LowersBody : Placed → (result : Kind) → (entry : ℕ) → Statements → Type 0
+LowersBody c result entry body =
+    (end : ℕ) × (return : ℕ) × LowersStatements c body entry (function_exits end return)
+    × Holds c end (tac.ZeroOf result 0 return) × Holds c return (tac.Return 0)
+
+abbrev pub placed_in : (texts : List (List ℕ)) → Function → CodeFunction → Placed
+placed_in texts f c = record { code = c.code; keys = c.keys; blocks = c.blocks; loops = c.loops; texts = texts; variables = all_of f }
+
+-- its temporaries are no more than the values that are needed at once while the highest of its expressions is evaluated,
+-- and one for its result
+pub record LowersFunction (texts : List (List ℕ)) (result : Kind) (height : ℕ) (f : Function) (c : CodeFunction) : Type 0 where
+  pub header : header_of_code c ≡ header_of f
+  pub homes : (n : ℕ) (i : Instruction) → slice_get c.code n ≡ Some i → temporaries i ≤ max 1 height
+  pub body : LowersBody (placed_in texts f c) result c.entry f.body
+
+abbrev pub result_in : List Kind → Option Function → Kind
+result_in results None = Void
+result_in results (Some f) = get_or results f.type_number Void
+
+abbrev pub height_in : List StaticObject → (number : ℕ) → Option Function → ℕ
+height_in statics n None = 0
+height_in statics n (Some f) = function_height statics n f
+
+abbrev pub LowersAt : (texts : List (List ℕ)) → (result : Kind) → (height : ℕ) → Option Function → Option CodeFunction → Type 0
+LowersAt texts result height None None = Unit {0}
+LowersAt texts result height None (Some c) = ⊥
+LowersAt texts result height (Some f) None = ⊥
+LowersAt texts result height (Some f) (Some c) = LowersFunction texts result height f c
+
+-- the code of a program: its functions by number, and its static objects as they are before the run
+pub record IsLowered (p : Program) (t : Tac) : Type 0 where
+  pub headers : map header_of_code t.functions ≡ map header_of p.functions
+  pub results : t.results ≡ map (λ (f : FunctionType). f.result) p.function_types
+  pub main : t.main ≡ p.main
+  pub bytes : t.global_bytes ≡ statics_end p.statics 0
+  pub statics : (budgets : BudgetSizes) → objects_before t (setting_of p budgets) ≡ initial_objects p (setting_of p budgets)
+  pub functions : (f : ℕ) → LowersAt t.texts (result_in t.results (function_at p.functions f)) (height_in p.statics f (function_at p.functions f)) (function_at p.functions f) (slice_get t.functions f)

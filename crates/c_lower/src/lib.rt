@@ -1,0 +1,4 @@
+//! Lowering: when code in three-address form stands for a typed program, and that it then does what the program means.
+#![tactic(auto)]
+
+pub mod laws;

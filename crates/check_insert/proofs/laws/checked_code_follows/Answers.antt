@@ -1,0 +1,5 @@
+use Rattle.check_insert.proofs.Insert.{insert_follows}
+use Rattle.check_insert.proofs.laws.checked_code_follows.Goals as goal
+
+pub returns : goal.returns
+returns c = insert_follows

@@ -1,0 +1,83 @@
+-- When one program has the checks of another put in. Nodes keep their numbers; what is new stands at new ones.
+use Rattle.std.specs.Prelude.{◌≡◌, ◌≤◌, ℕ, ◌+◌, List, map, Option, Some, None, slice_get}
+use Rattle.obj_memory.specs.Access.{scalar_size}
+use Rattle.c_tree.specs.declared.expression.Kind.{Kind}
+use Rattle.c_tree.specs.declared.expression.Kind.TheVariants.{Void, Scalar as OfScalar, Structure, Array}
+use Rattle.c_tree.specs.Kinds.{size_of_kind}
+use Rattle.tac_ir.specs.declared.instruction.Mode.{Mode}
+use Rattle.tac_ir.specs.declared.instruction.Mode.TheVariants.{Named, Unchecked, Judged}
+use Rattle.tac_ir.specs.declared.instruction.Test.TheVariants.{Spatial, Temporal}
+use Rattle.tac_ir.specs.declared.instruction.Instruction.{Instruction}
+use Rattle.tac_ir.specs.declared.instruction.Instruction.TheVariants.{Read, Write, Update, Judge}
+use Rattle.tac_ir.specs.declared.function.CodeFunction.{CodeFunction}
+use Rattle.tac_ir.specs.declared.function.Tac.{Tac}
+use Rattle.tac_ir.specs.Meaning.{header_of_code}
+use Rattle.tac_ir.specs.Temporaries.{temporaries}
+use Rattle.check_insert.specs.Counting.{checks, checks_to_insert}
+
+abbrev pub Has : List Instruction → (node : ℕ) → Instruction → Type 0
+Has code n i = slice_get code n ≡ Some i
+
+-- the two checks of an access of so many bytes through a temporary, and then the access, from one node on
+abbrev pub Checked : List Instruction → (node size line : ℕ) → (key : Option ℕ) → (pointer : ℕ) → Instruction → Type 0
+Checked code n size line key a access =
+    (n1 : ℕ) × (n2 : ℕ) × Has code n (Judge Spatial size line key a n1) × Has code n1 (Judge Temporal size line key a n2) × Has code n2 access
+
+-- what has no bytes of its own is not accessed
+abbrev pub AccessOf : Kind → (checked plain : Type 0) → Type 0
+AccessOf Void checked plain = plain
+AccessOf (OfScalar k) checked plain = checked
+AccessOf (Structure n) checked plain = checked
+AccessOf (Array n) checked plain = plain
+
+abbrev pub ReadIn : List Instruction → ℕ → Mode → Kind → (line : ℕ) → (key : Option ℕ) → (d a m : ℕ) → Type 0
+ReadIn code n Named kind line key d a m = Has code n (Read kind Named line key d a m)
+ReadIn code n Unchecked kind line key d a m =
+    AccessOf kind (Checked code n (size_of_kind kind) line key a (Read kind Judged line key d a m)) (Has code n (Read kind Unchecked line key d a m))
+ReadIn code n Judged kind line key d a m = Has code n (Read kind Judged line key d a m)
+
+abbrev pub WriteIn : List Instruction → ℕ → Mode → Kind → (line : ℕ) → (key : Option ℕ) → (d a b m : ℕ) → Type 0
+WriteIn code n Named kind line key d a b m = Has code n (Write kind Named line key d a b m)
+WriteIn code n Unchecked kind line key d a b m =
+    AccessOf kind (Checked code n (size_of_kind kind) line key a (Write kind Judged line key d a b m)) (Has code n (Write kind Unchecked line key d a b m))
+WriteIn code n Judged kind line key d a b m = Has code n (Write kind Judged line key d a b m)
+
+-- what stands for an instruction at its node
+abbrev pub StandsFor : List Instruction → ℕ → Instruction → Type 0
+StandsFor code n (Read kind mode line key d a m) = ReadIn code n mode kind line key d a m
+StandsFor code n (Write kind mode line key d a b m) = WriteIn code n mode kind line key d a b m
+StandsFor code n (Update u k f Unchecked line at key d a b m) = Checked code n (scalar_size k) line key a (Update u k f Judged line at key d a b m)
+StandsFor code n i = Has code n i
+
+-- an instruction of the code with checks, and one of the code without that needs no fewer temporaries
+pub record NeedsNoMore (code : List Instruction) (i : Instruction) : Type 0 where
+  pub node : ℕ
+  pub other : Instruction
+  pub has : Has code node other
+  pub most : temporaries i ≤ temporaries other
+
+-- what a call lays out, the keys, the blocks and the counted loops stay
+pub record FunctionIn (c c' : CodeFunction) : Type 0 where
+  pub header : header_of_code c' ≡ header_of_code c
+  pub entry : c'.entry ≡ c.entry
+  pub keys : c'.keys ≡ c.keys
+  pub blocks : c'.blocks ≡ c.blocks
+  pub loops : c'.loops ≡ c.loops
+  pub code : (n : ℕ) (i : Instruction) → Has c.code n i → StandsFor c'.code n i
+  pub homes : (n : ℕ) (i : Instruction) → Has c'.code n i → NeedsNoMore c.code i
+
+abbrev pub InsertedAt : Option CodeFunction → Option CodeFunction → Type 0
+InsertedAt None None = Unit {0}
+InsertedAt None (Some c') = ⊥
+InsertedAt (Some c) None = ⊥
+InsertedAt (Some c) (Some c') = FunctionIn c c'
+
+pub record Inserted (t t' : Tac) : Type 0 where
+  pub headers : map header_of_code t'.functions ≡ map header_of_code t.functions
+  pub results : t'.results ≡ t.results
+  pub main : t'.main ≡ t.main
+  pub statics : t'.statics ≡ t.statics
+  pub bytes : t'.global_bytes ≡ t.global_bytes
+  pub texts : t'.texts ≡ t.texts
+  pub functions : (u : ℕ) → InsertedAt (slice_get t.functions u) (slice_get t'.functions u)
+  pub count : checks t' ≡ checks t + checks_to_insert t

@@ -1,0 +1,4 @@
+//! Insertion of checks: each access through a pointer gets a spatial and then a temporal check.
+#![tactic(auto)]
+
+pub mod laws;

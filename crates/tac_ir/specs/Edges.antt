@@ -1,0 +1,49 @@
+-- The edges of the graph of a function.
+use Rattle.std.specs.Prelude.{◌≡◌, ◌⊎◌, ℕ, List, [], ◌∷◌}
+use Rattle.tac_ir.specs.declared.instruction.Instruction.{Instruction}
+use Rattle.tac_ir.specs.declared.instruction.Instruction.TheVariants.{Reserved, Constant, FunctionPointer, GetPlain, SetPlain, UpdatePlain, HomePointer, StaticPointer, ZeroOf, Convert, Unary, Binary, Offset, Difference, Narrow, Member, Take, Read, Write, Update, Judge, Zero, StorePart, StoreText, Branch, Case, Turn, Library, Print, Call, CallThrough, EnterBlock, LeaveBlock, Return}
+
+-- the nodes that an instruction leads to; that behind a call is where its result comes back
+abbrev pub successors : Instruction → List ℕ
+successors Reserved = []
+successors (Constant d w m) = m ∷ []
+successors (FunctionPointer d f m) = m ∷ []
+successors (GetPlain d x m) = m ∷ []
+successors (SetPlain x a m) = m ∷ []
+successors (UpdatePlain w k f line d x right m) = m ∷ []
+successors (HomePointer d x m) = m ∷ []
+successors (StaticPointer d n m) = m ∷ []
+successors (ZeroOf kind d m) = m ∷ []
+successors (Convert kind d a m) = m ∷ []
+successors (Unary op ty d a m) = m ∷ []
+successors (Binary op ty line d a b m) = m ∷ []
+successors (Offset form size d a b m) = m ∷ []
+successors (Difference size d a b m) = m ∷ []
+successors (Narrow offset size d a m) = m ∷ []
+successors (Member offset size d a m) = m ∷ []
+successors (Take kind line d a m) = m ∷ []
+successors (Read kind mode line key d a m) = m ∷ []
+successors (Write kind mode line key d a b m) = m ∷ []
+successors (Update w k f mode line at key d a right m) = m ∷ []
+successors (Judge test size line key a m) = m ∷ []
+successors (Zero x m) = m ∷ []
+successors (StorePart kind line x offset a m) = m ∷ []
+successors (StoreText n x offset m) = m ∷ []
+successors (Branch a x y) = x ∷ y ∷ []
+successors (Case a w x y) = x ∷ y ∷ []
+successors (Turn counted m) = m ∷ []
+successors (Library r line d n m) = m ∷ []
+successors (Print x line d n m) = m ∷ []
+successors (Call f line d n m) = m ∷ []
+successors (CallThrough type_number line d n m) = m ∷ []
+successors (EnterBlock b line m) = m ∷ []
+successors (LeaveBlock m) = m ∷ []
+successors (Return a) = []
+
+-- an instruction leads to a node
+abbrev pub IsAmong : (node : ℕ) → List ℕ → Type 0
+IsAmong n [] = ⊥
+IsAmong n (m ∷ ms) = (n ≡ m) ⊎ IsAmong n ms
+
+abbrev pub LeadsTo : Instruction → (node : ℕ) → Type 0
+LeadsTo i n = IsAmong n (successors i)

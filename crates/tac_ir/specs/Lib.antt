@@ -1,0 +1,7 @@
+pub mod Stage
+pub mod Keys
+pub mod Accesses
+pub mod Costs
+pub mod Meaning
+pub mod Edges
+pub mod Temporaries

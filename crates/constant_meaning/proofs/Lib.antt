@@ -1,0 +1,3 @@
+mod Steps
+mod Integers
+mod Addresses

@@ -1,3 +1,6 @@
 mod Steps
 mod Integers
 mod Addresses
+mod Changes
+mod Overwriting
+mod Storing

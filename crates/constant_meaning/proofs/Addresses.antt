@@ -1,6 +1,5 @@
 -- Address constants.
-use Rattle.std.proofs.Common.{◌≡◌, ℕ, ◌+◌, ◌*◌, ◌-◌, ◌%◌, ◌^◌, Option, Some, None, refl, ap, sym, ◌∙◌, ◌⊎◌, inl, inr}
-use Rattle.std.specs.Prelude.{option_map, slice_get}
+use Rattle.std.proofs.Common.{◌≡◌, ℕ, ◌*◌, ◌-◌, ◌%◌, ◌^◌, Option, Some, None, refl, sym, ◌⊎◌, inl, inr}
 use Rattle.obj_memory.specs.declared.value.Scalar.TheVariants.{Integer, Pointer}
 use Rattle.obj_memory.specs.declared.value.Value.{Value}
 use Rattle.obj_memory.specs.Objects.{pointer_to}
@@ -9,16 +8,16 @@ use Rattle.c_tree.specs.declared.expression.Kind.{Kind}
 use Rattle.c_tree.specs.declared.expression.Kind.TheVariants as kind
 use Rattle.c_tree.specs.declared.expression.OffsetForm.{OffsetForm}
 use Rattle.c_tree.specs.declared.expression.OffsetForm.TheVariants.{PointerPlusIndex, IndexPlusPointer, PointerMinusIndex}
-use Rattle.c_tree.specs.Tree.{Expression, expression, Node, constant, function, plain, read, decay, address, parenthesized, deref_function, address_function, cast, convert, unary, binary, offset_by, difference, logical_and, logical_or, comma, conditional, assign, assign_plain, compound, change_plain, step, step_plain, call, call_through, library, printf, Lvalue, lvalue, LvalueNode, automatic, static, deref, index, member, arrow, member_of_value, parenthesized_lvalue, kind_of}
+use Rattle.c_tree.specs.Tree.{Expression, expression, Node, function, decay, address, parenthesized, deref_function, address_function, cast, convert, offset_by, Lvalue, lvalue, LvalueNode, static, deref, index, member, arrow, parenthesized_lvalue, kind_of}
 use Rattle.c_const.specs.Integers.{constant_word}
 use Rattle.c_const.specs.Addresses.{Pointers, untagged, forward, back, to_pointer, address_of, node_address, designated, node_designated, place_of, node_place as place_in}
-use Rattle.source_meaning.specs.State.{Env, State, Rvalue, Run, ◌>>=◌, choose, read_state}
+use Rattle.source_meaning.specs.State.{Env, State, Rvalue, Run, ◌>>=◌}
 use Rattle.source_meaning.specs.Actions.{integer, converted, offset_value}
-use Rattle.source_meaning.specs.Structures.{give, as_rvalue, as_pointer}
+use Rattle.source_meaning.specs.Structures.{give}
 use Rattle.source_meaning.specs.Expressions.{evaluate, value, place, node_place, function_pointer}
 use Rattle.source_meaning.specs.Acting.{at_work}
 use Rattle.constant_meaning.specs.Finding.{Finds, PointTo}
-use Rattle.constant_meaning.proofs.Steps.{finds_on, finds_counted, finds_give, finds_read, finds_same, finds_pointer, some_injective, Mapped, mapped}
+use Rattle.constant_meaning.proofs.Steps.{finds_on, finds_counted, finds_give, finds_read, finds_same, finds_pointer, some_injective, mapped}
 use Rattle.constant_meaning.proofs.Integers.{constant_finds}
 
 -- a pointer and an index that are both known
@@ -67,8 +66,8 @@ module _ (env : Env) (ps : Pointers) where
   converts k e v s ih h =
       let p = is_pointer k (kind_of e) (constant_word e) (address_of ps e) v h in
       let found : Finds (evaluate env e) p.from s = elim p.is_from as (λ _. Finds (evaluate env e) p.from s) [
-        inl n ↦ finds_same n.2 (constant_finds env e n.0 s n.1)
-      | inr q ↦ ih p.from q
+        | inl n ↦ finds_same n.2 (constant_finds env e n.0 s n.1)
+        | inr q ↦ ih p.from q
       ] in
       finds_on _ found (finds_same p.to (finds_give (converted k p.from) _))
 

@@ -1,5 +1,5 @@
 -- Writes change the contents of one object.
-use Rattle.std.proofs.Common.{◌≡◌, ℕ, zero, suc, ◌+◌, ◌-◌, ◌/◌, ◌%◌, ◌^◌, ◌<◌, ◌≤◌, List, [], ◌∷◌, ◌++◌, length, take, drop, get_or, set, Bool, true, false, refl, ap, sym, subst, ◌∙◌, ◌≢◌, arith}
+use Rattle.std.proofs.Common.{◌≡◌, ℕ, ◌/◌, ◌<◌, List, length, set, Bool, true, false, refl, ap, subst, ◌∙◌, ◌≢◌, arith}
 use Rattle.std.specs.Prelude.{if◌then◌else◌}
 use Rattle.std.proofs.lemmas.List.{get_or-set_same, get_or-set_other, length-set}
 use Rattle.byteorder.specs.Endian.{little_bytes}
@@ -7,10 +7,9 @@ use Rattle.obj_memory.specs.declared.value.Scalar.{Scalar}
 use Rattle.obj_memory.specs.declared.value.Scalar.TheVariants.{Integer, Pointer}
 use Rattle.obj_memory.specs.declared.value.Tag.{Tag}
 use Rattle.obj_memory.specs.declared.value.Value.{Value}
-use Rattle.obj_memory.specs.declared.value.Place.{Place}
 use Rattle.obj_memory.specs.Integers.{size_of}
 use Rattle.obj_memory.specs.Objects.{ObjectState, Objects, object_at, no_object, pointer_to}
-use Rattle.obj_memory.specs.Access.{overwrite, is_aligned, write_value, write_bytes, write_tag}
+use Rattle.obj_memory.specs.Access.{is_aligned, write_value, write_bytes, write_tag}
 use Rattle.c_const.specs.Contents.{Contents, with_bytes, with_tag, with_scalar}
 
 abbrev pub contents_of : ObjectState → Contents

@@ -1,22 +1,21 @@
 -- Integer constant expressions.
-use Rattle.std.proofs.Common.{◌≡◌, ℕ, ◌+◌, Bool, true, false, Option, Some, None, refl, ap, sym, subst, ◌∙◌, arith}
+use Rattle.std.proofs.Common.{◌≡◌, ℕ, Bool, true, false, Option, Some, None, refl, ap, sym, ◌∙◌}
 use Rattle.std.specs.Prelude.{◌&&◌, ◌==◌, not, if◌then◌else◌}
 use Rattle.obj_memory.specs.declared.value.Scalar.TheVariants.{Integer, Pointer}
-use Rattle.obj_memory.specs.declared.value.Value.{Value}
 use Rattle.obj_memory.specs.Integers.{fit}
 use Rattle.obj_memory.specs.Operators.{one_if, unary_value, binary_value}
 use Rattle.c_tree.specs.declared.expression.Kind.{Kind}
 use Rattle.c_tree.specs.declared.expression.Kind.TheVariants as kind
 use Rattle.c_tree.specs.Kinds.{is_integer}
-use Rattle.c_tree.specs.Tree.{Expression, expression, Node, constant, function, plain, read, decay, address, parenthesized, deref_function, address_function, cast, convert, unary, binary, offset_by, difference, logical_and, logical_or, comma, conditional, assign, assign_plain, compound, change_plain, step, step_plain, call, call_through, library, printf, kind_of}
+use Rattle.c_tree.specs.Tree.{Expression, expression, Node, constant, parenthesized, cast, convert, unary, binary, logical_and, logical_or, conditional, kind_of}
 use Rattle.c_const.specs.Integers.{type_of, has_form, node_has_form, with_value, truth, value_of, node_value, constant_word}
 use Rattle.source_meaning.specs.State.{Env, State, Rvalue, Run, ◌>>=◌, choose}
-use Rattle.source_meaning.specs.Actions.{integer, is_zero, scalar_of, integer_type, converted, operate}
-use Rattle.source_meaning.specs.Structures.{give, as_rvalue}
+use Rattle.source_meaning.specs.Actions.{integer, is_zero, scalar_of, integer_type, converted}
+use Rattle.source_meaning.specs.Structures.{give}
 use Rattle.source_meaning.specs.Expressions.{evaluate, value}
 use Rattle.source_meaning.specs.Acting.{at_work}
 use Rattle.constant_meaning.specs.Finding.{Finds}
-use Rattle.constant_meaning.proofs.Steps.{finds_on, finds_counted, finds_give, finds_same, finds_quotient, both, Follows, follows, Mapped, mapped, some_injective}
+use Rattle.constant_meaning.proofs.Steps.{finds_on, finds_counted, finds_give, finds_same, finds_quotient, both, follows, mapped, some_injective}
 
 -- operators see an operand at the same type
 same_type : (k : Kind) → type_of k ≡ integer_type (scalar_of k)
@@ -91,16 +90,16 @@ mutual
   node_finds env k line (cast e) i f w s v =
       let m = mapped (fit (type_of k)) (value_of e) w v in
       finds_counted (finds_on _ (form_finds env e f m.from _ m.is_from)
-          (finds_same (converts k m.from i ∙ ap integer m.to) (finds_give _ _)))
+      (finds_same (converts k m.from i ∙ ap integer m.to) (finds_give _ _)))
   node_finds env k line (convert e) i f w s v =
       let m = mapped (fit (type_of k)) (value_of e) w v in
       finds_on _ (form_finds env e f m.from _ m.is_from)
-          (finds_same (converts k m.from i ∙ ap integer m.to) (finds_give _ _))
+      (finds_same (converts k m.from i ∙ ap integer m.to) (finds_give _ _))
   node_finds env k line (unary op e) i f w s v =
       let m = mapped (unary_value op (type_of (kind_of e))) (value_of e) w v in
       let same = ap (λ t. unary_value op t m.from) (sym (same_type (kind_of e))) in
       finds_counted (finds_on _ (form_finds env e f m.from _ m.is_from)
-          (finds_same (ap integer (same ∙ m.to)) (finds_give _ _)))
+      (finds_same (ap integer (same ∙ m.to)) (finds_give _ _)))
   node_finds env k line (binary op a b) i f w s v =
       let fs = both (has_form a) (has_form b) f in
       let t = type_of (kind_of a) in
@@ -108,23 +107,23 @@ mutual
       let y = follows (value_of b) (binary_value op t x.first) w x.then in
       let same = ap (λ t. binary_value op t x.first y.first) (sym (same_type (kind_of a))) in
       finds_counted (finds_on _ (form_finds env a fs.0 x.first _ x.is_first) (finds_on _ (form_finds env b fs.1 y.first _ y.is_first)
-          (finds_quotient (binary_value op (integer_type (scalar_of (kind_of a))) x.first y.first) w line _ (same ∙ y.then))))
+      (finds_quotient (binary_value op (integer_type (scalar_of (kind_of a))) x.first y.first) w line _ (same ∙ y.then))))
   node_finds env k line (logical_and a b) i f w s v =
       let fs = both (has_form a) (has_form b) f in
       let x = follows (value_of a) (λ x. if x == 0 then Some 0 else truth (value_of b)) w v in
       finds_counted (finds_on _ (form_finds env a fs.0 x.first _ x.is_first)
-          (and_finds (x.first == 0) env b w _ (form_finds env b fs.1) x.then))
+      (and_finds (x.first == 0) env b w _ (form_finds env b fs.1) x.then))
   node_finds env k line (logical_or a b) i f w s v =
       let fs = both (has_form a) (has_form b) f in
       let x = follows (value_of a) (λ x. if x == 0 then truth (value_of b) else Some 1) w v in
       finds_counted (finds_on _ (form_finds env a fs.0 x.first _ x.is_first)
-          (or_finds (x.first == 0) env b w _ (form_finds env b fs.1) x.then))
+      (or_finds (x.first == 0) env b w _ (form_finds env b fs.1) x.then))
   node_finds env k line (conditional c a b) i f w s v =
       let fs = both (has_form c) (has_form a && has_form b) f in
       let gs = both (has_form a) (has_form b) fs.1 in
       let x = follows (value_of c) (λ x. if x == 0 then value_of b else value_of a) w v in
       finds_counted (finds_on _ (form_finds env c fs.0 x.first _ x.is_first)
-          (either_finds (x.first == 0) env a b w _ (form_finds env a gs.0) (form_finds env b gs.1) x.then))
+      (either_finds (x.first == 0) env a b w _ (form_finds env a gs.0) (form_finds env b gs.1) x.then))
   node_finds env k line n i f w s v = absurd cc
 
 constant_cases : (b : Bool) (o : Option ℕ) (w : ℕ) → (if b then o else None) ≡ Some w → (b ≡ true) × (o ≡ Some w)

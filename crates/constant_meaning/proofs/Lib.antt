@@ -4,3 +4,4 @@ mod Addresses
 mod Changes
 mod Overwriting
 mod Storing
+mod Statics

@@ -1,9 +1,9 @@
 -- Steps of runs that find values, and what follows from definitions by cases.
-use Rattle.std.proofs.Common.{◌≡◌, ℕ, ◌+◌, ◌*◌, ◌-◌, ◌%◌, ◌^◌, Bool, true, false, Option, Some, None, refl, ap, sym, subst, ◌∙◌, arith}
+use Rattle.std.proofs.Common.{◌≡◌, ℕ, ◌+◌, Bool, true, false, Option, Some, None, refl, ap, subst, ◌∙◌}
 use Rattle.std.specs.Prelude.{◌&&◌, option_map}
 use Rattle.obj_memory.specs.declared.value.Value.{Value}
 use Rattle.c_const.specs.Integers.{with_value}
-use Rattle.source_meaning.specs.State.{State, Rvalue, Run, Outcome, Gives, on, ◌>>=◌, read_state}
+use Rattle.source_meaning.specs.State.{State, Rvalue, Run, on, ◌>>=◌, read_state}
 use Rattle.source_meaning.specs.Actions.{integer, value_or_divide}
 use Rattle.source_meaning.specs.Structures.{rvalue, give, as_rvalue, as_pointer}
 use Rattle.source_meaning.specs.Expressions.{counted}

@@ -1,13 +1,13 @@
 -- What the parts of a constant initializer leave.
-use Rattle.std.proofs.Common.{◌≡◌, ℕ, zero, suc, ◌+◌, ◌*◌, ◌-◌, ◌/◌, ◌%◌, ◌^◌, ◌<◌, ◌≤◌, List, [], ◌∷◌, ◌++◌, length, take, drop, Bool, true, false, Option, Some, None, Result, Ok, Err, refl, ap, sym, subst, ◌∙◌, ◌≢◌, ◌⊎◌, inl, inr, arith}
-use Rattle.std.specs.Prelude.{if◌then◌else◌, set, ◌&&◌, nat_le, slice_get, option_map}
+use Rattle.std.proofs.Common.{◌≡◌, ℕ, ◌+◌, ◌-◌, ◌/◌, ◌%◌, ◌^◌, ◌<◌, ◌≤◌, List, [], ◌∷◌, ◌++◌, length, Bool, true, false, Option, Some, None, Result, Ok, Err, refl, ap, sym, subst, ◌∙◌, ◌⊎◌, inl, inr, arith}
+use Rattle.std.specs.Prelude.{if◌then◌else◌, set}
 use Rattle.std.specs.List.{list_all}
 use Rattle.std.proofs.lemmas.Bool.{cases_lt, leb-true}
 use Rattle.std.proofs.lemmas.Grind.{common_steps}
 use Rattle.std.proofs.Math.Nat.{mod-eq_of_lt}
 use Rattle.byteorder.specs.Endian.{little_bytes}
 use Rattle.byteorder.specs.Numbers.{length-bytes_low_first}
-use Rattle.behaviours.specs.Shown.{Access, Write}
+use Rattle.behaviours.specs.Shown.{Write}
 use Rattle.obj_memory.specs.declared.int_type.IntType.{IntType}
 use Rattle.obj_memory.specs.declared.int_type.IntType.TheVariants.{Char, SignedChar, UnsignedChar, Short, UnsignedShort, Int, UnsignedInt, Long, UnsignedLong, LongLong, UnsignedLongLong}
 use Rattle.obj_memory.specs.declared.value.Scalar.{Scalar}
@@ -27,19 +27,19 @@ use Rattle.c_tree.specs.ValidProgram.{content_size}
 use Rattle.c_const.specs.Integers.{constant_word}
 use Rattle.c_const.specs.Addresses.{Pointers, untagged, address_of}
 use Rattle.c_const.specs.Contents.{Contents, with_bytes, with_scalar, constant_in, with_constant, with_content, on_ok, with_parts, is_inside}
-use Rattle.source_meaning.specs.State.{Env, State, Rvalue, Run, Outcome, Gives, on, ◌>>=◌, ◌>>◌, done, skip, tally}
+use Rattle.source_meaning.specs.State.{Env, State, Run, Gives, on, ◌>>=◌, ◌>>◌, done, skip}
 use Rattle.source_meaning.specs.Actions.{integer, store}
-use Rattle.source_meaning.specs.Structures.{rvalue, give, write_rvalue}
+use Rattle.source_meaning.specs.Structures.{give, write_rvalue}
 use Rattle.source_meaning.specs.Expressions.{evaluate}
 use Rattle.source_meaning.specs.Initializers.{store_bytes, store_content, store_parts}
 use Rattle.source_meaning.specs.Acting.{at_work}
 use Rattle.constant_meaning.specs.Finding.{Finds, PointTo}
 use Rattle.constant_meaning.specs.Leaving.{AreBytes, HasBytes, HaveBytes}
-use Rattle.constant_meaning.proofs.Steps.{finds_same, Mapped, mapped, both}
+use Rattle.constant_meaning.proofs.Steps.{finds_same, mapped, both}
 use Rattle.constant_meaning.proofs.Integers.{constant_finds}
 use Rattle.constant_meaning.proofs.Addresses.{address_finds}
 use Rattle.constant_meaning.proofs.Overwriting.{length_overwrite, more_elements}
-use Rattle.constant_meaning.proofs.Changes.{contents_of, Changed, changed_none, changed_then, changed_same, changed_contents, scalar_changes, own_pointer, other_pointer}
+use Rattle.constant_meaning.proofs.Changes.{contents_of, Changed, changed_none, changed_then, changed_contents, scalar_changes, own_pointer, other_pointer}
 
 -- a run leaves an object with these contents, and all others as they were
 pub record Leaves (r : Run (Unit {0})) (n : ℕ) (c : Contents) (s : State) : Type 0 where
@@ -74,7 +74,7 @@ address_in o offset = (o.address + offset) % 2 ^ 64
 store_gives : (k : Scalar) (v : Value) (n offset line : ℕ) (s : State)
     → store k false (narrowed offset (scalar_size k) (pointer_to n s.objects)) line v s
     ≡ Gives tt (stored_at s k v (address_in (object_at s.objects n) offset)
-        (record { object = n; offset = address_in (object_at s.objects n) offset - (object_at s.objects n).address }))
+    (record { object = n; offset = address_in (object_at s.objects n) offset - (object_at s.objects n).address }))
 unfolding narrowed named pointer_to
 store_gives k v n offset line s = refl
 
@@ -84,11 +84,11 @@ offset_stays address offset h = let e : (address + offset) % 2 ^ 64 ≡ address 
 store_leaves : (k : Scalar) (v : Value) (n offset line : ℕ) (s : State) → n < length s.objects
     → (object_at s.objects n).address + offset < 2 ^ 64
     → Leaves (store k false (narrowed offset (scalar_size k) (pointer_to n s.objects)) line v) n
-        (with_scalar k offset v (contents_of (object_at s.objects n))) s
+    (with_scalar k offset v (contents_of (object_at s.objects n))) s
 store_leaves k v n offset line s made low =
     let o = object_at s.objects n in
     let P : ℕ → Type 0 = λ i. Changed n (with_scalar k offset v (contents_of o)) s.objects
-        (write_value k v (record { object = n; offset = i }) s.objects) in
+    (write_value k v (record { object = n; offset = i }) s.objects) in
     record {
       after = _;
       gives = store_gives k v n offset line s;
@@ -139,17 +139,17 @@ bytes_leave (b ∷ bs) n offset p s at small made inside low =
     let byte : with_scalar (Integer Char) offset (integer b) c ≡ d = ap (λ i. with_bytes offset i c) (one_byte b small.0) in
     let P : Value → ℕ → Type 0 = λ q i. Leaves (store (Integer Char) false (narrowed offset i q) 0 (integer b)) n d s in
     let stored : Leaves (store (Integer Char) false (narrowed offset 1 p) 0 (integer b)) n d s =
-        subst (λ q. P q 1) (sym at) (subst (P (pointer_to n s.objects)) char_size
-            (leaves_same byte (store_leaves (Integer Char) (integer b) n offset 0 s made (omega (arith, inside, low))))) in
+    subst (λ q. P q 1) (sym at) (subst (P (pointer_to n s.objects)) char_size
+    (leaves_same byte (store_leaves (Integer Char) (integer b) n offset 0 s made (omega (arith, inside, low))))) in
     let own = stored.changed.own in
     let long : length d.bytes ≡ length c.bytes = length_overwrite offset (b ∷ []) c.bytes (omega (arith, inside)) in
     let long_after : length (object_at stored.after.objects n).bytes ≡ length c.bytes = ap (λ (o : ObjectState). length o.bytes) own ∙ long in
     let address : (object_at stored.after.objects n).address ≡ (object_at s.objects n).address = ap (λ (o : ObjectState). o.address) own in
     let rest = bytes_leave bs n (offset + 1) p stored.after (at ∙ sym (own_pointer stored.changed)) small.1
-        (omega (arith, made, stored.changed.count)) (omega (arith, inside, long_after)) (omega (arith, low, long_after, address)) in
+    (omega (arith, made, stored.changed.count)) (omega (arith, inside, long_after)) (omega (arith, low, long_after, address)) in
     let all : with_bytes (offset + 1) bs (contents_of (object_at stored.after.objects n)) ≡ with_bytes offset (b ∷ bs) c =
-        ap (with_bytes (offset + 1) bs) (changed_contents stored.changed)
-        ∙ ap (λ i. record { bytes = i; tags = c.tags }) (more_elements offset b bs c.bytes (omega (arith, inside))) in
+    ap (with_bytes (offset + 1) bs) (changed_contents stored.changed)
+    ∙ ap (λ i. record { bytes = i; tags = c.tags }) (more_elements offset b bs c.bytes (omega (arith, inside))) in
     leaves_then stored (leaves_same all rest)
 
 -- values
@@ -161,7 +161,7 @@ value_run env p offset k line e =
 value_leaves : (env : Env) (e : Expression) (k : Scalar) (v : Value) (n offset line : ℕ) (s : State) → Finds (evaluate env e) v s
     → n < length s.objects → (object_at s.objects n).address + offset < 2 ^ 64
     → Leaves (value_run env (pointer_to n s.objects) offset (kind.Scalar k) line e) n
-        (with_scalar k offset v (contents_of (object_at s.objects n))) s
+    (with_scalar k offset v (contents_of (object_at s.objects n))) s
 value_leaves env e k v n offset line s found made low =
     let stored = store_leaves k v n offset line (at_work found.work s) made low in
     let q = narrowed offset (scalar_size k) (pointer_to n s.objects) in
@@ -254,8 +254,8 @@ content_leaves ps env n p s offset (value_content e) d at stands small inside h 
     let size : size_of_kind (kind_of e) ≡ scalar_size i.constant.0 = ap size_of_kind k.kind in
     let P : Value → Kind → Type 0 = λ q j. Leaves (value_run env q offset j (line_of e) e) n d s in
     subst (λ q. P q (kind_of e)) (sym at) (subst (P (pointer_to n s.objects)) (sym k.kind)
-        (leaves_same i.to (value_leaves env e i.constant.0 i.constant.1 n offset (line_of e) s (k.finds s stands.pointers) stands.made
-            (let low = stands.low in omega (arith, some, size, inside, low)))))
+    (leaves_same i.to (value_leaves env e i.constant.0 i.constant.1 n offset (line_of e) s (k.finds s stands.pointers) stands.made
+    (let low = stands.low in omega (arith, some, size, inside, low)))))
 content_leaves ps env n p s offset (literal_content bytes) d at stands small inside h =
     let stored = bytes_leave bytes n offset p (at_work (s.work + (1 + length bytes)) s) at small stands.made inside stands.low in
     leaves_same (ok_injective h) (record { after = stored.after; gives = stored.gives; changed = stored.changed })
@@ -327,8 +327,8 @@ parts_leave ps env n p size (q ∷ qs) s d at stands small long inside h =
     let first = content_leaves ps env n p s q.offset q.content t.between at stands small.0 (omega (arith, fits, long)) t.is_between in
     let kept = content_length ps q.offset q.content c t.between (omega (arith, fits, long)) t.is_between in
     let bytes : length (object_at first.after.objects n).bytes ≡ length t.between.bytes =
-        ap (λ (o : ObjectState). length o.bytes) first.changed.own in
+    ap (λ (o : ObjectState). length o.bytes) first.changed.own in
     let next : with_parts ps qs (contents_of (object_at first.after.objects n)) ≡ Ok d =
-        ap (with_parts ps qs) (changed_contents first.changed) ∙ t.rest in
+    ap (with_parts ps qs) (changed_contents first.changed) ∙ t.rest in
     leaves_then first (parts_leave ps env n p size qs first.after d (at ∙ sym (own_pointer first.changed))
-        (stands_on first.changed kept stands) small.1 (omega (arith, long, kept, bytes)) i.1 next)
+    (stands_on first.changed kept stands) small.1 (omega (arith, long, kept, bytes)) i.1 next)

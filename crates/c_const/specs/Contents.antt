@@ -1,5 +1,5 @@
 -- What a static object holds before a program runs (C99 6.7.8 paragraphs 4, 10 and 21).
-use Rattle.std.specs.Prelude.{ℕ, ◌+◌, ◌/◌, Bool, nat_le, if◌then◌else◌, List, [], ◌∷◌, replicate, set, Option, Some, None, option_map, Result, Ok, Err}
+use Rattle.std.specs.Prelude.{ℕ, ◌+◌, ◌/◌, ◌^◌, ◌&&◌, Bool, nat_le, if◌then◌else◌, List, [], ◌∷◌, replicate, set, Option, Some, None, option_map, Result, Ok, Err}
 use Rattle.std.specs.List.{list_all}
 use Rattle.byteorder.specs.Endian.{little_bytes}
 use Rattle.obj_memory.specs.declared.value.Scalar.{Scalar}
@@ -75,3 +75,7 @@ is_inside size p = nat_le (p.offset + content_size p.content) size
 
 abbrev pub are_inside : StaticObject → Bool
 are_inside o = list_all (is_inside (size_of_kind o.kind)) o.parts
+
+-- whether an object has at most 2^32 bytes, and each part of its initializer lies in it, as in a valid program
+abbrev pub is_laid_out : StaticObject → Bool
+is_laid_out o = nat_le (size_of_kind o.kind) (2 ^ 32) && are_inside o

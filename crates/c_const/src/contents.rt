@@ -7,13 +7,13 @@ ghost use Rattle.obj_memory.specs.Access.{overwrite, scalar_size};
 ghost use Rattle.c_tree.specs.Kinds.{size_of_kind};
 ghost use Rattle.c_tree.specs.View.{content_of, expression_of, part_of, static_of};
 ghost use Rattle.c_tree.specs.ValidProgram.{content_size};
-ghost use Rattle.c_const.specs.Contents.{are_inside, constant_in, initial_contents, is_inside, with_bytes, with_content, with_parts, with_scalar, with_tag, zero_contents};
+ghost use Rattle.c_const.specs.Contents.{constant_in, initial_contents, is_inside, is_laid_out, with_content, with_parts, with_scalar, with_tag, zero_contents};
 ghost use Rattle.c_const.specs.View.{pointers_of};
 ghost use Rattle.c_const.specs.Outcomes.{IsInitial, Stores};
 
 use crate::address::{Pointers, address_constant};
 use crate::integer::constant_word;
-use c_tree::{Content, Expression, Kind, Part, StaticObject};
+use c_tree::{Content, Expression, Kind, MAX_SIZE, Part, StaticObject};
 use obj_memory::{Scalar, Tag, Value};
 use sb_base::Line;
 use std::alloc::{AllocError, Global};
@@ -52,8 +52,7 @@ pub fn initial_bytes(
     pointers: &Pointers,
     object: &StaticObject,
 ) -> Result<InitialObject, InitialFault>
-    requires sized { size_of_kind object.now.kind ≤ 2 ^ 32 }
-    requires inside { are_inside (static_of object.now) ≡ true }
+    requires { is_laid_out (static_of object.now) ≡ true }
     ensures { IsInitial result (initial_contents (pointers_of pointers.now) (static_of object.now)) }
 {
     let Ok(mut contents) = InitialObject::zero(alloc, size_of(object.kind)) else {
@@ -62,6 +61,41 @@ pub fn initial_bytes(
     match contents.store_parts(pointers, object.parts.as_slice()) {
         Ok(()) => Ok(contents),
         Err(line) => Err(InitialFault::NotConstant(line)),
+    }
+}
+
+/// Whether the object has at most 2^32 bytes, and each part of its initializer lies in it, as it is in a valid program.
+pub fn is_laid_out(object: &StaticObject) -> bool
+    ensures { result ≡ is_laid_out (static_of object.now) }
+{
+    let size = size_of(object.kind);
+    size <= MAX_SIZE && are_inside(size, object.parts.as_slice())
+}
+
+// Whether each part lies in an object of so many bytes.
+fn are_inside(size: u64, parts: &[Part]) -> bool
+    ensures { result ≡ list_all (is_inside size) (map part_of parts.now) }
+{
+    for part in parts {
+        if !is_inside(size, part) {
+            return false;
+        }
+    }
+    true
+}
+
+fn is_inside(size: u64, part: &Part) -> bool
+    ensures { result ≡ is_inside size (part_of part.now) }
+{
+    part.offset <= size && size_of_content(&part.content) <= size - part.offset
+}
+
+fn size_of_content(content: &Content) -> u64
+    ensures { result ≡ content_size (content_of content.now) }
+{
+    match content {
+        Content::Value(expression) => size_of(expression.kind),
+        Content::Literal(bytes) => bytes.as_slice().len() as u64,
     }
 }
 

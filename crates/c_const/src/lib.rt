@@ -7,5 +7,5 @@ pub mod contents;
 pub mod integer;
 
 pub use crate::address::{Pointers, address_constant};
-pub use crate::contents::{InitialFault, InitialObject, initial_bytes};
+pub use crate::contents::{InitialFault, InitialObject, initial_bytes, is_laid_out};
 pub use crate::integer::{constant, constant_word};

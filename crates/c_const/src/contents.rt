@@ -27,7 +27,7 @@ pub struct InitialObject {
 }
 
 /// Why there is none.
-#[derive(Clone, Copy, Debug, Drop, PartialEq, Eq)]
+#[derive(Clone, Copy, Debug, PartialEq, Eq)]
 pub enum InitialFault {
     /// There is no memory for it.
     Memory,

@@ -1,0 +1,5 @@
+pub mod Answer
+pub mod Types
+pub mod Values
+pub mod Rows
+pub mod Binary

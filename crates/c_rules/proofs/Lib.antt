@@ -1,0 +1,2 @@
+mod TypeKinds
+mod FineBinary

@@ -3,3 +3,4 @@ pub mod Types
 pub mod Values
 pub mod Rows
 pub mod Binary
+pub mod Fine

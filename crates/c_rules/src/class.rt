@@ -7,7 +7,7 @@ use c_tree::{Extent, MAX_SIZE, TypeWord};
 use obj_memory::IntType;
 
 /// What a pointer points to (C99 6.2.5).
-#[derive(Clone, Copy, Debug, PartialEq, Eq)]
+#[derive(Clone, Copy)]
 pub enum Target {
     /// An object of a complete type, of so many bytes.
     Object(u64),
@@ -20,7 +20,7 @@ pub enum Target {
 }
 
 /// What an operator asks of the type of an operand. Every other type fits no row of a table.
-#[derive(Clone, Copy, Debug, PartialEq, Eq)]
+#[derive(Clone, Copy)]
 pub enum Class {
     /// An integer, or an enumeration, whose values are ints.
     Integer(IntType),

@@ -6,6 +6,7 @@ pub mod between;
 pub mod class;
 pub mod fault;
 pub mod holding;
+pub mod laws;
 pub mod row;
 pub mod value;
 

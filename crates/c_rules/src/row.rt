@@ -8,7 +8,7 @@ use c_tree::OffsetForm;
 use obj_memory::{BinaryOperator, IntType};
 
 /// A row of a table: what the operator does.
-#[derive(Clone, Copy, Debug, PartialEq, Eq)]
+#[derive(Clone, Copy)]
 pub enum Row {
     /// It works on both operands in this type, which the result has too.
     Arithmetic(IntType),
@@ -27,7 +27,7 @@ pub enum Row {
 }
 
 /// What a table asks of two operands together.
-#[derive(Clone, Copy, Debug, PartialEq, Eq)]
+#[derive(Clone, Copy)]
 pub struct Pair {
     /// Whether both are pointers to one type, qualifiers of that type aside.
     pub same_pointee: bool,

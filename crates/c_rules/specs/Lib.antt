@@ -4,3 +4,5 @@ pub mod Values
 pub mod Rows
 pub mod Binary
 pub mod Fine
+pub mod Unary
+pub mod Conversions

@@ -1,21 +1,20 @@
 //! The operators between two operands (C99 6.5.5 to 6.5.12).
 
-ghost use Rattle.std.specs.Prelude.{◌≡◌, IfOk, Ok};
+ghost use Rattle.std.specs.Prelude.{◌≡◌, IfOk};
 ghost use Rattle.c_tree.specs.View.{expression_of};
 ghost use Rattle.c_rules.specs.Answer.{Gives};
 ghost use Rattle.c_rules.specs.Binary.{binary, built, counted, moved, operated, pair_of};
-ghost use Rattle.c_rules.specs.Values.{converted, integer_words, value_of};
+ghost use Rattle.c_rules.specs.Values.{converted, value_of};
 
 use crate::class::Class;
 use crate::fault::{Fault, Refusal, Rule};
 use crate::holding::{beside, boxed_pair};
 use crate::row::{Pair, Row};
-use crate::value::{TypedValue, converted, integer, integer_type, is_null, same_pointee};
-use c_tree::{CType, Expression, Extent, Kind, Node, OffsetForm};
+use crate::value::{TypedValue, converted, integer, is_null, same_pointee, typed};
+use c_tree::{Expression, Extent, Kind, Node, OffsetForm};
 use obj_memory::{BinaryOperator, IntType, Scalar};
 use sb_base::Line;
 use std::alloc::{AllocError, Global};
-use tree_containers::Boxed;
 
 const POINTER: Kind = Kind::Scalar(Scalar::Pointer);
 
@@ -115,14 +114,6 @@ fn both_converted(
 {
     let (right, left) = beside(right, converted(alloc, kinds.0, left))?;
     beside(left, converted(alloc, kinds.1, right))
-}
-
-// A tree of an integer type.
-fn typed(alloc: Global, of: IntType, tree: Expression) -> Result<TypedValue, Refusal>
-    ensures { Gives value_of result (Ok (record { type = integer_words of; tree = expression_of tree })) }
-{
-    let (tree, c_type) = beside(tree, integer_type(alloc, of))?;
-    Ok(TypedValue { c_type, tree })
 }
 
 // A pointer moved by an index.

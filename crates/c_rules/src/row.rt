@@ -130,8 +130,8 @@ fn comparison(pair: Pair, left: Class, right: Class) -> Row
     }
 }
 
-// Whether two pointers may be compared or assigned, by what they point to.
-fn may_meet(same_pointee: bool, left: Target, right: Target) -> bool
+/// Whether two pointers may be compared or assigned, by what they point to.
+pub fn may_meet(same_pointee: bool, left: Target, right: Target) -> bool
     ensures { result ≡ may_meet same_pointee left right }
 {
     same_pointee || (is_void(left) && is_object(right) || is_object(left) && is_void(right))

@@ -1,14 +1,18 @@
 //! Typed values, and the conversions that stand between operators and their operands (C99 6.3).
 
-ghost use Rattle.std.specs.Prelude.{◌≡◌, ◌∷◌, [], IfOk};
+ghost use Rattle.std.specs.Prelude.{◌≡◌, ◌∷◌, [], IfOk, Ok};
 ghost use Rattle.c_tree.specs.Kinds.{integer, is_kind};
 ghost use Rattle.c_tree.specs.View.{expression_of};
 ghost use Rattle.c_tree.specs.Tree.{kind_of};
 ghost use Rattle.c_rules.specs.Types.{same_pointee, same_pointee_behind, unqualified};
 ghost use Rattle.c_tree.specs.TypesAgree.{same_word, same_words};
+ghost use Rattle.c_rules.specs.Answer.{Gives};
 ghost use Rattle.c_rules.specs.Values.{converted, integer_words, is_null, is_null_tree, is_zero, value_of};
 
+use crate::fault::Refusal;
+use crate::holding::beside;
 use c_const::constant_word;
+
 use c_tree::{CType, Expression, Kind, Node, TypeWord};
 use obj_memory::{IntType, Scalar};
 use std::alloc::{AllocError, Global};
@@ -36,6 +40,14 @@ pub fn integer_type(alloc: Global, of: IntType) -> Result<CType, AllocError>
 {
     let words = vec![in alloc; TypeWord::Integer(of)]?;
     Ok(CType::new(words))
+}
+
+/// A tree of an integer type, with that type.
+pub fn typed(alloc: Global, of: IntType, tree: Expression) -> Result<TypedValue, Refusal>
+    ensures { Gives value_of result (Ok (record { type = integer_words of; tree = expression_of tree })) }
+{
+    let (tree, c_type) = beside(tree, integer_type(alloc, of))?;
+    Ok(TypedValue { c_type, tree })
 }
 
 /// An expression converted to a kind, where it has another (C99 6.3).

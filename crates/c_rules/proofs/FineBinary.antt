@@ -36,9 +36,9 @@ pub all : {a b : Bool} → a ≡ true → b ≡ true → (a && b) ≡ true
 all {b = b} p q = ap (λ c. c && b) p ∙ q
 
 -- an operand converted to a kind is valid and has that kind
-record Converts (scope : Scope) (k : Kind) (e : Expression) : Type 0 where
-  valid : is_valid scope (converted k e) ≡ true
-  kind : kind_of (converted k e) ≡ k
+pub record Converts (scope : Scope) (k : Kind) (e : Expression) : Type 0 where
+  pub valid : is_valid scope (converted k e) ≡ true
+  pub kind : kind_of (converted k e) ≡ k
 
 converts_by : (b : Bool) (scope : Scope) (k : Kind) (e : Expression) → is_kind k (kind_of e) ≡ b → (b ≡ true → kind_of e ≡ k)
     → is_valid scope e ≡ true → is_converted e ≡ false → is_conversion (kind_of e) k ≡ true → Converts scope k e
@@ -53,21 +53,21 @@ converts_by false scope k e same equal valid bare can =
     }
 
 -- an integer converts to any integer type, an integer or a pointer to a pointer
-integer_converts : (scope : Scope) (structures : List (Option TypeExtent)) (t j : IntType) (v : Value) → IsFine scope structures v
+pub integer_converts : (scope : Scope) (structures : List (Option TypeExtent)) (t j : IntType) (v : Value) → IsFine scope structures v
     → kind_of v.tree ≡ integer j → Converts scope (integer t) v.tree
 integer_converts scope structures t j v f e =
     converts_by (is_kind (integer t) (kind_of v.tree)) scope (integer t) v.tree refl
         (λ h. e ∙ ap integer (sym (same_int t j (sym (ap (is_kind (integer t)) e) ∙ h))))
         f.valid f.bare (ap (λ k. is_conversion k (integer t)) e)
 
-from_integer : (scope : Scope) (structures : List (Option TypeExtent)) (j : IntType) (v : Value) → IsFine scope structures v
+pub from_integer : (scope : Scope) (structures : List (Option TypeExtent)) (j : IntType) (v : Value) → IsFine scope structures v
     → kind_of v.tree ≡ integer j → Converts scope pointer v.tree
 from_integer scope structures j v f e =
     converts_by (is_kind pointer (kind_of v.tree)) scope pointer v.tree refl
         (λ h. absurd (let n : false ≡ true = sym (ap (is_kind pointer) e) ∙ h in cc))
         f.valid f.bare (ap (λ k. is_conversion k pointer) e)
 
-from_pointer : (scope : Scope) (structures : List (Option TypeExtent)) (v : Value) → IsFine scope structures v
+pub from_pointer : (scope : Scope) (structures : List (Option TypeExtent)) (v : Value) → IsFine scope structures v
     → kind_of v.tree ≡ pointer → Converts scope pointer v.tree
 from_pointer scope structures v f e =
     converts_by (is_kind pointer (kind_of v.tree)) scope pointer v.tree refl (λ h. e) f.valid f.bare

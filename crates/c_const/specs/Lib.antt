@@ -1,0 +1,5 @@
+pub mod Integers
+pub mod Addresses
+pub mod Contents
+pub mod View
+pub mod Outcomes

@@ -1,0 +1,4 @@
+mod TypeKinds
+mod FineBinary
+mod FineUnary
+mod FineConversions

@@ -1,0 +1,19 @@
+-- Values that are valid, of the kind that their type has.
+use Rattle.std.specs.Prelude.{◌≡◌, Bool, true, false, List, Option, Some, Ok, Err}
+use Rattle.c_tree.specs.Extents.{TypeExtent}
+use Rattle.c_tree.specs.Tree.{kind_of}
+use Rattle.c_tree.specs.TypesAgree.{kind_of_type}
+use Rattle.c_tree.specs.Valid.{Scope, is_valid, is_converted}
+use Rattle.c_rules.specs.Answer.{Answer}
+use Rattle.c_rules.specs.Values.{Value}
+
+-- a value whose tree is valid where names stand for this, has the kind of its type, and is no implicit conversion, so
+-- that one may stand above it
+pub record IsFine (scope : Scope) (structures : List (Option TypeExtent)) (v : Value) : Type 0 where
+  pub valid : is_valid scope v.tree ≡ true
+  pub kind : kind_of_type structures v.type ≡ Some (kind_of v.tree)
+  pub bare : is_converted v.tree ≡ false
+
+abbrev pub IfFine : Scope → List (Option TypeExtent) → Answer Value → Type 0
+IfFine scope structures (Ok v) = IsFine scope structures v
+IfFine scope structures (Err f) = Unit {0}

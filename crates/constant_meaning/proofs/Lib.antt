@@ -1,0 +1,7 @@
+mod Steps
+mod Integers
+mod Addresses
+mod Changes
+mod Overwriting
+mod Storing
+mod Statics

@@ -1,0 +1,172 @@
+-- The static objects of a program whose initializers are constant.
+use Rattle.std.proofs.Common.{◌≡◌, ℕ, zero, suc, ◌+◌, ◌/◌, ◌<◌, ◌≤◌, ◌^◌, List, [], ◌∷◌, length, replicate, Bool, true, false, Some, Ok, refl, ap, sym, subst, ◌∙◌, arith}
+use Rattle.std.specs.Prelude.{slice_get}
+use Rattle.std.proofs.lemmas.List.{length-replicate}
+use Rattle.addr_map.specs.Places.{AreMapped, region_start}
+use Rattle.sb_base.specs.Budgets.{BudgetSizes}
+use Rattle.obj_memory.specs.declared.object.Storage.TheVariants.{Static}
+use Rattle.obj_memory.specs.declared.value.Tag.TheVariants.{Untagged}
+use Rattle.obj_memory.specs.Heap.{rounded_up}
+use Rattle.obj_memory.specs.Objects.{ObjectState, Objects, object_at, new_object, pointer_to}
+use Rattle.c_tree.specs.Kinds.{size_of_kind}
+use Rattle.c_tree.specs.Programs.{StaticObject, Program}
+use Rattle.c_tree.specs.ValidProgram.{name_variables}
+use Rattle.c_const.specs.Addresses.{Pointers}
+use Rattle.c_const.specs.Contents.{Contents, zero_contents, with_parts, initial_contents}
+use Rattle.source_meaning.specs.State.{Env, State, Run, Gives, on, choose, skip}
+use Rattle.source_meaning.specs.Initializers.{store_parts}
+use Rattle.source_meaning.specs.Places.{statics_first}
+use Rattle.source_meaning.specs.Meaning.{placed_statics, statics_end, setting_of, fresh, static_env, store_statics, objects_after, initial_objects}
+use Rattle.constant_meaning.specs.Finding.{PointTo}
+use Rattle.constant_meaning.specs.Leaving.{IsConstant, AreConstant}
+use Rattle.constant_meaning.proofs.Changes.{contents_of, Changed}
+use Rattle.constant_meaning.proofs.Storing.{Leaves, parts_leave, pointers_stay}
+
+-- an object that was just placed
+record IsPlaced (o : StaticObject) (placed : ObjectState) : Type 0 where
+  bytes : placed.bytes ≡ replicate (size_of_kind o.kind) 0
+  tags : placed.tags ≡ replicate (size_of_kind o.kind / 8) Untagged
+  low : placed.address + size_of_kind o.kind ≤ 2 ^ 64
+
+-- the objects from a number on
+abbrev ArePlaced : (n : ℕ) → List StaticObject → Objects → Type 0
+ArePlaced n [] objects = Unit {0}
+ArePlaced n (o ∷ os) objects = IsPlaced o (object_at objects n) × ArePlaced (suc n) os objects
+
+starts_zero : (o : StaticObject) (s : ObjectState) → IsPlaced o s → contents_of s ≡ zero_contents (size_of_kind o.kind)
+starts_zero o s h =
+    let bytes = h.bytes in
+    let tags = h.tags in
+    cc
+
+chosen : (b : Bool) (r : Run (Unit {0})) (n : ℕ) (c : Contents) (s : State) → b ≡ false → Leaves r n c s → Leaves (choose b skip r) n c s
+chosen true r n c s e h = absurd cc
+chosen false r n c s e h = h
+
+leaves_of : (ps : Pointers) (o : StaticObject) (c : Contents) → initial_contents ps o ≡ Ok c
+    → with_parts ps o.parts (zero_contents (size_of_kind o.kind)) ≡ Ok c
+unfolding initial_contents
+leaves_of ps o c e = e
+
+-- one object
+object_leaves : (ps : Pointers) (env : Env) (n : ℕ) (o : StaticObject) (c : Contents) (s : State) → IsConstant ps o c
+    → IsPlaced o (object_at s.objects n) → n < length s.objects → PointTo ps s.objects
+    → Leaves (choose (name_variables o.parts) skip (store_parts env (pointer_to n s.objects) o.parts)) n c s
+object_leaves ps env n o c s h placed made at =
+    let size : size_of_kind o.kind ≡ length (object_at s.objects n).bytes =
+    sym (ap length placed.bytes ∙ length-replicate (size_of_kind o.kind) 0) in
+    let low = placed.low in
+    let starts : with_parts ps o.parts (contents_of (object_at s.objects n)) ≡ Ok c =
+    ap (with_parts ps o.parts) (starts_zero o (object_at s.objects n) placed) ∙ leaves_of ps o c h.leaves in
+    chosen (name_variables o.parts) _ n c s h.unnamed (parts_leave ps env n (pointer_to n s.objects) (size_of_kind o.kind) o.parts s c refl
+    (record { made = made; low = omega (arith, low, size); pointers = at }) h.bytes size h.inside starts)
+
+-- what is left of all objects from a number on: those before it stay, and each has its contents
+record AllLeft (r : Run (Unit {0})) (n : ℕ) (cs : List Contents) (s : State) : Type 0 where
+  after : State
+  gives : r s ≡ Gives tt after
+  before : (m : ℕ) → m < n → object_at after.objects m ≡ object_at s.objects m
+  own : (k : ℕ) (c : Contents) → slice_get cs k ≡ Some c → contents_of (object_at after.objects (n + k)) ≡ c
+
+still_placed : (first n : ℕ) (os : List StaticObject) (c : Contents) (old new : Objects) → n < first → Changed n c old new
+    → ArePlaced first os old → ArePlaced first os new
+still_placed first n [] c old new lt h placed = tt
+still_placed first n (o ∷ os) c old new lt h placed =
+    let same = h.others first (λ e. absurd (omega (arith, e, lt))) in
+    (subst (IsPlaced o) (sym same) placed.0, still_placed (suc first) n os c old new (omega (arith, lt)) h placed.1)
+
+some_same : (c d : Contents) → Some c ≡ Some d → c ≡ d
+some_same c d e = cc
+
+statics_leave : (ps : Pointers) (env : Env) (n : ℕ) (os : List StaticObject) (cs : List Contents) (s : State) → AreConstant ps os cs
+    → ArePlaced n os s.objects → n + length os ≤ length s.objects → PointTo ps s.objects
+    → AllLeft (store_statics env n os) n cs s
+statics_leave ps env n [] [] s h placed made at = record {
+  after = s;
+  gives = refl;
+  before = λ m lt. refl;
+  own = λ k c e. absurd (none k c e);
+}
+  where
+    none : (k : ℕ) (c : Contents) → slice_get (let xs : List Contents = [] in xs) k ≡ Some c → ⊥
+    none zero c e = absurd cc
+    none (suc k) c e = absurd cc
+statics_leave ps env n [] (c ∷ cs) s h placed made at = absurd h
+statics_leave ps env n (o ∷ os) [] s h placed made at = absurd h
+statics_leave ps env n (o ∷ os) (c ∷ cs) s h placed made at =
+    let first = object_leaves ps env n o c s h.0 placed.0 (omega (arith, made)) at in
+    let count = first.changed.count in
+    let next : n + 1 ≡ suc n = omega arith in
+    let rest : AllLeft (store_statics env (n + 1) os) (n + 1) cs first.after =
+    statics_leave ps env (n + 1) os cs first.after h.1
+    (subst (λ i. ArePlaced i os first.after.objects) (sym next) (still_placed (suc n) n os c s.objects first.after.objects (omega arith) first.changed placed.1))
+    (omega (arith, made, count)) (pointers_stay first.changed at) in
+    record {
+      after = rest.after;
+      gives = ap (λ o'. on o' (λ _. store_statics env (n + 1) os)) first.gives ∙ rest.gives;
+      before = λ m lt. rest.before m (omega (arith, lt)) ∙ first.changed.others m (λ e. absurd (omega (arith, e, lt)));
+      own = own_of first rest;
+    }
+  where
+    own_of : (first : Leaves (choose (name_variables o.parts) skip (store_parts env (pointer_to n s.objects) o.parts)) n c s)
+        → (rest : AllLeft (store_statics env (n + 1) os) (n + 1) cs first.after)
+        → (k : ℕ) (d : Contents) → slice_get (c ∷ cs) k ≡ Some d → contents_of (object_at rest.after.objects (n + k)) ≡ d
+    own_of first rest zero d e =
+        let same : n + 0 ≡ n = omega arith in
+        ap (λ i. contents_of (object_at rest.after.objects i)) same ∙ ap contents_of (rest.before n (omega arith))
+        ∙ ap contents_of first.changed.own ∙ some_same c d e
+    own_of first rest (suc k) d e =
+        let same : n + suc k ≡ n + 1 + k = omega arith in
+        ap (λ i. contents_of (object_at rest.after.objects i)) same ∙ rest.own k d e
+
+-- the objects of a program
+
+ends : (os : List StaticObject) (offset : ℕ) → offset ≤ statics_end os offset
+ends [] offset = omega arith
+ends (o ∷ os) offset = let rest = ends os (rounded_up 16 offset + size_of_kind o.kind) in omega (arith, rest)
+
+is_new : (o : StaticObject) (address : ℕ) → address + size_of_kind o.kind ≤ 2 ^ 64 → IsPlaced o (new_object Static address (size_of_kind o.kind))
+unfolding new_object
+is_new o address low = record { bytes = refl; tags = refl; low = low }
+
+-- objects behind some others
+are_behind : (first : ℕ) (os : List StaticObject) (offset n : ℕ) (all : Objects)
+    → ((k : ℕ) → object_at all (n + k) ≡ object_at (placed_statics first os offset) k)
+    → first + statics_end os offset ≤ 2 ^ 64 → ArePlaced n os all
+are_behind first [] offset n all at low = tt
+are_behind first (o ∷ os) offset n all at low =
+    let end = ends os (rounded_up 16 offset + size_of_kind o.kind) in
+    let same : n ≡ n + 0 = omega arith in
+    let own = ap (object_at all) same ∙ at 0 in (
+      subst (IsPlaced o) (sym own) (is_new o (first + rounded_up 16 offset) (omega (arith, end, low))),
+      are_behind first os (rounded_up 16 offset + size_of_kind o.kind) (suc n) all
+          (λ k. let next : suc n + k ≡ n + suc k = omega arith in ap (object_at all) next ∙ at (suc k)) low,
+    )
+
+count_placed : (first : ℕ) (os : List StaticObject) (offset : ℕ) → length (placed_statics first os offset) ≡ length os
+count_placed first [] offset = refl
+count_placed first (o ∷ os) offset =
+    let rest = count_placed first os (rounded_up 16 offset + size_of_kind o.kind) in omega (arith, rest)
+
+statics_low : (p : Program) (budgets : BudgetSizes) → AreMapped (setting_of p budgets).sizes
+    → statics_first (setting_of p budgets) + statics_end p.statics 0 ≤ 2 ^ 64
+unfolding region_start
+statics_low p budgets mapped = let globals = mapped.globals in omega (arith, globals)
+
+abbrev pub placed_of : Program → BudgetSizes → Objects
+placed_of p budgets = placed_statics (statics_first (setting_of p budgets)) p.statics 0
+
+pub initial_contents_are : (p : Program) (budgets : BudgetSizes) (ps : Pointers) (cs : List Contents) → AreMapped (setting_of p budgets).sizes
+    → PointTo ps (placed_of p budgets) → AreConstant ps p.statics cs → (n : ℕ) (c : Contents) → slice_get cs n ≡ Some c
+    → contents_of (object_at (initial_objects p (setting_of p budgets)) n) ≡ c
+initial_contents_are p budgets ps cs mapped at constant n c e =
+    let g = setting_of p budgets in
+    let placed = placed_of p budgets in
+    let count = count_placed (statics_first g) p.statics 0 in
+    let left : AllLeft (store_statics (static_env g) 0 p.statics) 0 cs (fresh g placed []) =
+    statics_leave ps (static_env g) 0 p.statics cs (fresh g placed []) constant
+    (are_behind (statics_first g) p.statics 0 0 placed (λ k. let same : 0 + k ≡ k = omega arith in ap (object_at placed) same) (statics_low p budgets mapped))
+    (omega (arith, count)) at in
+    let same : n ≡ 0 + n = omega arith in
+    ap (λ o. contents_of (object_at (objects_after placed o) n)) left.gives
+    ∙ ap (λ i. contents_of (object_at left.after.objects i)) same ∙ left.own n c e

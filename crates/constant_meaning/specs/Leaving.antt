@@ -1,0 +1,32 @@
+-- What is known of static objects whose initializers are constant.
+use Rattle.std.specs.Prelude.{◌≡◌, ℕ, ◌<◌, List, [], ◌∷◌, true, false, Ok}
+use Rattle.c_tree.specs.Statements.{Content, value_content, literal_content, Part}
+use Rattle.c_tree.specs.Programs.{StaticObject}
+use Rattle.c_tree.specs.ValidProgram.{name_variables}
+use Rattle.c_const.specs.Addresses.{Pointers}
+use Rattle.c_const.specs.Contents.{Contents, initial_contents, are_inside}
+
+abbrev pub AreBytes : List ℕ → Type 0
+AreBytes [] = Unit {0}
+AreBytes (b ∷ bs) = (b < 256) × AreBytes bs
+
+-- the bytes of literals are bytes
+abbrev pub HasBytes : Content → Type 0
+HasBytes (value_content e) = Unit {0}
+HasBytes (literal_content bytes) = AreBytes bytes
+
+abbrev pub HaveBytes : List Part → Type 0
+HaveBytes [] = Unit {0}
+HaveBytes (q ∷ qs) = HasBytes q.content × HaveBytes qs
+
+-- an object whose initializer is constant, lies in it, names no variable, and leaves these contents
+pub record IsConstant (ps : Pointers) (o : StaticObject) (c : Contents) : Type 0 where
+  pub leaves : initial_contents ps o ≡ Ok c
+  pub inside : are_inside o ≡ true
+  pub unnamed : name_variables o.parts ≡ false
+  pub bytes : HaveBytes o.parts
+
+abbrev pub AreConstant : Pointers → List StaticObject → List Contents → Type 0
+AreConstant ps [] [] = Unit {0}
+AreConstant ps (o ∷ os) (c ∷ cs) = IsConstant ps o c × AreConstant ps os cs
+AreConstant ps _ _ = ⊥

@@ -1,6 +1,5 @@
 -- The longest token at the front of a text (C99 6.4 paragraph 4).
-use Rattle.std.specs.Prelude.{ℕ, zero, suc, Bool, true, ◌&&◌, if◌then◌else◌, List, take, drop, length, Option, Some}
-use Rattle.std.specs.Prelude.{None, is_some}
+use Rattle.std.specs.Prelude.{ℕ, zero, suc, Bool, true, ◌&&◌, if◌then◌else◌, List, take, drop, length, Option, Some, None, is_some}
 use Rattle.c_lexer.specs.declared.token.Word.{Word}
 use Rattle.c_lexer.specs.declared.token.Word.TheVariants as word
 use Rattle.c_lexer.specs.Characters.{begins}

@@ -220,8 +220,7 @@ fn scan_valid(text: &[u8]) -> Option<(Word<'_>, usize)>
     Some((word, length))
 }
 
-/// The longest token at the front of a text that begins with no white space and no whole comment, and its length.
-/// `None`
+/// The longest token at the front of a text that begins with no white space and no whole comment, and its length. `None`
 /// where none stands: at the end, at a comment that is never closed, and at a number that is no integer constant with a
 /// type.
 pub fn front_token(text: &[u8]) -> Option<(Word<'_>, usize)>

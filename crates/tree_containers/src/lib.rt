@@ -1,5 +1,4 @@
-//! The containers of trees: a `Box` and a `Vec` that contracts see as what they hold, without where it lies in memory,
-//! so
+//! The containers of trees: a `Box` and a `Vec` that contracts see as what they hold, without where it lies in memory, so
 //! that equal trees are equal values.
 #![tactic(auto)]
 

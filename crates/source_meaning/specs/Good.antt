@@ -122,7 +122,8 @@ plain_type (v ∷ vs) (suc x) = plain_type vs x
 
 -- each plain variable of a function holds a value of its type, and those that can be named are as they are declared
 pub record AreTyped (functions : ℕ) (scope : Scope) (values : List Value) : Type 0 where
-  pub value : (x : ℕ) (k : Scalar) → plain_type scope.all x ≡ Some k → IsOfType functions k (get_or values x (integer 0))
+  pub value : (x : ℕ) (k : Scalar) → plain_type scope.all x ≡ Some k
+      → IsOfType functions k (get_or values x (integer 0))
   pub named : (x : ℕ) (k : Scalar) → plain_type scope.variables x ≡ Some k → plain_type scope.all x ≡ Some k
 
 -- the names of a function, and the sizes of the memory
@@ -147,7 +148,8 @@ abbrev pub IsGood : Context → State → Type 0
 IsGood sc s = IsGoodBy sc s.objects s.frame s.plain s.accesses s.stacked
 
 abbrev pub EndsMade : (old new : Objects) → Type 0
-EndsMade old new = (n : ℕ) → length old ≤ n → (object_at new n).is_live ≡ true → is_allocated (object_at new n).storage ≡ true
+EndsMade old new = (n : ℕ) → length old ≤ n → (object_at new n).is_live ≡ true
+    → is_allocated (object_at new n).storage ≡ true
 
 -- a good state is left for another, in which the same names are of the same objects
 pub record Leaves (sc : Context) (s s' : State) : Type 0 where
@@ -273,13 +275,15 @@ AreGiven functions kinds vs o = AreTagged functions vs o × AreOfKinds functions
 
 -- what the calls of an environment do
 pub record Calling (sc : Context) (env : Env) : Type 0 where
-  pub call : (f : ℕ) (vs : List Rvalue) (line : ℕ) → Sure sc (ArgumentsAre (function_count sc) (taking sc f) vs) (env.call f vs line) (ArgumentIs (function_count sc) (giving sc f))
+  pub call : (f : ℕ) (vs : List Rvalue) (line : ℕ)
+      → Sure sc (ArgumentsAre (function_count sc) (taking sc f) vs) (env.call f vs line) (ArgumentIs (function_count sc) (giving sc f))
   pub library : (r : Routine) (vs : List Value) (line : ℕ)
       → Sure sc (AreGiven (function_count sc) (routine_signature r).parameters vs) (routine env.setting r vs line) (IsGiven (function_count sc) (routine_signature r).result)
   pub print : (format : List ℕ) (vs : List Value) (line : ℕ)
       → Sure sc (AreTagged (function_count sc) vs) (print_formatted format vs line) (IsGiven (function_count sc) (OfScalar (Integer Int)))
   -- a function that has a type takes and gives what the type says
-  pub typed : (f type : ℕ) → has_type (header_at env.setting.functions f) type ≡ true → signature_in sc.scope.functions f ≡ signature_in sc.scope.types type
+  pub typed : (f type : ℕ) → has_type (header_at env.setting.functions f) type ≡ true
+      → signature_in sc.scope.functions f ≡ signature_in sc.scope.types type
 
 -- where some variables can be named
 abbrev pub context_of : Scope → (sizes : MapSizes) → (all variables : List Variable) → Context
@@ -306,7 +310,8 @@ IsIn n (InObject k ∷ hs) = (n ≡ k) ⊎ IsIn n hs
 
 -- objects that are made, and still live, are blocks of the heap, or in one of some homes
 abbrev pub EndsBut : (old new : Objects) → List Home → Type 0
-EndsBut old new homes = (n : ℕ) → length old ≤ n → (object_at new n).is_live ≡ true → (is_allocated (object_at new n).storage ≡ true) ⊎ IsIn n homes
+EndsBut old new homes = (n : ℕ) → length old ≤ n → (object_at new n).is_live ≡ true
+    → (is_allocated (object_at new n).storage ≡ true) ⊎ IsIn n homes
 
 -- a block that declares some variables is entered: these have homes too, in objects that are new
 pub record IsEntered (base : Scope) (sizes : MapSizes) (all vars : List Variable) (numbers : List ℕ) (s : State) (b : Block) (s' : State) : Type 0 where
@@ -316,7 +321,8 @@ pub record IsEntered (base : Scope) (sizes : MapSizes) (all vars : List Variable
   pub new : AllFrom (length s.objects) b.homes
   pub ends : EndsBut s.objects s'.objects b.homes
 
-abbrev pub EntersBy : Scope → (sizes : MapSizes) → (all vars : List Variable) → (numbers : List ℕ) → State → Outcome Block → Type 0
+abbrev pub EntersBy : Scope → (sizes : MapSizes) → (all vars : List Variable) → (numbers : List ℕ) → State
+    → Outcome Block → Type 0
 EntersBy base sizes all vars numbers s (Gives b s') = IsEntered base sizes all vars numbers s b s'
 EntersBy base sizes all vars numbers s (Ended e s') = Stops (length base.functions) sizes s.objects s'
 EntersBy base sizes all vars numbers s (Paused s') = ⊥

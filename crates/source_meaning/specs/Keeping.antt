@@ -63,7 +63,8 @@ pub record IsSoundState (functions : ℕ) (sizes : MapSizes) (s : State) : Type 
 -- objects live on that no `free` ends
 pub record LivesOn (old new : Objects) : Type 0 where
   pub continues : Continues old new
-  pub live : (n : ℕ) → n < length old → is_allocated (object_at old n).storage ≡ false → (object_at old n).is_live ≡ true → (object_at new n).is_live ≡ true
+  pub live : (n : ℕ) → n < length old → is_allocated (object_at old n).storage ≡ false
+      → (object_at old n).is_live ≡ true → (object_at new n).is_live ≡ true
 
 -- a pointer is to some bytes of a live object
 pub record IsDirect (objects : Objects) (v : Value) (size : ℕ) : Type 0 where

@@ -1,6 +1,6 @@
 //! Laws of the definitions, each as the contract of a function that does nothing: layers above rest on
 //! them.
-ghost use Rattle.std.specs.Prelude.{◌≡◌, ℕ, List, Bool, true, false, length, map, Some};
+ghost use Rattle.std.specs.Prelude.{◌≡◌, ◌≢◌, ◌<◌, ℕ, List, Bool, true, false, length, map, Some};
 ghost use Rattle.behaviours.specs.Behaviour.{IsSource};
 ghost use Rattle.sb_base.specs.Budgets.{BudgetSizes};
 ghost use Rattle.addr_map.specs.Places.{AreMapped, MapSizes};
@@ -24,7 +24,9 @@ ghost use Rattle.c_tree.specs.Programs.{Function, Program};
 ghost use Rattle.c_tree.specs.ValidProgram.{are_declared, function_scope, Inside as Surrounding, is_statement, is_valid_program};
 ghost use Rattle.source_meaning.specs.State.{Env, State, Rvalue, Gives, Run, Header, Setting, change};
 ghost use Rattle.source_meaning.specs.Actions.{located, read_lvalue, write_lvalue, read_scalar, write_scalar, updated, update, update_plain, set_plain, move_bytes, make_object, put_bytes, take_key, each_value, operate, load, store};
-ghost use Rattle.source_meaning.specs.Structures.{read_rvalue, take_value, write_rvalue};
+ghost use Rattle.source_meaning.specs.Structures.{moved_into, put_range, read_rvalue, take_value, write_rvalue};
+ghost use Rattle.obj_memory.specs.Objects.{ObjectState, Objects, object_at};
+ghost use Rattle.obj_memory.specs.Access.{move_range};
 ghost use Rattle.source_meaning.specs.Expressions.{callee, evaluate, place, values};
 ghost use Rattle.source_meaning.specs.Initializers.{zero_variable, store_bytes};
 ghost use Rattle.source_meaning.specs.Library.{routine};
@@ -157,7 +159,8 @@ pub fn statements_keep_states_good()
 
 /// So does every call of a valid program, and its first state is good: what the two laws above ask of calls.
 pub fn calls_keep_states_good()
-    ensures call { (p : Program) (budgets : BudgetSizes) → AreMapped (setting_of p budgets).sizes → is_valid_program p ≡ true
+    ensures call { (p : Program) (budgets : BudgetSizes) → AreMapped (setting_of p budgets).sizes
+        → is_valid_program p ≡ true
         → (limit n : ℕ) (sc : Context) → sc.scope.statics ≡ (file_scope p).statics
         → sc.scope.functions ≡ (file_scope p).functions → sc.sizes ≡ (setting_of p budgets).sizes
         → (f : ℕ) (vs : List Rvalue) (line : ℕ)
@@ -168,6 +171,7 @@ pub fn calls_keep_states_good()
         → is_valid_program p ≡ true → (limit n : ℕ) (f : Function)
         → Inside (function_scope p f) (setting_of p budgets).sizes
         (env_of p.functions (setting_of p budgets) limit n (all_of f)) }
+    ensures functions { (p : Program) → length (file_scope p).functions ≡ length p.functions }
     ensures start { (p : Program) (budgets : BudgetSizes) → AreMapped (setting_of p budgets).sizes
         → is_valid_program p ≡ true → (input : List ℕ)
         → IsGood (record { scope = file_scope p; sizes = (setting_of p budgets).sizes })
@@ -323,4 +327,15 @@ pub fn actions_keep_states_good()
     ensures print { (sc : Context) (format : List ℕ) (vs : List Value) (line : ℕ)
         → Sure sc (AreTagged (function_count sc) vs) (print_formatted format vs line)
         (IsGiven (function_count sc) (OfScalar (Integer Int))) }
+{}
+
+/// Contents that are moved to a place leave there what the same move from an object leaves, and every other object stays.
+pub fn moved_contents_are_written()
+    ensures object { (size : ℕ) (d : Place) (source : ℕ) (c : ObjectState) (objects : Objects)
+        → d.object < length objects → object_at (put_range size d source c objects) d.object
+        ≡ moved_into size d.offset source c (object_at objects d.object) }
+    ensures other { (size : ℕ) (d : Place) (source n : ℕ) (c : ObjectState) (objects : Objects) → n ≢ d.object
+        → object_at (put_range size d source c objects) n ≡ object_at objects n }
+    ensures range { (size : ℕ) (d s : Place) (objects : Objects)
+        → move_range size d s objects ≡ put_range size d s.offset (object_at objects s.object) objects }
 {}

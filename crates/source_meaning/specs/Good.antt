@@ -276,11 +276,14 @@ AreGiven functions kinds vs o = AreTagged functions vs o × AreOfKinds functions
 -- what the calls of an environment do
 pub record Calling (sc : Context) (env : Env) : Type 0 where
   pub call : (f : ℕ) (vs : List Rvalue) (line : ℕ)
-      → Sure sc (ArgumentsAre (function_count sc) (taking sc f) vs) (env.call f vs line) (ArgumentIs (function_count sc) (giving sc f))
+      → Sure sc (ArgumentsAre (function_count sc) (taking sc f) vs) (env.call f vs line)
+      (ArgumentIs (function_count sc) (giving sc f))
   pub library : (r : Routine) (vs : List Value) (line : ℕ)
-      → Sure sc (AreGiven (function_count sc) (routine_signature r).parameters vs) (routine env.setting r vs line) (IsGiven (function_count sc) (routine_signature r).result)
+      → Sure sc (AreGiven (function_count sc) (routine_signature r).parameters vs) (routine env.setting r vs line)
+      (IsGiven (function_count sc) (routine_signature r).result)
   pub print : (format : List ℕ) (vs : List Value) (line : ℕ)
-      → Sure sc (AreTagged (function_count sc) vs) (print_formatted format vs line) (IsGiven (function_count sc) (OfScalar (Integer Int)))
+      → Sure sc (AreTagged (function_count sc) vs) (print_formatted format vs line)
+      (IsGiven (function_count sc) (OfScalar (Integer Int)))
   -- a function that has a type takes and gives what the type says
   pub typed : (f type : ℕ) → has_type (header_at env.setting.functions f) type ≡ true
       → signature_in sc.scope.functions f ≡ signature_in sc.scope.types type
@@ -314,7 +317,8 @@ EndsBut old new homes = (n : ℕ) → length old ≤ n → (object_at new n).is_
     → (is_allocated (object_at new n).storage ≡ true) ⊎ IsIn n homes
 
 -- a block that declares some variables is entered: these have homes too, in objects that are new
-pub record IsEntered (base : Scope) (sizes : MapSizes) (all vars : List Variable) (numbers : List ℕ) (s : State) (b : Block) (s' : State) : Type 0 where
+pub record IsEntered (base : Scope) (sizes : MapSizes) (all vars : List Variable) (numbers : List ℕ) (s : State)
+    (b : Block) (s' : State) : Type 0 where
   pub block : b ≡ record { homes = b.homes; frame = s.frame; stacked = s.stacked }
   pub good : IsGood (context_of base sizes all (opened numbers 0 all vars)) s'
   pub lives : LivesOn s.objects s'.objects

@@ -285,8 +285,8 @@ pub fn variables_change_where_they_are_set()
         → Keeps (callee functions type_number v line) }
 {}
 
-/// A call of a valid program that is set up from a good state is ended there, or leaves a good state of the function that
-/// is called; where it returns, the caller's state is good again.
+/// A call of a valid program that is set up from a good state is ended there, or leaves a good state of the function
+/// that is called; where it returns, the caller's state is good again.
 pub fn calls_are_entered_and_left()
     ensures enter { (p : Program) (budgets : BudgetSizes) → AreMapped (setting_of p budgets).sizes
         → is_valid_program p ≡ true → (n : ℕ) (f : Function) → function_at p.functions n ≡ Some f → (around : Scope)
@@ -329,7 +329,8 @@ pub fn actions_keep_states_good()
         (IsGiven (function_count sc) (OfScalar (Integer Int))) }
 {}
 
-/// Contents that are moved to a place leave there what the same move from an object leaves, and every other object stays.
+/// Contents that are moved to a place leave there what the same move from an object leaves, and every other object
+/// stays.
 pub fn moved_contents_are_written()
     ensures object { (size : ℕ) (d : Place) (source : ℕ) (c : ObjectState) (objects : Objects)
         → d.object < length objects → object_at (put_range size d source c objects) d.object

@@ -14,6 +14,8 @@ use Rattle.obj_memory.specs.Sound.{IsSoundObject, IsSoundTag, AreDisjoint}
 use Rattle.c_tree.specs.declared.expression.Kind.{Kind}
 use Rattle.c_tree.specs.declared.expression.Kind.TheVariants.{Void, Scalar as OfScalar, Structure, Array}
 use Rattle.c_tree.specs.declared.expression.Routine.{Routine}
+use Rattle.c_tree.specs.declared.expression.Update.{Update}
+use Rattle.c_tree.specs.declared.expression.Update.TheVariants.{Arithmetic, Forward, Back}
 use Rattle.c_tree.specs.declared.program.Variable.{Variable}
 use Rattle.c_tree.specs.Kinds.{size_of_kind, Signature, routine_signature}
 use Rattle.c_tree.specs.Tree.{Lvalue, lvalue, LvalueNode, automatic, static, deref, index, member, arrow, member_of_value, parenthesized_lvalue}
@@ -297,6 +299,15 @@ pub record Inside (base : Scope) (sizes : MapSizes) (env : Env) : Type 0 where
   pub calling : (variables : List Variable) → Calling (context_of base sizes env.variables variables) env
   pub at : env.setting.sizes ≡ sizes
   pub mapped : AreMapped sizes
+
+-- an integer is updated by an operator, and a pointer by elements
+abbrev pub Updates : Update → Scalar → Type 0
+Updates (Arithmetic op t) (Integer s) = Unit {0}
+Updates (Arithmetic op t) Pointer = ⊥
+Updates (Forward size) (Integer s) = ⊥
+Updates (Forward size) Pointer = Unit {0}
+Updates (Back size) (Integer s) = ⊥
+Updates (Back size) Pointer = Unit {0}
 
 -- blocks
 

@@ -1,6 +1,6 @@
 //! Laws of the definitions, each as the contract of a function that does nothing: layers above rest on
 //! them.
-ghost use Rattle.std.specs.Prelude.{◌≡◌, ◌≢◌, ◌<◌, ℕ, List, Bool, true, false, length, map, Some};
+ghost use Rattle.std.specs.Prelude.{◌≡◌, ◌≢◌, ◌<◌, ℕ, IfSome, List, Bool, true, false, length, map, Some};
 ghost use Rattle.behaviours.specs.Behaviour.{IsSource};
 ghost use Rattle.sb_base.specs.Budgets.{BudgetSizes};
 ghost use Rattle.addr_map.specs.Places.{AreMapped, MapSizes};
@@ -27,6 +27,8 @@ ghost use Rattle.source_meaning.specs.Actions.{located, read_lvalue, write_lvalu
 ghost use Rattle.source_meaning.specs.Structures.{moved_into, put_range, read_rvalue, take_value, write_rvalue};
 ghost use Rattle.obj_memory.specs.Objects.{ObjectState, Objects, object_at};
 ghost use Rattle.obj_memory.specs.Access.{move_range};
+ghost use Rattle.obj_memory.specs.Integers.{fit};
+ghost use Rattle.obj_memory.specs.Operators.{binary_value};
 ghost use Rattle.source_meaning.specs.Expressions.{callee, evaluate, place, values};
 ghost use Rattle.source_meaning.specs.Initializers.{zero_variable, store_bytes};
 ghost use Rattle.source_meaning.specs.Library.{routine};
@@ -45,7 +47,7 @@ ghost use Rattle.source_meaning.specs.Staying.{Stays, Keeps, KeepsLives, frees};
 ghost use Rattle.c_tree.specs.Valid.{Scope, are_valid, is_valid, is_valid_lvalue};
 ghost use Rattle.source_meaning.specs.Initializers.{initialize_all};
 ghost use Rattle.source_meaning.specs.Statements.{execute};
-ghost use Rattle.source_meaning.specs.Good.{EntersBy, IsEntered, Leaves, Any, ArgumentIs, ArgumentsAre, basis_of, Calling, CompletionIs, Context, context_of, file_scope, function_count, Inside, IsGood, LvalueIs, signature_in, Sure, ValueIs, program_context, SetsUpBy, IsSetUp, AreGiven, Basis, IsGiven, IsTagged, on_pointer, plain_type, PlaceIs};
+ghost use Rattle.source_meaning.specs.Good.{EntersBy, IsEntered, Leaves, Any, ArgumentIs, ArgumentsAre, basis_of, Calling, CompletionIs, Context, context_of, file_scope, function_count, Inside, IsGood, LvalueIs, signature_in, Sure, ValueIs, program_context, SetsUpBy, IsSetUp, AreGiven, Basis, IsGiven, IsTagged, on_pointer, plain_type, PlaceIs, Updates};
 ghost use Rattle.source_meaning.specs.Judging.{tested};
 ghost use Rattle.source_meaning.specs.Keeping.{AreTagged, IsDirect, IsSoundState};
 
@@ -303,8 +305,8 @@ pub fn calls_are_entered_and_left()
         → Leaves (program_context p (setting_of p budgets).sizes around) s (back_to (caller s) s2) }
 {}
 
-/// Each action of an expression keeps states good, and gives what is of its kind: reads and writes of lvalues of each
-/// basis, updates, plain variables, operators, initializers, routines.
+/// Each action keeps states good, and gives what is of its kind: reads and writes of lvalues of each basis, updates,
+/// operators, plain variables, initializers, routines. Blocks and calls have laws of their own.
 pub fn actions_keep_states_good()
     ensures read { (sc : Context) (b : Basis) (kind : Kind) (q : Rvalue) (line : ℕ)
         → Sure sc (LvalueIs (function_count sc) b kind q) (read_rvalue kind (on_pointer b) q line)
@@ -314,6 +316,27 @@ pub fn actions_keep_states_good()
         (write_rvalue kind (on_pointer b) q line v) (ValueIs (function_count sc) kind) }
     ensures taken { (sc : Context) (kind : Kind) (line : ℕ) (v : Rvalue)
         → Sure sc (ValueIs (function_count sc) kind v) (take_value kind line v) (ArgumentIs (function_count sc) kind) }
+    ensures load { (sc : Context) (b : Basis) (k : Scalar) (q : Value) (line : ℕ)
+        → Sure sc (PlaceIs (function_count sc) b (OfScalar k) q) (load k (on_pointer b) q line)
+        (IsGiven (function_count sc) (OfScalar k)) }
+    ensures store { (sc : Context) (b : Basis) (k : Scalar) (q : Value) (line : ℕ) (v : Value)
+        → Sure sc (λ o. IsTagged (function_count sc) v o × PlaceIs (function_count sc) b (OfScalar k) q o)
+        (store k (on_pointer b) q line v) (λ done o. IsTagged (function_count sc) v o) }
+    ensures update { (sc : Context) (b : Basis) (k : Scalar) (q : Value) (line : ℕ) (u : Update) → Updates u k
+        → (right : Value) (at : ℕ) (f : Fixity)
+        → Sure sc (PlaceIs (function_count sc) b (OfScalar k) q)
+        (update k (on_pointer b) q line (updated u k right at) f) (IsGiven (function_count sc) (OfScalar k)) }
+    ensures updated { (sc : Context) (u : Update) (k : Scalar) → Updates u k → (right : Value) (line : ℕ)
+        → (old : Value) → Sure sc (IsTagged (function_count sc) old) (updated u k right line old)
+        (IsGiven (function_count sc) (OfScalar k)) }
+    ensures operate { (sc : Context) (op : BinaryOperator) (t : IntType) (x y : Value) (line : ℕ) (result : IntType)
+        → IfSome (binary_value op t x.word y.word) (λ w. fit result w ≡ w)
+        → Sure sc Any (operate op t x y line) (IsGiven (function_count sc) (OfScalar (Integer result))) }
+    ensures callee { (sc : Context) (functions : List Header) (type_number : ℕ) (v : Value) (line : ℕ)
+        → Sure sc Any (callee functions type_number v line) (λ f. Any) }
+    ensures update_plain { (sc : Context) (u : Update) (k : Scalar) (x : ℕ) → Updates u k
+        → plain_type sc.scope.variables x ≡ Some k → (right : Value) (at : ℕ) (f : Fixity)
+        → Sure sc Any (update_plain x (updated u k right at) f) (IsGiven (function_count sc) (OfScalar k)) }
     ensures plain { (sc : Context) (x : ℕ) (k : Scalar) → plain_type sc.scope.variables x ≡ Some k → (v : Value)
         → Sure sc (IsGiven (function_count sc) (OfScalar k) v) (set_plain x v)
         (λ done o. IsTagged (function_count sc) v o) }

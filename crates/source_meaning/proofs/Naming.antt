@@ -13,7 +13,6 @@ use Rattle.c_tree.specs.Programs.{Function, StaticObject, Program}
 use Rattle.c_tree.specs.Kinds.{integer, pointer, size_of_kind, class_of, are_operands, Signature, routine_signature}
 use Rattle.c_tree.specs.declared.expression.Update.{Update}
 use Rattle.obj_memory.specs.declared.int_type.IntType.TheVariants.{Int, Long}
-use Rattle.obj_memory.specs.declared.value.Scalar.{Scalar}
 use Rattle.obj_memory.specs.declared.value.Scalar.TheVariants.{Integer, Pointer}
 use Rattle.obj_memory.specs.Integers.{fit}
 use Rattle.c_tree.specs.Valid.{Scope, within, is_operand}

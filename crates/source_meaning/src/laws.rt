@@ -28,7 +28,11 @@ ghost use Rattle.source_meaning.specs.Structures.{moved_into, put_range, read_rv
 ghost use Rattle.obj_memory.specs.Objects.{ObjectState, Objects, object_at};
 ghost use Rattle.obj_memory.specs.Access.{move_range};
 ghost use Rattle.obj_memory.specs.Integers.{fit};
-ghost use Rattle.obj_memory.specs.Operators.{binary_value};
+ghost use Rattle.obj_memory.specs.Operators.{binary_value, unary_value};
+ghost use Rattle.obj_memory.specs.declared.operator.UnaryOperator.{UnaryOperator};
+ghost use Rattle.c_tree.specs.Kinds.{are_operands, class_of};
+ghost use Rattle.c_tree.specs.Valid.{is_operand, is_update};
+ghost use Rattle.source_meaning.specs.Actions.{integer_type, scalar_of};
 ghost use Rattle.source_meaning.specs.Expressions.{callee, evaluate, place, values};
 ghost use Rattle.source_meaning.specs.Initializers.{zero_variable, store_bytes};
 ghost use Rattle.source_meaning.specs.Library.{routine};
@@ -47,7 +51,7 @@ ghost use Rattle.source_meaning.specs.Staying.{Stays, Keeps, KeepsLives, frees};
 ghost use Rattle.c_tree.specs.Valid.{Scope, are_valid, is_valid, is_valid_lvalue};
 ghost use Rattle.source_meaning.specs.Initializers.{initialize_all};
 ghost use Rattle.source_meaning.specs.Statements.{execute};
-ghost use Rattle.source_meaning.specs.Good.{EntersBy, IsEntered, Leaves, Any, ArgumentIs, ArgumentsAre, basis_of, Calling, CompletionIs, Context, context_of, file_scope, function_count, Inside, IsGood, LvalueIs, signature_in, Sure, ValueIs, program_context, SetsUpBy, IsSetUp, AreGiven, Basis, IsGiven, IsTagged, on_pointer, plain_type, PlaceIs, Updates};
+ghost use Rattle.source_meaning.specs.Good.{EntersBy, IsEntered, Leaves, Any, ArgumentIs, ArgumentsAre, basis_of, Calling, CompletionIs, Context, context_of, file_scope, function_count, Inside, IsGood, LvalueIs, signature_in, Sure, ValueIs, program_context, SetsUpBy, IsSetUp, AreGiven, Basis, IsGiven, IsTagged, on_pointer, plain_type, PlaceIs, Updates, IsOfKind};
 ghost use Rattle.source_meaning.specs.Judging.{tested};
 ghost use Rattle.source_meaning.specs.Keeping.{AreTagged, IsDirect, IsSoundState};
 
@@ -362,4 +366,18 @@ pub fn moved_contents_are_written()
         → object_at (put_range size d source c objects) n ≡ object_at objects n }
     ensures range { (size : ℕ) (d s : Place) (objects : Objects)
         → move_range size d s objects ≡ put_range size d s.offset (object_at objects s.object) objects }
+{}
+
+/// Of a valid operator with operands of their kinds, what it gives is of the type of its result; a valid update is one of
+/// the type that it updates.
+pub fn valid_operators_give_their_types()
+    ensures unary { (op : UnaryOperator) (k result : Kind) → is_operand op k result ≡ true
+        → (t : IntType) × (result ≡ OfScalar (Integer t))
+        × ((w : ℕ) → fit t (unary_value op (integer_type (scalar_of k)) w)
+        ≡ unary_value op (integer_type (scalar_of k)) w) }
+    ensures binary { (op : BinaryOperator) (k l result : Kind) → are_operands (class_of op) k l result ≡ true
+        → (t : IntType) × (result ≡ OfScalar (Integer t))
+        × ((functions : ℕ) (x y : Value) → IsOfKind functions k x → IsOfKind functions l y
+        → IfSome (binary_value op (integer_type (scalar_of k)) x.word y.word) (λ w. fit t w ≡ w)) }
+    ensures update { (u : Update) (k : Scalar) (right : Kind) → is_update u (OfScalar k) right ≡ true → Updates u k }
 {}

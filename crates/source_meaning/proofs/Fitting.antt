@@ -31,9 +31,12 @@ promoted_type (Array n) e = never e
 
 -- the type of a result, of which each value is one
 abbrev pub UnaryFits : UnaryOperator → (operand result : Kind) → Type 0
-UnaryFits op k result = (t : IntType) × (result ≡ OfScalar (Integer t)) × ((w : ℕ) → fit t (unary_value op (integer_type (scalar_of k)) w) ≡ unary_value op (integer_type (scalar_of k)) w)
+UnaryFits op k result = (t : IntType) × (result ≡ OfScalar (Integer t)) × ((w : ℕ)
+    → fit t (unary_value op (integer_type (scalar_of k)) w) ≡ unary_value op (integer_type (scalar_of k)) w)
 
-same_unary : (op : UnaryOperator) (k result : Kind) → ((t : IntType) (w : ℕ) → fit t (unary_value op t w) ≡ unary_value op t w) → is_promoted k ≡ true → is_kind result k ≡ true → UnaryFits op k result
+same_unary : (op : UnaryOperator) (k result : Kind)
+    → ((t : IntType) (w : ℕ) → fit t (unary_value op t w) ≡ unary_value op t w) → is_promoted k ≡ true
+    → is_kind result k ≡ true → UnaryFits op k result
 same_unary op k result fits e same =
     let p = promoted_type k e in
     (p.0, same_kind result k same ∙ p.1, λ w. subst (λ z. fit p.0 (unary_value op (integer_type (scalar_of z)) w) ≡ unary_value op (integer_type (scalar_of z)) w) (sym p.1) (fits p.0 w))
@@ -55,9 +58,12 @@ unfolding unary_value
 not_fits t w = truth_stays Int (w == 0)
 
 pub unary_fits : (op : UnaryOperator) (k result : Kind) → is_operand op k result ≡ true → UnaryFits op k result
-unary_fits Plus k result e = let h = both (is_promoted k) (is_kind result k) e in same_unary Plus k result plus_fits h.0 h.1
-unary_fits Negate k result e = let h = both (is_promoted k) (is_kind result k) e in same_unary Negate k result negate_fits h.0 h.1
-unary_fits Complement k result e = let h = both (is_promoted k) (is_kind result k) e in same_unary Complement k result complement_fits h.0 h.1
+unary_fits Plus k result e = let h =
+    both (is_promoted k) (is_kind result k) e in same_unary Plus k result plus_fits h.0 h.1
+unary_fits Negate k result e = let h =
+    both (is_promoted k) (is_kind result k) e in same_unary Negate k result negate_fits h.0 h.1
+unary_fits Complement k result e = let h =
+    both (is_promoted k) (is_kind result k) e in same_unary Complement k result complement_fits h.0 h.1
 unary_fits Not k result e =
     let h = both (is_scalar k) (is_kind result (integer Int)) e in
     (Int, same_kind result (integer Int) h.1, λ w. not_fits (integer_type (scalar_of k)) w)
@@ -66,9 +72,11 @@ unary_fits Not k result e =
 
 abbrev pub BinaryFits : BinaryOperator → (left right result : Kind) → Type 0
 BinaryFits op k l result = (t : IntType) × (result ≡ OfScalar (Integer t))
-    × ((functions : ℕ) (x y : Value) → IsOfKind functions k x → IsOfKind functions l y → IfSome (binary_value op (integer_type (scalar_of k)) x.word y.word) (λ w. fit t w ≡ w))
+    × ((functions : ℕ) (x y : Value) → IsOfKind functions k x → IsOfKind functions l y
+    → IfSome (binary_value op (integer_type (scalar_of k)) x.word y.word) (λ w. fit t w ≡ w))
 
-arithmetic_fits : (op : BinaryOperator) (k l result : Kind) → are_operands Arithmetic k l result ≡ true → BinaryFits op k l result
+arithmetic_fits : (op : BinaryOperator) (k l result : Kind) → are_operands Arithmetic k l result ≡ true
+    → BinaryFits op k l result
 arithmetic_fits op k l result e =
     let h = three (is_promoted k) (is_kind k l) (is_kind result k) e in
     let p = promoted_type k h.0 in (
@@ -80,7 +88,9 @@ arithmetic_fits op k l result e =
           subst (λ z. IfSome (binary_value op (integer_type (scalar_of z)) x.word y.word) (λ w. fit p.0 w ≡ w)) (sym p.1) (binary_stays op p.0 x.word y.word left.1 right.1),
     )
 
-shift_fits : (op : BinaryOperator) → ((t : IntType) (x y : ℕ) → fit t x ≡ x → IfSome (binary_value op t x y) (λ w. fit t w ≡ w)) → (k l result : Kind) → are_operands Shift k l result ≡ true → BinaryFits op k l result
+shift_fits : (op : BinaryOperator)
+    → ((t : IntType) (x y : ℕ) → fit t x ≡ x → IfSome (binary_value op t x y) (λ w. fit t w ≡ w)) → (k l result : Kind)
+    → are_operands Shift k l result ≡ true → BinaryFits op k l result
 shift_fits op fits k l result e =
     let h = three (is_promoted k) (is_promoted l) (is_kind result k) e in
     let p = promoted_type k h.0 in (
@@ -103,7 +113,8 @@ right_fits t x y h = shift_stays t x _ h
 abbrev Compares : BinaryOperator → Type 0
 Compares op = (t : IntType) (x y : ℕ) → IfSome (binary_value op t x y) (λ w. fit Int w ≡ w)
 
-compare_fits : (op : BinaryOperator) → Compares op → (k l result : Kind) → are_operands Comparison k l result ≡ true → BinaryFits op k l result
+compare_fits : (op : BinaryOperator) → Compares op → (k l result : Kind) → are_operands Comparison k l result ≡ true
+    → BinaryFits op k l result
 compare_fits op truth k l result e =
     let h = three _ (is_kind k l) (is_kind result (integer Int)) e in
     (Int, same_kind result (integer Int) h.2, λ functions x y hx hy. truth (integer_type (scalar_of k)) x.word y.word)
@@ -132,7 +143,8 @@ not_equal_compares : Compares NotEqual
 unfolding binary_value
 not_equal_compares t x y = truth_stays Int _
 
-pub binary_fits : (op : BinaryOperator) (k l result : Kind) → are_operands (class_of op) k l result ≡ true → BinaryFits op k l result
+pub binary_fits : (op : BinaryOperator) (k l result : Kind) → are_operands (class_of op) k l result ≡ true
+    → BinaryFits op k l result
 binary_fits Add k l result e = arithmetic_fits Add k l result e
 binary_fits Subtract k l result e = arithmetic_fits Subtract k l result e
 binary_fits Multiply k l result e = arithmetic_fits Multiply k l result e

@@ -18,7 +18,8 @@ use Rattle.c_tree.specs.declared.expression.Kind.{Kind}
 use Rattle.c_tree.specs.declared.program.Variable.{Variable}
 use Rattle.source_meaning.specs.State.{Home}
 use Rattle.source_meaning.specs.State.{NoObject, InObject}
-use Rattle.source_meaning.specs.State.{State, Outcome, Gives, Ended, Paused, on, done, choose}
+use Rattle.source_meaning.specs.State.{State, Outcome, Gives, Ended, Paused, on, done, choose, Setting}
+use Rattle.source_meaning.specs.Places.{stack_end}
 use Rattle.c_tree.specs.Kinds.{size_of_kind}
 use Rattle.source_meaning.specs.Calls.{}
 use Rattle.source_meaning.specs.Blocks.{objects_end, place_object, place_variables, without_homes}
@@ -34,6 +35,10 @@ beyond_low objects n h = subst (λ (o : ObjectState). o.address + o.size ≤ 161
 -- objects that are low stand below 2 ^ 64
 pub low_word : (objects : Objects) (n : ℕ) → AreLow objects → (object_at objects n).address + (object_at objects n).size < 2 ^ 64
 low_word objects n h = let end = h n in omega (arith, end)
+
+-- what passes the test of the stack lies in its region
+pub within_stack : (g : Setting) (sizes : MapSizes) → g.sizes ≡ sizes → (end : ℕ) → end ≤ stack_end g → end ≤ region_end sizes Stack
+within_stack g sizes same end fits = subst (λ m. end ≤ region_end m Stack) same fits
 
 -- one of two, by their order
 abbrev OrderCase : (n m : ℕ) → Type 0

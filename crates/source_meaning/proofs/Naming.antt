@@ -1,7 +1,7 @@
 -- What accesses that are not judged rest on. They name an object or a structure value, so the names must be of objects that
 -- are there, members must lie in what has them, and a structure value is used where it is made. Every program that types
 -- has this.
-use Rattle.source_meaning.specs.Good.{Basis, OnName, OnPointer, OnValue, basis_of, object_kind, plain_type, signature_in, static_kind}
+use Rattle.source_meaning.specs.Good.{Updates, Basis, OnName, OnPointer, OnValue, basis_of, object_kind, plain_type, signature_in, static_kind}
 use Rattle.std.specs.Prelude.{◌≡◌, ℕ, ◌+◌, ◌<◌, ◌≤◌, true, false, List, [], ◌∷◌, ◌++◌, map, Option, Some, None, length}
 use Rattle.c_tree.specs.declared.expression.Kind.{Kind}
 use Rattle.c_tree.specs.declared.expression.Kind.TheVariants.{Void, Scalar as OfScalar, Structure, Array}
@@ -12,9 +12,7 @@ use Rattle.c_tree.specs.declared.program.Variable.{Variable}
 use Rattle.c_tree.specs.Programs.{Function, StaticObject, Program}
 use Rattle.c_tree.specs.Kinds.{integer, pointer, size_of_kind, class_of, are_operands, Signature, routine_signature}
 use Rattle.c_tree.specs.declared.expression.Update.{Update}
-use Rattle.c_tree.specs.declared.expression.Update.TheVariants.{Arithmetic, Forward, Back}
 use Rattle.obj_memory.specs.declared.int_type.IntType.TheVariants.{Int, Long}
-use Rattle.obj_memory.specs.declared.value.Scalar.{Scalar}
 use Rattle.obj_memory.specs.declared.value.Scalar.TheVariants.{Integer, Pointer}
 use Rattle.obj_memory.specs.Integers.{fit}
 use Rattle.c_tree.specs.Valid.{Scope, within, is_operand}
@@ -55,15 +53,7 @@ IsConstantOf w (OfScalar Pointer) = ⊥
 IsConstantOf w (Structure n) = ⊥
 IsConstantOf w (Array n) = ⊥
 
--- an integer is updated by an operator, and a pointer by elements
-abbrev pub Updates : Update → Scalar → Type 0
-Updates (Arithmetic op t) (Integer s) = Unit {0}
-Updates (Arithmetic op t) Pointer = ⊥
-Updates (Forward size) (Integer s) = ⊥
-Updates (Forward size) Pointer = Unit {0}
-Updates (Back size) (Integer s) = ⊥
-Updates (Back size) Pointer = Unit {0}
-
+-- an update of a scalar of a kind
 abbrev pub UpdatesKind : Update → Kind → Type 0
 UpdatesKind u Void = ⊥
 UpdatesKind u (OfScalar k) = Updates u k

@@ -1,5 +1,5 @@
 -- The actions keep objects sound.
-use Rattle.source_meaning.specs.Good.{PlaceIs, ReachBy, on_pointer, function_count, After, Any, AreTyped, IsGiven, IsOfKind, IsOfType, IsWord, plain_type, Basis, Context, IsGood, IsTagged, OnName, OnPointer, OnValue, Sure}
+use Rattle.source_meaning.specs.Good.{Updates, PlaceIs, ReachBy, on_pointer, function_count, After, Any, AreTyped, IsGiven, IsOfKind, IsOfType, IsWord, plain_type, Basis, Context, IsGood, IsTagged, OnName, OnPointer, OnValue, Sure}
 use Rattle.std.proofs.Common.{◌≡◌, ℕ, zero, suc, ◌+◌, ◌-◌, ◌*◌, ◌%◌, ◌^◌, List, [], ◌∷◌, Bool, true, false, Option, Some, None, get_or, set, refl, sym, ap, ◌∙◌, subst, arith, nat_lt, IfSome}
 use Rattle.behaviours.specs.Shown.{AccessKind, Read, Write}
 use Rattle.sb_base.specs.declared.ending.Ending.TheVariants.{Keys}
@@ -43,7 +43,6 @@ use Rattle.source_meaning.specs.Actions.{integer, converted_to, converted, offse
 use Rattle.source_meaning.specs.Expressions.{callee_by, callee}
 use Rattle.source_meaning.specs.Initializers.{zero_object, zero_home, zero_variable}
 use Rattle.source_meaning.specs.Keeping.{AreTagged, LiesInObject, IsDirect}
-use Rattle.source_meaning.proofs.Naming.{Updates}
 use Rattle.source_meaning.proofs.Separating.{ends_same}
 use Rattle.source_meaning.proofs.Holding.{all_lie_more, lives_same, direct_named, direct_allowed, allowed_lies, judged_direct, direct_kept}
 use Rattle.source_meaning.proofs.Sure.{IsStable, stops_same, sure_on, sure_weak, sure_post, sure_frame, sure_done, sure_skip, sure_stop, sure_read, sure_tally, sure_choose, sure_objects, PlaceValueIs, stable_tag}

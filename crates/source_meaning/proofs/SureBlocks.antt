@@ -13,8 +13,7 @@ use Rattle.c_tree.specs.declared.program.Variable.{Variable}
 use Rattle.c_tree.specs.Blocks.{no_variable, closed, is_among, opened, block_objects}
 use Rattle.source_meaning.specs.State.{Home, NoObject, InObject, State, Outcome, Gives, Ended, Paused, Run, on, ◌>>=◌, ◌>>◌, done, stop, choose, change, skip, Setting}
 use Rattle.source_meaning.specs.Statements.{Completion, Normal, Broken, Continued, Returned}
-use Rattle.addr_map.specs.declared.region.Region.TheVariants.{Stack as StackRegion}
-use Rattle.addr_map.specs.Places.{MapSizes, AreMapped, region_end}
+use Rattle.addr_map.specs.Places.{MapSizes, AreMapped}
 use Rattle.source_meaning.specs.Places.{stack_end}
 use Rattle.source_meaning.specs.Actions.{take_key}
 use Rattle.source_meaning.specs.Blocks.{pass_or_stop, objects_end, has_objects, place_variables, without_homes, test_keys, over, homes_over, Block, place_block, enter_block, leave_block, scoped}
@@ -25,7 +24,7 @@ use Rattle.source_meaning.proofs.Holding.{all_lie_on, lives_then, held_on}
 use Rattle.source_meaning.proofs.Typing.{opened_as}
 use Rattle.obj_memory.specs.declared.value.Value.{Value}
 use Rattle.source_meaning.proofs.Sure.{stops_same, stops_then, argument_on, stable_tagged}
-use Rattle.source_meaning.proofs.Laying.{PlacedHome, placed_home, placed_from, without_sound, without_low, without_lives, ends_but_then, ends_without, Placed, PlacesBy, places}
+use Rattle.source_meaning.proofs.Laying.{within_stack, PlacedHome, placed_home, placed_from, without_sound, without_low, without_lives, ends_but_then, ends_without, Placed, PlacesBy, places}
 use Rattle.source_meaning.specs.Good.{AllFrom, EndsBut}
 
 pub completion_on : (functions : ℕ) (result : Kind) (f : Completion) (old new : Objects) → Continues old new → CompletionIs functions result f old → CompletionIs functions result f new
@@ -157,13 +156,9 @@ module _ (base : Scope) (sizes : MapSizes) (all vars : List Variable) (numbers :
   placed_block s k good (Paused s2) h = absurd h
 
   module _ (g : Setting) (same : g.sizes ≡ sizes) (mapped : AreMapped sizes) (line : ℕ) where
-    -- what passes the test of the stack lies in its region
-    in_stack : (end : ℕ) → end ≤ stack_end g → end ≤ region_end sizes StackRegion
-    in_stack end fits = subst (λ m. end ≤ region_end m StackRegion) same fits
-
     placing : (s : State) (k : ℕ) → IsGood sc s → objects_end own s.stacked ≤ stack_end g → Enters s (place_block own (record s { keys = k }))
     placing s k good fits =
-        placed_block s k good (place_variables own (record s { keys = k })) (places (function_count sc) sizes mapped own (record s { keys = k }) good.kept.sound good.low good.separate (in_stack (objects_end own s.stacked) fits))
+        placed_block s k good (place_variables own (record s { keys = k })) (places (function_count sc) sizes mapped own (record s { keys = k }) good.kept.sound good.low good.separate (within_stack g sizes same (objects_end own s.stacked) fits))
 
     key_enters : (s : State) → IsGood sc s → objects_end own s.stacked ≤ stack_end g → (b : Bool) → Enters s (on (choose b (change (λ s. record s { keys = s.keys + 1 })) (stop (Keys line)) s) (λ _. place_block own))
     key_enters s good fits true = placing s (s.keys + 1) good fits

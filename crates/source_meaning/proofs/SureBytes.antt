@@ -82,16 +82,17 @@ read_below : (place : Place) (o : Objects) → (read_value (Integer UnsignedChar
 unfolding read_value
 read_below place o = fit_below _
 
--- how bytes compare is an int
-less : fit Int (2 ^ 64 - 1) ≡ 2 ^ 64 - 1
+-- -1 is an int
+pub minus_one_is : fit Int (2 ^ 64 - 1) ≡ 2 ^ 64 - 1
 unfolding fit
-less = refl
+minus_one_is = refl
 
+-- how bytes compare is an int
 order_is : (x y : ℕ) → fit Int (order x y).word ≡ (order x y).word
 order_is x y = by (nat_lt x y)
   where
     by : (b : Bool) → fit Int (if b then 2 ^ 64 - 1 else one_if (nat_lt y x)) ≡ (if b then 2 ^ 64 - 1 else one_if (nat_lt y x))
-    by true = less
+    by true = minus_one_is
     by false = truth_stays Int (nat_lt y x)
 
 order_of_is : (functions : ℕ) (xs ys : List ℕ) → IsOfType functions (Integer Int) (order_of xs ys)

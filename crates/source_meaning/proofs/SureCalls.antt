@@ -15,8 +15,7 @@ use Rattle.source_meaning.specs.State.{NoObject, InObject}
 use Rattle.source_meaning.specs.Statements.{Completion}
 use Rattle.source_meaning.specs.Statements.{Normal, Broken, Continued, Returned}
 use Rattle.source_meaning.specs.State.{State, Rvalue, Outcome, Gives, Ended, Paused, on, ◌>>=◌, ◌>>◌, done, stop, choose, change, skip, Header, Setting, Env}
-use Rattle.addr_map.specs.declared.region.Region.TheVariants.{Stack as StackRegion}
-use Rattle.addr_map.specs.Places.{MapSizes, AreMapped, region_end}
+use Rattle.addr_map.specs.Places.{MapSizes, AreMapped}
 use Rattle.c_tree.specs.Valid.{Scope}
 use Rattle.source_meaning.specs.Places.{stack_end}
 use Rattle.source_meaning.specs.Actions.{integer, home_value, take_key}
@@ -34,7 +33,7 @@ use Rattle.source_meaning.proofs.SureStructures.{sure_write_rvalue, zero_argumen
 use Rattle.source_meaning.proofs.SureFlow.{sure_begin_turn, row_sure}
 use Rattle.c_tree.specs.Blocks.{all_of, block_variables, body_variables}
 use Rattle.source_meaning.proofs.Typing.{entered_as, values_typed}
-use Rattle.source_meaning.proofs.Laying.{low_word, PlacedHome, Placed, placed_homes, placed_on, placed_from, without_sound, without_low, without_lives, ends_but_then, ends_without, PlacesBy, places}
+use Rattle.source_meaning.proofs.Laying.{low_word, within_stack, PlacedHome, Placed, placed_homes, placed_on, placed_from, without_sound, without_low, without_lives, ends_but_then, ends_without, PlacesBy, places}
 use Rattle.source_meaning.specs.Good.{AllFrom, EndsBut}
 
 -- plain values at entry
@@ -141,10 +140,6 @@ module _ (u : ProgramNames) (f : Function) (names : FunctionNames u f) (g : Sett
   written s s1 l new ends (Ended e s2) h = stops_then s.objects s1.objects s2 l h
   written s s1 l new ends (Paused s2) h = stops_then s.objects s1.objects s2 l h
 
-  -- what is passed by the test of the stack lies in its region
-  in_stack : (end : ℕ) → end ≤ stack_end g → end ≤ region_end sizes StackRegion
-  in_stack end fits = subst (λ m. end ≤ region_end m StackRegion) within fits
-
   module _ (around : Scope) (vs : List Rvalue) (line : ℕ) where
     abbrev outer : Context
     outer = calling_context u sizes around
@@ -181,7 +176,7 @@ module _ (u : ProgramNames) (f : Function) (names : FunctionNames u f) (g : Sett
         laid s good tagged s2 h.0.0 h.0.1 refl (place_variables (body_objects head) s2)
         (places (length u.functions) sizes mapped (body_objects head) s2 (subst (IsSound (length u.functions)) (sym h.0.0) good.kept.sound) (subst AreLow (sym h.0.0) good.low)
         (subst (λ o. AreSeparate sizes s1.stacked o) (sym h.0.0) (subst (λ t. AreSeparate sizes t s.objects) (sym h.0.2) good.separate))
-        (in_stack (objects_end (body_objects head) s1.stacked) h.1))
+        (within_stack g sizes within (objects_end (body_objects head) s1.stacked) h.1))
     tested s good tagged (Ended x s1) h = record {
       kept = subst (λ o. IsKept (length u.functions) o s1.accesses) (sym h.0) (subst (λ a. IsKept (length u.functions) s.objects a) (sym h.1) good.kept);
       plain = subst (λ o. AreTagged (length u.functions) s1.plain o) (sym h.0) (subst (λ vs. AreTagged (length u.functions) vs s.objects) (sym h.3) good.plain);

@@ -1,6 +1,6 @@
 -- The routines of the library keep objects sound.
 use Rattle.source_meaning.specs.Good.{function_count, After, Any, AreGiven, IsGiven, IsWord, Context, IsGood, IsTagged, Leaves, OnValue, Sure}
-use Rattle.std.proofs.Common.{◌≡◌, ℕ, ◌+◌, ◌-◌, ◌*◌, ◌%◌, ◌^◌, ◌≤◌, ◌<◌, List, [], ◌∷◌, Bool, true, false, ◌&&◌, Option, Some, None, length, min, if◌then◌else◌, refl, sym, ap, ◌∙◌, subst, arith, nat_lt}
+use Rattle.std.proofs.Common.{◌≡◌, ℕ, ◌+◌, ◌*◌, ◌%◌, ◌^◌, ◌≤◌, ◌<◌, List, [], ◌∷◌, Bool, true, false, ◌&&◌, Option, Some, None, length, min, if◌then◌else◌, refl, sym, ap, ◌∙◌, subst, arith, nat_lt}
 use Rattle.std.proofs.lemmas.Bool.{ltb-true, ltb-false}
 use Rattle.addr_map.specs.Places.{MapSizes, AreMapped, region_start, region_end}
 use Rattle.addr_map.specs.declared.region.Region.TheVariants.{Heap as HeapRegion}
@@ -40,7 +40,7 @@ use Rattle.source_meaning.specs.Keeping.{IsDirect}
 use Rattle.source_meaning.proofs.Holding.{beyond, length-new, length-dead, lives_same, lives_kept, lives_new, lives_dead_block}
 use Rattle.source_meaning.proofs.Sure.{IsStable, sure_frame, sure_beside, sure_objects, stable_tag, stable_tagged, sure_on, sure_weak, sure_any, sure_post, sure_done, sure_stop, sure_read, sure_tally, sure_choose, good_on}
 use Rattle.source_meaning.proofs.SureActions.{stable_beside, sure_located, sure_put_bytes, sure_take_key}
-use Rattle.source_meaning.proofs.SureBytes.{sure_memmove, sure_memset, sure_memcmp, sure_strlen, sure_compare_within, sure_strcpy, sure_strncpy, sure_strcat, sure_seek_within, sure_puts}
+use Rattle.source_meaning.proofs.SureBytes.{minus_one_is, sure_memmove, sure_memset, sure_memcmp, sure_strlen, sure_compare_within, sure_strcpy, sure_strncpy, sure_strcat, sure_seek_within, sure_puts}
 use Rattle.source_meaning.proofs.Laying.{low_word, fresh_live, fresh_size, low_new, low_dead}
 use Rattle.source_meaning.proofs.Separating.{separate_dead, separate_block, ends_same, ends_as_many, ends_block}
 
@@ -265,20 +265,16 @@ sure_move_block {sc = sc} n new size line =
 
 -- input and output
 
--- a byte is an int, and so is -1
+-- a byte is an int
 byte_is : (x : ℕ) → fit Int (x % 256) ≡ x % 256
 unfolding fit
 byte_is x = grind arith
-
-end_is : fit Int (2 ^ 64 - 1) ≡ 2 ^ 64 - 1
-unfolding fit
-end_is = refl
 
 sure_putchar : {sc : Context} {P : Objects → Type 0} (c : Value) → Sure sc P (putchar c) (IsGiven (function_count sc) (OfScalar (Integer Int)))
 sure_putchar {P = P} c = sure_on (sure_put_bytes {P = P} (c.word % 256 ∷ [])) (λ _. sure_done {a = integer (c.word % 256)} (λ o h. (tt, (refl, byte_is c.word))))
 
 byte_by : (sc : Context) (bytes : List ℕ) (s : State) → IsGood sc s → After sc s (IsGiven (function_count sc) (OfScalar (Integer Int))) (next_byte bytes s)
-byte_by sc [] s good = (record { good = good; lives = lives_same s.objects; frame = refl; ended = ends_same s.objects }, (tt, (refl, end_is)))
+byte_by sc [] s good = (record { good = good; lives = lives_same s.objects; frame = refl; ended = ends_same s.objects }, (tt, (refl, minus_one_is)))
 byte_by sc (b ∷ bs) s good = (record { good = good; lives = lives_same s.objects; frame = refl; ended = ends_same s.objects }, (tt, (refl, byte_is b)))
 
 module _ (g : Setting) (mapped : AreMapped g.sizes) {sc : Context} (least : g.sizes ≡ sc.sizes) where

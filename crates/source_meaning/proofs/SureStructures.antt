@@ -1,6 +1,6 @@
 -- Structures by value keep objects sound: contents are sound, and have all bytes of the structure.
 use Rattle.source_meaning.specs.Good.{PlaceIs, ReachBy, on_pointer, function_count, AreLow, IsGiven, IsOfType, IsWord, Any, ArgumentIs, Basis, Context, HasContents, IsTagged, LvalueIs, OnName, OnPointer, OnValue, RvalueReach, StructureIs, Sure, ValueIs}
-use Rattle.std.proofs.Common.{◌≡◌, ℕ, ◌+◌, ◌/◌, ◌%◌, ◌<◌, ◌≤◌, [], ◌∷◌, true, false, ◌==◌, if◌then◌else◌, Option, Some, None, length, get_or, take, drop, refl, ◌∙◌, arith, length-take, length-drop}
+use Rattle.std.proofs.Common.{◌≡◌, ◌≢◌, ℕ, ◌+◌, ◌/◌, ◌%◌, ◌<◌, ◌≤◌, [], ◌∷◌, true, false, ◌==◌, if◌then◌else◌, Option, Some, None, length, get_or, take, drop, refl, ◌∙◌, arith, length-take, length-drop}
 use Rattle.obj_memory.specs.declared.value.Tag.TheVariants.{Untagged}
 use Rattle.obj_memory.specs.declared.value.Value.{Value}
 use Rattle.obj_memory.specs.declared.value.Scalar.{Scalar}
@@ -8,14 +8,14 @@ use Rattle.obj_memory.specs.declared.value.Scalar.TheVariants.{Integer, Pointer}
 use Rattle.obj_memory.specs.declared.value.Place.{Place}
 use Rattle.obj_memory.specs.declared.object.Storage.TheVariants.{Automatic}
 use Rattle.obj_memory.specs.Objects.{ObjectState, Objects, object_at, new_object}
-use Rattle.obj_memory.specs.Access.{is_aligned, moved_tags, read_value}
+use Rattle.obj_memory.specs.Access.{is_aligned, moved_tags, move_range, read_value}
 use Rattle.obj_memory.specs.Sound.{IsSound, IsSoundObject, IsSoundTag, IsPlace, KeepsObjects}
 use Rattle.obj_memory.proofs.Soundness.{sound_set, sound_zeros, sound_overwritten, length-moved_tags, every_moved}
 use Rattle.obj_memory.proofs.Keeping.{keeps_set}
 use Rattle.obj_memory.proofs.Continuing.{IsLater}
 use Rattle.obj_memory.proofs.Listed.{every_take, every_drop}
 use Rattle.obj_memory.proofs.Words.{fit_twice}
-use Rattle.obj_memory.proofs.Reading.{number_below}
+use Rattle.obj_memory.proofs.Reading.{number_below, object_set, object_set_other}
 use Rattle.c_tree.specs.declared.expression.Kind.{Kind}
 use Rattle.c_tree.specs.declared.expression.Kind.TheVariants.{Void, Scalar as OfScalar, Structure, Array}
 use Rattle.c_tree.specs.Kinds.{size_of_kind}
@@ -74,9 +74,25 @@ zero_argument functions (Array n) objects = record { tag = tt; structure = refl;
 
 -- contents that are moved to a place
 
-keeps_put : (size : ℕ) (d : Place) (source : ℕ) (c : ObjectState) (objects : Objects) → KeepsObjects objects (put_range size d source c objects)
+pub keeps_put : (size : ℕ) (d : Place) (source : ℕ) (c : ObjectState) (objects : Objects) → KeepsObjects objects (put_range size d source c objects)
 unfolding put_range moved_into
 keeps_put size d source c objects = keeps_set objects d.object _ (record { storage = refl; address = refl; size = refl; live = refl })
+
+-- the whole object at the place, and the others
+pub put_object : (size : ℕ) (d : Place) (source : ℕ) (c : ObjectState) (objects : Objects) → d.object < length objects
+    → object_at (put_range size d source c objects) d.object ≡ moved_into size d.offset source c (object_at objects d.object)
+unfolding put_range
+put_object size d source c objects h = object_set objects d.object _ h
+
+pub put_other : (size : ℕ) (d : Place) (source n : ℕ) (c : ObjectState) (objects : Objects) → n ≢ d.object
+    → object_at (put_range size d source c objects) n ≡ object_at objects n
+unfolding put_range
+put_other size d source n c objects h = object_set_other objects d.object n _ h
+
+-- a range of an object is moved as contents are
+pub range_is : (size : ℕ) (d s : Place) (objects : Objects) → move_range size d s objects ≡ put_range size d s.offset (object_at objects s.object) objects
+unfolding move_range put_range moved_into
+range_is size d s objects = refl
 
 later_moved : (size start source : ℕ) (from to : ObjectState) → IsLater to (moved_into size start source from to)
 unfolding moved_into

@@ -26,19 +26,24 @@ type_of v = if v.is_object then None else scalar_if v.kind
 
 -- where a block is entered
 
-first_as : (here : Bool) (d v : Variable) (ds : List Variable) (k : Scalar) → (plain_type (v ∷ []) 0 ≡ Some k → plain_type (d ∷ []) 0 ≡ Some k) → plain_type ((if here then d else v) ∷ []) 0 ≡ Some k → plain_type (d ∷ []) 0 ≡ Some k
+first_as : (here : Bool) (d v : Variable) (ds : List Variable) (k : Scalar)
+    → (plain_type (v ∷ []) 0 ≡ Some k → plain_type (d ∷ []) 0 ≡ Some k)
+    → plain_type ((if here then d else v) ∷ []) 0 ≡ Some k → plain_type (d ∷ []) 0 ≡ Some k
 first_as true d v ds k h e = e
 first_as false d v ds k h e = h e
 
-pub opened_as : (numbers : List ℕ) (first : ℕ) (all vs : List Variable) → AreAs vs all → AreAs (opened numbers first all vs) all
+pub opened_as : (numbers : List ℕ) (first : ℕ) (all vs : List Variable) → AreAs vs all
+    → AreAs (opened numbers first all vs) all
 opened_as numbers first [] vs h x k e = no_type e
 opened_as numbers first (d ∷ ds) [] h x k e = no_type e
 opened_as numbers first (d ∷ ds) (v ∷ vs) h zero k e = first_as (is_among numbers first) d v ds k (λ f. h 0 k f) e
-opened_as numbers first (d ∷ ds) (v ∷ vs) h (suc x) k e = opened_as numbers (suc first) ds vs (λ y l f. h (suc y) l f) x k e
+opened_as numbers first (d ∷ ds) (v ∷ vs) h (suc x) k e =
+    opened_as numbers (suc first) ds vs (λ y l f. h (suc y) l f) x k e
 
 -- variables of which no object is entered
 
-closed_by : (d : Variable) (b : Bool) → d.is_object ≡ b → (k : Scalar) → plain_type ((if b then no_variable else d) ∷ []) 0 ≡ Some k → plain_type (d ∷ []) 0 ≡ Some k
+closed_by : (d : Variable) (b : Bool) → d.is_object ≡ b → (k : Scalar)
+    → plain_type ((if b then no_variable else d) ∷ []) 0 ≡ Some k → plain_type (d ∷ []) 0 ≡ Some k
 closed_by d true o k e = no_type e
 closed_by d false o k e = e
 
@@ -56,29 +61,38 @@ behind_as (p ∷ ps) vs all h zero k e = e
 behind_as (p ∷ ps) vs all h (suc x) k e = behind_as ps vs all h x k e
 
 -- where a function is entered
-pub entered_as : (ps ds : List Variable) (numbers : List ℕ) → AreAs (ps ++ opened numbers (length ps) ds (map closed ds)) (ps ++ ds)
-entered_as ps ds numbers = behind_as ps (opened numbers (length ps) ds (map closed ds)) ds (opened_as numbers (length ps) ds (map closed ds) (closed_as ds))
+pub entered_as : (ps ds : List Variable) (numbers : List ℕ)
+    → AreAs (ps ++ opened numbers (length ps) ds (map closed ds)) (ps ++ ds)
+entered_as ps ds numbers =
+    behind_as ps (opened numbers (length ps) ds (map closed ds)) ds (opened_as numbers (length ps) ds (map closed ds) (closed_as ds))
 
 -- the plain values of a call
 
-zeros_typed : (functions : ℕ) (vs : List Variable) (x : ℕ) (k : Scalar) → IsOfType functions k (get_or (map (λ _. integer 0) vs) x (integer 0))
+zeros_typed : (functions : ℕ) (vs : List Variable) (x : ℕ) (k : Scalar)
+    → IsOfType functions k (get_or (map (λ _. integer 0) vs) x (integer 0))
 zeros_typed functions [] x k = zero_of_type functions k
 zeros_typed functions (v ∷ vs) zero k = zero_of_type functions k
 zeros_typed functions (v ∷ vs) (suc x) k = zeros_typed functions vs x k
 
-kind_typed : (functions : ℕ) (kind : Kind) (v : Value) (k : Scalar) → scalar_if kind ≡ Some k → IsOfKind functions kind v → IsOfType functions k v
+kind_typed : (functions : ℕ) (kind : Kind) (v : Value) (k : Scalar) → scalar_if kind ≡ Some k
+    → IsOfKind functions kind v → IsOfType functions k v
 kind_typed functions Void v k e h = no_type e
 kind_typed functions (OfScalar s) v k e h = let same : s ≡ k = cc in subst (λ z. IsOfType functions z v) same h
 kind_typed functions (Structure n) v k e h = no_type e
 kind_typed functions (Array n) v k e h = no_type e
 
-parameter_typed : (functions : ℕ) (b : Bool) (kind : Kind) (v : Value) (k : Scalar) → (if b then None else scalar_if kind) ≡ Some k → IsOfKind functions kind v → IsOfType functions k (if b then integer 0 else v)
+parameter_typed : (functions : ℕ) (b : Bool) (kind : Kind) (v : Value) (k : Scalar)
+    → (if b then None else scalar_if kind) ≡ Some k → IsOfKind functions kind v
+    → IsOfType functions k (if b then integer 0 else v)
 parameter_typed functions true kind v k e h = no_type e
 parameter_typed functions false kind v k e h = kind_typed functions kind v k e h
 
-pub values_typed : (functions : ℕ) (ps rest : List Variable) (vs : List Rvalue) (o : Objects) → ArgumentsAre functions (kinds_in ps) vs o
-    → (x : ℕ) (k : Scalar) → plain_type (ps ++ rest) x ≡ Some k → IsOfType functions k (get_or (parameter_values ps vs ++ map (λ _. integer 0) rest) x (integer 0))
+pub values_typed : (functions : ℕ) (ps rest : List Variable) (vs : List Rvalue) (o : Objects)
+    → ArgumentsAre functions (kinds_in ps) vs o
+    → (x : ℕ) (k : Scalar) → plain_type (ps ++ rest) x ≡ Some k
+    → IsOfType functions k (get_or (parameter_values ps vs ++ map (λ _. integer 0) rest) x (integer 0))
 values_typed functions [] rest vs o h x k e = zeros_typed functions rest x k
 values_typed functions (p ∷ ps) rest [] o h x k e = absurd h
-values_typed functions (p ∷ ps) rest (v ∷ vs) o h zero k e = parameter_typed functions p.is_object p.kind v.value k e h.0.word
+values_typed functions (p ∷ ps) rest (v ∷ vs) o h zero k e =
+    parameter_typed functions p.is_object p.kind v.value k e h.0.word
 values_typed functions (p ∷ ps) rest (v ∷ vs) o h (suc x) k e = values_typed functions ps rest vs o h.1 x k e

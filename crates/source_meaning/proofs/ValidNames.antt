@@ -150,7 +150,7 @@ integer_update op t (OfScalar Pointer) e = never e
 integer_update op t (Structure n) e = never e
 integer_update op t (Array n) e = never e
 
-update_kind : (u : Update) (k right : Kind) → is_update u k right ≡ true → UpdatesKind u k
+pub update_kind : (u : Update) (k right : Kind) → is_update u k right ≡ true → UpdatesKind u k
 update_kind (update.Arithmetic op t) k right e = integer_update op t k (three (is_integer k) (is_promoted_type t) (is_right_of (class_of op) t right) e).0
 update_kind (update.Forward size) k right e = subst (UpdatesKind (update.Forward size)) (sym (same_kind k pointer (three (is_kind k pointer) _ _ e).0)) tt
 update_kind (update.Back size) k right e = subst (UpdatesKind (update.Back size)) (sym (same_kind k pointer (three (is_kind k pointer) _ _ e).0)) tt

@@ -201,7 +201,8 @@ read_lvalue (OfScalar k) is_judged p line = load k is_judged p line
 read_lvalue (Structure n) is_judged p line = load_structure n is_judged p line
 read_lvalue (Array n) is_judged p line = done p
 
--- an lvalue of a kind gets a value; what is given is the value as it is stored (6.5.16 paragraph 3)
+-- an lvalue of a kind gets a value; what is given is the value as it is stored (6.5.16 paragraph 3), of a pointer with
+-- its tag, also where the place keeps none
 abbrev pub write_lvalue : Kind → (is_judged : Bool) → Value → (line : ℕ) → Value → Run Value
 write_lvalue Void is_judged p line v = done v
 write_lvalue (OfScalar k) is_judged p line v = do

@@ -24,8 +24,8 @@ header_of f = record {
   room = f.room;
 }
 
--- all variables of a function in the order of their numbers, of which only those are objects that belong to the block of
--- its body, objects among the parameters too
+-- all variables of a function in the order of their numbers, of which only those are objects that belong to the block
+-- of its body, objects among the parameters too
 abbrev pub body_objects : Header → List Variable
 body_objects f = f.parameters ++ f.entered
 

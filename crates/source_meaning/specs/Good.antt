@@ -14,6 +14,8 @@ use Rattle.obj_memory.specs.Sound.{IsSoundObject, IsSoundTag, AreDisjoint}
 use Rattle.c_tree.specs.declared.expression.Kind.{Kind}
 use Rattle.c_tree.specs.declared.expression.Kind.TheVariants.{Void, Scalar as OfScalar, Structure, Array}
 use Rattle.c_tree.specs.declared.expression.Routine.{Routine}
+use Rattle.c_tree.specs.declared.expression.Update.{Update}
+use Rattle.c_tree.specs.declared.expression.Update.TheVariants.{Arithmetic, Forward, Back}
 use Rattle.c_tree.specs.declared.program.Variable.{Variable}
 use Rattle.c_tree.specs.Kinds.{size_of_kind, Signature, routine_signature}
 use Rattle.c_tree.specs.Tree.{Lvalue, lvalue, LvalueNode, automatic, static, deref, index, member, arrow, member_of_value, parenthesized_lvalue}
@@ -122,7 +124,8 @@ plain_type (v ∷ vs) (suc x) = plain_type vs x
 
 -- each plain variable of a function holds a value of its type, and those that can be named are as they are declared
 pub record AreTyped (functions : ℕ) (scope : Scope) (values : List Value) : Type 0 where
-  pub value : (x : ℕ) (k : Scalar) → plain_type scope.all x ≡ Some k → IsOfType functions k (get_or values x (integer 0))
+  pub value : (x : ℕ) (k : Scalar) → plain_type scope.all x ≡ Some k
+      → IsOfType functions k (get_or values x (integer 0))
   pub named : (x : ℕ) (k : Scalar) → plain_type scope.variables x ≡ Some k → plain_type scope.all x ≡ Some k
 
 -- the names of a function, and the sizes of the memory
@@ -147,7 +150,8 @@ abbrev pub IsGood : Context → State → Type 0
 IsGood sc s = IsGoodBy sc s.objects s.frame s.plain s.accesses s.stacked
 
 abbrev pub EndsMade : (old new : Objects) → Type 0
-EndsMade old new = (n : ℕ) → length old ≤ n → (object_at new n).is_live ≡ true → is_allocated (object_at new n).storage ≡ true
+EndsMade old new = (n : ℕ) → length old ≤ n → (object_at new n).is_live ≡ true
+    → is_allocated (object_at new n).storage ≡ true
 
 -- a good state is left for another, in which the same names are of the same objects
 pub record Leaves (sc : Context) (s s' : State) : Type 0 where
@@ -273,13 +277,18 @@ AreGiven functions kinds vs o = AreTagged functions vs o × AreOfKinds functions
 
 -- what the calls of an environment do
 pub record Calling (sc : Context) (env : Env) : Type 0 where
-  pub call : (f : ℕ) (vs : List Rvalue) (line : ℕ) → Sure sc (ArgumentsAre (function_count sc) (taking sc f) vs) (env.call f vs line) (ArgumentIs (function_count sc) (giving sc f))
+  pub call : (f : ℕ) (vs : List Rvalue) (line : ℕ)
+      → Sure sc (ArgumentsAre (function_count sc) (taking sc f) vs) (env.call f vs line)
+      (ArgumentIs (function_count sc) (giving sc f))
   pub library : (r : Routine) (vs : List Value) (line : ℕ)
-      → Sure sc (AreGiven (function_count sc) (routine_signature r).parameters vs) (routine env.setting r vs line) (IsGiven (function_count sc) (routine_signature r).result)
+      → Sure sc (AreGiven (function_count sc) (routine_signature r).parameters vs) (routine env.setting r vs line)
+      (IsGiven (function_count sc) (routine_signature r).result)
   pub print : (format : List ℕ) (vs : List Value) (line : ℕ)
-      → Sure sc (AreTagged (function_count sc) vs) (print_formatted format vs line) (IsGiven (function_count sc) (OfScalar (Integer Int)))
+      → Sure sc (AreTagged (function_count sc) vs) (print_formatted format vs line)
+      (IsGiven (function_count sc) (OfScalar (Integer Int)))
   -- a function that has a type takes and gives what the type says
-  pub typed : (f type : ℕ) → has_type (header_at env.setting.functions f) type ≡ true → signature_in sc.scope.functions f ≡ signature_in sc.scope.types type
+  pub typed : (f type : ℕ) → has_type (header_at env.setting.functions f) type ≡ true
+      → signature_in sc.scope.functions f ≡ signature_in sc.scope.types type
 
 -- where some variables can be named
 abbrev pub context_of : Scope → (sizes : MapSizes) → (all variables : List Variable) → Context
@@ -290,6 +299,15 @@ pub record Inside (base : Scope) (sizes : MapSizes) (env : Env) : Type 0 where
   pub calling : (variables : List Variable) → Calling (context_of base sizes env.variables variables) env
   pub at : env.setting.sizes ≡ sizes
   pub mapped : AreMapped sizes
+
+-- an integer is updated by an operator, and a pointer by elements
+abbrev pub Updates : Update → Scalar → Type 0
+Updates (Arithmetic op t) (Integer s) = Unit {0}
+Updates (Arithmetic op t) Pointer = ⊥
+Updates (Forward size) (Integer s) = ⊥
+Updates (Forward size) Pointer = Unit {0}
+Updates (Back size) (Integer s) = ⊥
+Updates (Back size) Pointer = Unit {0}
 
 -- blocks
 
@@ -306,17 +324,20 @@ IsIn n (InObject k ∷ hs) = (n ≡ k) ⊎ IsIn n hs
 
 -- objects that are made, and still live, are blocks of the heap, or in one of some homes
 abbrev pub EndsBut : (old new : Objects) → List Home → Type 0
-EndsBut old new homes = (n : ℕ) → length old ≤ n → (object_at new n).is_live ≡ true → (is_allocated (object_at new n).storage ≡ true) ⊎ IsIn n homes
+EndsBut old new homes = (n : ℕ) → length old ≤ n → (object_at new n).is_live ≡ true
+    → (is_allocated (object_at new n).storage ≡ true) ⊎ IsIn n homes
 
 -- a block that declares some variables is entered: these have homes too, in objects that are new
-pub record IsEntered (base : Scope) (sizes : MapSizes) (all vars : List Variable) (numbers : List ℕ) (s : State) (b : Block) (s' : State) : Type 0 where
+pub record IsEntered (base : Scope) (sizes : MapSizes) (all vars : List Variable) (numbers : List ℕ) (s : State)
+    (b : Block) (s' : State) : Type 0 where
   pub block : b ≡ record { homes = b.homes; frame = s.frame; stacked = s.stacked }
   pub good : IsGood (context_of base sizes all (opened numbers 0 all vars)) s'
   pub lives : LivesOn s.objects s'.objects
   pub new : AllFrom (length s.objects) b.homes
   pub ends : EndsBut s.objects s'.objects b.homes
 
-abbrev pub EntersBy : Scope → (sizes : MapSizes) → (all vars : List Variable) → (numbers : List ℕ) → State → Outcome Block → Type 0
+abbrev pub EntersBy : Scope → (sizes : MapSizes) → (all vars : List Variable) → (numbers : List ℕ) → State
+    → Outcome Block → Type 0
 EntersBy base sizes all vars numbers s (Gives b s') = IsEntered base sizes all vars numbers s b s'
 EntersBy base sizes all vars numbers s (Ended e s') = Stops (length base.functions) sizes s.objects s'
 EntersBy base sizes all vars numbers s (Paused s') = ⊥

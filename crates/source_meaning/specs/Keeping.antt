@@ -51,8 +51,8 @@ ArePlaced sizes objects = (n : ℕ) → n < length objects → IsInRegion sizes 
 abbrev pub AreTagged : (functions : ℕ) → List Value → Objects → Type 0
 AreTagged functions values objects = (x : ℕ) → IsSoundTag functions objects (get_or values x (integer 0)).tag
 
--- what holds of the objects, plain values and accesses of a state that a run came to: all tags are sound, live objects share no address that they take,
--- all stand in their regions, and so end at 0x60000000 at most, where the heap does
+-- what holds of the objects, plain values and accesses of a state that a run came to: all tags are sound, live objects
+-- share no address that they take, all stand in their regions, and so end at 0x60000000 at most, where the heap does
 pub record IsSoundState (functions : ℕ) (sizes : MapSizes) (s : State) : Type 0 where
   pub kept : IsKept functions s.objects s.accesses
   pub plain : AreTagged functions s.plain s.objects
@@ -63,7 +63,8 @@ pub record IsSoundState (functions : ℕ) (sizes : MapSizes) (s : State) : Type 
 -- objects live on that no `free` ends
 pub record LivesOn (old new : Objects) : Type 0 where
   pub continues : Continues old new
-  pub live : (n : ℕ) → n < length old → is_allocated (object_at old n).storage ≡ false → (object_at old n).is_live ≡ true → (object_at new n).is_live ≡ true
+  pub live : (n : ℕ) → n < length old → is_allocated (object_at old n).storage ≡ false
+      → (object_at old n).is_live ≡ true → (object_at new n).is_live ≡ true
 
 -- a pointer is to some bytes of a live object
 pub record IsDirect (objects : Objects) (v : Value) (size : ℕ) : Type 0 where

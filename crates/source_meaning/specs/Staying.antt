@@ -36,7 +36,8 @@ pub record Keeps {A : Type 0} (r : Run A) : Type 0 where
 
 -- a run in which no object dies
 pub record KeepsLives {A : Type 0} (r : Run A) : Type 0 where
-  pub live : (s : State) (n : ℕ) → (object_at s.objects n).is_live ≡ true → (object_at (state_of (r s)).objects n).is_live ≡ true
+  pub live : (s : State) (n : ℕ) → (object_at s.objects n).is_live ≡ true
+      → (object_at (state_of (r s)).objects n).is_live ≡ true
 
 -- the routines that may end the life of a block
 abbrev pub frees : Routine → Bool

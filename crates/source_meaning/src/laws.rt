@@ -1,6 +1,6 @@
 //! Laws of the definitions, each as the contract of a function that does nothing: layers above rest on
 //! them.
-ghost use Rattle.std.specs.Prelude.{◌≡◌, ℕ, List, Bool, true, false, length, map, Some};
+ghost use Rattle.std.specs.Prelude.{◌≡◌, ◌≢◌, ◌<◌, ℕ, IfSome, List, Bool, true, false, length, map, Some};
 ghost use Rattle.behaviours.specs.Behaviour.{IsSource};
 ghost use Rattle.sb_base.specs.Budgets.{BudgetSizes};
 ghost use Rattle.addr_map.specs.Places.{AreMapped, MapSizes};
@@ -24,7 +24,15 @@ ghost use Rattle.c_tree.specs.Programs.{Function, Program};
 ghost use Rattle.c_tree.specs.ValidProgram.{are_declared, function_scope, Inside as Surrounding, is_statement, is_valid_program};
 ghost use Rattle.source_meaning.specs.State.{Env, State, Rvalue, Gives, Run, Header, Setting, change};
 ghost use Rattle.source_meaning.specs.Actions.{located, read_lvalue, write_lvalue, read_scalar, write_scalar, updated, update, update_plain, set_plain, move_bytes, make_object, put_bytes, take_key, each_value, operate, load, store};
-ghost use Rattle.source_meaning.specs.Structures.{read_rvalue, take_value, write_rvalue};
+ghost use Rattle.source_meaning.specs.Structures.{moved_into, put_range, read_rvalue, take_value, write_rvalue};
+ghost use Rattle.obj_memory.specs.Objects.{ObjectState, Objects, object_at};
+ghost use Rattle.obj_memory.specs.Access.{move_range};
+ghost use Rattle.obj_memory.specs.Integers.{fit};
+ghost use Rattle.obj_memory.specs.Operators.{binary_value, unary_value};
+ghost use Rattle.obj_memory.specs.declared.operator.UnaryOperator.{UnaryOperator};
+ghost use Rattle.c_tree.specs.Kinds.{are_operands, class_of};
+ghost use Rattle.c_tree.specs.Valid.{is_operand, is_update};
+ghost use Rattle.source_meaning.specs.Actions.{integer_type, scalar_of};
 ghost use Rattle.source_meaning.specs.Expressions.{callee, evaluate, place, values};
 ghost use Rattle.source_meaning.specs.Initializers.{zero_variable, store_bytes};
 ghost use Rattle.source_meaning.specs.Library.{routine};
@@ -43,7 +51,7 @@ ghost use Rattle.source_meaning.specs.Staying.{Stays, Keeps, KeepsLives, frees};
 ghost use Rattle.c_tree.specs.Valid.{Scope, are_valid, is_valid, is_valid_lvalue};
 ghost use Rattle.source_meaning.specs.Initializers.{initialize_all};
 ghost use Rattle.source_meaning.specs.Statements.{execute};
-ghost use Rattle.source_meaning.specs.Good.{EntersBy, IsEntered, Leaves, Any, ArgumentIs, ArgumentsAre, basis_of, Calling, CompletionIs, Context, context_of, file_scope, function_count, Inside, IsGood, LvalueIs, signature_in, Sure, ValueIs, program_context, SetsUpBy, IsSetUp, AreGiven, Basis, IsGiven, IsTagged, on_pointer, plain_type, PlaceIs};
+ghost use Rattle.source_meaning.specs.Good.{EntersBy, IsEntered, Leaves, Any, ArgumentIs, ArgumentsAre, basis_of, Calling, CompletionIs, Context, context_of, file_scope, function_count, Inside, IsGood, LvalueIs, signature_in, Sure, ValueIs, program_context, SetsUpBy, IsSetUp, AreGiven, Basis, IsGiven, IsTagged, on_pointer, plain_type, PlaceIs, Updates, IsOfKind};
 ghost use Rattle.source_meaning.specs.Judging.{tested};
 ghost use Rattle.source_meaning.specs.Keeping.{AreTagged, IsDirect, IsSoundState};
 
@@ -157,7 +165,8 @@ pub fn statements_keep_states_good()
 
 /// So does every call of a valid program, and its first state is good: what the two laws above ask of calls.
 pub fn calls_keep_states_good()
-    ensures call { (p : Program) (budgets : BudgetSizes) → AreMapped (setting_of p budgets).sizes → is_valid_program p ≡ true
+    ensures call { (p : Program) (budgets : BudgetSizes) → AreMapped (setting_of p budgets).sizes
+        → is_valid_program p ≡ true
         → (limit n : ℕ) (sc : Context) → sc.scope.statics ≡ (file_scope p).statics
         → sc.scope.functions ≡ (file_scope p).functions → sc.sizes ≡ (setting_of p budgets).sizes
         → (f : ℕ) (vs : List Rvalue) (line : ℕ)
@@ -168,6 +177,7 @@ pub fn calls_keep_states_good()
         → is_valid_program p ≡ true → (limit n : ℕ) (f : Function)
         → Inside (function_scope p f) (setting_of p budgets).sizes
         (env_of p.functions (setting_of p budgets) limit n (all_of f)) }
+    ensures functions { (p : Program) → length (file_scope p).functions ≡ length p.functions }
     ensures start { (p : Program) (budgets : BudgetSizes) → AreMapped (setting_of p budgets).sizes
         → is_valid_program p ≡ true → (input : List ℕ)
         → IsGood (record { scope = file_scope p; sizes = (setting_of p budgets).sizes })
@@ -281,8 +291,8 @@ pub fn variables_change_where_they_are_set()
         → Keeps (callee functions type_number v line) }
 {}
 
-/// A call of a valid program that is set up from a good state is ended there, or leaves a good state of the function that
-/// is called; where it returns, the caller's state is good again.
+/// A call of a valid program that is set up from a good state is ended there, or leaves a good state of the function
+/// that is called; where it returns, the caller's state is good again.
 pub fn calls_are_entered_and_left()
     ensures enter { (p : Program) (budgets : BudgetSizes) → AreMapped (setting_of p budgets).sizes
         → is_valid_program p ≡ true → (n : ℕ) (f : Function) → function_at p.functions n ≡ Some f → (around : Scope)
@@ -299,8 +309,8 @@ pub fn calls_are_entered_and_left()
         → Leaves (program_context p (setting_of p budgets).sizes around) s (back_to (caller s) s2) }
 {}
 
-/// Each action of an expression keeps states good, and gives what is of its kind: reads and writes of lvalues of each
-/// basis, updates, plain variables, operators, initializers, routines.
+/// Each action keeps states good, and gives what is of its kind: reads and writes of lvalues of each basis, updates,
+/// operators, plain variables, initializers, routines. Blocks and calls have laws of their own.
 pub fn actions_keep_states_good()
     ensures read { (sc : Context) (b : Basis) (kind : Kind) (q : Rvalue) (line : ℕ)
         → Sure sc (LvalueIs (function_count sc) b kind q) (read_rvalue kind (on_pointer b) q line)
@@ -310,6 +320,27 @@ pub fn actions_keep_states_good()
         (write_rvalue kind (on_pointer b) q line v) (ValueIs (function_count sc) kind) }
     ensures taken { (sc : Context) (kind : Kind) (line : ℕ) (v : Rvalue)
         → Sure sc (ValueIs (function_count sc) kind v) (take_value kind line v) (ArgumentIs (function_count sc) kind) }
+    ensures load { (sc : Context) (b : Basis) (k : Scalar) (q : Value) (line : ℕ)
+        → Sure sc (PlaceIs (function_count sc) b (OfScalar k) q) (load k (on_pointer b) q line)
+        (IsGiven (function_count sc) (OfScalar k)) }
+    ensures store { (sc : Context) (b : Basis) (k : Scalar) (q : Value) (line : ℕ) (v : Value)
+        → Sure sc (λ o. IsTagged (function_count sc) v o × PlaceIs (function_count sc) b (OfScalar k) q o)
+        (store k (on_pointer b) q line v) (λ done o. IsTagged (function_count sc) v o) }
+    ensures update { (sc : Context) (b : Basis) (k : Scalar) (q : Value) (line : ℕ) (u : Update) → Updates u k
+        → (right : Value) (at : ℕ) (f : Fixity)
+        → Sure sc (PlaceIs (function_count sc) b (OfScalar k) q)
+        (update k (on_pointer b) q line (updated u k right at) f) (IsGiven (function_count sc) (OfScalar k)) }
+    ensures updated { (sc : Context) (u : Update) (k : Scalar) → Updates u k → (right : Value) (line : ℕ)
+        → (old : Value) → Sure sc (IsTagged (function_count sc) old) (updated u k right line old)
+        (IsGiven (function_count sc) (OfScalar k)) }
+    ensures operate { (sc : Context) (op : BinaryOperator) (t : IntType) (x y : Value) (line : ℕ) (result : IntType)
+        → IfSome (binary_value op t x.word y.word) (λ w. fit result w ≡ w)
+        → Sure sc Any (operate op t x y line) (IsGiven (function_count sc) (OfScalar (Integer result))) }
+    ensures callee { (sc : Context) (functions : List Header) (type_number : ℕ) (v : Value) (line : ℕ)
+        → Sure sc Any (callee functions type_number v line) (λ f. Any) }
+    ensures update_plain { (sc : Context) (u : Update) (k : Scalar) (x : ℕ) → Updates u k
+        → plain_type sc.scope.variables x ≡ Some k → (right : Value) (at : ℕ) (f : Fixity)
+        → Sure sc Any (update_plain x (updated u k right at) f) (IsGiven (function_count sc) (OfScalar k)) }
     ensures plain { (sc : Context) (x : ℕ) (k : Scalar) → plain_type sc.scope.variables x ≡ Some k → (v : Value)
         → Sure sc (IsGiven (function_count sc) (OfScalar k) v) (set_plain x v)
         (λ done o. IsTagged (function_count sc) v o) }
@@ -323,4 +354,30 @@ pub fn actions_keep_states_good()
     ensures print { (sc : Context) (format : List ℕ) (vs : List Value) (line : ℕ)
         → Sure sc (AreTagged (function_count sc) vs) (print_formatted format vs line)
         (IsGiven (function_count sc) (OfScalar (Integer Int))) }
+{}
+
+/// Contents that are moved to a place leave there what the same move from an object leaves, and every other object
+/// stays.
+pub fn moved_contents_are_written()
+    ensures object { (size : ℕ) (d : Place) (source : ℕ) (c : ObjectState) (objects : Objects)
+        → d.object < length objects → object_at (put_range size d source c objects) d.object
+        ≡ moved_into size d.offset source c (object_at objects d.object) }
+    ensures other { (size : ℕ) (d : Place) (source n : ℕ) (c : ObjectState) (objects : Objects) → n ≢ d.object
+        → object_at (put_range size d source c objects) n ≡ object_at objects n }
+    ensures range { (size : ℕ) (d s : Place) (objects : Objects)
+        → move_range size d s objects ≡ put_range size d s.offset (object_at objects s.object) objects }
+{}
+
+/// Of a valid operator with operands of their kinds, what it gives is of the type of its result; a valid update is one of
+/// the type that it updates.
+pub fn valid_operators_give_their_types()
+    ensures unary { (op : UnaryOperator) (k result : Kind) → is_operand op k result ≡ true
+        → (t : IntType) × (result ≡ OfScalar (Integer t))
+        × ((w : ℕ) → fit t (unary_value op (integer_type (scalar_of k)) w)
+        ≡ unary_value op (integer_type (scalar_of k)) w) }
+    ensures binary { (op : BinaryOperator) (k l result : Kind) → are_operands (class_of op) k l result ≡ true
+        → (t : IntType) × (result ≡ OfScalar (Integer t))
+        × ((functions : ℕ) (x y : Value) → IsOfKind functions k x → IsOfKind functions l y
+        → IfSome (binary_value op (integer_type (scalar_of k)) x.word y.word) (λ w. fit t w ≡ w)) }
+    ensures update { (u : Update) (k : Scalar) (right : Kind) → is_update u (OfScalar k) right ≡ true → Updates u k }
 {}

@@ -11,7 +11,7 @@ use Rattle.obj_memory.specs.declared.operator.UnaryOperator.TheVariants.{Negate}
 use Rattle.sb_base.specs.Budgets.{default_sizes}
 use Rattle.source_meaning.specs.Meaning.{meaning}
 use Rattle.source_meaning_rows.proofs.Samples.{compare, computing, counts, exited, int, library, main_alone, none, number, one, parenthesized, plain, plain_variable, running, seen, set_plain, two, unary, without_value}
-use Rattle.std.proofs.Common.{Some, [], refl, true, ◌∷◌, ◌≡◌}
+use Rattle.std.proofs.Common.{◌^◌, ◌-◌, Some, [], refl, true, ◌∷◌, ◌≡◌}
 
 statement_1 : Statement
 statement_1 = while_do
@@ -35,6 +35,11 @@ three_bytes = refl
 three_taken : (meaning program default_sizes (0x41 ∷ 0x00 ∷ 0xff ∷ []) 20).shown.taken ≡ 3
 unfolding program statement_1 computing
 three_taken = refl
+
+-- a number of the input is taken as an unsigned char (7.19.7.1), so none is the end
+an_unsigned_char : seen (meaning program default_sizes ((2 ^ 64 - 1) ∷ []) 20) ≡ exited (0xff ∷ []) 0
+unfolding program statement_1 computing
+an_unsigned_char = refl
 
 one_turn_of_three : seen (meaning program default_sizes (0x41 ∷ 0x00 ∷ 0xff ∷ []) 2) ≡ running (0x41 ∷ [])
 unfolding program statement_1 computing

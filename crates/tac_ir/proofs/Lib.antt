@@ -1,2 +1,4 @@
 pub mod Turns
 pub mod KeyWork
+pub mod Along
+pub mod KeyedChecks

@@ -1,6 +1,7 @@
 -- The edges of the graph of a function.
 use Rattle.std.specs.Prelude.{◌≡◌, ◌⊎◌, ℕ, List, [], ◌∷◌}
 use Rattle.tac_ir.specs.declared.instruction.Instruction.{Instruction}
+use Rattle.tac_ir.specs.Stage.{Frame, Waits, Entered, Stage, Begins, Stands, Over, Stuck}
 use Rattle.tac_ir.specs.declared.instruction.Instruction.TheVariants.{Reserved, Constant, FunctionPointer, GetPlain, SetPlain, UpdatePlain, HomePointer, StaticPointer, ZeroOf, Convert, Unary, Binary, Offset, Difference, Narrow, Member, Take, Read, Write, Update, Judge, Zero, StorePart, StoreText, Branch, Case, Turn, Library, Print, Call, CallThrough, EnterBlock, LeaveBlock, Return}
 
 -- the nodes that an instruction leads to; that behind a call is where its result comes back
@@ -47,3 +48,26 @@ IsAmong n (m ∷ ms) = (n ≡ m) ⊎ IsAmong n ms
 
 abbrev pub LeadsTo : Instruction → (node : ℕ) → Type 0
 LeadsTo i n = IsAmong n (successors i)
+
+-- a call from a function, behind which a successor waits
+abbrev pub IsCallFrom : Instruction → (function : ℕ) → List Frame → Type 0
+IsCallFrom i u [] = ⊥
+IsCallFrom i u (Waits w ∷ frames) = (w.function ≡ u) × LeadsTo i w.node
+IsCallFrom i u (Entered b ∷ frames) = ⊥
+
+-- a return to where the last caller waits
+abbrev pub IsReturnTo : (function node : ℕ) → List Frame → Type 0
+IsReturnTo u n [] = ⊥
+IsReturnTo u n (Waits w ∷ frames) = (w.function ≡ u) × (w.node ≡ n)
+IsReturnTo u n (Entered b ∷ frames) = ⊥
+
+-- a step from an instruction of a function, over frames, goes along an edge of the function's graph, or it calls or
+-- returns, or the run ends
+abbrev pub AlongBy : Instruction → (function : ℕ) → List Frame → Stage → Type 0
+AlongBy i u frames (Begins s) = ⊥
+AlongBy i u frames (Stands v n temps others s) = ((v ≡ u) × LeadsTo i n) ⊎ (IsCallFrom i u others ⊎ IsReturnTo v n frames)
+AlongBy i u frames (Over e s) = Unit {0}
+AlongBy i u frames Stuck = Unit {0}
+
+pub record GoesAlong (i : Instruction) (u : ℕ) (frames : List Frame) (x : Stage) : Type 0 where
+  pub by : AlongBy i u frames x

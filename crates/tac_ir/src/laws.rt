@@ -1,13 +1,19 @@
 //! Laws of the definitions, each as the contract of a function that does nothing: passes above rest on them.
 
-ghost use Rattle.std.specs.Prelude.{◌≡◌, ℕ, List};
+ghost use Rattle.std.specs.Prelude.{◌≡◌, ℕ, List, Some, true, slice_get};
 ghost use Rattle.behaviours.specs.Behaviour.{Behaviour, Follows, IsSource};
 ghost use Rattle.behaviours.specs.Steps.{run, IsStepping};
 ghost use Rattle.sb_base.specs.Budgets.{BudgetSizes};
-ghost use Rattle.source_meaning.specs.State.{Setting};
+ghost use Rattle.source_meaning.specs.State.{Setting, State};
+ghost use Rattle.tac_ir.specs.declared.instruction.Instruction.{Instruction};
+ghost use Rattle.tac_ir.specs.declared.instruction.Instruction.TheVariants.{Judge};
+ghost use Rattle.tac_ir.specs.declared.instruction.Test.{Test};
+ghost use Rattle.tac_ir.specs.declared.key.Key.{Key};
+ghost use Rattle.tac_ir.specs.Edges.{GoesAlong};
+ghost use Rattle.tac_ir.specs.Keys.{gives};
 ghost use Rattle.tac_ir.specs.declared.function.Tac.{Tac};
-ghost use Rattle.tac_ir.specs.Stage.{Stage, Stuck, seen};
-ghost use Rattle.tac_ir.specs.Meaning.{setting_of_code, step, first_stage, tac_meaning};
+ghost use Rattle.tac_ir.specs.Stage.{Temps, Frame, Stage, Stuck, seen};
+ghost use Rattle.tac_ir.specs.Meaning.{act, function_in, keys_of, setting_of_code, step, first_stage, tac_meaning};
 
 /// A step begins at most one turn, and what has ended, or is stuck, stays so.
 pub fn steps_begin_at_most_one_turn()
@@ -19,4 +25,18 @@ pub fn code_that_follows_is_never_stuck()
     ensures { (t : Tac) (budgets : BudgetSizes) (input : List ℕ) (c : ℕ) (a : Behaviour) → IsSource a
         → Follows c a (tac_meaning t budgets input) → (k : ℕ)
         → run (step (setting_of_code t budgets) t) k (first_stage t budgets input) ≡ Stuck → ⊥ }
+{}
+
+/// A step from a node goes along an edge of the function's graph to another node of it, or calls a function and waits at
+/// a successor, or returns to where the last caller waits, or ends the run.
+pub fn steps_go_along_edges()
+    ensures { (g : Setting) (t : Tac) (i : Instruction) (u : ℕ) (temps : Temps) (frames : List Frame) (s : State)
+        → GoesAlong i u frames (act g t i u temps frames s) }
+{}
+
+/// A check that has a key, and is not stuck, is of what its key gives: the address and the tag.
+pub fn checks_are_of_their_keys()
+    ensures { (g : Setting) (t : Tac) (of : Test) (size line n a m u : ℕ) (temps : Temps) (frames : List Frame)
+        (s : State) → (act g t (Judge of size line (Some n) a m) u temps frames s ≡ Stuck → ⊥)
+        → (key : Key) × (slice_get (keys_of (function_in t u)) n ≡ Some key) × (gives key s (temps a).value ≡ true) }
 {}

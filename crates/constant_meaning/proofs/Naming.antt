@@ -1,6 +1,6 @@
 -- No constant names a variable.
-use Rattle.std.proofs.Common.{◌≡◌, ℕ, Bool, true, false, Option, Some, None, Result, Ok, Err, List, [], ◌∷◌, refl, ap, sym, ◌∙◌}
-use Rattle.std.specs.Prelude.{◌&&◌, ◌||◌, map, option_map}
+use Rattle.std.proofs.Common.{◌≡◌, ℕ, Bool, true, false, Some, Ok, List, [], ◌∷◌, refl, ap, ◌∙◌}
+use Rattle.std.specs.Prelude.{◌&&◌, ◌||◌}
 use Rattle.obj_memory.specs.declared.value.Scalar.{Scalar}
 use Rattle.obj_memory.specs.declared.value.Scalar.TheVariants.{Integer, Pointer}
 use Rattle.obj_memory.specs.declared.value.Value.{Value}
@@ -11,14 +11,14 @@ use Rattle.c_tree.specs.declared.expression.OffsetForm.TheVariants.{PointerPlusI
 use Rattle.c_tree.specs.Kinds.{is_integer}
 use Rattle.c_tree.specs.Tree.{Expression, expression, Node, constant, function, decay, address, parenthesized, deref_function, address_function, cast, convert, unary, binary, offset_by, logical_and, logical_or, conditional, Lvalue, lvalue, LvalueNode, static, deref, index, member, arrow, parenthesized_lvalue, kind_of, line_of}
 use Rattle.c_tree.specs.Statements.{Content, value_content, literal_content, Part}
-use Rattle.c_tree.specs.Walk.{any_of, walk, walk_lvalue, walk_operands, walk_lvalue_operands, names_made, names_itself, names_variable, visited, visited_lvalue}
+use Rattle.c_tree.specs.Walk.{any_of, walk_lvalue, walk_operands, walk_lvalue_operands, names_made, names_itself, names_variable, visited, visited_lvalue}
 use Rattle.c_tree.specs.ValidProgram.{content_names_variable, name_variables}
 use Rattle.c_const.specs.Integers.{has_form, node_has_form, constant_word}
 use Rattle.c_const.specs.Addresses.{Pointers, untagged, to_pointer, address_of, node_address, designated, node_designated, place_of, node_place}
-use Rattle.c_const.specs.Contents.{Contents, constant_in, with_content, with_parts, initial_contents, zero_contents}
-use Rattle.constant_meaning.proofs.Steps.{both, Mapped, mapped}
+use Rattle.c_const.specs.Contents.{Contents, constant_in, with_content, with_parts}
+use Rattle.constant_meaning.proofs.Steps.{both, mapped}
 use Rattle.constant_meaning.proofs.Integers.{constant_is}
-use Rattle.constant_meaning.proofs.Addresses.{IsMoved, moves_forward, moves_back}
+use Rattle.constant_meaning.proofs.Addresses.{moves_forward, moves_back}
 use Rattle.constant_meaning.proofs.Storing.{is_then, is_stored}
 
 -- tests that fail

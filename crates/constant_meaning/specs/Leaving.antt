@@ -1,5 +1,5 @@
 -- What is known of static objects whose initializers are constant.
-use Rattle.std.specs.Prelude.{◌≡◌, ℕ, ◌<◌, List, [], ◌∷◌, true, false, Ok}
+use Rattle.std.specs.Prelude.{◌≡◌, ℕ, ◌<◌, List, [], ◌∷◌, true, Ok}
 use Rattle.c_tree.specs.Statements.{Content, value_content, literal_content, Part}
 use Rattle.c_tree.specs.Programs.{StaticObject}
 use Rattle.c_const.specs.Addresses.{Pointers}

@@ -1,32 +1,26 @@
 -- What the operators between two operands give is valid where their operands are.
-use Rattle.std.proofs.Common.{◌≡◌, ℕ, zero, suc, Bool, true, false, Option, Some, None, Ok, Err, List, [], ◌∷◌, refl, ap, sym, subst, ◌∙◌}
-use Rattle.std.specs.Prelude.{◌&&◌, ◌||◌, ◌==◌, not, if◌then◌else◌}
+use Rattle.std.proofs.Common.{◌≡◌, ℕ, Bool, true, false, Option, Some, List, refl, ap, sym, subst, ◌∙◌}
+use Rattle.std.specs.Prelude.{◌&&◌, ◌||◌, not, if◌then◌else◌}
 use Rattle.obj_memory.specs.declared.int_type.IntType.{IntType}
-use Rattle.obj_memory.specs.declared.int_type.IntType.TheVariants.{Int, Long}
+use Rattle.obj_memory.specs.declared.int_type.IntType.TheVariants.{Int}
 use Rattle.obj_memory.specs.declared.operator.BinaryOperator.{BinaryOperator}
 use Rattle.obj_memory.specs.declared.operator.BinaryOperator.TheVariants.{Add, Subtract, Multiply, Divide, Remainder, ShiftLeft, ShiftRight, BitAnd, BitXor, BitOr, Less, Greater, LessOrEqual, GreaterOrEqual, Equal, NotEqual}
-use Rattle.obj_memory.specs.declared.value.Scalar.TheVariants as scalar
 use Rattle.obj_memory.specs.Integers.{common_type, promoted}
 use Rattle.c_tree.specs.declared.expression.Kind.{Kind}
-use Rattle.c_tree.specs.declared.expression.Kind.TheVariants as kind
-use Rattle.c_tree.specs.declared.expression.OffsetForm.{OffsetForm}
 use Rattle.c_tree.specs.declared.expression.OffsetForm.TheVariants.{PointerPlusIndex, IndexPlusPointer, PointerMinusIndex}
 use Rattle.c_tree.specs.Extents.{TypeExtent}
-use Rattle.c_tree.specs.Kinds.{integer, pointer, is_int_type, is_kind, is_integer, is_promoted, is_promoted_type, is_scalar, is_size, are_operands, are_offset, OperatorClass, Arithmetic, Shift, Comparison, class_of}
+use Rattle.c_tree.specs.Kinds.{integer, pointer, is_kind, is_size, are_operands, are_offset, Arithmetic, Shift, Comparison, class_of}
 use Rattle.c_tree.specs.Tree.{Expression, expression, convert, kind_of, line_of}
-use Rattle.c_tree.specs.Valid.{Scope, is_valid, is_converted, is_conversion, is_index}
+use Rattle.c_tree.specs.Valid.{Scope, is_valid, is_converted, is_conversion}
 use Rattle.c_rules.specs.declared.class.Class.{Class}
 use Rattle.c_rules.specs.declared.class.Class.TheVariants as class
-use Rattle.c_rules.specs.declared.class.Target.{Target}
 use Rattle.c_rules.specs.declared.class.Target.TheVariants as target
-use Rattle.c_rules.specs.declared.row.Row.{Row}
 use Rattle.c_rules.specs.declared.row.Row.TheVariants as row
 use Rattle.c_rules.specs.declared.row.Pair.{Pair}
-use Rattle.c_rules.specs.Answer.{Answer}
-use Rattle.c_rules.specs.Types.{class_of as class_of_type, object_of, target_of}
-use Rattle.c_rules.specs.Values.{Value, converted, integer_words}
+use Rattle.c_rules.specs.Types.{class_of as class_of_type}
+use Rattle.c_rules.specs.Values.{Value, converted}
 use Rattle.c_rules.specs.Rows.{row_of, sum_row, difference_row, integer_row, shift_row, comparison_row}
-use Rattle.c_rules.specs.Binary.{binary, built, operated, moved, counted, pair_of}
+use Rattle.c_rules.specs.Binary.{binary, built, operated, pair_of}
 use Rattle.c_rules.specs.Fine.{IsFine, IfFine}
 use Rattle.c_rules.proofs.TypeKinds.{HasKind, class_kind, same_int, same_number, common_promoted, promotes}
 
@@ -57,21 +51,21 @@ pub integer_converts : (scope : Scope) (structures : List (Option TypeExtent)) (
     → kind_of v.tree ≡ integer j → Converts scope (integer t) v.tree
 integer_converts scope structures t j v f e =
     converts_by (is_kind (integer t) (kind_of v.tree)) scope (integer t) v.tree refl
-        (λ h. e ∙ ap integer (sym (same_int t j (sym (ap (is_kind (integer t)) e) ∙ h))))
-        f.valid f.bare (ap (λ k. is_conversion k (integer t)) e)
+    (λ h. e ∙ ap integer (sym (same_int t j (sym (ap (is_kind (integer t)) e) ∙ h))))
+    f.valid f.bare (ap (λ k. is_conversion k (integer t)) e)
 
 pub from_integer : (scope : Scope) (structures : List (Option TypeExtent)) (j : IntType) (v : Value) → IsFine scope structures v
     → kind_of v.tree ≡ integer j → Converts scope pointer v.tree
 from_integer scope structures j v f e =
     converts_by (is_kind pointer (kind_of v.tree)) scope pointer v.tree refl
-        (λ h. absurd (let n : false ≡ true = sym (ap (is_kind pointer) e) ∙ h in cc))
-        f.valid f.bare (ap (λ k. is_conversion k pointer) e)
+    (λ h. absurd (let n : false ≡ true = sym (ap (is_kind pointer) e) ∙ h in cc))
+    f.valid f.bare (ap (λ k. is_conversion k pointer) e)
 
 pub from_pointer : (scope : Scope) (structures : List (Option TypeExtent)) (v : Value) → IsFine scope structures v
     → kind_of v.tree ≡ pointer → Converts scope pointer v.tree
 from_pointer scope structures v f e =
     converts_by (is_kind pointer (kind_of v.tree)) scope pointer v.tree refl (λ h. e) f.valid f.bare
-        (ap (λ k. is_conversion k pointer) e)
+    (ap (λ k. is_conversion k pointer) e)
 
 -- an operator on operands of the kinds that it wants
 operated_fine : (scope : Scope) (structures : List (Option TypeExtent)) (op : BinaryOperator) (line : ℕ) (t : IntType) (k l : Kind) (a b : Value)
@@ -91,8 +85,8 @@ module _ (scope : Scope) (structures : List (Option TypeExtent)) (line : ℕ) (a
   arithmetic_fine op c j k ka kb =
       let t = common_type j k in
       operated_fine scope structures op line t (integer t) (integer t) a b
-          (integer_converts scope structures t j a fa ka) (integer_converts scope structures t k b fb kb)
-          (ap (λ x. are_operands x (integer t) (integer t) (integer t)) c ∙ all (all (common_promoted j k) (same_number t)) (same_number t))
+      (integer_converts scope structures t j a fa ka) (integer_converts scope structures t k b fb kb)
+      (ap (λ x. are_operands x (integer t) (integer t) (integer t)) c ∙ all (all (common_promoted j k) (same_number t)) (same_number t))
 
   shift_fine : (op : BinaryOperator) → class_of op ≡ Shift → (j k : IntType) → kind_of a.tree ≡ integer j → kind_of b.tree ≡ integer k
       → IfFine scope structures (built (row.Shift (promoted j) (promoted k)) op line a b)
@@ -100,17 +94,17 @@ module _ (scope : Scope) (structures : List (Option TypeExtent)) (line : ℕ) (a
       let t = promoted j in
       let u = promoted k in
       operated_fine scope structures op line t (integer t) (integer u) a b
-          (integer_converts scope structures t j a fa ka) (integer_converts scope structures u k b fb kb)
-          (ap (λ x. are_operands x (integer t) (integer u) (integer t)) c ∙ all (all (promotes j) (promotes k)) (same_number t))
+      (integer_converts scope structures t j a fa ka) (integer_converts scope structures u k b fb kb)
+      (ap (λ x. are_operands x (integer t) (integer u) (integer t)) c ∙ all (all (promotes j) (promotes k)) (same_number t))
 
   comparison_fine : (op : BinaryOperator) → class_of op ≡ Comparison → (j k : IntType) → kind_of a.tree ≡ integer j → kind_of b.tree ≡ integer k
       → IfFine scope structures (built (row.Comparison (common_type j k)) op line a b)
   comparison_fine op c j k ka kb =
       let t = common_type j k in
       operated_fine scope structures op line Int (integer t) (integer t) a b
-          (integer_converts scope structures t j a fa ka) (integer_converts scope structures t k b fb kb)
-          (ap (λ x. are_operands x (integer t) (integer t) (integer Int)) c
-          ∙ all (all (ap (λ d. d || is_kind (integer t) pointer) (common_promoted j k)) (same_number t)) refl)
+      (integer_converts scope structures t j a fa ka) (integer_converts scope structures t k b fb kb)
+      (ap (λ x. are_operands x (integer t) (integer t) (integer Int)) c
+      ∙ all (all (ap (λ d. d || is_kind (integer t) pointer) (common_promoted j k)) (same_number t)) refl)
 
   pointers_fine : (op : BinaryOperator) → class_of op ≡ Comparison → Converts scope pointer a.tree → Converts scope pointer b.tree
       → IfFine scope structures (built row.PointerComparison op line a b)
@@ -225,4 +219,4 @@ pub binary_fine : (scope : Scope) (structures : List (Option TypeExtent)) (op : 
 unfolding binary
 binary_fine scope structures op line a b fa fb =
     rows_fine scope structures line a b fa fb op (pair_of a b) (class_of_type structures a.type) (class_of_type structures b.type)
-        (class_kind structures a.type (kind_of a.tree) fa.kind) (class_kind structures b.type (kind_of b.tree) fb.kind)
+    (class_kind structures a.type (kind_of a.tree) fa.kind) (class_kind structures b.type (kind_of b.tree) fb.kind)

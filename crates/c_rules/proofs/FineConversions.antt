@@ -1,17 +1,15 @@
 -- Casts of valid values are valid, and so are values that pass to an object of another type, with the kind of that type.
-use Rattle.std.proofs.Common.{◌≡◌, ℕ, zero, suc, Bool, true, false, Option, Some, None, Ok, Err, List, [], ◌∷◌, refl, ap, sym, subst, ◌∙◌}
-use Rattle.std.specs.Prelude.{◌&&◌, ◌||◌, ◌==◌, not, if◌then◌else◌}
-use Rattle.obj_memory.specs.declared.int_type.IntType.{IntType}
-use Rattle.obj_memory.specs.declared.value.Scalar.TheVariants as scalar
+use Rattle.std.proofs.Common.{◌≡◌, ℕ, Bool, true, false, Option, Some, None, List, [], ◌∷◌, refl, ◌∙◌}
+use Rattle.std.specs.Prelude.{if◌then◌else◌}
 use Rattle.c_tree.specs.declared.c_type.TypeWord.{TypeWord}
 use Rattle.c_tree.specs.declared.c_type.TypeWord.TheVariants as word
 use Rattle.c_tree.specs.declared.expression.Kind.{Kind}
 use Rattle.c_tree.specs.declared.expression.Kind.TheVariants as kind
 use Rattle.c_tree.specs.Extents.{TypeExtent}
-use Rattle.c_tree.specs.Kinds.{integer, pointer, is_scalar as is_scalar_kind}
-use Rattle.c_tree.specs.Tree.{Expression, kind_of}
+use Rattle.c_tree.specs.Kinds.{integer, pointer}
+use Rattle.c_tree.specs.Tree.{kind_of}
 use Rattle.c_tree.specs.TypesAgree.{kind_of_type}
-use Rattle.c_tree.specs.Valid.{Scope, is_valid, is_conversion}
+use Rattle.c_tree.specs.Valid.{Scope, is_conversion}
 use Rattle.c_rules.specs.declared.class.Class.{Class}
 use Rattle.c_rules.specs.declared.class.Class.TheVariants as class
 use Rattle.c_rules.specs.Types.{unqualified, class_of}

@@ -1,9 +1,7 @@
 -- What unary operators, `&&`, `||`, `,`, casts and conversions give is valid where their operands are.
-use Rattle.std.proofs.Common.{◌≡◌, ℕ, zero, suc, Bool, true, false, Option, Some, None, Ok, Err, List, [], ◌∷◌, refl, ap, sym, subst, ◌∙◌}
-use Rattle.std.specs.Prelude.{◌&&◌, ◌||◌, ◌==◌, not, if◌then◌else◌}
+use Rattle.std.proofs.Common.{◌≡◌, ℕ, Bool, true, false, Option, List, refl, ap, sym, subst, ◌∙◌}
+use Rattle.std.specs.Prelude.{◌&&◌}
 use Rattle.std.proofs.lemmas.Bool.{eq-eqb}
-use Rattle.obj_memory.specs.declared.int_type.IntType.{IntType}
-use Rattle.obj_memory.specs.declared.int_type.IntType.TheVariants.{Int}
 use Rattle.obj_memory.specs.declared.operator.UnaryOperator.{UnaryOperator}
 use Rattle.obj_memory.specs.declared.operator.UnaryOperator.TheVariants.{Plus, Negate, Complement, Not}
 use Rattle.obj_memory.specs.declared.value.Scalar.TheVariants as scalar
@@ -11,20 +9,19 @@ use Rattle.obj_memory.specs.Integers.{promoted}
 use Rattle.c_tree.specs.declared.expression.Kind.{Kind}
 use Rattle.c_tree.specs.declared.expression.Kind.TheVariants as kind
 use Rattle.c_tree.specs.Extents.{TypeExtent}
-use Rattle.c_tree.specs.Kinds.{integer, pointer, is_kind, is_promoted, is_scalar as is_scalar_kind}
-use Rattle.c_tree.specs.Tree.{Expression, expression, kind_of}
-use Rattle.c_tree.specs.Valid.{Scope, is_valid, is_operand}
+use Rattle.c_tree.specs.Kinds.{integer, is_kind, is_promoted, is_scalar as is_scalar_kind}
+use Rattle.c_tree.specs.Tree.{kind_of}
+use Rattle.c_tree.specs.Valid.{Scope, is_operand}
 use Rattle.c_rules.specs.declared.class.Class.{Class}
 use Rattle.c_rules.specs.declared.class.Class.TheVariants as class
 use Rattle.c_rules.specs.declared.unary.LogicalOperator.{LogicalOperator}
 use Rattle.c_rules.specs.declared.unary.LogicalOperator.TheVariants as logical
-use Rattle.c_rules.specs.Answer.{Answer}
 use Rattle.c_rules.specs.Types.{class_of}
-use Rattle.c_rules.specs.Values.{Value, converted}
+use Rattle.c_rules.specs.Values.{Value}
 use Rattle.c_rules.specs.Unary.{is_scalar, promoting, negating, unary_of, unary, logical_of, combined, comma}
 use Rattle.c_rules.specs.Fine.{IsFine, IfFine}
 use Rattle.c_rules.proofs.TypeKinds.{HasKind, class_kind, same_number, promotes}
-use Rattle.c_rules.proofs.FineBinary.{all, Converts, integer_converts}
+use Rattle.c_rules.proofs.FineBinary.{all, integer_converts}
 
 pub same_kind : (k : Kind) → is_kind k k ≡ true
 same_kind kind.Void = refl
@@ -102,7 +99,7 @@ logical_fine scope structures op line a b fa fb =
     let c = is_scalar (class_of structures a.type) in
     let d = is_scalar (class_of structures b.type) in
     logical_cases scope structures line op (c && d) a b fa fb (λ e. let s = both_true c d e in
-        (scalar_value scope structures a fa s.0, scalar_value scope structures b fb s.1))
+    (scalar_value scope structures a fa s.0, scalar_value scope structures b fb s.1))
 
 pub comma_fine : (scope : Scope) (structures : List (Option TypeExtent)) (line : ℕ) (a b : Value)
     → IsFine scope structures a → IsFine scope structures b → IfFine scope structures (comma line a b)

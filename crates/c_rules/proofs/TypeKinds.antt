@@ -1,17 +1,15 @@
 -- Integer types and kinds.
-use Rattle.std.proofs.Common.{◌≡◌, ℕ, zero, suc, Bool, true, false, Option, Some, None, List, [], ◌∷◌, refl, ap, sym, subst, ◌∙◌}
-use Rattle.std.specs.Prelude.{◌&&◌, ◌==◌, not, if◌then◌else◌, nat_le}
+use Rattle.std.proofs.Common.{◌≡◌, ℕ, zero, suc, Bool, true, false, Option, Some, None, List, [], ◌∷◌, refl, ap, sym, ◌∙◌}
+use Rattle.std.specs.Prelude.{if◌then◌else◌}
 use Rattle.std.proofs.lemmas.Bool.{eqb-true}
 use Rattle.obj_memory.specs.declared.int_type.IntType.{IntType}
 use Rattle.obj_memory.specs.declared.int_type.IntType.TheVariants.{Char, SignedChar, UnsignedChar, Short, UnsignedShort, Int, UnsignedInt, Long, UnsignedLong, LongLong, UnsignedLongLong}
-use Rattle.obj_memory.specs.declared.value.Scalar.TheVariants as scalar
-use Rattle.obj_memory.specs.Integers.{rank, is_signed, size_of, promoted, unsigned_of, mixed_type, balanced_type, common_type}
+use Rattle.obj_memory.specs.Integers.{rank, is_signed, promoted, unsigned_of, mixed_type, balanced_type, common_type}
 use Rattle.c_tree.specs.declared.c_type.TypeWord.{TypeWord}
 use Rattle.c_tree.specs.declared.c_type.TypeWord.TheVariants as word
 use Rattle.c_tree.specs.declared.expression.Kind.{Kind}
-use Rattle.c_tree.specs.declared.expression.Kind.TheVariants as kind
 use Rattle.c_tree.specs.Extents.{TypeExtent, extent_of}
-use Rattle.c_tree.specs.Kinds.{integer, pointer, int_number, is_int_type, is_kind, is_promoted_type, is_size}
+use Rattle.c_tree.specs.Kinds.{integer, pointer, int_number, is_int_type, is_promoted_type, is_size}
 use Rattle.c_tree.specs.TypesAgree.{kind_of_type}
 use Rattle.c_rules.specs.declared.class.Class.{Class}
 use Rattle.c_rules.specs.declared.class.Class.TheVariants as class

@@ -25,4 +25,3 @@ Fails (refusal.Fault f) defined = defined ≡ Err f
 abbrev pub Gives : {A B : Type 0} → (A → B) → Result A Refusal → Answer B → Type 0
 Gives view (Ok x) defined = defined ≡ Ok (view x)
 Gives view (Err e) defined = Fails e defined
-

@@ -1,5 +1,5 @@
 -- What an operator between two operands makes of them (C99 6.5.5 to 6.5.12).
-use Rattle.std.specs.Prelude.{ℕ, List, [], ◌∷◌, Option, Ok}
+use Rattle.std.specs.Prelude.{ℕ, List, Option, Ok}
 use Rattle.obj_memory.specs.declared.int_type.IntType.{IntType}
 use Rattle.obj_memory.specs.declared.int_type.IntType.TheVariants.{Int, Long}
 use Rattle.obj_memory.specs.declared.operator.BinaryOperator.{BinaryOperator}
@@ -9,7 +9,7 @@ use Rattle.c_tree.specs.declared.expression.OffsetForm.{OffsetForm}
 use Rattle.c_tree.specs.declared.expression.OffsetForm.TheVariants.{PointerPlusIndex, IndexPlusPointer, PointerMinusIndex}
 use Rattle.c_tree.specs.Extents.{TypeExtent}
 use Rattle.c_tree.specs.Kinds.{integer, pointer}
-use Rattle.c_tree.specs.Tree.{expression, Expression, binary as binary_node, offset_by, difference}
+use Rattle.c_tree.specs.Tree.{expression, binary as binary_node, offset_by, difference}
 use Rattle.c_rules.specs.declared.fault.Rule.TheVariants.{Operands}
 use Rattle.c_rules.specs.declared.row.Row.{Row}
 use Rattle.c_rules.specs.declared.row.Row.TheVariants as row

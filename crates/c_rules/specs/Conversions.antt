@@ -1,5 +1,5 @@
 -- Casts, and conversions as by assignment (C99 6.5.4, 6.5.16.1).
-use Rattle.std.specs.Prelude.{ℕ, Bool, true, false, ◌||◌, ◌&&◌, if◌then◌else◌, List, [], ◌∷◌, Option, Some, None, Ok}
+use Rattle.std.specs.Prelude.{ℕ, Bool, true, false, ◌||◌, ◌&&◌, if◌then◌else◌, List, ◌∷◌, Option, Some, None, Ok}
 use Rattle.c_tree.specs.declared.c_type.TypeWord.{TypeWord}
 use Rattle.c_tree.specs.declared.c_type.TypeWord.TheVariants.{Void, Structure}
 use Rattle.c_tree.specs.declared.expression.Kind.{Kind}

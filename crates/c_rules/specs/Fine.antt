@@ -1,5 +1,5 @@
 -- Values that are valid, of the kind that their type has.
-use Rattle.std.specs.Prelude.{◌≡◌, Bool, true, false, List, Option, Some, Ok, Err}
+use Rattle.std.specs.Prelude.{◌≡◌, true, false, List, Option, Some, Ok, Err}
 use Rattle.c_tree.specs.Extents.{TypeExtent}
 use Rattle.c_tree.specs.Tree.{kind_of}
 use Rattle.c_tree.specs.TypesAgree.{kind_of_type}

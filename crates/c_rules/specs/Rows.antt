@@ -1,14 +1,14 @@
 -- The tables of the operators between two operands (C99 6.5.5 to 6.5.12): for the classes of the operands, what the
 -- operator does. A pair of classes without a row violates the rule on operands.
-use Rattle.std.specs.Prelude.{ℕ, Bool, true, false, ◌||◌, ◌&&◌, if◌then◌else◌}
+use Rattle.std.specs.Prelude.{Bool, true, false, ◌||◌, ◌&&◌, if◌then◌else◌}
 use Rattle.obj_memory.specs.Integers.{common_type, promoted}
 use Rattle.obj_memory.specs.declared.operator.BinaryOperator.{BinaryOperator}
 use Rattle.obj_memory.specs.declared.operator.BinaryOperator.TheVariants.{Add, Subtract, Multiply, Divide, Remainder, ShiftLeft, ShiftRight, BitAnd, BitXor, BitOr, Less, Greater, LessOrEqual, GreaterOrEqual, Equal, NotEqual}
 use Rattle.c_tree.specs.declared.expression.OffsetForm.TheVariants.{PointerPlusIndex, IndexPlusPointer, PointerMinusIndex}
 use Rattle.c_rules.specs.declared.class.Class.{Class}
-use Rattle.c_rules.specs.declared.class.Class.TheVariants.{Integer, Pointer, Other}
+use Rattle.c_rules.specs.declared.class.Class.TheVariants.{Integer, Pointer}
 use Rattle.c_rules.specs.declared.class.Target.{Target}
-use Rattle.c_rules.specs.declared.class.Target.TheVariants.{Object, Incomplete, Void, Function}
+use Rattle.c_rules.specs.declared.class.Target.TheVariants.{Object, Void, Function}
 use Rattle.c_rules.specs.declared.row.Row.{Row}
 use Rattle.c_rules.specs.declared.row.Row.TheVariants as row
 use Rattle.c_rules.specs.declared.row.Pair.{Pair}

@@ -1,8 +1,8 @@
 -- What operators ask of the types of their operands (C99 6.2.5, 6.3.2.3).
-use Rattle.std.specs.Prelude.{ℕ, Bool, true, false, ◌||◌, if◌then◌else◌, List, [], ◌∷◌, Option, Some, None}
+use Rattle.std.specs.Prelude.{Bool, false, if◌then◌else◌, List, [], ◌∷◌, Option, Some, None}
 use Rattle.obj_memory.specs.declared.int_type.IntType.TheVariants.{Int}
 use Rattle.c_tree.specs.declared.c_type.TypeWord.{TypeWord}
-use Rattle.c_tree.specs.declared.c_type.TypeWord.TheVariants.{Void, Integer, Enumeration, Pointer, Array, OpenArray, Structure, Const, Takes, Gives}
+use Rattle.c_tree.specs.declared.c_type.TypeWord.TheVariants.{Void, Integer, Enumeration, Pointer, Const, Takes, Gives}
 use Rattle.c_tree.specs.Extents.{TypeExtent, extent_of}
 use Rattle.c_tree.specs.Kinds.{is_size}
 use Rattle.c_tree.specs.TypesAgree.{same_words}

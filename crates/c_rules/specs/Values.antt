@@ -1,16 +1,15 @@
 -- Typed values, conversions, and null pointer constants (C99 6.3).
-use Rattle.std.specs.Prelude.{ℕ, Bool, true, false, ◌&&◌, ◌||◌, ◌==◌, if◌then◌else◌, List, [], ◌∷◌, Option, Some, None}
+use Rattle.std.specs.Prelude.{ℕ, Bool, false, ◌&&◌, ◌||◌, ◌==◌, if◌then◌else◌, List, [], ◌∷◌, Option, Some, None}
 use Rattle.obj_memory.specs.declared.int_type.IntType.{IntType}
 use Rattle.c_tree.specs.declared.c_type.TypeWord.{TypeWord}
-use Rattle.c_tree.specs.declared.c_type.TypeWord.TheVariants.{Void, Pointer} 
+use Rattle.c_tree.specs.declared.c_type.TypeWord.TheVariants.{Void, Pointer}
 use Rattle.c_tree.specs.declared.c_type.TypeWord.TheVariants as word
 use Rattle.c_tree.specs.declared.expression.Kind.{Kind}
-use Rattle.c_tree.specs.Kinds.{is_kind, is_integer}
+use Rattle.c_tree.specs.Kinds.{is_kind}
 use Rattle.c_tree.specs.TypesAgree.{same_words}
 use Rattle.c_tree.specs.View.{expression_of}
-use Rattle.c_tree.specs.Tree.{Expression, expression, Node, constant, cast, parenthesized, convert, kind_of, line_of}
+use Rattle.c_tree.specs.Tree.{Expression, expression, Node, cast, parenthesized, convert, kind_of, line_of}
 use Rattle.c_const.specs.Integers.{constant_word}
-use Rattle.c_rules.specs.Types.{unqualified}
 use Rattle.c_rules.specs.declared.value.TypedValue as code
 
 -- a value, and its type, which has no qualifiers of its own

@@ -63,8 +63,24 @@ fn built(
     ensures { Gives value_of result (built row operator line (value_of left) (value_of right)) }
 {
     match row {
-        Row::Arithmetic(t) => operated(alloc, operator, line, t, (integer(t), integer(t)), left, right),
-        Row::Shift(t, u) => operated(alloc, operator, line, t, (integer(t), integer(u)), left, right),
+        Row::Arithmetic(t) => operated(
+            alloc,
+            operator,
+            line,
+            t,
+            (integer(t), integer(t)),
+            left,
+            right,
+        ),
+        Row::Shift(t, u) => operated(
+            alloc,
+            operator,
+            line,
+            t,
+            (integer(t), integer(u)),
+            left,
+            right,
+        ),
         Row::Comparison(t) => {
             let kinds = (integer(t), integer(t));
             operated(alloc, operator, line, IntType::Int, kinds, left, right)
@@ -127,8 +143,14 @@ fn moved(
 ) -> Result<TypedValue, Refusal>
     ensures { Gives value_of result (moved form size line (value_of left) (value_of right)) }
 {
-    let TypedValue { c_type: left_type, tree: left } = left;
-    let TypedValue { c_type: right_type, tree: right } = right;
+    let TypedValue {
+        c_type: left_type,
+        tree: left,
+    } = left;
+    let TypedValue {
+        c_type: right_type,
+        tree: right,
+    } = right;
     let (left, right) = boxed_pair(alloc, left, right)?;
     let c_type = match form {
         OffsetForm::PointerPlusIndex | OffsetForm::PointerMinusIndex => left_type,

@@ -11,7 +11,9 @@ use crate::fault::{Fault, Refusal, Rule};
 use crate::holding::beside;
 use crate::row::may_meet;
 use crate::unary::is_scalar;
-use crate::value::{TypedValue, converted, integer, is_null, same_pointee, same_words, unqualified};
+use crate::value::{
+    TypedValue, converted, integer, is_null, same_pointee, same_words, unqualified,
+};
 use c_tree::{CType, Expression, Extent, Kind, Node, TypeWord};
 use obj_memory::Scalar;
 use sb_base::Line;
@@ -50,7 +52,10 @@ pub fn cast(
         return Err(Refusal::Fault(Fault { rule, line }));
     };
     let node = Node::Cast(Boxed::new(alloc, value.tree)?);
-    let (tree, words) = beside(Expression { kind, line, node }, unqualified(to).to_vec(alloc))?;
+    let (tree, words) = beside(
+        Expression { kind, line, node },
+        unqualified(to).to_vec(alloc),
+    )?;
     let c_type = CType::new(words);
     Ok(TypedValue { c_type, tree })
 }
@@ -95,7 +100,13 @@ pub fn assigned(
     let same = same_pointee(to, value.c_type.words());
     let structure = are_one_structure(unqualified(to), unqualified(value.c_type.words()));
     let from = Class::of(structures, value.c_type.words());
-    let passing = passing_of(same, is_null(&value), structure, Class::of(structures, to), from);
+    let passing = passing_of(
+        same,
+        is_null(&value),
+        structure,
+        Class::of(structures, to),
+        from,
+    );
     passed(alloc, passing, line, value.tree)
 }
 

@@ -120,8 +120,7 @@ fn comparison(pair: Pair, left: Class, right: Class) -> Row
     match (left, right) {
         (Class::Integer(j), Class::Integer(k)) => Row::Comparison(j.common(k)),
         (Class::Pointer(s), Class::Pointer(t))
-            if may_meet(pair.same_pointee, s, t) || (pair.left_is_null || pair.right_is_null) =>
-        {
+            if may_meet(pair.same_pointee, s, t) || (pair.left_is_null || pair.right_is_null) => {
             Row::PointerComparison
         }
         (Class::Pointer(_), Class::Integer(_)) if pair.right_is_null => Row::PointerComparison,

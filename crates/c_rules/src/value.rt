@@ -12,7 +12,6 @@ ghost use Rattle.c_rules.specs.Values.{converted, integer_words, is_null, is_nul
 use crate::fault::Refusal;
 use crate::holding::beside;
 use c_const::constant_word;
-
 use c_tree::{CType, Expression, Kind, Node, TypeWord};
 use obj_memory::{IntType, Scalar};
 use std::alloc::{AllocError, Global};
@@ -119,9 +118,13 @@ fn same_word(left: TypeWord, right: TypeWord) -> bool
         (TypeWord::Integer(s), TypeWord::Integer(t)) => s as u8 == t as u8,
         (TypeWord::Enumeration(m), TypeWord::Enumeration(n))
         | (TypeWord::Structure(m), TypeWord::Structure(n)) => m == n,
-        (TypeWord::Array { count, bytes }, TypeWord::Array { count: others, bytes: size }) => {
-            count == others && bytes == size
-        }
+        (
+            TypeWord::Array { count, bytes },
+            TypeWord::Array {
+                count: others,
+                bytes: size,
+            },
+        ) => { count == others && bytes == size }
         (TypeWord::Void, TypeWord::Void)
         | (TypeWord::Pointer, TypeWord::Pointer)
         | (TypeWord::OpenArray, TypeWord::OpenArray)

@@ -21,21 +21,21 @@ use Rattle.constant_meaning.proofs.Steps.{finds_on, finds_counted, finds_give, f
 use Rattle.constant_meaning.proofs.Integers.{constant_finds}
 
 -- a pointer and an index that are both known
-record IsMoved (move : ℕ → Value → Value) (p : Option Value) (i : Option ℕ) (v : Value) : Type 0 where
-  pointer : Value
-  is_pointer : p ≡ Some pointer
-  index : ℕ
-  is_index : i ≡ Some index
-  to : move index pointer ≡ v
+pub record IsMoved (move : ℕ → Value → Value) (p : Option Value) (i : Option ℕ) (v : Value) : Type 0 where
+  pub pointer : Value
+  pub is_pointer : p ≡ Some pointer
+  pub index : ℕ
+  pub is_index : i ≡ Some index
+  pub to : move index pointer ≡ v
 
-moves_forward : (size : ℕ) (p : Option Value) (i : Option ℕ) (v : Value) → forward size p i ≡ Some v
+pub moves_forward : (size : ℕ) (p : Option Value) (i : Option ℕ) (v : Value) → forward size p i ≡ Some v
     → IsMoved (λ k q. moved (k * size) q) p i v
 moves_forward size None i v e = absurd cc
 moves_forward size (Some p) None v e = absurd cc
 moves_forward size (Some p) (Some i) v e =
     record { pointer = p; is_pointer = refl; index = i; is_index = refl; to = some_injective e }
 
-moves_back : (size : ℕ) (p : Option Value) (i : Option ℕ) (v : Value) → back size p i ≡ Some v
+pub moves_back : (size : ℕ) (p : Option Value) (i : Option ℕ) (v : Value) → back size p i ≡ Some v
     → IsMoved (λ k q. moved (2 ^ 64 - (k * size) % 2 ^ 64) q) p i v
 moves_back size None i v e = absurd cc
 moves_back size (Some p) None v e = absurd cc

@@ -4,4 +4,5 @@ mod Addresses
 mod Changes
 mod Overwriting
 mod Storing
+mod Naming
 mod Statics

@@ -20,6 +20,7 @@ use Rattle.source_meaning.specs.Meaning.{placed_statics, statics_end, setting_of
 use Rattle.constant_meaning.specs.Finding.{PointTo}
 use Rattle.constant_meaning.specs.Leaving.{IsConstant, AreConstant}
 use Rattle.constant_meaning.proofs.Changes.{contents_of, Changed}
+use Rattle.constant_meaning.proofs.Naming.{parts_unnamed}
 use Rattle.constant_meaning.proofs.Storing.{Leaves, parts_leave, pointers_stay}
 
 -- an object that was just placed
@@ -58,7 +59,7 @@ object_leaves ps env n o c s h placed made at =
     let low = placed.low in
     let starts : with_parts ps o.parts (contents_of (object_at s.objects n)) ≡ Ok c =
     ap (with_parts ps o.parts) (starts_zero o (object_at s.objects n) placed) ∙ leaves_of ps o c h.leaves in
-    chosen (name_variables o.parts) _ n c s h.unnamed (parts_leave ps env n (pointer_to n s.objects) (size_of_kind o.kind) o.parts s c refl
+    chosen (name_variables o.parts) _ n c s (parts_unnamed ps o.parts (contents_of (object_at s.objects n)) c starts) (parts_leave ps env n (pointer_to n s.objects) (size_of_kind o.kind) o.parts s c refl
     (record { made = made; low = omega (arith, low, size); pointers = at }) h.bytes size h.inside starts)
 
 -- what is left of all objects from a number on: those before it stay, and each has its contents

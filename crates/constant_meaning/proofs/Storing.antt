@@ -223,15 +223,15 @@ is_scalar ps env e kind.Void c h = absurd cc
 is_scalar ps env e (kind.Structure size) c h = absurd cc
 is_scalar ps env e (kind.Array size) c h = absurd cc
 
-record IsStored (offset : ℕ) (o : Option (Scalar × Value)) (c d : Contents) : Type 0 where
-  constant : Scalar × Value
-  is_constant : o ≡ Some constant
-  to : with_scalar constant.0 offset constant.1 c ≡ d
+pub record IsStored (offset : ℕ) (o : Option (Scalar × Value)) (c d : Contents) : Type 0 where
+  pub constant : Scalar × Value
+  pub is_constant : o ≡ Some constant
+  pub to : with_scalar constant.0 offset constant.1 c ≡ d
 
 ok_injective : {x y : Contents} → (let r : Result Contents ℕ = Ok x in r) ≡ Ok y → x ≡ y
 ok_injective e = cc
 
-is_stored : (offset line : ℕ) (o : Option (Scalar × Value)) (c d : Contents) → with_constant offset line o c ≡ Ok d → IsStored offset o c d
+pub is_stored : (offset line : ℕ) (o : Option (Scalar × Value)) (c d : Contents) → with_constant offset line o c ≡ Ok d → IsStored offset o c d
 is_stored offset line None c d e = absurd cc
 is_stored offset line (Some v) c d e = record { constant = v; is_constant = refl; to = ok_injective e }
 
@@ -272,12 +272,12 @@ content_length ps offset (literal_content bytes) c d inside h =
 
 -- parts in their order
 
-record IsThen (o : Result Contents ℕ) (next : Contents → Result Contents ℕ) (d : Contents) : Type 0 where
-  between : Contents
-  is_between : o ≡ Ok between
-  rest : next between ≡ Ok d
+pub record IsThen (o : Result Contents ℕ) (next : Contents → Result Contents ℕ) (d : Contents) : Type 0 where
+  pub between : Contents
+  pub is_between : o ≡ Ok between
+  pub rest : next between ≡ Ok d
 
-is_then : (o : Result Contents ℕ) (next : Contents → Result Contents ℕ) (d : Contents) → on_ok o next ≡ Ok d → IsThen o next d
+pub is_then : (o : Result Contents ℕ) (next : Contents → Result Contents ℕ) (d : Contents) → on_ok o next ≡ Ok d → IsThen o next d
 is_then (Ok c) next d e = record { between = c; is_between = refl; rest = e }
 is_then (Err line) next d e = absurd cc
 

@@ -1,8 +1,7 @@
 -- What is known of static objects whose initializers are constant.
-use Rattle.std.specs.Prelude.{◌≡◌, ℕ, ◌<◌, List, [], ◌∷◌, true, false, Ok}
+use Rattle.std.specs.Prelude.{◌≡◌, ℕ, ◌<◌, List, [], ◌∷◌, true, Ok}
 use Rattle.c_tree.specs.Statements.{Content, value_content, literal_content, Part}
 use Rattle.c_tree.specs.Programs.{StaticObject}
-use Rattle.c_tree.specs.ValidProgram.{name_variables}
 use Rattle.c_const.specs.Addresses.{Pointers}
 use Rattle.c_const.specs.Contents.{Contents, initial_contents, are_inside}
 
@@ -19,11 +18,10 @@ abbrev pub HaveBytes : List Part → Type 0
 HaveBytes [] = Unit {0}
 HaveBytes (q ∷ qs) = HasBytes q.content × HaveBytes qs
 
--- an object whose initializer is constant, lies in it, names no variable, and leaves these contents
+-- an object whose initializer is constant, lies in it, and leaves these contents
 pub record IsConstant (ps : Pointers) (o : StaticObject) (c : Contents) : Type 0 where
   pub leaves : initial_contents ps o ≡ Ok c
   pub inside : are_inside o ≡ true
-  pub unnamed : name_variables o.parts ≡ false
   pub bytes : HaveBytes o.parts
 
 abbrev pub AreConstant : Pointers → List StaticObject → List Contents → Type 0

@@ -1,5 +1,6 @@
--- Good states, and what every part of a run makes of them: objects and tags are sound, each variable whose block is
--- entered has its home in a live object, and what an expression or an lvalue gives is sound.
+-- Good states, and what every part of a run makes of them: objects and tags are sound, objects stand in their regions
+-- and apart, each variable whose block is entered has its home in a live object, each plain variable holds a value of
+-- its type, and what an expression or an lvalue gives is sound and of its kind.
 use Rattle.std.specs.Prelude.{◌≡◌, ◌⊎◌, ℕ, Bool, zero, suc, ◌+◌, ◌<◌, ◌≤◌, ◌^◌, true, false, if◌then◌else◌, List, [], ◌∷◌, Option, Some, None, length, get_or}
 use Rattle.behaviours.specs.Shown.{Access}
 use Rattle.obj_memory.specs.declared.int_type.IntType.TheVariants.{Int}

@@ -72,9 +72,10 @@ pub fn objects_continue_along_a_run()
         → Continues (initial_objects p (setting_of p budgets)) (state_of (outcome p budgets input t)).objects }
 {}
 
-/// In a run of a valid program every tag that is stored names an object and reaches nothing outside it,
-/// each object has its bytes and tags, no two live objects share an address, and each access was of bytes
-/// of an object.
+/// In a run of a valid program every tag that is stored, and that of each plain value, names a function of the
+/// program, or an object outside which it reaches nothing, with bounds below 2^64; each object has its bytes and
+/// tags, and stands in the region of its storage; no two live objects share an address that they take, blocks of the
+/// heap with their rounded room; and each access was of bytes of an object.
 pub fn runs_keep_objects_sound()
     ensures { (p : Program) (budgets : BudgetSizes) → AreMapped (setting_of p budgets).sizes
         → is_valid_program p ≡ true → (input : List ℕ) (t : ℕ)
@@ -141,8 +142,8 @@ pub fn calls_do_the_same_at_any_work()
 {}
 
 /// From a good state every expression, lvalue and list of arguments of a valid program comes to good states with a
-/// sound value, and so does an initializer: at each step, also within a turn. An lvalue that rests on a name is of a
-/// live object.
+/// sound value of its kind, so that an integer has no tag and is a word of its type; and so does an initializer: at
+/// each step, also within a turn. An lvalue that rests on a name is of a live object.
 pub fn expressions_keep_states_good()
     ensures value { (sc : Context) (env : Env) → Calling sc env → (e : Expression) → is_valid sc.scope e ≡ true
         → Sure sc Any (evaluate env e) (ValueIs (function_count sc) (kind_of e)) }
@@ -368,8 +369,8 @@ pub fn moved_contents_are_written()
         → move_range size d s objects ≡ put_range size d s.offset (object_at objects s.object) objects }
 {}
 
-/// Of a valid operator with operands of their kinds, what it gives is of the type of its result; a valid update is one of
-/// the type that it updates.
+/// Of a valid operator with operands of their kinds, what it gives is of the type of its result; a valid update is
+/// one of the type that it updates.
 pub fn valid_operators_give_their_types()
     ensures unary { (op : UnaryOperator) (k result : Kind) → is_operand op k result ≡ true
         → (t : IntType) × (result ≡ OfScalar (Integer t))

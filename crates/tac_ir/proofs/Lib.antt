@@ -2,3 +2,4 @@ pub mod Turns
 pub mod KeyWork
 pub mod Along
 pub mod KeyedChecks
+pub mod Living

@@ -1,30 +1,11 @@
--- Which instructions change variables of the function that runs, and at which objects die.
+-- At which instructions objects die.
 use Rattle.std.specs.Prelude.{◌≡◌, ℕ, Bool, true, false}
 use Rattle.obj_memory.specs.Objects.{object_at}
 use Rattle.source_meaning.specs.State.{State}
 use Rattle.source_meaning.specs.Staying.{frees}
 use Rattle.tac_ir.specs.declared.instruction.Instruction.{Instruction}
-use Rattle.tac_ir.specs.declared.instruction.Instruction.TheVariants.{SetPlain, UpdatePlain, Library, Call, CallThrough, EnterBlock, LeaveBlock, Return}
+use Rattle.tac_ir.specs.declared.instruction.Instruction.TheVariants.{Library, LeaveBlock, Return}
 use Rattle.tac_ir.specs.Stage.{Stage, Begins, Stands, Over, Stuck}
-
--- a plain variable is assigned, or another function runs
-abbrev pub sets_variables : Instruction → Bool
-sets_variables (SetPlain x a m) = true
-sets_variables (UpdatePlain w k f line d x right m) = true
-sets_variables (Call f line d n m) = true
-sets_variables (CallThrough type_number line d n m) = true
-sets_variables (Return a) = true
-sets_variables i = false
-
--- the plain variables are as before
-abbrev pub KeepsPlainBy : State → Stage → Type 0
-KeepsPlainBy s (Begins z) = Unit {0}
-KeepsPlainBy s (Stands u n temps frames z) = z.plain ≡ s.plain
-KeepsPlainBy s (Over e z) = Unit {0}
-KeepsPlainBy s Stuck = Unit {0}
-
-pub record KeepsPlain (s : State) (x : Stage) : Type 0 where
-  pub by : KeepsPlainBy s x
 
 -- a block of the heap is freed, or a block or a call is left
 abbrev pub ends_lives : Instruction → Bool

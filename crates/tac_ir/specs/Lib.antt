@@ -5,3 +5,4 @@ pub mod Costs
 pub mod Meaning
 pub mod Edges
 pub mod Temporaries
+pub mod Changes

@@ -1,6 +1,6 @@
 //! Laws of the definitions, each as the contract of a function that does nothing: passes above rest on them.
 
-ghost use Rattle.std.specs.Prelude.{◌≡◌, ℕ, List, Some, true, slice_get};
+ghost use Rattle.std.specs.Prelude.{◌≡◌, ℕ, List, Some, true, false, slice_get};
 ghost use Rattle.behaviours.specs.Behaviour.{Behaviour, Follows, IsSource};
 ghost use Rattle.behaviours.specs.Steps.{run, IsStepping};
 ghost use Rattle.sb_base.specs.Budgets.{BudgetSizes};
@@ -9,6 +9,7 @@ ghost use Rattle.tac_ir.specs.declared.instruction.Instruction.{Instruction};
 ghost use Rattle.tac_ir.specs.declared.instruction.Instruction.TheVariants.{Judge};
 ghost use Rattle.tac_ir.specs.declared.instruction.Test.{Test};
 ghost use Rattle.tac_ir.specs.declared.key.Key.{Key};
+ghost use Rattle.tac_ir.specs.Changes.{ends_lives, KeepsLivesAt};
 ghost use Rattle.tac_ir.specs.Edges.{GoesAlong};
 ghost use Rattle.tac_ir.specs.Keys.{gives};
 ghost use Rattle.tac_ir.specs.declared.function.Tac.{Tac};
@@ -39,4 +40,10 @@ pub fn checks_are_of_their_keys()
     ensures { (g : Setting) (t : Tac) (of : Test) (size line n a m u : ℕ) (temps : Temps) (frames : List Frame)
         (s : State) → (act g t (Judge of size line (Some n) a m) u temps frames s ≡ Stuck → ⊥)
         → (key : Key) × (slice_get (keys_of (function_in t u)) n ≡ Some key) × (gives key s (temps a).value ≡ true) }
+{}
+
+/// Objects die at no instructions but `free` and `realloc`, the end of a block and the return of a call.
+pub fn objects_die_at_named_instructions()
+    ensures { (g : Setting) (t : Tac) (i : Instruction) (u : ℕ) (temps : Temps) (frames : List Frame) (s : State)
+        → ends_lives i ≡ false → KeepsLivesAt s (act g t i u temps frames s) }
 {}

@@ -24,24 +24,25 @@ use Rattle.rv_sim.specs.Behaviour.{begun}
 use Rattle.rv_sim.specs.Start.{start_of, loaded_segment}
 use Rattle.rv_sim.proofs.Steps.{step-word}
 use Rattle.rv_sim.proofs.Runs.{runs-suc}
-use Rattle.sbcets_core.specs.Code.{code_bytes, pieces_with, rows_bytes}
+use Rattle.sbcets_core.specs.Code.{code_bytes, pieces_with, jump_table_bytes}
 use Rattle.sbcets_core.proofs.Words.{StandsAt, stands_within, word_here}
 
 -- the row of main and the runtime as numbers
-abbrev pub rows_numbers : List ℕ
-rows_numbers =
+abbrev pub jump_table_numbers : List ℕ
+jump_table_numbers =
     0x6f ∷ 0x00 ∷ 0x0f ∷ 0x00 ∷ 0 ∷ 0 ∷ 0 ∷ 0 ∷ 0 ∷ 0 ∷ 0 ∷ 0 ∷ 0 ∷ 0 ∷ 0 ∷ 0
     ∷ 0xb7 ∷ 0x05 ∷ 0x00 ∷ 0x40 ∷ 0x13 ∷ 0x06 ∷ 0x10 ∷ 0x00 ∷ 0x93 ∷ 0x08 ∷ 0x00 ∷ 0x04 ∷ 0x6f ∷ 0xf0 ∷ 0x5f ∷ 0xfe ∷ []
 
-rows_are : rows_bytes ≡ rows_numbers
+jump_table_is : jump_table_bytes ≡ jump_table_numbers
 unfolding code_bytes word_of imm_code
-rows_are = refl
+jump_table_is = refl
 
 abbrev pub zeros : List ℕ
 zeros = 0 ∷ 0 ∷ 0 ∷ 0 ∷ 0 ∷ 0 ∷ 0 ∷ 0 ∷ 0 ∷ 0 ∷ 0 ∷ 0 ∷ 0 ∷ 0 ∷ 0 ∷ []
 
-abbrev pub rows_segment : SegmentState
-rows_segment = record { address = 0x10000; bytes = rows_numbers; readable = false; writable = false; executable = true }
+abbrev pub jump_table_segment : SegmentState
+jump_table_segment = record
+    { address = 0x10000; bytes = jump_table_numbers; readable = false; writable = false; executable = true }
 
 abbrev pub code_segment : List ℕ → SegmentState
 code_segment code = record { address = 0x100000; bytes = code; readable = false; writable = false; executable = true }
@@ -55,7 +56,7 @@ runtime_segment byte = record
     { address = 0x40000000; bytes = byte ∷ zeros; readable = true; writable = true; executable = false }
 
 abbrev pub memory_with : List ℕ → ℕ → List SegmentState
-memory_with code byte = rows_segment ∷ code_segment code ∷ objects_segment ∷ runtime_segment byte ∷ []
+memory_with code byte = jump_table_segment ∷ code_segment code ∷ objects_segment ∷ runtime_segment byte ∷ []
 
 -- all registers but these are zero
 abbrev pub registers_with : ℕ → ℕ → ℕ → ℕ → List ℕ
@@ -72,23 +73,23 @@ nothing_behind code =
     let none : length code - length code ≡ 0 = omega arith in
     ap (λ n. code ++ replicate n 0) none ∙ append-nil code
 
-started_with : (code rows : List ℕ) → rows ≡ rows_numbers
+started_with : (code table : List ℕ) → table ≡ jump_table_numbers
     → map loaded_segment (content
-    (record (pieces_with code) { jump_table = record { address = 0x10000; bytes = rows; size = 32 } })).segments
+    (record (pieces_with code) { jump_table = record { address = 0x10000; bytes = table; size = 32 } })).segments
     ≡ memory_with code 0
 unfolding memory_of
-started_with code rows e =
+started_with code table e =
     ap (λ r. map loaded_segment
     (content (record (pieces_with code)
     { jump_table = record { address = 0x10000; bytes = r; size = 32 } })).segments) e
-    ∙ ap (λ c. rows_segment ∷ record
+    ∙ ap (λ c. jump_table_segment ∷ record
     { address = 0x100000; bytes = c; readable = false; writable = false; executable = true } ∷ objects_segment
     ∷ runtime_segment 0 ∷ []) (nothing_behind code)
 
 pub starts : (code : List ℕ) → start_of (content (pieces_with code)) ≡ started code
 unfolding start_of
 starts code = ap (λ m. record { pc = 0x10010; registers = registers_with 0 0 0 0; memory = m })
-    (started_with code rows_bytes rows_are)
+    (started_with code jump_table_bytes jump_table_is)
 
 -- the place of an address in four segments, of which the first ones do not hold it
 second_place : (p : SegmentState → Bool) (a b c d : SegmentState) → p a ≡ false → p b ≡ true
@@ -112,11 +113,12 @@ in_code : (code : List ℕ) (at byte : ℕ) → at < length code → place_of (m
 unfolding place_of
 in_code code at byte h =
     let a = 0x100000 + at in
-    let past_rows : nat_lt (a - 0x10000) 32 ≡ false = le-ltb (a - 0x10000) 32 (omega arith) in
-    let not_rows : holds rows_segment a ≡ false = and_right (nat_le 0x10000 a) _ past_rows in
+    let past_jump_table : nat_lt (a - 0x10000) 32 ≡ false = le-ltb (a - 0x10000) 32 (omega arith) in
+    let not_jump_table : holds jump_table_segment a ≡ false = and_right (nat_le 0x10000 a) _ past_jump_table in
     let from : nat_le 0x100000 a ≡ true = le-leb 0x100000 a (omega arith) in
     let to : nat_lt (a - 0x100000) (length code) ≡ true = lt-ltb (a - 0x100000) (length code) (omega arith) in
-    second_place (λ s. holds s a) rows_segment (code_segment code) objects_segment (runtime_segment byte) not_rows
+    second_place (λ s. holds s a) jump_table_segment (code_segment code) objects_segment
+    (runtime_segment byte) not_jump_table
     (and_from _ _ from to)
 
 -- the buffer lies in the fourth segment
@@ -125,7 +127,8 @@ pub in_runtime : (code : List ℕ) (byte : ℕ) → length code ≤ 2 ^ 24
 unfolding place_of
 in_runtime code byte few =
     let past_code : nat_lt 0x3ff00000 (length code) ≡ false = le-ltb 0x3ff00000 (length code) (omega arith) in
-    fourth_place (λ s. holds s 0x40000000) rows_segment (code_segment code) objects_segment (runtime_segment byte) refl
+    fourth_place (λ s. holds s 0x40000000) jump_table_segment (code_segment code) objects_segment
+    (runtime_segment byte) refl
     past_code refl refl
 
 -- the word at a place of the code

@@ -46,11 +46,11 @@ unfolding pieces_of code_bytes
 in_order program few =
     let small = few_bytes program few in
     record {
-      rows_bytes = lit≤ tt;
+      jump_table_bytes = lit≤ tt;
       code_bytes = omega arith;
       objects_bytes = lit≤ tt;
       runtime_bytes = lit≤ tt;
-      rows_first = lit≤ tt;
+      jump_table_first = lit≤ tt;
       code_next = omega arith;
       objects_next = lit≤ tt;
       runtime_last = lit≤ tt;

@@ -1,6 +1,6 @@
 -- The code of a program, and the parts of its image. Function k has its jump table entry at 0x10000 + 16 k, and the
 -- runtime
--- follows the rows; the compiled code begins at 0x100000 with the first instruction of function 0.
+-- follows the jump table; the compiled code begins at 0x100000 with the first instruction of function 0.
 use Rattle.std.specs.Prelude.{ℕ, ◌-◌, ◌^◌, List, [], ◌∷◌, ◌++◌, length, replicate, flat_map}
 use Rattle.byteorder.specs.Endian.{little_bytes}
 use Rattle.addr_map.specs.Places.{functions_begin, code_begin, objects_begin, spaces_begin}
@@ -24,8 +24,8 @@ abbrev pub runtime_code : List Instr
 runtime_code = Lui a1 0x40000 ∷ li a2 1 ∷ li a7 64 ∷ Jal zero_register (2 ^ 21 - 28) ∷ []
 
 -- the row of main, at 0x10000: to 0x100000
-abbrev pub row_code : List Instr
-row_code = Jal zero_register 0xf0000 ∷ []
+abbrev pub entry_code : List Instr
+entry_code = Jal zero_register 0xf0000 ∷ []
 
 -- putchar: the byte into the buffer, and write(1, buffer, 1)
 abbrev pub putchar_code : ℕ → List Instr → List Instr
@@ -43,15 +43,15 @@ code_of (n ∷ ns) e = putchar_code (written n) (code_of ns e)
 unfoldable pub code_bytes : List Instr → List ℕ
 code_bytes instrs = flat_map (λ i. little_bytes 4 (word_of i)) instrs
 
--- rows are 16 bytes each
-abbrev pub rows_bytes : List ℕ
-rows_bytes = code_bytes row_code ++ (replicate 12 0 ++ code_bytes runtime_code)
+-- entries are 16 bytes each
+abbrev pub jump_table_bytes : List ℕ
+jump_table_bytes = code_bytes entry_code ++ (replicate 12 0 ++ code_bytes runtime_code)
 
 -- No source has objects yet, and of the runtime's spaces there is the buffer alone.
 abbrev pub pieces_with : List ℕ → WrittenImage
 pieces_with code = record {
   entry = 0x10010;
-  jump_table = record { address = functions_begin; bytes = rows_bytes; size = 32 };
+  jump_table = record { address = functions_begin; bytes = jump_table_bytes; size = 32 };
   code = record { address = code_begin; bytes = code; size = length code };
   objects = record { address = objects_begin; bytes = []; size = 0 };
   runtime = record { address = spaces_begin; bytes = []; size = 16 };

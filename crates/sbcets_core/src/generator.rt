@@ -1,7 +1,8 @@
 //! From a program to its image.
 ghost use Rattle.std.specs.Prelude.{◌≡◌, ◌++◌, ◌∷◌, [], ◌+◌, ◌*◌, ◌≤◌, ◌<◌, ◌%◌, ◌^◌, length, replicate, IfOk, OnOk};
 ghost use Rattle.elf_image.specs.Writing.{SegmentsFit};
-ghost use Rattle.sbcets_core.specs.Code.{code_of, code_bytes, exit_code, pieces_of, rows_bytes, row_code, runtime_code};
+ghost use Rattle.sbcets_core.specs.Code.{code_of, code_bytes, exit_code, pieces_of, jump_table_bytes, entry_code};
+ghost use Rattle.sbcets_core.specs.Code.{runtime_code};
 ghost use Rattle.sbcets_core.specs.Code.{putchar_code, li};
 ghost use Rattle.sbcets_core.specs.Meaning.{ending};
 ghost use Rattle.sbcets_core.specs.Faithful.{IsFaithfulImage};
@@ -17,7 +18,7 @@ const WRITE: u16 = 64;
 const EXIT: u16 = 93;
 
 // Where the parts of an image stand.
-const ROWS: u64 = 0x1_0000;
+const JUMP_TABLE: u64 = 0x1_0000;
 
 const RUNTIME: u64 = 0x1_0010;
 
@@ -41,14 +42,14 @@ fn parts_of(alloc: Global, program: &Program) -> Result<NewImage, AllocError>
     ensures value { IfOk result (λ parts. parts ≡ pieces_of program.now) }
     ensures few { OnOk result (length program.now.numbers ≤ 209715) }
 {
-    let rows = rows(alloc)?;
+    let jump_table = jump_table(alloc)?;
     let instrs = code_of(alloc, program)?;
     let mut code = Vec::new(alloc);
     put_words(&mut code, &instrs)?;
     let size = code.len() as u64;
     Ok(NewImage {
         entry: RUNTIME,
-        jump_table: part(ROWS, rows, 32),
+        jump_table: part(JUMP_TABLE, jump_table, 32),
         code: part(CODE, code, size),
         objects: part(OBJECTS, Vec::new(alloc), 0),
         runtime: part(RUNTIME_SPACES, Vec::new(alloc), 16),
@@ -66,8 +67,8 @@ fn part(address: u64, bytes: Vec<u8>, size: u64) -> NewSegment
 }
 
 // The row of `main`, and the runtime behind it.
-fn rows(alloc: Global) -> Result<Vec<u8>, AllocError>
-    ensures { IfOk result (λ bytes. bytes.items ≡ rows_bytes) }
+fn jump_table(alloc: Global) -> Result<Vec<u8>, AllocError>
+    ensures { IfOk result (λ bytes. bytes.items ≡ jump_table_bytes) }
 {
     let mut bytes = Vec::new(alloc);
     put_words(&mut bytes, &[jump(0xf_0000)])?;

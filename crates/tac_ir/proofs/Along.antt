@@ -1,13 +1,12 @@
 -- Steps go along the edges of a function's graph.
-use Rattle.std.proofs.Common.{◌≡◌, ◌⊎◌, inl, inr, ℕ, ◌+◌, List, [], ◌∷◌, length, Option, Some, None, Bool, true, false, refl}
-use Rattle.std.specs.Prelude.{slice_get, cond, ◌==◌, get_or}
+use Rattle.std.proofs.Common.{inl, inr, ℕ, List, [], ◌∷◌, Option, Some, None, Bool, true, false, refl}
+use Rattle.std.specs.Prelude.{slice_get, cond, ◌==◌}
 use Rattle.obj_memory.specs.declared.value.Value.{Value}
 use Rattle.obj_memory.specs.Objects.{Objects}
 use Rattle.c_tree.specs.declared.expression.Kind.{Kind}
 use Rattle.c_tree.specs.declared.expression.Kind.TheVariants.{Void, Scalar as OfScalar, Structure, Array}
 use Rattle.source_meaning.specs.State.{State, Rvalue, Outcome, Gives, Ended, Paused, Setting}
 use Rattle.source_meaning.specs.Actions.{is_zero}
-use Rattle.source_meaning.specs.Expressions.{callee}
 use Rattle.source_meaning.specs.Calls.{Caller, set_up}
 use Rattle.tac_ir.specs.declared.instruction.Mode.{Mode}
 use Rattle.tac_ir.specs.declared.instruction.Mode.TheVariants.{Named, Unchecked, Judged}
@@ -16,12 +15,11 @@ use Rattle.tac_ir.specs.declared.instruction.Instruction.TheVariants.{Reserved, 
 use Rattle.tac_ir.specs.declared.key.Key.{Key}
 use Rattle.tac_ir.specs.declared.function.CodeFunction.{CodeFunction}
 use Rattle.tac_ir.specs.declared.function.Tac.{Tac}
-use Rattle.tac_ir.specs.Stage.{Temps, Frame, Waits, Entered, Waiting, Stage, Begins, Stands, Over, Stuck, came}
+use Rattle.tac_ir.specs.Stage.{Temps, Frame, Waits, Entered, Stage, Stands, came}
 use Rattle.tac_ir.specs.Keys.{gives}
 use Rattle.tac_ir.specs.Accesses.{only_if, admitted, moved_from}
-use Rattle.tac_ir.specs.Costs.{cost, spent}
-use Rattle.tac_ir.specs.Edges.{IsAmong, LeadsTo, GoesAlong}
-use Rattle.tac_ir.specs.Meaning.{function_in, keyed_by, keyed, header_of_code, begun, called_at, called, given_in, given_to, left_for, act}
+use Rattle.tac_ir.specs.Edges.{LeadsTo, GoesAlong}
+use Rattle.tac_ir.specs.Meaning.{function_in, keyed_by, keyed, header_of_code, begun, called_at, given_in, given_to, left_for, act}
 
 module _ (i : Instruction) (u : ℕ) (frames : List Frame) where
   came_along : {A : Type 0} (o : Outcome A) (F : A → State → Stage) → ((a : A) (s : State) → GoesAlong i u frames (F a s)) → GoesAlong i u frames (came o F)

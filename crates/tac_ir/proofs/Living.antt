@@ -1,6 +1,6 @@
 -- Objects die only where they are freed, and where a block or a call is left.
-use Rattle.std.proofs.Common.{◌≡◌, ℕ, ◌+◌, List, [], ◌∷◌, length, Option, Some, None, Bool, true, false, refl}
-use Rattle.std.specs.Prelude.{slice_get, get_or}
+use Rattle.std.proofs.Common.{◌≡◌, ℕ, List, ◌∷◌, length, Option, Some, None, Bool, true, false}
+use Rattle.std.specs.Prelude.{slice_get}
 use Rattle.sb_base.specs.declared.ending.Ending.{Ending}
 use Rattle.sb_base.specs.declared.ending.Ending.TheVariants as ending
 use Rattle.obj_memory.specs.declared.value.Value.{Value}
@@ -8,15 +8,15 @@ use Rattle.obj_memory.specs.Objects.{Objects, object_at}
 use Rattle.c_tree.specs.declared.expression.Kind.{Kind}
 use Rattle.c_tree.specs.declared.expression.Kind.TheVariants.{Void, Scalar as OfScalar, Structure, Array}
 use Rattle.c_tree.specs.Kinds.{size_of_kind}
-use Rattle.source_meaning.specs.State.{State, Rvalue, Outcome, Gives, Ended, Paused, Run, ◌>>=◌, ◌>>◌, tally, Setting}
-use Rattle.source_meaning.specs.Actions.{operate, updated, update, set_plain, update_plain, home_pointer}
+use Rattle.source_meaning.specs.State.{State, Rvalue, Outcome, Gives, Ended, Paused, Run, tally, Setting}
+use Rattle.source_meaning.specs.Actions.{updated, set_plain, home_pointer}
 use Rattle.source_meaning.specs.Structures.{as_rvalue, values_of}
 use Rattle.source_meaning.specs.Expressions.{callee}
-use Rattle.source_meaning.specs.Blocks.{pass_or_stop, enter_block}
-use Rattle.source_meaning.specs.Calls.{Caller, set_up}
+use Rattle.source_meaning.specs.Blocks.{pass_or_stop}
+use Rattle.source_meaning.specs.Calls.{set_up}
 use Rattle.source_meaning.specs.Judging.{is_within, is_live_tag}
 use Rattle.source_meaning.specs.Acting.{state_of}
-use Rattle.source_meaning.specs.Staying.{KeepsLives, frees}
+use Rattle.source_meaning.specs.Staying.{KeepsLives}
 use Rattle.source_meaning.proofs.Living.{lives_on, lives_then, lives_operate, lives_updated, lives_update, lives_take_value, lives_read_rvalue, lives_write_rvalue, lives_set_plain, lives_update_plain, lives_zero_variable, lives_store_bytes, lives_routine, lives_print, lives_callee, lives_set_up, lives_enter_block}
 use Rattle.tac_ir.specs.declared.instruction.Mode.{Mode}
 use Rattle.tac_ir.specs.declared.instruction.Mode.TheVariants.{Named, Unchecked, Judged}
@@ -31,7 +31,7 @@ use Rattle.tac_ir.specs.Stage.{Temps, gathered, Frame, Entered, Stage, Begins, S
 use Rattle.tac_ir.specs.Keys.{gives}
 use Rattle.tac_ir.specs.Accesses.{only_if, admitted, moved_from, is_through}
 use Rattle.tac_ir.specs.Changes.{ends_lives, KeepsLivesAt}
-use Rattle.tac_ir.specs.Meaning.{function_in, objects_in, text_in, keyed_by, keyed, right_value, part_pointer, check, header_of_code, begun, called_at, called, given_in, act}
+use Rattle.tac_ir.specs.Meaning.{function_in, objects_in, text_in, keyed_by, keyed, right_value, part_pointer, check, header_of_code, begun, called_at, given_in, act}
 
 stuck_keeps : {s : State} → KeepsLivesAt s Stuck
 stuck_keeps = record { by = tt }

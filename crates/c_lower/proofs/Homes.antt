@@ -2,8 +2,14 @@
 use Rattle.std.proofs.Common.{ℕ, suc, ◌≤◌, List, [], ◌∷◌, arith}
 use Rattle.std.specs.Prelude.{max}
 use Rattle.c_tree.specs.declared.expression.Kind.{Kind}
-use Rattle.c_tree.specs.Tree.{Expression, expression, Expressions, no_expressions, expressions, Lvalue, lvalue, Node, constant, function, plain, read, decay, address, parenthesized, deref_function, address_function, cast, convert, unary, binary, offset_by, difference, logical_and, logical_or, comma, conditional, assign, assign_plain, compound, change_plain, step, step_plain, call, call_through, library, printf, LvalueNode, automatic, static, deref, index, member, arrow, member_of_value, parenthesized_lvalue}
-use Rattle.c_tree.specs.Walk.{visited, visited_lvalue, walk, walk_lvalue, walk_operands, walk_lvalue_operands, walk_each, greatest}
+use Rattle.c_tree.specs.Tree.{Expression, expression, Expressions, no_expressions, expressions, Lvalue, lvalue, Node}
+use Rattle.c_tree.specs.Tree.{constant, function, plain, read, decay, address, parenthesized, deref_function}
+use Rattle.c_tree.specs.Tree.{address_function, cast, convert, unary, binary, offset_by, difference, logical_and}
+use Rattle.c_tree.specs.Tree.{logical_or, comma, conditional, assign, assign_plain, compound, change_plain, step}
+use Rattle.c_tree.specs.Tree.{step_plain, call, call_through, library, printf, LvalueNode, automatic, static, deref}
+use Rattle.c_tree.specs.Tree.{index, member, arrow, member_of_value, parenthesized_lvalue}
+use Rattle.c_tree.specs.Walk.{visited, visited_lvalue, walk, walk_lvalue, walk_operands, walk_lvalue_operands}
+use Rattle.c_tree.specs.Walk.{walk_each, greatest}
 use Rattle.c_tree.specs.Room.{in_turn, height_made}
 use Rattle.c_lower.specs.Homes.{used_made}
 
@@ -14,7 +20,8 @@ pub data AllMost : List ℕ → List ℕ → Type 0 where
 
 turns_most : (k j : ℕ) (us hs : List ℕ) → k ≤ j → AllMost us hs → in_turn k us ≤ in_turn j hs
 turns_most k j _ _ le none = omega arith
-turns_most k j _ _ le (one u h us hs most rest) = omega (arith, le, most, turns_most (suc k) (suc j) us hs (omega (arith, le)) rest)
+turns_most k j _ _ le (one u h us hs most rest) = omega
+    (arith, le, most, turns_most (suc k) (suc j) us hs (omega (arith, le)) rest)
 
 greatest_most : (us hs : List ℕ) → AllMost us hs → greatest us ≤ greatest hs
 greatest_most _ _ none = omega arith
@@ -38,7 +45,9 @@ mutual
   pub fits : (e : Expression) → walk used_made e ≤ walk height_made e
   fits (expression kind line node) = node_fits kind node
 
-  node_fits : (kind : Kind) (n : Node) → used_made (visited kind n) (walk_operands used_made n) ≤ height_made (visited kind n) (walk_operands height_made n)
+  node_fits : (kind : Kind) (n : Node)
+      → used_made (visited kind n) (walk_operands used_made n) ≤ height_made (visited kind n)
+      (walk_operands height_made n)
   node_fits kind (constant w) = omega arith
   node_fits kind (function f) = omega arith
   node_fits kind (plain x) = omega arith
@@ -76,7 +85,9 @@ mutual
   pub place_fits : (p : Lvalue) → walk_lvalue used_made p ≤ walk_lvalue height_made p
   place_fits (lvalue kind line node) = lvalue_fits kind node
 
-  lvalue_fits : (kind : Kind) (n : LvalueNode) → used_made (visited_lvalue kind n) (walk_lvalue_operands used_made n) ≤ height_made (visited_lvalue kind n) (walk_lvalue_operands height_made n)
+  lvalue_fits : (kind : Kind) (n : LvalueNode)
+      → used_made (visited_lvalue kind n) (walk_lvalue_operands used_made n) ≤ height_made (visited_lvalue kind n)
+      (walk_lvalue_operands height_made n)
   lvalue_fits kind (automatic x) = omega arith
   lvalue_fits kind (static n) = omega arith
   lvalue_fits kind (deref a) = highest _ _ (alone (fits a))

@@ -1,5 +1,7 @@
--- The key of an lvalue gives its pointer: shown of the source alone. What has a key changes nothing but the count of work.
-use Rattle.std.proofs.Common.{◌≡◌, ℕ, ◌+◌, ◌-◌, ◌*◌, ◌%◌, ◌^◌, List, [], ◌∷◌, Option, Some, None, Bool, true, false, refl, sym, ap, ◌∙◌, subst, arith, eq-eqb}
+-- The key of an lvalue gives its pointer: shown of the source alone. What has a key changes nothing but the count of
+-- work.
+use Rattle.std.proofs.Common.{◌≡◌, ℕ, ◌+◌, ◌-◌, ◌*◌, ◌%◌, ◌^◌, List, [], ◌∷◌, Option, Some, None, Bool, true, false}
+use Rattle.std.proofs.Common.{refl, sym, ap, ◌∙◌, subst, arith, eq-eqb}
 use Rattle.std.specs.Prelude.{◌&&◌, ◌==◌, if◌then◌else◌}
 use Rattle.obj_memory.specs.declared.operator.BinaryOperator.{BinaryOperator}
 use Rattle.obj_memory.specs.declared.operator.UnaryOperator.{UnaryOperator}
@@ -13,10 +15,14 @@ use Rattle.obj_memory.specs.Objects.{pointer_to}
 use Rattle.obj_memory.specs.Judgement.{moved, narrowed, narrowed_tag}
 use Rattle.c_tree.specs.declared.expression.Kind.{Kind}
 use Rattle.c_tree.specs.declared.expression.Kind.TheVariants.{Void, Scalar as OfScalar, Structure, Array}
-use Rattle.c_tree.specs.declared.expression.OffsetForm.TheVariants.{PointerPlusIndex, IndexPlusPointer, PointerMinusIndex}
-use Rattle.c_tree.specs.Tree.{Expression, expression, Lvalue, lvalue, Node, constant, plain, decay, address, parenthesized, cast, convert, unary, binary, offset_by, conditional, LvalueNode, automatic, static, deref, index, member, arrow, parenthesized_lvalue, kind_of}
+use Rattle.c_tree.specs.declared.expression.OffsetForm.TheVariants.{PointerPlusIndex, IndexPlusPointer}
+use Rattle.c_tree.specs.declared.expression.OffsetForm.TheVariants.{PointerMinusIndex}
+use Rattle.c_tree.specs.Tree.{Expression, expression, Lvalue, lvalue, Node, constant, plain, decay, address}
+use Rattle.c_tree.specs.Tree.{parenthesized, cast, convert, unary, binary, offset_by, conditional, LvalueNode}
+use Rattle.c_tree.specs.Tree.{automatic, static, deref, index, member, arrow, parenthesized_lvalue, kind_of}
 use Rattle.source_meaning.specs.State.{State, Rvalue, Gives, Run, on, ◌>>=◌, choose, Env}
-use Rattle.source_meaning.specs.Actions.{integer, is_zero, scalar_of, integer_type, converted, offset_value, operate, value_or_divide, plain_value, home_pointer}
+use Rattle.source_meaning.specs.Actions.{integer, is_zero, scalar_of, integer_type, converted, offset_value, operate}
+use Rattle.source_meaning.specs.Actions.{value_or_divide, plain_value, home_pointer}
 use Rattle.source_meaning.specs.Structures.{rvalue, give, as_rvalue, as_pointer}
 use Rattle.source_meaning.specs.Expressions.{counted, evaluate, value, place, node_place}
 use Rattle.source_meaning.specs.Acting.{at_work}
@@ -29,7 +35,10 @@ use Rattle.tac_ir.specs.Keys.{base_value, scaled_value, path_tag, key_word, key_
 use Rattle.tac_ir.proofs.KeyWork.{word_work, tag_work}
 use Rattle.tac_ir.specs.Accesses.{only_if}
 use Rattle.tac_ir.specs.Meaning.{keyed_by, keyed}
-use Rattle.c_lower.specs.Keys.{constant_fit, constant_unary, constant_binary, constant_choice, constant_of, constant_node, variable_of, variable_node, Index, OfConstant, OfVariable, OfOther, index_by, index_of, moved_key, scaled_key, key_plus, key_minus, member_key, pointer_key, node_key, place_key, lvalue_key}
+use Rattle.c_lower.specs.Keys.{constant_fit, constant_unary, constant_binary, constant_choice, constant_of}
+use Rattle.c_lower.specs.Keys.{constant_node, variable_of, variable_node, Index, OfConstant, OfVariable, OfOther}
+use Rattle.c_lower.specs.Keys.{index_by, index_of, moved_key, scaled_key, key_plus, key_minus, member_key, pointer_key}
+use Rattle.c_lower.specs.Keys.{node_key, place_key, lvalue_key}
 use Rattle.c_lower.specs.Values.{KeyIs}
 
 -- what a key gives
@@ -56,7 +65,8 @@ right_work : (key : Key) (k : ℕ) (s : State) (v : Value) → Right key s v →
 right_work key k s v h = record { word = h.word ∙ sym (word_work key k s); tag = h.tag ∙ sym (tag_work key k s) }
 
 -- in the table
-pub key_opens : (keys : List Key) (key : Option ℕ) (ok : Option Key) (s : State) (v : Value) → KeyIs keys key ok → ((k : Key) → ok ≡ Some k → Right k s v) → (k : ℕ) (next : Stage) → keyed keys key (at_work k s) v next ≡ next
+pub key_opens : (keys : List Key) (key : Option ℕ) (ok : Option Key) (s : State) (v : Value) → KeyIs keys key ok
+    → ((k : Key) → ok ≡ Some k → Right k s v) → (k : ℕ) (next : Stage) → keyed keys key (at_work k s) v next ≡ next
 key_opens keys None ok s v is right k next = refl
 key_opens keys (Some n) None s v is right k next = absurd is
 key_opens keys (Some n) (Some key) s v is right k next =
@@ -65,24 +75,37 @@ key_opens keys (Some n) (Some key) s v is right k next =
 
 -- sums
 
-sum_moved : (w m b c d : ℕ) → w % 2 ^ 64 ≡ (b + (c + d)) % 2 ^ 64 → ((w + m) % 2 ^ 64) % 2 ^ 64 ≡ (b + ((c + m) % 2 ^ 64 + d)) % 2 ^ 64
+sum_moved : (w m b c d : ℕ) → w % 2 ^ 64 ≡ (b + (c + d)) % 2 ^ 64
+    → ((w + m) % 2 ^ 64) % 2 ^ 64 ≡ (b + ((c + m) % 2 ^ 64 + d)) % 2 ^ 64
 sum_moved w m b c d h = omega (arith, h)
 
 sum_scaled : (w m b c : ℕ) → w % 2 ^ 64 ≡ (b + (c + 0)) % 2 ^ 64 → ((w + m) % 2 ^ 64) % 2 ^ 64 ≡ (b + (c + m)) % 2 ^ 64
 sum_scaled w m b c h = omega (arith, h)
 
-sum_narrowed : (w m b c d : ℕ) → w % 2 ^ 64 ≡ (b + (c + d)) % 2 ^ 64 → (w + m) % 2 ^ 64 ≡ (b + ((c + m) % 2 ^ 64 + d)) % 2 ^ 64
+sum_narrowed : (w m b c d : ℕ) → w % 2 ^ 64 ≡ (b + (c + d)) % 2 ^ 64
+    → (w + m) % 2 ^ 64 ≡ (b + ((c + m) % 2 ^ 64 + d)) % 2 ^ 64
 sum_narrowed w m b c d h = omega (arith, h)
 
-right_base : (b : Base) (s : State) → Right (record { base = b; path = []; constant = 0; scaled = None }) s (base_value b s)
+right_base : (b : Base) (s : State)
+    → Right (record { base = b; path = []; constant = 0; scaled = None }) s (base_value b s)
 right_base b s = record { word = ap (λ n. n % 2 ^ 64) (omega arith); tag = refl }
 
 right_moved : (key : Key) (m : ℕ) (s : State) (v : Value) → Right key s v → Right (moved_key m key) s (moved m v)
 unfolding moved
-right_moved key m s v h = record { word = sum_moved v.word m (base_value key.base s).word key.constant (scaled_value key.scaled s) h.word; tag = h.tag }
+right_moved key m s v h = record {
+  word = sum_moved v.word m (base_value key.base s).word key.constant (scaled_value key.scaled s) h.word;
+  tag =
+      h.tag;
+}
 
 right_scaled : (key : Key) → key.scaled ≡ None → (x size : ℕ) (s : State) (v : Value) → Right key s v
-    → Right (record { base = key.base; path = key.path; constant = key.constant; scaled = Some (record { variable = x; size = size }) }) s (moved ((plain_value x s).word * size) v)
+    → Right (record {
+      base = key.base;
+      path = key.path;
+      constant = key.constant;
+      scaled = Some
+          (record { variable = x; size = size });
+    }) s (moved ((plain_value x s).word * size) v)
 unfolding moved
 right_scaled key none x size s v h = record {
   word =
@@ -126,32 +149,43 @@ makes_counted : (o : Option ℕ) (r : Run Rvalue) → MakesIf o r → MakesIf o 
 makes_counted None r h = tt
 makes_counted (Some w) r h = record { by = λ s. h.by (record s { work = s.work + 1 }) }
 
-makes_fit : (kind : Kind) (o : Option ℕ) (r : Run Rvalue) → MakesIf o r → MakesIf (constant_fit kind o) (r >>= (λ v. give (converted kind v.value)))
+makes_fit : (kind : Kind) (o : Option ℕ) (r : Run Rvalue) → MakesIf o r
+    → MakesIf (constant_fit kind o) (r >>= (λ v. give (converted kind v.value)))
 makes_fit (OfScalar (Integer t)) (Some w) r h =
-    record { by = λ s. let q = h.by s in (q.0, ap (λ o. on o (λ v. give (converted (OfScalar (Integer t)) v.value))) q.1) }
+    record {
+      by = λ s. let q = h.by s in
+          (q.0, ap (λ o. on o (λ v. give (converted (OfScalar (Integer t)) v.value))) q.1);
+    }
 makes_fit (OfScalar (Integer t)) None r h = tt
 makes_fit (OfScalar Pointer) o r h = tt
 makes_fit Void o r h = tt
 makes_fit (Structure n) o r h = tt
 makes_fit (Array n) o r h = tt
 
-makes_unary : (op : UnaryOperator) (t : IntType) (o : Option ℕ) (r : Run Rvalue) → MakesIf o r → MakesIf (constant_unary op t o) (r >>= (λ v. give (integer (unary_value op t v.value.word))))
+makes_unary : (op : UnaryOperator) (t : IntType) (o : Option ℕ) (r : Run Rvalue) → MakesIf o r
+    → MakesIf (constant_unary op t o) (r >>= (λ v. give (integer (unary_value op t v.value.word))))
 makes_unary op t None r h = tt
 makes_unary op t (Some w) r h =
-    record { by = λ s. let q = h.by s in (q.0, ap (λ o. on o (λ v. give (integer (unary_value op t v.value.word)))) q.1) }
+    record {
+      by = λ s. let q = h.by s in
+          (q.0, ap (λ o. on o (λ v. give (integer (unary_value op t v.value.word)))) q.1);
+    }
 
 divided : (o : Option ℕ) (line : ℕ) → MakesIf o (as_rvalue (value_or_divide o line))
 divided None line = tt
 divided (Some w) line = record { by = λ s. (s.work, refl) }
 
 -- one run after another that gave a value and did nothing but work
-makes_then : (o : Option ℕ) (r : Run Rvalue) (v : Rvalue) (f : Rvalue → Run Rvalue) → ((s : State) → (n : ℕ) × (r s ≡ Gives v (at_work n s))) → MakesIf o (f v) → MakesIf o (r >>= f)
+makes_then : (o : Option ℕ) (r : Run Rvalue) (v : Rvalue) (f : Rvalue → Run Rvalue)
+    → ((s : State) → (n : ℕ) × (r s ≡ Gives v (at_work n s))) → MakesIf o (f v) → MakesIf o (r >>= f)
 makes_then None r v f h g = tt
 makes_then (Some w) r v f h g = record {
   by = λ s. let q = h s in let p = g.by (at_work q.0 s) in (p.0, ap (λ o. on o f) q.1 ∙ p.1);
 }
 
-makes_binary : (op : BinaryOperator) (t : IntType) (line : ℕ) (o o' : Option ℕ) (r r' : Run Rvalue) → MakesIf o r → MakesIf o' r' → MakesIf (constant_binary op t o o') (r >>= (λ x. r' >>= (λ y. as_rvalue (operate op t x.value y.value line))))
+makes_binary : (op : BinaryOperator) (t : IntType) (line : ℕ) (o o' : Option ℕ) (r r' : Run Rvalue) → MakesIf o r
+    → MakesIf o' r' → MakesIf (constant_binary op t o o')
+    (r >>= (λ x. r' >>= (λ y. as_rvalue (operate op t x.value y.value line))))
 makes_binary op t line None o' r r' h h' = tt
 makes_binary op t line (Some v) None r r' h h' = tt
 makes_binary op t line (Some v) (Some w) r r' h h' =
@@ -162,7 +196,8 @@ chosen : (b : Bool) (v w : ℕ) (r r' : Run Rvalue) → Makes v r → Makes w r'
 chosen true v w r r' h h' = h'
 chosen false v w r r' h h' = h
 
-makes_choice : (o o' o'' : Option ℕ) (r r' r'' : Run Rvalue) → MakesIf o r → MakesIf o' r' → MakesIf o'' r'' → MakesIf (constant_choice o o' o'') (r >>= (λ x. choose (is_zero x.value) r'' r'))
+makes_choice : (o o' o'' : Option ℕ) (r r' r'' : Run Rvalue) → MakesIf o r → MakesIf o' r' → MakesIf o'' r''
+    → MakesIf (constant_choice o o' o'') (r >>= (λ x. choose (is_zero x.value) r'' r'))
 makes_choice None o' o'' r r' r'' h h' h'' = tt
 makes_choice (Some c) None o'' r r' r'' h h' h'' = tt
 makes_choice (Some c) (Some v) None r r' r'' h h' h'' = tt
@@ -185,17 +220,27 @@ found_counted (Some key) r h = record {
 
 found_pointer : (ok : Option Key) (r : Run Rvalue) → FoundIf ok r → FoundIf ok (as_pointer r)
 found_pointer None r h = tt
-found_pointer (Some key) r h = record { by = λ s. let q = h.by s in (q.0, q.1, ap (λ o. on o (λ v. give v.value)) q.2, q.3) }
+found_pointer (Some key) r h = record
+    { by = λ s. let q = h.by s in (q.0, q.1, ap (λ o. on o (λ v. give v.value)) q.2, q.3) }
 
 -- a pointer and then an index, and an index and then a pointer
-found_plus : (ok : Option Key) (i : Index) (size : ℕ) (r r' : Run Rvalue) → FoundIf ok r → IndexIs i r' → FoundIf (key_plus ok i size) (r >>= (λ x. r' >>= (λ y. give (offset_value PointerPlusIndex size x.value y.value))))
+found_plus : (ok : Option Key) (i : Index) (size : ℕ) (r r' : Run Rvalue) → FoundIf ok r → IndexIs i r'
+    → FoundIf (key_plus ok i size)
+    (r >>= (λ x. r' >>= (λ y. give (offset_value PointerPlusIndex size x.value y.value))))
 found_plus None i size r r' h h' = tt
 found_plus (Some key) OfOther size r r' h h' = tt
 found_plus (Some key) (OfConstant w) size r r' h h' = record {
   by = λ s.
       let q = h.by s in
-      let p = h'.by (at_work q.1 s) in
-      (moved (w * size) q.0, p.0, ap (λ o. on o (λ x. r' >>= (λ y. give (offset_value PointerPlusIndex size x.value y.value)))) q.2 ∙ ap (λ o. on o (λ y. give (offset_value PointerPlusIndex size q.0 y.value))) p.1, right_moved key (w * size) s q.0 q.3);
+      let p = h'.by (at_work q.1 s) in (
+        moved (w * size) q.0,
+        p.0,
+        ap
+            (λ o. on o (λ x. r' >>= (λ y. give (offset_value PointerPlusIndex size x.value y.value)))) q.2
+            ∙ ap (λ o. on o (λ y. give (offset_value PointerPlusIndex size q.0 y.value))) p.1,
+        right_moved key (w * size)
+            s q.0 q.3,
+      );
 }
 found_plus (Some key) (OfVariable x) size r r' h h' = by key.scaled refl
   where
@@ -207,18 +252,33 @@ found_plus (Some key) (OfVariable x) size r r' h h' = by key.scaled refl
     by None e = record {
       by = λ s.
           let q = h.by s in
-          let p = h'.by (at_work q.1 s) in
-          (moved ((plain_value x s).word * size) q.0, p.0, ap (λ o. on o f) q.2 ∙ ap (λ o. on o (λ y. give (offset_value PointerPlusIndex size q.0 y.value))) p.1, right_scaled key e x size s q.0 q.3);
+          let p = h'.by (at_work q.1 s) in (
+            moved ((plain_value x s).word * size) q.0,
+            p.0,
+            ap (λ o. on o f) q.2
+                ∙ ap (λ o. on o (λ y. give (offset_value PointerPlusIndex size q.0 y.value))) p.1,
+            right_scaled key e x
+                size s q.0 q.3,
+          );
     }
 
-found_index : (ok : Option Key) (i : Index) (size : ℕ) (r r' : Run Rvalue) → FoundIf ok r → IndexIs i r' → FoundIf (key_plus ok i size) (r' >>= (λ y. r >>= (λ x. give (offset_value IndexPlusPointer size y.value x.value))))
+found_index : (ok : Option Key) (i : Index) (size : ℕ) (r r' : Run Rvalue) → FoundIf ok r → IndexIs i r'
+    → FoundIf (key_plus ok i size)
+    (r' >>= (λ y. r >>= (λ x. give (offset_value IndexPlusPointer size y.value x.value))))
 found_index None i size r r' h h' = tt
 found_index (Some key) OfOther size r r' h h' = tt
 found_index (Some key) (OfConstant w) size r r' h h' = record {
   by = λ s.
       let p = h'.by s in
-      let q = h.by (at_work p.0 s) in
-      (moved (w * size) q.0, q.1, ap (λ o. on o (λ y. r >>= (λ x. give (offset_value IndexPlusPointer size y.value x.value)))) p.1 ∙ ap (λ o. on o (λ x. give (offset_value IndexPlusPointer size (integer w) x.value))) q.2, right_moved key (w * size) s q.0 (right_work key s.work (at_work p.0 s) q.0 q.3));
+      let q = h.by (at_work p.0 s) in (
+        moved (w * size) q.0,
+        q.1,
+        ap
+            (λ o. on o (λ y. r >>= (λ x. give (offset_value IndexPlusPointer size y.value x.value)))) p.1
+            ∙ ap (λ o. on o (λ x. give (offset_value IndexPlusPointer size (integer w) x.value))) q.2,
+        right_moved key
+            (w * size) s q.0 (right_work key s.work (at_work p.0 s) q.0 q.3),
+      );
 }
 found_index (Some key) (OfVariable x) size r r' h h' = by key.scaled refl
   where
@@ -230,38 +290,67 @@ found_index (Some key) (OfVariable x) size r r' h h' = by key.scaled refl
     by None e = record {
       by = λ s.
           let p = h'.by s in
-          let q = h.by (at_work p.0 s) in
-          (moved ((plain_value x s).word * size) q.0, q.1, ap (λ o. on o f) p.1 ∙ ap (λ o. on o (λ v. give (offset_value IndexPlusPointer size (plain_value x s) v.value))) q.2, right_scaled key e x size s q.0 (right_work key s.work (at_work p.0 s) q.0 q.3));
+          let q = h.by (at_work p.0 s) in (
+            moved ((plain_value x s).word * size) q.0,
+            q.1,
+            ap (λ o. on o f) p.1
+                ∙ ap (λ o. on o (λ v. give (offset_value IndexPlusPointer size (plain_value x s) v.value))) q.2,
+            right_scaled key e x size s q.0 (right_work key s.work (at_work p.0 s) q.0 q.3),
+          );
     }
 
-found_minus : (ok : Option Key) (i : Index) (size : ℕ) (r r' : Run Rvalue) → FoundIf ok r → IndexIs i r' → FoundIf (key_minus ok i size) (r >>= (λ x. r' >>= (λ y. give (offset_value PointerMinusIndex size x.value y.value))))
+found_minus : (ok : Option Key) (i : Index) (size : ℕ) (r r' : Run Rvalue) → FoundIf ok r → IndexIs i r'
+    → FoundIf (key_minus ok i size)
+    (r >>= (λ x. r' >>= (λ y. give (offset_value PointerMinusIndex size x.value y.value))))
 found_minus None i size r r' h h' = tt
 found_minus (Some key) OfOther size r r' h h' = tt
 found_minus (Some key) (OfVariable x) size r r' h h' = tt
 found_minus (Some key) (OfConstant w) size r r' h h' = record {
   by = λ s.
       let q = h.by s in
-      let p = h'.by (at_work q.1 s) in
-      (moved (2 ^ 64 - w * size % 2 ^ 64) q.0, p.0, ap (λ o. on o (λ x. r' >>= (λ y. give (offset_value PointerMinusIndex size x.value y.value)))) q.2 ∙ ap (λ o. on o (λ y. give (offset_value PointerMinusIndex size q.0 y.value))) p.1, right_moved key (2 ^ 64 - w * size % 2 ^ 64) s q.0 q.3);
+      let p = h'.by (at_work q.1 s) in (
+        moved (2 ^ 64 - w * size % 2 ^ 64) q.0,
+        p.0,
+        ap
+            (λ o. on o (λ x. r' >>= (λ y. give (offset_value PointerMinusIndex size x.value y.value)))) q.2
+            ∙ ap (λ o. on o (λ y. give (offset_value PointerMinusIndex size q.0 y.value))) p.1,
+        right_moved key
+            (2 ^ 64 - w * size % 2 ^ 64) s q.0 q.3,
+      );
 }
 
 right_member : (key : Key) (offset size : ℕ) (s : State) (v : Value) → Right key s v
-    → Right (record { base = key.base; path = record { constant = (key.constant + offset) % 2 ^ 64; scaled = key.scaled; size = size } ∷ key.path; constant = (key.constant + offset) % 2 ^ 64; scaled = key.scaled }) s (narrowed offset size v)
+    → Right (record {
+      base = key.base;
+      path = record
+          { constant = (key.constant + offset) % 2 ^ 64; scaled = key.scaled; size = size }
+          ∷ key.path;
+      constant = (key.constant + offset) % 2 ^ 64;
+      scaled = key.scaled;
+    }) s (narrowed offset size v)
 unfolding narrowed
 right_member key offset size s v h =
     let b = base_value key.base s in
     let at = sum_narrowed v.word offset b.word key.constant (scaled_value key.scaled s) h.word in
     record {
       word = sum_moved v.word offset b.word key.constant (scaled_value key.scaled s) h.word;
-      tag = ap (λ t. narrowed_tag ((v.word + offset) % 2 ^ 64) size t) h.tag ∙ ap (λ n. narrowed_tag n size (path_tag b key.path s)) at;
+      tag = ap (λ t. narrowed_tag ((v.word + offset) % 2 ^ 64) size t) h.tag
+          ∙ ap (λ n. narrowed_tag n size (path_tag b key.path s)) at;
     }
 
-found_member : (ok : Option Key) (offset size : ℕ) (r : Run Rvalue) (f : Rvalue → Run Rvalue) → ((v : Value) (s : State) → f (rvalue v) s ≡ Gives (rvalue (narrowed offset size v)) s) → FoundIf ok r → FoundIf (member_key ok offset size) (r >>= f)
+found_member : (ok : Option Key) (offset size : ℕ) (r : Run Rvalue) (f : Rvalue → Run Rvalue)
+    → ((v : Value) (s : State) → f (rvalue v) s ≡ Gives (rvalue (narrowed offset size v)) s) → FoundIf ok r
+    → FoundIf (member_key ok offset size) (r >>= f)
 found_member None offset size r f gives h = tt
 found_member (Some key) offset size r f gives h = record {
   by = λ s.
-      let q = h.by s in
-      (narrowed offset size q.0, q.1, ap (λ o. on o f) q.2 ∙ gives q.0 (at_work q.1 s), right_member key offset size s q.0 q.3);
+      let q = h.by s in (
+        narrowed offset size q.0,
+        q.1,
+        ap (λ o. on o f) q.2
+            ∙ gives q.0 (at_work q.1 s),
+        right_member key offset size s q.0 q.3,
+      );
 }
 
 module _ (env : Env) where
@@ -272,17 +361,22 @@ module _ (env : Env) where
     node_makes : (n : Node) (kind : Kind) (line : ℕ) → MakesIf (constant_node n kind) (value env n kind line)
     node_makes (constant w) kind line = record { by = λ s. (s.work + 1, refl) }
     node_makes (parenthesized a) kind line = makes_counted (constant_of a) (evaluate env a) (constant_makes a)
-    node_makes (cast a) kind line = makes_counted (constant_fit kind (constant_of a)) _ (makes_fit kind (constant_of a) (evaluate env a) (constant_makes a))
+    node_makes (cast a) kind line = makes_counted (constant_fit kind (constant_of a)) _
+        (makes_fit kind (constant_of a) (evaluate env a) (constant_makes a))
     node_makes (convert a) kind line = makes_fit kind (constant_of a) (evaluate env a) (constant_makes a)
     node_makes (unary op a) kind line =
         let t = integer_type (scalar_of (kind_of a)) in
-        makes_counted (constant_unary op t (constant_of a)) _ (makes_unary op t (constant_of a) (evaluate env a) (constant_makes a))
+        makes_counted (constant_unary op t (constant_of a)) _
+        (makes_unary op t (constant_of a) (evaluate env a) (constant_makes a))
     node_makes (binary op a b) kind line =
         let t = integer_type (scalar_of (kind_of a)) in
-        makes_counted (constant_binary op t (constant_of a) (constant_of b)) _ (makes_binary op t line (constant_of a) (constant_of b) (evaluate env a) (evaluate env b) (constant_makes a) (constant_makes b))
+        makes_counted (constant_binary op t (constant_of a) (constant_of b)) _
+        (makes_binary op t line (constant_of a) (constant_of b) (evaluate env a) (evaluate env b) (constant_makes a)
+        (constant_makes b))
     node_makes (conditional c a b) kind line =
         makes_counted (constant_choice (constant_of c) (constant_of a) (constant_of b)) _
-        (makes_choice (constant_of c) (constant_of a) (constant_of b) (evaluate env c) (evaluate env a) (evaluate env b) (constant_makes c) (constant_makes a) (constant_makes b))
+        (makes_choice (constant_of c) (constant_of a) (constant_of b) (evaluate env c) (evaluate env a) (evaluate env b)
+        (constant_makes c) (constant_makes a) (constant_makes b))
     node_makes n kind line = tt
 
   mutual
@@ -313,16 +407,24 @@ module _ (env : Env) where
     node_found : (n : Node) (line : ℕ) → FoundIf (node_key n) (value env n (OfScalar Pointer) line)
     node_found (plain x) line = record { by = λ s. (plain_value x s, s.work + 1, refl, right_base (Plain x) s) }
     node_found (decay p) line = found_pointer (place_key p) (place env p) (place_found p)
-    node_found (address p) line = found_counted (place_key p) _ (found_pointer (place_key p) (place env p) (place_found p))
+    node_found (address p) line = found_counted (place_key p) _
+        (found_pointer (place_key p) (place env p) (place_found p))
     node_found (parenthesized a) line = found_counted (pointer_key a) (evaluate env a) (pointer_found a)
-    node_found (cast a) line = found_counted (pointer_key a) _ (found_pointer (pointer_key a) (evaluate env a) (pointer_found a))
+    node_found (cast a) line = found_counted (pointer_key a) _
+        (found_pointer (pointer_key a) (evaluate env a) (pointer_found a))
     node_found (convert a) line = found_pointer (pointer_key a) (evaluate env a) (pointer_found a)
     node_found (offset_by PointerPlusIndex size a b) line =
-        found_counted (key_plus (pointer_key a) (index_of b) size) _ (found_plus (pointer_key a) (index_of b) size (evaluate env a) (evaluate env b) (pointer_found a) (index_is b))
+        found_counted (key_plus (pointer_key a) (index_of b) size) _
+        (found_plus (pointer_key a) (index_of b) size (evaluate env a) (evaluate env b) (pointer_found a)
+        (index_is b))
     node_found (offset_by IndexPlusPointer size a b) line =
-        found_counted (key_plus (pointer_key b) (index_of a) size) _ (found_index (pointer_key b) (index_of a) size (evaluate env b) (evaluate env a) (pointer_found b) (index_is a))
+        found_counted (key_plus (pointer_key b) (index_of a) size) _
+        (found_index (pointer_key b) (index_of a) size (evaluate env b) (evaluate env a) (pointer_found b)
+        (index_is a))
     node_found (offset_by PointerMinusIndex size a b) line =
-        found_counted (key_minus (pointer_key a) (index_of b) size) _ (found_minus (pointer_key a) (index_of b) size (evaluate env a) (evaluate env b) (pointer_found a) (index_is b))
+        found_counted (key_minus (pointer_key a) (index_of b) size) _
+        (found_minus (pointer_key a) (index_of b) size (evaluate env a) (evaluate env b) (pointer_found a)
+        (index_is b))
     node_found n line = tt
 
     pub place_found : (p : Lvalue) → FoundIf (place_key p) (place env p)
@@ -331,15 +433,24 @@ module _ (env : Env) where
     lvalue_found : (n : LvalueNode) → FoundIf (lvalue_key n) (node_place env n)
     lvalue_found (automatic x) = record { by = λ s. (home_pointer x s, s.work + 1, refl, right_base (Automatic x) s) }
     lvalue_found (static n) = record { by = λ s. (pointer_to n s.objects, s.work + 1, refl, right_base (Static n) s) }
-    lvalue_found (deref a) = found_counted (pointer_key a) _ (found_pointer (pointer_key a) (evaluate env a) (pointer_found a))
+    lvalue_found (deref a) = found_counted (pointer_key a) _
+        (found_pointer (pointer_key a) (evaluate env a) (pointer_found a))
     lvalue_found (index PointerPlusIndex size a b) =
-        found_counted (key_plus (pointer_key a) (index_of b) size) _ (found_plus (pointer_key a) (index_of b) size (evaluate env a) (evaluate env b) (pointer_found a) (index_is b))
+        found_counted (key_plus (pointer_key a) (index_of b) size) _
+        (found_plus (pointer_key a) (index_of b) size (evaluate env a) (evaluate env b) (pointer_found a)
+        (index_is b))
     lvalue_found (index IndexPlusPointer size a b) =
-        found_counted (key_plus (pointer_key b) (index_of a) size) _ (found_index (pointer_key b) (index_of a) size (evaluate env b) (evaluate env a) (pointer_found b) (index_is a))
+        found_counted (key_plus (pointer_key b) (index_of a) size) _
+        (found_index (pointer_key b) (index_of a) size (evaluate env b) (evaluate env a) (pointer_found b)
+        (index_is a))
     lvalue_found (index PointerMinusIndex size a b) =
-        found_counted (key_minus (pointer_key a) (index_of b) size) _ (found_minus (pointer_key a) (index_of b) size (evaluate env a) (evaluate env b) (pointer_found a) (index_is b))
-    lvalue_found (member p offset size) = found_counted (member_key (place_key p) offset size) _ (found_member (place_key p) offset size (place env p) _ (λ v s. refl) (place_found p))
-    lvalue_found (arrow a offset size) = found_counted (member_key (pointer_key a) offset size) _ (found_member (pointer_key a) offset size (evaluate env a) _ (λ v s. refl) (pointer_found a))
+        found_counted (key_minus (pointer_key a) (index_of b) size) _
+        (found_minus (pointer_key a) (index_of b) size (evaluate env a) (evaluate env b) (pointer_found a)
+        (index_is b))
+    lvalue_found (member p offset size) = found_counted (member_key (place_key p) offset size) _
+        (found_member (place_key p) offset size (place env p) _ (λ v s. refl) (place_found p))
+    lvalue_found (arrow a offset size) = found_counted (member_key (pointer_key a) offset size) _
+        (found_member (pointer_key a) offset size (evaluate env a) _ (λ v s. refl) (pointer_found a))
     lvalue_found (parenthesized_lvalue p) = found_counted (place_key p) (place env p) (place_found p)
     lvalue_found n = tt
 
@@ -347,7 +458,8 @@ module _ (env : Env) where
   same_given e = (cc, cc)
 
   -- the key of an lvalue gives its pointer where it was found
-  pub place_right : (p : Lvalue) (s s1 : State) (q : Rvalue) → place env p s ≡ Gives q s1 → (key : Key) → place_key p ≡ Some key → Right key s1 q.value
+  pub place_right : (p : Lvalue) (s s1 : State) (q : Rvalue) → place env p s ≡ Gives q s1 → (key : Key)
+      → place_key p ≡ Some key → Right key s1 q.value
   place_right p s s1 q is key e = by (place_key p) (place_found p) e
     where
       by : (ok : Option Key) → FoundIf ok (place env p) → ok ≡ Some key → Right key s1 q.value
@@ -358,4 +470,6 @@ module _ (env : Env) where
           let found : Right other s f.0 = f.3 in
           let k : other ≡ key = cc in
           subst (λ z. Right z s1 q.value) k
-          (subst (λ (z : State). Right other z q.value) (sym same.1) (subst (λ (v : Rvalue). Right other (at_work f.1 s) v.value) (sym same.0) (right_work other f.1 s f.0 found)))
+          (subst (λ (z : State). Right other z q.value) (sym same.1)
+          (subst (λ (v : Rvalue). Right other (at_work f.1 s) v.value) (sym same.0)
+          (right_work other f.1 s f.0 found)))

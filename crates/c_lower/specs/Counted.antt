@@ -27,7 +27,8 @@ set_to x (Some w) = Some (record { variable = x; word = w })
 
 -- an integer constant expression of type int
 abbrev pub int_constant : Expression → Option ℕ
-int_constant (expression (OfScalar (Integer Int)) line node) = constant_of (expression (OfScalar (Integer Int)) line node)
+int_constant (expression (OfScalar (Integer Int)) line node) = constant_of
+    (expression (OfScalar (Integer Int)) line node)
 int_constant e = None
 
 -- the first part: `v = A`, or a declaration of v alone
@@ -46,7 +47,8 @@ set_first first = None
 
 -- `v < B`
 abbrev pub compared_with : Option Expression → Option Setting
-compared_with (Some (expression kind line (binary Less (expression (OfScalar (Integer Int)) l (plain x)) e))) = set_to x (int_constant e)
+compared_with (Some (expression kind line (binary Less (expression (OfScalar (Integer Int)) l (plain x)) e))) = set_to x
+    (int_constant e)
 compared_with e = None
 
 abbrev pub is_one : Option ℕ → Bool
@@ -56,7 +58,8 @@ is_one (Some w) = w == 1
 -- `v++`, `++v` or `v = v + 1`
 abbrev pub counts_up : (variable : ℕ) → Option Expression → Bool
 counts_up v (Some (expression kind line (step_plain (Arithmetic Add Int) fixity x))) = x.variable == v
-counts_up v (Some (expression kind line (assign_plain x (expression k l (binary Add (expression (OfScalar (Integer Int)) m (plain y)) e))))) =
+counts_up v (Some (expression kind line
+    (assign_plain x (expression k l (binary Add (expression (OfScalar (Integer Int)) m (plain y)) e))))) =
     x.variable == v && (y == v && is_one (int_constant e))
 counts_up v e = false
 
@@ -66,7 +69,8 @@ if_counted false x a b = None
 
 abbrev pub counted_by : Option Setting → Option Setting → Option Expression → Statement → Option CountedParts
 counted_by (Some a) (Some b) step body =
-    if_counted (a.variable == b.variable && (counts_up a.variable step && not (statement_assigns a.variable body))) a.variable a.word b.word
+    if_counted (a.variable == b.variable && (counts_up a.variable step && not (statement_assigns a.variable body)))
+    a.variable a.word b.word
 counted_by a b step body = None
 
 -- the parts of a `for`, where it counts

@@ -1,7 +1,8 @@
 -- How many temporaries the code of an expression needs: where operands come in turn, and each is kept, as many as are
 -- kept and what the next one needs; else as many as the operand that needs most.
 use Rattle.std.specs.Prelude.{ℕ, max, List}
-use Rattle.c_tree.specs.Tree.{Expression, Lvalue, binary, offset_by, difference, assign, compound, call, call_through, library, printf, index}
+use Rattle.c_tree.specs.Tree.{Expression, Lvalue, binary, offset_by, difference, assign, compound, call, call_through}
+use Rattle.c_tree.specs.Tree.{library, printf, index}
 use Rattle.c_tree.specs.Walk.{Visited, visited, visited_lvalue, walk, walk_lvalue, greatest}
 use Rattle.c_tree.specs.Room.{in_turn}
 

@@ -1,5 +1,6 @@
 -- The key of a judged lvalue: what its pointer is over plain variables and the places of named objects.
-use Rattle.std.specs.Prelude.{ℕ, ◌+◌, ◌-◌, ◌*◌, ◌%◌, ◌^◌, Bool, true, false, ◌||◌, ◌==◌, if◌then◌else◌, List, [], ◌∷◌, Option, Some, None}
+use Rattle.std.specs.Prelude.{ℕ, ◌+◌, ◌-◌, ◌*◌, ◌%◌, ◌^◌, Bool, true, false, ◌||◌, ◌==◌, if◌then◌else◌, List, [], ◌∷◌}
+use Rattle.std.specs.Prelude.{Option, Some, None}
 use Rattle.obj_memory.specs.declared.operator.BinaryOperator.{BinaryOperator}
 use Rattle.obj_memory.specs.declared.operator.UnaryOperator.{UnaryOperator}
 use Rattle.obj_memory.specs.declared.int_type.IntType.{IntType}
@@ -8,8 +9,12 @@ use Rattle.obj_memory.specs.Integers.{fit}
 use Rattle.obj_memory.specs.Operators.{unary_value, binary_value}
 use Rattle.c_tree.specs.declared.expression.Kind.{Kind}
 use Rattle.c_tree.specs.declared.expression.Kind.TheVariants.{Scalar as OfScalar}
-use Rattle.c_tree.specs.declared.expression.OffsetForm.TheVariants.{PointerPlusIndex, IndexPlusPointer, PointerMinusIndex}
-use Rattle.c_tree.specs.Tree.{Expression, expression, Lvalue, lvalue, Node, constant, plain, decay, address, parenthesized, cast, convert, unary, binary, offset_by, conditional, LvalueNode, automatic, static, deref, index, member, arrow, member_of_value, parenthesized_lvalue, kind_of}
+use Rattle.c_tree.specs.declared.expression.OffsetForm.TheVariants.{PointerPlusIndex, IndexPlusPointer}
+use Rattle.c_tree.specs.declared.expression.OffsetForm.TheVariants.{PointerMinusIndex}
+use Rattle.c_tree.specs.Tree.{Expression, expression, Lvalue, lvalue, Node, constant, plain, decay, address}
+use Rattle.c_tree.specs.Tree.{parenthesized, cast, convert, unary, binary, offset_by, conditional, LvalueNode}
+use Rattle.c_tree.specs.Tree.{automatic, static, deref, index, member, arrow, member_of_value, parenthesized_lvalue}
+use Rattle.c_tree.specs.Tree.{kind_of}
 use Rattle.c_tree.specs.Walk.{assigns}
 use Rattle.source_meaning.specs.Actions.{scalar_of, integer_type}
 use Rattle.source_meaning.specs.Expressions.{is_judged}
@@ -48,7 +53,8 @@ abbrev mutual
   constant_node (cast a) kind = constant_fit kind (constant_of a)
   constant_node (convert a) kind = constant_fit kind (constant_of a)
   constant_node (unary op a) kind = constant_unary op (integer_type (scalar_of (kind_of a))) (constant_of a)
-  constant_node (binary op a b) kind = constant_binary op (integer_type (scalar_of (kind_of a))) (constant_of a) (constant_of b)
+  constant_node (binary op a b) kind = constant_binary op (integer_type (scalar_of (kind_of a))) (constant_of a)
+      (constant_of b)
   constant_node (conditional c a b) kind = constant_choice (constant_of c) (constant_of a) (constant_of b)
   constant_node n kind = None
 
@@ -82,11 +88,19 @@ abbrev pub base_key : Base → Option Key
 base_key b = Some (record { base = b; path = []; constant = 0; scaled = None })
 
 abbrev pub moved_key : (offset : ℕ) → Key → Key
-moved_key offset key = record { base = key.base; path = key.path; constant = (key.constant + offset) % 2 ^ 64; scaled = key.scaled }
+moved_key offset key = record
+    { base = key.base; path = key.path; constant = (key.constant + offset) % 2 ^ 64; scaled = key.scaled }
 
 -- at most one scaled variable is added
 abbrev pub scaled_key : Option Scaled → Key → (variable size : ℕ) → Option Key
-scaled_key None key x size = Some (record { base = key.base; path = key.path; constant = key.constant; scaled = Some (record { variable = x; size = size }) })
+scaled_key None key x size = Some
+    (record {
+      base = key.base;
+      path = key.path;
+      constant = key.constant;
+      scaled = Some
+          (record { variable = x; size = size });
+    })
 scaled_key (Some v) key x size = None
 
 abbrev pub key_plus : Option Key → Index → (size : ℕ) → Option Key

@@ -29,11 +29,14 @@ LowersBody c result entry body =
     × Holds c end (tac.ZeroOf result 0 return) × Holds c return (tac.Return 0)
 
 abbrev pub placed_in : (texts : List (List ℕ)) → Function → CodeFunction → Placed
-placed_in texts f c = record { code = c.code; keys = c.keys; blocks = c.blocks; loops = c.loops; texts = texts; variables = all_of f }
+placed_in texts f c = record
+    { code = c.code; keys = c.keys; blocks = c.blocks; loops = c.loops; texts = texts; variables = all_of f }
 
--- its temporaries are no more than the values that are needed at once while the highest of its expressions is evaluated,
+-- its temporaries are no more than the values that are needed at once while the highest of its expressions is
+-- evaluated,
 -- and one for its result
-pub record LowersFunction (texts : List (List ℕ)) (result : Kind) (height : ℕ) (f : Function) (c : CodeFunction) : Type 0 where
+pub record LowersFunction (texts : List (List ℕ)) (result : Kind) (height : ℕ) (f : Function) (c : CodeFunction) : Type
+    0 where
   pub header : header_of_code c ≡ header_of f
   pub homes : (n : ℕ) (i : Instruction) → slice_get c.code n ≡ Some i → temporaries i ≤ max 1 height
   pub body : LowersBody (placed_in texts f c) result c.entry f.body
@@ -46,7 +49,8 @@ abbrev pub height_in : List StaticObject → (number : ℕ) → Option Function 
 height_in statics n None = 0
 height_in statics n (Some f) = function_height statics n f
 
-abbrev pub LowersAt : (texts : List (List ℕ)) → (result : Kind) → (height : ℕ) → Option Function → Option CodeFunction → Type 0
+abbrev pub LowersAt : (texts : List (List ℕ)) → (result : Kind) → (height : ℕ) → Option Function → Option CodeFunction
+    → Type 0
 LowersAt texts result height None None = Unit {0}
 LowersAt texts result height None (Some c) = ⊥
 LowersAt texts result height (Some f) None = ⊥
@@ -58,5 +62,7 @@ pub record IsLowered (p : Program) (t : Tac) : Type 0 where
   pub results : t.results ≡ map (λ (f : FunctionType). f.result) p.function_types
   pub main : t.main ≡ p.main
   pub bytes : t.global_bytes ≡ statics_end p.statics 0
-  pub statics : (budgets : BudgetSizes) → objects_before t (setting_of p budgets) ≡ initial_objects p (setting_of p budgets)
-  pub functions : (f : ℕ) → LowersAt t.texts (result_in t.results (function_at p.functions f)) (height_in p.statics f (function_at p.functions f)) (function_at p.functions f) (slice_get t.functions f)
+  pub statics : (budgets : BudgetSizes)
+      → objects_before t (setting_of p budgets) ≡ initial_objects p (setting_of p budgets)
+  pub functions : (f : ℕ) → LowersAt t.texts (result_in t.results (function_at p.functions f))
+      (height_in p.statics f (function_at p.functions f)) (function_at p.functions f) (slice_get t.functions f)

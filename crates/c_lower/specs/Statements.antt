@@ -3,7 +3,11 @@ use Rattle.std.specs.Prelude.{◌≡◌, ℕ, Bool, true, false, ◌||◌, List,
 use Rattle.c_tree.specs.declared.statement.CaseLabel.{CaseLabel}
 use Rattle.c_tree.specs.declared.statement.CaseLabel.TheVariants.{Case, Default}
 use Rattle.c_tree.specs.Tree.{Expression, kind_of, line_of}
-use Rattle.c_tree.specs.Statements.{Content, value_content, literal_content, Part, Initializer, of_plain, of_object, DeclaredVariable, First, nothing, first_expression, first_declaration, Statement, expression_statement, empty, declaration, block, if_then, if_else, while_do, do_while, for, switch, break, continue, return, Statements, no_statements, statements, SwitchItems, no_items, items}
+use Rattle.c_tree.specs.Statements.{Content, value_content, literal_content, Part, Initializer, of_plain, of_object}
+use Rattle.c_tree.specs.Statements.{DeclaredVariable, First, nothing, first_expression, first_declaration, Statement}
+use Rattle.c_tree.specs.Statements.{expression_statement, empty, declaration, block, if_then, if_else, while_do}
+use Rattle.c_tree.specs.Statements.{do_while, for, switch, break, continue, return, Statements, no_statements}
+use Rattle.c_tree.specs.Statements.{statements, SwitchItems, no_items, items}
 use Rattle.c_tree.specs.Blocks.{block_objects, block_variables, switch_variables, first_variables}
 use Rattle.source_meaning.specs.Blocks.{has_objects}
 use Rattle.source_meaning.specs.Statements.{is_default}
@@ -35,7 +39,8 @@ LowersParts c x (q ∷ qs) n0 n1 = (k : ℕ) × LowersContent c x q.offset q.con
 
 abbrev pub LowersInitializer : Placed → (variable : ℕ) → Option Initializer → (n0 n1 : ℕ) → Type 0
 LowersInitializer c x None n0 n1 = n0 ≡ n1
-LowersInitializer c x (Some (of_plain e)) n0 n1 = (k : ℕ) × LowersExpression c e 0 n0 k × Holds c k (tac.SetPlain x 0 n1)
+LowersInitializer c x (Some (of_plain e)) n0 n1 = (k : ℕ) × LowersExpression c e 0 n0 k
+    × Holds c k (tac.SetPlain x 0 n1)
 LowersInitializer c x (Some (of_object parts)) n0 n1 = (k : ℕ) × Holds c n0 (tac.Zero x k) × LowersParts c x parts k n1
 
 abbrev pub LowersDeclared : Placed → List DeclaredVariable → (n0 n1 : ℕ) → Type 0
@@ -64,7 +69,8 @@ CountedIs loops None None n0 h t s = Unit {0}
 CountedIs loops None (Some q) n0 h t s = ⊥
 CountedIs loops (Some i) None n0 h t s = ⊥
 CountedIs loops (Some i) (Some q) n0 h t s =
-    HasAt loops i (record { variable = q.variable; start = q.start; bound = q.bound; setting = n0; condition = h; turn = t; step = s })
+    HasAt loops i (record
+    { variable = q.variable; start = q.start; bound = q.bound; setting = n0; condition = h; turn = t; step = s })
 
 -- blocks
 
@@ -76,7 +82,8 @@ LowersEntry c false numbers line n0 n1 = n0 ≡ n1
 -- and every way out of it leads to a node that leaves it
 abbrev pub LowersLeaving : Placed → (has_objects : Bool) → (inner outer : Exits) → Type 0
 LowersLeaving c true y x =
-    Holds c y.next (tac.LeaveBlock x.next) × Holds c y.breaks (tac.LeaveBlock x.breaks) × Holds c y.continues (tac.LeaveBlock x.continues)
+    Holds c y.next (tac.LeaveBlock x.next) × Holds c y.breaks (tac.LeaveBlock x.breaks)
+    × Holds c y.continues (tac.LeaveBlock x.continues)
     × Holds c y.returns (tac.LeaveBlock x.returns)
 LowersLeaving c false y x = y ≡ x
 
@@ -99,7 +106,8 @@ in_switch x = record { next = x.next; breaks = x.next; continues = x.continues; 
 -- label of the switch is equal: the item of the default label, if there is one.
 abbrev pub LowersLabels : Placed → List CaseLabel → (item other n0 n1 : ℕ) → Type 0
 LowersLabels c [] item other n0 n1 = n0 ≡ n1
-LowersLabels c (Case w ∷ ls) item other n0 n1 = (k : ℕ) × Holds c n0 (tac.Case 0 w item k) × LowersLabels c ls item other k n1
+LowersLabels c (Case w ∷ ls) item other n0 n1 = (k : ℕ) × Holds c n0 (tac.Case 0 w item k)
+    × LowersLabels c ls item other k n1
 LowersLabels c (Default ∷ ls) item other n0 n1 = (item ≡ other) × LowersLabels c ls item other n0 n1
 
 abbrev pub any_default : List CaseLabel → Bool
@@ -120,11 +128,14 @@ abbrev mutual
   LowersStatement c (if_then e s) n0 x =
       (ka : ℕ) × LowersCondition c (Some e) n0 ka x.next × LowersStatement c s ka x
   LowersStatement c (if_else e s other) n0 x =
-      (ka : ℕ) × (kb : ℕ) × LowersCondition c (Some e) n0 ka kb × LowersStatement c s ka x × LowersStatement c other kb x
+      (ka : ℕ) × (kb : ℕ) × LowersCondition c (Some e) n0 ka kb × LowersStatement c s ka x
+      × LowersStatement c other kb x
   LowersStatement c (while_do e s) n0 x =
-      (t : ℕ) × (b : ℕ) × LowersCondition c (Some e) n0 t x.next × Holds c t (tac.Turn None b) × LowersStatement c s b (in_loop x n0)
+      (t : ℕ) × (b : ℕ) × LowersCondition c (Some e) n0 t x.next × Holds c t (tac.Turn None b)
+      × LowersStatement c s b (in_loop x n0)
   LowersStatement c (do_while s e) n0 x =
-      (b : ℕ) × (h : ℕ) × Holds c n0 (tac.Turn None b) × LowersStatement c s b (in_loop x h) × LowersCondition c (Some e) h n0 x.next
+      (b : ℕ) × (h : ℕ) × Holds c n0 (tac.Turn None b) × LowersStatement c s b (in_loop x h)
+      × LowersCondition c (Some e) h n0 x.next
   LowersStatement c (for line first condition step s) n0 x =
       (f : ℕ) × (h : ℕ) × (t : ℕ) × (b : ℕ) × (next : ℕ) × (y : Exits) × (counted : Option ℕ)
       × BlockOf c (first_variables first) line n0 f y x
@@ -142,7 +153,8 @@ abbrev mutual
 
   pub LowersStatements : Placed → Statements → (n0 : ℕ) → Exits → Type 0
   LowersStatements c no_statements n0 x = n0 ≡ x.next
-  LowersStatements c (statements s ss) n0 x = (k : ℕ) × LowersStatement c s n0 (record x { next = k }) × LowersStatements c ss k x
+  LowersStatements c (statements s ss) n0 x = (k : ℕ) × LowersStatement c s n0 (record x { next = k })
+      × LowersStatements c ss k x
 
   -- the tests of labels from one node on, and the items from another
   pub LowersItems : Placed → SwitchItems → (tests n0 other : ℕ) → Exits → Type 0

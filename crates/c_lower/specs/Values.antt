@@ -4,7 +4,13 @@ use Rattle.std.specs.Prelude.{◌≡◌, ℕ, suc, ◌+◌, Bool, true, false, L
 use Rattle.c_tree.specs.declared.expression.Kind.{Kind}
 use Rattle.c_tree.specs.declared.expression.Kind.TheVariants.{Void, Scalar as OfScalar, Structure, Array}
 use Rattle.c_tree.specs.declared.expression.Fixity.TheVariants.{Prefix}
-use Rattle.c_tree.specs.Tree.{Expression, expression, Expressions, no_expressions, expressions, Lvalue, lvalue, Node, constant, function, plain, read, decay, address, parenthesized, deref_function, address_function, cast, convert, unary, binary, offset_by, difference, logical_and, logical_or, comma, conditional, assign, assign_plain, compound, change_plain, step, step_plain, call, call_through, library, printf, LvalueNode, automatic, static, deref, index, member, arrow, member_of_value, parenthesized_lvalue, kind_of, line_of, lvalue_kind, lvalue_line}
+use Rattle.c_tree.specs.Tree.{Expression, expression, Expressions, no_expressions, expressions, Lvalue, lvalue, Node}
+use Rattle.c_tree.specs.Tree.{constant, function, plain, read, decay, address, parenthesized, deref_function}
+use Rattle.c_tree.specs.Tree.{address_function, cast, convert, unary, binary, offset_by, difference, logical_and}
+use Rattle.c_tree.specs.Tree.{logical_or, comma, conditional, assign, assign_plain, compound, change_plain, step}
+use Rattle.c_tree.specs.Tree.{step_plain, call, call_through, library, printf, LvalueNode, automatic, static, deref}
+use Rattle.c_tree.specs.Tree.{index, member, arrow, member_of_value, parenthesized_lvalue, kind_of, line_of}
+use Rattle.c_tree.specs.Tree.{lvalue_kind, lvalue_line}
 use Rattle.source_meaning.specs.Actions.{scalar_of, integer_type}
 use Rattle.source_meaning.specs.Expressions.{is_judged}
 use Rattle.tac_ir.specs.declared.instruction.Mode.{Mode}
@@ -54,7 +60,8 @@ abbrev mutual
   LowersNode c (deref_function a) kind line d n0 n1 = LowersExpression c a d n0 n1
   LowersNode c (address_function a) kind line d n0 n1 = LowersExpression c a d n0 n1
   LowersNode c (cast a) kind line d n0 n1 = (k : ℕ) × LowersExpression c a d n0 k × Holds c k (tac.Convert kind d d n1)
-  LowersNode c (convert a) kind line d n0 n1 = (k : ℕ) × LowersExpression c a d n0 k × Holds c k (tac.Convert kind d d n1)
+  LowersNode c (convert a) kind line d n0 n1 = (k : ℕ) × LowersExpression c a d n0 k
+      × Holds c k (tac.Convert kind d d n1)
   LowersNode c (unary op a) kind line d n0 n1 =
       (k : ℕ) × LowersExpression c a d n0 k × Holds c k (tac.Unary op (integer_type (scalar_of (kind_of a))) d d n1)
   LowersNode c (binary op a b) kind line d n0 n1 =
@@ -68,11 +75,15 @@ abbrev mutual
       × Holds c kb (tac.Difference size d d (d + 1) n1)
   -- both ways of each operand stand, of a constant one too
   LowersNode c (logical_and a b) kind line d n0 n1 =
-      (k1 : ℕ) × (k2 : ℕ) × (kb : ℕ) × (zero : ℕ) × (one : ℕ) × LowersExpression c a d n0 k1 × Holds c k1 (tac.Branch d kb zero)
-      × LowersExpression c b d kb k2 × Holds c k2 (tac.Branch d one zero) × Holds c zero (tac.Constant d 0 n1) × Holds c one (tac.Constant d 1 n1)
+      (k1 : ℕ) × (k2 : ℕ) × (kb : ℕ) × (zero : ℕ) × (one : ℕ) × LowersExpression c a d n0 k1
+      × Holds c k1 (tac.Branch d kb zero)
+      × LowersExpression c b d kb k2 × Holds c k2 (tac.Branch d one zero) × Holds c zero (tac.Constant d 0 n1)
+      × Holds c one (tac.Constant d 1 n1)
   LowersNode c (logical_or a b) kind line d n0 n1 =
-      (k1 : ℕ) × (k2 : ℕ) × (kb : ℕ) × (zero : ℕ) × (one : ℕ) × LowersExpression c a d n0 k1 × Holds c k1 (tac.Branch d one kb)
-      × LowersExpression c b d kb k2 × Holds c k2 (tac.Branch d one zero) × Holds c zero (tac.Constant d 0 n1) × Holds c one (tac.Constant d 1 n1)
+      (k1 : ℕ) × (k2 : ℕ) × (kb : ℕ) × (zero : ℕ) × (one : ℕ) × LowersExpression c a d n0 k1
+      × Holds c k1 (tac.Branch d one kb)
+      × LowersExpression c b d kb k2 × Holds c k2 (tac.Branch d one zero) × Holds c zero (tac.Constant d 0 n1)
+      × Holds c one (tac.Constant d 1 n1)
   LowersNode c (comma a b) kind line d n0 n1 = (k : ℕ) × LowersExpression c a d n0 k × LowersExpression c b d k n1
   LowersNode c (conditional a b e) kind line d n0 n1 =
       (k : ℕ) × (kb : ℕ) × (ke : ℕ) × LowersExpression c a d n0 k × Holds c k (tac.Branch d kb ke)
@@ -86,13 +97,15 @@ abbrev mutual
   LowersNode c (compound u p a) kind line d n0 n1 =
       (k1 : ℕ) × (k2 : ℕ) × (key : Option ℕ) × KeyIs c.keys key (write_key p a) × LowersLvalue c p d n0 k1
       × LowersExpression c a (d + 1) k1 k2
-      × Holds c k2 (tac.Update u (scalar_of (lvalue_kind p)) Prefix (mode_for (is_judged p)) (lvalue_line p) line key d d (Temporary (d + 1)) n1)
+      × Holds c k2 (tac.Update u (scalar_of (lvalue_kind p)) Prefix (mode_for (is_judged p)) (lvalue_line p) line key d
+      d (Temporary (d + 1)) n1)
   LowersNode c (change_plain u x a) kind line d n0 n1 =
       (k : ℕ) × LowersExpression c a d n0 k
       × Holds c k (tac.UpdatePlain u (scalar_of kind) Prefix line d x.variable (Temporary d) n1)
   LowersNode c (step u fixity p) kind line d n0 n1 =
       (k : ℕ) × (key : Option ℕ) × KeyIs c.keys key (read_key p) × LowersLvalue c p d n0 k
-      × Holds c k (tac.Update u (scalar_of (lvalue_kind p)) fixity (mode_for (is_judged p)) (lvalue_line p) line key d d One n1)
+      × Holds c k (tac.Update u (scalar_of (lvalue_kind p)) fixity (mode_for (is_judged p)) (lvalue_line p) line key d d
+      One n1)
   LowersNode c (step_plain u fixity x) kind line d n0 n1 =
       Holds c n0 (tac.UpdatePlain u (scalar_of kind) fixity line d x.variable One n1)
   LowersNode c (call f args) kind line d n0 n1 =
@@ -103,7 +116,8 @@ abbrev mutual
   LowersNode c (library routine args) kind line d n0 n1 =
       (k : ℕ) × LowersArguments c args d n0 k × Holds c k (tac.Library routine line d (count args) n1)
   LowersNode c (printf format args) kind line d n0 n1 =
-      (k : ℕ) × (text : ℕ) × HasAt c.texts text format × LowersArguments c args d n0 k × Holds c k (tac.Print text line d (count args) n1)
+      (k : ℕ) × (text : ℕ) × HasAt c.texts text format × LowersArguments c args d n0 k
+      × Holds c k (tac.Print text line d (count args) n1)
 
   -- the pointer to what it designates, or the contents that it is of
   pub LowersLvalue : Placed → Lvalue → (d n0 n1 : ℕ) → Type 0
@@ -116,8 +130,10 @@ abbrev mutual
   LowersPlace c (index form size a b) d n0 n1 =
       (ka : ℕ) × (kb : ℕ) × LowersExpression c a d n0 ka × LowersExpression c b (d + 1) ka kb
       × Holds c kb (tac.Offset form size d d (d + 1) n1)
-  LowersPlace c (member p offset size) d n0 n1 = (k : ℕ) × LowersLvalue c p d n0 k × Holds c k (tac.Member offset size d d n1)
-  LowersPlace c (arrow a offset size) d n0 n1 = (k : ℕ) × LowersExpression c a d n0 k × Holds c k (tac.Narrow offset size d d n1)
+  LowersPlace c (member p offset size) d n0 n1 = (k : ℕ) × LowersLvalue c p d n0 k
+      × Holds c k (tac.Member offset size d d n1)
+  LowersPlace c (arrow a offset size) d n0 n1 = (k : ℕ) × LowersExpression c a d n0 k
+      × Holds c k (tac.Narrow offset size d d n1)
   LowersPlace c (member_of_value a offset size) d n0 n1 =
       (k : ℕ) × LowersExpression c a d n0 k × Holds c k (tac.Member offset size d d n1)
   LowersPlace c (parenthesized_lvalue p) d n0 n1 = LowersLvalue c p d n0 n1
@@ -126,7 +142,8 @@ abbrev mutual
   pub LowersArguments : Placed → Expressions → (d n0 n1 : ℕ) → Type 0
   LowersArguments c no_expressions d n0 n1 = n0 ≡ n1
   LowersArguments c (expressions e es) d n0 n1 =
-      (k : ℕ) × (j : ℕ) × LowersExpression c e d n0 k × LowersTaking c (kind_of e) (line_of e) d k j × LowersArguments c es (d + 1) j n1
+      (k : ℕ) × (j : ℕ) × LowersExpression c e d n0 k × LowersTaking c (kind_of e) (line_of e) d k j
+      × LowersArguments c es (d + 1) j n1
 
 -- an expression as a result
 abbrev pub LowersArgument : Placed → Expression → (d n0 n1 : ℕ) → Type 0

@@ -1,5 +1,6 @@
 -- Array types and the bytes of their words.
-use Rattle.std.proofs.Common.{◌≡◌, ℕ, ◌*◌, ◌+◌, ◌^◌, ◌≤◌, min, Bool, true, false, List, ◌∷◌, Some, refl, ap, ◌∙◌, sym, arith}
+use Rattle.std.proofs.Common.{◌≡◌, ℕ, ◌*◌, ◌+◌, ◌^◌, ◌≤◌, min, Bool, true, false, List, ◌∷◌, Some, refl, ap, ◌∙◌, sym}
+use Rattle.std.proofs.Common.{arith}
 use Rattle.std.proofs.lemmas.Bool.{eqb-true, eq-eqb}
 use Rattle.std.specs.Prelude.{◌&&◌, ◌==◌, Option, option_map}
 use Rattle.c_tree.specs.declared.c_type.TypeWord.{TypeWord}
@@ -22,15 +23,18 @@ pub sized_array : (structures : List (Option TypeExtent)) (count bytes : ℕ) (e
 sized_array structures count bytes element e h sized =
     let test : (bytes == array_size count e.size) && is_sized structures element ≡ true =
     sym (ap (λ o. has_bytes count bytes o && is_sized structures element) h) ∙ sized in
-    eqb-true bytes (array_size count e.size) (first (bytes == array_size count e.size) (is_sized structures element) test)
+    eqb-true bytes (array_size count e.size)
+    (first (bytes == array_size count e.size) (is_sized structures element) test)
   where
     first : (a b : Bool) → a && b ≡ true → a ≡ true
     first true b t = refl
     first false b t = t
 
-pub extent_of_array : (structures : List (Option TypeExtent)) (count bytes : ℕ) (element : List TypeWord) (e : TypeExtent)
+pub extent_of_array : (structures : List (Option TypeExtent)) (count bytes : ℕ) (element : List TypeWord)
+    (e : TypeExtent)
     → extent_of structures element ≡ Some e → is_sized structures (Array count bytes ∷ element) ≡ true
-    → extent_of structures (Array count bytes ∷ element) ≡ Some (record { size = capped (count * e.size); alignment = e.alignment })
+    → extent_of structures (Array count bytes ∷ element)
+    ≡ Some (record { size = capped (count * e.size); alignment = e.alignment })
 unfolding extent_of array_size
 extent_of_array structures count bytes element e h sized =
     let size : capped bytes ≡ capped (count * e.size) =

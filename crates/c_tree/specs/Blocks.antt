@@ -1,11 +1,16 @@
 -- The variables of blocks, by their numbers in the function (C99 6.2.4 paragraph 5, 6.8.2, 6.8.4 paragraph 3, 6.8.5
 -- paragraph 5), and what a statement evaluates.
-use Rattle.std.specs.Prelude.{ℕ, suc, Bool, false, ◌||◌, ◌==◌, if◌then◌else◌, List, [], ◌∷◌, ◌++◌, map, length, Option, Some, None}
+use Rattle.std.specs.Prelude.{ℕ, suc, Bool, false, ◌||◌, ◌==◌, if◌then◌else◌, List, [], ◌∷◌, ◌++◌, map, length, Option}
+use Rattle.std.specs.Prelude.{Some, None}
 use Rattle.c_tree.specs.declared.expression.Kind.TheVariants as kind
 use Rattle.c_tree.specs.declared.program.Variable.{Variable}
 use Rattle.c_tree.specs.Programs.{Function}
 use Rattle.c_tree.specs.Tree.{Expression}
-use Rattle.c_tree.specs.Statements.{Content, value_content, Initializer, of_plain, of_object, DeclaredVariable, First, nothing, first_expression, first_declaration, Statement, expression_statement, empty, declaration, block, if_then, if_else, while_do, do_while, for, switch, break, continue, return, Statements, no_statements, statements, SwitchItems, no_items, items}
+use Rattle.c_tree.specs.Statements.{Content, value_content, Initializer, of_plain, of_object, DeclaredVariable, First}
+use Rattle.c_tree.specs.Statements.{nothing, first_expression, first_declaration, Statement, expression_statement}
+use Rattle.c_tree.specs.Statements.{empty, declaration, block, if_then, if_else, while_do, do_while, for, switch, break}
+use Rattle.c_tree.specs.Statements.{continue, return, Statements, no_statements, statements, SwitchItems, no_items}
+use Rattle.c_tree.specs.Statements.{items}
 
 abbrev pub variables_in : List DeclaredVariable → List ℕ
 variables_in = map (λ d. d.variable)
@@ -115,7 +120,8 @@ abbrev mutual
   contents_of (if_else e s other) = value_content e ∷ (contents_of s ++ contents_of other)
   contents_of (while_do e s) = value_content e ∷ contents_of s
   contents_of (do_while s e) = contents_of s ++ value_content e ∷ []
-  contents_of (for line first condition step s) = first_contents first ++ (if_any condition ++ (if_any step ++ contents_of s))
+  contents_of (for line first condition step s) = first_contents first
+      ++ (if_any condition ++ (if_any step ++ contents_of s))
   contents_of (switch e line is) = value_content e ∷ items_contents is
   contents_of break = []
   contents_of continue = []

@@ -1,11 +1,13 @@
 -- The bytes of the budget `calls` that a call of a function takes: a home for each variable, for the values that are
 -- needed while the highest of its expressions is evaluated, for the tags of its arguments and its result, and for the
 -- bytes and tags of the structures that it takes over from calls, gives to them and gives back.
-use Rattle.std.specs.Prelude.{ℕ, suc, ◌+◌, ◌*◌, max, Bool, false, ◌==◌, if◌then◌else◌, List, [], ◌∷◌, ◌++◌, map, length, Option, Some, None}
+use Rattle.std.specs.Prelude.{ℕ, suc, ◌+◌, ◌*◌, max, Bool, false, ◌==◌, if◌then◌else◌, List, [], ◌∷◌, ◌++◌, map, length}
+use Rattle.std.specs.Prelude.{Option, Some, None}
 use Rattle.obj_memory.specs.Heap.{rounded_up}
 use Rattle.c_tree.specs.declared.expression.Kind.{Kind}
 use Rattle.c_tree.specs.declared.expression.Kind.TheVariants as kind
-use Rattle.c_tree.specs.Tree.{Expression, binary, offset_by, difference, assign, assign_plain, compound, change_plain, call, call_through, library, printf, index, kinds_of}
+use Rattle.c_tree.specs.Tree.{Expression, binary, offset_by, difference, assign, assign_plain, compound, change_plain}
+use Rattle.c_tree.specs.Tree.{call, call_through, library, printf, index, kinds_of}
 use Rattle.c_tree.specs.Statements.{Content, value_content, literal_content}
 use Rattle.c_tree.specs.Programs.{Function, StaticObject}
 use Rattle.c_tree.specs.Walk.{Visited, visited, visited_lvalue, walk, sum_of, greatest}
@@ -54,7 +56,8 @@ structure_bytes (kind.Array size) = 0
 
 abbrev pub bytes_of_call : Visited → ℕ
 bytes_of_call (visited kind (call f es)) = structure_bytes kind + sum_of (map structure_bytes (kinds_of es))
-bytes_of_call (visited kind (call_through type e es)) = structure_bytes kind + sum_of (map structure_bytes (kinds_of es))
+bytes_of_call (visited kind (call_through type e es)) = structure_bytes kind
+    + sum_of (map structure_bytes (kinds_of es))
 bytes_of_call v = 0
 
 abbrev pub passed_bytes : Expression → ℕ
@@ -72,7 +75,8 @@ is_number (Some g) f = g == f
 
 abbrev pub static_contents : List StaticObject → (function : ℕ) → List Content
 static_contents [] f = []
-static_contents (o ∷ os) f = (if is_number o.function f then map (λ p. p.content) o.parts else []) ++ static_contents os f
+static_contents (o ∷ os) f = (if is_number o.function f then map (λ p. p.content) o.parts else [])
+    ++ static_contents os f
 
 -- the greatest height of a function's full expressions and expressions of initializers, those of static objects too
 abbrev pub function_height : List StaticObject → (number : ℕ) → Function → ℕ
@@ -81,5 +85,6 @@ function_height statics n f = max (greatest_height (each_contents f.body)) (grea
 -- of a function by its number, with the kind of what it gives
 unfoldable pub room : List StaticObject → (number : ℕ) → (result : Kind) → Function → ℕ
 room statics n result f =
-    96 + 40 * ((length f.parameters + length f.variables) + function_height statics n f) + 32 * (1 + length f.parameters)
+    96 + 40 * ((length f.parameters + length f.variables) + function_height statics n f)
+    + 32 * (1 + length f.parameters)
     + 5 * (structure_bytes result + sum_of (map content_bytes (each_contents f.body)))

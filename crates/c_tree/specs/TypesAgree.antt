@@ -2,7 +2,8 @@
 use Rattle.std.specs.Prelude.{ℕ, zero, suc, Bool, true, false, ◌&&◌, ◌==◌, List, [], ◌∷◌, Option, Some, None}
 use Rattle.obj_memory.specs.declared.int_type.IntType.TheVariants.{Int}
 use Rattle.c_tree.specs.declared.c_type.TypeWord.{TypeWord}
-use Rattle.c_tree.specs.declared.c_type.TypeWord.TheVariants.{Void, Integer, Enumeration, Pointer, Array, OpenArray, Structure, Const, Takes, Gives}
+use Rattle.c_tree.specs.declared.c_type.TypeWord.TheVariants.{Void, Integer, Enumeration, Pointer, Array, OpenArray}
+use Rattle.c_tree.specs.declared.c_type.TypeWord.TheVariants.{Structure, Const, Takes, Gives}
 use Rattle.c_tree.specs.declared.expression.Kind.{Kind}
 use Rattle.c_tree.specs.declared.expression.Kind.TheVariants as kind
 use Rattle.c_tree.specs.Extents.{TypeExtent, structure_extent}
@@ -51,7 +52,8 @@ is_end [] = true
 is_end (w ∷ ws) = false
 
 abbrev pub gives_kind : List (Option TypeExtent) → List TypeWord → Kind → Bool
-gives_kind structures (Gives ∷ type) result = is_kind_of (kind_of_type structures type) result && is_end (behind_types 1 type)
+gives_kind structures (Gives ∷ type) result = is_kind_of (kind_of_type structures type) result
+    && is_end (behind_types 1 type)
 gives_kind structures _ result = false
 
 abbrev pub takes_kind : List (Option TypeExtent) → List TypeWord → Kind → Bool
@@ -62,7 +64,8 @@ takes_kind structures _ k = false
 abbrev pub agrees : List (Option TypeExtent) → List TypeWord → (parameters : List Kind) → (result : Kind) → Bool
 agrees structures ws [] result = gives_kind structures ws result
 agrees structures [] (k ∷ ks) result = false
-agrees structures (w ∷ type) (k ∷ ks) result = takes_kind structures (w ∷ type) k && agrees structures (behind_types 1 type) ks result
+agrees structures (w ∷ type) (k ∷ ks) result = takes_kind structures (w ∷ type) k
+    && agrees structures (behind_types 1 type) ks result
 
 -- two types are the same where their words are (6.2.7)
 

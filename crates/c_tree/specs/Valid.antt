@@ -1,6 +1,7 @@
 -- What makes an expression valid: each node has the kind that C99 6.5 gives it, and each name stands for something of
 -- that kind that can be named there.
-use Rattle.std.specs.Prelude.{ℕ, ◌+◌, ◌^◌, Bool, true, false, not, ◌&&◌, ◌==◌, nat_lt, nat_le, List, [], length, Option, Some, None, get_or}
+use Rattle.std.specs.Prelude.{ℕ, ◌+◌, ◌^◌, Bool, true, false, not, ◌&&◌, ◌==◌, nat_lt, nat_le, List, [], length, Option}
+use Rattle.std.specs.Prelude.{Some, None, get_or}
 use Rattle.obj_memory.specs.declared.int_type.IntType.{IntType}
 use Rattle.obj_memory.specs.declared.int_type.IntType.TheVariants.{Int, Long}
 use Rattle.obj_memory.specs.declared.operator.UnaryOperator.{UnaryOperator}
@@ -10,15 +11,25 @@ use Rattle.obj_memory.specs.Integers.{fit}
 use Rattle.c_tree.specs.declared.expression.Kind.{Kind}
 use Rattle.c_tree.specs.declared.expression.Kind.TheVariants as kind
 use Rattle.c_tree.specs.declared.expression.OffsetForm.{OffsetForm}
-use Rattle.c_tree.specs.declared.expression.OffsetForm.TheVariants.{PointerPlusIndex, IndexPlusPointer, PointerMinusIndex}
+use Rattle.c_tree.specs.declared.expression.OffsetForm.TheVariants.{PointerPlusIndex, IndexPlusPointer}
+use Rattle.c_tree.specs.declared.expression.OffsetForm.TheVariants.{PointerMinusIndex}
 use Rattle.c_tree.specs.declared.expression.Update.{Update}
 use Rattle.c_tree.specs.declared.expression.Update.TheVariants as update
 use Rattle.c_tree.specs.declared.program.Variable.{Variable}
 use Rattle.c_tree.specs.declared.format.Piece.{Piece}
-use Rattle.c_tree.specs.Tree.{Expression, expression, Expressions, no_expressions, expressions, Lvalue, lvalue, Node, constant, function, plain, read, decay, address, parenthesized, deref_function, address_function, cast, convert, unary, binary, offset_by, difference, logical_and, logical_or, comma, conditional, assign, assign_plain, compound, change_plain, step, step_plain, call, call_through, library, printf, LvalueNode, automatic, static, deref, index, member, arrow, member_of_value, parenthesized_lvalue, kind_of, lvalue_kind, kinds_of}
+use Rattle.c_tree.specs.Tree.{Expression, expression, Expressions, no_expressions, expressions, Lvalue, lvalue, Node}
+use Rattle.c_tree.specs.Tree.{constant, function, plain, read, decay, address, parenthesized, deref_function}
+use Rattle.c_tree.specs.Tree.{address_function, cast, convert, unary, binary, offset_by, difference, logical_and}
+use Rattle.c_tree.specs.Tree.{logical_or, comma, conditional, assign, assign_plain, compound, change_plain, step}
+use Rattle.c_tree.specs.Tree.{step_plain, call, call_through, library, printf, LvalueNode, automatic, static, deref}
+use Rattle.c_tree.specs.Tree.{index, member, arrow, member_of_value, parenthesized_lvalue, kind_of, lvalue_kind}
+use Rattle.c_tree.specs.Tree.{kinds_of}
 use Rattle.c_tree.specs.Blocks.{no_variable, opened}
 use Rattle.c_tree.specs.Format.{pieces, directives}
-use Rattle.c_tree.specs.Kinds.{integer, pointer, is_kind, are_kinds, size_of_kind, is_size, has_size, is_integer, is_promoted, is_promoted_type, is_scalar, is_value, is_array, has_member, is_step_operator, OperatorClass, Arithmetic, Shift, Comparison, class_of, are_operands, are_offset, is_minus, Signature, routine_signature, fit_directives}
+use Rattle.c_tree.specs.Kinds.{integer, pointer, is_kind, are_kinds, size_of_kind, is_size, has_size, is_integer}
+use Rattle.c_tree.specs.Kinds.{is_promoted, is_promoted_type, is_scalar, is_value, is_array, has_member}
+use Rattle.c_tree.specs.Kinds.{is_step_operator, OperatorClass, Arithmetic, Shift, Comparison, class_of, are_operands}
+use Rattle.c_tree.specs.Kinds.{are_offset, is_minus, Signature, routine_signature, fit_directives}
 
 -- What names stand for in a function. Of its variables those can be named whose block is open: an object that cannot
 -- has no kind.
@@ -150,33 +161,43 @@ abbrev mutual
   is_node scope (cast e) k = is_valid scope e && is_conversion (kind_of e) k
   is_node scope (convert e) k = is_valid scope e && is_conversion (kind_of e) k && not (is_converted e)
   is_node scope (unary op e) k = is_valid scope e && is_operand op (kind_of e) k
-  is_node scope (binary op a b) k = is_valid scope a && is_valid scope b && are_operands (class_of op) (kind_of a) (kind_of b) k
+  is_node scope (binary op a b) k = is_valid scope a && is_valid scope b
+      && are_operands (class_of op) (kind_of a) (kind_of b) k
   is_node scope (offset_by form size a b) k =
-      is_valid scope a && is_valid scope b && are_offset form (kind_of a) (kind_of b) && is_index form a b && is_size size && is_kind k pointer
+      is_valid scope a && is_valid scope b && are_offset form (kind_of a) (kind_of b) && is_index form a b
+      && is_size size && is_kind k pointer
   is_node scope (difference size a b) k =
-      is_valid scope a && is_valid scope b && is_kind (kind_of a) pointer && is_kind (kind_of b) pointer && is_size size && is_kind k (integer Long)
+      is_valid scope a && is_valid scope b && is_kind (kind_of a) pointer && is_kind (kind_of b) pointer && is_size size
+      && is_kind k (integer Long)
   is_node scope (logical_and a b) k =
       is_valid scope a && is_valid scope b && is_scalar (kind_of a) && is_scalar (kind_of b) && is_kind k (integer Int)
   is_node scope (logical_or a b) k =
       is_valid scope a && is_valid scope b && is_scalar (kind_of a) && is_scalar (kind_of b) && is_kind k (integer Int)
   is_node scope (comma a b) k = is_valid scope a && is_valid scope b && is_kind k (kind_of b)
   is_node scope (conditional c a b) k =
-      is_valid scope c && is_scalar (kind_of c) && is_valid scope a && is_valid scope b && is_kind k (kind_of a) && is_kind k (kind_of b)
+      is_valid scope c && is_scalar (kind_of c) && is_valid scope a && is_valid scope b && is_kind k (kind_of a)
+      && is_kind k (kind_of b)
   is_node scope (assign p e) k =
-      is_valid_lvalue scope p && is_lvalue p && is_valid scope e && is_kind (lvalue_kind p) (kind_of e) && is_kind k (lvalue_kind p) && is_value k
-  is_node scope (assign_plain x e) k = is_valid scope e && is_plain scope x.variable (kind_of e) && is_kind k (kind_of e)
+      is_valid_lvalue scope p && is_lvalue p && is_valid scope e && is_kind (lvalue_kind p) (kind_of e)
+      && is_kind k (lvalue_kind p) && is_value k
+  is_node scope (assign_plain x e) k = is_valid scope e && is_plain scope x.variable (kind_of e)
+      && is_kind k (kind_of e)
   is_node scope (compound u p e) k =
-      is_valid_lvalue scope p && is_lvalue p && is_valid scope e && is_update u (lvalue_kind p) (kind_of e) && is_kind k (lvalue_kind p)
+      is_valid_lvalue scope p && is_lvalue p && is_valid scope e && is_update u (lvalue_kind p) (kind_of e)
+      && is_kind k (lvalue_kind p)
   is_node scope (change_plain u x e) k = is_valid scope e && is_plain scope x.variable k && is_update u k (kind_of e)
-  is_node scope (step u fixity p) k = is_valid_lvalue scope p && is_lvalue p && is_step u (lvalue_kind p) && is_kind k (lvalue_kind p)
+  is_node scope (step u fixity p) k = is_valid_lvalue scope p && is_lvalue p && is_step u (lvalue_kind p)
+      && is_kind k (lvalue_kind p)
   is_node scope (step_plain u fixity x) k = is_plain scope x.variable k && is_step u k
   is_node scope (call f es) k =
-      are_valid scope es && has_number scope.functions f && is_call (get_or scope.functions f no_signature) (kinds_of es) k
+      are_valid scope es && has_number scope.functions f
+      && is_call (get_or scope.functions f no_signature) (kinds_of es) k
   is_node scope (call_through type e es) k =
       is_valid scope e && is_kind (kind_of e) pointer && are_valid scope es && has_number scope.types type
       && is_call (get_or scope.types type no_signature) (kinds_of es) k
   is_node scope (library routine es) k = are_valid scope es && is_call (routine_signature routine) (kinds_of es) k
-  is_node scope (printf format es) k = are_valid scope es && are_printed (pieces format) (kinds_of es) && is_kind k (integer Int)
+  is_node scope (printf format es) k = are_valid scope es && are_printed (pieces format) (kinds_of es)
+      && is_kind k (integer Int)
 
   pub are_valid : Scope → Expressions → Bool
   are_valid scope no_expressions = true
@@ -191,11 +212,15 @@ abbrev mutual
   is_valid_lvalue_node scope (static n) k = is_static scope n k
   is_valid_lvalue_node scope (deref e) k = is_valid scope e && is_kind (kind_of e) pointer && has_size k
   is_valid_lvalue_node scope (index form size a b) k =
-      is_valid scope a && is_valid scope b && are_offset form (kind_of a) (kind_of b) && is_index form a b && not (is_minus form)
+      is_valid scope a && is_valid scope b && are_offset form (kind_of a) (kind_of b) && is_index form a b
+      && not (is_minus form)
       && size_of_kind k == size && is_size size
-  is_valid_lvalue_node scope (member p at size) k = is_valid_lvalue scope p && has_member (lvalue_kind p) at size && is_member k at size
-  is_valid_lvalue_node scope (arrow e at size) k = is_valid scope e && is_kind (kind_of e) pointer && is_member k at size
-  is_valid_lvalue_node scope (member_of_value e at size) k = is_valid scope e && has_member (kind_of e) at size && is_member k at size
+  is_valid_lvalue_node scope (member p at size) k = is_valid_lvalue scope p && has_member (lvalue_kind p) at size
+      && is_member k at size
+  is_valid_lvalue_node scope (arrow e at size) k = is_valid scope e && is_kind (kind_of e) pointer
+      && is_member k at size
+  is_valid_lvalue_node scope (member_of_value e at size) k = is_valid scope e && has_member (kind_of e) at size
+      && is_member k at size
   is_valid_lvalue_node scope (parenthesized_lvalue p) k = is_valid_lvalue scope p && is_kind k (lvalue_kind p)
 
 -- a controlling expression (6.8.4.1, 6.8.5)

@@ -1,5 +1,6 @@
 -- Valid statements, functions and programs (C99 6.7.8, 6.8, 6.9).
-use Rattle.std.specs.Prelude.{ℕ, zero, suc, ◌+◌, Bool, true, false, not, ◌&&◌, ◌==◌, nat_le, if◌then◌else◌, List, [], ◌∷◌, ◌++◌, map, length, get_or, Option, Some, None}
+use Rattle.std.specs.Prelude.{ℕ, zero, suc, ◌+◌, Bool, true, false, not, ◌&&◌, ◌==◌, nat_le, if◌then◌else◌, List, []}
+use Rattle.std.specs.Prelude.{◌∷◌, ◌++◌, map, length, get_or, Option, Some, None}
 use Rattle.std.specs.List.{list_all, list_any}
 use Rattle.obj_memory.specs.declared.int_type.IntType.TheVariants.{Int}
 use Rattle.c_tree.specs.declared.expression.Kind.{Kind}
@@ -8,15 +9,21 @@ use Rattle.c_tree.specs.declared.program.Variable.{Variable}
 use Rattle.c_tree.specs.declared.statement.CaseLabel.{CaseLabel}
 use Rattle.c_tree.specs.declared.statement.CaseLabel.TheVariants.{Case, Default}
 use Rattle.c_tree.specs.Tree.{Expression, kind_of}
-use Rattle.c_tree.specs.Statements.{Content, value_content, literal_content, Part, Initializer, of_plain, of_object, DeclaredVariable, First, nothing, first_expression, first_declaration, Statement, expression_statement, empty, declaration, block, if_then, if_else, while_do, do_while, for, switch, break, continue, return, Statements, no_statements, statements, SwitchItems, no_items, items}
+use Rattle.c_tree.specs.Statements.{Content, value_content, literal_content, Part, Initializer, of_plain, of_object}
+use Rattle.c_tree.specs.Statements.{DeclaredVariable, First, nothing, first_expression, first_declaration, Statement}
+use Rattle.c_tree.specs.Statements.{expression_statement, empty, declaration, block, if_then, if_else, while_do}
+use Rattle.c_tree.specs.Statements.{do_while, for, switch, break, continue, return, Statements, no_statements}
+use Rattle.c_tree.specs.Statements.{statements, SwitchItems, no_items, items}
 use Rattle.c_tree.specs.Programs.{FunctionType, Function, StaticObject, Program}
 use Rattle.c_tree.specs.Walk.{any_of, names_variable}
-use Rattle.c_tree.specs.Blocks.{block_variables, switch_variables, first_variables, each_variables, all_of, body_variables}
+use Rattle.c_tree.specs.Blocks.{block_variables, switch_variables, first_variables, each_variables, all_of}
+use Rattle.c_tree.specs.Blocks.{body_variables}
 use Rattle.c_tree.specs.Arrays.{is_sized}
 use Rattle.c_tree.specs.TypesAgree.{agrees, same_words}
 use Rattle.c_tree.specs.Kinds.{integer, is_kind, size_of_kind, has_size, is_promoted, is_value, is_scalar, Signature}
 use Rattle.c_tree.specs.Room.{room}
-use Rattle.c_tree.specs.Valid.{Scope, is_constant, is_plain, variable_at, within, is_valid, is_condition, has_number, no_signature}
+use Rattle.c_tree.specs.Valid.{Scope, is_constant, is_plain, variable_at, within, is_valid, is_condition, has_number}
+use Rattle.c_tree.specs.Valid.{no_signature}
 
 -- what a part of an initializer stores lies in the object (6.7.8)
 abbrev pub content_size : Content → ℕ
@@ -101,18 +108,23 @@ abbrev mutual
   is_statement scope inside empty = true
   is_statement scope inside (declaration ds) = are_declared scope ds
   is_statement scope inside (block line body) = are_statements (within scope (block_variables body)) inside body
-  is_statement scope inside (if_then e s) = is_condition scope e && is_statement scope inside s && not (is_declaration s)
+  is_statement scope inside (if_then e s) = is_condition scope e && is_statement scope inside s
+      && not (is_declaration s)
   is_statement scope inside (if_else e s other) =
-      is_condition scope e && is_statement scope inside s && not (is_declaration s) && is_statement scope inside other && not (is_declaration other)
-  is_statement scope inside (while_do e s) = is_condition scope e && is_statement scope in_loop s && not (is_declaration s)
-  is_statement scope inside (do_while s e) = is_statement scope in_loop s && not (is_declaration s) && is_condition scope e
+      is_condition scope e && is_statement scope inside s && not (is_declaration s) && is_statement scope inside other
+      && not (is_declaration other)
+  is_statement scope inside (while_do e s) = is_condition scope e && is_statement scope in_loop s
+      && not (is_declaration s)
+  is_statement scope inside (do_while s e) = is_statement scope in_loop s && not (is_declaration s)
+      && is_condition scope e
   is_statement scope inside (for line first condition step s) =
       is_first (within scope (first_variables first)) first
       && is_condition_if (within scope (first_variables first)) condition
       && is_expression_if (within scope (first_variables first)) step
       && is_statement (within scope (first_variables first)) in_loop s && not (is_declaration s)
   is_statement scope inside (switch e line is) =
-      is_valid scope e && is_promoted (kind_of e) && list_all (is_label (kind_of e)) (labels_of is) && are_different (labels_of is)
+      is_valid scope e && is_promoted (kind_of e) && list_all (is_label (kind_of e)) (labels_of is)
+      && are_different (labels_of is)
       && are_items (within scope (switch_variables is)) (in_switch inside) is
   is_statement scope inside break = inside.may_break
   is_statement scope inside continue = inside.may_continue
@@ -163,7 +175,8 @@ count_from first (x ∷ xs) = (x == first) && count_from (suc first) xs
 
 -- the variables that are no parameters are declared in the order of their numbers
 abbrev pub declares_all : Function → Bool
-declares_all f = count_from (length f.parameters) (each_variables f.body) && length (each_variables f.body) == length f.variables
+declares_all f = count_from (length f.parameters) (each_variables f.body)
+    && length (each_variables f.body) == length f.variables
 
 -- what names stand for in a function of a number with these variables and this result
 abbrev pub scope_in : Program → (all variables : List Variable) → (result : Kind) → Scope
@@ -222,7 +235,8 @@ is_function_number program (Some f) = has_number program.functions f
 
 abbrev pub is_static_object : Program → StaticObject → Bool
 is_static_object program s =
-    has_size s.kind && is_function_number program s.function && are_parts (static_scope program s) (size_of_kind s.kind) s.parts
+    has_size s.kind && is_function_number program s.function
+    && are_parts (static_scope program s) (size_of_kind s.kind) s.parts
 
 -- `int main(void)` is defined (5.1.2.2.1)
 abbrev pub is_main_signature : Signature → Bool
@@ -236,4 +250,5 @@ is_main program =
 unfoldable pub is_valid_program : Program → Bool
 is_valid_program program =
     list_all (is_function_type program) program.function_types && are_all_different program.function_types
-    && list_all (is_static_object program) program.statics && are_functions program 0 program.functions && is_main program
+    && list_all (is_static_object program) program.statics && are_functions program 0 program.functions
+    && is_main program

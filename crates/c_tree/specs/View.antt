@@ -17,7 +17,8 @@ use Rattle.c_tree.specs.declared.program.StaticObject as ro
 use Rattle.c_tree.specs.declared.program.Program as rg
 use Rattle.c_tree.specs.Tree.{Expression, Node, Lvalue, LvalueNode, expressions_in}
 use Rattle.c_tree.specs.Tree as t
-use Rattle.c_tree.specs.Statements.{Content, Part, Initializer, DeclaredVariable, First, Statement, statements_in, items_in}
+use Rattle.c_tree.specs.Statements.{Content, Part, Initializer, DeclaredVariable, First, Statement, statements_in}
+use Rattle.c_tree.specs.Statements.{items_in}
 use Rattle.c_tree.specs.Statements as s
 use Rattle.c_tree.specs.Programs.{FunctionType, Function, StaticObject, Program}
 
@@ -71,7 +72,8 @@ abbrev pub lvalue_step : Lvalue-F LvalueNode Node Expression Lvalue → Lvalue
 lvalue_step p = t.lvalue p.kind p.line p.node
 
 abbrev pub expression_of : rx.Expression → Expression
-expression_of = rx.fold-Expression LvalueNode Node Expression Lvalue lvalue_node_step node_step expression_step lvalue_step
+expression_of = rx.fold-Expression LvalueNode Node Expression Lvalue lvalue_node_step node_step
+    expression_step lvalue_step
 
 abbrev pub lvalue_of : rl.Lvalue → Lvalue
 lvalue_of = rl.fold-Lvalue LvalueNode Node Expression Lvalue lvalue_node_step node_step expression_step lvalue_step

@@ -39,7 +39,8 @@ pub fn arrays_have_the_bytes_of_their_elements()
     ensures bytes { (structures : List (Option TypeExtent)) (count bytes : ℕ) (element : List TypeWord) (e : TypeExtent)
         → extent_of structures element ≡ Some e → is_sized structures (Array count bytes ∷ element) ≡ true
         → bytes ≡ array_size count e.size }
-    ensures extent { (structures : List (Option TypeExtent)) (count bytes : ℕ) (element : List TypeWord) (e : TypeExtent)
+    ensures extent { (structures : List (Option TypeExtent)) (count bytes : ℕ) (element : List TypeWord)
+        (e : TypeExtent)
         → extent_of structures element ≡ Some e → is_sized structures (Array count bytes ∷ element) ≡ true
         → extent_of structures (Array count bytes ∷ element)
         ≡ Some (record { size = capped (count * e.size); alignment = e.alignment }) }

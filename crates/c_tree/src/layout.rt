@@ -3,7 +3,8 @@
 
 ghost use Rattle.std.specs.Prelude.{◌≡◌, ◌≤◌, ◌+◌, ◌^◌, IfOk};
 ghost use Rattle.c_tree.specs.Extents.{capped};
-ghost use Rattle.c_tree.specs.Layout.{aligned, array_size, behind_member, greatest_alignment, greatest_size, member_offsets, padded, structure_of, union_of};
+ghost use Rattle.c_tree.specs.Layout.{aligned, array_size, behind_member, greatest_alignment, greatest_size};
+ghost use Rattle.c_tree.specs.Layout.{member_offsets, padded, structure_of, union_of};
 
 use crate::c_type::TypeWord;
 use obj_memory::IntType;

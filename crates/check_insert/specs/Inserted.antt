@@ -21,7 +21,8 @@ Has code n i = slice_get code n ≡ Some i
 -- the two checks of an access of so many bytes through a temporary, and then the access, from one node on
 abbrev pub Checked : List Instruction → (node size line : ℕ) → (key : Option ℕ) → (pointer : ℕ) → Instruction → Type 0
 Checked code n size line key a access =
-    (n1 : ℕ) × (n2 : ℕ) × Has code n (Judge Spatial size line key a n1) × Has code n1 (Judge Temporal size line key a n2) × Has code n2 access
+    (n1 : ℕ) × (n2 : ℕ) × Has code n (Judge Spatial size line key a n1)
+    × Has code n1 (Judge Temporal size line key a n2) × Has code n2 access
 
 -- what has no bytes of its own is not accessed
 abbrev pub AccessOf : Kind → (checked plain : Type 0) → Type 0
@@ -33,20 +34,23 @@ AccessOf (Array n) checked plain = plain
 abbrev pub ReadIn : List Instruction → ℕ → Mode → Kind → (line : ℕ) → (key : Option ℕ) → (d a m : ℕ) → Type 0
 ReadIn code n Named kind line key d a m = Has code n (Read kind Named line key d a m)
 ReadIn code n Unchecked kind line key d a m =
-    AccessOf kind (Checked code n (size_of_kind kind) line key a (Read kind Judged line key d a m)) (Has code n (Read kind Unchecked line key d a m))
+    AccessOf kind (Checked code n (size_of_kind kind) line key a (Read kind Judged line key d a m))
+    (Has code n (Read kind Unchecked line key d a m))
 ReadIn code n Judged kind line key d a m = Has code n (Read kind Judged line key d a m)
 
 abbrev pub WriteIn : List Instruction → ℕ → Mode → Kind → (line : ℕ) → (key : Option ℕ) → (d a b m : ℕ) → Type 0
 WriteIn code n Named kind line key d a b m = Has code n (Write kind Named line key d a b m)
 WriteIn code n Unchecked kind line key d a b m =
-    AccessOf kind (Checked code n (size_of_kind kind) line key a (Write kind Judged line key d a b m)) (Has code n (Write kind Unchecked line key d a b m))
+    AccessOf kind (Checked code n (size_of_kind kind) line key a (Write kind Judged line key d a b m))
+    (Has code n (Write kind Unchecked line key d a b m))
 WriteIn code n Judged kind line key d a b m = Has code n (Write kind Judged line key d a b m)
 
 -- what stands for an instruction at its node
 abbrev pub StandsFor : List Instruction → ℕ → Instruction → Type 0
 StandsFor code n (Read kind mode line key d a m) = ReadIn code n mode kind line key d a m
 StandsFor code n (Write kind mode line key d a b m) = WriteIn code n mode kind line key d a b m
-StandsFor code n (Update u k f Unchecked line at key d a b m) = Checked code n (scalar_size k) line key a (Update u k f Judged line at key d a b m)
+StandsFor code n (Update u k f Unchecked line at key d a b m) = Checked code n (scalar_size k) line key a
+    (Update u k f Judged line at key d a b m)
 StandsFor code n i = Has code n i
 
 -- an instruction of the code with checks, and one of the code without that needs no fewer temporaries

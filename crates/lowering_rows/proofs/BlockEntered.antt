@@ -1,4 +1,5 @@
--- A block with an object in a counted loop, left at its end and by a return, and a pointer to its object that is refused.
+-- A block with an object in a counted loop, left at its end and by a return, and a pointer to its object that is
+-- refused.
 -- The text is rows/block_entered_again_has_a_new_key.c:
 --     int main(void){int*p=0;int i;for(i=0;i<2;i++){int x;
 --     if(p==&x){putchar(61);return *p;}
@@ -20,7 +21,10 @@ use Rattle.c_tree.specs.Statements.{expression_statement, declaration, if_then, 
 use Rattle.c_tree.specs.Tree.{automatic}
 use Rattle.c_tree.specs.Blocks.{no_variable}
 use Rattle.source_meaning.specs.Meaning.{meaning}
-use Rattle.source_meaning_rows.proofs.Samples.{int, pointer, number, plain, address, convert, compare, assign, set_plain, step_plain, library, read, lvalue, deref, with_value, without_value, block_of, plain_variable, object_variable, function_type, defined, program_of, computing, seen, stopped}
+use Rattle.source_meaning_rows.proofs.Samples.{int, pointer, number, plain, address, convert, compare, assign}
+use Rattle.source_meaning_rows.proofs.Samples.{set_plain, step_plain, library, read, lvalue, deref, with_value}
+use Rattle.source_meaning_rows.proofs.Samples.{without_value, block_of, plain_variable, object_variable, function_type}
+use Rattle.source_meaning_rows.proofs.Samples.{defined, program_of, computing, seen, stopped}
 use Rattle.tac_ir.specs.declared.instruction.Mode.TheVariants.{Named, Unchecked, Judged}
 use Rattle.tac_ir.specs.declared.instruction.Test.TheVariants as test
 use Rattle.tac_ir.specs.declared.instruction.RightOperand.TheVariants.{One}
@@ -110,35 +114,43 @@ function_with code = record {
 }
 
 code_of : List Instruction → Tac
-code_of code = record { functions = function_with code ∷ []; results = int ∷ []; main = 0; statics = []; global_bytes = 0; texts = [] }
+code_of code = record
+    { functions = function_with code ∷ []; results = int ∷ []; main = 0; statics = []; global_bytes = 0; texts = [] }
 
 lowered_code : Tac
 lowered_code = code_of (code_with (tac.Read int Unchecked 2 (Some 0) 0 0 26) [])
 
 -- with its checks
 checked_code : Tac
-checked_code = code_of (code_with (tac.Judge test.Spatial 4 2 (Some 0) 0 31) (tac.Judge test.Temporal 4 2 (Some 0) 0 32 ∷ tac.Read int Judged 2 (Some 0) 0 0 26 ∷ []))
+checked_code = code_of
+    (code_with (tac.Judge test.Spatial 4 2 (Some 0) 0 31)
+    (tac.Judge test.Temporal 4 2 (Some 0) 0 32 ∷ tac.Read int Judged 2 (Some 0) 0 0 26 ∷ []))
 
 -- the temporaries of all instructions
 are_most : ℕ → List Instruction → Bool
 are_most h [] = true
 are_most h (i ∷ is) = nat_le (temporaries i) h && are_most h is
 
-each_most : (h : ℕ) (code : List Instruction) → are_most h code ≡ true → (n : ℕ) (i : Instruction) → slice_get code n ≡ Some i → temporaries i ≤ h
+each_most : (h : ℕ) (code : List Instruction) → are_most h code ≡ true → (n : ℕ) (i : Instruction)
+    → slice_get code n ≡ Some i → temporaries i ≤ h
 unfolding are_most
 each_most h [] e n i is = cc
-each_most h (j ∷ js) e zero i is = let q = both (nat_le (temporaries j) h) (are_most h js) e in let same : j ≡ i = cc in subst (λ k. temporaries k ≤ h) same (leb-true (temporaries j) h q.0)
+each_most h (j ∷ js) e zero i is = let q = both (nat_le (temporaries j) h) (are_most h js) e in let same : j
+    ≡ i = cc in subst (λ k. temporaries k ≤ h) same (leb-true (temporaries j) h q.0)
 each_most h (j ∷ js) e (suc n) i is = each_most h js (both (nat_le (temporaries j) h) (are_most h js) e).1 n i is
 
-run : seen (meaning program default_sizes [] 20) ≡ stopped (codes "=") (codes "sbcets: temporal violation at line 2\n") 121
+run : seen (meaning program default_sizes [] 20)
+    ≡ stopped (codes "=") (codes "sbcets: temporal violation at line 2\n") 121
 unfolding program function_main computing
 run = refl
 
-lowered_run : seen (tac_meaning lowered_code default_sizes [] 80) ≡ stopped (codes "=") (codes "sbcets: temporal violation at line 2\n") 121
+lowered_run : seen (tac_meaning lowered_code default_sizes [] 80)
+    ≡ stopped (codes "=") (codes "sbcets: temporal violation at line 2\n") 121
 unfolding lowered_code code_of function_with code_with computing
 lowered_run = refl
 
-checked_run : seen (tac_meaning checked_code default_sizes [] 80) ≡ stopped (codes "=") (codes "sbcets: temporal violation at line 2\n") 121
+checked_run : seen (tac_meaning checked_code default_sizes [] 80)
+    ≡ stopped (codes "=") (codes "sbcets: temporal violation at line 2\n") 121
 unfolding checked_code code_of function_with code_with computing
 checked_run = refl
 
@@ -147,15 +159,80 @@ unfolding function_main function_with code_with are_most computing
 body = record {
   header = refl;
   homes = each_most 2 (code_with (tac.Read int Unchecked 2 (Some 0) 0 0 26) []) refl;
-  body =
-      (29, 30, (3, (3, (2, (1, refl, refl), refl), refl), (3, (3, refl, refl), (28, (3, 5, 9, 10, 27, (record { next = 28; breaks = 29; continues = 29; returns = 30 }), Some 0, (refl, refl), (4, refl, refl), (8, (6, 7, refl, refl, refl), refl), refl, refl, refl, (11, (record { next = 24; breaks = 25; continues = 24; returns = 26 }), ((0, refl, refl), (refl, refl, refl, refl)), (11, (11, refl, refl), (19, (15, (14, (12, 13, refl, refl, refl), refl), (15, record { next = 19; breaks = 25; continues = 24; returns = 26 }, (refl, refl), (17, (16, (16, 16, refl, refl, refl), refl), (19, (26, (18, Some 0, refl, refl, refl), refl), refl)))), (22, (20, 21, None, tt, refl, refl, refl), (24, (23, refl, refl), refl)))))), (29, (30, refl, refl), refl)))), refl, refl);
+  body = (
+    29,
+    30,
+    (
+      3,
+      (3, (2, (1, refl, refl), refl), refl),
+      (
+        3,
+        (3, refl, refl),
+        (
+          28,
+          (
+            3,
+            5,
+            9,
+            10,
+            27,
+            (record { next = 28; breaks = 29; continues = 29; returns = 30 }),
+            Some 0,
+            (refl, refl),
+            (4, refl, refl),
+            (8, (6, 7, refl, refl, refl), refl),
+            refl,
+            refl,
+            refl,
+            (
+              11,
+              (record { next = 24; breaks = 25; continues = 24; returns = 26 }),
+              ((0, refl, refl), (refl, refl, refl, refl)),
+              (
+                11,
+                (11, refl, refl),
+                (
+                  19,
+                  (
+                    15,
+                    (14, (12, 13, refl, refl, refl), refl),
+                    (
+                      15,
+                      record { next = 19; breaks = 25; continues = 24; returns = 26 },
+                      (refl, refl),
+                      (17, (16, (16, 16, refl, refl, refl), refl), (19, (26, (18, Some 0, refl, refl, refl), refl), refl)),
+                    ),
+                  ),
+                  (22, (20, 21, None, tt, refl, refl, refl), (24, (23, refl, refl), refl)),
+                ),
+              ),
+            ),
+          ),
+          (29, (30, refl, refl), refl),
+        ),
+      ),
+    ),
+    refl,
+    refl,
+  );
 }
 
-functions_lowered : (f : ℕ) → LowersAt lowered_code.texts (result_in lowered_code.results (function_at program.functions f)) (height_in program.statics f (function_at program.functions f)) (function_at program.functions f) (slice_get lowered_code.functions f)
+functions_lowered : (f : ℕ) → LowersAt lowered_code.texts
+    (result_in lowered_code.results (function_at program.functions f))
+    (height_in program.statics f (function_at program.functions f)) (function_at program.functions f)
+    (slice_get lowered_code.functions f)
 unfolding program lowered_code code_of function_main computing
 functions_lowered zero = body
 functions_lowered (suc f) = tt
 
 lowered : IsLowered program lowered_code
 unfolding program lowered_code code_of function_main function_with computing
-lowered = record { headers = refl; results = refl; main = refl; bytes = refl; statics = λ budgets. refl; functions = functions_lowered }
+lowered = record {
+  headers = refl;
+  results = refl;
+  main = refl;
+  bytes = refl;
+  statics = λ budgets. refl;
+  functions =
+      functions_lowered;
+}

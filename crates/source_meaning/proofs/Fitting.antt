@@ -5,7 +5,10 @@ use Rattle.obj_memory.specs.declared.int_type.IntType.TheVariants.{Int}
 use Rattle.obj_memory.specs.declared.operator.UnaryOperator.{UnaryOperator}
 use Rattle.obj_memory.specs.declared.operator.UnaryOperator.TheVariants.{Plus, Negate, Complement, Not}
 use Rattle.obj_memory.specs.declared.operator.BinaryOperator.{BinaryOperator}
-use Rattle.obj_memory.specs.declared.operator.BinaryOperator.TheVariants.{Add, Subtract, Multiply, Divide, Remainder, ShiftLeft, ShiftRight, BitAnd, BitXor, BitOr, Less, Greater, LessOrEqual, GreaterOrEqual, Equal, NotEqual}
+use Rattle.obj_memory.specs.declared.operator.BinaryOperator.TheVariants.{Add, Subtract, Multiply, Divide, Remainder}
+use Rattle.obj_memory.specs.declared.operator.BinaryOperator.TheVariants.{ShiftLeft, ShiftRight, BitAnd, BitXor, BitOr}
+use Rattle.obj_memory.specs.declared.operator.BinaryOperator.TheVariants.{Less, Greater, LessOrEqual, GreaterOrEqual}
+use Rattle.obj_memory.specs.declared.operator.BinaryOperator.TheVariants.{Equal, NotEqual}
 use Rattle.obj_memory.specs.declared.value.Scalar.TheVariants.{Integer, Pointer}
 use Rattle.obj_memory.specs.declared.value.Value.{Value}
 use Rattle.obj_memory.specs.Integers.{fit}
@@ -14,7 +17,8 @@ use Rattle.obj_memory.proofs.Words.{fit_twice}
 use Rattle.obj_memory.proofs.Typed.{truth_stays, shift_stays, binary_stays}
 use Rattle.c_tree.specs.declared.expression.Kind.{Kind}
 use Rattle.c_tree.specs.declared.expression.Kind.TheVariants.{Void, Scalar as OfScalar, Structure, Array}
-use Rattle.c_tree.specs.Kinds.{integer, is_kind, is_promoted, is_scalar, Arithmetic, Shift, Comparison, class_of, are_operands}
+use Rattle.c_tree.specs.Kinds.{integer, is_kind, is_promoted, is_scalar, Arithmetic, Shift, Comparison, class_of}
+use Rattle.c_tree.specs.Kinds.{are_operands}
 use Rattle.c_tree.specs.Valid.{is_operand}
 use Rattle.source_meaning.specs.Actions.{scalar_of, integer_type}
 use Rattle.source_meaning.specs.Good.{IsOfKind}
@@ -38,8 +42,13 @@ same_unary : (op : UnaryOperator) (k result : Kind)
     → ((t : IntType) (w : ℕ) → fit t (unary_value op t w) ≡ unary_value op t w) → is_promoted k ≡ true
     → is_kind result k ≡ true → UnaryFits op k result
 same_unary op k result fits e same =
-    let p = promoted_type k e in
-    (p.0, same_kind result k same ∙ p.1, λ w. subst (λ z. fit p.0 (unary_value op (integer_type (scalar_of z)) w) ≡ unary_value op (integer_type (scalar_of z)) w) (sym p.1) (fits p.0 w))
+    let p = promoted_type k e in (
+      p.0,
+      same_kind result k same ∙ p.1,
+      λ w. subst
+          (λ z. fit p.0 (unary_value op (integer_type (scalar_of z)) w) ≡ unary_value op (integer_type (scalar_of z)) w)
+          (sym p.1) (fits p.0 w),
+    )
 
 plus_fits : (t : IntType) (w : ℕ) → fit t (unary_value Plus t w) ≡ unary_value Plus t w
 unfolding unary_value
@@ -85,7 +94,8 @@ arithmetic_fits op k l result e =
       λ functions x y hx hy.
           let left = subst (λ z. IsOfKind functions z x) p.1 hx in
           let right = subst (λ z. IsOfKind functions z y) (sym (same_kind k l h.1) ∙ p.1) hy in
-          subst (λ z. IfSome (binary_value op (integer_type (scalar_of z)) x.word y.word) (λ w. fit p.0 w ≡ w)) (sym p.1) (binary_stays op p.0 x.word y.word left.1 right.1),
+          subst (λ z. IfSome (binary_value op (integer_type (scalar_of z)) x.word y.word) (λ w. fit p.0 w ≡ w))
+          (sym p.1) (binary_stays op p.0 x.word y.word left.1 right.1),
     )
 
 shift_fits : (op : BinaryOperator)
@@ -98,7 +108,8 @@ shift_fits op fits k l result e =
       same_kind result k h.2 ∙ p.1,
       λ functions x y hx hy.
           let left = subst (λ z. IsOfKind functions z x) p.1 hx in
-          subst (λ z. IfSome (binary_value op (integer_type (scalar_of z)) x.word y.word) (λ w. fit p.0 w ≡ w)) (sym p.1) (fits p.0 x.word y.word left.1),
+          subst (λ z. IfSome (binary_value op (integer_type (scalar_of z)) x.word y.word) (λ w. fit p.0 w ≡ w))
+          (sym p.1) (fits p.0 x.word y.word left.1),
     )
 
 left_fits : (t : IntType) (x y : ℕ) → fit t x ≡ x → IfSome (binary_value ShiftLeft t x y) (λ w. fit t w ≡ w)

@@ -21,7 +21,8 @@ below_same (Ended e s) = refl
 below_same (Paused s) = later_same s
 
 module _ {A B : Type 0} where
-  later_after : (s : State) (o : Outcome A) (k : A → Run B) → Later s (state_of o) → ((a : A) → GoesLater (k a)) → Later s (state_of (on o k))
+  later_after : (s : State) (o : Outcome A) (k : A → Run B) → Later s (state_of o) → ((a : A) → GoesLater (k a))
+      → Later s (state_of (on o k))
   later_after s (Gives a s') k p g = later_then p ((g a).later s')
   later_after s (Ended e s') k p g = p
   later_after s (Paused s') k p g = p
@@ -29,23 +30,27 @@ module _ {A B : Type 0} where
   pub later_on : {r : Run A} {k : A → Run B} → GoesLater r → ((a : A) → GoesLater (k a)) → GoesLater (r >>= k)
   later_on {r = r} {k = k} p g = record { later = λ s. later_after s (r s) k (p.later s) g }
 
-  below_on : (o o' : Outcome A) (k k' : A → Run B) → IsBelow o o' → ((a : A) → LeadsTo (k a) (k' a)) → IsBelow (on o k) (on o' k')
+  below_on : (o o' : Outcome A) (k k' : A → Run B) → IsBelow o o' → ((a : A) → LeadsTo (k a) (k' a))
+      → IsBelow (on o k) (on o' k')
   below_on (Gives a s) o' k k' p q = subst (λ x. IsBelow (k a s) (on x k')) p ((q a).below s)
   below_on (Ended e s) o' k k' p q = subst (λ x. IsBelow (on (Ended e s) k) (on x k')) p refl
   below_on (Paused s) o' k k' p q = later_after s o' k' p (λ a. (q a).later)
 
-  pub leads_on : {r r' : Run A} {k k' : A → Run B} → LeadsTo r r' → ((a : A) → LeadsTo (k a) (k' a)) → LeadsTo (r >>= k) (r' >>= k')
+  pub leads_on : {r r' : Run A} {k k' : A → Run B} → LeadsTo r r' → ((a : A) → LeadsTo (k a) (k' a))
+      → LeadsTo (r >>= k) (r' >>= k')
   leads_on {r = r} {r' = r'} {k = k} {k' = k'} p q = record {
     below = λ s. below_on (r s) (r' s) k k' (p.below s) q;
     later = later_on p.later (λ a. (q a).later);
   }
 
-  within_on : (limit left : ℕ) (s : State) (o : Outcome A) (k : A → Run B) → IsWithin limit o → Later s (state_of o) → limit ≤ s.turns + left → ((a : A) → PausesAt limit left (k a)) → IsWithin limit (on o k)
+  within_on : (limit left : ℕ) (s : State) (o : Outcome A) (k : A → Run B) → IsWithin limit o → Later s (state_of o)
+      → limit ≤ s.turns + left → ((a : A) → PausesAt limit left (k a)) → IsWithin limit (on o k)
   within_on limit left s (Gives a s') k w l b h = (h a).within s' w (omega (arith, l.turns))
   within_on limit left s (Ended e s') k w l b h = w
   within_on limit left s (Paused s') k w l b h = w
 
-  pub pauses_on : {limit left : ℕ} {r : Run A} {k : A → Run B} → PausesAt limit left r → ((a : A) → PausesAt limit left (k a)) → PausesAt limit left (r >>= k)
+  pub pauses_on : {limit left : ℕ} {r : Run A} {k : A → Run B} → PausesAt limit left r
+      → ((a : A) → PausesAt limit left (k a)) → PausesAt limit left (r >>= k)
   pauses_on {limit = limit} {left = left} {r = r} {k = k} p h = record {
     later = later_on p.later (λ a. (h a).later);
     within = λ s w b. within_on limit left s (r s) k (p.within s w b) (p.later.later s) b h;
@@ -68,7 +73,8 @@ module _ {A : Type 0} where
   pub leads_pause : {r : Run A} → GoesLater r → LeadsTo pause r
   leads_pause {r = r} g = record { below = λ s. g.later s; later = g }
 
-  pub leads_choose : (b : Bool) {r r' q q' : Run A} → LeadsTo r q → LeadsTo r' q' → LeadsTo (choose b r r') (choose b q q')
+  pub leads_choose : (b : Bool) {r r' q q' : Run A} → LeadsTo r q → LeadsTo r' q'
+      → LeadsTo (choose b r r') (choose b q q')
   leads_choose true l l' = l
   leads_choose false l l' = l'
 
@@ -78,12 +84,15 @@ module _ {A : Type 0} where
   within_of_action limit k s (Paused s') o' w h = absurd h
 
   pub pauses_action : (limit left : ℕ) {r : Run A} → IsAction r → PausesAt limit left r
-  pauses_action limit left {r = r} h = record { later = later_action h; within = λ s w b. within_of_action limit 0 s (r s) _ w (h.acts s 0) }
+  pauses_action limit left {r = r} h = record
+      { later = later_action h; within = λ s w b. within_of_action limit 0 s (r s) _ w (h.acts s 0) }
 
-  pub pauses_less : {limit : ℕ} {r : Run A} (left left' : ℕ) → left' ≤ left → PausesAt limit left r → PausesAt limit left' r
+  pub pauses_less : {limit : ℕ} {r : Run A} (left left' : ℕ) → left' ≤ left → PausesAt limit left r
+      → PausesAt limit left' r
   pauses_less left left' le h = record { later = h.later; within = λ s w e. h.within s w (omega arith) }
 
-  pub pauses_choose : {limit : ℕ} (left : ℕ) (b : Bool) {r r' : Run A} → PausesAt limit left r → PausesAt limit left r' → PausesAt limit left (choose b r r')
+  pub pauses_choose : {limit : ℕ} (left : ℕ) (b : Bool) {r r' : Run A} → PausesAt limit left r → PausesAt limit left r'
+      → PausesAt limit left (choose b r r')
   pauses_choose left true g g' = g
   pauses_choose left false g g' = g'
 

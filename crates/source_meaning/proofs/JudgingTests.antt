@@ -16,15 +16,23 @@ use Rattle.source_meaning.specs.Judging.{is_within, is_live_tag, tested}
 
 module _ (size : ℕ) (word line : ℕ) (s : State) where
   abbrev Tested : (t : Tag) → Outcome Place
-  Tested t = on (pass_or_stop (is_within t word size) (Spatial line) s) (λ _ s1. on (pass_or_stop (is_live_tag t s1.objects) (Temporal line) s1) (λ _ s2. place_or_stop (named_in t word s2.objects) line s2))
+  Tested t = on (pass_or_stop (is_within t word size) (Spatial line) s)
+      (λ _ s1. on (pass_or_stop (is_live_tag t s1.objects) (Temporal line) s1)
+      (λ _ s2. place_or_stop (named_in t word s2.objects) line s2))
 
-  by_life : (o : ℕ) (b : Bounds) (live : Bool) → place_or_stop (if live then Inside (place_in s.objects o word) else Dead) line s
-      ≡ on (pass_or_stop live (Temporal line) s) (λ _ s2. place_or_stop (named_in (OfObject o b) word s2.objects) line s2)
+  by_life : (o : ℕ) (b : Bounds) (live : Bool)
+      → place_or_stop (if live then Inside (place_in s.objects o word) else Dead) line s
+      ≡ on (pass_or_stop live (Temporal line) s)
+      (λ _ s2. place_or_stop (named_in (OfObject o b) word s2.objects) line s2)
   by_life o b true = refl
   by_life o b false = refl
 
-  by_bounds : (o : ℕ) (b : Bounds) (within : Bool) → place_or_stop (if within then (if (object_at s.objects o).is_live then Inside (place_in s.objects o word) else Dead) else Outside) line s
-      ≡ on (pass_or_stop within (Spatial line) s) (λ _ s1. on (pass_or_stop (object_at s1.objects o).is_live (Temporal line) s1) (λ _ s2. place_or_stop (named_in (OfObject o b) word s2.objects) line s2))
+  by_bounds : (o : ℕ) (b : Bounds) (within : Bool)
+      → place_or_stop (if within then
+      (if (object_at s.objects o).is_live then Inside (place_in s.objects o word) else Dead) else Outside) line s
+      ≡ on (pass_or_stop within (Spatial line) s)
+      (λ _ s1. on (pass_or_stop (object_at s1.objects o).is_live (Temporal line) s1)
+      (λ _ s2. place_or_stop (named_in (OfObject o b) word s2.objects) line s2))
   by_bounds o b true = by_life o b (object_at s.objects o).is_live
   by_bounds o b false = refl
 

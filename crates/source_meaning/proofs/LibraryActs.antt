@@ -18,20 +18,26 @@ use Rattle.c_tree.specs.declared.format.Piece.{Piece}
 use Rattle.c_tree.specs.declared.format.Piece.TheVariants as piece
 use Rattle.c_tree.specs.Format.{pieces}
 use Rattle.c_tree.specs.declared.expression.Routine.{Routine}
-use Rattle.c_tree.specs.declared.expression.Routine.TheVariants.{Malloc, Calloc, Free, Realloc, Memcpy, Memmove, Memset, Memcmp, Strlen, Strcmp, Strcpy, Strncpy, Strcat, Strchr, Putchar, Getchar, Puts, Exit, Abort}
+use Rattle.c_tree.specs.declared.expression.Routine.TheVariants.{Malloc, Calloc, Free, Realloc, Memcpy, Memmove, Memset}
+use Rattle.c_tree.specs.declared.expression.Routine.TheVariants.{Memcmp, Strlen, Strcmp, Strcpy, Strncpy, Strcat}
+use Rattle.c_tree.specs.declared.expression.Routine.TheVariants.{Strchr, Putchar, Getchar, Puts, Exit, Abort}
 use Rattle.source_meaning.specs.State.{State, Run, done, stop, Setting}
 use Rattle.source_meaning.specs.Actions.{integer}
-use Rattle.source_meaning.specs.Heap.{tally_blocks, make_block, allocate, bad_free, freed_object, freed_by, release, free, calloc, move_block, replace_block, realloc}
+use Rattle.source_meaning.specs.Heap.{tally_blocks, make_block, allocate, bad_free, freed_object, freed_by, release}
+use Rattle.source_meaning.specs.Heap.{free, calloc, move_block, replace_block, realloc}
 use Rattle.source_meaning.specs.Bytes.{look, set_bytes}
 use Rattle.source_meaning.specs.Memory.{memmove, memset, memcmp}
-use Rattle.source_meaning.specs.Strings.{reach, scan_within, scan, strlen, compare_within, write_string, strcpy, strncpy, strcat, seek_within}
+use Rattle.source_meaning.specs.Strings.{reach, scan_within, scan, strlen, compare_within, write_string, strcpy}
+use Rattle.source_meaning.specs.Strings.{strncpy, strcat, seek_within}
 use Rattle.source_meaning.specs.Printing.{puts, argument_bytes, formatted, pieces_or_none, print_formatted}
 use Rattle.source_meaning.specs.Library.{next_byte, argument, routine}
 use Rattle.source_meaning.specs.Acting.{at_work, ActsBy, IsAction}
 use Rattle.source_meaning.proofs.Acting.{later_same}
 use Rattle.source_meaning.specs.Staying.{KeepsBy}
-use Rattle.source_meaning.proofs.Local.{IsLocal, local_on, local_then, local_done, local_stop, local_tally, local_choose, local_objects, local_changes, local_basic}
-use Rattle.source_meaning.proofs.ActionsAct.{local_located, local_move_bytes, local_make_object, local_put_bytes, local_take_key}
+use Rattle.source_meaning.proofs.Local.{IsLocal, local_on, local_then, local_done, local_stop, local_tally}
+use Rattle.source_meaning.proofs.Local.{local_choose, local_objects, local_changes, local_basic}
+use Rattle.source_meaning.proofs.ActionsAct.{local_located, local_move_bytes, local_make_object, local_put_bytes}
+use Rattle.source_meaning.proofs.ActionsAct.{local_take_key}
 
 local_tally_blocks : IsLocal tally_blocks
 local_tally_blocks = search local_basic
@@ -78,7 +84,8 @@ local_look : (p : Value) (line : ℕ) → IsLocal (look p line)
 local_look p line = search (local_basic, local_located)
 
 local_set_bytes : (bytes : List ℕ) (place : Place) → IsLocal (set_bytes bytes place)
-local_set_bytes bytes place = local_then (local_tally (length bytes)) (local_objects (write_bytes bytes place) (continues_bytes bytes place))
+local_set_bytes bytes place = local_then (local_tally (length bytes))
+    (local_objects (write_bytes bytes place) (continues_bytes bytes place))
 
 local_memmove : (d s size : Value) (line : ℕ) → IsLocal (memmove d s size line)
 local_memmove d s size line = search (local_basic, local_located, local_move_bytes)
@@ -91,10 +98,13 @@ local_memcmp a b size line = search (local_basic, local_located) depth 9
 
 -- strings
 
-local_scan_within : (count : ℕ) (behind : Run (List ℕ)) → IsLocal behind → (p : Value) (line : ℕ) → IsLocal (scan_within count behind p line)
+local_scan_within : (count : ℕ) (behind : Run (List ℕ)) → IsLocal behind → (p : Value) (line : ℕ)
+    → IsLocal (scan_within count behind p line)
 local_scan_within zero behind h p line = h
 local_scan_within (suc k) behind h p line =
-    local_on (local_look p line) (λ byte. local_choose _ local_done (local_on (local_scan_within k behind h (moved 1 p) line) (λ others. local_done)))
+    local_on (local_look p line)
+    (λ byte. local_choose _ local_done
+    (local_on (local_scan_within k behind h (moved 1 p) line) (λ others. local_done)))
 
 local_scan : (s : Value) (line : ℕ) → IsLocal (scan s line)
 local_scan s line = local_scan_within (reach s) (stop (Spatial line)) local_stop s line
@@ -102,12 +112,16 @@ local_scan s line = local_scan_within (reach s) (stop (Spatial line)) local_stop
 local_compare_within : (count : ℕ) (a b : Value) (line : ℕ) → IsLocal (compare_within count a b line)
 local_compare_within zero a b line = local_stop
 local_compare_within (suc k) a b line =
-    local_on (local_look a line) (λ x. local_on (local_look b line) (λ y. local_choose _ (local_compare_within k (moved 1 a) (moved 1 b) line) local_done))
+    local_on (local_look a line)
+    (λ x. local_on (local_look b line)
+    (λ y. local_choose _ (local_compare_within k (moved 1 a) (moved 1 b) line) local_done))
 
 local_seek_within : (count c : ℕ) (p : Value) (line : ℕ) → IsLocal (seek_within count c p line)
 local_seek_within zero c p line = local_stop
 local_seek_within (suc k) c p line =
-    local_on (local_look p line) (λ byte. local_choose (byte == c) (local_done {a = p}) (local_choose (byte == 0) (local_done {a = integer 0}) (local_seek_within k c (moved 1 p) line)))
+    local_on (local_look p line)
+    (λ byte. local_choose (byte == c) (local_done {a = p})
+    (local_choose (byte == 0) (local_done {a = integer 0}) (local_seek_within k c (moved 1 p) line)))
 
 local_write_string : (d : Value) (bytes : List ℕ) (line : ℕ) → IsLocal (write_string d bytes line)
 local_write_string d bytes line = search (local_basic, local_located, local_set_bytes)
@@ -125,7 +139,9 @@ local_strncpy d s size line =
 
 local_strcat : (d s : Value) (line : ℕ) → IsLocal (strcat d s line)
 local_strcat d s line =
-    local_on (local_scan d line) (λ before. local_on (local_scan s line) (λ bytes. local_then (local_write_string (moved (length before) d) bytes line) local_done))
+    local_on (local_scan d line)
+    (λ before. local_on (local_scan s line)
+    (λ bytes. local_then (local_write_string (moved (length before) d) bytes line) local_done))
 
 -- input and output
 
@@ -169,7 +185,8 @@ local_formatted : (ps : List Piece) (vs : List Value) (line : ℕ) → IsLocal (
 local_formatted [] vs line = local_done
 local_formatted (piece.Byte b ∷ ps) vs line = local_on (local_formatted ps vs line) (λ others. local_done)
 local_formatted (piece.Directive d ∷ ps) vs line =
-    local_on (local_argument_bytes d _ line) (λ bytes. local_on (local_formatted ps (drop 1 vs) line) (λ others. local_done))
+    local_on (local_argument_bytes d _ line)
+    (λ bytes. local_on (local_formatted ps (drop 1 vs) line) (λ others. local_done))
 
 pub local_routine : (g : Setting) (r : Routine) (vs : List Value) (line : ℕ) → IsLocal (routine g r vs line)
 local_routine g Malloc vs line = local_allocate g (argument 0 vs).word line
@@ -185,15 +202,18 @@ local_routine g Strcmp vs line = local_compare_within (reach (argument 0 vs)) (a
 local_routine g Strcpy vs line = local_strcpy (argument 0 vs) (argument 1 vs) line
 local_routine g Strncpy vs line = local_strncpy (argument 0 vs) (argument 1 vs) (argument 2 vs) line
 local_routine g Strcat vs line = local_strcat (argument 0 vs) (argument 1 vs) line
-local_routine g Strchr vs line = local_seek_within (reach (argument 0 vs)) (fit Char (argument 1 vs).word) (argument 0 vs) line
+local_routine g Strchr vs line = local_seek_within (reach (argument 0 vs)) (fit Char (argument 1 vs).word)
+    (argument 0 vs) line
 local_routine g Putchar vs line = search (local_basic, local_put_bytes)
-local_routine g Getchar vs line = record { action = record { acts = λ s k. acts_next_byte s.input s k }; keeps = λ s. keeps_next_byte s.input s }
+local_routine g Getchar vs line = record
+    { action = record { acts = λ s k. acts_next_byte s.input s k }; keeps = λ s. keeps_next_byte s.input s }
 local_routine g Puts vs line = local_puts (argument 0 vs) line
 local_routine g Exit vs line = local_stop
 local_routine g Abort vs line = local_stop
 
 pub local_print : (format : List ℕ) (vs : List Value) (line : ℕ) → IsLocal (print_formatted format vs line)
-local_print format vs line = local_on (local_formatted (pieces_or_none (pieces format)) vs line) (λ bytes. local_then (local_put_bytes bytes) local_done)
+local_print format vs line = local_on (local_formatted (pieces_or_none (pieces format)) vs line)
+    (λ bytes. local_then (local_put_bytes bytes) local_done)
 
 pub acts_routine : (g : Setting) (r : Routine) (vs : List Value) (line : ℕ) → IsAction (routine g r vs line)
 acts_routine g r vs line = (local_routine g r vs line).action

@@ -1,5 +1,6 @@
 -- No object dies, but by `free` and `realloc` and where a block or a call is left.
-use Rattle.std.proofs.Common.{◌≡◌, ℕ, zero, suc, ◌+◌, List, [], ◌∷◌, Bool, true, false, ◌==◌, Option, Some, None, length, drop, refl, ap, ◌∙◌}
+use Rattle.std.proofs.Common.{◌≡◌, ℕ, zero, suc, ◌+◌, List, [], ◌∷◌, Bool, true, false, ◌==◌, Option, Some, None}
+use Rattle.std.proofs.Common.{length, drop, refl, ap, ◌∙◌}
 use Rattle.sb_base.specs.declared.ending.Ending.{Ending}
 use Rattle.sb_base.specs.declared.ending.Ending.TheVariants.{Spatial}
 use Rattle.behaviours.specs.Shown.{AccessKind, Write}
@@ -30,7 +31,9 @@ use Rattle.c_tree.specs.declared.expression.Update.{Update}
 use Rattle.c_tree.specs.declared.expression.Update.TheVariants.{Arithmetic, Forward, Back}
 use Rattle.c_tree.specs.declared.expression.Fixity.{Fixity}
 use Rattle.c_tree.specs.declared.expression.Routine.{Routine}
-use Rattle.c_tree.specs.declared.expression.Routine.TheVariants.{Malloc, Calloc, Free, Realloc, Memcpy, Memmove, Memset, Memcmp, Strlen, Strcmp, Strcpy, Strncpy, Strcat, Strchr, Putchar, Getchar, Puts, Exit, Abort}
+use Rattle.c_tree.specs.declared.expression.Routine.TheVariants.{Malloc, Calloc, Free, Realloc, Memcpy, Memmove, Memset}
+use Rattle.c_tree.specs.declared.expression.Routine.TheVariants.{Memcmp, Strlen, Strcmp, Strcpy, Strncpy, Strcat}
+use Rattle.c_tree.specs.declared.expression.Routine.TheVariants.{Strchr, Putchar, Getchar, Puts, Exit, Abort}
 use Rattle.c_tree.specs.declared.format.Directive.{Directive}
 use Rattle.c_tree.specs.declared.format.Directive.TheVariants as directive
 use Rattle.c_tree.specs.declared.format.Piece.{Piece}
@@ -38,21 +41,30 @@ use Rattle.c_tree.specs.declared.format.Piece.TheVariants as piece
 use Rattle.c_tree.specs.declared.program.Variable.{Variable}
 use Rattle.c_tree.specs.Format.{pieces}
 use Rattle.c_tree.specs.Kinds.{size_of_kind}
-use Rattle.source_meaning.specs.State.{State, Rvalue, Home, NoObject, InObject, Outcome, Gives, Ended, Paused, Run, on, ◌>>=◌, ◌>>◌, done, stop, choose, read_state, change, skip, tally, Header, Setting}
+use Rattle.source_meaning.specs.State.{State, Rvalue, Home, NoObject, InObject, Outcome, Gives, Ended, Paused, Run, on}
+use Rattle.source_meaning.specs.State.{◌>>=◌, ◌>>◌, done, stop, choose, read_state, change, skip, tally, Header}
+use Rattle.source_meaning.specs.State.{Setting}
 use Rattle.source_meaning.specs.Acting.{state_of}
 use Rattle.source_meaning.specs.Staying.{KeepsLives, frees}
-use Rattle.source_meaning.specs.Actions.{integer, value_or_divide, operate, updated, given, plain_value, set_plain, update_plain, place_or_stop, located, note, read_scalar, write_scalar, move_bytes, load, store, update, load_structure, copy_structure, read_lvalue, write_lvalue, make_object, put_bytes, take_key, verdict_on, home_value}
-use Rattle.source_meaning.specs.Structures.{as_rvalue, put_range, put_contents, taken, take_value, copy_value, write_rvalue, read_part, read_rvalue, with_contents}
+use Rattle.source_meaning.specs.Actions.{integer, value_or_divide, operate, updated, given, plain_value, set_plain}
+use Rattle.source_meaning.specs.Actions.{update_plain, place_or_stop, located, note, read_scalar, write_scalar}
+use Rattle.source_meaning.specs.Actions.{move_bytes, load, store, update, load_structure, copy_structure, read_lvalue}
+use Rattle.source_meaning.specs.Actions.{write_lvalue, make_object, put_bytes, take_key, verdict_on, home_value}
+use Rattle.source_meaning.specs.Structures.{as_rvalue, put_range, put_contents, taken, take_value, copy_value}
+use Rattle.source_meaning.specs.Structures.{write_rvalue, read_part, read_rvalue, with_contents}
 use Rattle.source_meaning.specs.Initializers.{zero_object, zero_home, zero_variable, store_bytes}
 use Rattle.source_meaning.specs.Expressions.{callee_by, callee}
 use Rattle.source_meaning.specs.Heap.{tally_blocks, block_place, make_block, allocate}
 use Rattle.source_meaning.specs.Bytes.{look, set_bytes}
 use Rattle.source_meaning.specs.Memory.{memmove, memset, memcmp}
-use Rattle.source_meaning.specs.Strings.{reach, scan_within, scan, compare_within, write_string, strcpy, strncpy, strcat, seek_within}
+use Rattle.source_meaning.specs.Strings.{reach, scan_within, scan, compare_within, write_string, strcpy, strncpy}
+use Rattle.source_meaning.specs.Strings.{strcat, seek_within}
 use Rattle.source_meaning.specs.Printing.{argument_bytes, formatted, pieces_or_none, print_formatted}
 use Rattle.source_meaning.specs.Library.{next_byte, argument, routine}
-use Rattle.source_meaning.specs.Blocks.{pass_or_stop, test_space, test_keys, place_object, place_variables, homes_over, enter_block}
-use Rattle.source_meaning.specs.Calls.{test_charge, call_tests, body_objects, set_plain_values, write_parameter, write_parameters, first_of, rest_of, lay_out, set_up}
+use Rattle.source_meaning.specs.Blocks.{pass_or_stop, test_space, test_keys, place_object, place_variables, homes_over}
+use Rattle.source_meaning.specs.Blocks.{enter_block}
+use Rattle.source_meaning.specs.Calls.{test_charge, call_tests, body_objects, set_plain_values, write_parameter}
+use Rattle.source_meaning.specs.Calls.{write_parameters, first_of, rest_of, lay_out, set_up}
 use Rattle.source_meaning.proofs.Holding.{live_made}
 use Rattle.source_meaning.proofs.SureStructures.{keeps_put}
 
@@ -104,7 +116,10 @@ lives_objects f k = record { live = λ s n l. ((k s.objects).at n).live ∙ l }
 
 lives_new : (storage : Storage) (address size : ℕ)
     → KeepsLives (change (λ s. record s { objects = with_new storage address size s.objects }))
-lives_new storage address size = record { live = λ s n l. ap (λ (o : ObjectState). o.is_live) (new_other storage address size n s.objects (live_made s.objects n l)) ∙ l }
+lives_new storage address size = record {
+  live = λ s n l. ap (λ (o : ObjectState). o.is_live)
+      (new_other storage address size n s.objects (live_made s.objects n l)) ∙ l;
+}
 
 ruleset lives_basic = (lives_on, lives_then, lives_done, lives_skip, lives_stop, lives_read, lives_tally, lives_choose)
 
@@ -141,7 +156,10 @@ lives_store k j p line v = lives_on (lives_located j _ p line) (λ place. lives_
 pub lives_update : (k : Scalar) (j : Bool) (p : Value) (line : ℕ) (f : Value → Run Value) (fixity : Fixity)
     → ((v : Value) → KeepsLives (f v)) → KeepsLives (update k j p line f fixity)
 lives_update k j p line f fixity h =
-    lives_on (lives_located j _ p line) (λ place. lives_on (lives_read_scalar k p.word place) (λ old. lives_on (h old) (λ new. lives_then (lives_write_scalar k p.word place new) (lives_done {a = given fixity old new}))))
+    lives_on (lives_located j _ p line)
+    (λ place. lives_on (lives_read_scalar k p.word place)
+    (λ old. lives_on (h old)
+    (λ new. lives_then (lives_write_scalar k p.word place new) (lives_done {a = given fixity old new}))))
 
 lives_load_structure : (size : ℕ) (j : Bool) (p : Value) (line : ℕ) → KeepsLives (load_structure size j p line)
 lives_load_structure size j p line = lives_then (lives_located j size p line) lives_done
@@ -149,7 +167,8 @@ lives_load_structure size j p line = lives_then (lives_located j size p line) li
 lives_copy_structure : (size : ℕ) (j : Bool) (p : Value) (line : ℕ) (v : Value)
     → KeepsLives (copy_structure size j p line v)
 lives_copy_structure size j p line v =
-    lives_on (lives_located j size p line) (λ d. lives_on (lives_located false size v line) (λ s. lives_move_bytes size d s))
+    lives_on (lives_located j size p line)
+    (λ d. lives_on (lives_located false size v line) (λ s. lives_move_bytes size d s))
 
 pub lives_read_lvalue : (kind : Kind) (j : Bool) (p : Value) (line : ℕ) → KeepsLives (read_lvalue kind j p line)
 lives_read_lvalue Void j p line = lives_done
@@ -185,7 +204,8 @@ lives_set_plain x v = lives_change (λ s. refl)
 
 pub lives_update_plain : (x : ℕ) (f : Value → Run Value) (fixity : Fixity) → ((v : Value) → KeepsLives (f v))
     → KeepsLives (update_plain x f fixity)
-lives_update_plain x f fixity h = lives_on (lives_read {f = plain_value x}) (λ old. lives_on (h old) (λ new. lives_then (lives_set_plain x new) (lives_done {a = given fixity old new})))
+lives_update_plain x f fixity h = lives_on (lives_read {f = plain_value x})
+    (λ old. lives_on (h old) (λ new. lives_then (lives_set_plain x new) (lives_done {a = given fixity old new})))
 
 pub lives_callee : (functions : List Header) (type_number : ℕ) (v : Value) (line : ℕ)
     → KeepsLives (callee functions type_number v line)
@@ -200,7 +220,9 @@ lives_callee functions type_number v line = by v.tag
 
 pub lives_make_object : (storage : Storage) (address size : ℕ) → KeepsLives (make_object storage address size)
 lives_make_object storage address size =
-    lives_then (lives_tally (1 + size)) (lives_on (lives_read {f = λ s. length s.objects}) (λ number. lives_then (lives_new storage address size) (lives_done {a = number})))
+    lives_then (lives_tally (1 + size))
+    (lives_on (lives_read {f = λ s. length s.objects})
+    (λ number. lives_then (lives_new storage address size) (lives_done {a = number})))
 
 pub lives_put_bytes : (bytes : List ℕ) → KeepsLives (put_bytes bytes)
 lives_put_bytes bytes = search (lives_basic, lives_change)
@@ -210,7 +232,8 @@ lives_take_key g line = search (lives_basic, lives_change) depth 9
 
 lives_zero_object : (o : ℕ) → KeepsLives (zero_object o)
 lives_zero_object o = lives_on (lives_read {f =
-    λ s. (object_at s.objects o).size}) (λ size. lives_then (lives_tally size) (lives_objects (with_zeroed o) (keeps_zeroed o)))
+    λ s. (object_at s.objects o).size})
+    (λ size. lives_then (lives_tally size) (lives_objects (with_zeroed o) (keeps_zeroed o)))
 
 lives_zero_home : (home : Home) → KeepsLives (zero_home home)
 lives_zero_home NoObject = lives_skip
@@ -222,7 +245,8 @@ lives_zero_variable x = lives_on lives_read lives_zero_home
 pub lives_store_bytes : (p : Value) (offset : ℕ) (bytes : List ℕ) → KeepsLives (store_bytes p offset bytes)
 lives_store_bytes p offset [] = lives_skip
 lives_store_bytes p offset (b ∷ bs) =
-    lives_then (lives_store (Integer Char) false (narrowed offset 1 p) 0 (integer b)) (lives_store_bytes p (offset + 1) bs)
+    lives_then (lives_store (Integer Char) false (narrowed offset 1 p) 0 (integer b))
+    (lives_store_bytes p (offset + 1) bs)
 
 -- structures by value
 
@@ -255,7 +279,9 @@ pub lives_read_rvalue : (kind : Kind) (j : Bool) (q : Rvalue) (line : ℕ) → K
 lives_read_rvalue kind j q line = lives_read_part q.contents kind j q.value line
 
 lives_taken : (c : Option ObjectState) (size : ℕ) (v : Value) (line : ℕ) → KeepsLives (taken c size v line)
-lives_taken None size v line = lives_on (lives_located false size v line) (λ p. lives_then (lives_tally size) (lives_read {f = λ s. with_contents size p.offset (object_at s.objects p.object)}))
+lives_taken None size v line = lives_on (lives_located false size v line)
+    (λ p. lives_then (lives_tally size)
+    (lives_read {f = λ s. with_contents size p.offset (object_at s.objects p.object)}))
 lives_taken (Some c) size v line = lives_then (lives_tally size) lives_done
 
 pub lives_take_value : (kind : Kind) (line : ℕ) (v : Rvalue) → KeepsLives (take_value kind line v)
@@ -281,7 +307,8 @@ lives_test_charge g f line = search (lives_basic, lives_pass)
 
 lives_call_tests : (g : Setting) (f : Header) (line : ℕ) → KeepsLives (call_tests g f line)
 lives_call_tests g f line =
-    lives_then (lives_test_charge g f line) (lives_then (lives_test_space g (body_objects f) line) (lives_test_keys g (body_objects f) line))
+    lives_then (lives_test_charge g f line)
+    (lives_then (lives_test_space g (body_objects f) line) (lives_test_keys g (body_objects f) line))
 
 lives_place_object : (size : ℕ) → KeepsLives (place_object size)
 lives_place_object size = search (lives_basic, lives_change, lives_make_object) depth 9
@@ -289,20 +316,23 @@ lives_place_object size = search (lives_basic, lives_change, lives_make_object) 
 lives_place_variables : (vs : List Variable) → KeepsLives (place_variables vs)
 lives_place_variables [] = lives_done
 lives_place_variables (v ∷ vs) =
-    lives_on (lives_choose v.is_object (lives_place_object (size_of_kind v.kind)) lives_done) (λ home. lives_on (lives_place_variables vs) (λ homes. lives_done))
+    lives_on (lives_choose v.is_object (lives_place_object (size_of_kind v.kind)) lives_done)
+    (λ home. lives_on (lives_place_variables vs) (λ homes. lives_done))
 
 lives_write_parameter : (kind : Kind) (home : Home) (line : ℕ) (v : Rvalue)
     → KeepsLives (write_parameter kind home line v)
 lives_write_parameter kind NoObject line v = lives_skip
 lives_write_parameter kind (InObject o) line v =
-    lives_on (lives_read {f = λ s. home_value (InObject o) s.objects}) (λ p. lives_then (lives_write_rvalue kind false p line v) lives_skip)
+    lives_on (lives_read {f = λ s. home_value (InObject o) s.objects})
+    (λ p. lives_then (lives_write_rvalue kind false p line v) lives_skip)
 
 lives_write_parameters : (ps : List Variable) (homes : List Home) (line : ℕ) (vs : List Rvalue)
     → KeepsLives (write_parameters ps homes line vs)
 lives_write_parameters [] homes line vs = lives_skip
 lives_write_parameters (p ∷ ps) [] line vs = lives_skip
 lives_write_parameters (p ∷ ps) (home ∷ homes) line vs =
-    lives_then (lives_write_parameter p.kind home line (first_of vs)) (lives_write_parameters ps homes line (rest_of vs))
+    lives_then (lives_write_parameter p.kind home line (first_of vs))
+    (lives_write_parameters ps homes line (rest_of vs))
 
 lives_set_plain_values : (f : Header) (vs : List Rvalue) → KeepsLives (set_plain_values f vs)
 lives_set_plain_values f vs = search (lives_basic, lives_change)
@@ -318,8 +348,10 @@ lives_set_up g f vs line =
 pub lives_enter_block : (g : Setting) (vs : List Variable) (line : ℕ) → KeepsLives (enter_block g vs line)
 lives_enter_block g vs line =
     lives_then (lives_test_space g vs line) (lives_then (lives_test_keys g vs line)
-    (lives_on (lives_read {f = λ s. s.frame}) (λ frame. lives_on (lives_read {f = λ s. s.stacked}) (λ top. lives_on (lives_place_variables vs) (λ homes.
-    lives_then (lives_change {f = λ z. record z { frame = homes_over frame homes }} (λ s. refl)) (lives_done {a = record { homes = homes; frame = frame; stacked = top }}))))))
+    (lives_on (lives_read {f = λ s. s.frame})
+    (λ frame. lives_on (lives_read {f = λ s. s.stacked}) (λ top. lives_on (lives_place_variables vs) (λ homes.
+    lives_then (lives_change {f = λ z. record z { frame = homes_over frame homes }} (λ s. refl))
+    (lives_done {a = record { homes = homes; frame = frame; stacked = top }}))))))
 
 -- the library
 
@@ -329,7 +361,8 @@ lives_tally_blocks = lives_on lives_read (λ count. lives_tally (1 + count))
 lives_make_block : (g : Setting) (size line : ℕ) (place : Option ℕ) → KeepsLives (make_block g size line place)
 lives_make_block g size line None = lives_done
 lives_make_block g size line (Some address) =
-    lives_then (lives_take_key g line) (lives_on (lives_make_object Allocated address size) (λ o. lives_read {f = λ s. pointer_to o s.objects}))
+    lives_then (lives_take_key g line)
+    (lives_on (lives_make_object Allocated address size) (λ o. lives_read {f = λ s. pointer_to o s.objects}))
 
 lives_allocate : (g : Setting) (size line : ℕ) → KeepsLives (allocate g size line)
 lives_allocate g size line = lives_then lives_tally_blocks (lives_on (lives_read {f =
@@ -355,7 +388,9 @@ lives_scan_within : (count : ℕ) (behind : Run (List ℕ)) → KeepsLives behin
     → KeepsLives (scan_within count behind p line)
 lives_scan_within zero behind h p line = h
 lives_scan_within (suc k) behind h p line =
-    lives_on (lives_look p line) (λ byte. lives_choose _ lives_done (lives_on (lives_scan_within k behind h (moved 1 p) line) (λ others. lives_done)))
+    lives_on (lives_look p line)
+    (λ byte. lives_choose _ lives_done
+    (lives_on (lives_scan_within k behind h (moved 1 p) line) (λ others. lives_done)))
 
 lives_scan : (s : Value) (line : ℕ) → KeepsLives (scan s line)
 lives_scan s line = lives_scan_within (reach s) (stop (Spatial line)) lives_stop s line
@@ -363,12 +398,16 @@ lives_scan s line = lives_scan_within (reach s) (stop (Spatial line)) lives_stop
 lives_compare_within : (count : ℕ) (a b : Value) (line : ℕ) → KeepsLives (compare_within count a b line)
 lives_compare_within zero a b line = lives_stop
 lives_compare_within (suc k) a b line =
-    lives_on (lives_look a line) (λ x. lives_on (lives_look b line) (λ y. lives_choose _ (lives_compare_within k (moved 1 a) (moved 1 b) line) lives_done))
+    lives_on (lives_look a line)
+    (λ x. lives_on (lives_look b line)
+    (λ y. lives_choose _ (lives_compare_within k (moved 1 a) (moved 1 b) line) lives_done))
 
 lives_seek_within : (count c : ℕ) (p : Value) (line : ℕ) → KeepsLives (seek_within count c p line)
 lives_seek_within zero c p line = lives_stop
 lives_seek_within (suc k) c p line =
-    lives_on (lives_look p line) (λ byte. lives_choose (byte == c) (lives_done {a = p}) (lives_choose (byte == 0) (lives_done {a = integer 0}) (lives_seek_within k c (moved 1 p) line)))
+    lives_on (lives_look p line)
+    (λ byte. lives_choose (byte == c) (lives_done {a = p})
+    (lives_choose (byte == 0) (lives_done {a = integer 0}) (lives_seek_within k c (moved 1 p) line)))
 
 lives_write_string : (d : Value) (bytes : List ℕ) (line : ℕ) → KeepsLives (write_string d bytes line)
 lives_write_string d bytes line = search (lives_basic, lives_located, lives_set_bytes)
@@ -383,7 +422,9 @@ lives_strncpy d s size line =
 
 lives_strcat : (d s : Value) (line : ℕ) → KeepsLives (strcat d s line)
 lives_strcat d s line =
-    lives_on (lives_scan d line) (λ before. lives_on (lives_scan s line) (λ bytes. lives_then (lives_write_string (moved (length before) d) bytes line) lives_done))
+    lives_on (lives_scan d line)
+    (λ before. lives_on (lives_scan s line)
+    (λ bytes. lives_then (lives_write_string (moved (length before) d) bytes line) lives_done))
 
 next_byte_live : (bytes : List ℕ) (s : State) (n : ℕ) → IsLive s n → IsLive (state_of (next_byte bytes s)) n
 next_byte_live [] s n l = l
@@ -402,11 +443,13 @@ lives_formatted : (ps : List Piece) (vs : List Value) (line : ℕ) → KeepsLive
 lives_formatted [] vs line = lives_done
 lives_formatted (piece.Byte b ∷ ps) vs line = lives_on (lives_formatted ps vs line) (λ others. lives_done)
 lives_formatted (piece.Directive d ∷ ps) vs line =
-    lives_on (lives_argument_bytes d _ line) (λ bytes. lives_on (lives_formatted ps (drop 1 vs) line) (λ others. lives_done))
+    lives_on (lives_argument_bytes d _ line)
+    (λ bytes. lives_on (lives_formatted ps (drop 1 vs) line) (λ others. lives_done))
 
 pub lives_print : (format : List ℕ) (vs : List Value) (line : ℕ) → KeepsLives (print_formatted format vs line)
 lives_print format vs line =
-    lives_on (lives_formatted (pieces_or_none (pieces format)) vs line) (λ bytes. lives_then (lives_put_bytes bytes) lives_done)
+    lives_on (lives_formatted (pieces_or_none (pieces format)) vs line)
+    (λ bytes. lives_then (lives_put_bytes bytes) lives_done)
 
 freeing : {A : Type 0} → true ≡ false → A
 freeing e = absurd (cc)

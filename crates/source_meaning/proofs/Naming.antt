@@ -1,13 +1,26 @@
--- What accesses that are not judged rest on. They name an object or a structure value, so the names must be of objects that
--- are there, members must lie in what has them, and a structure value is used where it is made. Every program that types
+-- What accesses that are not judged rest on. They name an object or a structure value, so the names must be of objects
+-- that
+-- are there, members must lie in what has them, and a structure value is used where it is made. Every program that
+-- types
 -- has this.
-use Rattle.source_meaning.specs.Good.{Updates, Basis, OnName, OnPointer, OnValue, basis_of, object_kind, plain_type, signature_in, static_kind}
+use Rattle.source_meaning.specs.Good.{Updates, Basis, OnName, OnPointer, OnValue, basis_of, object_kind, plain_type}
+use Rattle.source_meaning.specs.Good.{signature_in, static_kind}
 use Rattle.std.specs.Prelude.{◌≡◌, ℕ, ◌+◌, ◌<◌, ◌≤◌, true, false, List, [], ◌∷◌, ◌++◌, map, Option, Some, None, length}
 use Rattle.c_tree.specs.declared.expression.Kind.{Kind}
 use Rattle.c_tree.specs.declared.expression.Kind.TheVariants.{Void, Scalar as OfScalar, Structure, Array}
-use Rattle.c_tree.specs.Tree.{Expression, expression, Expressions, no_expressions, expressions, Lvalue, lvalue, Node, constant, function, plain, read, decay, address, parenthesized, deref_function, address_function, cast, convert, unary, binary, offset_by, difference, logical_and, logical_or, comma, conditional, assign, assign_plain, compound, change_plain, step, step_plain, call, call_through, library, printf, LvalueNode, automatic, static, deref, index, member, arrow, member_of_value, parenthesized_lvalue, kind_of, lvalue_kind, kinds_of}
-use Rattle.c_tree.specs.Statements.{Part, Content, value_content, literal_content, Initializer, of_plain, of_object, DeclaredVariable}
-use Rattle.c_tree.specs.Statements.{First, nothing, first_expression, first_declaration, Statement, expression_statement, empty, declaration, block, if_then, if_else, while_do, do_while, for, switch, break, continue, return, Statements, no_statements, statements, SwitchItems, no_items, items}
+use Rattle.c_tree.specs.Tree.{Expression, expression, Expressions, no_expressions, expressions, Lvalue, lvalue, Node}
+use Rattle.c_tree.specs.Tree.{constant, function, plain, read, decay, address, parenthesized, deref_function}
+use Rattle.c_tree.specs.Tree.{address_function, cast, convert, unary, binary, offset_by, difference, logical_and}
+use Rattle.c_tree.specs.Tree.{logical_or, comma, conditional, assign, assign_plain, compound, change_plain, step}
+use Rattle.c_tree.specs.Tree.{step_plain, call, call_through, library, printf, LvalueNode, automatic, static, deref}
+use Rattle.c_tree.specs.Tree.{index, member, arrow, member_of_value, parenthesized_lvalue, kind_of, lvalue_kind}
+use Rattle.c_tree.specs.Tree.{kinds_of}
+use Rattle.c_tree.specs.Statements.{Part, Content, value_content, literal_content, Initializer, of_plain, of_object}
+use Rattle.c_tree.specs.Statements.{DeclaredVariable}
+use Rattle.c_tree.specs.Statements.{First, nothing, first_expression, first_declaration, Statement}
+use Rattle.c_tree.specs.Statements.{expression_statement, empty, declaration, block, if_then, if_else, while_do}
+use Rattle.c_tree.specs.Statements.{do_while, for, switch, break, continue, return, Statements, no_statements}
+use Rattle.c_tree.specs.Statements.{statements, SwitchItems, no_items, items}
 use Rattle.c_tree.specs.declared.program.Variable.{Variable}
 use Rattle.c_tree.specs.Programs.{Function, StaticObject, Program}
 use Rattle.c_tree.specs.Kinds.{integer, pointer, size_of_kind, class_of, are_operands, Signature, routine_signature}
@@ -83,7 +96,8 @@ abbrev mutual
   ValueNames sc (cast a) kind = Names sc a × IsNoStructure kind
   ValueNames sc (convert a) kind = Names sc a × IsNoStructure kind
   ValueNames sc (unary op a) kind = Names sc a × (is_operand op (kind_of a) kind ≡ true)
-  ValueNames sc (binary op a b) kind = Names sc a × Names sc b × (are_operands (class_of op) (kind_of a) (kind_of b) kind ≡ true)
+  ValueNames sc (binary op a b) kind = Names sc a × Names sc b
+      × (are_operands (class_of op) (kind_of a) (kind_of b) kind ≡ true)
   ValueNames sc (offset_by form size a b) kind = Names sc a × Names sc b × (kind ≡ pointer)
   ValueNames sc (difference size a b) kind = Names sc a × Names sc b × (kind ≡ integer Long)
   ValueNames sc (logical_and a b) kind = Names sc a × Names sc b × (kind ≡ integer Int)
@@ -97,14 +111,18 @@ abbrev mutual
   ValueNames sc (compound u p a) kind =
       LvalueNames sc p × IsWritable (basis_of p) × UpdatesKind u (lvalue_kind p) × Names sc a × (kind ≡ lvalue_kind p)
   ValueNames sc (change_plain u x a) kind = Names sc a × PlainNames sc x.variable kind × UpdatesKind u kind
-  ValueNames sc (step u fixity p) kind = LvalueNames sc p × IsWritable (basis_of p) × UpdatesKind u (lvalue_kind p) × (kind ≡ lvalue_kind p)
+  ValueNames sc (step u fixity p) kind = LvalueNames sc p × IsWritable (basis_of p) × UpdatesKind u (lvalue_kind p)
+      × (kind ≡ lvalue_kind p)
   ValueNames sc (step_plain u fixity x) kind = PlainNames sc x.variable kind × UpdatesKind u kind
   ValueNames sc (call f args) kind =
-      RowNames sc args × (kinds_of args ≡ (signature_in sc.functions f).parameters) × (kind ≡ (signature_in sc.functions f).result)
+      RowNames sc args × (kinds_of args ≡ (signature_in sc.functions f).parameters)
+      × (kind ≡ (signature_in sc.functions f).result)
   ValueNames sc (call_through type_number a args) kind =
-      Names sc a × RowNames sc args × (kinds_of args ≡ (signature_in sc.types type_number).parameters) × (kind ≡ (signature_in sc.types type_number).result)
+      Names sc a × RowNames sc args × (kinds_of args ≡ (signature_in sc.types type_number).parameters)
+      × (kind ≡ (signature_in sc.types type_number).result)
   ValueNames sc (library name args) kind =
-      RowNames sc args × (kinds_of args ≡ (routine_signature name).parameters) × (kind ≡ (routine_signature name).result)
+      RowNames sc args × (kinds_of args ≡ (routine_signature name).parameters)
+      × (kind ≡ (routine_signature name).result)
   ValueNames sc (printf format args) kind = RowNames sc args × (kind ≡ integer Int)
 
   pub LvalueNames : Scope → Lvalue → Type 0
@@ -115,9 +133,11 @@ abbrev mutual
   PlaceNames sc (static n) kind = static_kind sc.statics n ≡ Some kind
   PlaceNames sc (deref a) kind = Names sc a
   PlaceNames sc (index form size a b) kind = Names sc a × Names sc b
-  PlaceNames sc (member p offset size) kind = LvalueNames sc p × (offset + size ≤ size_of_kind (lvalue_kind p)) × (size_of_kind kind ≤ size)
+  PlaceNames sc (member p offset size) kind = LvalueNames sc p × (offset + size ≤ size_of_kind (lvalue_kind p))
+      × (size_of_kind kind ≤ size)
   PlaceNames sc (arrow a offset size) kind = Names sc a
-  PlaceNames sc (member_of_value a offset size) kind = Names sc a × IsStructureWith (kind_of a) (offset + size) × (size_of_kind kind ≤ size)
+  PlaceNames sc (member_of_value a offset size) kind = Names sc a × IsStructureWith (kind_of a) (offset + size)
+      × (size_of_kind kind ≤ size)
   PlaceNames sc (parenthesized_lvalue p) kind = LvalueNames sc p × (kind ≡ lvalue_kind p)
 
   pub RowNames : Scope → Expressions → Type 0
@@ -142,7 +162,8 @@ PartsName sc bytes (q ∷ qs) = ContentNames sc bytes q.offset q.content × Part
 abbrev pub InitializerNames : Scope → (variable : ℕ) → Option Initializer → Type 0
 InitializerNames sc x None = Unit {0}
 InitializerNames sc x (Some (of_plain e)) = Names sc e × PlainNames sc x (kind_of e)
-InitializerNames sc x (Some (of_object parts)) = (kind : Kind) × (object_kind sc.variables x ≡ Some kind) × PartsName sc (size_of_kind kind) parts
+InitializerNames sc x (Some (of_object parts)) = (kind : Kind) × (object_kind sc.variables x ≡ Some kind)
+    × PartsName sc (size_of_kind kind) parts
 
 abbrev pub DeclaredName : Scope → List DeclaredVariable → Type 0
 DeclaredName sc [] = Unit {0}
@@ -215,19 +236,26 @@ FunctionsName u [] = Unit {0}
 FunctionsName u (f ∷ fs) = FunctionNames u f × FunctionsName u fs
 
 abbrev pub file_scope : ProgramNames → Scope
-file_scope u = record { statics = u.statics; all = []; variables = []; functions = u.functions; types = u.types; result = Void }
+file_scope u = record
+    { statics = u.statics; all = []; variables = []; functions = u.functions; types = u.types; result = Void }
 
 -- initializers of static objects that name no variables
 abbrev pub StaticsName : Scope → List StaticObject → Type 0
 StaticsName sc [] = Unit {0}
-StaticsName sc (o ∷ os) = (name_variables o.parts ≡ false → PartsName sc (size_of_kind o.kind) o.parts) × StaticsName sc os
+StaticsName sc (o ∷ os) = (name_variables o.parts ≡ false → PartsName sc (size_of_kind o.kind) o.parts)
+    × StaticsName sc os
 
 -- of each function by its type
 abbrev pub function_signatures : List Signature → List Function → List Signature
 function_signatures types fs = map (λ f. signature_in types f.type_number) fs
 
 abbrev pub names_of : Program → ProgramNames
-names_of p = record { statics = map (λ o. o.kind) p.statics; functions = function_signatures (signatures_of p) p.functions; types = signatures_of p }
+names_of p = record {
+  statics = map (λ o. o.kind) p.statics;
+  functions = function_signatures (signatures_of p)
+      p.functions;
+  types = signatures_of p;
+}
 
 -- a program names what is there
 pub record NamesObjects (p : Program) : Type 0 where

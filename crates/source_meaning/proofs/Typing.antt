@@ -1,5 +1,6 @@
 -- Plain variables hold values of their types, where a block is entered and where a function is.
-use Rattle.std.proofs.Common.{◌≡◌, ℕ, zero, suc, List, [], ◌∷◌, ◌++◌, map, length, Bool, true, false, if◌then◌else◌, Option, Some, None, get_or, refl, subst}
+use Rattle.std.proofs.Common.{◌≡◌, ℕ, zero, suc, List, [], ◌∷◌, ◌++◌, map, length, Bool, true, false, if◌then◌else◌}
+use Rattle.std.proofs.Common.{Option, Some, None, get_or, refl, subst}
 use Rattle.obj_memory.specs.declared.value.Scalar.{Scalar}
 use Rattle.obj_memory.specs.declared.value.Value.{Value}
 use Rattle.obj_memory.specs.Objects.{Objects}
@@ -64,7 +65,8 @@ behind_as (p ∷ ps) vs all h (suc x) k e = behind_as ps vs all h x k e
 pub entered_as : (ps ds : List Variable) (numbers : List ℕ)
     → AreAs (ps ++ opened numbers (length ps) ds (map closed ds)) (ps ++ ds)
 entered_as ps ds numbers =
-    behind_as ps (opened numbers (length ps) ds (map closed ds)) ds (opened_as numbers (length ps) ds (map closed ds) (closed_as ds))
+    behind_as ps (opened numbers (length ps) ds (map closed ds)) ds
+    (opened_as numbers (length ps) ds (map closed ds) (closed_as ds))
 
 -- the plain values of a call
 

@@ -8,7 +8,8 @@ use Rattle.obj_memory.specs.Objects.{Objects, with_dead}
 use Rattle.obj_memory.specs.Heap.{rounded_up}
 use Rattle.c_tree.specs.declared.program.Variable.{Variable}
 use Rattle.c_tree.specs.Kinds.{size_of_kind}
-use Rattle.source_meaning.specs.State.{State, Home, NoObject, InObject, Run, ◌>>=◌, ◌>>◌, done, stop, choose, read_state, change, skip, Setting}
+use Rattle.source_meaning.specs.State.{State, Home, NoObject, InObject, Run, ◌>>=◌, ◌>>◌, done, stop, choose}
+use Rattle.source_meaning.specs.State.{read_state, change, skip, Setting}
 use Rattle.source_meaning.specs.Places.{stack_end}
 use Rattle.source_meaning.specs.Actions.{make_object, take_key}
 

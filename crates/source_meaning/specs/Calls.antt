@@ -1,5 +1,6 @@
 -- Calls (C99 6.5.2.2, 6.9.1). Three-address code has the same runs up to `lay_out`, and `back_to`.
-use Rattle.std.specs.Prelude.{ℕ, zero, suc, ◌+◌, false, nat_le, if◌then◌else◌, List, [], ◌∷◌, ◌++◌, map, get_or, Option, Some, None}
+use Rattle.std.specs.Prelude.{ℕ, zero, suc, ◌+◌, false, nat_le, if◌then◌else◌, List, [], ◌∷◌, ◌++◌, map, get_or, Option}
+use Rattle.std.specs.Prelude.{Some, None}
 use Rattle.sb_base.specs.declared.ending.Ending.TheVariants.{Stack, BadCall}
 use Rattle.obj_memory.specs.declared.value.Value.{Value}
 use Rattle.c_tree.specs.declared.expression.Kind.{Kind}
@@ -7,7 +8,8 @@ use Rattle.c_tree.specs.declared.expression.Kind.TheVariants.{Void}
 use Rattle.c_tree.specs.declared.program.Variable.{Variable}
 use Rattle.c_tree.specs.Programs.{Function}
 use Rattle.c_tree.specs.Blocks.{all_of, body_variables}
-use Rattle.source_meaning.specs.State.{State, Rvalue, Home, NoObject, InObject, Run, ◌>>=◌, ◌>>◌, done, stop, pause, read_state, change, skip, tally, Header, Setting, Env}
+use Rattle.source_meaning.specs.State.{State, Rvalue, Home, NoObject, InObject, Run, ◌>>=◌, ◌>>◌, done, stop, pause}
+use Rattle.source_meaning.specs.State.{read_state, change, skip, tally, Header, Setting, Env}
 use Rattle.source_meaning.specs.Actions.{integer, begin_turn, home_value}
 use Rattle.source_meaning.specs.Structures.{rvalue, write_rvalue, zero_of}
 use Rattle.source_meaning.specs.Expressions.{counted}
@@ -56,7 +58,8 @@ rest_of (v ∷ vs) = vs
 -- the plain values of parameters; one that is an object has none
 abbrev pub parameter_values : List Variable → (arguments : List Rvalue) → List Value
 parameter_values [] vs = []
-parameter_values (p ∷ ps) vs = (if p.is_object then integer 0 else (first_of vs).value) ∷ parameter_values ps (rest_of vs)
+parameter_values (p ∷ ps) vs = (if p.is_object then integer 0 else (first_of vs).value)
+    ∷ parameter_values ps (rest_of vs)
 
 -- every other plain value is 0 with no tag
 abbrev pub plain_values : Header → (arguments : List Rvalue) → List Value
@@ -162,7 +165,8 @@ function_at (x ∷ xs) zero = Some x
 function_at (x ∷ xs) (suc f) = function_at xs f
 
 -- a call of a function by its number; calls are nested at most n deep
-abbrev pub calls : List Function → Setting → (limit n : ℕ) → (function : ℕ) → (arguments : List Rvalue) → (line : ℕ) → Run Rvalue
+abbrev pub calls : List Function → Setting → (limit n : ℕ) → (function : ℕ) → (arguments : List Rvalue) → (line : ℕ)
+    → Run Rvalue
 calls functions g limit zero = λ f vs line. pause
 calls functions g limit (suc n) = λ f vs line.
     enter_found

@@ -11,11 +11,20 @@ use Rattle.obj_memory.specs.Judgement.{narrowed}
 use Rattle.c_tree.specs.declared.expression.Kind.{Kind}
 use Rattle.c_tree.specs.declared.expression.Fixity.TheVariants.{Prefix}
 use Rattle.c_tree.specs.declared.expression.PlainName.{PlainName}
-use Rattle.c_tree.specs.Tree.{Expression, expression, Expressions, no_expressions, expressions, Lvalue, lvalue, Node, constant, function, plain, read, decay, address, parenthesized, deref_function, address_function, cast, convert, unary, binary, offset_by, difference, logical_and, logical_or, comma, conditional, assign, assign_plain, compound, change_plain, step, step_plain, call, call_through, library, printf, LvalueNode, automatic, static, deref, index, member, arrow, member_of_value, parenthesized_lvalue, kind_of, line_of, lvalue_kind, lvalue_line}
+use Rattle.c_tree.specs.Tree.{Expression, expression, Expressions, no_expressions, expressions, Lvalue, lvalue, Node}
+use Rattle.c_tree.specs.Tree.{constant, function, plain, read, decay, address, parenthesized, deref_function}
+use Rattle.c_tree.specs.Tree.{address_function, cast, convert, unary, binary, offset_by, difference, logical_and}
+use Rattle.c_tree.specs.Tree.{logical_or, comma, conditional, assign, assign_plain, compound, change_plain, step}
+use Rattle.c_tree.specs.Tree.{step_plain, call, call_through, library, printf, LvalueNode, automatic, static, deref}
+use Rattle.c_tree.specs.Tree.{index, member, arrow, member_of_value, parenthesized_lvalue, kind_of, line_of}
+use Rattle.c_tree.specs.Tree.{lvalue_kind, lvalue_line}
 use Rattle.source_meaning.specs.State.{Rvalue, Run, ◌>>=◌, ◌>>◌, done, stop, choose, read_state, tally, Header, Env}
 use Rattle.addr_map.specs.Places.{function_address}
-use Rattle.source_meaning.specs.Actions.{integer, is_zero, scalar_of, integer_type, converted, offset_value, difference_value, operate, updated, plain_value, set_plain, update_plain, update, home_pointer, each_value}
-use Rattle.source_meaning.specs.Structures.{give, as_rvalue, as_pointer, values_of, take_value, write_rvalue, read_rvalue, member_of}
+use Rattle.source_meaning.specs.Actions.{integer, is_zero, scalar_of, integer_type, converted, offset_value}
+use Rattle.source_meaning.specs.Actions.{difference_value, operate, updated, plain_value, set_plain, update_plain}
+use Rattle.source_meaning.specs.Actions.{update, home_pointer, each_value}
+use Rattle.source_meaning.specs.Structures.{give, as_rvalue, as_pointer, values_of, take_value, write_rvalue}
+use Rattle.source_meaning.specs.Structures.{read_rvalue, member_of}
 use Rattle.source_meaning.specs.Library.{routine}
 use Rattle.source_meaning.specs.Printing.{print_formatted}
 
@@ -141,13 +150,15 @@ abbrev mutual
   value env (compound u p a) kind line = counted (do
     q ← place env p
     y ← evaluate env a
-    as_rvalue (update (scalar_of (lvalue_kind p)) (is_judged p) q.value (lvalue_line p) (updated u (scalar_of (lvalue_kind p)) y.value line) Prefix))
+    as_rvalue (update (scalar_of (lvalue_kind p)) (is_judged p) q.value (lvalue_line p)
+        (updated u (scalar_of (lvalue_kind p)) y.value line) Prefix))
   value env (change_plain u x a) kind line = counted_as (nodes_of x) (do
     y ← evaluate env a
     as_rvalue (update_plain x.variable (updated u (scalar_of kind) y.value line) Prefix))
   value env (step u fixity p) kind line = counted (do
     q ← place env p
-    as_rvalue (update (scalar_of (lvalue_kind p)) (is_judged p) q.value (lvalue_line p) (updated u (scalar_of (lvalue_kind p)) (integer 1) line) fixity))
+    as_rvalue (update (scalar_of (lvalue_kind p)) (is_judged p) q.value (lvalue_line p)
+        (updated u (scalar_of (lvalue_kind p)) (integer 1) line) fixity))
   value env (step_plain u fixity x) kind line = counted_as (nodes_of x)
       (as_rvalue (update_plain x.variable (updated u (scalar_of kind) (integer 1) line) fixity))
   value env (call f args) kind line = counted (do

@@ -1,7 +1,8 @@
 -- Good states, and what every part of a run makes of them: objects and tags are sound, objects stand in their regions
 -- and apart, each variable whose block is entered has its home in a live object, each plain variable holds a value of
 -- its type, and what an expression or an lvalue gives is sound and of its kind.
-use Rattle.std.specs.Prelude.{◌≡◌, ◌⊎◌, ℕ, Bool, zero, suc, ◌+◌, ◌<◌, ◌≤◌, ◌^◌, true, false, if◌then◌else◌, List, [], ◌∷◌, Option, Some, None, length, get_or}
+use Rattle.std.specs.Prelude.{◌≡◌, ◌⊎◌, ℕ, Bool, zero, suc, ◌+◌, ◌<◌, ◌≤◌, ◌^◌, true, false, if◌then◌else◌, List, []}
+use Rattle.std.specs.Prelude.{◌∷◌, Option, Some, None, length, get_or}
 use Rattle.behaviours.specs.Shown.{Access}
 use Rattle.obj_memory.specs.declared.int_type.IntType.TheVariants.{Int}
 use Rattle.obj_memory.specs.declared.value.Tag.TheVariants.{Untagged}
@@ -19,7 +20,8 @@ use Rattle.c_tree.specs.declared.expression.Update.{Update}
 use Rattle.c_tree.specs.declared.expression.Update.TheVariants.{Arithmetic, Forward, Back}
 use Rattle.c_tree.specs.declared.program.Variable.{Variable}
 use Rattle.c_tree.specs.Kinds.{size_of_kind, Signature, routine_signature}
-use Rattle.c_tree.specs.Tree.{Lvalue, lvalue, LvalueNode, automatic, static, deref, index, member, arrow, member_of_value, parenthesized_lvalue}
+use Rattle.c_tree.specs.Tree.{Lvalue, lvalue, LvalueNode, automatic, static, deref, index, member, arrow}
+use Rattle.c_tree.specs.Tree.{member_of_value, parenthesized_lvalue}
 use Rattle.c_tree.specs.Programs.{Program}
 use Rattle.c_tree.specs.Valid.{Scope, no_signature}
 use Rattle.c_tree.specs.ValidProgram.{scope_in}
@@ -138,7 +140,8 @@ pub record Context : Type 0 where
 abbrev pub function_count : Context → ℕ
 function_count sc = length sc.scope.functions
 
-pub record IsGoodBy (sc : Context) (objects : Objects) (frame : List Home) (values : List Value) (accesses : List Access) (stacked : ℕ) : Type 0 where
+pub record IsGoodBy (sc : Context) (objects : Objects) (frame : List Home) (values : List Value)
+    (accesses : List Access) (stacked : ℕ) : Type 0 where
   pub kept : IsKept (function_count sc) objects accesses
   pub low : AreLow objects
   pub statics : (n : ℕ) (kind : Kind) → static_kind sc.scope.statics n ≡ Some kind → IsHeld objects n kind

@@ -20,7 +20,8 @@ tally_blocks = do
 -- the place of a new block: none where as many blocks are live as the budget allows, or there is no room
 abbrev pub block_place : Setting → (size : ℕ) → Objects → Option ℕ
 block_place g size objects =
-    if nat_lt (block_count objects) g.sizes.budgets.blocks then least_place (heap_first g) (heap_last g) size objects else None
+    if nat_lt (block_count objects) g.sizes.budgets.blocks then least_place (heap_first g) (heap_last g) size objects
+    else None
 
 -- a new block with a key of its own; a null pointer takes none
 abbrev pub make_block : Setting → (size line : ℕ) → Option ℕ → Run Value

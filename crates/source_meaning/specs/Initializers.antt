@@ -6,7 +6,8 @@ use Rattle.obj_memory.specs.declared.value.Scalar.TheVariants.{Integer}
 use Rattle.obj_memory.specs.Objects.{object_at, with_zeroed}
 use Rattle.obj_memory.specs.Judgement.{narrowed}
 use Rattle.c_tree.specs.Tree.{kind_of, line_of}
-use Rattle.c_tree.specs.Statements.{Part, Content, value_content, literal_content, Initializer, of_plain, of_object, DeclaredVariable}
+use Rattle.c_tree.specs.Statements.{Part, Content, value_content, literal_content, Initializer, of_plain, of_object}
+use Rattle.c_tree.specs.Statements.{DeclaredVariable}
 use Rattle.source_meaning.specs.State.{Home, NoObject, InObject, Run, ◌>>=◌, ◌>>◌, read_state, change, skip, tally, Env}
 use Rattle.c_tree.specs.Kinds.{size_of_kind}
 use Rattle.source_meaning.specs.Actions.{integer, store, set_plain, home_pointer}

@@ -3,7 +3,9 @@ use Rattle.std.specs.Prelude.{ℕ, ◌+◌, ◌-◌, ◌%◌, ◌^◌, List, [],
 use Rattle.sb_base.specs.declared.ending.Ending.TheVariants.{Exit as ExitWith, Abort as AbortAt}
 use Rattle.obj_memory.specs.declared.value.Value.{Value}
 use Rattle.c_tree.specs.declared.expression.Routine.{Routine}
-use Rattle.c_tree.specs.declared.expression.Routine.TheVariants.{Malloc, Calloc, Free, Realloc, Memcpy, Memmove, Memset, Memcmp, Strlen, Strcmp, Strcpy, Strncpy, Strcat, Strchr, Putchar, Getchar, Puts, Exit, Abort}
+use Rattle.c_tree.specs.declared.expression.Routine.TheVariants.{Malloc, Calloc, Free, Realloc, Memcpy, Memmove, Memset}
+use Rattle.c_tree.specs.declared.expression.Routine.TheVariants.{Memcmp, Strlen, Strcmp, Strcpy, Strncpy, Strcat}
+use Rattle.c_tree.specs.declared.expression.Routine.TheVariants.{Strchr, Putchar, Getchar, Puts, Exit, Abort}
 use Rattle.source_meaning.specs.State.{State, Outcome, Gives, Run, ◌>>◌, done, stop, Setting}
 use Rattle.source_meaning.specs.Actions.{integer, int_of, put_bytes}
 use Rattle.source_meaning.specs.Heap.{malloc, calloc, free, realloc}

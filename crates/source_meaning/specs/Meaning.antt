@@ -11,7 +11,8 @@ use Rattle.obj_memory.specs.Objects.{Objects, new_object, pointer_to}
 use Rattle.obj_memory.specs.Heap.{rounded_up}
 use Rattle.c_tree.specs.Programs.{Function, StaticObject, Program}
 use Rattle.c_tree.specs.ValidProgram.{name_variables}
-use Rattle.source_meaning.specs.State.{State, Rvalue, Outcome, Gives, Ended, Paused, Run, ◌>>=◌, ◌>>◌, pause, read_state, choose, skip, Setting, Env}
+use Rattle.source_meaning.specs.State.{State, Rvalue, Outcome, Gives, Ended, Paused, Run, ◌>>=◌, ◌>>◌, pause}
+use Rattle.source_meaning.specs.State.{read_state, choose, skip, Setting, Env}
 use Rattle.source_meaning.specs.Places.{statics_first, stack_first}
 use Rattle.c_tree.specs.Kinds.{size_of_kind}
 use Rattle.source_meaning.specs.Actions.{int_of}
@@ -24,7 +25,8 @@ use Rattle.source_meaning.specs.Calls.{header_of, function_at, calls}
 abbrev pub placed_statics : (first : ℕ) → List StaticObject → (offset : ℕ) → Objects
 placed_statics first [] offset = []
 placed_statics first (o ∷ os) offset =
-    new_object Static (first + rounded_up 16 offset) (size_of_kind o.kind) ∷ placed_statics first os (rounded_up 16 offset + size_of_kind o.kind)
+    new_object Static (first + rounded_up 16 offset) (size_of_kind o.kind)
+    ∷ placed_statics first os (rounded_up 16 offset + size_of_kind o.kind)
 
 -- where they end
 abbrev pub statics_end : List StaticObject → (offset : ℕ) → ℕ

@@ -1,9 +1,13 @@
 -- The meaning of statements (C99 6.8).
-use Rattle.std.specs.Prelude.{ℕ, zero, suc, ◌+◌, Bool, true, false, not, ◌==◌, List, [], ◌∷◌, ◌++◌, map, length, Option, Some, None}
+use Rattle.std.specs.Prelude.{ℕ, zero, suc, ◌+◌, Bool, true, false, not, ◌==◌, List, [], ◌∷◌, ◌++◌, map, length, Option}
+use Rattle.std.specs.Prelude.{Some, None}
 use Rattle.c_tree.specs.declared.statement.CaseLabel.{CaseLabel}
 use Rattle.c_tree.specs.declared.statement.CaseLabel.TheVariants.{Case, Default}
 use Rattle.c_tree.specs.Tree.{Expression, kind_of, line_of}
-use Rattle.c_tree.specs.Statements.{First, nothing, first_expression, first_declaration, Statement, expression_statement, empty, declaration, block, if_then, if_else, while_do, do_while, for, switch, break, continue, return, Statements, no_statements, statements, SwitchItems, no_items, items}
+use Rattle.c_tree.specs.Statements.{First, nothing, first_expression, first_declaration, Statement}
+use Rattle.c_tree.specs.Statements.{expression_statement, empty, declaration, block, if_then, if_else, while_do}
+use Rattle.c_tree.specs.Statements.{do_while, for, switch, break, continue, return, Statements, no_statements}
+use Rattle.c_tree.specs.Statements.{statements, SwitchItems, no_items, items}
 use Rattle.c_tree.specs.Blocks.{block_objects, block_variables, switch_variables, first_variables}
 use Rattle.source_meaning.specs.Blocks.{scoped}
 use Rattle.source_meaning.specs.State.{Rvalue, Run, ◌>>=◌, ◌>>◌, done, pause, choose, skip, tally, Env}
@@ -110,7 +114,8 @@ labels_from is_sought [] = None
 labels_from is_sought (l ∷ ls) = elim (is_sought l) [ true ↦ Some (l ∷ ls) | false ↦ labels_from is_sought ls ]
 
 -- the items from the first label of some kind on, else others
-abbrev pub items_at : Option (List CaseLabel) → LabeledRun → (rest : List LabeledRun) → (others : Option (List LabeledRun)) → Option (List LabeledRun)
+abbrev pub items_at : Option (List CaseLabel) → LabeledRun → (rest : List LabeledRun)
+    → (others : Option (List LabeledRun)) → Option (List LabeledRun)
 items_at (Some ls) i rest others = Some (record { labels = ls; run = i.run } ∷ rest)
 items_at None i rest others = others
 

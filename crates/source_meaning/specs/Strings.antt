@@ -1,6 +1,7 @@
 -- `strlen`, `strcmp`, `strcpy`, `strncpy`, `strcat` and `strchr` (C99 7.21). The bytes of a string are judged one by
 -- one.
-use Rattle.std.specs.Prelude.{ℕ, zero, suc, ◌+◌, ◌-◌, Bool, true, ◌&&◌, not, ◌==◌, List, [], ◌∷◌, ◌++◌, length, replicate}
+use Rattle.std.specs.Prelude.{ℕ, zero, suc, ◌+◌, ◌-◌, Bool, true, ◌&&◌, not, ◌==◌, List, [], ◌∷◌, ◌++◌, length}
+use Rattle.std.specs.Prelude.{replicate}
 use Rattle.sb_base.specs.declared.ending.Ending.TheVariants.{Spatial}
 use Rattle.obj_memory.specs.declared.int_type.IntType.TheVariants.{Char}
 use Rattle.obj_memory.specs.declared.value.Tag.{Tag}

@@ -1,7 +1,8 @@
 -- Structures and unions by value (C99 6.5.2.2 paragraph 4, 6.8.6.4 paragraph 3). The value of a structure that is no
 -- result of a call, argument or parameter stands for the place that it was read from; one that is has contents: its
 -- bytes with one tag for each word, as those of an object at a multiple of 16.
-use Rattle.std.specs.Prelude.{ℕ, ◌%◌, Bool, false, ◌==◌, if◌then◌else◌, List, [], ◌∷◌, map, take, drop, set, Option, Some, None}
+use Rattle.std.specs.Prelude.{ℕ, ◌%◌, Bool, false, ◌==◌, if◌then◌else◌, List, [], ◌∷◌, map, take, drop, set, Option}
+use Rattle.std.specs.Prelude.{Some, None}
 use Rattle.obj_memory.specs.declared.value.Value.{Value}
 use Rattle.obj_memory.specs.declared.value.Place.{Place}
 use Rattle.obj_memory.specs.declared.object.Storage.TheVariants.{Automatic}
@@ -51,7 +52,8 @@ with_contents size source from = record { value = integer 0; contents = Some (co
 
 -- contents moved to a place with their tags; each byte is work
 unfoldable pub put_range : (size : ℕ) → (destination : Place) → (source : ℕ) → ObjectState → Objects → Objects
-put_range size d source from objects = set objects d.object (moved_into size d.offset source from (object_at objects d.object))
+put_range size d source from objects = set objects d.object
+    (moved_into size d.offset source from (object_at objects d.object))
 
 abbrev pub put_contents : (size : ℕ) → (destination : Place) → (source : ℕ) → ObjectState → Run (Unit {0})
 put_contents size d source c = do
@@ -75,7 +77,8 @@ take_value (Structure n) line v = taken v.contents n v.value line
 take_value (Array n) line v = done v
 
 -- a structure that is assigned: moved from its place, or from its contents
-abbrev pub copy_value : Option ObjectState → (size : ℕ) → (is_judged : Bool) → Value → (line : ℕ) → Value → Run (Unit {0})
+abbrev pub copy_value : Option ObjectState → (size : ℕ) → (is_judged : Bool) → Value → (line : ℕ) → Value
+    → Run (Unit {0})
 copy_value None size is_judged p line v = copy_structure size is_judged p line v
 copy_value (Some c) size is_judged p line v = do
   destination ← located is_judged size p line

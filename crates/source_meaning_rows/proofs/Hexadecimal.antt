@@ -12,7 +12,9 @@ use Rattle.c_tree.specs.declared.expression.Kind.{Kind}
 use Rattle.c_tree.specs.declared.expression.Routine.TheVariants.{Putchar}
 use Rattle.obj_memory.specs.declared.int_type.IntType.TheVariants.{Char, UnsignedLong}
 use Rattle.obj_memory.specs.declared.operator.BinaryOperator.TheVariants.{BitAnd, Greater, ShiftRight}
-use Rattle.source_meaning_rows.proofs.Samples.{binary, call, compare, convert, decay, defined, function_type, index, int, integer_kind, library, lvalue, none, number, one, part, plain, plain_variable, read, string_literal, two}
+use Rattle.source_meaning_rows.proofs.Samples.{binary, call, compare, convert, decay, defined, function_type, index}
+use Rattle.source_meaning_rows.proofs.Samples.{int, integer_kind, library, lvalue, none, number, one, part, plain}
+use Rattle.source_meaning_rows.proofs.Samples.{plain_variable, read, string_literal, two}
 use Rattle.std.proofs.Common.{None, [], ◌++◌, ◌∷◌}
 use Rattle.std.specs.Prelude.{codes}
 
@@ -33,8 +35,12 @@ other_digits = binary 1 ShiftRight (plain 1 long 0) (number 1 4)
 
 unfoldable pub put_digits : Function
 put_digits = defined 1 1 (one (plain_variable long)) none 320 (two
-    (if_then (compare 1 Greater (plain 1 long 0) (convert long (number 1 15))) ((expression_statement (call 1 Void 0 (one other_digits)))))
-    (expression_statement (library 1 int Putchar (one (convert int (read (index 1 (integer_kind Char) (decay (lvalue 1 (Array 17) (tree.static 0))) last_digit)))))))
+    (if_then (compare 1 Greater (plain 1 long 0) (convert long (number 1 15)))
+    ((expression_statement (call 1 Void 0 (one other_digits)))))
+    (expression_statement
+    (library 1 int Putchar
+    (one (convert int (read
+    (index 1 (integer_kind Char) (decay (lvalue 1 (Array 17) (tree.static 0))) last_digit)))))))
 
 unfoldable pub put_number : Function
 put_number = defined 2 1 (one (plain_variable long)) none 240 (two

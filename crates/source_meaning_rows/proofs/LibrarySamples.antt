@@ -1,20 +1,24 @@
 -- Small words in which calls of library routines are written, for the worked rows.
 use Rattle.c_tree.specs.Programs.{Program, Function, StaticObject}
 use Rattle.c_tree.specs.Room.{room}
-use Rattle.c_tree.specs.Statements.{Statement, DeclaredVariable, expression_statement, declaration, literal_content, statements_in}
+use Rattle.c_tree.specs.Statements.{Statement, DeclaredVariable, expression_statement, declaration, literal_content}
+use Rattle.c_tree.specs.Statements.{statements_in}
 use Rattle.c_tree.specs.Tree as tree
 use Rattle.c_tree.specs.Tree.{Expression, expressions_in}
 use Rattle.c_tree.specs.declared.expression.Kind.TheVariants.{Void, Scalar as OfScalar, Array}
 use Rattle.c_tree.specs.declared.expression.Kind.{Kind}
 use Rattle.c_tree.specs.declared.expression.OffsetForm.TheVariants.{PointerPlusIndex}
-use Rattle.c_tree.specs.declared.expression.Routine.TheVariants.{Malloc, Calloc, Free, Realloc, Memcpy, Memmove, Memset, Memcmp, Strlen, Strcmp, Strcpy, Strncpy, Strcat, Strchr, Puts}
+use Rattle.c_tree.specs.declared.expression.Routine.TheVariants.{Malloc, Calloc, Free, Realloc, Memcpy, Memmove, Memset}
+use Rattle.c_tree.specs.declared.expression.Routine.TheVariants.{Memcmp, Strlen, Strcmp, Strcpy, Strncpy, Strcat}
+use Rattle.c_tree.specs.declared.expression.Routine.TheVariants.{Strchr, Puts}
 use Rattle.c_tree.specs.declared.expression.Routine.{Routine}
 use Rattle.c_tree.specs.declared.program.Variable.{Variable}
 use Rattle.obj_memory.specs.declared.int_type.IntType.TheVariants.{UnsignedLong}
 use Rattle.obj_memory.specs.declared.operator.BinaryOperator.{BinaryOperator}
 use Rattle.obj_memory.specs.declared.value.Scalar.TheVariants.{Integer}
 use Rattle.sb_base.specs.Budgets.{BudgetSizes, default_sizes}
-use Rattle.source_meaning_rows.proofs.Samples.{at, convert, int, lvalue, main_type, none, number, one, pointer, three, two, without_value}
+use Rattle.source_meaning_rows.proofs.Samples.{at, convert, int, lvalue, main_type, none, number, one, pointer, three}
+use Rattle.source_meaning_rows.proofs.Samples.{two, without_value}
 use Rattle.std.proofs.Common.{ℕ, suc, false, None, List, [], ◌∷◌}
 
 -- `char NAME[N];`, and the same with the bytes of a literal
@@ -22,7 +26,13 @@ abbrev pub zero_chars : ℕ → StaticObject
 zero_chars n = record { kind = Array n; is_literal = false; function = None; parts = none }
 
 abbrev pub chars : ℕ → List ℕ → StaticObject
-chars n bytes = record { kind = Array n; is_literal = false; function = None; parts = one (record { offset = 0; content = literal_content bytes }) }
+chars n bytes = record {
+  kind = Array n;
+  is_literal = false;
+  function = None;
+  parts = one
+      (record { offset = 0; content = literal_content bytes });
+}
 
 -- the name of such an array, by its number and size, as a pointer to its first byte
 abbrev pub array : (object size : ℕ) → Expression
@@ -113,8 +123,16 @@ declared_from x (v ∷ vs) = without_value x ∷ declared_from (suc x) vs
 -- a program of `main` alone, at line 1, in which a call of it takes its room
 abbrev pub program_declaring : List StaticObject → List Variable → List Statement → Program
 program_declaring statics variables body =
-    let f : Function = record { line = 1; type_number = 0; parameters = none; variables = variables; body = statements_in body; room = 0 } in
-    record { structures = []; statics = statics; function_types = one main_type; functions = one (record f { room = room statics 0 int f }); main = 0 }
+    let f : Function = record
+    { line = 1; type_number = 0; parameters = none; variables = variables; body = statements_in body; room = 0 } in
+    record {
+      structures = [];
+      statics = statics;
+      function_types = one main_type;
+      functions = one
+          (record f { room = room statics 0 int f });
+      main = 0;
+    }
 
 -- the same, which declares its variables first
 abbrev pub program_of : List StaticObject → List Variable → List Statement → Program

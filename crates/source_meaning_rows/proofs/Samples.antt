@@ -33,16 +33,21 @@ use Rattle.c_tree.specs.declared.statement.CaseLabel.{CaseLabel}
 use Rattle.c_tree.specs.declared.program.Variable.{Variable}
 use Rattle.c_tree.specs.Kinds.{size_of_kind}
 use Rattle.c_tree.specs.Extents.{TypeExtent}
-use Rattle.c_tree.specs.Tree.{Expression, expression, Lvalue, Node, LvalueNode, kind_of, line_of, lvalue_kind, lvalue_line, expressions_in}
+use Rattle.c_tree.specs.Tree.{Expression, expression, Lvalue, Node, LvalueNode, kind_of, line_of, lvalue_kind}
+use Rattle.c_tree.specs.Tree.{lvalue_line, expressions_in}
 use Rattle.c_tree.specs.Tree as tree
-use Rattle.c_tree.specs.Statements.{Content, value_content, Part, of_plain, of_object, DeclaredVariable, Statement, block, switch, statements_in, items_in}
+use Rattle.c_tree.specs.Statements.{Content, value_content, Part, of_plain, of_object, DeclaredVariable, Statement}
+use Rattle.c_tree.specs.Statements.{block, switch, statements_in, items_in}
 use Rattle.c_tree.specs.Programs.{FunctionType, Function, StaticObject, Program}
 use Rattle.behaviours.specs.Shown.{End, Status, Access, Read as ReadAccess, Write as WriteAccess}
 use Rattle.behaviours.specs.Behaviour.{Moment}
 
 -- what the meaning computes by: a row names it in its `unfolding` line
 unfoldable pub computing : Unit {0}
-unfolding int_wrap digits size_of is_signed rank fit shift_amount unary_value binary_value new_object with_new with_dead with_zeroed pointer_to judge named moved narrowed read_value write_bytes write_tag write_value move_range block_count is_clear least_place report_at region_size region_start function_address is_valid_program room moved_into put_range
+unfolding int_wrap digits size_of is_signed rank fit shift_amount unary_value binary_value new_object with_new with_dead
+    with_zeroed pointer_to judge named moved narrowed read_value write_bytes write_tag write_value move_range
+    block_count is_clear least_place report_at region_size region_start function_address is_valid_program room
+    moved_into put_range
 computing = tt
 
 abbrev pub none : {A : Type 0} → List A
@@ -105,7 +110,8 @@ main_alone statics variables room body = record {
   structures = [];
   statics = statics;
   function_types = one main_type;
-  functions = one (record { line = 1; type_number = 0; parameters = none; variables = variables; body = statements_in body; room = room });
+  functions = one (record
+      { line = 1; type_number = 0; parameters = none; variables = variables; body = statements_in body; room = room });
   main = 0;
 }
 
@@ -205,7 +211,8 @@ abbrev pub call : (line : ℕ) → Kind → (function : ℕ) → List Expression
 call line kind f arguments = at line kind (tree.call f (expressions_in arguments))
 
 abbrev pub call_through : (line : ℕ) → Kind → (type_number : ℕ) → Expression → List Expression → Expression
-call_through line kind type_number e arguments = at line kind (tree.call_through type_number e (expressions_in arguments))
+call_through line kind type_number e arguments = at line kind
+    (tree.call_through type_number e (expressions_in arguments))
 
 abbrev pub library : (line : ℕ) → Kind → Routine → List Expression → Expression
 library line kind routine arguments = at line kind (tree.library routine (expressions_in arguments))
@@ -274,7 +281,8 @@ string_literal kind parts = record { kind = kind; is_literal = true; function = 
 abbrev pub function_type : List TypeWord → (parameters : List Kind) → (result : Kind) → FunctionType
 function_type words parameters result = record { c_type = words; parameters = parameters; result = result }
 
-abbrev pub defined : (line type_number : ℕ) → (parameters variables : List Variable) → (room : ℕ) → List Statement → Function
+abbrev pub defined : (line type_number : ℕ) → (parameters variables : List Variable) → (room : ℕ) → List Statement
+    → Function
 defined line type_number parameters variables room body = record {
   line = line;
   type_number = type_number;
@@ -289,9 +297,17 @@ program_of statics function_types functions main =
     record { structures = []; statics = statics; function_types = function_types; functions = functions; main = main }
 
 -- the same with structures, by their extents
-abbrev pub program_with : List (Option TypeExtent) → List StaticObject → List FunctionType → List Function → (main : ℕ) → Program
+abbrev pub program_with : List (Option TypeExtent) → List StaticObject → List FunctionType → List Function → (main : ℕ)
+    → Program
 program_with structures statics function_types functions main =
-    record { structures = structures; statics = statics; function_types = function_types; functions = functions; main = main }
+    record {
+      structures = structures;
+      statics = statics;
+      function_types = function_types;
+      functions = functions;
+      main =
+          main;
+    }
 
 -- what is seen of a run at a moment: the bytes of its output, its report, and how it ended
 

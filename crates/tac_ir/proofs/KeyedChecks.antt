@@ -16,11 +16,14 @@ only_true : (b : Bool) (x : Stage) → (only_if b x ≡ Stuck → ⊥) → b ≡
 only_true true x fine = refl
 only_true false x fine = absurd (fine refl)
 
-key_found : (key : Option Key) (s : State) (v : Value) (x : Stage) → (keyed_by key s v x ≡ Stuck → ⊥) → (k : Key) × (key ≡ Some k) × (gives k s v ≡ true)
+key_found : (key : Option Key) (s : State) (v : Value) (x : Stage) → (keyed_by key s v x ≡ Stuck → ⊥)
+    → (k : Key) × (key ≡ Some k) × (gives k s v ≡ true)
 key_found None s v x fine = absurd (fine refl)
 key_found (Some k) s v x fine = (k, refl, only_true (gives k s v) x fine)
 
-pub check_keyed : (g : Setting) (t : Tac) (of : Test) (size line n a m u : ℕ) (temps : Temps) (frames : List Frame) (s : State) → (act g t (Judge of size line (Some n) a m) u temps frames s ≡ Stuck → ⊥)
+pub check_keyed : (g : Setting) (t : Tac) (of : Test) (size line n a m u : ℕ) (temps : Temps) (frames : List Frame)
+    (s : State) → (act g t (Judge of size line (Some n) a m) u temps frames s ≡ Stuck → ⊥)
     → (key : Key) × (slice_get (keys_of (function_in t u)) n ≡ Some key) × (gives key s (temps a).value ≡ true)
 check_keyed g t of size line n a m u temps frames s fine =
-    key_found (slice_get (keys_of (function_in t u)) n) s (temps a).value (came (check of size (temps a).value line s) (λ _ z. Stands u m temps frames z)) fine
+    key_found (slice_get (keys_of (function_in t u)) n) s (temps a).value
+    (came (check of size (temps a).value line s) (λ _ z. Stands u m temps frames z)) fine

@@ -21,7 +21,8 @@ is_live_by Untagged word size objects = false
 is_live_by (OfFunction f) word size objects = false
 is_live_by (OfObject o b) word size objects =
     (object_at objects o).is_live
-    && (nat_le (object_at objects o).address word && nat_le (word + size) ((object_at objects o).address + (object_at objects o).size))
+    && (nat_le (object_at objects o).address word
+    && nat_le (word + size) ((object_at objects o).address + (object_at objects o).size))
 
 abbrev pub is_live_at : (size : ℕ) → Value → Objects → Bool
 is_live_at size p objects = is_live_by p.tag p.word size objects

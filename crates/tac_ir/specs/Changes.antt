@@ -17,7 +17,8 @@ ends_lives i = false
 -- what lived still lives
 abbrev pub KeepsLivesBy : State → Stage → Type 0
 KeepsLivesBy s (Begins z) = Unit {0}
-KeepsLivesBy s (Stands u n temps frames z) = (o : ℕ) → (object_at s.objects o).is_live ≡ true → (object_at z.objects o).is_live ≡ true
+KeepsLivesBy s (Stands u n temps frames z) = (o : ℕ) → (object_at s.objects o).is_live ≡ true
+    → (object_at z.objects o).is_live ≡ true
 KeepsLivesBy s (Over e z) = Unit {0}
 KeepsLivesBy s Stuck = Unit {0}
 

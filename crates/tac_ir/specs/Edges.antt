@@ -2,7 +2,13 @@
 use Rattle.std.specs.Prelude.{◌≡◌, ◌⊎◌, ℕ, List, [], ◌∷◌}
 use Rattle.tac_ir.specs.declared.instruction.Instruction.{Instruction}
 use Rattle.tac_ir.specs.Stage.{Frame, Waits, Entered, Stage, Begins, Stands, Over, Stuck}
-use Rattle.tac_ir.specs.declared.instruction.Instruction.TheVariants.{Reserved, Constant, FunctionPointer, GetPlain, SetPlain, UpdatePlain, HomePointer, StaticPointer, ZeroOf, Convert, Unary, Binary, Offset, Difference, Narrow, Member, Take, Read, Write, Update, Judge, Zero, StorePart, StoreText, Branch, Case, Turn, Library, Print, Call, CallThrough, EnterBlock, LeaveBlock, Return}
+use Rattle.tac_ir.specs.declared.instruction.Instruction.TheVariants.{Reserved, Constant, FunctionPointer, GetPlain}
+use Rattle.tac_ir.specs.declared.instruction.Instruction.TheVariants.{SetPlain, UpdatePlain, HomePointer, StaticPointer}
+use Rattle.tac_ir.specs.declared.instruction.Instruction.TheVariants.{ZeroOf, Convert, Unary, Binary, Offset}
+use Rattle.tac_ir.specs.declared.instruction.Instruction.TheVariants.{Difference, Narrow, Member, Take, Read, Write}
+use Rattle.tac_ir.specs.declared.instruction.Instruction.TheVariants.{Update, Judge, Zero, StorePart, StoreText, Branch}
+use Rattle.tac_ir.specs.declared.instruction.Instruction.TheVariants.{Case, Turn, Library, Print, Call, CallThrough}
+use Rattle.tac_ir.specs.declared.instruction.Instruction.TheVariants.{EnterBlock, LeaveBlock, Return}
 
 -- the nodes that an instruction leads to; that behind a call is where its result comes back
 abbrev pub successors : Instruction → List ℕ
@@ -65,7 +71,8 @@ IsReturnTo u n (Entered b ∷ frames) = ⊥
 -- returns, or the run ends
 abbrev pub AlongBy : Instruction → (function : ℕ) → List Frame → Stage → Type 0
 AlongBy i u frames (Begins s) = ⊥
-AlongBy i u frames (Stands v n temps others s) = ((v ≡ u) × LeadsTo i n) ⊎ (IsCallFrom i u others ⊎ IsReturnTo v n frames)
+AlongBy i u frames (Stands v n temps others s) = ((v ≡ u) × LeadsTo i n)
+    ⊎ (IsCallFrom i u others ⊎ IsReturnTo v n frames)
 AlongBy i u frames (Over e s) = Unit {0}
 AlongBy i u frames Stuck = Unit {0}
 

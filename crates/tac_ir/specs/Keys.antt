@@ -25,7 +25,8 @@ scaled_value (Some v) s = (plain_value v.variable s).word * v.size
 -- the tag of a base, narrowed to the members of a path, of which the last comes first
 abbrev pub path_tag : (base : Value) → List Member → State → Tag
 path_tag b [] s = b.tag
-path_tag b (m ∷ ms) s = narrowed_tag ((b.word + (m.constant + scaled_value m.scaled s)) % 2 ^ 64) m.size (path_tag b ms s)
+path_tag b (m ∷ ms) s = narrowed_tag ((b.word + (m.constant + scaled_value m.scaled s)) % 2 ^ 64) m.size
+    (path_tag b ms s)
 
 abbrev pub key_word : Key → State → ℕ
 key_word key s = ((base_value key.base s).word + (key.constant + scaled_value key.scaled s)) % 2 ^ 64

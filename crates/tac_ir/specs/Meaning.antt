@@ -1,5 +1,6 @@
 -- What three-address code means: steps from stage to stage. What an instruction does is a run of the source.
-use Rattle.std.specs.Prelude.{ℕ, ◌+◌, true, false, cond, ◌==◌, List, [], ◌∷◌, ◌++◌, map, Option, Some, None, slice_get, get_or, length}
+use Rattle.std.specs.Prelude.{ℕ, ◌+◌, true, false, cond, ◌==◌, List, [], ◌∷◌, ◌++◌, map, Option, Some, None, slice_get}
+use Rattle.std.specs.Prelude.{get_or, length}
 use Rattle.behaviours.specs.Behaviour.{Behaviour}
 use Rattle.behaviours.specs.Steps.{seen_after}
 use Rattle.sb_base.specs.declared.ending.Ending.TheVariants.{Exit, BadCall}
@@ -15,8 +16,10 @@ use Rattle.c_tree.specs.declared.program.Variable.{Variable}
 use Rattle.c_tree.specs.Kinds.{size_of_kind}
 use Rattle.c_tree.specs.Blocks.{block_objects}
 use Rattle.source_meaning.specs.State.{State, Rvalue, NoObject, Run, ◌>>◌, tally, Header, Setting}
-use Rattle.source_meaning.specs.Actions.{integer, is_zero, int_of, converted, offset_value, difference_value, operate, updated, plain_value, set_plain, update_plain, update, home_pointer}
-use Rattle.source_meaning.specs.Structures.{rvalue, as_rvalue, values_of, take_value, read_rvalue, write_rvalue, member_of, zero_of}
+use Rattle.source_meaning.specs.Actions.{integer, is_zero, int_of, converted, offset_value, difference_value, operate}
+use Rattle.source_meaning.specs.Actions.{updated, plain_value, set_plain, update_plain, update, home_pointer}
+use Rattle.source_meaning.specs.Structures.{rvalue, as_rvalue, values_of, take_value, read_rvalue, write_rvalue}
+use Rattle.source_meaning.specs.Structures.{member_of, zero_of}
 use Rattle.source_meaning.specs.Library.{routine}
 use Rattle.source_meaning.specs.Printing.{print_formatted}
 use Rattle.source_meaning.specs.Initializers.{zero_variable, store_bytes}
@@ -31,12 +34,19 @@ use Rattle.tac_ir.specs.declared.instruction.RightOperand.TheVariants.{Temporary
 use Rattle.tac_ir.specs.declared.instruction.Test.{Test}
 use Rattle.tac_ir.specs.declared.instruction.Test.TheVariants.{Spatial, Temporal}
 use Rattle.tac_ir.specs.declared.instruction.Instruction.{Instruction}
-use Rattle.tac_ir.specs.declared.instruction.Instruction.TheVariants.{Reserved, Constant, FunctionPointer, GetPlain, SetPlain, UpdatePlain, HomePointer, StaticPointer, ZeroOf, Convert, Unary, Binary, Offset, Difference, Narrow, Member, Take, Read, Write, Update, Judge, Zero, StorePart, StoreText, Branch, Case, Turn, Library, Print, Call, CallThrough, EnterBlock, LeaveBlock, Return}
+use Rattle.tac_ir.specs.declared.instruction.Instruction.TheVariants.{Reserved, Constant, FunctionPointer, GetPlain}
+use Rattle.tac_ir.specs.declared.instruction.Instruction.TheVariants.{SetPlain, UpdatePlain, HomePointer, StaticPointer}
+use Rattle.tac_ir.specs.declared.instruction.Instruction.TheVariants.{ZeroOf, Convert, Unary, Binary, Offset}
+use Rattle.tac_ir.specs.declared.instruction.Instruction.TheVariants.{Difference, Narrow, Member, Take, Read, Write}
+use Rattle.tac_ir.specs.declared.instruction.Instruction.TheVariants.{Update, Judge, Zero, StorePart, StoreText, Branch}
+use Rattle.tac_ir.specs.declared.instruction.Instruction.TheVariants.{Case, Turn, Library, Print, Call, CallThrough}
+use Rattle.tac_ir.specs.declared.instruction.Instruction.TheVariants.{EnterBlock, LeaveBlock, Return}
 use Rattle.tac_ir.specs.declared.key.Key.{Key}
 use Rattle.tac_ir.specs.declared.function.CodeFunction.{CodeFunction}
 use Rattle.tac_ir.specs.declared.function.StaticData.{StaticData}
 use Rattle.tac_ir.specs.declared.function.Tac.{Tac}
-use Rattle.tac_ir.specs.Stage.{Temps, no_temps, with_temp, gathered, Frame, Waits, Entered, Stage, Begins, Stands, Over, Stuck, came, seen}
+use Rattle.tac_ir.specs.Stage.{Temps, no_temps, with_temp, gathered, Frame, Waits, Entered, Stage, Begins, Stands, Over}
+use Rattle.tac_ir.specs.Stage.{Stuck, came, seen}
 use Rattle.tac_ir.specs.Keys.{gives}
 use Rattle.tac_ir.specs.Accesses.{only_if, is_live_at, admitted, moved_from, is_home, is_through}
 use Rattle.tac_ir.specs.Costs.{cost, spent}
@@ -120,7 +130,8 @@ abbrev pub begun : State → State
 begun s = record s { turns = s.turns + 1 }
 
 -- a call of a function that is there, whose turn begins
-abbrev pub called_at : Setting → Option CodeFunction → (function : ℕ) → List Rvalue → (line : ℕ) → List Frame → State → Stage
+abbrev pub called_at : Setting → Option CodeFunction → (function : ℕ) → List Rvalue → (line : ℕ) → List Frame → State
+    → Stage
 called_at g None f vs line frames s = Over (BadCall line) s
 called_at g (Some c) f vs line frames s =
     came (set_up g (header_of_code c) vs line (begun s)) (λ _ s. Stands f c.entry no_temps frames s)
@@ -156,9 +167,11 @@ act g t (SetPlain x a m) u temps frames s = came (set_plain x (temps a).value s)
 act g t (UpdatePlain w k f line d x right m) u temps frames s =
     came (as_rvalue (update_plain x (updated w k (right_value right temps) line) f) s) (given_in u m temps d frames)
 act g t (HomePointer d x m) u temps frames s = Stands u m (with_temp temps d (rvalue (home_pointer x s))) frames s
-act g t (StaticPointer d n m) u temps frames s = Stands u m (with_temp temps d (rvalue (pointer_to n s.objects))) frames s
+act g t (StaticPointer d n m) u temps frames s = Stands u m (with_temp temps d (rvalue (pointer_to n s.objects)))
+    frames s
 act g t (ZeroOf kind d m) u temps frames s = Stands u m (with_temp temps d (zero_of kind)) frames s
-act g t (Convert kind d a m) u temps frames s = Stands u m (with_temp temps d (rvalue (converted kind (temps a).value))) frames s
+act g t (Convert kind d a m) u temps frames s = Stands u m (with_temp temps d (rvalue (converted kind (temps a).value)))
+    frames s
 act g t (Unary op ty d a m) u temps frames s =
     Stands u m (with_temp temps d (rvalue (integer (unary_value op ty (temps a).value.word)))) frames s
 act g t (Binary op ty line d a b m) u temps frames s =
@@ -169,7 +182,8 @@ act g t (Difference size d a b m) u temps frames s =
     Stands u m (with_temp temps d (rvalue (difference_value size (temps a).value (temps b).value))) frames s
 act g t (Narrow offset size d a m) u temps frames s =
     Stands u m (with_temp temps d (rvalue (narrowed offset size (temps a).value))) frames s
-act g t (Member offset size d a m) u temps frames s = Stands u m (with_temp temps d (member_of offset size (temps a))) frames s
+act g t (Member offset size d a m) u temps frames s = Stands u m (with_temp temps d (member_of offset size (temps a)))
+    frames s
 act g t (Take kind line d a m) u temps frames s =
     moved_from kind (temps a) s.objects (came (take_value kind line (temps a) s) (given_in u m temps d frames))
 act g t (Read kind mode line key d a m) u temps frames s =
@@ -187,21 +201,25 @@ act g t (Judge test size line key a m) u temps frames s =
     keyed (keys_of (function_in t u)) key s (temps a).value
     (came (check test size (temps a).value line s) (λ _ s. Stands u m temps frames s))
 act g t (Zero x m) u temps frames s =
-    only_if (is_home (get_or s.frame x NoObject) s.objects) (came (zero_variable x s) (λ _ s. Stands u m temps frames s))
+    only_if (is_home (get_or s.frame x NoObject) s.objects)
+    (came (zero_variable x s) (λ _ s. Stands u m temps frames s))
 act g t (StorePart kind line x offset a m) u temps frames s =
     only_if (is_live_at (size_of_kind kind) (part_pointer x offset (size_of_kind kind) s) s.objects)
     (moved_from kind (temps a) s.objects
-    (came (write_rvalue kind false (part_pointer x offset (size_of_kind kind) s) line (temps a) s) (λ _ s. Stands u m temps frames s)))
+    (came (write_rvalue kind false (part_pointer x offset (size_of_kind kind) s) line (temps a) s)
+    (λ _ s. Stands u m temps frames s)))
 act g t (StoreText n x offset m) u temps frames s =
     only_if (is_live_at (offset + length (text_in t n)) (home_pointer x s) s.objects)
-    (came ((tally (length (text_in t n)) >> store_bytes (home_pointer x s) offset (text_in t n)) s) (λ _ s. Stands u m temps frames s))
+    (came ((tally (length (text_in t n)) >> store_bytes (home_pointer x s) offset (text_in t n)) s)
+    (λ _ s. Stands u m temps frames s))
 act g t (Branch a x y) u temps frames s = Stands u (cond (is_zero (temps a).value) y x) temps frames s
 act g t (Case a w x y) u temps frames s = Stands u (cond ((temps a).value.word == w) x y) temps frames s
 act g t (Turn counted m) u temps frames s = Stands u m temps frames (begun s)
 act g t (Library r line d n m) u temps frames s =
     came (as_rvalue (routine g r (values_of (gathered temps d n)) line) s) (given_in u m temps d frames)
 act g t (Print x line d n m) u temps frames s =
-    came (as_rvalue (print_formatted (text_in t x) (values_of (gathered temps d n)) line) s) (given_in u m temps d frames)
+    came (as_rvalue (print_formatted (text_in t x) (values_of (gathered temps d n)) line) s)
+    (given_in u m temps d frames)
 act g t (Call f line d n m) u temps frames s =
     called g t f (gathered temps d n) line
     (Waits (record { function = u; node = m; place = d; caller = caller s; temps = temps }) ∷ frames) s

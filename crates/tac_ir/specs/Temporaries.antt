@@ -3,7 +3,13 @@ use Rattle.std.specs.Prelude.{ℕ, suc, ◌+◌, max}
 use Rattle.tac_ir.specs.declared.instruction.RightOperand.{RightOperand}
 use Rattle.tac_ir.specs.declared.instruction.RightOperand.TheVariants.{Temporary, One}
 use Rattle.tac_ir.specs.declared.instruction.Instruction.{Instruction}
-use Rattle.tac_ir.specs.declared.instruction.Instruction.TheVariants.{Reserved, Constant, FunctionPointer, GetPlain, SetPlain, UpdatePlain, HomePointer, StaticPointer, ZeroOf, Convert, Unary, Binary, Offset, Difference, Narrow, Member, Take, Read, Write, Update, Judge, Zero, StorePart, StoreText, Branch, Case, Turn, Library, Print, Call, CallThrough, EnterBlock, LeaveBlock, Return}
+use Rattle.tac_ir.specs.declared.instruction.Instruction.TheVariants.{Reserved, Constant, FunctionPointer, GetPlain}
+use Rattle.tac_ir.specs.declared.instruction.Instruction.TheVariants.{SetPlain, UpdatePlain, HomePointer, StaticPointer}
+use Rattle.tac_ir.specs.declared.instruction.Instruction.TheVariants.{ZeroOf, Convert, Unary, Binary, Offset}
+use Rattle.tac_ir.specs.declared.instruction.Instruction.TheVariants.{Difference, Narrow, Member, Take, Read, Write}
+use Rattle.tac_ir.specs.declared.instruction.Instruction.TheVariants.{Update, Judge, Zero, StorePart, StoreText, Branch}
+use Rattle.tac_ir.specs.declared.instruction.Instruction.TheVariants.{Case, Turn, Library, Print, Call, CallThrough}
+use Rattle.tac_ir.specs.declared.instruction.Instruction.TheVariants.{EnterBlock, LeaveBlock, Return}
 
 abbrev pub right_count : RightOperand → ℕ
 right_count (Temporary b) = suc b

@@ -28,7 +28,8 @@ pub fn code_that_follows_is_never_stuck()
         → run (step (setting_of_code t budgets) t) k (first_stage t budgets input) ≡ Stuck → ⊥ }
 {}
 
-/// A step from a node goes along an edge of the function's graph to another node of it, or calls a function and waits at
+/// A step from a node goes along an edge of the function's graph to another node of it, or calls a function and waits
+/// at
 /// a successor, or returns to where the last caller waits, or ends the run.
 pub fn steps_go_along_edges()
     ensures { (g : Setting) (t : Tac) (i : Instruction) (u : ℕ) (temps : Temps) (frames : List Frame) (s : State)

@@ -1,4 +1,5 @@
--- A block that is entered again has zero bytes and no tags: the pointer that was stored in it is null, and reaches nothing.
+-- A block that is entered again has zero bytes and no tags: the pointer that was stored in it is null, and reaches
+-- nothing.
 -- The text is rows/block_entered_again_is_clear.c, its tree by rows/trees.py.
 --     int z=9;int main(void){int i;for(i=0;i<2;i++){int a[2];int*q;int**r=&q;
 --     if(i==1){putchar(48+a[0]);putchar(48+(*r==0));return *q;}
@@ -16,7 +17,11 @@ use Rattle.obj_memory.specs.declared.int_type.IntType.TheVariants.{Int}
 use Rattle.obj_memory.specs.declared.operator.BinaryOperator.TheVariants.{Add, Less, Equal}
 use Rattle.sb_base.specs.Budgets.{default_sizes}
 use Rattle.source_meaning.specs.Meaning.{meaning}
-use Rattle.source_meaning_rows.proofs.Samples.{int, pointer, number, plain, decay, address, parenthesized, convert, binary, compare, assign, set_plain, step_plain, library, read, lvalue, deref, index, content, part, with_value, without_value, block_of, plain_variable, object_variable, static_object, function_type, defined, program_of, computing, seen, stopped}
+use Rattle.source_meaning_rows.proofs.Samples.{int, pointer, number, plain, decay, address, parenthesized, convert}
+use Rattle.source_meaning_rows.proofs.Samples.{binary, compare, assign, set_plain, step_plain, library, read, lvalue}
+use Rattle.source_meaning_rows.proofs.Samples.{deref, index, content, part, with_value, without_value, block_of}
+use Rattle.source_meaning_rows.proofs.Samples.{plain_variable, object_variable, static_object, function_type, defined}
+use Rattle.source_meaning_rows.proofs.Samples.{program_of, computing, seen, stopped}
 use Rattle.std.proofs.Common.{◌∷◌, [], Some, ◌≡◌, refl, true}
 use Rattle.std.specs.Prelude.{codes}
 

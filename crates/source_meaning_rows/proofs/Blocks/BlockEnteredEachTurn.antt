@@ -1,5 +1,7 @@
--- The body's block is entered anew each turn, with zero bytes and a key of its own: three keys, and with two the third entry ends
--- the run, with the line of the block's `{`. Work: the call, the body and the return 4, i 1, the statement and its first part
+-- The body's block is entered anew each turn, with zero bytes and a key of its own: three keys, and with two the third
+-- entry ends
+-- the run, with the line of the block's `{`. Work: the call, the body and the return 4, i 1, the statement and its
+-- first part
 -- 4, four conditions 12, three steps 6; each entered block 10, of which 9 place the array, and 19 for its statements.
 -- The text is rows/block_entered_each_turn.c, its tree by rows/trees.py.
 --     int main(void){int i;for(i=0;i<3;i++){int a[2];a[0]=i;putchar(65+a[0]+a[1]);}return 0;}
@@ -16,7 +18,10 @@ use Rattle.obj_memory.specs.declared.int_type.IntType.TheVariants.{Int}
 use Rattle.obj_memory.specs.declared.operator.BinaryOperator.TheVariants.{Add, Less}
 use Rattle.sb_base.specs.Budgets.{default_sizes}
 use Rattle.source_meaning.specs.Meaning.{meaning}
-use Rattle.source_meaning_rows.proofs.Samples.{int, number, plain, decay, binary, compare, assign, set_plain, step_plain, library, read, lvalue, index, without_value, block_of, plain_variable, object_variable, function_type, defined, program_of, computing, seen, counts, exited, stopped, reads, writes}
+use Rattle.source_meaning_rows.proofs.Samples.{int, number, plain, decay, binary, compare, assign, set_plain}
+use Rattle.source_meaning_rows.proofs.Samples.{step_plain, library, read, lvalue, index, without_value, block_of}
+use Rattle.source_meaning_rows.proofs.Samples.{plain_variable, object_variable, function_type, defined, program_of}
+use Rattle.source_meaning_rows.proofs.Samples.{computing, seen, counts, exited, stopped, reads, writes}
 use Rattle.std.proofs.Common.{◌∷◌, [], Some, ◌≡◌, refl, true}
 use Rattle.std.specs.Prelude.{codes}
 

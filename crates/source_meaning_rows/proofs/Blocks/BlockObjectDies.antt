@@ -1,5 +1,7 @@
--- An object dies where its block is left (C99 6.2.4 paragraph 5): the pointer to it reads it inside, and not behind. Work: the call
--- and the body 2, the plain variables 2, the block 1, x placed 5, its initializer 5, of which 4 bytes are zeroed, 5 for each of
+-- An object dies where its block is left (C99 6.2.4 paragraph 5): the pointer to it reads it inside, and not behind.
+-- Work: the call
+-- and the body 2, the plain variables 2, the block 1, x placed 5, its initializer 5, of which 4 bytes are zeroed, 5 for
+-- each of
 -- the two assignments and for the return, and the bytes of the report.
 -- The text is rows/block_object_dies.c, its tree by rows/trees.py.
 --     int main(void){int*p;int s;{int x=5;p=&x;s=*p;}return s+*p;}
@@ -12,7 +14,10 @@ use Rattle.obj_memory.specs.declared.int_type.IntType.TheVariants.{Int}
 use Rattle.obj_memory.specs.declared.operator.BinaryOperator.TheVariants.{Add}
 use Rattle.sb_base.specs.Budgets.{default_sizes}
 use Rattle.source_meaning.specs.Meaning.{meaning}
-use Rattle.source_meaning_rows.proofs.Samples.{int, pointer, number, plain, address, binary, set_plain, read, lvalue, deref, content, part, with_parts, without_value, block_of, plain_variable, object_variable, function_type, defined, program_of, computing, seen, counts, stopped, reads, writes}
+use Rattle.source_meaning_rows.proofs.Samples.{int, pointer, number, plain, address, binary, set_plain, read, lvalue}
+use Rattle.source_meaning_rows.proofs.Samples.{deref, content, part, with_parts, without_value, block_of}
+use Rattle.source_meaning_rows.proofs.Samples.{plain_variable, object_variable, function_type, defined, program_of}
+use Rattle.source_meaning_rows.proofs.Samples.{computing, seen, counts, stopped, reads, writes}
 use Rattle.std.proofs.Common.{◌∷◌, [], Some, ◌≡◌, refl, true}
 use Rattle.std.specs.Prelude.{codes}
 

@@ -1,4 +1,5 @@
--- Where a block is left the top of the object stack goes back: two blocks of the whole stack follow each other, and the second has
+-- Where a block is left the top of the object stack goes back: two blocks of the whole stack follow each other, and the
+-- second has
 -- zero bytes.
 -- The text is rows/blocks_share_the_stack.c, its tree by rows/trees.py.
 --     int main(void){{char a[4096];a[0]=65;putchar(a[0]);}{char b[4096];putchar(66+b[0]);}return 0;}
@@ -13,7 +14,9 @@ use Rattle.obj_memory.specs.declared.int_type.IntType.TheVariants.{Char, Int}
 use Rattle.obj_memory.specs.declared.operator.BinaryOperator.TheVariants.{Add}
 use Rattle.sb_base.specs.Budgets.{default_sizes}
 use Rattle.source_meaning.specs.Meaning.{meaning}
-use Rattle.source_meaning_rows.proofs.Samples.{int, integer_kind, number, decay, convert, binary, assign, library, read, lvalue, index, without_value, block_of, object_variable, function_type, defined, program_of, computing, seen, exited}
+use Rattle.source_meaning_rows.proofs.Samples.{int, integer_kind, number, decay, convert, binary, assign, library, read}
+use Rattle.source_meaning_rows.proofs.Samples.{lvalue, index, without_value, block_of, object_variable, function_type}
+use Rattle.source_meaning_rows.proofs.Samples.{defined, program_of, computing, seen, exited}
 use Rattle.std.proofs.Common.{◌∷◌, [], Some, ◌≡◌, refl, true}
 use Rattle.std.specs.Prelude.{codes}
 

@@ -15,7 +15,10 @@ use Rattle.obj_memory.specs.declared.int_type.IntType.TheVariants.{Int}
 use Rattle.obj_memory.specs.declared.operator.BinaryOperator.TheVariants.{Add, Less}
 use Rattle.sb_base.specs.Budgets.{default_sizes}
 use Rattle.source_meaning.specs.Meaning.{meaning}
-use Rattle.source_meaning_rows.proofs.Samples.{int, pointer, number, plain, address, compare, set_plain, step_plain, library, read, lvalue, deref, content, part, with_parts, without_value, block_of, plain_variable, object_variable, function_type, defined, program_of, computing, seen, stopped}
+use Rattle.source_meaning_rows.proofs.Samples.{int, pointer, number, plain, address, compare, set_plain, step_plain}
+use Rattle.source_meaning_rows.proofs.Samples.{library, read, lvalue, deref, content, part, with_parts, without_value}
+use Rattle.source_meaning_rows.proofs.Samples.{block_of, plain_variable, object_variable, function_type, defined}
+use Rattle.source_meaning_rows.proofs.Samples.{program_of, computing, seen, stopped}
 use Rattle.std.proofs.Common.{◌∷◌, [], Some, ◌≡◌, refl, true}
 use Rattle.std.specs.Prelude.{codes}
 

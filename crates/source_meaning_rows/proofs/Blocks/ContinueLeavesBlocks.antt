@@ -1,4 +1,5 @@
--- `continue` leaves both blocks that it stands in (C99 6.8.6.2): at the second turn an object of the same address is placed, and the
+-- `continue` leaves both blocks that it stands in (C99 6.8.6.2): at the second turn an object of the same address is
+-- placed, and the
 -- pointer to the first one is refused.
 -- The text is rows/continue_leaves_blocks.c, its tree by rows/trees.py.
 --     int main(void){int*p=0;int i;for(i=0;i<2;i++){int x=65+i;int*r=&x;{int y;int*q=&y;
@@ -16,7 +17,11 @@ use Rattle.obj_memory.specs.declared.int_type.IntType.TheVariants.{Int}
 use Rattle.obj_memory.specs.declared.operator.BinaryOperator.TheVariants.{Add, Less, Equal}
 use Rattle.sb_base.specs.Budgets.{default_sizes}
 use Rattle.source_meaning.specs.Meaning.{meaning}
-use Rattle.source_meaning_rows.proofs.Samples.{int, pointer, number, plain, address, parenthesized, convert, binary, compare, assign, set_plain, step_plain, library, read, lvalue, deref, content, part, with_value, with_parts, without_value, block_of, plain_variable, object_variable, function_type, defined, program_of, computing, seen, stopped}
+use Rattle.source_meaning_rows.proofs.Samples.{int, pointer, number, plain, address, parenthesized, convert, binary}
+use Rattle.source_meaning_rows.proofs.Samples.{compare, assign, set_plain, step_plain, library, read, lvalue, deref}
+use Rattle.source_meaning_rows.proofs.Samples.{content, part, with_value, with_parts, without_value, block_of}
+use Rattle.source_meaning_rows.proofs.Samples.{plain_variable, object_variable, function_type, defined, program_of}
+use Rattle.source_meaning_rows.proofs.Samples.{computing, seen, stopped}
 use Rattle.std.proofs.Common.{◌∷◌, [], Some, ◌≡◌, refl, true}
 use Rattle.std.specs.Prelude.{codes}
 

@@ -14,7 +14,9 @@ use Rattle.c_tree.specs.declared.expression.Routine.TheVariants.{Putchar}
 use Rattle.obj_memory.specs.declared.int_type.IntType.TheVariants.{Int}
 use Rattle.sb_base.specs.Budgets.{default_sizes}
 use Rattle.source_meaning.specs.Meaning.{meaning}
-use Rattle.source_meaning_rows.proofs.Samples.{int, pointer, number, plain, address, assign, library, lvalue, deref, with_value, without_value, block_of, plain_variable, object_variable, function_type, defined, program_of, computing, seen, exited, stopped}
+use Rattle.source_meaning_rows.proofs.Samples.{int, pointer, number, plain, address, assign, library, lvalue, deref}
+use Rattle.source_meaning_rows.proofs.Samples.{with_value, without_value, block_of, plain_variable, object_variable}
+use Rattle.source_meaning_rows.proofs.Samples.{function_type, defined, program_of, computing, seen, exited, stopped}
 use Rattle.std.proofs.Common.{◌∷◌, [], Some, ◌≡◌, refl, true}
 use Rattle.std.specs.Prelude.{codes}
 

@@ -6,7 +6,10 @@ use Rattle.c_tree.specs.Tree as tree
 use Rattle.c_tree.specs.ValidProgram.{is_valid_program}
 use Rattle.sb_base.specs.Budgets.{default_sizes}
 use Rattle.source_meaning.specs.Meaning.{meaning}
-use Rattle.source_meaning_rows.proofs.Samples.{address, block_of, computing, content, deref, stopped, int, lvalue, main_alone, none, number, object_variable, one, part, plain, plain_variable, pointer, read, seen, set_plain, two, with_parts, without_value}
+use Rattle.source_meaning_rows.proofs.Samples.{address, block_of, computing, content, deref, stopped, int, lvalue}
+use Rattle.source_meaning_rows.proofs.Samples.{main_alone, none, number, object_variable, one, part, plain}
+use Rattle.source_meaning_rows.proofs.Samples.{plain_variable, pointer, read, seen, set_plain, two, with_parts}
+use Rattle.source_meaning_rows.proofs.Samples.{without_value}
 use Rattle.std.specs.Prelude.{codes}
 use Rattle.std.proofs.Common.{Some, [], refl, true, ◌≡◌, ◌∷◌}
 

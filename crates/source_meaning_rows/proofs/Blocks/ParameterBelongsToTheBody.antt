@@ -10,7 +10,10 @@ use Rattle.obj_memory.specs.declared.int_type.IntType.TheVariants.{Int}
 use Rattle.obj_memory.specs.declared.operator.BinaryOperator.TheVariants.{Add}
 use Rattle.sb_base.specs.Budgets.{default_sizes}
 use Rattle.source_meaning.specs.Meaning.{meaning}
-use Rattle.source_meaning_rows.proofs.Samples.{int, pointer, number, plain, address, binary, assign, call, read, lvalue, deref, content, part, with_value, with_parts, block_of, plain_variable, object_variable, function_type, defined, program_of, computing, seen, exited}
+use Rattle.source_meaning_rows.proofs.Samples.{int, pointer, number, plain, address, binary, assign, call, read, lvalue}
+use Rattle.source_meaning_rows.proofs.Samples.{deref, content, part, with_value, with_parts, block_of, plain_variable}
+use Rattle.source_meaning_rows.proofs.Samples.{object_variable, function_type, defined, program_of, computing, seen}
+use Rattle.source_meaning_rows.proofs.Samples.{exited}
 use Rattle.std.proofs.Common.{◌∷◌, [], Some, ◌≡◌, refl, true}
 
 function_f : Function

@@ -1,5 +1,7 @@
--- The value of a `return` is found before the blocks are left, and the top of the object stack goes back: the second call places its
--- objects where the first did. Work: the call of main, its body, the return and the sum 4; for each call 3, the plain variables 2, x
+-- The value of a `return` is found before the blocks are left, and the top of the object stack goes back: the second
+-- call places its
+-- objects where the first did. Work: the call of main, its body, the return and the sum 4; for each call 3, the plain
+-- variables 2, x
 -- and y placed 5 each and their initializers 5 each, those of the pointers 2 each, the block 1, the return 6.
 -- The text is rows/return_finds_its_value_first.c, its tree by rows/trees.py.
 --     int f(void){int x=1;int*p=&x;{int y=2;int*q=&y;return *p+*q;}}int main(void){return f()+f();}
@@ -12,7 +14,10 @@ use Rattle.obj_memory.specs.declared.int_type.IntType.TheVariants.{Int}
 use Rattle.obj_memory.specs.declared.operator.BinaryOperator.TheVariants.{Add}
 use Rattle.sb_base.specs.Budgets.{default_sizes}
 use Rattle.source_meaning.specs.Meaning.{meaning}
-use Rattle.source_meaning_rows.proofs.Samples.{int, pointer, number, plain, address, binary, call, read, lvalue, deref, content, part, with_value, with_parts, block_of, plain_variable, object_variable, function_type, defined, program_of, computing, seen, counts, exited, reads, writes}
+use Rattle.source_meaning_rows.proofs.Samples.{int, pointer, number, plain, address, binary, call, read, lvalue, deref}
+use Rattle.source_meaning_rows.proofs.Samples.{content, part, with_value, with_parts, block_of, plain_variable}
+use Rattle.source_meaning_rows.proofs.Samples.{object_variable, function_type, defined, program_of, computing, seen}
+use Rattle.source_meaning_rows.proofs.Samples.{counts, exited, reads, writes}
 use Rattle.std.proofs.Common.{◌∷◌, [], Some, ◌≡◌, refl, true}
 
 function_f : Function

@@ -7,12 +7,16 @@ use Rattle.c_tree.specs.Programs.{Function, Program}
 use Rattle.c_tree.specs.Statements.{expression_statement, declaration, if_then, return}
 use Rattle.c_tree.specs.Tree.{automatic}
 use Rattle.c_tree.specs.ValidProgram.{is_valid_program}
-use Rattle.c_tree.specs.declared.c_type.TypeWord.TheVariants.{Takes, Gives, Integer as IntegerWord, Pointer as PointerWord}
+use Rattle.c_tree.specs.declared.c_type.TypeWord.TheVariants.{Takes, Gives, Integer as IntegerWord}
+use Rattle.c_tree.specs.declared.c_type.TypeWord.TheVariants.{Pointer as PointerWord}
 use Rattle.c_tree.specs.declared.expression.Routine.TheVariants.{Putchar}
 use Rattle.obj_memory.specs.declared.int_type.IntType.TheVariants.{Int}
 use Rattle.sb_base.specs.Budgets.{default_sizes}
 use Rattle.source_meaning.specs.Meaning.{meaning}
-use Rattle.source_meaning_rows.proofs.Samples.{int, pointer, number, plain, address, set_plain, call, library, read, lvalue, deref, content, part, with_value, with_parts, block_of, plain_variable, object_variable, function_type, defined, program_of, computing, seen, stopped}
+use Rattle.source_meaning_rows.proofs.Samples.{int, pointer, number, plain, address, set_plain, call, library, read}
+use Rattle.source_meaning_rows.proofs.Samples.{lvalue, deref, content, part, with_value, with_parts, block_of}
+use Rattle.source_meaning_rows.proofs.Samples.{plain_variable, object_variable, function_type, defined, program_of}
+use Rattle.source_meaning_rows.proofs.Samples.{computing, seen, stopped}
 use Rattle.std.proofs.Common.{◌∷◌, [], Some, ◌≡◌, refl, true}
 use Rattle.std.specs.Prelude.{codes}
 

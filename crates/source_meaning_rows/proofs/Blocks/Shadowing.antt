@@ -1,5 +1,6 @@
 -- The text is rows/shadowing.c; gcc 12.2.0 gives the same output and status.
---     int x=1;int f(int x){{int x=5;x++;putchar(48+x);}x++;putchar(48+x);return x;}int main(void){int y=x;{int x=y+1;y=f(x);}for(int y=7;y<8;y++)putchar(48+y);return x*10+y;}
+--     int x=1;int f(int x){{int x=5;x++;putchar(48+x);}x++;putchar(48+x);return x;}int main(void){int y=x;{int
+-- x=y+1;y=f(x);}for(int y=7;y<8;y++)putchar(48+y);return x*10+y;}
 use Rattle.c_tree.specs.Programs.{Program, Function}
 use Rattle.c_tree.specs.Statements.{Statement, expression_statement, declaration, for, return, first_declaration}
 use Rattle.c_tree.specs.Tree as tree
@@ -12,7 +13,10 @@ use Rattle.obj_memory.specs.declared.int_type.IntType.TheVariants.{Int}
 use Rattle.obj_memory.specs.declared.operator.BinaryOperator.TheVariants.{Add, Less, Multiply}
 use Rattle.sb_base.specs.Budgets.{default_sizes}
 use Rattle.source_meaning.specs.Meaning.{meaning}
-use Rattle.source_meaning_rows.proofs.Samples.{binary, block_of, call, compare, computing, content, defined, exited, four, function_type, int, library, lvalue, main_type, none, number, one, part, plain, plain_variable, program_of, read, seen, set_plain, static_object, step_plain, three, two, with_value}
+use Rattle.source_meaning_rows.proofs.Samples.{binary, block_of, call, compare, computing, content, defined, exited}
+use Rattle.source_meaning_rows.proofs.Samples.{four, function_type, int, library, lvalue, main_type, none, number, one}
+use Rattle.source_meaning_rows.proofs.Samples.{part, plain, plain_variable, program_of, read, seen, set_plain}
+use Rattle.source_meaning_rows.proofs.Samples.{static_object, step_plain, three, two, with_value}
 use Rattle.std.proofs.Common.{Some, [], refl, true, ◌∷◌, ◌≡◌}
 use Rattle.std.specs.Prelude.{codes}
 
@@ -52,7 +56,8 @@ function_main = defined 1 0 none
     (declaration (one (with_value 0 (read (lvalue 1 int (tree.static 0))))))
     statement_2
     statement_3
-    (return (Some (binary 1 Add (binary 1 Multiply (read (lvalue 1 int (tree.static 0))) (number 1 10)) (plain 1 int 0)))))
+    (return (Some (binary 1 Add (binary 1 Multiply (read (lvalue 1 int (tree.static 0))) (number 1 10))
+    (plain 1 int 0)))))
 
 program : Program
 program = program_of

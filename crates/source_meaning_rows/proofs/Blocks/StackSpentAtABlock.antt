@@ -13,7 +13,9 @@ use Rattle.c_tree.specs.declared.expression.Routine.TheVariants.{Putchar}
 use Rattle.obj_memory.specs.declared.int_type.IntType.TheVariants.{Char, Int}
 use Rattle.sb_base.specs.Budgets.{default_sizes}
 use Rattle.source_meaning.specs.Meaning.{meaning}
-use Rattle.source_meaning_rows.proofs.Samples.{int, integer_kind, number, decay, convert, assign, library, lvalue, index, without_value, block_of, object_variable, function_type, defined, program_of, computing, seen, exited, stopped}
+use Rattle.source_meaning_rows.proofs.Samples.{int, integer_kind, number, decay, convert, assign, library, lvalue}
+use Rattle.source_meaning_rows.proofs.Samples.{index, without_value, block_of, object_variable, function_type, defined}
+use Rattle.source_meaning_rows.proofs.Samples.{program_of, computing, seen, exited, stopped}
 use Rattle.std.proofs.Common.{◌∷◌, [], Some, ◌≡◌, refl, true}
 use Rattle.std.specs.Prelude.{codes}
 

@@ -13,7 +13,9 @@ use Rattle.c_tree.specs.declared.expression.Routine.TheVariants.{Putchar}
 use Rattle.obj_memory.specs.declared.int_type.IntType.TheVariants.{Int}
 use Rattle.sb_base.specs.Budgets.{default_sizes}
 use Rattle.source_meaning.specs.Meaning.{meaning}
-use Rattle.source_meaning_rows.proofs.Samples.{int, number, decay, assign, library, lvalue, index, without_value, block_of, object_variable, function_type, defined, program_of, computing, seen, exited, stopped}
+use Rattle.source_meaning_rows.proofs.Samples.{int, number, decay, assign, library, lvalue, index, without_value}
+use Rattle.source_meaning_rows.proofs.Samples.{block_of, object_variable, function_type, defined, program_of, computing}
+use Rattle.source_meaning_rows.proofs.Samples.{seen, exited, stopped}
 use Rattle.std.proofs.Common.{◌∷◌, [], Some, None, ◌≡◌, refl, true}
 use Rattle.std.specs.Prelude.{codes}
 

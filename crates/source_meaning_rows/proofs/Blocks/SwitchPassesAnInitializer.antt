@@ -1,4 +1,5 @@
--- The block of a switch is entered behind its value, and an initializer that is jumped over does nothing (C99 6.8.4.2 paragraph 7):
+-- The block of a switch is entered behind its value, and an initializer that is jumped over does nothing (C99 6.8.4.2
+-- paragraph 7):
 -- the object has zero bytes, and is dead behind the switch.
 -- The text is rows/switch_passes_an_initializer.c, its tree by rows/trees.py.
 --     int main(void){int*p;switch(2){int x=5;case 1:x=6;
@@ -15,7 +16,10 @@ use Rattle.obj_memory.specs.declared.int_type.IntType.TheVariants.{Int}
 use Rattle.obj_memory.specs.declared.operator.BinaryOperator.TheVariants.{Add}
 use Rattle.sb_base.specs.Budgets.{default_sizes}
 use Rattle.source_meaning.specs.Meaning.{meaning}
-use Rattle.source_meaning_rows.proofs.Samples.{int, pointer, number, plain, address, binary, assign, set_plain, library, read, lvalue, deref, content, part, with_parts, without_value, item, switch_of, plain_variable, object_variable, function_type, defined, program_of, computing, seen, stopped}
+use Rattle.source_meaning_rows.proofs.Samples.{int, pointer, number, plain, address, binary, assign, set_plain, library}
+use Rattle.source_meaning_rows.proofs.Samples.{read, lvalue, deref, content, part, with_parts, without_value, item}
+use Rattle.source_meaning_rows.proofs.Samples.{switch_of, plain_variable, object_variable, function_type, defined}
+use Rattle.source_meaning_rows.proofs.Samples.{program_of, computing, seen, stopped}
 use Rattle.std.proofs.Common.{◌∷◌, [], Some, ◌≡◌, refl, true}
 use Rattle.std.specs.Prelude.{codes}
 

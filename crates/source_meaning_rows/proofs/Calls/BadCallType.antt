@@ -8,7 +8,9 @@ use Rattle.c_tree.specs.declared.expression.Kind.TheVariants.{Void}
 use Rattle.obj_memory.specs.declared.int_type.IntType.TheVariants.{Int}
 use Rattle.sb_base.specs.Budgets.{default_sizes}
 use Rattle.source_meaning.specs.Meaning.{meaning}
-use Rattle.source_meaning_rows.proofs.Samples.{call_through, cast, computing, defined, function, function_type, int, main_type, none, number, one, plain, plain_variable, pointer, program_of, seen, stopped, three, two, with_value}
+use Rattle.source_meaning_rows.proofs.Samples.{call_through, cast, computing, defined, function, function_type, int}
+use Rattle.source_meaning_rows.proofs.Samples.{main_type, none, number, one, plain, plain_variable, pointer, program_of}
+use Rattle.source_meaning_rows.proofs.Samples.{seen, stopped, three, two, with_value}
 use Rattle.std.proofs.Common.{Some, [], refl, true, ◌∷◌, ◌≡◌}
 use Rattle.std.specs.Prelude.{codes}
 

@@ -11,12 +11,16 @@ use Rattle.c_tree.specs.declared.expression.Routine.TheVariants.{Putchar}
 use Rattle.obj_memory.specs.declared.int_type.IntType.TheVariants.{Int}
 use Rattle.sb_base.specs.Budgets.{default_sizes}
 use Rattle.source_meaning.specs.Meaning.{meaning}
-use Rattle.source_meaning_rows.proofs.Samples.{call_through, cast, computing, defined, function, function_type, int, library, main_type, none, number, object_variable, one, plain, plain_variable, pointer, program_of, seen, stopped, three, two, with_value, without_value}
+use Rattle.source_meaning_rows.proofs.Samples.{call_through, cast, computing, defined, function, function_type, int}
+use Rattle.source_meaning_rows.proofs.Samples.{library, main_type, none, number, object_variable, one, plain}
+use Rattle.source_meaning_rows.proofs.Samples.{plain_variable, pointer, program_of, seen, stopped, three, two}
+use Rattle.source_meaning_rows.proofs.Samples.{with_value, without_value}
 use Rattle.std.proofs.Common.{Some, [], refl, true, ◌∷◌, ◌≡◌}
 use Rattle.std.specs.Prelude.{codes}
 
 function_f : Function
-function_f = defined 1 1 (one (plain_variable int)) (one (object_variable (Array 8000))) 280 ((declaration (without_value 1 ∷ []))
+function_f = defined 1 1 (one (plain_variable int)) (one (object_variable (Array 8000))) 280
+    ((declaration (without_value 1 ∷ []))
     ∷ (return (Some (plain 1 int 0)))
     ∷ [])
 

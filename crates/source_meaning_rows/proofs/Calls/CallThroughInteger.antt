@@ -7,7 +7,9 @@ use Rattle.c_tree.specs.ValidProgram.{is_valid_program}
 use Rattle.obj_memory.specs.declared.int_type.IntType.TheVariants.{Long}
 use Rattle.sb_base.specs.Budgets.{default_sizes}
 use Rattle.source_meaning.specs.Meaning.{meaning}
-use Rattle.source_meaning_rows.proofs.Samples.{call_through, cast, computing, defined, function, int, integer_kind, main_type, none, number, one, plain, plain_variable, pointer, program_of, seen, stopped, two, with_value}
+use Rattle.source_meaning_rows.proofs.Samples.{call_through, cast, computing, defined, function, int, integer_kind}
+use Rattle.source_meaning_rows.proofs.Samples.{main_type, none, number, one, plain, plain_variable, pointer, program_of}
+use Rattle.source_meaning_rows.proofs.Samples.{seen, stopped, two, with_value}
 use Rattle.std.proofs.Common.{Some, [], refl, true, ◌≡◌}
 use Rattle.std.specs.Prelude.{codes}
 

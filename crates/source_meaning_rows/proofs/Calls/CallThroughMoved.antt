@@ -1,5 +1,6 @@
 -- A function tag is good at the address of its own function alone. The text is rows/call_through_moved.c.
---     int f(void){return 1;}int g(void){return 2;}int main(void){int(*h)(void)=(int(*)(void))((char*)f+16);putchar(48+((long)h==(long)g));return h();}
+--     int f(void){return 1;}int g(void){return 2;}int
+-- main(void){int(*h)(void)=(int(*)(void))((char*)f+16);putchar(48+((long)h==(long)g));return h();}
 use Rattle.c_tree.specs.Programs.{Program, Function}
 use Rattle.c_tree.specs.Statements.{Statement, expression_statement, declaration, return}
 use Rattle.c_tree.specs.ValidProgram.{is_valid_program}
@@ -9,7 +10,10 @@ use Rattle.obj_memory.specs.declared.int_type.IntType.TheVariants.{Long}
 use Rattle.obj_memory.specs.declared.operator.BinaryOperator.TheVariants.{Add, Equal}
 use Rattle.sb_base.specs.Budgets.{default_sizes}
 use Rattle.source_meaning.specs.Meaning.{meaning}
-use Rattle.source_meaning_rows.proofs.Samples.{binary, call_through, cast, compare, computing, defined, function, int, integer_kind, library, main_type, none, number, offset, one, parenthesized, plain, plain_variable, pointer, program_of, seen, stopped, three, with_value}
+use Rattle.source_meaning_rows.proofs.Samples.{binary, call_through, cast, compare, computing, defined, function, int}
+use Rattle.source_meaning_rows.proofs.Samples.{integer_kind, library, main_type, none, number, offset, one}
+use Rattle.source_meaning_rows.proofs.Samples.{parenthesized, plain, plain_variable, pointer, program_of, seen, stopped}
+use Rattle.source_meaning_rows.proofs.Samples.{three, with_value}
 use Rattle.std.proofs.Common.{Some, [], refl, true, ◌≡◌}
 use Rattle.std.specs.Prelude.{codes}
 
@@ -20,10 +24,16 @@ function_g : Function
 function_g = defined 1 0 none none 168 (one (return (Some (number 1 2))))
 
 statement_1 : Statement
-statement_1 = declaration (one (with_value 0 (cast 1 pointer (parenthesized (offset 1 PointerPlusIndex 1 (cast 1 pointer (function 1 0)) (number 1 16))))))
+statement_1 = declaration
+    (one (with_value 0 (cast 1 pointer
+    (parenthesized (offset 1 PointerPlusIndex 1 (cast 1 pointer (function 1 0)) (number 1 16))))))
 
 statement_2 : Statement
-statement_2 = expression_statement (library 1 int Putchar (one (binary 1 Add (number 1 48) (parenthesized (compare 1 Equal (cast 1 (integer_kind Long) (plain 1 pointer 0)) (cast 1 (integer_kind Long) (function 1 1)))))))
+statement_2 = expression_statement
+    (library 1 int Putchar
+    (one (binary 1 Add (number 1 48)
+    (parenthesized (compare 1 Equal (cast 1 (integer_kind Long) (plain 1 pointer 0))
+    (cast 1 (integer_kind Long) (function 1 1)))))))
 
 function_main : Function
 function_main = defined 1 0 none

@@ -8,7 +8,9 @@ use Rattle.c_tree.specs.declared.expression.Routine.TheVariants.{Putchar}
 use Rattle.obj_memory.specs.declared.int_type.IntType.TheVariants.{Int}
 use Rattle.sb_base.specs.Budgets.{default_sizes}
 use Rattle.source_meaning.specs.Meaning.{meaning}
-use Rattle.source_meaning_rows.proofs.Samples.{call_through, computing, convert, defined, function_type, int, library, main_type, none, number, one, plain, plain_variable, pointer, program_of, seen, stopped, two, with_value}
+use Rattle.source_meaning_rows.proofs.Samples.{call_through, computing, convert, defined, function_type, int, library}
+use Rattle.source_meaning_rows.proofs.Samples.{main_type, none, number, one, plain, plain_variable, pointer, program_of}
+use Rattle.source_meaning_rows.proofs.Samples.{seen, stopped, two, with_value}
 use Rattle.std.proofs.Common.{Some, [], refl, true, ◌∷◌, ◌≡◌}
 use Rattle.std.specs.Prelude.{codes}
 

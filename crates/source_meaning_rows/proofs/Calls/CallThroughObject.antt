@@ -6,7 +6,9 @@ use Rattle.c_tree.specs.Tree as tree
 use Rattle.c_tree.specs.ValidProgram.{is_valid_program}
 use Rattle.sb_base.specs.Budgets.{default_sizes}
 use Rattle.source_meaning.specs.Meaning.{meaning}
-use Rattle.source_meaning_rows.proofs.Samples.{address, call_through, cast, computing, int, lvalue, main_alone, none, one, plain, plain_variable, pointer, seen, static_object, stopped, two, with_value}
+use Rattle.source_meaning_rows.proofs.Samples.{address, call_through, cast, computing, int, lvalue, main_alone, none}
+use Rattle.source_meaning_rows.proofs.Samples.{one, plain, plain_variable, pointer, seen, static_object, stopped, two}
+use Rattle.source_meaning_rows.proofs.Samples.{with_value}
 use Rattle.std.proofs.Common.{Some, [], refl, true, ◌≡◌}
 use Rattle.std.specs.Prelude.{codes}
 

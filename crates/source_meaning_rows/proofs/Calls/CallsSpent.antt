@@ -10,7 +10,9 @@ use Rattle.obj_memory.specs.declared.int_type.IntType.TheVariants.{Int}
 use Rattle.obj_memory.specs.declared.operator.BinaryOperator.TheVariants.{Add}
 use Rattle.sb_base.specs.Budgets.{default_sizes}
 use Rattle.source_meaning.specs.Meaning.{meaning}
-use Rattle.source_meaning_rows.proofs.Samples.{binary, call, computing, counts, defined, function_type, int, library, main_type, none, number, one, plain, plain_variable, program_of, seen, stopped, two}
+use Rattle.source_meaning_rows.proofs.Samples.{binary, call, computing, counts, defined, function_type, int, library}
+use Rattle.source_meaning_rows.proofs.Samples.{main_type, none, number, one, plain, plain_variable, program_of, seen}
+use Rattle.source_meaning_rows.proofs.Samples.{stopped, two}
 use Rattle.std.proofs.Common.{Some, [], refl, true, ◌∷◌, ◌≡◌}
 use Rattle.std.specs.Prelude.{codes}
 

@@ -13,7 +13,10 @@ use Rattle.obj_memory.specs.declared.int_type.IntType.TheVariants.{Int}
 use Rattle.obj_memory.specs.declared.operator.BinaryOperator.TheVariants.{Add, Less}
 use Rattle.sb_base.specs.Budgets.{default_sizes}
 use Rattle.source_meaning.specs.Meaning.{meaning}
-use Rattle.source_meaning_rows.proofs.Samples.{assign, call, compare, computing, decay, defined, function_type, index, int, library, lvalue, main_type, none, number, object_variable, one, plain, plain_variable, program_of, read, seen, set_plain, step_plain, stopped, three, two, without_value}
+use Rattle.source_meaning_rows.proofs.Samples.{assign, call, compare, computing, decay, defined, function_type, index}
+use Rattle.source_meaning_rows.proofs.Samples.{int, library, lvalue, main_type, none, number, object_variable, one}
+use Rattle.source_meaning_rows.proofs.Samples.{plain, plain_variable, program_of, read, seen, set_plain, step_plain}
+use Rattle.source_meaning_rows.proofs.Samples.{stopped, three, two, without_value}
 use Rattle.std.proofs.Common.{Some, [], refl, true, ◌∷◌, ◌≡◌}
 use Rattle.std.specs.Prelude.{codes}
 
@@ -23,7 +26,8 @@ function_f = defined 1 1
     (one (object_variable (Array 4)))
     320
     ((declaration (without_value 1 ∷ []))
-    ∷ (expression_statement (assign 1 (index 1 int (decay (lvalue 1 (Array 4) (tree.automatic 1))) (number 1 0)) (plain 1 int 0)))
+    ∷ (expression_statement
+    (assign 1 (index 1 int (decay (lvalue 1 (Array 4) (tree.automatic 1))) (number 1 0)) (plain 1 int 0)))
     ∷ (expression_statement (library 1 int Putchar (one (number 1 46))))
     ∷ (return (Some (read (index 1 int (decay (lvalue 1 (Array 4) (tree.automatic 1))) (number 1 0)))))
     ∷ [])

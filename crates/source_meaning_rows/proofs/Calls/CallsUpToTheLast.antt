@@ -10,7 +10,9 @@ use Rattle.obj_memory.specs.declared.int_type.IntType.TheVariants.{Int}
 use Rattle.obj_memory.specs.declared.operator.BinaryOperator.TheVariants.{Add, Greater, Subtract}
 use Rattle.sb_base.specs.Budgets.{default_sizes}
 use Rattle.source_meaning.specs.Meaning.{meaning}
-use Rattle.source_meaning_rows.proofs.Samples.{binary, call, compare, computing, defined, exited, function_type, int, library, main_type, none, number, one, plain, plain_variable, program_of, seen, three, two}
+use Rattle.source_meaning_rows.proofs.Samples.{binary, call, compare, computing, defined, exited, function_type, int}
+use Rattle.source_meaning_rows.proofs.Samples.{library, main_type, none, number, one, plain, plain_variable, program_of}
+use Rattle.source_meaning_rows.proofs.Samples.{seen, three, two}
 use Rattle.std.proofs.Common.{None, Some, [], refl, true, ◌∷◌, ◌≡◌}
 use Rattle.std.specs.Prelude.{codes}
 
@@ -27,7 +29,8 @@ function_f = defined 1 1
     (three (expression_statement (library 1 int Putchar (one (number 1 46)))) statement_1 (return (Some (number 1 7))))
 
 function_main : Function
-function_main = defined 1 0 none none 208 (one (return (Some (binary 1 Add (call 1 int 0 (one (number 1 13))) (call 1 int 0 (one (number 1 13)))))))
+function_main = defined 1 0 none none 208
+    (one (return (Some (binary 1 Add (call 1 int 0 (one (number 1 13))) (call 1 int 0 (one (number 1 13)))))))
 
 program : Program
 program = program_of none
@@ -35,7 +38,8 @@ program = program_of none
     (two function_f function_main)
     1
 
-run : seen (meaning program (record default_sizes { calls = 4096 }) [] 40) ≡ exited (codes "..........................") 14
+run : seen (meaning program (record default_sizes { calls = 4096 }) [] 40)
+    ≡ exited (codes "..........................") 14
 unfolding program function_f function_main statement_1 computing
 run = refl
 

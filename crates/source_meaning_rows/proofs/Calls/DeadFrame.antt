@@ -10,7 +10,9 @@ use Rattle.c_tree.specs.declared.c_type.TypeWord.TheVariants.{Gives, Integer as 
 use Rattle.obj_memory.specs.declared.int_type.IntType.TheVariants.{Int}
 use Rattle.sb_base.specs.Budgets.{default_sizes}
 use Rattle.source_meaning.specs.Meaning.{meaning}
-use Rattle.source_meaning_rows.proofs.Samples.{address, call, computing, content, counts, defined, deref, function_type, int, lvalue, main_type, none, number, object_variable, one, part, pointer, program_of, read, seen, stopped, two, with_parts, writes}
+use Rattle.source_meaning_rows.proofs.Samples.{address, call, computing, content, counts, defined, deref, function_type}
+use Rattle.source_meaning_rows.proofs.Samples.{int, lvalue, main_type, none, number, object_variable, one, part}
+use Rattle.source_meaning_rows.proofs.Samples.{pointer, program_of, read, seen, stopped, two, with_parts, writes}
 use Rattle.std.proofs.Common.{Some, [], refl, true, ◌∷◌, ◌≡◌}
 use Rattle.std.specs.Prelude.{codes}
 
@@ -35,7 +37,8 @@ run : seen (meaning program default_sizes [] 20) ≡ stopped [] (codes "sbcets: 
 unfolding program function_f function_main computing
 run = refl
 
-counted : counts (meaning program default_sizes [] 20) ≡ record { turns = 2; work = 57; accesses = writes 0x10000000 4 ∷ [] }
+counted : counts (meaning program default_sizes [] 20)
+    ≡ record { turns = 2; work = 57; accesses = writes 0x10000000 4 ∷ [] }
 unfolding program function_f function_main computing
 counted = refl
 

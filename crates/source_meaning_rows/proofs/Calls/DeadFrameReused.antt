@@ -1,5 +1,6 @@
 -- The place is used again by another call, whose object is another one. The text is rows/dead_frame_reused.c.
---     int*g;int f(int n){int x=n;g=&x;return x;}int h(int n){int y=n;int*p=&y;putchar(48+(p==g));return *p;}int main(void){f(3);putchar(48+h(4));return *g;}
+--     int*g;int f(int n){int x=n;g=&x;return x;}int h(int n){int y=n;int*p=&y;putchar(48+(p==g));return *p;}int
+-- main(void){f(3);putchar(48+h(4));return *g;}
 use Rattle.c_tree.specs.Programs.{Program, Function}
 use Rattle.c_tree.specs.Statements.{Statement, expression_statement, declaration, return}
 use Rattle.c_tree.specs.Tree as tree
@@ -10,7 +11,11 @@ use Rattle.obj_memory.specs.declared.int_type.IntType.TheVariants.{Int}
 use Rattle.obj_memory.specs.declared.operator.BinaryOperator.TheVariants.{Add, Equal}
 use Rattle.sb_base.specs.Budgets.{default_sizes}
 use Rattle.source_meaning.specs.Meaning.{meaning}
-use Rattle.source_meaning_rows.proofs.Samples.{address, assign, binary, call, compare, computing, content, defined, deref, four, function_type, int, library, lvalue, main_type, none, number, object_variable, one, parenthesized, part, plain, plain_variable, pointer, program_of, read, seen, static_object, stopped, three, two, with_parts, with_value}
+use Rattle.source_meaning_rows.proofs.Samples.{address, assign, binary, call, compare, computing, content, defined}
+use Rattle.source_meaning_rows.proofs.Samples.{deref, four, function_type, int, library, lvalue, main_type, none}
+use Rattle.source_meaning_rows.proofs.Samples.{number, object_variable, one, parenthesized, part, plain, plain_variable}
+use Rattle.source_meaning_rows.proofs.Samples.{pointer, program_of, read, seen, static_object, stopped, three, two}
+use Rattle.source_meaning_rows.proofs.Samples.{with_parts, with_value}
 use Rattle.std.proofs.Common.{Some, [], refl, true, ◌∷◌, ◌≡◌}
 use Rattle.std.specs.Prelude.{codes}
 
@@ -25,7 +30,10 @@ function_f = defined 1 1
     (return (Some (read (lvalue 1 int (tree.automatic 1))))))
 
 statement_1 : Statement
-statement_1 = expression_statement (library 1 int Putchar (one (binary 1 Add (number 1 48) (parenthesized (compare 1 Equal (plain 1 pointer 2) (read (lvalue 1 pointer (tree.static 0))))))))
+statement_1 = expression_statement
+    (library 1 int Putchar
+    (one (binary 1 Add (number 1 48)
+    (parenthesized (compare 1 Equal (plain 1 pointer 2) (read (lvalue 1 pointer (tree.static 0))))))))
 
 function_h : Function
 function_h = defined 1 1
@@ -51,7 +59,8 @@ program = program_of
     (three function_f function_h function_main)
     2
 
-run : seen (meaning program default_sizes [] 20) ≡ stopped (codes "14") (codes "sbcets: temporal violation at line 1\n") 121
+run : seen (meaning program default_sizes [] 20)
+    ≡ stopped (codes "14") (codes "sbcets: temporal violation at line 1\n") 121
 unfolding program function_f function_h function_main statement_1 computing
 run = refl
 

@@ -7,7 +7,8 @@ use Rattle.c_tree.specs.declared.c_type.TypeWord.TheVariants.{Gives, Integer as 
 use Rattle.obj_memory.specs.declared.int_type.IntType.TheVariants.{Int}
 use Rattle.sb_base.specs.Budgets.{default_sizes}
 use Rattle.source_meaning.specs.Meaning.{meaning}
-use Rattle.source_meaning_rows.proofs.Samples.{call, computing, defined, function_type, int, main_type, none, number, one, plain, plain_variable, program_of, running, seen, two}
+use Rattle.source_meaning_rows.proofs.Samples.{call, computing, defined, function_type, int, main_type, none, number}
+use Rattle.source_meaning_rows.proofs.Samples.{one, plain, plain_variable, program_of, running, seen, two}
 use Rattle.std.proofs.Common.{Some, [], refl, true, ◌∷◌, ◌≡◌}
 
 function_f : Function

@@ -9,7 +9,9 @@ use Rattle.obj_memory.specs.declared.int_type.IntType.TheVariants.{Int}
 use Rattle.obj_memory.specs.declared.operator.BinaryOperator.TheVariants.{Add, Less, Subtract}
 use Rattle.sb_base.specs.Budgets.{default_sizes}
 use Rattle.source_meaning.specs.Meaning.{meaning}
-use Rattle.source_meaning_rows.proofs.Samples.{binary, call, compare, computing, counts, defined, exited, function_type, int, main_type, none, number, one, plain, plain_variable, program_of, seen, two}
+use Rattle.source_meaning_rows.proofs.Samples.{binary, call, compare, computing, counts, defined, exited, function_type}
+use Rattle.source_meaning_rows.proofs.Samples.{int, main_type, none, number, one, plain, plain_variable, program_of}
+use Rattle.source_meaning_rows.proofs.Samples.{seen, two}
 use Rattle.std.proofs.Common.{None, Some, [], refl, true, ◌∷◌, ◌≡◌}
 
 statement_1 : Statement

@@ -7,11 +7,13 @@ use Rattle.obj_memory.specs.declared.int_type.IntType.TheVariants.{Long}
 use Rattle.obj_memory.specs.declared.operator.BinaryOperator.TheVariants.{ShiftRight}
 use Rattle.sb_base.specs.Budgets.{default_sizes}
 use Rattle.source_meaning.specs.Meaning.{meaning}
-use Rattle.source_meaning_rows.proofs.Samples.{binary, cast, computing, convert, counts, exited, function, int, integer_kind, main_alone, none, number, one, seen}
+use Rattle.source_meaning_rows.proofs.Samples.{binary, cast, computing, convert, counts, exited, function, int}
+use Rattle.source_meaning_rows.proofs.Samples.{integer_kind, main_alone, none, number, one, seen}
 use Rattle.std.proofs.Common.{Some, [], refl, true, ◌≡◌}
 
 program : Program
-program = main_alone none none 208 (one (return (Some (convert int (binary 1 ShiftRight (cast 1 (integer_kind Long) (function 1 0)) (number 1 16))))))
+program = main_alone none none 208
+    (one (return (Some (convert int (binary 1 ShiftRight (cast 1 (integer_kind Long) (function 1 0)) (number 1 16))))))
 
 run : seen (meaning program default_sizes [] 20) ≡ exited [] 1
 unfolding program computing

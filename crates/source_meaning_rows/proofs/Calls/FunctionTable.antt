@@ -9,7 +9,9 @@ use Rattle.c_tree.specs.declared.expression.Kind.TheVariants.{Array}
 use Rattle.obj_memory.specs.declared.operator.BinaryOperator.TheVariants.{Add, Multiply}
 use Rattle.sb_base.specs.Budgets.{default_sizes}
 use Rattle.source_meaning.specs.Meaning.{meaning}
-use Rattle.source_meaning_rows.proofs.Samples.{binary, call_through, computing, content, counts, decay, defined, exited, function, index, int, lvalue, main_type, none, number, one, part, pointer, program_of, read, reads, seen, static_object, three, two}
+use Rattle.source_meaning_rows.proofs.Samples.{binary, call_through, computing, content, counts, decay, defined, exited}
+use Rattle.source_meaning_rows.proofs.Samples.{function, index, int, lvalue, main_type, none, number, one, part}
+use Rattle.source_meaning_rows.proofs.Samples.{pointer, program_of, read, reads, seen, static_object, three, two}
 use Rattle.std.proofs.Common.{Some, [], refl, true, ◌∷◌, ◌≡◌}
 
 function_a : Function

@@ -9,11 +9,13 @@ use Rattle.obj_memory.specs.declared.int_type.IntType.TheVariants.{Int}
 use Rattle.obj_memory.specs.declared.operator.BinaryOperator.TheVariants.{Add}
 use Rattle.sb_base.specs.Budgets.{default_sizes}
 use Rattle.source_meaning.specs.Meaning.{meaning}
-use Rattle.source_meaning_rows.proofs.Samples.{binary, call, computing, defined, exited, function_type, int, main_type, none, number, one, plain, plain_variable, program_of, seen, two}
+use Rattle.source_meaning_rows.proofs.Samples.{binary, call, computing, defined, exited, function_type, int, main_type}
+use Rattle.source_meaning_rows.proofs.Samples.{none, number, one, plain, plain_variable, program_of, seen, two}
 use Rattle.std.proofs.Common.{Some, [], refl, true, ◌∷◌, ◌≡◌}
 
 function_f : Function
-function_f = defined 1 1 (one (plain_variable int)) none 280 (one (return (Some (binary 1 Add (plain 1 int 0) (number 1 1)))))
+function_f = defined 1 1 (one (plain_variable int)) none 280
+    (one (return (Some (binary 1 Add (plain 1 int 0) (number 1 1)))))
 
 function_main : Function
 function_main = defined 1 0 none none 168 (one (return (Some (call 1 int 0 (one (number 1 2))))))

@@ -7,7 +7,8 @@ use Rattle.c_tree.specs.declared.expression.Routine.TheVariants.{Putchar}
 use Rattle.obj_memory.specs.declared.operator.BinaryOperator.TheVariants.{Add}
 use Rattle.sb_base.specs.Budgets.{default_sizes}
 use Rattle.source_meaning.specs.Meaning.{meaning}
-use Rattle.source_meaning_rows.proofs.Samples.{binary, computing, exited, int, library, main_alone, none, number, one, plain, plain_variable, seen, two, with_value}
+use Rattle.source_meaning_rows.proofs.Samples.{binary, computing, exited, int, library, main_alone, none, number, one}
+use Rattle.source_meaning_rows.proofs.Samples.{plain, plain_variable, seen, two, with_value}
 use Rattle.std.proofs.Common.{[], refl, true, ◌≡◌}
 use Rattle.std.specs.Prelude.{codes}
 

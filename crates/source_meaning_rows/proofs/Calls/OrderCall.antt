@@ -5,13 +5,16 @@
 use Rattle.c_tree.specs.Programs.{Program, Function}
 use Rattle.c_tree.specs.Statements.{Statement, expression_statement, return}
 use Rattle.c_tree.specs.ValidProgram.{is_valid_program}
-use Rattle.c_tree.specs.declared.c_type.TypeWord.TheVariants.{Gives, Integer as IntegerWord, Pointer as PointerWord, Takes}
+use Rattle.c_tree.specs.declared.c_type.TypeWord.TheVariants.{Gives, Integer as IntegerWord, Pointer as PointerWord}
+use Rattle.c_tree.specs.declared.c_type.TypeWord.TheVariants.{Takes}
 use Rattle.c_tree.specs.declared.expression.Routine.TheVariants.{Putchar}
 use Rattle.obj_memory.specs.declared.int_type.IntType.TheVariants.{Int}
 use Rattle.obj_memory.specs.declared.operator.BinaryOperator.TheVariants.{Add, Subtract}
 use Rattle.sb_base.specs.Budgets.{default_sizes}
 use Rattle.source_meaning.specs.Meaning.{meaning}
-use Rattle.source_meaning_rows.proofs.Samples.{binary, call, call_through, computing, defined, exited, function, function_type, int, library, main_type, none, number, one, plain, plain_variable, pointer, program_of, seen, three, two}
+use Rattle.source_meaning_rows.proofs.Samples.{binary, call, call_through, computing, defined, exited, function}
+use Rattle.source_meaning_rows.proofs.Samples.{function_type, int, library, main_type, none, number, one, plain}
+use Rattle.source_meaning_rows.proofs.Samples.{plain_variable, pointer, program_of, seen, three, two}
 use Rattle.std.proofs.Common.{Some, [], refl, true, ◌∷◌, ◌≡◌}
 use Rattle.std.specs.Prelude.{codes}
 
@@ -23,13 +26,18 @@ function_s = defined 1 1
     (one (return (Some (binary 1 Subtract (plain 1 int 0) (plain 1 int 1)))))
 
 function_g : Function
-function_g = defined 2 2 none none 168 (two (expression_statement (library 2 int Putchar (one (number 2 71)))) (return (Some (function 2 0))))
+function_g = defined 2 2 none none 168
+    (two (expression_statement (library 2 int Putchar (one (number 2 71)))) (return (Some (function 2 0))))
 
 statement_1 : Statement
-statement_1 = expression_statement (call 3 int 0 (two (library 3 int Putchar (one (number 3 65))) (library 3 int Putchar (one (number 3 66)))))
+statement_1 = expression_statement
+    (call 3 int 0 (two (library 3 int Putchar (one (number 3 65))) (library 3 int Putchar (one (number 3 66)))))
 
 statement_2 : Statement
-statement_2 = return (Some (call_through 3 int 1 (call 3 pointer 1 none) (two (binary 3 Add (library 3 int Putchar (one (number 3 67))) (number 3 3)) (library 3 int Putchar (one (number 3 68))))))
+statement_2 = return (Some
+    (call_through 3 int 1 (call 3 pointer 1 none)
+    (two (binary 3 Add (library 3 int Putchar (one (number 3 67))) (number 3 3))
+    (library 3 int Putchar (one (number 3 68))))))
 
 function_main : Function
 function_main = defined 3 0 none none 248 (two statement_1 statement_2)
@@ -37,7 +45,8 @@ function_main = defined 3 0 none none 248 (two statement_1 statement_2)
 program : Program
 program = program_of none
     (three main_type
-    (function_type (Takes ∷ (IntegerWord Int) ∷ Takes ∷ (IntegerWord Int) ∷ Gives ∷ (IntegerWord Int) ∷ []) (two int int) int)
+    (function_type (Takes ∷ (IntegerWord Int) ∷ Takes ∷ (IntegerWord Int) ∷ Gives ∷ (IntegerWord Int) ∷ [])
+    (two int int) int)
     (function_type
     (Gives ∷ PointerWord ∷ Takes ∷ (IntegerWord Int) ∷ Takes ∷ (IntegerWord Int) ∷ Gives ∷ (IntegerWord Int) ∷ [])
     none

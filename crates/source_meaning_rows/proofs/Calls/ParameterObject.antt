@@ -11,14 +11,19 @@ use Rattle.obj_memory.specs.declared.int_type.IntType.TheVariants.{Int}
 use Rattle.obj_memory.specs.declared.operator.BinaryOperator.TheVariants.{Add, Multiply}
 use Rattle.sb_base.specs.Budgets.{default_sizes}
 use Rattle.source_meaning.specs.Meaning.{meaning}
-use Rattle.source_meaning_rows.proofs.Samples.{address, assign, binary, call, computing, counts, defined, deref, exited, function_type, int, lvalue, main_type, none, number, object_variable, one, plain, plain_variable, pointer, program_of, read, reads, seen, three, two, with_value, writes}
+use Rattle.source_meaning_rows.proofs.Samples.{address, assign, binary, call, computing, counts, defined, deref, exited}
+use Rattle.source_meaning_rows.proofs.Samples.{function_type, int, lvalue, main_type, none, number, object_variable}
+use Rattle.source_meaning_rows.proofs.Samples.{one, plain, plain_variable, pointer, program_of, read, reads, seen}
+use Rattle.source_meaning_rows.proofs.Samples.{three, two, with_value, writes}
 use Rattle.std.proofs.Common.{Some, [], refl, true, ◌∷◌, ◌≡◌}
 
 statement_1 : Statement
-statement_1 = expression_statement (assign 1 (deref 1 int (plain 1 pointer 2)) (binary 1 Add (read (deref 1 int (plain 1 pointer 2))) (number 1 1)))
+statement_1 = expression_statement
+    (assign 1 (deref 1 int (plain 1 pointer 2)) (binary 1 Add (read (deref 1 int (plain 1 pointer 2))) (number 1 1)))
 
 statement_2 : Statement
-statement_2 = return (Some (binary 1 Add (binary 1 Multiply (plain 1 int 0) (number 1 10)) (read (lvalue 1 int (tree.automatic 1)))))
+statement_2 = return (Some
+    (binary 1 Add (binary 1 Multiply (plain 1 int 0) (number 1 10)) (read (lvalue 1 int (tree.automatic 1)))))
 
 function_f : Function
 function_f = defined 1 1
@@ -32,7 +37,8 @@ function_main = defined 1 0 none none 208 (one (return (Some (call 1 int 0 (two 
 
 program : Program
 program = program_of none
-    (two main_type (function_type (Takes ∷ (IntegerWord Int) ∷ Takes ∷ (IntegerWord Int) ∷ Gives ∷ (IntegerWord Int) ∷ []) (two int int) int))
+    (two main_type (function_type
+    (Takes ∷ (IntegerWord Int) ∷ Takes ∷ (IntegerWord Int) ∷ Gives ∷ (IntegerWord Int) ∷ []) (two int int) int))
     (two function_f function_main)
     1
 
@@ -41,7 +47,12 @@ unfolding program function_f function_main statement_1 statement_2 computing
 run = refl
 
 counted : counts (meaning program default_sizes [] 20) ≡
-    record { turns = 2; work = 32; accesses = writes 0x10000000 4 ∷ reads 0x10000000 4 ∷ writes 0x10000000 4 ∷ reads 0x10000000 4 ∷ [] }
+    record {
+      turns = 2;
+      work = 32;
+      accesses = writes 0x10000000 4 ∷ reads 0x10000000 4 ∷ writes 0x10000000 4
+          ∷ reads 0x10000000 4 ∷ [];
+    }
 unfolding program function_f function_main statement_1 statement_2 computing
 counted = refl
 

@@ -11,7 +11,10 @@ use Rattle.obj_memory.specs.declared.int_type.IntType.TheVariants.{Int}
 use Rattle.obj_memory.specs.declared.operator.BinaryOperator.TheVariants.{Add, Multiply}
 use Rattle.sb_base.specs.Budgets.{default_sizes}
 use Rattle.source_meaning.specs.Meaning.{meaning}
-use Rattle.source_meaning_rows.proofs.Samples.{assign, binary, call, computing, decay, defined, exited, function_type, index, int, lvalue, main_type, none, number, object_variable, one, plain, plain_variable, program_of, read, seen, set_plain, three, two, without_value}
+use Rattle.source_meaning_rows.proofs.Samples.{assign, binary, call, computing, decay, defined, exited, function_type}
+use Rattle.source_meaning_rows.proofs.Samples.{index, int, lvalue, main_type, none, number, object_variable, one, plain}
+use Rattle.source_meaning_rows.proofs.Samples.{plain_variable, program_of, read, seen, set_plain, three, two}
+use Rattle.source_meaning_rows.proofs.Samples.{without_value}
 use Rattle.std.proofs.Common.{Some, [], refl, true, ◌∷◌, ◌≡◌}
 
 function_f : Function
@@ -25,7 +28,9 @@ function_f = defined 1 1
     ∷ [])
 
 statement_1 : Statement
-statement_1 = expression_statement (assign 1 (index 1 int (decay (lvalue 1 (Array 8) (tree.automatic 0))) (number 1 1)) (call 1 int 0 (one (number 1 1))))
+statement_1 = expression_statement
+    (assign 1 (index 1 int (decay (lvalue 1 (Array 8) (tree.automatic 0))) (number 1 1))
+    (call 1 int 0 (one (number 1 1))))
 
 statement_2 : Statement
 statement_2 = return (Some (binary 1 Add

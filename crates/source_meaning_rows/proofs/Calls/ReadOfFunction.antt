@@ -6,7 +6,9 @@ use Rattle.c_tree.specs.ValidProgram.{is_valid_program}
 use Rattle.obj_memory.specs.declared.int_type.IntType.TheVariants.{Char}
 use Rattle.sb_base.specs.Budgets.{default_sizes}
 use Rattle.source_meaning.specs.Meaning.{meaning}
-use Rattle.source_meaning_rows.proofs.Samples.{cast, computing, convert, deref, function, int, integer_kind, main_alone, none, one, plain, plain_variable, pointer, read, seen, stopped, two, with_value}
+use Rattle.source_meaning_rows.proofs.Samples.{cast, computing, convert, deref, function, int, integer_kind, main_alone}
+use Rattle.source_meaning_rows.proofs.Samples.{none, one, plain, plain_variable, pointer, read, seen, stopped, two}
+use Rattle.source_meaning_rows.proofs.Samples.{with_value}
 use Rattle.std.proofs.Common.{Some, [], refl, true, ◌≡◌}
 use Rattle.std.specs.Prelude.{codes}
 

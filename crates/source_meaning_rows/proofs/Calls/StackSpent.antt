@@ -8,7 +8,9 @@ use Rattle.c_tree.specs.declared.expression.Kind.TheVariants.{Array}
 use Rattle.obj_memory.specs.declared.int_type.IntType.TheVariants.{Char}
 use Rattle.sb_base.specs.Budgets.{default_sizes}
 use Rattle.source_meaning.specs.Meaning.{meaning}
-use Rattle.source_meaning_rows.proofs.Samples.{assign, computing, convert, counts, decay, index, int, integer_kind, lvalue, main_alone, none, number, object_variable, one, read, seen, stopped, two, without_value}
+use Rattle.source_meaning_rows.proofs.Samples.{assign, computing, convert, counts, decay, index, int, integer_kind}
+use Rattle.source_meaning_rows.proofs.Samples.{lvalue, main_alone, none, number, object_variable, one, read, seen}
+use Rattle.source_meaning_rows.proofs.Samples.{stopped, two, without_value}
 use Rattle.std.proofs.Common.{Some, [], refl, true, ◌≡◌, ◌∷◌}
 use Rattle.std.specs.Prelude.{codes}
 
@@ -18,7 +20,8 @@ statement_1 = expression_statement (assign 1
     (convert (integer_kind Char) (number 1 1)))
 
 statement_2 : Statement
-statement_2 = return (Some (convert int (read (index 1 (integer_kind Char) (decay (lvalue 1 (Array 5000) (tree.automatic 0))) (number 1 0)))))
+statement_2 = return (Some
+    (convert int (read (index 1 (integer_kind Char) (decay (lvalue 1 (Array 5000) (tree.automatic 0))) (number 1 0)))))
 
 program : Program
 program = main_alone none (one (object_variable (Array 5000))) 248 ((declaration (without_value 0 ∷ []))
@@ -31,7 +34,8 @@ run : seen (meaning program (record default_sizes { stack = 4096 }) [] 20) ≡
 unfolding program statement_1 statement_2 computing
 run = refl
 
-counted : counts (meaning program (record default_sizes { stack = 4096 }) [] 20) ≡ record { turns = 1; work = 35; accesses = [] }
+counted : counts (meaning program (record default_sizes { stack = 4096 }) [] 20)
+    ≡ record { turns = 1; work = 35; accesses = [] }
 unfolding program statement_1 statement_2 computing
 counted = refl
 

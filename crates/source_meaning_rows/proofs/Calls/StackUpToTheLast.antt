@@ -10,7 +10,10 @@ use Rattle.obj_memory.specs.declared.int_type.IntType.TheVariants.{Char, Int}
 use Rattle.obj_memory.specs.declared.operator.BinaryOperator.TheVariants.{Add, Subtract}
 use Rattle.sb_base.specs.Budgets.{default_sizes}
 use Rattle.source_meaning.specs.Meaning.{meaning}
-use Rattle.source_meaning_rows.proofs.Samples.{assign, binary, call, computing, convert, decay, defined, exited, function_type, index, int, integer_kind, lvalue, main_type, none, number, object_variable, one, plain, plain_variable, program_of, read, seen, three, two, without_value}
+use Rattle.source_meaning_rows.proofs.Samples.{assign, binary, call, computing, convert, decay, defined, exited}
+use Rattle.source_meaning_rows.proofs.Samples.{function_type, index, int, integer_kind, lvalue, main_type, none, number}
+use Rattle.source_meaning_rows.proofs.Samples.{object_variable, one, plain, plain_variable, program_of, read, seen}
+use Rattle.source_meaning_rows.proofs.Samples.{three, two, without_value}
 use Rattle.std.proofs.Common.{None, Some, [], refl, true, ◌∷◌, ◌≡◌}
 
 statement_1 : Statement
@@ -23,17 +26,20 @@ statement_2 = if_then (plain 1 int 0)
     ((return (Some (binary 1 Add (call 1 int 0 (one (binary 1 Subtract (plain 1 int 0) (number 1 1)))) (number 1 1)))))
 
 statement_3 : Statement
-statement_3 = return (Some (convert int (read (index 1 (integer_kind Char) (decay (lvalue 1 (Array 2048) (tree.automatic 1))) (number 1 0)))))
+statement_3 = return (Some
+    (convert int (read (index 1 (integer_kind Char) (decay (lvalue 1 (Array 2048) (tree.automatic 1))) (number 1 0)))))
 
 function_f : Function
-function_f = defined 1 1 (one (plain_variable int)) (one (object_variable (Array 2048))) 320 ((declaration (without_value 1 ∷ []))
+function_f = defined 1 1 (one (plain_variable int)) (one (object_variable (Array 2048))) 320
+    ((declaration (without_value 1 ∷ []))
     ∷ statement_1
     ∷ statement_2
     ∷ statement_3
     ∷ [])
 
 function_main : Function
-function_main = defined 1 0 none none 208 (one (return (Some (binary 1 Add (call 1 int 0 (one (number 1 1))) (call 1 int 0 (one (number 1 1)))))))
+function_main = defined 1 0 none none 208
+    (one (return (Some (binary 1 Add (call 1 int 0 (one (number 1 1))) (call 1 int 0 (one (number 1 1)))))))
 
 program : Program
 program = program_of none

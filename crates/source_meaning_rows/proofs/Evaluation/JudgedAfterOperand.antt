@@ -12,7 +12,9 @@ use Rattle.obj_memory.specs.declared.int_type.IntType.TheVariants.{Int, Unsigned
 use Rattle.obj_memory.specs.declared.operator.BinaryOperator.TheVariants.{Add}
 use Rattle.sb_base.specs.Budgets.{default_sizes}
 use Rattle.source_meaning.specs.Meaning.{meaning}
-use Rattle.source_meaning_rows.proofs.Samples.{assign, comma, compound, computing, convert, deref, four, int, integer_kind, library, main_alone, none, number, one, parenthesized, plain, plain_variable, pointer, seen, stopped, with_value, writes}
+use Rattle.source_meaning_rows.proofs.Samples.{assign, comma, compound, computing, convert, deref, four, int}
+use Rattle.source_meaning_rows.proofs.Samples.{integer_kind, library, main_alone, none, number, one, parenthesized}
+use Rattle.source_meaning_rows.proofs.Samples.{plain, plain_variable, pointer, seen, stopped, with_value, writes}
 use Rattle.std.proofs.Common.{Some, [], refl, true, ◌∷◌, ◌≡◌}
 use Rattle.std.specs.Prelude.{codes}
 
@@ -26,7 +28,8 @@ program = main_alone none
     (one (plain_variable pointer))
     248
     (four
-    (declaration (one (with_value 0 (library 1 pointer Malloc (one (convert (integer_kind UnsignedLong) (number 1 4)))))))
+    (declaration (one (with_value 0
+    (library 1 pointer Malloc (one (convert (integer_kind UnsignedLong) (number 1 4)))))))
     (expression_statement (assign 1 (deref 1 int (plain 1 pointer 0)) (number 1 1)))
     statement_1
     (return (Some (number 2 0))))

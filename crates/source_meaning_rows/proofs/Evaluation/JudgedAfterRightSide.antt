@@ -11,7 +11,10 @@ use Rattle.obj_memory.specs.declared.int_type.IntType.TheVariants.{UnsignedLong}
 use Rattle.obj_memory.specs.declared.operator.BinaryOperator.TheVariants.{Add}
 use Rattle.sb_base.specs.Budgets.{default_sizes}
 use Rattle.source_meaning.specs.Meaning.{meaning}
-use Rattle.source_meaning_rows.proofs.Samples.{assign, binary, comma, computing, convert, deref, int, integer_kind, library, main_alone, none, number, one, parenthesized, plain, plain_variable, pointer, read, seen, set_plain, six, stopped, two, with_value}
+use Rattle.source_meaning_rows.proofs.Samples.{assign, binary, comma, computing, convert, deref, int, integer_kind}
+use Rattle.source_meaning_rows.proofs.Samples.{library, main_alone, none, number, one, parenthesized, plain}
+use Rattle.source_meaning_rows.proofs.Samples.{plain_variable, pointer, read, seen, set_plain, six, stopped, two}
+use Rattle.source_meaning_rows.proofs.Samples.{with_value}
 use Rattle.std.proofs.Common.{Some, [], refl, true, ◌≡◌}
 use Rattle.std.specs.Prelude.{codes}
 
@@ -30,14 +33,17 @@ program = main_alone none
     (two (plain_variable pointer) (plain_variable int))
     288
     (six
-    (declaration (one (with_value 0 (library 1 pointer Malloc (one (convert (integer_kind UnsignedLong) (number 1 4)))))))
+    (declaration (one (with_value 0
+    (library 1 pointer Malloc (one (convert (integer_kind UnsignedLong) (number 1 4)))))))
     statement_1
     (expression_statement (library 1 int Putchar (one (plain 1 int 1))))
-    (expression_statement (set_plain 1 0 (library 1 pointer Malloc (one (convert (integer_kind UnsignedLong) (number 1 4))))))
+    (expression_statement
+    (set_plain 1 0 (library 1 pointer Malloc (one (convert (integer_kind UnsignedLong) (number 1 4))))))
     statement_2
     (return (Some (number 2 0))))
 
-run : seen (meaning program default_sizes [] 20) ≡ stopped (codes "A") (codes "sbcets: temporal violation at line 2\n") 121
+run : seen (meaning program default_sizes [] 20)
+    ≡ stopped (codes "A") (codes "sbcets: temporal violation at line 2\n") 121
 unfolding program statement_1 statement_2 computing
 run = refl
 

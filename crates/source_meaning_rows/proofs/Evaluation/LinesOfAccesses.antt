@@ -12,7 +12,9 @@ use Rattle.c_tree.specs.declared.expression.Kind.TheVariants.{Array, Structure}
 use Rattle.c_tree.specs.declared.expression.Routine.TheVariants.{Putchar}
 use Rattle.sb_base.specs.Budgets.{default_sizes}
 use Rattle.source_meaning.specs.Meaning.{meaning}
-use Rattle.source_meaning_rows.proofs.Samples.{address, arrow, assign, computing, decay, four, index, int, library, lvalue, main_alone, none, number, one, parenthesized_lvalue, plain, plain_variable, pointer, seen, static_object, stopped, two, with_value}
+use Rattle.source_meaning_rows.proofs.Samples.{address, arrow, assign, computing, decay, four, index, int, library}
+use Rattle.source_meaning_rows.proofs.Samples.{lvalue, main_alone, none, number, one, parenthesized_lvalue, plain}
+use Rattle.source_meaning_rows.proofs.Samples.{plain_variable, pointer, seen, static_object, stopped, two, with_value}
 use Rattle.std.proofs.Common.{Some, [], refl, true, ◌≡◌}
 use Rattle.std.specs.Prelude.{codes}
 
@@ -32,7 +34,8 @@ program = main_alone
     statement_1
     (return (Some (number 5 0))))
 
-run : seen (meaning program default_sizes [] 20) ≡ stopped (codes "A") (codes "sbcets: spatial violation at line 3\n") 120
+run : seen (meaning program default_sizes [] 20)
+    ≡ stopped (codes "A") (codes "sbcets: spatial violation at line 3\n") 120
 unfolding program statement_1 computing
 run = refl
 

@@ -1,4 +1,5 @@
--- `char a[3]={97,200};char b[3]={97,100};int main(void){return E;}` for each E that is named. C99 fixes the sign alone; here the
+-- `char a[3]={97,200};char b[3]={97,100};int main(void){return E;}` for each E that is named. C99 fixes the sign alone;
+-- here the
 -- result is -1, of which the exit status is 255, 0 or 1.
 use Rattle.behaviours.specs.Shown.{End, Status}
 use Rattle.c_tree.specs.Programs.{Program}

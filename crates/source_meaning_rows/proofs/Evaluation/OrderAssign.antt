@@ -8,11 +8,15 @@ use Rattle.c_tree.specs.declared.expression.Kind.TheVariants.{Array}
 use Rattle.obj_memory.specs.declared.operator.BinaryOperator.TheVariants.{Add, Multiply}
 use Rattle.sb_base.specs.Budgets.{default_sizes}
 use Rattle.source_meaning.specs.Meaning.{meaning}
-use Rattle.source_meaning_rows.proofs.Samples.{assign, binary, computing, decay, exited, index, int, lvalue, main_alone, none, number, one, parenthesized, plain, plain_variable, read, seen, set_plain, static_object, three, with_value}
+use Rattle.source_meaning_rows.proofs.Samples.{assign, binary, computing, decay, exited, index, int, lvalue, main_alone}
+use Rattle.source_meaning_rows.proofs.Samples.{none, number, one, parenthesized, plain, plain_variable, read, seen}
+use Rattle.source_meaning_rows.proofs.Samples.{set_plain, static_object, three, with_value}
 use Rattle.std.proofs.Common.{Some, [], refl, true, ◌≡◌}
 
 statement_1 : Statement
-statement_1 = expression_statement (assign 1 (index 1 int (decay (lvalue 1 (Array 40) (tree.static 0))) (plain 1 int 0)) (parenthesized (set_plain 1 0 (number 1 9))))
+statement_1 = expression_statement
+    (assign 1 (index 1 int (decay (lvalue 1 (Array 40) (tree.static 0))) (plain 1 int 0))
+    (parenthesized (set_plain 1 0 (number 1 9))))
 
 statement_2 : Statement
 statement_2 = return (Some (binary 1 Add

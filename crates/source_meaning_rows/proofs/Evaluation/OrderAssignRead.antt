@@ -7,12 +7,16 @@ use Rattle.c_tree.specs.ValidProgram.{is_valid_program}
 use Rattle.c_tree.specs.declared.expression.Kind.TheVariants.{Array}
 use Rattle.sb_base.specs.Budgets.{default_sizes}
 use Rattle.source_meaning.specs.Meaning.{meaning}
-use Rattle.source_meaning_rows.proofs.Samples.{assign, computing, decay, index, int, lvalue, main_alone, none, number, one, parenthesized, plain, plain_variable, read, seen, set_plain, static_object, stopped, three, with_value, writes}
+use Rattle.source_meaning_rows.proofs.Samples.{assign, computing, decay, index, int, lvalue, main_alone, none, number}
+use Rattle.source_meaning_rows.proofs.Samples.{one, parenthesized, plain, plain_variable, read, seen, set_plain}
+use Rattle.source_meaning_rows.proofs.Samples.{static_object, stopped, three, with_value, writes}
 use Rattle.std.proofs.Common.{Some, [], refl, true, ◌∷◌, ◌≡◌}
 use Rattle.std.specs.Prelude.{codes}
 
 statement_1 : Statement
-statement_1 = expression_statement (assign 1 (index 1 int (decay (lvalue 1 (Array 16) (tree.static 0))) (plain 1 int 0)) (parenthesized (set_plain 1 0 (number 1 9))))
+statement_1 = expression_statement
+    (assign 1 (index 1 int (decay (lvalue 1 (Array 16) (tree.static 0))) (plain 1 int 0))
+    (parenthesized (set_plain 1 0 (number 1 9))))
 
 program : Program
 program = main_alone

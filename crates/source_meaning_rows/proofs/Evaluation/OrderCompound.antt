@@ -10,7 +10,10 @@ use Rattle.obj_memory.specs.declared.int_type.IntType.TheVariants.{Int}
 use Rattle.obj_memory.specs.declared.operator.BinaryOperator.TheVariants.{Add, Multiply}
 use Rattle.sb_base.specs.Budgets.{default_sizes}
 use Rattle.source_meaning.specs.Meaning.{meaning}
-use Rattle.source_meaning_rows.proofs.Samples.{assign, binary, call, change_plain, compound, computing, decay, defined, exited, five, index, int, lvalue, main_type, none, number, one, parenthesized, plain, plain_variable, program_of, read, seen, set_plain, static_object, two, with_value}
+use Rattle.source_meaning_rows.proofs.Samples.{assign, binary, call, change_plain, compound, computing, decay, defined}
+use Rattle.source_meaning_rows.proofs.Samples.{exited, five, index, int, lvalue, main_type, none, number, one}
+use Rattle.source_meaning_rows.proofs.Samples.{parenthesized, plain, plain_variable, program_of, read, seen, set_plain}
+use Rattle.source_meaning_rows.proofs.Samples.{static_object, two, with_value}
 use Rattle.std.proofs.Common.{Some, [], refl, true, ◌≡◌}
 
 statement_1 : Statement
@@ -22,7 +25,9 @@ function_f : Function
 function_f = defined 1 0 none none 248 (two statement_1 (return (Some (number 1 3))))
 
 statement_2 : Statement
-statement_2 = expression_statement (compound 1 (Arithmetic Add Int) (index 1 int (decay (lvalue 1 (Array 8) (tree.static 0))) (number 1 0)) (call 1 int 0 none))
+statement_2 = expression_statement
+    (compound 1 (Arithmetic Add Int) (index 1 int (decay (lvalue 1 (Array 8) (tree.static 0))) (number 1 0))
+    (call 1 int 0 none))
 
 statement_3 : Statement
 statement_3 = return (Some (binary 1 Add
@@ -35,7 +40,8 @@ function_main = defined 1 0 none
     288
     (five
     (declaration (one (with_value 0 (number 1 1))))
-    (expression_statement (assign 1 (index 1 int (decay (lvalue 1 (Array 8) (tree.static 0))) (number 1 0)) (number 1 1)))
+    (expression_statement
+    (assign 1 (index 1 int (decay (lvalue 1 (Array 8) (tree.static 0))) (number 1 0)) (number 1 1)))
     statement_2
     (expression_statement (change_plain 1 int (Arithmetic Add Int) 0 (parenthesized (set_plain 1 0 (number 1 5)))))
     statement_3)

@@ -1,7 +1,8 @@
 -- Operands from left to right; what && and || do not need, and the other part of a conditional, is not evaluated. The
 -- text is rows/order_operands.c; gcc 12.2.0 gives the same output and status.
 --     int f(int c){putchar(c);return c-64;}
---     int main(void){int r=f(65)+f(66)*f(67);(f(68),f(69));if(f(70)&&!f(71)&&f(72))f(73);if(f(64)||f(74))f(75);return r+(f(76)?f(77):f(78));}
+--     int main(void){int r=f(65)+f(66)*f(67);(f(68),f(69));if(f(70)&&!f(71)&&f(72))f(73);if(f(64)||f(74))f(75);return
+-- r+(f(76)?f(77):f(78));}
 use Rattle.c_tree.specs.Programs.{Program, Function}
 use Rattle.c_tree.specs.Statements.{Statement, expression_statement, declaration, if_then, return}
 use Rattle.c_tree.specs.ValidProgram.{is_valid_program}
@@ -11,7 +12,10 @@ use Rattle.obj_memory.specs.declared.int_type.IntType.TheVariants.{Int}
 use Rattle.obj_memory.specs.declared.operator.BinaryOperator.TheVariants.{Add, Multiply, Subtract}
 use Rattle.sb_base.specs.Budgets.{default_sizes}
 use Rattle.source_meaning.specs.Meaning.{meaning}
-use Rattle.source_meaning_rows.proofs.Samples.{binary, call, comma, computing, conditional, defined, exited, five, function_type, int, library, logical_and, logical_not, logical_or, main_type, none, number, one, parenthesized, plain, plain_variable, program_of, seen, two, with_value}
+use Rattle.source_meaning_rows.proofs.Samples.{binary, call, comma, computing, conditional, defined, exited, five}
+use Rattle.source_meaning_rows.proofs.Samples.{function_type, int, library, logical_and, logical_not, logical_or}
+use Rattle.source_meaning_rows.proofs.Samples.{main_type, none, number, one, parenthesized, plain, plain_variable}
+use Rattle.source_meaning_rows.proofs.Samples.{program_of, seen, two, with_value}
 use Rattle.std.proofs.Common.{None, Some, [], refl, true, ◌∷◌, ◌≡◌}
 use Rattle.std.specs.Prelude.{codes}
 
@@ -42,14 +46,18 @@ statement_3 = if_then
     ((expression_statement (call 2 int 0 (one (number 2 75)))))
 
 statement_4 : Statement
-statement_4 = return (Some (binary 2 Add (plain 2 int 0) (parenthesized (conditional 2 (call 2 int 0 (one (number 2 76))) (call 2 int 0 (one (number 2 77))) (call 2 int 0 (one (number 2 78)))))))
+statement_4 = return (Some
+    (binary 2 Add (plain 2 int 0)
+    (parenthesized (conditional 2 (call 2 int 0 (one (number 2 76))) (call 2 int 0 (one (number 2 77)))
+    (call 2 int 0 (one (number 2 78)))))))
 
 function_main : Function
 function_main = defined 2 0 none
     (one (plain_variable int))
     288
     (five statement_1
-    (expression_statement (parenthesized (comma 2 (call 2 int 0 (one (number 2 68))) (call 2 int 0 (one (number 2 69))))))
+    (expression_statement
+    (parenthesized (comma 2 (call 2 int 0 (one (number 2 68))) (call 2 int 0 (one (number 2 69))))))
     statement_2
     statement_3
     statement_4)

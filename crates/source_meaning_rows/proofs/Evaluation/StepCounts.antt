@@ -13,14 +13,19 @@ use Rattle.obj_memory.specs.declared.int_type.IntType.TheVariants.{Int}
 use Rattle.obj_memory.specs.declared.operator.BinaryOperator.TheVariants.{Add, Subtract}
 use Rattle.sb_base.specs.Budgets.{default_sizes}
 use Rattle.source_meaning.specs.Meaning.{meaning}
-use Rattle.source_meaning_rows.proofs.Samples.{assign, binary, computing, counts, decay, exited, index, int, lvalue, main_alone, none, number, object_variable, one, plain, plain_variable, read, reads, seen, six, step, step_plain, step_plain_in, two, with_value, writes, without_value}
+use Rattle.source_meaning_rows.proofs.Samples.{assign, binary, computing, counts, decay, exited, index, int, lvalue}
+use Rattle.source_meaning_rows.proofs.Samples.{main_alone, none, number, object_variable, one, plain, plain_variable}
+use Rattle.source_meaning_rows.proofs.Samples.{read, reads, seen, six, step, step_plain, step_plain_in, two, with_value}
+use Rattle.source_meaning_rows.proofs.Samples.{writes, without_value}
 use Rattle.std.proofs.Common.{Some, [], refl, true, ◌∷◌, ◌≡◌}
 
 statement_1 : Statement
-statement_1 = expression_statement (step 1 (Arithmetic Add Int) Postfix (index 1 int (decay (lvalue 1 (Array 4) (tree.automatic 1))) (number 1 0)))
+statement_1 = expression_statement
+    (step 1 (Arithmetic Add Int) Postfix (index 1 int (decay (lvalue 1 (Array 4) (tree.automatic 1))) (number 1 0)))
 
 statement_2 : Statement
-statement_2 = return (Some (binary 1 Add (plain 1 int 0) (read (index 1 int (decay (lvalue 1 (Array 4) (tree.automatic 1))) (number 1 0)))))
+statement_2 = return (Some
+    (binary 1 Add (plain 1 int 0) (read (index 1 int (decay (lvalue 1 (Array 4) (tree.automatic 1))) (number 1 0)))))
 
 program : Program
 program = main_alone none
@@ -28,9 +33,11 @@ program = main_alone none
     328
     ((declaration (one (with_value 0 (number 1 1))))
     ∷ (declaration (without_value 1 ∷ []))
-    ∷ (expression_statement (assign 1 (index 1 int (decay (lvalue 1 (Array 4) (tree.automatic 1))) (number 1 0)) (number 1 2)))
+    ∷ (expression_statement
+    (assign 1 (index 1 int (decay (lvalue 1 (Array 4) (tree.automatic 1))) (number 1 0)) (number 1 2)))
     ∷ (expression_statement (step_plain 1 int (Arithmetic Add Int) Postfix 0))
-    ∷ (expression_statement (step_plain_in 1 int (Arithmetic Subtract Int) Prefix (record { variable = 0; parentheses = 1 })))
+    ∷ (expression_statement
+    (step_plain_in 1 int (Arithmetic Subtract Int) Prefix (record { variable = 0; parentheses = 1 })))
     ∷ statement_1
     ∷ statement_2
     ∷ [])
@@ -40,7 +47,12 @@ unfolding program statement_1 statement_2 computing
 run = refl
 
 counted : counts (meaning program default_sizes [] 20) ≡
-    record { turns = 1; work = 33; accesses = writes 0x10000000 4 ∷ reads 0x10000000 4 ∷ writes 0x10000000 4 ∷ reads 0x10000000 4 ∷ [] }
+    record {
+      turns = 1;
+      work = 33;
+      accesses = writes 0x10000000 4 ∷ reads 0x10000000 4 ∷ writes 0x10000000 4
+          ∷ reads 0x10000000 4 ∷ [];
+    }
 unfolding program statement_1 statement_2 computing
 counted = refl
 

@@ -1,6 +1,7 @@
 -- ++ and -- of plain variables: before the operand the new value, behind it the old one. The text is rows/step_plain.c;
 -- gcc 12.2.0 gives the same output and status.
---     int main(void){int i=5;unsigned char c=255;int*p=0;putchar(48+i++);putchar(48+i);putchar(48+ ++i);putchar(48+i--);putchar(48+ --i);putchar(48+c++);putchar(48+c--);p++;return c+(long)p;}
+--     int main(void){int i=5;unsigned char c=255;int*p=0;putchar(48+i++);putchar(48+i);putchar(48+
+-- ++i);putchar(48+i--);putchar(48+ --i);putchar(48+c++);putchar(48+c--);p++;return c+(long)p;}
 use Rattle.c_tree.specs.Programs.{Program}
 use Rattle.c_tree.specs.Statements.{Statement, expression_statement, declaration, return}
 use Rattle.c_tree.specs.ValidProgram.{is_valid_program}
@@ -11,27 +12,39 @@ use Rattle.obj_memory.specs.declared.int_type.IntType.TheVariants.{Int, Long, Un
 use Rattle.obj_memory.specs.declared.operator.BinaryOperator.TheVariants.{Add, Subtract}
 use Rattle.sb_base.specs.Budgets.{default_sizes}
 use Rattle.source_meaning.specs.Meaning.{meaning}
-use Rattle.source_meaning_rows.proofs.Samples.{binary, cast, computing, convert, exited, int, integer_kind, library, main_alone, none, number, one, plain, plain_variable, pointer, seen, step_plain, three, with_value}
+use Rattle.source_meaning_rows.proofs.Samples.{binary, cast, computing, convert, exited, int, integer_kind, library}
+use Rattle.source_meaning_rows.proofs.Samples.{main_alone, none, number, one, plain, plain_variable, pointer, seen}
+use Rattle.source_meaning_rows.proofs.Samples.{step_plain, three, with_value}
 use Rattle.std.proofs.Common.{Some, [], refl, true, ◌∷◌, ◌≡◌}
 use Rattle.std.specs.Prelude.{codes}
 
 statement_1 : Statement
-statement_1 = expression_statement (library 1 int Putchar (one (binary 1 Add (number 1 48) (step_plain 1 int (Arithmetic Add Int) Postfix 0))))
+statement_1 = expression_statement
+    (library 1 int Putchar (one (binary 1 Add (number 1 48) (step_plain 1 int (Arithmetic Add Int) Postfix 0))))
 
 statement_2 : Statement
-statement_2 = expression_statement (library 1 int Putchar (one (binary 1 Add (number 1 48) (step_plain 1 int (Arithmetic Add Int) Prefix 0))))
+statement_2 = expression_statement
+    (library 1 int Putchar (one (binary 1 Add (number 1 48) (step_plain 1 int (Arithmetic Add Int) Prefix 0))))
 
 statement_3 : Statement
-statement_3 = expression_statement (library 1 int Putchar (one (binary 1 Add (number 1 48) (step_plain 1 int (Arithmetic Subtract Int) Postfix 0))))
+statement_3 = expression_statement
+    (library 1 int Putchar (one (binary 1 Add (number 1 48) (step_plain 1 int (Arithmetic Subtract Int) Postfix 0))))
 
 statement_4 : Statement
-statement_4 = expression_statement (library 1 int Putchar (one (binary 1 Add (number 1 48) (step_plain 1 int (Arithmetic Subtract Int) Prefix 0))))
+statement_4 = expression_statement
+    (library 1 int Putchar (one (binary 1 Add (number 1 48) (step_plain 1 int (Arithmetic Subtract Int) Prefix 0))))
 
 statement_5 : Statement
-statement_5 = expression_statement (library 1 int Putchar (one (binary 1 Add (number 1 48) (convert int (step_plain 1 (integer_kind UnsignedChar) (Arithmetic Add Int) Postfix 1)))))
+statement_5 = expression_statement
+    (library 1 int Putchar
+    (one (binary 1 Add (number 1 48)
+    (convert int (step_plain 1 (integer_kind UnsignedChar) (Arithmetic Add Int) Postfix 1)))))
 
 statement_6 : Statement
-statement_6 = expression_statement (library 1 int Putchar (one (binary 1 Add (number 1 48) (convert int (step_plain 1 (integer_kind UnsignedChar) (Arithmetic Subtract Int) Postfix 1)))))
+statement_6 = expression_statement
+    (library 1 int Putchar
+    (one (binary 1 Add (number 1 48)
+    (convert int (step_plain 1 (integer_kind UnsignedChar) (Arithmetic Subtract Int) Postfix 1)))))
 
 statement_7 : Statement
 statement_7 = return (Some (convert int (binary 1 Add

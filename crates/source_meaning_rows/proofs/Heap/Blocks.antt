@@ -1,7 +1,10 @@
--- `char a[4]="abc";char z[6];int main(void){char*p;char*q;p=malloc(4);strcpy(p,a);q=realloc(p,8);strcat(q,a);printf("%s ",q);
+-- `char a[4]="abc";char z[6];int main(void){char*p;char*q;p=malloc(4);strcpy(p,a);q=realloc(p,8);strcat(q,a);printf("%s
+-- ",q);
 -- q=realloc(q,2);memset(q+1,0,1);printf("%s ",q);free(q);p=calloc(3,2);
--- printf("%d %d %d\n",memcmp(p,z,6),realloc(0,1)==0,calloc(9223372036854775808UL,2)==0);return 0;}`: a block that grows keeps its
--- bytes, and one that shrinks those that it has room for; an array has zero bytes, and one of 2^64 bytes is null. The output is
+-- printf("%d %d %d\n",memcmp(p,z,6),realloc(0,1)==0,calloc(9223372036854775808UL,2)==0);return 0;}`: a block that grows
+-- keeps its
+-- bytes, and one that shrinks those that it has room for; an array has zero bytes, and one of 2^64 bytes is null. The
+-- output is
 -- that of gcc (Debian 12.2.0) with `-std=c99 -fwrapv -funsigned-char`.
 use Rattle.behaviours.specs.Shown.{Status}
 use Rattle.c_tree.specs.Programs.{Program}
@@ -15,7 +18,9 @@ use Rattle.obj_memory.specs.declared.operator.BinaryOperator.TheVariants.{Equal}
 use Rattle.obj_memory.specs.declared.value.Scalar.TheVariants.{Integer}
 use Rattle.sb_base.specs.Budgets.{default_sizes}
 use Rattle.source_meaning.specs.Meaning.{meaning}
-use Rattle.source_meaning_rows.proofs.LibrarySamples.{ahead, array, calloc, chars, compare, free, malloc, memcmp, memset, null, perform, plain, printf, program_of, realloc, set, size, strcat, strcpy, zero_chars}
+use Rattle.source_meaning_rows.proofs.LibrarySamples.{ahead, array, calloc, chars, compare, free, malloc, memcmp}
+use Rattle.source_meaning_rows.proofs.LibrarySamples.{memset, null, perform, plain, printf, program_of, realloc, set}
+use Rattle.source_meaning_rows.proofs.LibrarySamples.{size, strcat, strcpy, zero_chars}
 use Rattle.source_meaning_rows.proofs.Samples.{at, computing, number, one, plain_variable, pointer, three, two}
 use Rattle.std.proofs.Common.{◌≡◌, [], ◌∷◌, refl, true, Some}
 use Rattle.std.specs.Prelude.{codes}
@@ -43,7 +48,8 @@ program = program_of
     ∷ perform (free q)
     ∷ set 0 (calloc (size 3) (size 2))
     ∷ perform (printf (codes "%d %d %d\n") (three (memcmp p (array 1 6) 6) (compare Equal (realloc null 1) null)
-    (compare Equal (calloc (at 1 (OfScalar (Integer UnsignedLong)) (tree.constant 9223372036854775808)) (size 2)) null)))
+    (compare Equal (calloc (at 1 (OfScalar (Integer UnsignedLong)) (tree.constant 9223372036854775808))
+    (size 2)) null)))
     ∷ return (Some (number 1 0))
     ∷ [])
 

@@ -8,12 +8,15 @@ use Rattle.obj_memory.specs.declared.int_type.IntType.TheVariants.{UnsignedLong}
 use Rattle.obj_memory.specs.declared.operator.BinaryOperator.TheVariants.{Equal, ShiftLeft}
 use Rattle.sb_base.specs.Budgets.{default_sizes}
 use Rattle.source_meaning.specs.Meaning.{meaning}
-use Rattle.source_meaning_rows.proofs.Samples.{binary, compare, computing, constant, convert, exited, integer_kind, library, main_alone, none, number, one, pointer, seen, two}
+use Rattle.source_meaning_rows.proofs.Samples.{binary, compare, computing, constant, convert, exited, integer_kind}
+use Rattle.source_meaning_rows.proofs.Samples.{library, main_alone, none, number, one, pointer, seen, two}
 use Rattle.std.proofs.Common.{Some, [], refl, true, ◌≡◌}
 
 statement_1 : Statement
 statement_1 = return (Some (compare 1 Equal
-    (library 1 pointer Calloc (two (binary 1 ShiftLeft (constant UnsignedLong 1 1) (number 1 63)) (convert (integer_kind UnsignedLong) (number 1 2))))
+    (library 1 pointer Calloc
+    (two (binary 1 ShiftLeft (constant UnsignedLong 1 1) (number 1 63))
+    (convert (integer_kind UnsignedLong) (number 1 2))))
     (convert pointer (number 1 0))))
 
 program : Program

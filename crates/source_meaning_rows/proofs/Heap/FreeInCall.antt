@@ -3,14 +3,18 @@
 use Rattle.c_tree.specs.Programs.{Program, Function}
 use Rattle.c_tree.specs.Statements.{Statement, expression_statement, declaration, return}
 use Rattle.c_tree.specs.ValidProgram.{is_valid_program}
-use Rattle.c_tree.specs.declared.c_type.TypeWord.TheVariants.{Gives, Integer as IntegerWord, Pointer as PointerWord, Takes}
+use Rattle.c_tree.specs.declared.c_type.TypeWord.TheVariants.{Gives, Integer as IntegerWord, Pointer as PointerWord}
+use Rattle.c_tree.specs.declared.c_type.TypeWord.TheVariants.{Takes}
 use Rattle.c_tree.specs.declared.expression.Kind.TheVariants.{Void}
 use Rattle.c_tree.specs.declared.expression.Routine.TheVariants.{Free, Malloc}
 use Rattle.obj_memory.specs.declared.int_type.IntType.TheVariants.{Int, UnsignedLong}
 use Rattle.obj_memory.specs.declared.operator.BinaryOperator.TheVariants.{Add}
 use Rattle.sb_base.specs.Budgets.{default_sizes}
 use Rattle.source_meaning.specs.Meaning.{meaning}
-use Rattle.source_meaning_rows.proofs.Samples.{binary, call, computing, convert, defined, deref, function_type, int, integer_kind, library, main_type, none, number, one, plain, plain_variable, pointer, program_of, read, reads, seen, stopped, three, two, with_value}
+use Rattle.source_meaning_rows.proofs.Samples.{binary, call, computing, convert, defined, deref, function_type, int}
+use Rattle.source_meaning_rows.proofs.Samples.{integer_kind, library, main_type, none, number, one, plain}
+use Rattle.source_meaning_rows.proofs.Samples.{plain_variable, pointer, program_of, read, reads, seen, stopped, three}
+use Rattle.source_meaning_rows.proofs.Samples.{two, with_value}
 use Rattle.std.proofs.Common.{Some, [], refl, true, ◌∷◌, ◌≡◌}
 use Rattle.std.specs.Prelude.{codes}
 
@@ -25,14 +29,16 @@ function_g = defined 1 1
     (return (Some (binary 1 Add (plain 1 int 1) (read (deref 1 int (plain 1 pointer 0)))))))
 
 statement_1 : Statement
-statement_1 = return (Some (call 1 int 0 (one (library 1 pointer Malloc (one (convert (integer_kind UnsignedLong) (number 1 4)))))))
+statement_1 = return (Some
+    (call 1 int 0 (one (library 1 pointer Malloc (one (convert (integer_kind UnsignedLong) (number 1 4)))))))
 
 function_main : Function
 function_main = defined 1 0 none none 168 (one statement_1)
 
 program : Program
 program = program_of none
-    (two main_type (function_type (Takes ∷ PointerWord ∷ (IntegerWord Int) ∷ Gives ∷ (IntegerWord Int) ∷ []) (one pointer) int))
+    (two main_type (function_type (Takes ∷ PointerWord ∷ (IntegerWord Int) ∷ Gives ∷ (IntegerWord Int) ∷ [])
+    (one pointer) int))
     (two function_g function_main)
     1
 

@@ -8,11 +8,13 @@ use Rattle.c_tree.specs.declared.expression.Kind.TheVariants.{Void}
 use Rattle.c_tree.specs.declared.expression.Routine.TheVariants.{Free}
 use Rattle.sb_base.specs.Budgets.{default_sizes}
 use Rattle.source_meaning.specs.Meaning.{meaning}
-use Rattle.source_meaning_rows.proofs.Samples.{computing, convert, counts, exited, library, main_alone, none, number, one, pointer, seen, two}
+use Rattle.source_meaning_rows.proofs.Samples.{computing, convert, counts, exited, library, main_alone, none, number}
+use Rattle.source_meaning_rows.proofs.Samples.{one, pointer, seen, two}
 use Rattle.std.proofs.Common.{Some, [], refl, true, ◌≡◌}
 
 program : Program
-program = main_alone none none 168 (two (expression_statement (library 1 Void Free (one (convert pointer (number 1 0))))) (return (Some (number 1 0))))
+program = main_alone none none 168
+    (two (expression_statement (library 1 Void Free (one (convert pointer (number 1 0))))) (return (Some (number 1 0))))
 
 run : seen (meaning program default_sizes [] 20) ≡ exited [] 0
 unfolding program computing

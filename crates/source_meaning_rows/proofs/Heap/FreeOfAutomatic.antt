@@ -8,7 +8,8 @@ use Rattle.c_tree.specs.declared.expression.Kind.TheVariants.{Void}
 use Rattle.c_tree.specs.declared.expression.Routine.TheVariants.{Free}
 use Rattle.sb_base.specs.Budgets.{default_sizes}
 use Rattle.source_meaning.specs.Meaning.{meaning}
-use Rattle.source_meaning_rows.proofs.Samples.{address, computing, int, library, lvalue, main_alone, none, number, object_variable, one, seen, stopped, two, without_value}
+use Rattle.source_meaning_rows.proofs.Samples.{address, computing, int, library, lvalue, main_alone, none, number}
+use Rattle.source_meaning_rows.proofs.Samples.{object_variable, one, seen, stopped, two, without_value}
 use Rattle.std.proofs.Common.{Some, [], refl, true, ◌≡◌, ◌∷◌}
 use Rattle.std.specs.Prelude.{codes}
 

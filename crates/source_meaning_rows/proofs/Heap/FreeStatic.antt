@@ -8,12 +8,15 @@ use Rattle.c_tree.specs.declared.expression.Kind.TheVariants.{Void}
 use Rattle.c_tree.specs.declared.expression.Routine.TheVariants.{Free}
 use Rattle.sb_base.specs.Budgets.{default_sizes}
 use Rattle.source_meaning.specs.Meaning.{meaning}
-use Rattle.source_meaning_rows.proofs.Samples.{address, computing, int, library, lvalue, main_alone, none, number, one, seen, static_object, stopped, two}
+use Rattle.source_meaning_rows.proofs.Samples.{address, computing, int, library, lvalue, main_alone, none, number, one}
+use Rattle.source_meaning_rows.proofs.Samples.{seen, static_object, stopped, two}
 use Rattle.std.proofs.Common.{Some, [], refl, true, ◌≡◌}
 use Rattle.std.specs.Prelude.{codes}
 
 program : Program
-program = main_alone (one (static_object int none)) none 168 (two (expression_statement (library 1 Void Free (one (address 1 (lvalue 1 int (tree.static 0)))))) (return (Some (number 1 0))))
+program = main_alone (one (static_object int none)) none 168
+    (two (expression_statement (library 1 Void Free (one (address 1 (lvalue 1 int (tree.static 0))))))
+    (return (Some (number 1 0))))
 
 run : seen (meaning program default_sizes [] 20) ≡ stopped [] (codes "sbcets: bad free at line 1\n") 123
 unfolding program computing

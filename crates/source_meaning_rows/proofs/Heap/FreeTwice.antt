@@ -8,7 +8,8 @@ use Rattle.c_tree.specs.declared.expression.Routine.TheVariants.{Free, Malloc}
 use Rattle.obj_memory.specs.declared.int_type.IntType.TheVariants.{UnsignedLong}
 use Rattle.sb_base.specs.Budgets.{default_sizes}
 use Rattle.source_meaning.specs.Meaning.{meaning}
-use Rattle.source_meaning_rows.proofs.Samples.{computing, convert, four, integer_kind, library, main_alone, none, number, one, plain, plain_variable, pointer, seen, stopped, with_value}
+use Rattle.source_meaning_rows.proofs.Samples.{computing, convert, four, integer_kind, library, main_alone, none}
+use Rattle.source_meaning_rows.proofs.Samples.{number, one, plain, plain_variable, pointer, seen, stopped, with_value}
 use Rattle.std.proofs.Common.{Some, [], refl, true, ◌≡◌}
 use Rattle.std.specs.Prelude.{codes}
 
@@ -17,7 +18,8 @@ program = main_alone none
     (one (plain_variable pointer))
     208
     (four
-    (declaration (one (with_value 0 (library 1 pointer Malloc (one (convert (integer_kind UnsignedLong) (number 1 8)))))))
+    (declaration (one (with_value 0
+    (library 1 pointer Malloc (one (convert (integer_kind UnsignedLong) (number 1 8)))))))
     (expression_statement (library 1 Void Free (one (plain 1 pointer 0))))
     (expression_statement (library 1 Void Free (one (plain 1 pointer 0))))
     (return (Some (number 1 0))))

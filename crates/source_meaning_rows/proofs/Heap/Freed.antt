@@ -1,4 +1,5 @@
--- `char b[8];int main(void){char*p;p=malloc(4);E;return 0;}` for each E that is named: what can be freed and replaced, and what
+-- `char b[8];int main(void){char*p;p=malloc(4);E;return 0;}` for each E that is named: what can be freed and replaced,
+-- and what
 -- ends with 123. The heap has 4096 bytes.
 use Rattle.behaviours.specs.Shown.{End, Status}
 use Rattle.c_tree.specs.Programs.{Program, Function}
@@ -7,7 +8,8 @@ use Rattle.c_tree.specs.Tree as tree
 use Rattle.c_tree.specs.Tree.{Expression}
 use Rattle.c_tree.specs.ValidProgram.{is_valid_program}
 use Rattle.source_meaning.specs.Meaning.{meaning}
-use Rattle.source_meaning_rows.proofs.LibrarySamples.{ahead, array, free, malloc, null, perform, plain, program_of, realloc, set, small_heap, zero_chars}
+use Rattle.source_meaning_rows.proofs.LibrarySamples.{ahead, array, free, malloc, null, perform, plain, program_of}
+use Rattle.source_meaning_rows.proofs.LibrarySamples.{realloc, set, small_heap, zero_chars}
 use Rattle.source_meaning_rows.proofs.Samples.{at, computing, number, one, plain_variable, pointer, three}
 use Rattle.std.proofs.Common.{◌≡◌, [], ◌∷◌, refl, true, Option, Some}
 use Rattle.std.specs.List.{list_all}
@@ -91,6 +93,7 @@ unfolding ending program p b computing
 realloc_untagged = refl
 
 valid : list_all (λ e. is_valid_program (program e))
-    (free p ∷ free null ∷ free (at 1 pointer (tree.cast (number 1 1))) ∷ free (at 1 pointer (tree.cast ((at 1 pointer (tree.function 0))))) ∷ realloc p 8 ∷ []) ≡ true
+    (free p ∷ free null ∷ free (at 1 pointer (tree.cast (number 1 1)))
+    ∷ free (at 1 pointer (tree.cast ((at 1 pointer (tree.function 0))))) ∷ realloc p 8 ∷ []) ≡ true
 unfolding program p b computing
 valid = refl

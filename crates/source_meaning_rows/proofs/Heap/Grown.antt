@@ -1,4 +1,5 @@
--- `int main(void){char*p=malloc(4);p[3]=88;p=realloc(p,40);putchar(p[3]);putchar(p[39]+48);char*q=p;p=realloc(p,8);q[0]=1;
+-- `int
+-- main(void){char*p=malloc(4);p[3]=88;p=realloc(p,40);putchar(p[3]);putchar(p[39]+48);char*q=p;p=realloc(p,8);q[0]=1;
 -- return 0;}`: a block that grows keeps its bytes, and new bytes are 0. The old block is dead.
 use Rattle.behaviours.specs.Shown.{Status}
 use Rattle.c_tree.specs.Programs.{Program}
@@ -15,7 +16,8 @@ use Rattle.obj_memory.specs.declared.value.Scalar.TheVariants.{Integer}
 use Rattle.sb_base.specs.Budgets.{default_sizes}
 use Rattle.source_meaning.specs.Meaning.{meaning}
 use Rattle.source_meaning_rows.proofs.LibrarySamples.{call, malloc, perform, plain, program_declaring, realloc, set}
-use Rattle.source_meaning_rows.proofs.Samples.{at, computing, convert, int, lvalue, none, number, one, plain_variable, pointer, read, two, with_value}
+use Rattle.source_meaning_rows.proofs.Samples.{at, computing, convert, int, lvalue, none, number, one, plain_variable}
+use Rattle.source_meaning_rows.proofs.Samples.{pointer, read, two, with_value}
 use Rattle.std.proofs.Common.{◌≡◌, ℕ, [], ◌∷◌, refl, true, Some}
 use Rattle.std.specs.Prelude.{codes}
 
@@ -28,7 +30,8 @@ element e n = lvalue 1 (OfScalar (Integer Char)) (tree.index PointerPlusIndex 1 
 
 -- `E[N]=M;`
 assign : Expression → (n m : ℕ) → Statement
-assign e n m = perform (at 1 (OfScalar (Integer Char)) (tree.assign (element e n) ((convert (OfScalar (Integer Char)) (number 1 m)))))
+assign e n m = perform
+    (at 1 (OfScalar (Integer Char)) (tree.assign (element e n) ((convert (OfScalar (Integer Char)) (number 1 m)))))
 
 put : Expression → Statement
 put e = perform (call Putchar int (one e))

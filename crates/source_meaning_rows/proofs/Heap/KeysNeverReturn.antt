@@ -9,12 +9,14 @@ use Rattle.c_tree.specs.declared.expression.Routine.TheVariants.{Free, Malloc}
 use Rattle.obj_memory.specs.declared.int_type.IntType.TheVariants.{UnsignedLong}
 use Rattle.sb_base.specs.Budgets.{default_sizes}
 use Rattle.source_meaning.specs.Meaning.{meaning}
-use Rattle.source_meaning_rows.proofs.Samples.{computing, convert, integer_kind, library, main_alone, none, number, one, pointer, seen, stopped, three}
+use Rattle.source_meaning_rows.proofs.Samples.{computing, convert, integer_kind, library, main_alone, none, number, one}
+use Rattle.source_meaning_rows.proofs.Samples.{pointer, seen, stopped, three}
 use Rattle.std.proofs.Common.{Some, [], refl, true, ◌≡◌}
 use Rattle.std.specs.Prelude.{codes}
 
 statement_1 : Statement
-statement_1 = expression_statement (library 1 Void Free (one (library 1 pointer Malloc (one (convert (integer_kind UnsignedLong) (number 1 1))))))
+statement_1 = expression_statement
+    (library 1 Void Free (one (library 1 pointer Malloc (one (convert (integer_kind UnsignedLong) (number 1 1))))))
 
 program : Program
 program = main_alone none none 168 (three statement_1

@@ -9,7 +9,8 @@ use Rattle.c_tree.specs.declared.expression.Routine.TheVariants.{Malloc}
 use Rattle.obj_memory.specs.declared.int_type.IntType.TheVariants.{UnsignedLong}
 use Rattle.sb_base.specs.Budgets.{default_sizes}
 use Rattle.source_meaning.specs.Meaning.{meaning}
-use Rattle.source_meaning_rows.proofs.Samples.{computing, convert, four, integer_kind, library, main_alone, none, number, one, pointer, seen, stopped}
+use Rattle.source_meaning_rows.proofs.Samples.{computing, convert, four, integer_kind, library, main_alone, none}
+use Rattle.source_meaning_rows.proofs.Samples.{number, one, pointer, seen, stopped}
 use Rattle.std.proofs.Common.{Some, [], refl, true, ◌≡◌}
 use Rattle.std.specs.Prelude.{codes}
 

@@ -1,9 +1,11 @@
 -- A list is made and freed. The text is rows/linked_list.c; gcc 12.2.0 gives the same output and status.
 --     struct n{int v;struct n*q;};
---     int main(void){struct n*h=0;int i;int s=0;for(i=0;i<5;i++){struct n*m=malloc(sizeof(struct n));m->v=i+1;m->q=h;h=m;}
+--     int main(void){struct n*h=0;int i;int s=0;for(i=0;i<5;i++){struct n*m=malloc(sizeof(struct
+-- n));m->v=i+1;m->q=h;h=m;}
 --     while(h){struct n*m=h->q;s=s*3+h->v;free(h);h=m;}putchar(48+(h==0));return s%256;}
 use Rattle.c_tree.specs.Programs.{Program, Function}
-use Rattle.c_tree.specs.Statements.{Statement, expression_statement, declaration, while_do, for, return, first_expression}
+use Rattle.c_tree.specs.Statements.{Statement, expression_statement, declaration, while_do, for, return}
+use Rattle.c_tree.specs.Statements.{first_expression}
 use Rattle.c_tree.specs.ValidProgram.{is_valid_program}
 use Rattle.c_tree.specs.declared.expression.Fixity.TheVariants.{Postfix}
 use Rattle.c_tree.specs.declared.expression.Kind.TheVariants.{Void}
@@ -13,7 +15,10 @@ use Rattle.obj_memory.specs.declared.int_type.IntType.TheVariants.{Int, Unsigned
 use Rattle.obj_memory.specs.declared.operator.BinaryOperator.TheVariants.{Add, Equal, Less, Multiply, Remainder}
 use Rattle.sb_base.specs.Budgets.{default_sizes}
 use Rattle.source_meaning.specs.Meaning.{meaning}
-use Rattle.source_meaning_rows.proofs.Samples.{arrow, assign, binary, block_of, compare, computing, constant, convert, defined, exited, five, four, int, library, main_type, none, number, one, parenthesized, plain, plain_variable, pointer, program_of, read, seen, set_plain, six, step_plain, with_value, without_value}
+use Rattle.source_meaning_rows.proofs.Samples.{arrow, assign, binary, block_of, compare, computing, constant, convert}
+use Rattle.source_meaning_rows.proofs.Samples.{defined, exited, five, four, int, library, main_type, none, number, one}
+use Rattle.source_meaning_rows.proofs.Samples.{parenthesized, plain, plain_variable, pointer, program_of, read, seen}
+use Rattle.source_meaning_rows.proofs.Samples.{set_plain, six, step_plain, with_value, without_value}
 use Rattle.std.proofs.Common.{Some, [], refl, true, ◌≡◌, ◌∷◌}
 use Rattle.std.specs.Prelude.{codes}
 
@@ -32,7 +37,9 @@ statement_2 = for 2
     (statement_1)
 
 statement_3 : Statement
-statement_3 = expression_statement (set_plain 3 2 (binary 3 Add (binary 3 Multiply (plain 3 int 2) (number 3 3)) (read (arrow 3 int 0 (plain 3 pointer 0)))))
+statement_3 = expression_statement
+    (set_plain 3 2 (binary 3 Add (binary 3 Multiply (plain 3 int 2) (number 3 3))
+    (read (arrow 3 int 0 (plain 3 pointer 0)))))
 
 statement_4 : Statement
 statement_4 = block_of 4 (four
@@ -42,11 +49,15 @@ statement_4 = block_of 4 (four
     (expression_statement (set_plain 3 0 (plain 3 pointer 4))))
 
 statement_5 : Statement
-statement_5 = expression_statement (library 3 int Putchar (one (binary 3 Add (number 3 48) (parenthesized (compare 3 Equal (plain 3 pointer 0) (convert pointer (number 3 0)))))))
+statement_5 = expression_statement
+    (library 3 int Putchar
+    (one (binary 3 Add (number 3 48)
+    (parenthesized (compare 3 Equal (plain 3 pointer 0) (convert pointer (number 3 0)))))))
 
 function_main : Function
 function_main = defined 2 0 none
-    (five (plain_variable pointer) (plain_variable int) (plain_variable int) (plain_variable pointer) (plain_variable pointer))
+    (five (plain_variable pointer) (plain_variable int) (plain_variable int) (plain_variable pointer)
+    (plain_variable pointer))
     448
     ((declaration (one (with_value 0 (convert pointer (number 2 0)))))
     ∷ (declaration (without_value 1 ∷ []))

@@ -4,7 +4,8 @@
 --     for(;h;
 --     h=h->q){putchar(48+h->v);free(h);}return 0;}
 use Rattle.c_tree.specs.Programs.{Program, Function}
-use Rattle.c_tree.specs.Statements.{Statement, expression_statement, declaration, for, return, nothing, first_expression}
+use Rattle.c_tree.specs.Statements.{Statement, expression_statement, declaration, for, return, nothing}
+use Rattle.c_tree.specs.Statements.{first_expression}
 use Rattle.c_tree.specs.ValidProgram.{is_valid_program}
 use Rattle.c_tree.specs.declared.expression.Fixity.TheVariants.{Postfix}
 use Rattle.c_tree.specs.declared.expression.Kind.TheVariants.{Void}
@@ -14,7 +15,10 @@ use Rattle.obj_memory.specs.declared.int_type.IntType.TheVariants.{Int, Unsigned
 use Rattle.obj_memory.specs.declared.operator.BinaryOperator.TheVariants.{Add, Less}
 use Rattle.sb_base.specs.Budgets.{default_sizes}
 use Rattle.source_meaning.specs.Meaning.{meaning}
-use Rattle.source_meaning_rows.proofs.Samples.{arrow, assign, binary, block_of, compare, computing, constant, convert, defined, four, int, library, main_type, none, number, one, plain, plain_variable, pointer, program_of, read, seen, set_plain, step_plain, stopped, three, two, with_value, without_value}
+use Rattle.source_meaning_rows.proofs.Samples.{arrow, assign, binary, block_of, compare, computing, constant, convert}
+use Rattle.source_meaning_rows.proofs.Samples.{defined, four, int, library, main_type, none, number, one, plain}
+use Rattle.source_meaning_rows.proofs.Samples.{plain_variable, pointer, program_of, read, seen, set_plain, step_plain}
+use Rattle.source_meaning_rows.proofs.Samples.{stopped, three, two, with_value, without_value}
 use Rattle.std.proofs.Common.{Some, [], refl, true, ◌≡◌, ◌∷◌}
 use Rattle.std.specs.Prelude.{codes}
 
@@ -34,11 +38,13 @@ statement_2 = for 2
 
 statement_3 : Statement
 statement_3 = block_of 4 (two
-    (expression_statement (library 4 int Putchar (one (binary 4 Add (number 4 48) (read (arrow 4 int 0 (plain 4 pointer 0)))))))
+    (expression_statement
+    (library 4 int Putchar (one (binary 4 Add (number 4 48) (read (arrow 4 int 0 (plain 4 pointer 0)))))))
     (expression_statement (library 4 Void Free (one (plain 4 pointer 0)))))
 
 statement_4 : Statement
-statement_4 = for 3 nothing (Some (plain 3 pointer 0)) (Some (set_plain 4 0 (read (arrow 4 pointer 8 (plain 4 pointer 0))))) (statement_3)
+statement_4 = for 3 nothing (Some (plain 3 pointer 0))
+    (Some (set_plain 4 0 (read (arrow 4 pointer 8 (plain 4 pointer 0))))) (statement_3)
 
 function_main : Function
 function_main = defined 2 0 none
@@ -54,7 +60,8 @@ function_main = defined 2 0 none
 program : Program
 program = program_of none (one main_type) (one function_main) 0
 
-run : seen (meaning program default_sizes [] 20) ≡ stopped (codes "2") (codes "sbcets: temporal violation at line 4\n") 121
+run : seen (meaning program default_sizes [] 20)
+    ≡ stopped (codes "2") (codes "sbcets: temporal violation at line 4\n") 121
 unfolding program function_main statement_1 statement_2 statement_3 statement_4 computing
 run = refl
 

@@ -1,4 +1,5 @@
--- `int main(void){char*p=malloc(1);*p=5;if(realloc(p,2)==0)return *p;return 0;}` at one live block in all: there is none for
+-- `int main(void){char*p=malloc(1);*p=5;if(realloc(p,2)==0)return *p;return 0;}` at one live block in all: there is
+-- none for
 -- the new one, and the old one lives on.
 use Rattle.behaviours.specs.Shown.{Status}
 use Rattle.c_tree.specs.Programs.{Program}
@@ -13,7 +14,8 @@ use Rattle.obj_memory.specs.declared.value.Scalar.TheVariants.{Integer}
 use Rattle.sb_base.specs.Budgets.{default_sizes}
 use Rattle.source_meaning.specs.Meaning.{meaning}
 use Rattle.source_meaning_rows.proofs.LibrarySamples.{compare, malloc, null, perform, plain, program_declaring, realloc}
-use Rattle.source_meaning_rows.proofs.Samples.{at, computing, convert, four, int, lvalue, none, number, one, plain_variable, pointer, read, with_value}
+use Rattle.source_meaning_rows.proofs.Samples.{at, computing, convert, four, int, lvalue, none, number, one}
+use Rattle.source_meaning_rows.proofs.Samples.{plain_variable, pointer, read, with_value}
 use Rattle.std.proofs.Common.{◌≡◌, [], refl, true, Some, None}
 
 p : Expression

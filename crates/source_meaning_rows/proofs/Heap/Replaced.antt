@@ -1,4 +1,5 @@
--- `int main(void){char*p;char*q;p=malloc(N);q=realloc(p,M);return E;}` for N, M and E as named, in a heap of 4096 bytes: where a
+-- `int main(void){char*p;char*q;p=malloc(N);q=realloc(p,M);return E;}` for N, M and E as named, in a heap of 4096
+-- bytes: where a
 -- block is placed that replaces another, and what is left where it has no place.
 use Rattle.c_tree.specs.Tree as tree
 use Rattle.behaviours.specs.Shown.{End, Status}
@@ -11,7 +12,8 @@ use Rattle.obj_memory.specs.declared.operator.BinaryOperator.TheVariants.{Equal}
 use Rattle.obj_memory.specs.declared.value.Scalar.TheVariants.{Integer}
 use Rattle.sb_base.specs.Budgets.{BudgetSizes}
 use Rattle.source_meaning.specs.Meaning.{meaning}
-use Rattle.source_meaning_rows.proofs.LibrarySamples.{compare, malloc, null, plain, program_of, realloc, set, small_heap, strlen}
+use Rattle.source_meaning_rows.proofs.LibrarySamples.{compare, malloc, null, plain, program_of, realloc, set}
+use Rattle.source_meaning_rows.proofs.LibrarySamples.{small_heap, strlen}
 use Rattle.source_meaning_rows.proofs.Samples.{at, computing, convert, int, none, plain_variable, pointer, three, two}
 use Rattle.std.proofs.Common.{◌≡◌, ℕ, [], refl, Option, Some}
 
@@ -29,7 +31,9 @@ ending : (n m : ℕ) → BudgetSizes → Expression → Option End
 ending n m budgets e = (meaning (program n m e) budgets [] 1).shown.ending
 
 -- `q=realloc(p,16)` of `p=malloc(16)`: the new block stands behind the old one, which lives until then. `return q-p;`
-moves : ending 16 16 (small_heap) (at 1 (OfScalar (Integer Int)) (tree.convert ((at 1 (OfScalar (Integer Long)) (tree.difference 1 (q) (p)))))) ≡ Some (Status 16)
+moves : ending 16 16 (small_heap)
+    (at 1 (OfScalar (Integer Int)) (tree.convert ((at 1 (OfScalar (Integer Long)) (tree.difference 1 (q) (p))))))
+    ≡ Some (Status 16)
 unfolding ending program p q computing
 moves = refl
 
@@ -38,7 +42,8 @@ old_is_dead : ending 16 16 (small_heap) (convert int (strlen p)) ≡ Some (Statu
 unfolding ending program p q computing
 old_is_dead = refl
 
--- `q=realloc(p,2096)` of `p=malloc(2000)` in a heap of 4096 bytes: the room behind the old one is just enough. `return q==0;`
+-- `q=realloc(p,2096)` of `p=malloc(2000)` in a heap of 4096 bytes: the room behind the old one is just enough. `return
+-- q==0;`
 fits : ending 2000 2096 (small_heap) (compare Equal q null) ≡ Some (Status 0)
 unfolding ending program p q computing
 fits = refl

@@ -7,13 +7,17 @@ use Rattle.c_tree.specs.Programs.{Function, Program}
 use Rattle.c_tree.specs.Statements.{expression_statement, declaration, return}
 use Rattle.c_tree.specs.Tree.{automatic}
 use Rattle.c_tree.specs.ValidProgram.{is_valid_program}
-use Rattle.c_tree.specs.declared.c_type.TypeWord.TheVariants.{Takes, Gives, Integer as IntegerWord, Structure as StructureWord}
+use Rattle.c_tree.specs.declared.c_type.TypeWord.TheVariants.{Takes, Gives, Integer as IntegerWord}
+use Rattle.c_tree.specs.declared.c_type.TypeWord.TheVariants.{Structure as StructureWord}
 use Rattle.c_tree.specs.declared.expression.Kind.TheVariants.{Void, Structure, Array}
 use Rattle.c_tree.specs.declared.expression.Routine.TheVariants.{Malloc, Free}
 use Rattle.obj_memory.specs.declared.int_type.IntType.TheVariants.{Int, UnsignedLong}
 use Rattle.sb_base.specs.Budgets.{default_sizes}
 use Rattle.source_meaning.specs.Meaning.{meaning}
-use Rattle.source_meaning_rows.proofs.Samples.{int, pointer, integer_kind, number, plain, decay, convert, call, library, read, lvalue, deref, index, member, with_value, plain_variable, object_variable, function_type, defined, program_with, computing, seen, stopped}
+use Rattle.source_meaning_rows.proofs.Samples.{int, pointer, integer_kind, number, plain, decay, convert, call, library}
+use Rattle.source_meaning_rows.proofs.Samples.{read, lvalue, deref, index, member, with_value, plain_variable}
+use Rattle.source_meaning_rows.proofs.Samples.{object_variable, function_type, defined, program_with, computing, seen}
+use Rattle.source_meaning_rows.proofs.Samples.{stopped}
 use Rattle.std.proofs.Common.{◌∷◌, [], Some, ◌≡◌, refl, true}
 use Rattle.std.specs.Prelude.{codes}
 

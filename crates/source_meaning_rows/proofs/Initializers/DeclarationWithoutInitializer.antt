@@ -12,7 +12,10 @@ use Rattle.obj_memory.specs.declared.int_type.IntType.TheVariants.{Int}
 use Rattle.obj_memory.specs.declared.operator.BinaryOperator.TheVariants.{Add, Less, Multiply}
 use Rattle.sb_base.specs.Budgets.{default_sizes}
 use Rattle.source_meaning.specs.Meaning.{meaning}
-use Rattle.source_meaning_rows.proofs.Samples.{assign, binary, block_of, compare, computing, decay, exited, four, index, int, lvalue, main_alone, none, number, object_variable, one, plain, plain_variable, read, seen, set_plain, step_plain, three, with_value, without_value}
+use Rattle.source_meaning_rows.proofs.Samples.{assign, binary, block_of, compare, computing, decay, exited, four, index}
+use Rattle.source_meaning_rows.proofs.Samples.{int, lvalue, main_alone, none, number, object_variable, one, plain}
+use Rattle.source_meaning_rows.proofs.Samples.{plain_variable, read, seen, set_plain, step_plain, three, with_value}
+use Rattle.source_meaning_rows.proofs.Samples.{without_value}
 use Rattle.std.proofs.Common.{Some, [], refl, true, ◌≡◌, ◌∷◌}
 
 statement_1 : Statement
@@ -30,7 +33,8 @@ statement_3 = for 1
     (first_expression (set_plain 1 0 (number 1 0)))
     (Some (compare 1 Less (plain 1 int 0) (number 1 3)))
     (Some (step_plain 1 int (Arithmetic Add Int) Postfix 0))
-    ((block_of 1 (three (expression_statement (set_plain 1 2 (binary 1 Add (plain 1 int 2) (number 1 1)))) statement_1 statement_2)))
+    ((block_of 1 (three (expression_statement (set_plain 1 2 (binary 1 Add (plain 1 int 2) (number 1 1))))
+    statement_1 statement_2)))
 
 program : Program
 program = main_alone none

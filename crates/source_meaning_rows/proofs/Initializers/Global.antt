@@ -28,7 +28,8 @@ unfolding program x computing
 work = refl
 
 accesses : (meaning program default_sizes [] 1).shown.accesses ≡
-    record { address = 0x10000000; size = 4; kind = Write } ∷ record { address = 0x10000000; size = 4; kind = ReadAccess } ∷ []
+    record { address = 0x10000000; size = 4; kind = Write }
+    ∷ record { address = 0x10000000; size = 4; kind = ReadAccess } ∷ []
 unfolding program x computing
 accesses = refl
 

@@ -12,7 +12,9 @@ use Rattle.obj_memory.specs.declared.int_type.IntType.TheVariants.{Char}
 use Rattle.obj_memory.specs.declared.operator.BinaryOperator.TheVariants.{Add}
 use Rattle.sb_base.specs.Budgets.{default_sizes}
 use Rattle.source_meaning.specs.Meaning.{meaning}
-use Rattle.source_meaning_rows.proofs.Samples.{binary, computing, content, convert, counts, decay, exited, index, int, integer_kind, lvalue, main_alone, none, number, object_variable, one, part, read, reads, seen, three, two, with_parts, writes}
+use Rattle.source_meaning_rows.proofs.Samples.{binary, computing, content, convert, counts, decay, exited, index, int}
+use Rattle.source_meaning_rows.proofs.Samples.{integer_kind, lvalue, main_alone, none, number, object_variable, one}
+use Rattle.source_meaning_rows.proofs.Samples.{part, read, reads, seen, three, two, with_parts, writes}
 use Rattle.std.proofs.Common.{Some, [], refl, true, ◌++◌, ◌∷◌, ◌≡◌}
 use Rattle.std.specs.Prelude.{codes}
 
@@ -35,7 +37,12 @@ unfolding program statement_1 computing
 run = refl
 
 counted : counts (meaning program default_sizes [] 20) ≡
-    record { turns = 1; work = 41; accesses = writes 0x10000000 1 ∷ writes 0x10000001 1 ∷ writes 0x10000002 1 ∷ writes 0x10000014 4 ∷ reads 0x10000001 1 ∷ reads 0x10000010 4 ∷ [] }
+    record {
+      turns = 1;
+      work = 41;
+      accesses = writes 0x10000000 1 ∷ writes 0x10000001 1 ∷ writes 0x10000002 1
+          ∷ writes 0x10000014 4 ∷ reads 0x10000001 1 ∷ reads 0x10000010 4 ∷ [];
+    }
 unfolding program statement_1 computing
 counted = refl
 

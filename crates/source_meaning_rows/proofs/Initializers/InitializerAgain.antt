@@ -12,7 +12,10 @@ use Rattle.obj_memory.specs.declared.int_type.IntType.TheVariants.{Int}
 use Rattle.obj_memory.specs.declared.operator.BinaryOperator.TheVariants.{Add, Less, Multiply}
 use Rattle.sb_base.specs.Budgets.{default_sizes}
 use Rattle.source_meaning.specs.Meaning.{meaning}
-use Rattle.source_meaning_rows.proofs.Samples.{assign, binary, block_of, compare, computing, content, decay, exited, four, index, int, lvalue, main_alone, none, number, object_variable, one, part, plain, plain_variable, read, seen, set_plain, step_plain, three, with_parts, with_value, without_value}
+use Rattle.source_meaning_rows.proofs.Samples.{assign, binary, block_of, compare, computing, content, decay, exited}
+use Rattle.source_meaning_rows.proofs.Samples.{four, index, int, lvalue, main_alone, none, number, object_variable, one}
+use Rattle.source_meaning_rows.proofs.Samples.{part, plain, plain_variable, read, seen, set_plain, step_plain, three}
+use Rattle.source_meaning_rows.proofs.Samples.{with_parts, with_value, without_value}
 use Rattle.std.proofs.Common.{Some, [], refl, true, ◌≡◌, ◌∷◌}
 
 statement_1 : Statement
@@ -33,7 +36,8 @@ statement_3 = expression_statement (set_plain 1 1 (binary 1 Add
     (read (index 1 int (decay (lvalue 1 (Array 8) (tree.automatic 2))) (number 1 1)))))
 
 statement_4 : Statement
-statement_4 = block_of 2 (four (declaration (one (with_parts 2 (one (part 0 (content (number 1 1))))))) statement_1 statement_2 statement_3)
+statement_4 = block_of 2
+    (four (declaration (one (with_parts 2 (one (part 0 (content (number 1 1))))))) statement_1 statement_2 statement_3)
 
 statement_5 : Statement
 statement_5 = for 1

@@ -1,6 +1,7 @@
 -- A static object of a block keeps its value, and is apart from others of its name. The text is rows/static_locals.c;
 -- gcc 12.2.0 gives the same output and status.
---     int f(void){static int n=5;static char s[]="ab";n++;s[0]++;return n*10+s[0]-97;}int g(void){static int n;return ++n;}
+--     int f(void){static int n=5;static char s[]="ab";n++;s[0]++;return n*10+s[0]-97;}int g(void){static int n;return
+-- ++n;}
 --     int main(void){static int n=7;f();g();f();g();return f()+g()+n;}
 use Rattle.c_tree.specs.Programs.{Program, Function}
 use Rattle.c_tree.specs.Statements.{Statement, expression_statement, return, literal_content}
@@ -13,12 +14,16 @@ use Rattle.obj_memory.specs.declared.int_type.IntType.TheVariants.{Char, Int}
 use Rattle.obj_memory.specs.declared.operator.BinaryOperator.TheVariants.{Add, Multiply, Subtract}
 use Rattle.sb_base.specs.Budgets.{default_sizes}
 use Rattle.source_meaning.specs.Meaning.{meaning}
-use Rattle.source_meaning_rows.proofs.Samples.{binary, call, computing, content, convert, decay, defined, exited, five, four, index, int, integer_kind, lvalue, main_type, none, number, one, part, program_of, read, seen, static_object, step, three}
+use Rattle.source_meaning_rows.proofs.Samples.{binary, call, computing, content, convert, decay, defined, exited, five}
+use Rattle.source_meaning_rows.proofs.Samples.{four, index, int, integer_kind, lvalue, main_type, none, number, one}
+use Rattle.source_meaning_rows.proofs.Samples.{part, program_of, read, seen, static_object, step, three}
 use Rattle.std.proofs.Common.{Some, [], refl, true, ◌++◌, ◌∷◌, ◌≡◌}
 use Rattle.std.specs.Prelude.{codes}
 
 statement_1 : Statement
-statement_1 = expression_statement (step 1 (Arithmetic Add Int) Postfix (index 1 (integer_kind Char) (decay (lvalue 1 (Array 3) (tree.static 1))) (number 1 0)))
+statement_1 = expression_statement
+    (step 1 (Arithmetic Add Int) Postfix
+    (index 1 (integer_kind Char) (decay (lvalue 1 (Array 3) (tree.static 1))) (number 1 0)))
 
 statement_2 : Statement
 statement_2 = return (Some (binary 1 Subtract
@@ -28,13 +33,17 @@ statement_2 = return (Some (binary 1 Subtract
     (number 1 97)))
 
 function_f : Function
-function_f = defined 1 0 none none 248 (three (expression_statement (step 1 (Arithmetic Add Int) Postfix (lvalue 1 int (tree.static 0)))) statement_1 statement_2)
+function_f = defined 1 0 none none 248
+    (three (expression_statement (step 1 (Arithmetic Add Int) Postfix (lvalue 1 int (tree.static 0))))
+    statement_1 statement_2)
 
 function_g : Function
-function_g = defined 1 0 none none 168 (one (return (Some (step 1 (Arithmetic Add Int) Prefix (lvalue 1 int (tree.static 2))))))
+function_g = defined 1 0 none none 168
+    (one (return (Some (step 1 (Arithmetic Add Int) Prefix (lvalue 1 int (tree.static 2))))))
 
 statement_3 : Statement
-statement_3 = return (Some (binary 2 Add (binary 2 Add (call 2 int 0 none) (call 2 int 1 none)) (read (lvalue 2 int (tree.static 3)))))
+statement_3 = return (Some
+    (binary 2 Add (binary 2 Add (call 2 int 0 none) (call 2 int 1 none)) (read (lvalue 2 int (tree.static 3)))))
 
 function_main : Function
 function_main = defined 2 0 none none 208 (five

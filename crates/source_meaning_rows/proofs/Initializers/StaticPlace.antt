@@ -1,5 +1,6 @@
 -- `int x;int main(void){long a=(long)&x;return a>>28;}`
--- The first object has the address 0x10000000. Work: 3 for the call, the variable and the body; 3 for the initializer; 4
+-- The first object has the address 0x10000000. Work: 3 for the call, the variable and the body; 3 for the initializer;
+-- 4
 -- for the return. The text is rows/static_place.c.
 use Rattle.c_tree.specs.Programs.{Program}
 use Rattle.c_tree.specs.Statements.{declaration, return}
@@ -9,7 +10,9 @@ use Rattle.obj_memory.specs.declared.int_type.IntType.TheVariants.{Long}
 use Rattle.obj_memory.specs.declared.operator.BinaryOperator.TheVariants.{ShiftRight}
 use Rattle.sb_base.specs.Budgets.{default_sizes}
 use Rattle.source_meaning.specs.Meaning.{meaning}
-use Rattle.source_meaning_rows.proofs.Samples.{address, binary, cast, computing, convert, counts, exited, int, integer_kind, lvalue, main_alone, none, number, one, plain, plain_variable, seen, static_object, two, with_value}
+use Rattle.source_meaning_rows.proofs.Samples.{address, binary, cast, computing, convert, counts, exited, int}
+use Rattle.source_meaning_rows.proofs.Samples.{integer_kind, lvalue, main_alone, none, number, one, plain}
+use Rattle.source_meaning_rows.proofs.Samples.{plain_variable, seen, static_object, two, with_value}
 use Rattle.std.proofs.Common.{Some, [], refl, true, ◌≡◌}
 
 program : Program

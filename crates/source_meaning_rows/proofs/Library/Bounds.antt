@@ -1,4 +1,5 @@
--- `char a[4];char b[8]="bcd";char c[2]="xy";int main(void){E;return 0;}` for each E that is named: every routine inside its
+-- `char a[4];char b[8]="bcd";char c[2]="xy";int main(void){E;return 0;}` for each E that is named: every routine inside
+-- its
 -- ranges, one byte outside, and at no bytes. A violation ends with 120.
 use Rattle.behaviours.specs.Shown.{End, Status}
 use Rattle.c_tree.specs.Programs.{Program}
@@ -7,7 +8,9 @@ use Rattle.c_tree.specs.Tree.{Expression}
 use Rattle.c_tree.specs.ValidProgram.{is_valid_program}
 use Rattle.sb_base.specs.Budgets.{default_sizes}
 use Rattle.source_meaning.specs.Meaning.{meaning}
-use Rattle.source_meaning_rows.proofs.LibrarySamples.{ahead, array, chars, memcmp, memcpy, memmove, memset, null, perform, printf, program_of, puts, strcat, strchr, strcmp, strcpy, strlen, strncpy, zero_chars}
+use Rattle.source_meaning_rows.proofs.LibrarySamples.{ahead, array, chars, memcmp, memcpy, memmove, memset, null}
+use Rattle.source_meaning_rows.proofs.LibrarySamples.{perform, printf, program_of, puts, strcat, strchr, strcmp, strcpy}
+use Rattle.source_meaning_rows.proofs.LibrarySamples.{strlen, strncpy, zero_chars}
 use Rattle.source_meaning_rows.proofs.Samples.{computing, none, number, one, three, two}
 use Rattle.std.proofs.Common.{◌≡◌, [], ◌∷◌, refl, true, Option, Some}
 use Rattle.std.specs.List.{list_all}
@@ -23,7 +26,8 @@ c : Expression
 c = array 2 2
 
 program : Expression → Program
-program e = program_of (three (zero_chars 4) (chars 8 (codes "bcd")) (chars 2 (codes "xy"))) none (two (perform e) (return (Some (number 1 0))))
+program e = program_of (three (zero_chars 4) (chars 8 (codes "bcd")) (chars 2 (codes "xy"))) none
+    (two (perform e) (return (Some (number 1 0))))
 
 ending : Expression → Option End
 ending e = (meaning (program e) default_sizes [] 1).shown.ending
@@ -245,7 +249,8 @@ unfolding program a b c computing
 no_access = refl
 
 valid : list_all (λ e. is_valid_program (program e))
-    (memcpy a b 4 ∷ memmove a b 4 ∷ memset a 7 4 ∷ memcmp a b 4 ∷ strlen b ∷ strcmp b c ∷ strcpy a b ∷ strncpy a b 4 ∷ strcat a b ∷ strchr b 0 ∷ puts b
+    (memcpy a b 4 ∷ memmove a b 4 ∷ memset a 7 4 ∷ memcmp a b 4 ∷ strlen b ∷ strcmp b c ∷ strcpy a b ∷ strncpy a b 4
+    ∷ strcat a b ∷ strchr b 0 ∷ puts b
     ∷ memcpy null (ahead 1 a) 0 ∷ printf (codes "%s%s") (two b c) ∷ []) ≡ true
 unfolding program a b c computing
 valid = refl

@@ -11,12 +11,18 @@ use Rattle.obj_memory.specs.declared.int_type.IntType.TheVariants.{Char}
 use Rattle.obj_memory.specs.declared.operator.BinaryOperator.TheVariants.{Add, Equal, Less}
 use Rattle.sb_base.specs.Budgets.{default_sizes}
 use Rattle.source_meaning.specs.Meaning.{meaning}
-use Rattle.source_meaning_rows.proofs.Samples.{address, assign, binary, cast, compare, computing, content, deref, five, index, int, integer_kind, library, lvalue, main_alone, member, number, object_variable, one, parenthesized, part, plain, plain_variable, pointer, read, seen, set_plain, six, static_object, stopped, with_value, without_value}
+use Rattle.source_meaning_rows.proofs.Samples.{address, assign, binary, cast, compare, computing, content, deref, five}
+use Rattle.source_meaning_rows.proofs.Samples.{index, int, integer_kind, library, lvalue, main_alone, member, number}
+use Rattle.source_meaning_rows.proofs.Samples.{object_variable, one, parenthesized, part, plain, plain_variable}
+use Rattle.source_meaning_rows.proofs.Samples.{pointer, read, seen, set_plain, six, static_object, stopped, with_value}
+use Rattle.source_meaning_rows.proofs.Samples.{without_value}
 use Rattle.std.proofs.Common.{Some, [], refl, true, ◌≡◌, ◌∷◌}
 use Rattle.std.specs.Prelude.{codes}
 
 statement_1 : Statement
-statement_1 = expression_statement (assign 1 (member 1 pointer 0 (lvalue 1 (Structure 8) (tree.automatic 0))) (address 1 (lvalue 1 int (tree.static 0))))
+statement_1 = expression_statement
+    (assign 1 (member 1 pointer 0 (lvalue 1 (Structure 8) (tree.automatic 0)))
+    (address 1 (lvalue 1 int (tree.static 0))))
 
 statement_2 : Statement
 statement_2 = expression_statement (assign 2
@@ -31,7 +37,8 @@ statement_3 = for 2
     (statement_2)
 
 statement_4 : Statement
-statement_4 = expression_statement (library 2 int Putchar (one (binary 2 Add (number 2 48) (parenthesized (compare 2 Equal
+statement_4 = expression_statement
+    (library 2 int Putchar (one (binary 2 Add (number 2 48) (parenthesized (compare 2 Equal
     (read (member 2 pointer 0 (lvalue 2 (Structure 8) (tree.automatic 0))))
     (read (member 2 pointer 0 (lvalue 2 (Structure 8) (tree.automatic 1)))))))))
 
@@ -55,7 +62,8 @@ program = main_alone
     ∷ (return (Some (read (deref 2 int (read (member 2 pointer 0 (lvalue 2 (Structure 8) (tree.automatic 1))))))))
     ∷ [])
 
-run : seen (meaning program default_sizes [] 20) ≡ stopped (codes "1") (codes "sbcets: spatial violation at line 2\n") 120
+run : seen (meaning program default_sizes [] 20)
+    ≡ stopped (codes "1") (codes "sbcets: spatial violation at line 2\n") 120
 unfolding program statement_1 statement_2 statement_3 statement_4 computing
 run = refl
 

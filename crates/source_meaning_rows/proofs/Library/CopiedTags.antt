@@ -1,5 +1,7 @@
--- `struct s{int*p;};int x=66;int main(void){struct s a;struct s b;struct s c;a.p=&x;memcpy(&b,&a,8);putchar(*b.p);` and on line 2
--- `char*d=(char*)&c;char*e=(char*)&a;int i;for(i=0;i<8;i=i+1)d[i]=e[i];return *c.p;}`: `memcpy` moves tags. A copy byte by byte
+-- `struct s{int*p;};int x=66;int main(void){struct s a;struct s b;struct s c;a.p=&x;memcpy(&b,&a,8);putchar(*b.p);` and
+-- on line 2
+-- `char*d=(char*)&c;char*e=(char*)&a;int i;for(i=0;i<8;i=i+1)d[i]=e[i];return *c.p;}`: `memcpy` moves tags. A copy byte
+-- by byte
 -- carries none, so that the last read is outside.
 use Rattle.behaviours.specs.Shown.{Status}
 use Rattle.c_tree.specs.Programs.{Program}
@@ -16,7 +18,8 @@ use Rattle.obj_memory.specs.declared.value.Scalar.TheVariants.{Integer}
 use Rattle.sb_base.specs.Budgets.{default_sizes}
 use Rattle.source_meaning.specs.Meaning.{meaning}
 use Rattle.source_meaning_rows.proofs.LibrarySamples.{call, memcpy, perform, program_declaring}
-use Rattle.source_meaning_rows.proofs.Samples.{at, computing, int, lvalue, number, object_variable, one, plain_variable, pointer, read, six, with_value, without_value}
+use Rattle.source_meaning_rows.proofs.Samples.{at, computing, int, lvalue, number, object_variable, one, plain_variable}
+use Rattle.source_meaning_rows.proofs.Samples.{pointer, read, six, with_value, without_value}
 use Rattle.std.proofs.Common.{◌≡◌, ℕ, [], ◌∷◌, refl, true, false, Some, None}
 use Rattle.std.specs.Prelude.{codes}
 
@@ -48,8 +51,15 @@ characters x n = declaration (one (with_value x (at 2 pointer (tree.cast (addres
 
 program : Program
 program = program_declaring
-    (one (record { kind = int; is_literal = false; function = None; parts = one (record { offset = 0; content = value_content (number 1 66) }) }))
-    (six (object_variable (Structure 8)) (object_variable (Structure 8)) (object_variable (Structure 8)) (plain_variable pointer) (plain_variable pointer) (plain_variable int))
+    (one (record {
+      kind = int;
+      is_literal = false;
+      function = None;
+      parts = one
+          (record { offset = 0; content = value_content (number 1 66) });
+    }))
+    (six (object_variable (Structure 8)) (object_variable (Structure 8)) (object_variable (Structure 8))
+    (plain_variable pointer) (plain_variable pointer) (plain_variable int))
     (declaration (without_value 0 ∷ without_value 1 ∷ without_value 2 ∷ [])
     ∷ perform (at 1 pointer (tree.assign (member 1 0) ((at 1 pointer (tree.address ((lvalue 1 int (tree.static 0))))))))
     ∷ perform (memcpy (address 1 1) (address 1 0) 8)

@@ -10,7 +10,9 @@ use Rattle.obj_memory.specs.declared.operator.BinaryOperator.TheVariants.{NotEqu
 use Rattle.obj_memory.specs.declared.operator.UnaryOperator.TheVariants.{Negate}
 use Rattle.sb_base.specs.Budgets.{default_sizes}
 use Rattle.source_meaning.specs.Meaning.{meaning}
-use Rattle.source_meaning_rows.proofs.Samples.{compare, computing, counts, exited, int, library, main_alone, none, number, one, parenthesized, plain, plain_variable, running, seen, set_plain, two, unary, without_value}
+use Rattle.source_meaning_rows.proofs.Samples.{compare, computing, counts, exited, int, library, main_alone, none}
+use Rattle.source_meaning_rows.proofs.Samples.{number, one, parenthesized, plain, plain_variable, running, seen}
+use Rattle.source_meaning_rows.proofs.Samples.{set_plain, two, unary, without_value}
 use Rattle.std.proofs.Common.{◌^◌, ◌-◌, Some, [], refl, true, ◌∷◌, ◌≡◌}
 
 statement_1 : Statement

@@ -1,4 +1,5 @@
--- `int main(void){int i;for(i=0;i<3;i++)printf("%d",i);puts("");return 1;}`. The output is that of gcc (Debian 12.2.0) with
+-- `int main(void){int i;for(i=0;i<3;i++)printf("%d",i);puts("");return 1;}`. The output is that of gcc (Debian 12.2.0)
+-- with
 -- `-std=c99 -fwrapv -funsigned-char`.
 use Rattle.behaviours.specs.Shown.{Status}
 use Rattle.c_tree.specs.Programs.{Program}

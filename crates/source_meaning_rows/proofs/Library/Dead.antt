@@ -1,11 +1,14 @@
--- `char b[8]="bcd";int main(void){char*p;p=malloc(4);free(p);E;return 0;}` for each E that is named: every routine at an object
+-- `char b[8]="bcd";int main(void){char*p;p=malloc(4);free(p);E;return 0;}` for each E that is named: every routine at
+-- an object
 -- that is dead. The heap has 4096 bytes.
 use Rattle.behaviours.specs.Shown.{End, Status}
 use Rattle.c_tree.specs.Programs.{Program}
 use Rattle.c_tree.specs.Statements.{return}
 use Rattle.c_tree.specs.Tree.{Expression}
 use Rattle.source_meaning.specs.Meaning.{meaning}
-use Rattle.source_meaning_rows.proofs.LibrarySamples.{ahead, array, chars, free, malloc, memcmp, memcpy, memmove, memset, perform, plain, printf, program_of, puts, realloc, set, small_heap, strcat, strchr, strcmp, strcpy, strlen, strncpy}
+use Rattle.source_meaning_rows.proofs.LibrarySamples.{ahead, array, chars, free, malloc, memcmp, memcpy, memmove}
+use Rattle.source_meaning_rows.proofs.LibrarySamples.{memset, perform, plain, printf, program_of, puts, realloc, set}
+use Rattle.source_meaning_rows.proofs.LibrarySamples.{small_heap, strcat, strchr, strcmp, strcpy, strlen, strncpy}
 use Rattle.source_meaning_rows.proofs.Samples.{computing, four, number, one, plain_variable, pointer}
 use Rattle.std.proofs.Common.{◌≡◌, [], refl, Option, Some}
 use Rattle.std.specs.Prelude.{codes}

@@ -10,12 +10,15 @@ use Rattle.obj_memory.specs.declared.int_type.IntType.TheVariants.{Int}
 use Rattle.obj_memory.specs.declared.operator.BinaryOperator.TheVariants.{Add, Equal, Subtract}
 use Rattle.sb_base.specs.Budgets.{default_sizes}
 use Rattle.source_meaning.specs.Meaning.{meaning}
-use Rattle.source_meaning_rows.proofs.Samples.{binary, call, compare, computing, defined, exited, function_type, int, library, main_type, none, number, one, plain, plain_variable, program_of, seen, three, two}
+use Rattle.source_meaning_rows.proofs.Samples.{binary, call, compare, computing, defined, exited, function_type, int}
+use Rattle.source_meaning_rows.proofs.Samples.{library, main_type, none, number, one, plain, plain_variable, program_of}
+use Rattle.source_meaning_rows.proofs.Samples.{seen, three, two}
 use Rattle.std.proofs.Common.{None, Some, [], refl, true, ◌∷◌, ◌≡◌}
 use Rattle.std.specs.Prelude.{codes}
 
 statement_1 : Statement
-statement_1 = if_then (compare 1 Equal (plain 1 int 0) (number 1 0)) ((expression_statement (library 1 Void Exit (one (number 1 300)))))
+statement_1 = if_then (compare 1 Equal (plain 1 int 0) (number 1 0))
+    ((expression_statement (library 1 Void Exit (one (number 1 300)))))
 
 function_f : Function
 function_f = defined 1 1
@@ -27,7 +30,8 @@ function_f = defined 1 1
     (expression_statement (call 1 Void 0 (one (binary 1 Subtract (plain 1 int 0) (number 1 1))))))
 
 function_main : Function
-function_main = defined 1 0 none none 168 (two (expression_statement (call 1 Void 0 (one (number 1 2)))) (return (Some (number 1 1))))
+function_main = defined 1 0 none none 168
+    (two (expression_statement (call 1 Void 0 (one (number 1 2)))) (return (Some (number 1 1))))
 
 program : Program
 program = program_of none

@@ -9,11 +9,13 @@ use Rattle.c_tree.specs.declared.expression.Routine.TheVariants.{Exit}
 use Rattle.obj_memory.specs.declared.operator.UnaryOperator.TheVariants.{Negate}
 use Rattle.sb_base.specs.Budgets.{default_sizes}
 use Rattle.source_meaning.specs.Meaning.{meaning}
-use Rattle.source_meaning_rows.proofs.Samples.{computing, counts, exited, library, main_alone, none, number, one, seen, two, unary}
+use Rattle.source_meaning_rows.proofs.Samples.{computing, counts, exited, library, main_alone, none, number, one, seen}
+use Rattle.source_meaning_rows.proofs.Samples.{two, unary}
 use Rattle.std.proofs.Common.{Some, [], refl, true, ◌≡◌}
 
 program : Program
-program = main_alone none none 168 (two (expression_statement (library 1 Void Exit (one (unary 1 Negate (number 1 1))))) (return (Some (number 1 3))))
+program = main_alone none none 168
+    (two (expression_statement (library 1 Void Exit (one (unary 1 Negate (number 1 1))))) (return (Some (number 1 3))))
 
 run : seen (meaning program default_sizes [] 20) ≡ exited [] 255
 unfolding program computing

@@ -1,6 +1,8 @@
 -- `char e[1];int main(void){printf("%d %d %d\n",-2147483647-1,0,2147483647);printf("%u %x %x %x\n",-1,-1,255,0);
--- printf("%c%c%%\n",65,321);printf("%ld %ld %lu\n",-9223372036854775807L-1,9223372036854775807L,18446744073709551615UL);
--- return printf("%s|%d%u|\n",e,7,0);}`: each directive at its edges. Output and status are those of gcc (Debian 12.2.0) with
+-- printf("%c%c%%\n",65,321);printf("%ld %ld
+-- %lu\n",-9223372036854775807L-1,9223372036854775807L,18446744073709551615UL);
+-- return printf("%s|%d%u|\n",e,7,0);}`: each directive at its edges. Output and status are those of gcc (Debian 12.2.0)
+-- with
 -- `-std=c99 -fwrapv -funsigned-char`.
 use Rattle.behaviours.specs.Shown.{Status}
 use Rattle.c_tree.specs.Programs.{Program}

@@ -9,7 +9,9 @@ use Rattle.obj_memory.specs.declared.operator.BinaryOperator.TheVariants.{Add, E
 use Rattle.obj_memory.specs.declared.operator.UnaryOperator.TheVariants.{Negate}
 use Rattle.sb_base.specs.Budgets.{default_sizes}
 use Rattle.source_meaning.specs.Meaning.{meaning}
-use Rattle.source_meaning_rows.proofs.Samples.{binary, compare, computing, exited, four, int, library, main_alone, none, number, one, parenthesized, plain, plain_variable, seen, three, unary, with_value}
+use Rattle.source_meaning_rows.proofs.Samples.{binary, compare, computing, exited, four, int, library, main_alone, none}
+use Rattle.source_meaning_rows.proofs.Samples.{number, one, parenthesized, plain, plain_variable, seen, three, unary}
+use Rattle.source_meaning_rows.proofs.Samples.{with_value}
 use Rattle.std.proofs.Common.{Some, [], refl, true, ◌∷◌, ◌≡◌}
 
 statement_1 : Statement

@@ -1,12 +1,17 @@
--- `char a[4];char b[8]="bcd";char c[2]="xy";int main(void){E;return 0;}` for each E that is named: the work. Without E's nodes it
--- is 5: the call of `main`, its body, two statements and a node; 3 where E ends the run. E's nodes and its call come next, then
+-- `char a[4];char b[8]="bcd";char c[2]="xy";int main(void){E;return 0;}` for each E that is named: the work. Without
+-- E's nodes it
+-- is 5: the call of `main`, its body, two statements and a node; 3 where E ends the run. E's nodes and its call come
+-- next, then
 -- what the routine does. The heap has 4096 bytes.
 use Rattle.c_tree.specs.Programs.{Program}
 use Rattle.c_tree.specs.Statements.{return}
 use Rattle.c_tree.specs.Tree.{Expression}
 use Rattle.c_tree.specs.ValidProgram.{is_valid_program}
 use Rattle.source_meaning.specs.Meaning.{meaning}
-use Rattle.source_meaning_rows.proofs.LibrarySamples.{ahead, array, calloc, chars, free, malloc, memcmp, memcpy, memmove, memset, perform, printf, program_of, puts, realloc, size, small_heap, strcat, strchr, strcmp, strcpy, strlen, strncpy, zero_chars}
+use Rattle.source_meaning_rows.proofs.LibrarySamples.{ahead, array, calloc, chars, free, malloc, memcmp, memcpy}
+use Rattle.source_meaning_rows.proofs.LibrarySamples.{memmove, memset, perform, printf, program_of, puts, realloc, size}
+use Rattle.source_meaning_rows.proofs.LibrarySamples.{small_heap, strcat, strchr, strcmp, strcpy, strlen, strncpy}
+use Rattle.source_meaning_rows.proofs.LibrarySamples.{zero_chars}
 use Rattle.source_meaning_rows.proofs.Samples.{computing, none, number, one, three, two}
 use Rattle.std.proofs.Common.{◌≡◌, ℕ, ◌+◌, ◌*◌, [], ◌∷◌, refl, true, length, Some}
 use Rattle.std.specs.List.{list_all}
@@ -22,7 +27,8 @@ c : Expression
 c = array 2 2
 
 program : Expression → Program
-program e = program_of (three (zero_chars 4) (chars 8 (codes "bcd")) (chars 2 (codes "xy"))) none (two (perform e) (return (Some (number 1 0))))
+program e = program_of (three (zero_chars 4) (chars 8 (codes "bcd")) (chars 2 (codes "xy"))) none
+    (two (perform e) (return (Some (number 1 0))))
 
 work : Expression → ℕ
 work e = (meaning (program e) small_heap [] 1).work
@@ -112,7 +118,8 @@ free_block : work (free (malloc 4)) ≡ 5 + 2 + 3 + 1 + 1 + 4 + 2
 unfolding work program a b c computing
 free_block = refl
 
--- `realloc(malloc(4),6)`: a place sought at one live block, an object of six bytes, four bytes moved, a block freed where two live
+-- `realloc(malloc(4),6)`: a place sought at one live block, an object of six bytes, four bytes moved, a block freed
+-- where two live
 realloc_block : work (realloc (malloc 4) 6) ≡ 5 + 3 + 3 + 1 + 1 + 4 + 2 + 1 + 6 + 4 + 3
 unfolding work program a b c computing
 realloc_block = refl
@@ -142,6 +149,7 @@ strcpy_refused : work (strcpy (ahead 1 a) b) ≡ 3 + 6 + 4 + length (codes "sbce
 unfolding work program a b c computing
 strcpy_refused = refl
 
-valid : list_all (λ e. is_valid_program (program e)) (free (malloc 4) ∷ realloc (malloc 4) 6 ∷ calloc (size 2) (size 2) ∷ []) ≡ true
+valid : list_all (λ e. is_valid_program (program e))
+    (free (malloc 4) ∷ realloc (malloc 4) 6 ∷ calloc (size 2) (size 2) ∷ []) ≡ true
 unfolding program a b c computing
 valid = refl

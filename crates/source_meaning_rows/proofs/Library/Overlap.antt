@@ -1,10 +1,12 @@
--- `char a[8]="abc";int main(void){E;puts(a);return 0;}` for each E that is named, whose ranges overlap, which C99 leaves open.
+-- `char a[8]="abc";int main(void){E;puts(a);return 0;}` for each E that is named, whose ranges overlap, which C99
+-- leaves open.
 use Rattle.c_tree.specs.Programs.{Program}
 use Rattle.c_tree.specs.Statements.{return}
 use Rattle.c_tree.specs.Tree.{Expression}
 use Rattle.sb_base.specs.Budgets.{default_sizes}
 use Rattle.source_meaning.specs.Meaning.{meaning}
-use Rattle.source_meaning_rows.proofs.LibrarySamples.{ahead, array, chars, memcpy, perform, program_of, puts, strcat, strcpy, strncpy}
+use Rattle.source_meaning_rows.proofs.LibrarySamples.{ahead, array, chars, memcpy, perform, program_of, puts, strcat}
+use Rattle.source_meaning_rows.proofs.LibrarySamples.{strcpy, strncpy}
 use Rattle.source_meaning_rows.proofs.Samples.{computing, none, number, one, three}
 use Rattle.std.proofs.Common.{◌≡◌, ℕ, List, [], refl, Some}
 use Rattle.std.specs.Prelude.{codes}
@@ -13,7 +15,8 @@ a : Expression
 a = array 0 8
 
 program : Expression → Program
-program e = program_of (one (chars 8 (codes "abc"))) none (three (perform e) (perform (puts a)) (return (Some (number 1 0))))
+program e = program_of (one (chars 8 (codes "abc"))) none
+    (three (perform e) (perform (puts a)) (return (Some (number 1 0))))
 
 output : Expression → List ℕ
 output e = (meaning (program e) default_sizes [] 1).shown.output

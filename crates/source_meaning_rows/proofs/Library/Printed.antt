@@ -1,4 +1,5 @@
--- `int main(void){printf("%d %x %s%%\n",-5,255,"ok");return 0;}`: the literal that is an argument is an object, the format is
+-- `int main(void){printf("%d %x %s%%\n",-5,255,"ok");return 0;}`: the literal that is an argument is an object, the
+-- format is
 -- none. The output is that of gcc (Debian 12.2.0) with `-std=c99 -fwrapv -funsigned-char`.
 use Rattle.behaviours.specs.Shown.{Status}
 use Rattle.c_tree.specs.Programs.{Program}
@@ -16,7 +17,13 @@ use Rattle.std.specs.Prelude.{codes}
 
 program : Program
 program = program_of
-    (one (record { kind = Array 3; is_literal = true; function = None; parts = one (record { offset = 0; content = literal_content (codes "ok") }) })) none
+    (one (record {
+      kind = Array 3;
+      is_literal = true;
+      function = None;
+      parts = one
+          (record { offset = 0; content = literal_content (codes "ok") });
+    })) none
     (two
     (perform (printf (codes "%d %x %s%%\n")
     (three (at 1 int (tree.unary Negate (number 1 5))) (number 1 255) (array 0 3))))

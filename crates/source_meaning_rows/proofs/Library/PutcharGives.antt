@@ -7,12 +7,14 @@ use Rattle.c_tree.specs.declared.expression.Routine.TheVariants.{Putchar}
 use Rattle.obj_memory.specs.declared.operator.BinaryOperator.TheVariants.{Equal}
 use Rattle.sb_base.specs.Budgets.{default_sizes}
 use Rattle.source_meaning.specs.Meaning.{meaning}
-use Rattle.source_meaning_rows.proofs.Samples.{compare, computing, exited, int, library, main_alone, none, number, one, seen}
+use Rattle.source_meaning_rows.proofs.Samples.{compare, computing, exited, int, library, main_alone, none, number, one}
+use Rattle.source_meaning_rows.proofs.Samples.{seen}
 use Rattle.std.proofs.Common.{Some, [], refl, true, ◌≡◌}
 use Rattle.std.specs.Prelude.{codes}
 
 program : Program
-program = main_alone none none 208 (one (return (Some (compare 1 Equal (library 1 int Putchar (one (number 1 321))) (number 1 65)))))
+program = main_alone none none 208
+    (one (return (Some (compare 1 Equal (library 1 int Putchar (one (number 1 321))) (number 1 65)))))
 
 run : seen (meaning program default_sizes [] 20) ≡ exited (codes "A") 1
 unfolding program computing

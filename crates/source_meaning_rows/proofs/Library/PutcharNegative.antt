@@ -9,11 +9,13 @@ use Rattle.obj_memory.specs.declared.operator.BinaryOperator.TheVariants.{Equal}
 use Rattle.obj_memory.specs.declared.operator.UnaryOperator.TheVariants.{Negate}
 use Rattle.sb_base.specs.Budgets.{default_sizes}
 use Rattle.source_meaning.specs.Meaning.{meaning}
-use Rattle.source_meaning_rows.proofs.Samples.{compare, computing, exited, int, library, main_alone, none, number, one, seen, unary}
+use Rattle.source_meaning_rows.proofs.Samples.{compare, computing, exited, int, library, main_alone, none, number, one}
+use Rattle.source_meaning_rows.proofs.Samples.{seen, unary}
 use Rattle.std.proofs.Common.{Some, [], refl, true, ◌∷◌, ◌≡◌}
 
 program : Program
-program = main_alone none none 208 (one (return (Some (compare 1 Equal (library 1 int Putchar (one (unary 1 Negate (number 1 1)))) (number 1 255)))))
+program = main_alone none none 208
+    (one (return (Some (compare 1 Equal (library 1 int Putchar (one (unary 1 Negate (number 1 1)))) (number 1 255)))))
 
 run : seen (meaning program default_sizes [] 20) ≡ exited (255 ∷ []) 1
 unfolding program computing

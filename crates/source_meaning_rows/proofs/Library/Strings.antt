@@ -1,6 +1,7 @@
 -- `char a[12]="abc";char b[8]="defg";char c[8];int main(void){strcat(a,b);strcpy(c,b);
 -- printf("%s %s %lu %d %d %d\n",a,c,strlen(a),strcmp(c,b),strcmp(a,b)<0,strcmp(b,a)>0);strncpy(c,a,2);puts(c);
--- strncpy(c,a+5,4);printf("%s %lu %s %d\n",c,strlen(c+3),strchr(a,356),strchr(a,122)==0);return strchr(b,0)-b;}`: 356 is the
+-- strncpy(c,a+5,4);printf("%s %lu %s %d\n",c,strlen(c+3),strchr(a,356),strchr(a,122)==0);return strchr(b,0)-b;}`: 356
+-- is the
 -- character 100, `d`, and the 0 byte is sought too. Output and status are those of gcc (Debian 12.2.0) with
 -- `-std=c99 -fwrapv -funsigned-char`.
 use Rattle.behaviours.specs.Shown.{Status}
@@ -15,7 +16,8 @@ use Rattle.obj_memory.specs.declared.operator.BinaryOperator.TheVariants.{Less, 
 use Rattle.obj_memory.specs.declared.value.Scalar.TheVariants.{Integer}
 use Rattle.sb_base.specs.Budgets.{default_sizes}
 use Rattle.source_meaning.specs.Meaning.{meaning}
-use Rattle.source_meaning_rows.proofs.LibrarySamples.{ahead, array, chars, compare, null, perform, printf, program_of, puts, strcat, strchr, strcmp, strcpy, strlen, strncpy, zero_chars}
+use Rattle.source_meaning_rows.proofs.LibrarySamples.{ahead, array, chars, compare, null, perform, printf, program_of}
+use Rattle.source_meaning_rows.proofs.LibrarySamples.{puts, strcat, strchr, strcmp, strcpy, strlen, strncpy, zero_chars}
 use Rattle.source_meaning_rows.proofs.Samples.{at, computing, convert, four, int, none, number, six, three}
 use Rattle.std.proofs.Common.{◌≡◌, [], ◌∷◌, refl, true, Some}
 use Rattle.std.specs.Prelude.{codes}
@@ -35,7 +37,8 @@ program = program_of
     (perform (strcat a b)
     ∷ perform (strcpy c b)
     ∷ perform (printf (codes "%s %s %lu %d %d %d\n")
-    (six a c (strlen a) (strcmp c b) (compare Less (strcmp a b) (number 1 0)) (compare Greater (strcmp b a) (number 1 0))))
+    (six a c (strlen a) (strcmp c b) (compare Less (strcmp a b) (number 1 0))
+    (compare Greater (strcmp b a) (number 1 0))))
     ∷ perform (strncpy c a 2)
     ∷ perform (puts c)
     ∷ perform (strncpy c (ahead 5 a) 4)

@@ -7,13 +7,20 @@ use Rattle.c_tree.specs.declared.expression.Kind.TheVariants.{Array}
 use Rattle.sb_base.specs.Budgets.{default_sizes}
 use Rattle.source_meaning.specs.Meaning.{meaning}
 use Rattle.source_meaning_rows.proofs.LibrarySamples.{array, perform, program_of, puts, size, strcpy}
-use Rattle.source_meaning_rows.proofs.Samples.{at, computing, four, lvalue, number, object_variable, one, pointer, three}
+use Rattle.source_meaning_rows.proofs.Samples.{at, computing, four, lvalue, number, object_variable, one, pointer}
+use Rattle.source_meaning_rows.proofs.Samples.{three}
 use Rattle.std.proofs.Common.{◌≡◌, ℕ, [], refl, true, Some, None, List}
 use Rattle.std.specs.Prelude.{codes}
 
 -- a literal
 literal : ℕ → List ℕ → StaticObject
-literal size bytes = record { kind = Array size; is_literal = true; function = None; parts = one (record { offset = 0; content = literal_content bytes }) }
+literal size bytes = record {
+  kind = Array size;
+  is_literal = true;
+  function = None;
+  parts = one
+      (record { offset = 0; content = literal_content bytes });
+}
 
 program : Program
 program = program_of

@@ -9,15 +9,21 @@ use Rattle.c_tree.specs.declared.expression.Routine.TheVariants.{Memset, Strlen}
 use Rattle.obj_memory.specs.declared.int_type.IntType.TheVariants.{UnsignedLong}
 use Rattle.sb_base.specs.Budgets.{default_sizes}
 use Rattle.source_meaning.specs.Meaning.{meaning}
-use Rattle.source_meaning_rows.proofs.Samples.{computing, convert, decay, int, integer_kind, library, lvalue, main_alone, none, number, object_variable, one, pointer, seen, stopped, three, two, without_value}
+use Rattle.source_meaning_rows.proofs.Samples.{computing, convert, decay, int, integer_kind, library, lvalue}
+use Rattle.source_meaning_rows.proofs.Samples.{main_alone, none, number, object_variable, one, pointer, seen, stopped}
+use Rattle.source_meaning_rows.proofs.Samples.{three, two, without_value}
 use Rattle.std.proofs.Common.{Some, [], refl, true, ◌≡◌, ◌∷◌}
 use Rattle.std.specs.Prelude.{codes}
 
 statement_1 : Statement
-statement_1 = expression_statement (library 1 pointer Memset (three (decay (lvalue 1 (Array 3) (tree.automatic 0))) (number 1 65) (convert (integer_kind UnsignedLong) (number 1 3))))
+statement_1 = expression_statement
+    (library 1 pointer Memset
+    (three (decay (lvalue 1 (Array 3) (tree.automatic 0))) (number 1 65)
+    (convert (integer_kind UnsignedLong) (number 1 3))))
 
 statement_2 : Statement
-statement_2 = return (Some (convert int (library 1 (integer_kind UnsignedLong) Strlen (one (decay (lvalue 1 (Array 3) (tree.automatic 0)))))))
+statement_2 = return (Some
+    (convert int (library 1 (integer_kind UnsignedLong) Strlen (one (decay (lvalue 1 (Array 3) (tree.automatic 0)))))))
 
 program : Program
 program = main_alone none (one (object_variable (Array 3))) 288 ((declaration (without_value 0 ∷ []))

@@ -13,47 +13,72 @@ use Rattle.c_tree.specs.ValidProgram.{is_valid_program}
 use Rattle.c_tree.specs.declared.expression.Kind.TheVariants.{Array, Void}
 use Rattle.c_tree.specs.declared.expression.Update.TheVariants.{Arithmetic}
 use Rattle.obj_memory.specs.declared.int_type.IntType.TheVariants.{Char, Int, Long, UnsignedInt, UnsignedLong}
-use Rattle.obj_memory.specs.declared.operator.BinaryOperator.TheVariants.{Add, BitAnd, BitOr, BitXor, Divide, Multiply, Remainder, ShiftLeft, ShiftRight, Subtract}
+use Rattle.obj_memory.specs.declared.operator.BinaryOperator.TheVariants.{Add, BitAnd, BitOr, BitXor, Divide, Multiply}
+use Rattle.obj_memory.specs.declared.operator.BinaryOperator.TheVariants.{Remainder, ShiftLeft, ShiftRight, Subtract}
 use Rattle.obj_memory.specs.declared.operator.UnaryOperator.TheVariants.{Negate}
 use Rattle.sb_base.specs.Budgets.{default_sizes}
 use Rattle.source_meaning.specs.Meaning.{meaning}
 use Rattle.source_meaning_rows.proofs.Hexadecimal.{hex_digits, put_digits, put_number, put_type}
-use Rattle.source_meaning_rows.proofs.Samples.{address, call, change_plain, compound, computing, content, convert, decay, defined, deref, exited, index, int, integer_kind, lvalue, main_type, none, number, object_variable, one, parenthesized_lvalue, part, plain, plain_variable, pointer, program_of, read, seen, six, three, two, unary, with_parts, with_value}
+use Rattle.source_meaning_rows.proofs.Samples.{address, call, change_plain, compound, computing, content, convert}
+use Rattle.source_meaning_rows.proofs.Samples.{decay, defined, deref, exited, index, int, integer_kind, lvalue}
+use Rattle.source_meaning_rows.proofs.Samples.{main_type, none, number, object_variable, one, parenthesized_lvalue}
+use Rattle.source_meaning_rows.proofs.Samples.{part, plain, plain_variable, pointer, program_of, read, seen, six, three}
+use Rattle.source_meaning_rows.proofs.Samples.{two, unary, with_parts, with_value}
 use Rattle.std.proofs.Common.{Some, [], refl, true, ◌∷◌, ◌≡◌}
 use Rattle.std.specs.Prelude.{codes}
 
 statement_1 : Statement
-statement_1 = declaration (one (with_parts 2 (one (part 0 (content (convert (integer_kind Long) (unary 3 Negate (number 3 5))))))))
+statement_1 = declaration
+    (one (with_parts 2 (one (part 0 (content (convert (integer_kind Long) (unary 3 Negate (number 3 5))))))))
 
 statement_2 : Statement
-statement_2 = expression_statement (call 4 Void 1 (one (convert (integer_kind UnsignedLong) (change_plain 4 int (Arithmetic Add Int) 0 (number 4 5)))))
+statement_2 = expression_statement
+    (call 4 Void 1 (one (convert (integer_kind UnsignedLong) (change_plain 4 int (Arithmetic Add Int) 0 (number 4 5)))))
 
 statement_3 : Statement
-statement_3 = expression_statement (call 4 Void 1 (one (convert (integer_kind UnsignedLong) (change_plain 4 int (Arithmetic Subtract Int) 0 (number 4 200)))))
+statement_3 = expression_statement
+    (call 4 Void 1 (one (convert (integer_kind UnsignedLong)
+    (change_plain 4 int (Arithmetic Subtract Int) 0 (number 4 200)))))
 
 statement_4 : Statement
-statement_4 = expression_statement (call 4 Void 1 (one (convert (integer_kind UnsignedLong) (change_plain 4 int (Arithmetic Multiply Int) 0 (number 4 3)))))
+statement_4 = expression_statement
+    (call 4 Void 1 (one (convert (integer_kind UnsignedLong)
+    (change_plain 4 int (Arithmetic Multiply Int) 0 (number 4 3)))))
 
 statement_5 : Statement
-statement_5 = expression_statement (call 4 Void 1 (one (convert (integer_kind UnsignedLong) (change_plain 4 int (Arithmetic Divide Int) 0 (number 4 4)))))
+statement_5 = expression_statement
+    (call 4 Void 1 (one (convert (integer_kind UnsignedLong)
+    (change_plain 4 int (Arithmetic Divide Int) 0 (number 4 4)))))
 
 statement_6 : Statement
-statement_6 = expression_statement (call 4 Void 1 (one (convert (integer_kind UnsignedLong) (change_plain 4 int (Arithmetic Remainder Int) 0 (number 4 7)))))
+statement_6 = expression_statement
+    (call 4 Void 1 (one (convert (integer_kind UnsignedLong)
+    (change_plain 4 int (Arithmetic Remainder Int) 0 (number 4 7)))))
 
 statement_7 : Statement
-statement_7 = expression_statement (call 4 Void 1 (one (convert (integer_kind UnsignedLong) (change_plain 4 int (Arithmetic ShiftLeft Int) 0 (number 4 4)))))
+statement_7 = expression_statement
+    (call 4 Void 1 (one (convert (integer_kind UnsignedLong)
+    (change_plain 4 int (Arithmetic ShiftLeft Int) 0 (number 4 4)))))
 
 statement_8 : Statement
-statement_8 = expression_statement (call 4 Void 1 (one (convert (integer_kind UnsignedLong) (change_plain 4 int (Arithmetic ShiftRight Int) 0 (number 4 2)))))
+statement_8 = expression_statement
+    (call 4 Void 1 (one (convert (integer_kind UnsignedLong)
+    (change_plain 4 int (Arithmetic ShiftRight Int) 0 (number 4 2)))))
 
 statement_9 : Statement
-statement_9 = expression_statement (call 4 Void 1 (one (convert (integer_kind UnsignedLong) (change_plain 4 int (Arithmetic BitAnd Int) 0 (number 4 255)))))
+statement_9 = expression_statement
+    (call 4 Void 1 (one (convert (integer_kind UnsignedLong)
+    (change_plain 4 int (Arithmetic BitAnd Int) 0 (number 4 255)))))
 
 statement_10 : Statement
-statement_10 = expression_statement (call 4 Void 1 (one (convert (integer_kind UnsignedLong) (change_plain 4 int (Arithmetic BitOr Int) 0 (number 4 256)))))
+statement_10 = expression_statement
+    (call 4 Void 1 (one (convert (integer_kind UnsignedLong)
+    (change_plain 4 int (Arithmetic BitOr Int) 0 (number 4 256)))))
 
 statement_11 : Statement
-statement_11 = expression_statement (call 4 Void 1 (one (convert (integer_kind UnsignedLong) (change_plain 4 int (Arithmetic BitXor Int) 0 (number 4 511)))))
+statement_11 = expression_statement
+    (call 4 Void 1 (one (convert (integer_kind UnsignedLong)
+    (change_plain 4 int (Arithmetic BitXor Int) 0 (number 4 511)))))
 
 statement_12 : Statement
 statement_12 = expression_statement (call 5 Void 1 (one (convert
@@ -83,7 +108,9 @@ statement_14 = expression_statement (call 5 Void 1 (one (convert
     (read (lvalue 5 (integer_kind Long) (tree.automatic 2)))))))
 
 statement_15 : Statement
-statement_15 = expression_statement (call 5 Void 1 (one (convert (integer_kind UnsignedLong) (change_plain 5 (integer_kind Char) (Arithmetic Add Int) 3 (number 5 100)))))
+statement_15 = expression_statement
+    (call 5 Void 1 (one (convert (integer_kind UnsignedLong)
+    (change_plain 5 (integer_kind Char) (Arithmetic Add Int) 3 (number 5 100)))))
 
 statement_16 : Statement
 statement_16 = expression_statement (call 5 Void 1 (one (convert
@@ -91,20 +118,26 @@ statement_16 = expression_statement (call 5 Void 1 (one (convert
     (change_plain 5 (integer_kind Char) (Arithmetic Multiply Int) 3 (convert int (plain 5 (integer_kind Char) 3))))))
 
 statement_17 : Statement
-statement_17 = expression_statement (call 5 Void 1 (one (convert (integer_kind UnsignedLong) (change_plain 5 (integer_kind Char) (Arithmetic ShiftRight Int) 3 (number 5 1)))))
+statement_17 = expression_statement
+    (call 5 Void 1 (one (convert (integer_kind UnsignedLong)
+    (change_plain 5 (integer_kind Char) (Arithmetic ShiftRight Int) 3 (number 5 1)))))
 
 statement_18 : Statement
-statement_18 = expression_statement (call 5 Void 1 (one (convert (integer_kind UnsignedLong) (change_plain 5 (integer_kind Char) (Arithmetic Subtract Int) 3 (number 5 1000)))))
+statement_18 = expression_statement
+    (call 5 Void 1 (one (convert (integer_kind UnsignedLong)
+    (change_plain 5 (integer_kind Char) (Arithmetic Subtract Int) 3 (number 5 1000)))))
 
 statement_19 : Statement
 statement_19 = expression_statement (call 6 Void 1 (one (convert
     (integer_kind UnsignedLong)
-    (compound 6 (Arithmetic Divide Int) (index 6 int (decay (lvalue 6 (Array 4) (tree.automatic 4))) (number 6 0)) (number 6 7)))))
+    (compound 6 (Arithmetic Divide Int) (index 6 int (decay (lvalue 6 (Array 4) (tree.automatic 4))) (number 6 0))
+    (number 6 7)))))
 
 statement_20 : Statement
 statement_20 = expression_statement (call 6 Void 1 (one (convert
     (integer_kind UnsignedLong)
-    (compound 6 (Arithmetic Remainder Int) (index 6 int (decay (lvalue 6 (Array 4) (tree.automatic 4))) (number 6 0)) (number 6 4)))))
+    (compound 6 (Arithmetic Remainder Int) (index 6 int (decay (lvalue 6 (Array 4) (tree.automatic 4))) (number 6 0))
+    (number 6 4)))))
 
 statement_21 : Statement
 statement_21 = expression_statement (call 6 Void 1 (one (convert
@@ -137,7 +170,9 @@ statement_24 = expression_statement (call 6 Void 1 (one (convert
 statement_25 : Statement
 statement_25 = expression_statement (call 6 Void 1 (one (convert
     (integer_kind UnsignedLong)
-    (change_plain 6 int (Arithmetic Add Long) 0 (compound 6 (Arithmetic Add Long) (lvalue 6 (integer_kind Long) (tree.automatic 2)) (convert (integer_kind Long) (number 6 3)))))))
+    (change_plain 6 int (Arithmetic Add Long) 0
+    (compound 6 (Arithmetic Add Long) (lvalue 6 (integer_kind Long) (tree.automatic 2))
+    (convert (integer_kind Long) (number 6 3)))))))
 
 function_main : Function
 function_main = defined 3 0 none
@@ -185,9 +220,15 @@ program = program_of (one hex_digits) (two main_type put_type) (three put_digits
 
 run : seen (meaning program default_sizes [] 2000) ≡
     exited (codes "69 ffffffffffffffa1 fffffffffffffee3 ffffffffffffffb9 ffffffffffffffff fffffffffffffff0 fffffffffffffffc fc 1fc 3 ffffffff 7fffffff 80000005 2c 90 48 60 fffffffffffffff2 fffffffffffffffe ffffffffffffffc0 fffffffffffffe20 ffffffffffffff10 0 6 ") 0
-unfolding program put_digits put_number function_main statement_1 statement_2 statement_3 statement_4 statement_5 statement_6 statement_7 statement_8 statement_9 statement_10 statement_11 statement_12 statement_13 statement_14 statement_15 statement_16 statement_17 statement_18 statement_19 statement_20 statement_21 statement_22 statement_23 statement_24 statement_25 hex_digits put_type computing
+unfolding program put_digits put_number function_main statement_1 statement_2 statement_3 statement_4 statement_5
+    statement_6 statement_7 statement_8 statement_9 statement_10 statement_11 statement_12 statement_13 statement_14
+    statement_15 statement_16 statement_17 statement_18 statement_19 statement_20 statement_21 statement_22 statement_23
+    statement_24 statement_25 hex_digits put_type computing
 run = refl
 
 valid : is_valid_program program ≡ true
-unfolding program put_digits put_number function_main statement_1 statement_2 statement_3 statement_4 statement_5 statement_6 statement_7 statement_8 statement_9 statement_10 statement_11 statement_12 statement_13 statement_14 statement_15 statement_16 statement_17 statement_18 statement_19 statement_20 statement_21 statement_22 statement_23 statement_24 statement_25 hex_digits put_type computing
+unfolding program put_digits put_number function_main statement_1 statement_2 statement_3 statement_4 statement_5
+    statement_6 statement_7 statement_8 statement_9 statement_10 statement_11 statement_12 statement_13 statement_14
+    statement_15 statement_16 statement_17 statement_18 statement_19 statement_20 statement_21 statement_22 statement_23
+    statement_24 statement_25 hex_digits put_type computing
 valid = refl

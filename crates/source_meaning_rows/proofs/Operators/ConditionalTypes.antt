@@ -1,7 +1,8 @@
 -- The text is rows/conditional_types.c; gcc 12.2.0 gives the same output and status.
 --     void h(unsigned long v){if(v>15)h(v>>4);putchar("0123456789abcdef"[v&15]);}
 --     void p(unsigned long v){h(v);putchar(32);}
---     int main(void){int i=-1;unsigned u=1;long l=-1;char*s="x";p(i<0?i:u);p(i<0?i:l);p(i>0?i:(signed char)-1);p(*(i?s:0));p((i?0:s)==0);return 0;}
+--     int main(void){int i=-1;unsigned u=1;long l=-1;char*s="x";p(i<0?i:u);p(i<0?i:l);p(i>0?i:(signed
+-- char)-1);p(*(i?s:0));p((i?0:s)==0);return 0;}
 use Rattle.c_tree.specs.Programs.{Program, Function}
 use Rattle.c_tree.specs.Statements.{Statement, expression_statement, declaration, return, literal_content}
 use Rattle.c_tree.specs.Tree as tree
@@ -13,7 +14,10 @@ use Rattle.obj_memory.specs.declared.operator.UnaryOperator.TheVariants.{Negate}
 use Rattle.sb_base.specs.Budgets.{default_sizes}
 use Rattle.source_meaning.specs.Meaning.{meaning}
 use Rattle.source_meaning_rows.proofs.Hexadecimal.{hex_digits, put_digits, put_number, put_type}
-use Rattle.source_meaning_rows.proofs.Samples.{call, cast, compare, computing, conditional, convert, decay, defined, deref, exited, four, int, integer_kind, lvalue, main_type, none, number, one, parenthesized, part, plain, plain_variable, pointer, program_of, read, seen, string_literal, three, two, unary, with_value}
+use Rattle.source_meaning_rows.proofs.Samples.{call, cast, compare, computing, conditional, convert, decay, defined}
+use Rattle.source_meaning_rows.proofs.Samples.{deref, exited, four, int, integer_kind, lvalue, main_type, none, number}
+use Rattle.source_meaning_rows.proofs.Samples.{one, parenthesized, part, plain, plain_variable, pointer, program_of}
+use Rattle.source_meaning_rows.proofs.Samples.{read, seen, string_literal, three, two, unary, with_value}
 use Rattle.std.proofs.Common.{Some, [], refl, true, ◌++◌, ◌∷◌, ◌≡◌}
 use Rattle.std.specs.Prelude.{codes}
 
@@ -44,7 +48,8 @@ statement_3 = expression_statement (call 3 Void 1 (one (convert
 statement_4 : Statement
 statement_4 = expression_statement (call 3 Void 1 (one (convert
     (integer_kind UnsignedLong)
-    (read (deref 3 (integer_kind Char) (parenthesized (conditional 3 (plain 3 int 0) (plain 3 pointer 3) (convert pointer (number 3 0)))))))))
+    (read (deref 3 (integer_kind Char)
+    (parenthesized (conditional 3 (plain 3 int 0) (plain 3 pointer 3) (convert pointer (number 3 0)))))))))
 
 statement_5 : Statement
 statement_5 = expression_statement (call 3 Void 1 (one (convert
@@ -79,9 +84,11 @@ program = program_of
     2
 
 run : seen (meaning program default_sizes [] 200) ≡ exited (codes "ffffffff ffffffffffffffff ffffffffffffffff 78 1 ") 0
-unfolding program put_digits put_number function_main statement_1 statement_2 statement_3 statement_4 statement_5 hex_digits put_type computing
+unfolding program put_digits put_number function_main statement_1 statement_2 statement_3 statement_4 statement_5
+    hex_digits put_type computing
 run = refl
 
 valid : is_valid_program program ≡ true
-unfolding program put_digits put_number function_main statement_1 statement_2 statement_3 statement_4 statement_5 hex_digits put_type computing
+unfolding program put_digits put_number function_main statement_1 statement_2 statement_3 statement_4 statement_5
+    hex_digits put_type computing
 valid = refl

@@ -12,12 +12,16 @@ use Rattle.obj_memory.specs.declared.int_type.IntType.TheVariants.{Int}
 use Rattle.obj_memory.specs.declared.operator.BinaryOperator.TheVariants.{Remainder}
 use Rattle.sb_base.specs.Budgets.{default_sizes}
 use Rattle.source_meaning.specs.Meaning.{meaning}
-use Rattle.source_meaning_rows.proofs.Samples.{assign, compound, computing, decay, four, index, int, lvalue, main_alone, none, number, object_variable, one, plain, plain_variable, reads, seen, stopped, two, with_value, writes, without_value}
+use Rattle.source_meaning_rows.proofs.Samples.{assign, compound, computing, decay, four, index, int, lvalue, main_alone}
+use Rattle.source_meaning_rows.proofs.Samples.{none, number, object_variable, one, plain, plain_variable, reads, seen}
+use Rattle.source_meaning_rows.proofs.Samples.{stopped, two, with_value, writes, without_value}
 use Rattle.std.proofs.Common.{Some, [], refl, true, ◌∷◌, ◌≡◌}
 use Rattle.std.specs.Prelude.{codes}
 
 statement_1 : Statement
-statement_1 = expression_statement (compound 3 (Arithmetic Remainder Int) (index 2 int (decay (lvalue 2 (Array 4) (tree.automatic 0))) (number 2 0)) (plain 3 int 1))
+statement_1 = expression_statement
+    (compound 3 (Arithmetic Remainder Int) (index 2 int (decay (lvalue 2 (Array 4) (tree.automatic 0))) (number 2 0))
+    (plain 3 int 1))
 
 program : Program
 program = main_alone none
@@ -25,7 +29,8 @@ program = main_alone none
     288
     ((declaration (without_value 0 ∷ []))
     ∷ (declaration (one (with_value 1 (number 1 0))))
-    ∷ (expression_statement (assign 1 (index 1 int (decay (lvalue 1 (Array 4) (tree.automatic 0))) (number 1 0)) (number 1 7)))
+    ∷ (expression_statement
+    (assign 1 (index 1 int (decay (lvalue 1 (Array 4) (tree.automatic 0))) (number 1 0)) (number 1 7)))
     ∷ statement_1
     ∷ (return (Some (number 3 0)))
     ∷ [])

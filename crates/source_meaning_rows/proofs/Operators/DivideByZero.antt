@@ -9,7 +9,8 @@ use Rattle.c_tree.specs.declared.expression.Routine.TheVariants.{Putchar}
 use Rattle.obj_memory.specs.declared.operator.BinaryOperator.TheVariants.{Divide}
 use Rattle.sb_base.specs.Budgets.{default_sizes}
 use Rattle.source_meaning.specs.Meaning.{meaning}
-use Rattle.source_meaning_rows.proofs.Samples.{binary, computing, four, int, library, main_alone, none, number, one, plain, plain_variable, seen, set_plain, stopped, with_value}
+use Rattle.source_meaning_rows.proofs.Samples.{binary, computing, four, int, library, main_alone, none, number, one}
+use Rattle.source_meaning_rows.proofs.Samples.{plain, plain_variable, seen, set_plain, stopped, with_value}
 use Rattle.std.proofs.Common.{Some, [], refl, true, ◌≡◌}
 use Rattle.std.specs.Prelude.{codes}
 
@@ -23,7 +24,8 @@ program = main_alone none
     (expression_statement (set_plain 2 0 (binary 3 Divide (number 2 5) (plain 3 int 0))))
     (return (Some (number 3 0))))
 
-run : seen (meaning program default_sizes [] 20) ≡ stopped (codes "0") (codes "sbcets: division by zero at line 3\n") 124
+run : seen (meaning program default_sizes [] 20)
+    ≡ stopped (codes "0") (codes "sbcets: division by zero at line 3\n") 124
 unfolding program computing
 run = refl
 

@@ -8,13 +8,16 @@ use Rattle.obj_memory.specs.declared.operator.BinaryOperator.TheVariants.{Add, E
 use Rattle.obj_memory.specs.declared.operator.UnaryOperator.TheVariants.{Negate}
 use Rattle.sb_base.specs.Budgets.{default_sizes}
 use Rattle.source_meaning.specs.Meaning.{meaning}
-use Rattle.source_meaning_rows.proofs.Samples.{binary, compare, computing, constant, convert, exited, four, int, integer_kind, main_alone, none, number, one, parenthesized, plain, plain_variable, seen, three, unary, with_value}
+use Rattle.source_meaning_rows.proofs.Samples.{binary, compare, computing, constant, convert, exited, four, int}
+use Rattle.source_meaning_rows.proofs.Samples.{integer_kind, main_alone, none, number, one, parenthesized, plain}
+use Rattle.source_meaning_rows.proofs.Samples.{plain_variable, seen, three, unary, with_value}
 use Rattle.std.proofs.Common.{Some, [], refl, true, ◌≡◌}
 
 statement_1 : Statement
 statement_1 = return (Some (binary 1 Add
     (binary 1 Add
-    (parenthesized (compare 1 Equal (binary 1 Add (convert int (plain 1 (integer_kind UnsignedChar) 0)) (number 1 10)) (number 1 260)))
+    (parenthesized (compare 1 Equal (binary 1 Add (convert int (plain 1 (integer_kind UnsignedChar) 0)) (number 1 10))
+    (number 1 260)))
     (binary 1 Multiply
     (parenthesized (compare 1 Less (plain 1 (integer_kind Long) 1) (convert (integer_kind Long) (number 1 0))))
     (number 1 2)))

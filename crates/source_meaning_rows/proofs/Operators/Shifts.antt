@@ -14,45 +14,66 @@ use Rattle.obj_memory.specs.declared.operator.UnaryOperator.TheVariants.{Negate}
 use Rattle.sb_base.specs.Budgets.{default_sizes}
 use Rattle.source_meaning.specs.Meaning.{meaning}
 use Rattle.source_meaning_rows.proofs.Hexadecimal.{hex_digits, put_digits, put_number, put_type}
-use Rattle.source_meaning_rows.proofs.Samples.{binary, call, computing, constant, convert, defined, exited, five, int, integer_kind, main_type, none, number, one, plain, plain_variable, program_of, seen, set_plain, three, two, unary, with_value}
+use Rattle.source_meaning_rows.proofs.Samples.{binary, call, computing, constant, convert, defined, exited, five, int}
+use Rattle.source_meaning_rows.proofs.Samples.{integer_kind, main_type, none, number, one, plain, plain_variable}
+use Rattle.source_meaning_rows.proofs.Samples.{program_of, seen, set_plain, three, two, unary, with_value}
 use Rattle.std.proofs.Common.{Some, [], refl, true, ◌∷◌, ◌≡◌}
 use Rattle.std.specs.Prelude.{codes}
 
 statement_1 : Statement
-statement_1 = expression_statement (call 4 Void 1 (one (convert (integer_kind UnsignedLong) (binary 4 ShiftLeft (number 4 1) (plain 4 int 0)))))
+statement_1 = expression_statement
+    (call 4 Void 1 (one (convert (integer_kind UnsignedLong) (binary 4 ShiftLeft (number 4 1) (plain 4 int 0)))))
 
 statement_2 : Statement
-statement_2 = expression_statement (call 4 Void 1 (one (convert (integer_kind UnsignedLong) (binary 4 ShiftRight (plain 4 int 1) (plain 4 int 0)))))
+statement_2 = expression_statement
+    (call 4 Void 1 (one (convert (integer_kind UnsignedLong) (binary 4 ShiftRight (plain 4 int 1) (plain 4 int 0)))))
 
 statement_3 : Statement
-statement_3 = expression_statement (call 4 Void 1 (one (convert (integer_kind UnsignedLong) (binary 4 ShiftRight (plain 4 (integer_kind UnsignedInt) 2) (plain 4 int 0)))))
+statement_3 = expression_statement
+    (call 4 Void 1 (one (convert (integer_kind UnsignedLong)
+    (binary 4 ShiftRight (plain 4 (integer_kind UnsignedInt) 2) (plain 4 int 0)))))
 
 statement_4 : Statement
-statement_4 = expression_statement (call 4 Void 1 (one (convert (integer_kind UnsignedLong) (binary 4 ShiftLeft (plain 4 (integer_kind UnsignedInt) 2) (plain 4 int 0)))))
+statement_4 = expression_statement
+    (call 4 Void 1 (one (convert (integer_kind UnsignedLong)
+    (binary 4 ShiftLeft (plain 4 (integer_kind UnsignedInt) 2) (plain 4 int 0)))))
 
 statement_5 : Statement
-statement_5 = expression_statement (call 4 Void 1 (one (convert (integer_kind UnsignedLong) (binary 4 ShiftLeft (number 4 1) (plain 4 int 0)))))
+statement_5 = expression_statement
+    (call 4 Void 1 (one (convert (integer_kind UnsignedLong) (binary 4 ShiftLeft (number 4 1) (plain 4 int 0)))))
 
 statement_6 : Statement
-statement_6 = expression_statement (call 4 Void 1 (one (convert (integer_kind UnsignedLong) (binary 4 ShiftRight (plain 4 int 1) (plain 4 int 0)))))
+statement_6 = expression_statement
+    (call 4 Void 1 (one (convert (integer_kind UnsignedLong) (binary 4 ShiftRight (plain 4 int 1) (plain 4 int 0)))))
 
 statement_7 : Statement
-statement_7 = expression_statement (call 4 Void 1 (one (convert (integer_kind UnsignedLong) (binary 4 ShiftRight (plain 4 (integer_kind UnsignedInt) 2) (plain 4 int 0)))))
+statement_7 = expression_statement
+    (call 4 Void 1 (one (convert (integer_kind UnsignedLong)
+    (binary 4 ShiftRight (plain 4 (integer_kind UnsignedInt) 2) (plain 4 int 0)))))
 
 statement_8 : Statement
-statement_8 = expression_statement (call 4 Void 1 (one (convert (integer_kind UnsignedLong) (binary 4 ShiftLeft (plain 4 (integer_kind UnsignedInt) 2) (plain 4 int 0)))))
+statement_8 = expression_statement
+    (call 4 Void 1 (one (convert (integer_kind UnsignedLong)
+    (binary 4 ShiftLeft (plain 4 (integer_kind UnsignedInt) 2) (plain 4 int 0)))))
 
 statement_9 : Statement
-statement_9 = expression_statement (call 5 Void 1 (one (convert (integer_kind UnsignedLong) (binary 5 ShiftRight (plain 5 (integer_kind Long) 3) (plain 5 int 0)))))
+statement_9 = expression_statement
+    (call 5 Void 1 (one (convert (integer_kind UnsignedLong)
+    (binary 5 ShiftRight (plain 5 (integer_kind Long) 3) (plain 5 int 0)))))
 
 statement_10 : Statement
-statement_10 = expression_statement (call 5 Void 1 (one (convert (integer_kind UnsignedLong) (binary 5 ShiftLeft (constant Long 5 1) (plain 5 int 0)))))
+statement_10 = expression_statement
+    (call 5 Void 1 (one (convert (integer_kind UnsignedLong) (binary 5 ShiftLeft (constant Long 5 1) (plain 5 int 0)))))
 
 statement_11 : Statement
-statement_11 = expression_statement (call 5 Void 1 (one (convert (integer_kind UnsignedLong) (binary 5 ShiftRight (plain 5 (integer_kind Long) 3) (plain 5 int 0)))))
+statement_11 = expression_statement
+    (call 5 Void 1 (one (convert (integer_kind UnsignedLong)
+    (binary 5 ShiftRight (plain 5 (integer_kind Long) 3) (plain 5 int 0)))))
 
 statement_12 : Statement
-statement_12 = expression_statement (call 5 Void 1 (one (convert (integer_kind UnsignedLong) (binary 5 ShiftLeft (plain 5 (integer_kind UnsignedInt) 2) (plain 5 int 0)))))
+statement_12 = expression_statement
+    (call 5 Void 1 (one (convert (integer_kind UnsignedLong)
+    (binary 5 ShiftLeft (plain 5 (integer_kind UnsignedInt) 2) (plain 5 int 0)))))
 
 function_main : Function
 function_main = defined 3 0 none
@@ -75,16 +96,22 @@ function_main = defined 3 0 none
     statement_6 ∷
     statement_7 ∷
     statement_8 ∷
-    expression_statement (call 4 Void 1 (one (binary 4 ShiftLeft (plain 4 (integer_kind UnsignedLong) 4) (plain 4 int 0)))) ∷
-    expression_statement (call 4 Void 1 (one (binary 4 ShiftRight (plain 4 (integer_kind UnsignedLong) 4) (plain 4 int 0)))) ∷
+    expression_statement (call 4 Void 1
+    (one (binary 4 ShiftLeft (plain 4 (integer_kind UnsignedLong) 4) (plain 4 int 0)))) ∷
+    expression_statement (call 4 Void 1
+    (one (binary 4 ShiftRight (plain 4 (integer_kind UnsignedLong) 4) (plain 4 int 0)))) ∷
     expression_statement (set_plain 5 0 (number 5 63)) ∷
-    expression_statement (call 5 Void 1 (one (binary 5 ShiftLeft (plain 5 (integer_kind UnsignedLong) 4) (plain 5 int 0)))) ∷
-    expression_statement (call 5 Void 1 (one (binary 5 ShiftRight (plain 5 (integer_kind UnsignedLong) 4) (plain 5 int 0)))) ∷
+    expression_statement (call 5 Void 1
+    (one (binary 5 ShiftLeft (plain 5 (integer_kind UnsignedLong) 4) (plain 5 int 0)))) ∷
+    expression_statement (call 5 Void 1
+    (one (binary 5 ShiftRight (plain 5 (integer_kind UnsignedLong) 4) (plain 5 int 0)))) ∷
     statement_9 ∷
     statement_10 ∷
     expression_statement (set_plain 5 0 (number 5 64)) ∷
-    expression_statement (call 5 Void 1 (one (binary 5 ShiftLeft (plain 5 (integer_kind UnsignedLong) 4) (plain 5 int 0)))) ∷
-    expression_statement (call 5 Void 1 (one (binary 5 ShiftRight (plain 5 (integer_kind UnsignedLong) 4) (plain 5 int 0)))) ∷
+    expression_statement (call 5 Void 1
+    (one (binary 5 ShiftLeft (plain 5 (integer_kind UnsignedLong) 4) (plain 5 int 0)))) ∷
+    expression_statement (call 5 Void 1
+    (one (binary 5 ShiftRight (plain 5 (integer_kind UnsignedLong) 4) (plain 5 int 0)))) ∷
     statement_11 ∷
     statement_12 ∷
     return (Some (number 5 0)) ∷ [])
@@ -94,9 +121,11 @@ program = program_of (one hex_digits) (two main_type put_type) (three put_digits
 
 run : seen (meaning program default_sizes [] 600) ≡
     exited (codes "ffffffff80000000 ffffffffffffffff 1 80000000 1 fffffffffffffff8 80000001 80000001 100000000 80000000 8000000000000000 1 ffffffffffffffff 8000000000000000 8000000000000001 8000000000000001 fffffffffffffff8 80000001 ") 0
-unfolding program put_digits put_number function_main statement_1 statement_2 statement_3 statement_4 statement_5 statement_6 statement_7 statement_8 statement_9 statement_10 statement_11 statement_12 hex_digits put_type computing
+unfolding program put_digits put_number function_main statement_1 statement_2 statement_3 statement_4 statement_5
+    statement_6 statement_7 statement_8 statement_9 statement_10 statement_11 statement_12 hex_digits put_type computing
 run = refl
 
 valid : is_valid_program program ≡ true
-unfolding program put_digits put_number function_main statement_1 statement_2 statement_3 statement_4 statement_5 statement_6 statement_7 statement_8 statement_9 statement_10 statement_11 statement_12 hex_digits put_type computing
+unfolding program put_digits put_number function_main statement_1 statement_2 statement_3 statement_4 statement_5
+    statement_6 statement_7 statement_8 statement_9 statement_10 statement_11 statement_12 hex_digits put_type computing
 valid = refl

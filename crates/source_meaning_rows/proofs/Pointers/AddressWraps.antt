@@ -10,7 +10,10 @@ use Rattle.obj_memory.specs.declared.int_type.IntType.TheVariants.{Long}
 use Rattle.obj_memory.specs.declared.operator.BinaryOperator.TheVariants.{Subtract}
 use Rattle.sb_base.specs.Budgets.{default_sizes}
 use Rattle.source_meaning.specs.Meaning.{meaning}
-use Rattle.source_meaning_rows.proofs.Samples.{binary, cast, computing, convert, decay, deref, int, integer_kind, lvalue, main_alone, none, number, offset, one, parenthesized, plain, plain_variable, pointer, read, seen, static_object, stopped, two, with_value}
+use Rattle.source_meaning_rows.proofs.Samples.{binary, cast, computing, convert, decay, deref, int, integer_kind}
+use Rattle.source_meaning_rows.proofs.Samples.{lvalue, main_alone, none, number, offset, one, parenthesized, plain}
+use Rattle.source_meaning_rows.proofs.Samples.{plain_variable, pointer, read, seen, static_object, stopped, two}
+use Rattle.source_meaning_rows.proofs.Samples.{with_value}
 use Rattle.std.proofs.Common.{Some, [], refl, true, ◌≡◌}
 use Rattle.std.specs.Prelude.{codes}
 

@@ -8,7 +8,8 @@ use Rattle.c_tree.specs.ValidProgram.{is_valid_program}
 use Rattle.c_tree.specs.declared.expression.Kind.TheVariants.{Array}
 use Rattle.sb_base.specs.Budgets.{default_sizes}
 use Rattle.source_meaning.specs.Meaning.{meaning}
-use Rattle.source_meaning_rows.proofs.Samples.{assign, computing, decay, exited, index, int, lvalue, main_alone, none, number, one, read, seen, static_object, two}
+use Rattle.source_meaning_rows.proofs.Samples.{assign, computing, decay, exited, index, int, lvalue, main_alone, none}
+use Rattle.source_meaning_rows.proofs.Samples.{number, one, read, seen, static_object, two}
 use Rattle.std.proofs.Common.{Some, [], refl, true, ◌≡◌}
 
 statement_1 : Statement
@@ -17,7 +18,9 @@ statement_1 = expression_statement (assign 1
     (number 1 7))
 
 statement_2 : Statement
-statement_2 = return (Some (read (index 1 int (decay (index 1 (Array 8) (decay (lvalue 1 (Array 16) (tree.static 0))) (number 1 1))) (number 1 1))))
+statement_2 = return (Some
+    (read (index 1 int (decay (index 1 (Array 8) (decay (lvalue 1 (Array 16) (tree.static 0))) (number 1 1)))
+    (number 1 1))))
 
 program : Program
 program = main_alone (one (static_object (Array 16) none)) none 208 (two statement_1 statement_2)

@@ -7,7 +7,9 @@ use Rattle.c_tree.specs.ValidProgram.{is_valid_program}
 use Rattle.c_tree.specs.declared.expression.Kind.TheVariants.{Array}
 use Rattle.sb_base.specs.Budgets.{default_sizes}
 use Rattle.source_meaning.specs.Meaning.{meaning}
-use Rattle.source_meaning_rows.proofs.Samples.{assign, computing, decay, index, int, lvalue, main_alone, none, number, one, plain, plain_variable, pointer, seen, static_object, stopped, three, two, with_value}
+use Rattle.source_meaning_rows.proofs.Samples.{assign, computing, decay, index, int, lvalue, main_alone, none, number}
+use Rattle.source_meaning_rows.proofs.Samples.{one, plain, plain_variable, pointer, seen, static_object, stopped, three}
+use Rattle.source_meaning_rows.proofs.Samples.{two, with_value}
 use Rattle.std.proofs.Common.{Some, [], refl, true, ◌≡◌}
 use Rattle.std.specs.Prelude.{codes}
 

@@ -8,12 +8,17 @@ use Rattle.c_tree.specs.declared.expression.Kind.TheVariants.{Array}
 use Rattle.c_tree.specs.declared.expression.OffsetForm.TheVariants.{PointerPlusIndex}
 use Rattle.sb_base.specs.Budgets.{default_sizes}
 use Rattle.source_meaning.specs.Meaning.{meaning}
-use Rattle.source_meaning_rows.proofs.Samples.{address, assign, cast, computing, content, decay, deref, int, lvalue, main_alone, number, object_variable, offset, one, parenthesized, part, plain, plain_variable, pointer, read, reads, seen, static_object, stopped, three, two, with_value, writes, without_value}
+use Rattle.source_meaning_rows.proofs.Samples.{address, assign, cast, computing, content, decay, deref, int, lvalue}
+use Rattle.source_meaning_rows.proofs.Samples.{main_alone, number, object_variable, offset, one, parenthesized, part}
+use Rattle.source_meaning_rows.proofs.Samples.{plain, plain_variable, pointer, read, reads, seen, static_object}
+use Rattle.source_meaning_rows.proofs.Samples.{stopped, three, two, with_value, writes, without_value}
 use Rattle.std.proofs.Common.{Some, [], refl, true, ◌∷◌, ◌≡◌}
 use Rattle.std.specs.Prelude.{codes}
 
 statement_1 : Statement
-statement_1 = declaration (one (with_value 1 (cast 1 pointer (parenthesized (offset 1 PointerPlusIndex 1 (decay (lvalue 1 (Array 16) (tree.automatic 0))) (number 1 1))))))
+statement_1 = declaration
+    (one (with_value 1 (cast 1 pointer
+    (parenthesized (offset 1 PointerPlusIndex 1 (decay (lvalue 1 (Array 16) (tree.automatic 0))) (number 1 1))))))
 
 program : Program
 program = main_alone

@@ -1,5 +1,7 @@
 -- Objects lie in order, parameters first, each at the next multiple of 16. The text is rows/objects_are_aligned.c.
---     int f(char c){char a;char b[17];char d;char*p=&c;char*q=&a;char*r=&d;putchar(48+(q-p)/16);putchar(48+(b-q)/16);putchar(48+(r-b)/16);return (long)p%16;}char x;int y;int main(void){putchar(48+((char*)&y-&x)/16);return f(7);}
+--     int f(char c){char a;char b[17];char
+-- d;char*p=&c;char*q=&a;char*r=&d;putchar(48+(q-p)/16);putchar(48+(b-q)/16);putchar(48+(r-b)/16);return
+-- (long)p%16;}char x;int y;int main(void){putchar(48+((char*)&y-&x)/16);return f(7);}
 use Rattle.c_tree.specs.Programs.{Program, Function}
 use Rattle.c_tree.specs.Statements.{Statement, expression_statement, declaration, return}
 use Rattle.c_tree.specs.Tree as tree
@@ -11,7 +13,11 @@ use Rattle.obj_memory.specs.declared.int_type.IntType.TheVariants.{Char, Int, Lo
 use Rattle.obj_memory.specs.declared.operator.BinaryOperator.TheVariants.{Add, Divide, Remainder}
 use Rattle.sb_base.specs.Budgets.{default_sizes}
 use Rattle.source_meaning.specs.Meaning.{meaning}
-use Rattle.source_meaning_rows.proofs.Samples.{address, binary, call, cast, computing, convert, decay, defined, difference, exited, function_type, int, integer_kind, library, lvalue, main_type, none, number, object_variable, one, parenthesized, plain, plain_variable, pointer, program_of, seen, six, static_object, two, with_value, without_value}
+use Rattle.source_meaning_rows.proofs.Samples.{address, binary, call, cast, computing, convert, decay, defined}
+use Rattle.source_meaning_rows.proofs.Samples.{difference, exited, function_type, int, integer_kind, library, lvalue}
+use Rattle.source_meaning_rows.proofs.Samples.{main_type, none, number, object_variable, one, parenthesized, plain}
+use Rattle.source_meaning_rows.proofs.Samples.{plain_variable, pointer, program_of, seen, six, static_object, two}
+use Rattle.source_meaning_rows.proofs.Samples.{with_value, without_value}
 use Rattle.std.proofs.Common.{Some, [], refl, true, ◌∷◌, ◌≡◌}
 use Rattle.std.specs.Prelude.{codes}
 
@@ -37,7 +43,9 @@ statement_3 = expression_statement (library 1 int Putchar (one (convert int (bin
     (convert (integer_kind Long) (number 1 16)))))))
 
 statement_4 : Statement
-statement_4 = return (Some (convert int (binary 1 Remainder (cast 1 (integer_kind Long) (plain 1 pointer 4)) (convert (integer_kind Long) (number 1 16)))))
+statement_4 = return (Some
+    (convert int (binary 1 Remainder (cast 1 (integer_kind Long) (plain 1 pointer 4))
+    (convert (integer_kind Long) (number 1 16)))))
 
 function_f : Function
 function_f = defined 1 1
@@ -70,12 +78,14 @@ statement_5 = expression_statement (library 1 int Putchar (one (convert int (bin
     (convert (integer_kind Long) (number 1 16)))))))
 
 function_main : Function
-function_main = defined 1 0 none none 248 (two statement_5 (return (Some (call 1 int 0 (one (convert (integer_kind Char) (number 1 7)))))))
+function_main = defined 1 0 none none 248
+    (two statement_5 (return (Some (call 1 int 0 (one (convert (integer_kind Char) (number 1 7)))))))
 
 program : Program
 program = program_of
     (two (static_object (integer_kind Char) none) (static_object int none))
-    (two main_type (function_type (Takes ∷ (IntegerWord Char) ∷ Gives ∷ (IntegerWord Int) ∷ []) (one (integer_kind Char)) int))
+    (two main_type (function_type (Takes ∷ (IntegerWord Char) ∷ Gives ∷ (IntegerWord Int) ∷ [])
+    (one (integer_kind Char)) int))
     (two function_f function_main)
     1
 

@@ -12,15 +12,22 @@ use Rattle.obj_memory.specs.declared.operator.BinaryOperator.TheVariants.{Add}
 use Rattle.obj_memory.specs.declared.operator.UnaryOperator.TheVariants.{Negate}
 use Rattle.sb_base.specs.Budgets.{default_sizes}
 use Rattle.source_meaning.specs.Meaning.{meaning}
-use Rattle.source_meaning_rows.proofs.Samples.{assign, binary, computing, convert, decay, five, index, int, integer_kind, library, lvalue, main_alone, none, number, one, plain, plain_variable, pointer, read, seen, static_object, stopped, unary, with_value}
+use Rattle.source_meaning_rows.proofs.Samples.{assign, binary, computing, convert, decay, five, index, int}
+use Rattle.source_meaning_rows.proofs.Samples.{integer_kind, library, lvalue, main_alone, none, number, one, plain}
+use Rattle.source_meaning_rows.proofs.Samples.{plain_variable, pointer, read, seen, static_object, stopped, unary}
+use Rattle.source_meaning_rows.proofs.Samples.{with_value}
 use Rattle.std.proofs.Common.{Some, [], refl, true, ◌≡◌}
 use Rattle.std.specs.Prelude.{codes}
 
 statement_1 : Statement
-statement_1 = expression_statement (assign 1 (index 1 (integer_kind Char) (plain 1 pointer 0) (number 1 2)) (convert (integer_kind Char) (number 1 1)))
+statement_1 = expression_statement
+    (assign 1 (index 1 (integer_kind Char) (plain 1 pointer 0) (number 1 2)) (convert (integer_kind Char) (number 1 1)))
 
 statement_2 : Statement
-statement_2 = expression_statement (library 1 int Putchar (one (binary 1 Add (number 1 48) (convert int (read (index 1 (integer_kind Char) (plain 1 pointer 0) (number 1 2)))))))
+statement_2 = expression_statement
+    (library 1 int Putchar
+    (one (binary 1 Add (number 1 48)
+    (convert int (read (index 1 (integer_kind Char) (plain 1 pointer 0) (number 1 2)))))))
 
 statement_3 : Statement
 statement_3 = expression_statement (assign 2
@@ -39,7 +46,8 @@ program = main_alone
     statement_3
     (return (Some (number 2 0))))
 
-run : seen (meaning program default_sizes [] 20) ≡ stopped (codes "1") (codes "sbcets: spatial violation at line 2\n") 120
+run : seen (meaning program default_sizes [] 20)
+    ≡ stopped (codes "1") (codes "sbcets: spatial violation at line 2\n") 120
 unfolding program statement_1 statement_2 statement_3 computing
 run = refl
 

@@ -12,7 +12,10 @@ use Rattle.obj_memory.specs.declared.operator.BinaryOperator.TheVariants.{Add, E
 use Rattle.obj_memory.specs.declared.operator.UnaryOperator.TheVariants.{Negate}
 use Rattle.sb_base.specs.Budgets.{default_sizes}
 use Rattle.source_meaning.specs.Meaning.{meaning}
-use Rattle.source_meaning_rows.proofs.Samples.{address, binary, compare, computing, convert, decay, deref, difference, exited, five, index, int, integer_kind, library, lvalue, main_alone, none, number, offset, one, parenthesized, plain, plain_variable, pointer, read, seen, set_plain, static_object, two, unary, with_value}
+use Rattle.source_meaning_rows.proofs.Samples.{address, binary, compare, computing, convert, decay, deref, difference}
+use Rattle.source_meaning_rows.proofs.Samples.{exited, five, index, int, integer_kind, library, lvalue, main_alone}
+use Rattle.source_meaning_rows.proofs.Samples.{none, number, offset, one, parenthesized, plain, plain_variable, pointer}
+use Rattle.source_meaning_rows.proofs.Samples.{read, seen, set_plain, static_object, two, unary, with_value}
 use Rattle.std.proofs.Common.{Some, [], refl, true, ◌≡◌}
 use Rattle.std.specs.Prelude.{codes}
 
@@ -34,10 +37,12 @@ program = main_alone
     (two (plain_variable pointer) (plain_variable pointer))
     368
     (five
-    (declaration (one (with_value 0 (address 1 (index 1 int (decay (lvalue 1 (Array 12) (tree.static 0))) (number 1 3))))))
+    (declaration (one (with_value 0
+    (address 1 (index 1 int (decay (lvalue 1 (Array 12) (tree.static 0))) (number 1 3))))))
     (declaration (one (with_value 1 (address 1 (deref 1 int (plain 1 pointer 0))))))
     statement_1
-    (expression_statement (set_plain 1 1 (offset 1 PointerMinusIndex 4 (decay (lvalue 1 (Array 12) (tree.static 0))) (number 1 1))))
+    (expression_statement
+    (set_plain 1 1 (offset 1 PointerMinusIndex 4 (decay (lvalue 1 (Array 12) (tree.static 0))) (number 1 1))))
     statement_2)
 
 run : seen (meaning program default_sizes [] 20) ≡ exited (codes "3") 1

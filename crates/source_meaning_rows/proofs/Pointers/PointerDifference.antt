@@ -14,15 +14,24 @@ use Rattle.obj_memory.specs.declared.int_type.IntType.TheVariants.{UnsignedLong}
 use Rattle.sb_base.specs.Budgets.{default_sizes}
 use Rattle.source_meaning.specs.Meaning.{meaning}
 use Rattle.source_meaning_rows.proofs.Hexadecimal.{hex_digits, put_digits, put_number, put_type}
-use Rattle.source_meaning_rows.proofs.Samples.{address, call, cast, computing, convert, decay, defined, difference, exited, index, int, integer_kind, lvalue, main_type, none, number, offset, one, parenthesized, plain, plain_variable, pointer, program_of, seen, static_object, three, two, with_value}
+use Rattle.source_meaning_rows.proofs.Samples.{address, call, cast, computing, convert, decay, defined, difference}
+use Rattle.source_meaning_rows.proofs.Samples.{exited, index, int, integer_kind, lvalue, main_type, none, number}
+use Rattle.source_meaning_rows.proofs.Samples.{offset, one, parenthesized, plain, plain_variable, pointer, program_of}
+use Rattle.source_meaning_rows.proofs.Samples.{seen, static_object, three, two, with_value}
 use Rattle.std.proofs.Common.{Some, [], refl, true, ◌∷◌, ◌≡◌}
 use Rattle.std.specs.Prelude.{codes}
 
 statement_1 : Statement
-statement_1 = declaration (one (with_value 0 (cast 3 pointer (parenthesized (offset 3 PointerPlusIndex 1 (cast 3 pointer (decay (lvalue 3 (Array 32) (tree.static 1)))) (number 3 7))))))
+statement_1 = declaration
+    (one (with_value 0 (cast 3 pointer
+    (parenthesized (offset 3 PointerPlusIndex 1 (cast 3 pointer (decay (lvalue 3 (Array 32) (tree.static 1))))
+    (number 3 7))))))
 
 statement_2 : Statement
-statement_2 = declaration (one (with_value 1 (cast 3 pointer (parenthesized (offset 3 PointerPlusIndex 1 (cast 3 pointer (decay (lvalue 3 (Array 32) (tree.static 1)))) (number 3 15))))))
+statement_2 = declaration
+    (one (with_value 1 (cast 3 pointer
+    (parenthesized (offset 3 PointerPlusIndex 1 (cast 3 pointer (decay (lvalue 3 (Array 32) (tree.static 1))))
+    (number 3 15))))))
 
 statement_3 : Statement
 statement_3 = expression_statement (call 4 Void 1 (one (convert
@@ -39,10 +48,14 @@ statement_4 = expression_statement (call 4 Void 1 (one (convert
     (parenthesized (offset 4 PointerPlusIndex 4 (decay (lvalue 4 (Array 32) (tree.static 1))) (number 4 5)))))))
 
 statement_5 : Statement
-statement_5 = expression_statement (call 4 Void 1 (one (convert (integer_kind UnsignedLong) (difference 4 4 (plain 4 pointer 0) (decay (lvalue 4 (Array 32) (tree.static 1)))))))
+statement_5 = expression_statement
+    (call 4 Void 1 (one (convert (integer_kind UnsignedLong)
+    (difference 4 4 (plain 4 pointer 0) (decay (lvalue 4 (Array 32) (tree.static 1)))))))
 
 statement_6 : Statement
-statement_6 = expression_statement (call 4 Void 1 (one (convert (integer_kind UnsignedLong) (difference 4 4 (decay (lvalue 4 (Array 32) (tree.static 1))) (plain 4 pointer 0)))))
+statement_6 = expression_statement
+    (call 4 Void 1 (one (convert (integer_kind UnsignedLong)
+    (difference 4 4 (decay (lvalue 4 (Array 32) (tree.static 1))) (plain 4 pointer 0)))))
 
 statement_7 : Statement
 statement_7 = expression_statement (call 4 Void 1 (one (convert
@@ -57,7 +70,8 @@ statement_8 = expression_statement (call 4 Void 1 (one (convert
 statement_9 : Statement
 statement_9 = expression_statement (call 4 Void 1 (one (convert
     (integer_kind UnsignedLong)
-    (difference 4 1 (cast 4 pointer (plain 4 pointer 0)) (cast 4 pointer (decay (lvalue 4 (Array 32) (tree.static 1))))))))
+    (difference 4 1 (cast 4 pointer (plain 4 pointer 0))
+    (cast 4 pointer (decay (lvalue 4 (Array 32) (tree.static 1))))))))
 
 statement_10 : Statement
 statement_10 = expression_statement (call 4 Void 1 (one (convert
@@ -83,13 +97,16 @@ function_main = defined 3 0 none
     return (Some (number 4 0)) ∷ [])
 
 program : Program
-program = program_of (two hex_digits (static_object (Array 32) none)) (two main_type put_type) (three put_digits put_number function_main) 2
+program = program_of (two hex_digits (static_object (Array 32) none)) (two main_type put_type)
+    (three put_digits put_number function_main) 2
 
 run : seen (meaning program default_sizes [] 300) ≡
     exited (codes "5 fffffffffffffffb 1 ffffffffffffffff 1 ffffffffffffffff 7 2 ") 0
-unfolding program put_digits put_number function_main statement_1 statement_2 statement_3 statement_4 statement_5 statement_6 statement_7 statement_8 statement_9 statement_10 hex_digits put_type computing
+unfolding program put_digits put_number function_main statement_1 statement_2 statement_3 statement_4 statement_5
+    statement_6 statement_7 statement_8 statement_9 statement_10 hex_digits put_type computing
 run = refl
 
 valid : is_valid_program program ≡ true
-unfolding program put_digits put_number function_main statement_1 statement_2 statement_3 statement_4 statement_5 statement_6 statement_7 statement_8 statement_9 statement_10 hex_digits put_type computing
+unfolding program put_digits put_number function_main statement_1 statement_2 statement_3 statement_4 statement_5
+    statement_6 statement_7 statement_8 statement_9 statement_10 hex_digits put_type computing
 valid = refl

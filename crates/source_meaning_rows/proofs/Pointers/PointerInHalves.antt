@@ -10,7 +10,10 @@ use Rattle.c_tree.specs.declared.expression.Routine.TheVariants.{Putchar}
 use Rattle.obj_memory.specs.declared.operator.BinaryOperator.TheVariants.{Add, Equal, Subtract}
 use Rattle.sb_base.specs.Budgets.{default_sizes}
 use Rattle.source_meaning.specs.Meaning.{meaning}
-use Rattle.source_meaning_rows.proofs.Samples.{address, assign, binary, cast, compare, computing, content, deref, exited, index, int, library, lvalue, main_alone, number, object_variable, offset, one, parenthesized, part, plain, plain_variable, pointer, read, seen, static_object, three, with_parts, with_value}
+use Rattle.source_meaning_rows.proofs.Samples.{address, assign, binary, cast, compare, computing, content, deref}
+use Rattle.source_meaning_rows.proofs.Samples.{exited, index, int, library, lvalue, main_alone, number, object_variable}
+use Rattle.source_meaning_rows.proofs.Samples.{offset, one, parenthesized, part, plain, plain_variable, pointer, read}
+use Rattle.source_meaning_rows.proofs.Samples.{seen, static_object, three, with_parts, with_value}
 use Rattle.std.proofs.Common.{Some, [], refl, true, ◌∷◌, ◌≡◌}
 use Rattle.std.specs.Prelude.{codes}
 
@@ -20,7 +23,8 @@ statement_1 = expression_statement (assign 1
     (binary 1 Add (read (index 1 int (plain 1 pointer 2) (number 1 0))) (number 1 4)))
 
 statement_2 : Statement
-statement_2 = expression_statement (library 1 int Putchar (one (binary 1 Add (number 1 48) (parenthesized (compare 1 Equal
+statement_2 = expression_statement
+    (library 1 int Putchar (one (binary 1 Add (number 1 48) (parenthesized (compare 1 Equal
     (read (lvalue 1 pointer (tree.automatic 0)))
     (offset 1 PointerPlusIndex 4 (address 1 (lvalue 1 int (tree.static 0))) (number 1 1)))))))
 

@@ -9,17 +9,25 @@ use Rattle.c_tree.specs.declared.expression.Kind.TheVariants.{Array}
 use Rattle.obj_memory.specs.declared.int_type.IntType.TheVariants.{Long}
 use Rattle.sb_base.specs.Budgets.{default_sizes}
 use Rattle.source_meaning.specs.Meaning.{meaning}
-use Rattle.source_meaning_rows.proofs.Samples.{address, assign, cast, computing, content, decay, deref, exited, four, index, int, integer_kind, lvalue, main_alone, number, object_variable, one, part, plain, plain_variable, pointer, read, seen, static_object, two, with_value, without_value}
+use Rattle.source_meaning_rows.proofs.Samples.{address, assign, cast, computing, content, decay, deref, exited, four}
+use Rattle.source_meaning_rows.proofs.Samples.{index, int, integer_kind, lvalue, main_alone, number, object_variable}
+use Rattle.source_meaning_rows.proofs.Samples.{one, part, plain, plain_variable, pointer, read, seen, static_object}
+use Rattle.source_meaning_rows.proofs.Samples.{two, with_value, without_value}
 use Rattle.std.proofs.Common.{Some, [], refl, true, ◌≡◌, ◌∷◌}
 
 statement_1 : Statement
-statement_1 = expression_statement (assign 1 (index 1 pointer (decay (lvalue 1 (Array 8) (tree.automatic 0))) (number 1 0)) (address 1 (lvalue 1 int (tree.static 0))))
+statement_1 = expression_statement
+    (assign 1 (index 1 pointer (decay (lvalue 1 (Array 8) (tree.automatic 0))) (number 1 0))
+    (address 1 (lvalue 1 int (tree.static 0))))
 
 statement_2 : Statement
-statement_2 = expression_statement (assign 1 (deref 1 (integer_kind Long) (plain 1 pointer 1)) (read (deref 1 (integer_kind Long) (plain 1 pointer 1))))
+statement_2 = expression_statement
+    (assign 1 (deref 1 (integer_kind Long) (plain 1 pointer 1))
+    (read (deref 1 (integer_kind Long) (plain 1 pointer 1))))
 
 statement_3 : Statement
-statement_3 = return (Some (read (deref 1 int (read (index 1 pointer (decay (lvalue 1 (Array 8) (tree.automatic 0))) (number 1 0))))))
+statement_3 = return (Some
+    (read (deref 1 int (read (index 1 pointer (decay (lvalue 1 (Array 8) (tree.automatic 0))) (number 1 0))))))
 
 program : Program
 program = main_alone

@@ -1,4 +1,5 @@
--- `int main(void){putchar(72);putchar(105);return 7;}`: hi and status 7. Work: 4 statements (the body is one), 5 nodes, 3
+-- `int main(void){putchar(72);putchar(105);return 7;}`: hi and status 7. Work: 4 statements (the body is one), 5 nodes,
+-- 3
 -- calls, 2 bytes.
 -- The text is rows/first.c; gcc 12.2.0 gives the same output and status.
 use Rattle.c_tree.specs.Tree.{expressions_in}

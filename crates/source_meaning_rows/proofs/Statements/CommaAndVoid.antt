@@ -8,15 +8,19 @@ use Rattle.c_tree.specs.declared.expression.Routine.TheVariants.{Putchar}
 use Rattle.obj_memory.specs.declared.operator.BinaryOperator.TheVariants.{Add}
 use Rattle.sb_base.specs.Budgets.{default_sizes}
 use Rattle.source_meaning.specs.Meaning.{meaning}
-use Rattle.source_meaning_rows.proofs.Samples.{binary, call, cast, comma, computing, defined, exited, int, library, main_type, none, number, one, parenthesized, plain, plain_variable, program_of, seen, set_plain, three, two, without_value}
+use Rattle.source_meaning_rows.proofs.Samples.{binary, call, cast, comma, computing, defined, exited, int, library}
+use Rattle.source_meaning_rows.proofs.Samples.{main_type, none, number, one, parenthesized, plain, plain_variable}
+use Rattle.source_meaning_rows.proofs.Samples.{program_of, seen, set_plain, three, two, without_value}
 use Rattle.std.proofs.Common.{Some, [], refl, true, ◌≡◌, ◌∷◌}
 use Rattle.std.specs.Prelude.{codes}
 
 function_f : Function
-function_f = defined 1 0 none none 168 (two (expression_statement (library 1 int Putchar (one (number 1 65)))) (return (Some (number 1 3))))
+function_f = defined 1 0 none none 168
+    (two (expression_statement (library 1 int Putchar (one (number 1 65)))) (return (Some (number 1 3))))
 
 statement_1 : Statement
-statement_1 = expression_statement (set_plain 1 0 (parenthesized (comma 1 (call 1 int 0 none) (binary 1 Add (call 1 int 0 none) (number 1 1)))))
+statement_1 = expression_statement
+    (set_plain 1 0 (parenthesized (comma 1 (call 1 int 0 none) (binary 1 Add (call 1 int 0 none) (number 1 1)))))
 
 function_main : Function
 function_main = defined 1 0 none

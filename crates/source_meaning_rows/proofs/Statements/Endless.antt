@@ -1,4 +1,5 @@
--- `int main(void){for(;;)putchar(65);}` in 11 turns: the call of `main` and 10 of the loop. Work: 3 for the body, the loop
+-- `int main(void){for(;;)putchar(65);}` in 11 turns: the call of `main` and 10 of the loop. Work: 3 for the body, the
+-- loop
 -- and the call, and 5 in each turn, for a statement, 2 nodes, a call and a byte.
 -- The text is rows/endless.c.
 use Rattle.c_tree.specs.Tree.{expressions_in}
@@ -14,7 +15,8 @@ use Rattle.std.proofs.Common.{◌≡◌, [], length, refl, true, None}
 
 program : Program
 program = main_alone none none 168
-    (one (for 1 nothing None None ((expression_statement (at 1 int (tree.library Putchar (expressions_in (one (number 1 65)))))))))
+    (one (for 1 nothing None None
+    ((expression_statement (at 1 int (tree.library Putchar (expressions_in (one (number 1 65)))))))))
 
 ending : (meaning program default_sizes [] 11).shown.ending ≡ None
 unfolding program computing

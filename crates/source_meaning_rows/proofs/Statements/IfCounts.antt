@@ -1,5 +1,6 @@
 -- `int main(void){int x=2;if(x)x=x+1;else{x=9;}if(0);else x=5;if(!x);return x;}`
--- Work: the call, the variable and the body 3; the initializer 1; the first if 2, and its statement 6; the second 2, and
+-- Work: the call, the variable and the body 3; the initializer 1; the first if 2, and its statement 6; the second 2,
+-- and
 -- 4; the third 3; the return 2. The text is rows/if_counts.c; gcc 12.2.0 gives the same output and status.
 use Rattle.c_tree.specs.Programs.{Program}
 use Rattle.c_tree.specs.Statements.{Statement, expression_statement, empty, declaration, if_then, if_else, return}
@@ -7,7 +8,9 @@ use Rattle.c_tree.specs.ValidProgram.{is_valid_program}
 use Rattle.obj_memory.specs.declared.operator.BinaryOperator.TheVariants.{Add}
 use Rattle.sb_base.specs.Budgets.{default_sizes}
 use Rattle.source_meaning.specs.Meaning.{meaning}
-use Rattle.source_meaning_rows.proofs.Samples.{binary, block_of, computing, counts, exited, five, int, logical_not, main_alone, none, number, one, plain, plain_variable, seen, set_plain, with_value}
+use Rattle.source_meaning_rows.proofs.Samples.{binary, block_of, computing, counts, exited, five, int, logical_not}
+use Rattle.source_meaning_rows.proofs.Samples.{main_alone, none, number, one, plain, plain_variable, seen, set_plain}
+use Rattle.source_meaning_rows.proofs.Samples.{with_value}
 use Rattle.std.proofs.Common.{None, Some, [], refl, true, ◌≡◌}
 
 statement_1 : Statement

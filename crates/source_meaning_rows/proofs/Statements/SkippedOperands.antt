@@ -8,7 +8,9 @@ use Rattle.c_tree.specs.ValidProgram.{is_valid_program}
 use Rattle.obj_memory.specs.declared.operator.BinaryOperator.TheVariants.{Add}
 use Rattle.sb_base.specs.Budgets.{default_sizes}
 use Rattle.source_meaning.specs.Meaning.{meaning}
-use Rattle.source_meaning_rows.proofs.Samples.{binary, computing, conditional, counts, exited, int, logical_and, logical_or, main_alone, none, number, one, plain, plain_variable, seen, six, with_value}
+use Rattle.source_meaning_rows.proofs.Samples.{binary, computing, conditional, counts, exited, int, logical_and}
+use Rattle.source_meaning_rows.proofs.Samples.{logical_or, main_alone, none, number, one, plain, plain_variable, seen}
+use Rattle.source_meaning_rows.proofs.Samples.{six, with_value}
 use Rattle.std.proofs.Common.{Some, [], refl, true, ◌≡◌}
 
 program : Program

@@ -1,6 +1,7 @@
 -- A value that no label has goes to the default label, wherever it stands, and falls through from there. The text is
 -- rows/switch_default_in_the_middle.c; gcc 12.2.0 gives the same output and status.
---     int f(int n){int r=0;switch(n){case 1:r=r+1;break;default:r=r+2;case 3:r=r+4;break;case 4:case 5:r=r+8;}return r;}
+--     int f(int n){int r=0;switch(n){case 1:r=r+1;break;default:r=r+2;case 3:r=r+4;break;case 4:case 5:r=r+8;}return
+-- r;}
 --     int main(void){int i;for(i=0;i<7;i++)putchar(48+f(i));return 0;}
 use Rattle.c_tree.specs.Programs.{Program, Function}
 use Rattle.c_tree.specs.Statements.{Statement, expression_statement, declaration, for, break, return, first_expression}
@@ -14,7 +15,10 @@ use Rattle.obj_memory.specs.declared.int_type.IntType.TheVariants.{Int}
 use Rattle.obj_memory.specs.declared.operator.BinaryOperator.TheVariants.{Add, Less}
 use Rattle.sb_base.specs.Budgets.{default_sizes}
 use Rattle.source_meaning.specs.Meaning.{meaning}
-use Rattle.source_meaning_rows.proofs.Samples.{binary, call, compare, computing, defined, exited, function_type, int, item, library, main_type, none, number, one, plain, plain_variable, program_of, seen, set_plain, six, step_plain, switch_of, three, two, with_value, without_value}
+use Rattle.source_meaning_rows.proofs.Samples.{binary, call, compare, computing, defined, exited, function_type, int}
+use Rattle.source_meaning_rows.proofs.Samples.{item, library, main_type, none, number, one, plain, plain_variable}
+use Rattle.source_meaning_rows.proofs.Samples.{program_of, seen, set_plain, six, step_plain, switch_of, three, two}
+use Rattle.source_meaning_rows.proofs.Samples.{with_value, without_value}
 use Rattle.std.proofs.Common.{Some, [], refl, true, ◌∷◌, ◌≡◌}
 use Rattle.std.specs.Prelude.{codes}
 
@@ -39,7 +43,8 @@ statement_2 = for 2
     (first_expression (set_plain 2 0 (number 2 0)))
     (Some (compare 2 Less (plain 2 int 0) (number 2 7)))
     (Some (step_plain 2 int (Arithmetic Add Int) Postfix 0))
-    ((expression_statement (library 2 int Putchar (one (binary 2 Add (number 2 48) (call 2 int 0 (one (plain 2 int 0))))))))
+    ((expression_statement
+    (library 2 int Putchar (one (binary 2 Add (number 2 48) (call 2 int 0 (one (plain 2 int 0))))))))
 
 function_main : Function
 function_main = defined 2 0 none (one (plain_variable int)) 248 ((declaration (without_value 0 ∷ []))

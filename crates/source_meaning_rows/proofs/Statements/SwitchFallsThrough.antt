@@ -1,7 +1,8 @@
 -- Work: 3 for the call, the variable and the body, 1 for the initializer; the switch, its value and its block 3; two
 -- labels compared; labels reached 2, two times 5 to put a byte, and the break 1; 2 for the return. The text is
 -- rows/switch_falls_through.c; gcc 12.2.0 gives the same output and status.
---     int main(void){int i=2;switch(i){case 1:putchar(65);case 2:putchar(66);case 3:putchar(67);break;default:putchar(68);}return 0;}
+--     int main(void){int i=2;switch(i){case 1:putchar(65);case 2:putchar(66);case
+-- 3:putchar(67);break;default:putchar(68);}return 0;}
 use Rattle.c_tree.specs.Programs.{Program}
 use Rattle.c_tree.specs.Statements.{Statement, expression_statement, declaration, break, return}
 use Rattle.c_tree.specs.ValidProgram.{is_valid_program}
@@ -9,7 +10,8 @@ use Rattle.c_tree.specs.declared.expression.Routine.TheVariants.{Putchar}
 use Rattle.c_tree.specs.declared.statement.CaseLabel.TheVariants.{Case, Default}
 use Rattle.sb_base.specs.Budgets.{default_sizes}
 use Rattle.source_meaning.specs.Meaning.{meaning}
-use Rattle.source_meaning_rows.proofs.Samples.{computing, counts, exited, five, int, item, library, main_alone, none, number, one, plain, plain_variable, seen, switch_of, three, with_value}
+use Rattle.source_meaning_rows.proofs.Samples.{computing, counts, exited, five, int, item, library, main_alone, none}
+use Rattle.source_meaning_rows.proofs.Samples.{number, one, plain, plain_variable, seen, switch_of, three, with_value}
 use Rattle.std.proofs.Common.{Some, [], refl, true, ◌≡◌}
 use Rattle.std.specs.Prelude.{codes}
 

@@ -9,7 +9,8 @@ use Rattle.c_tree.specs.declared.expression.Routine.TheVariants.{Putchar}
 use Rattle.c_tree.specs.declared.statement.CaseLabel.TheVariants.{Case, Default}
 use Rattle.sb_base.specs.Budgets.{default_sizes}
 use Rattle.source_meaning.specs.Meaning.{meaning}
-use Rattle.source_meaning_rows.proofs.Samples.{computing, counts, exited, int, item, library, main_alone, none, number, one, seen, switch_of, three, two}
+use Rattle.source_meaning_rows.proofs.Samples.{computing, counts, exited, int, item, library, main_alone, none, number}
+use Rattle.source_meaning_rows.proofs.Samples.{one, seen, switch_of, three, two}
 use Rattle.std.proofs.Common.{Some, [], refl, true, ◌≡◌}
 use Rattle.std.specs.Prelude.{codes}
 

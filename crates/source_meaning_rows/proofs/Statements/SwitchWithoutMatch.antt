@@ -1,5 +1,6 @@
 -- `int main(void){switch(3L){case 1:case 2:putchar(65);case 4:putchar(66);}return 0;}`
--- Work: the call and the body 2; the switch, its value and its block 3; three labels compared; the return 2. The text is
+-- Work: the call and the body 2; the switch, its value and its block 3; three labels compared; the return 2. The text
+-- is
 -- rows/switch_without_match.c; gcc 12.2.0 gives the same output and status.
 use Rattle.c_tree.specs.Programs.{Program}
 use Rattle.c_tree.specs.Statements.{Statement, expression_statement, return}
@@ -9,7 +10,8 @@ use Rattle.c_tree.specs.declared.statement.CaseLabel.TheVariants.{Case}
 use Rattle.obj_memory.specs.declared.int_type.IntType.TheVariants.{Long}
 use Rattle.sb_base.specs.Budgets.{default_sizes}
 use Rattle.source_meaning.specs.Meaning.{meaning}
-use Rattle.source_meaning_rows.proofs.Samples.{computing, constant, counts, exited, int, item, library, main_alone, none, number, one, seen, switch_of, two}
+use Rattle.source_meaning_rows.proofs.Samples.{computing, constant, counts, exited, int, item, library, main_alone}
+use Rattle.source_meaning_rows.proofs.Samples.{none, number, one, seen, switch_of, two}
 use Rattle.std.proofs.Common.{Some, [], refl, true, ◌≡◌}
 
 statement_1 : Statement

@@ -1,4 +1,5 @@
--- An array member of a structure that is no lvalue does not decay (C99 6.3.2.1 paragraph 3 asks for an lvalue): such a tree is not
+-- An array member of a structure that is no lvalue does not decay (C99 6.3.2.1 paragraph 3 asks for an lvalue): such a
+-- tree is not
 -- valid.
 -- The text is rows/array_of_a_result.c, its tree by rows/trees.py.
 --     struct s{char c[2];};struct s f(void){struct s r;return r;}int main(void){return f().c[0];}
@@ -11,7 +12,9 @@ use Rattle.c_tree.specs.declared.expression.Kind.TheVariants.{Structure, Array}
 use Rattle.obj_memory.specs.declared.int_type.IntType.TheVariants.{Char, Int}
 use Rattle.sb_base.specs.Budgets.{default_sizes}
 use Rattle.source_meaning.specs.Meaning.{meaning}
-use Rattle.source_meaning_rows.proofs.Samples.{int, integer_kind, number, decay, convert, call, read, lvalue, index, member_of_value, without_value, object_variable, function_type, defined, program_with, computing}
+use Rattle.source_meaning_rows.proofs.Samples.{int, integer_kind, number, decay, convert, call, read, lvalue, index}
+use Rattle.source_meaning_rows.proofs.Samples.{member_of_value, without_value, object_variable, function_type, defined}
+use Rattle.source_meaning_rows.proofs.Samples.{program_with, computing}
 use Rattle.std.proofs.Common.{◌∷◌, [], Some, ◌≡◌, refl, false}
 
 function_f : Function

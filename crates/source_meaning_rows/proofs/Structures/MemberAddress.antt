@@ -1,6 +1,7 @@
 -- The address of an element of a member has the range of the member, and that of a member its own. The text is
 -- rows/member_address.c.
---     struct s{int a;int b[2];int c;}v;int main(void){int*p=&v.b[1];p[-1]=3;putchar(48+v.b[0]);p=&v.a;*p=1;p[1]=2;return 0;}
+--     struct s{int a;int b[2];int c;}v;int
+-- main(void){int*p=&v.b[1];p[-1]=3;putchar(48+v.b[0]);p=&v.a;*p=1;p[1]=2;return 0;}
 use Rattle.c_tree.specs.Programs.{Program}
 use Rattle.c_tree.specs.Statements.{Statement, expression_statement, declaration, return}
 use Rattle.c_tree.specs.Tree as tree
@@ -11,15 +12,23 @@ use Rattle.obj_memory.specs.declared.operator.BinaryOperator.TheVariants.{Add}
 use Rattle.obj_memory.specs.declared.operator.UnaryOperator.TheVariants.{Negate}
 use Rattle.sb_base.specs.Budgets.{default_sizes}
 use Rattle.source_meaning.specs.Meaning.{meaning}
-use Rattle.source_meaning_rows.proofs.Samples.{address, assign, binary, computing, decay, deref, index, int, library, lvalue, main_alone, member, none, number, one, plain, plain_variable, pointer, read, seen, set_plain, static_object, stopped, unary, with_value}
+use Rattle.source_meaning_rows.proofs.Samples.{address, assign, binary, computing, decay, deref, index, int, library}
+use Rattle.source_meaning_rows.proofs.Samples.{lvalue, main_alone, member, none, number, one, plain, plain_variable}
+use Rattle.source_meaning_rows.proofs.Samples.{pointer, read, seen, set_plain, static_object, stopped, unary}
+use Rattle.source_meaning_rows.proofs.Samples.{with_value}
 use Rattle.std.proofs.Common.{Some, [], refl, true, ◌∷◌, ◌≡◌}
 use Rattle.std.specs.Prelude.{codes}
 
 statement_1 : Statement
-statement_1 = declaration (one (with_value 0 (address 1 (index 1 int (decay (member 1 (Array 8) 4 (lvalue 1 (Structure 16) (tree.static 0)))) (number 1 1)))))
+statement_1 = declaration
+    (one (with_value 0 (address 1
+    (index 1 int (decay (member 1 (Array 8) 4 (lvalue 1 (Structure 16) (tree.static 0)))) (number 1 1)))))
 
 statement_2 : Statement
-statement_2 = expression_statement (library 1 int Putchar (one (binary 1 Add (number 1 48) (read (index 1 int (decay (member 1 (Array 8) 4 (lvalue 1 (Structure 16) (tree.static 0)))) (number 1 0))))))
+statement_2 = expression_statement
+    (library 1 int Putchar
+    (one (binary 1 Add (number 1 48)
+    (read (index 1 int (decay (member 1 (Array 8) 4 (lvalue 1 (Structure 16) (tree.static 0)))) (number 1 0))))))
 
 program : Program
 program = main_alone
@@ -34,7 +43,8 @@ program = main_alone
     expression_statement (assign 1 (index 1 int (plain 1 pointer 0) (number 1 1)) (number 1 2)) ∷
     return (Some (number 1 0)) ∷ [])
 
-run : seen (meaning program default_sizes [] 20) ≡ stopped (codes "3") (codes "sbcets: spatial violation at line 1\n") 120
+run : seen (meaning program default_sizes [] 20)
+    ≡ stopped (codes "3") (codes "sbcets: spatial violation at line 1\n") 120
 unfolding program statement_1 statement_2 computing
 run = refl
 

@@ -1,5 +1,6 @@
 -- `struct s{char n[4];int k;}v;int main(void){struct s*p=&v;p->k=1;p->n[3]=2;p->n[4]=3;return 0;}`
--- A member that is an array has its own range, though the byte lies in the structure. Work: 3 for the call, the variable
+-- A member that is an array has its own range, though the byte lies in the structure. Work: 3 for the call, the
+-- variable
 -- and the body; 2 for the initializer; 5 for p->k=1; 7 for p->n[3]=2 and for p->n[4]=3 each, whose decays are no nodes;
 -- the report 36. The right side of the last is evaluated before the place on the left is judged. The text is
 -- rows/member_range.c.
@@ -11,7 +12,10 @@ use Rattle.c_tree.specs.declared.expression.Kind.TheVariants.{Array, Structure}
 use Rattle.obj_memory.specs.declared.int_type.IntType.TheVariants.{Char}
 use Rattle.sb_base.specs.Budgets.{default_sizes}
 use Rattle.source_meaning.specs.Meaning.{meaning}
-use Rattle.source_meaning_rows.proofs.Samples.{address, arrow, assign, computing, convert, counts, decay, five, index, int, integer_kind, lvalue, main_alone, none, number, one, plain, plain_variable, pointer, seen, static_object, stopped, with_value, writes}
+use Rattle.source_meaning_rows.proofs.Samples.{address, arrow, assign, computing, convert, counts, decay, five, index}
+use Rattle.source_meaning_rows.proofs.Samples.{int, integer_kind, lvalue, main_alone, none, number, one, plain}
+use Rattle.source_meaning_rows.proofs.Samples.{plain_variable, pointer, seen, static_object, stopped, with_value}
+use Rattle.source_meaning_rows.proofs.Samples.{writes}
 use Rattle.std.proofs.Common.{Some, [], refl, true, ◌∷◌, ◌≡◌}
 use Rattle.std.specs.Prelude.{codes}
 

@@ -1,20 +1,27 @@
--- A result that is assigned, a structure member of a result that initializes, and scalar members of results, which are parts of the value
+-- A result that is assigned, a structure member of a result that initializes, and scalar members of results, which are
+-- parts of the value
 -- and no accesses.
 -- The text is rows/members_of_results.c, its tree by rows/trees.py.
---     struct q{int*p;int n;};struct s{int m;struct q q;};int z=7;struct s f(int n){struct s r;r.m=n;r.q.p=&z;r.q.n=n+1;return r;}
---     int main(void){struct s v;v=f(3);struct q w=f(4).q;putchar(48+v.m);putchar(48+*v.q.p);putchar(48+w.n);return *w.p+f(5).m+f(6).q.n;}
+--     struct q{int*p;int n;};struct s{int m;struct q q;};int z=7;struct s f(int n){struct s
+-- r;r.m=n;r.q.p=&z;r.q.n=n+1;return r;}
+--     int main(void){struct s v;v=f(3);struct q w=f(4).q;putchar(48+v.m);putchar(48+*v.q.p);putchar(48+w.n);return
+-- *w.p+f(5).m+f(6).q.n;}
 use Rattle.c_tree.specs.Programs.{Function, Program}
 use Rattle.c_tree.specs.Statements.{expression_statement, declaration, return}
 use Rattle.c_tree.specs.Tree.{automatic, static}
 use Rattle.c_tree.specs.ValidProgram.{is_valid_program}
-use Rattle.c_tree.specs.declared.c_type.TypeWord.TheVariants.{Takes, Gives, Integer as IntegerWord, Structure as StructureWord}
+use Rattle.c_tree.specs.declared.c_type.TypeWord.TheVariants.{Takes, Gives, Integer as IntegerWord}
+use Rattle.c_tree.specs.declared.c_type.TypeWord.TheVariants.{Structure as StructureWord}
 use Rattle.c_tree.specs.declared.expression.Kind.TheVariants.{Structure}
 use Rattle.c_tree.specs.declared.expression.Routine.TheVariants.{Putchar}
 use Rattle.obj_memory.specs.declared.int_type.IntType.TheVariants.{Int}
 use Rattle.obj_memory.specs.declared.operator.BinaryOperator.TheVariants.{Add}
 use Rattle.sb_base.specs.Budgets.{default_sizes}
 use Rattle.source_meaning.specs.Meaning.{meaning}
-use Rattle.source_meaning_rows.proofs.Samples.{int, pointer, number, plain, address, binary, assign, call, library, read, lvalue, deref, member, member_of_value, content, part, with_parts, without_value, plain_variable, object_variable, static_object, function_type, defined, program_with, computing, seen, exited}
+use Rattle.source_meaning_rows.proofs.Samples.{int, pointer, number, plain, address, binary, assign, call, library}
+use Rattle.source_meaning_rows.proofs.Samples.{read, lvalue, deref, member, member_of_value, content, part, with_parts}
+use Rattle.source_meaning_rows.proofs.Samples.{without_value, plain_variable, object_variable, static_object}
+use Rattle.source_meaning_rows.proofs.Samples.{function_type, defined, program_with, computing, seen, exited}
 use Rattle.std.proofs.Common.{◌∷◌, [], Some, ◌≡◌, refl, true}
 use Rattle.std.specs.Prelude.{codes}
 

@@ -1,19 +1,24 @@
 -- Reading a structure through a pointer as an argument judges its whole size as one access, with the line of the `*`.
 -- The text is rows/structure_argument_judged.c, its tree by rows/trees.py.
---     struct s{int a[4];};int f(struct s x){return x.a[3];}int main(void){struct s*p=malloc(16);p->a[3]=65;putchar(f(*p));p=malloc(8);
+--     struct s{int a[4];};int f(struct s x){return x.a[3];}int main(void){struct
+-- s*p=malloc(16);p->a[3]=65;putchar(f(*p));p=malloc(8);
 --     putchar(f(
 --     *p));return 0;}
 use Rattle.c_tree.specs.Programs.{Function, Program}
 use Rattle.c_tree.specs.Statements.{expression_statement, declaration, return}
 use Rattle.c_tree.specs.Tree.{automatic}
 use Rattle.c_tree.specs.ValidProgram.{is_valid_program}
-use Rattle.c_tree.specs.declared.c_type.TypeWord.TheVariants.{Takes, Gives, Integer as IntegerWord, Structure as StructureWord}
+use Rattle.c_tree.specs.declared.c_type.TypeWord.TheVariants.{Takes, Gives, Integer as IntegerWord}
+use Rattle.c_tree.specs.declared.c_type.TypeWord.TheVariants.{Structure as StructureWord}
 use Rattle.c_tree.specs.declared.expression.Kind.TheVariants.{Structure, Array}
 use Rattle.c_tree.specs.declared.expression.Routine.TheVariants.{Malloc, Putchar}
 use Rattle.obj_memory.specs.declared.int_type.IntType.TheVariants.{Int, UnsignedLong}
 use Rattle.sb_base.specs.Budgets.{default_sizes}
 use Rattle.source_meaning.specs.Meaning.{meaning}
-use Rattle.source_meaning_rows.proofs.Samples.{int, pointer, integer_kind, number, plain, decay, convert, assign, set_plain, call, library, read, lvalue, deref, index, member, arrow, with_value, plain_variable, object_variable, function_type, defined, program_with, computing, seen, stopped}
+use Rattle.source_meaning_rows.proofs.Samples.{int, pointer, integer_kind, number, plain, decay, convert, assign}
+use Rattle.source_meaning_rows.proofs.Samples.{set_plain, call, library, read, lvalue, deref, index, member, arrow}
+use Rattle.source_meaning_rows.proofs.Samples.{with_value, plain_variable, object_variable, function_type, defined}
+use Rattle.source_meaning_rows.proofs.Samples.{program_with, computing, seen, stopped}
 use Rattle.std.proofs.Common.{◌∷◌, [], Some, ◌≡◌, refl, true}
 use Rattle.std.specs.Prelude.{codes}
 

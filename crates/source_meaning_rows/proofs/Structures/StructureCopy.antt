@@ -10,11 +10,15 @@ use Rattle.c_tree.specs.declared.expression.Kind.TheVariants.{Structure}
 use Rattle.obj_memory.specs.declared.operator.BinaryOperator.TheVariants.{Add}
 use Rattle.sb_base.specs.Budgets.{default_sizes}
 use Rattle.source_meaning.specs.Meaning.{meaning}
-use Rattle.source_meaning_rows.proofs.Samples.{address, assign, binary, computing, content, counts, deref, exited, four, int, lvalue, main_alone, member, number, object_variable, one, part, pointer, read, reads, seen, static_object, two, writes, without_value}
+use Rattle.source_meaning_rows.proofs.Samples.{address, assign, binary, computing, content, counts, deref, exited, four}
+use Rattle.source_meaning_rows.proofs.Samples.{int, lvalue, main_alone, member, number, object_variable, one, part}
+use Rattle.source_meaning_rows.proofs.Samples.{pointer, read, reads, seen, static_object, two, writes, without_value}
 use Rattle.std.proofs.Common.{Some, [], refl, true, ◌∷◌, ◌≡◌}
 
 statement_1 : Statement
-statement_1 = expression_statement (assign 1 (member 1 pointer 0 (lvalue 1 (Structure 16) (tree.automatic 0))) (address 1 (lvalue 1 int (tree.static 0))))
+statement_1 = expression_statement
+    (assign 1 (member 1 pointer 0 (lvalue 1 (Structure 16) (tree.automatic 0)))
+    (address 1 (lvalue 1 int (tree.static 0))))
 
 statement_2 : Statement
 statement_2 = return (Some (binary 1 Add
@@ -29,7 +33,8 @@ program = main_alone
     ((declaration (without_value 0 ∷ without_value 1 ∷ []))
     ∷ statement_1
     ∷ (expression_statement (assign 1 (member 1 int 8 (lvalue 1 (Structure 16) (tree.automatic 0))) (number 1 1)))
-    ∷ (expression_statement (assign 1 (lvalue 1 (Structure 16) (tree.automatic 1)) (read (lvalue 1 (Structure 16) (tree.automatic 0)))))
+    ∷ (expression_statement
+    (assign 1 (lvalue 1 (Structure 16) (tree.automatic 1)) (read (lvalue 1 (Structure 16) (tree.automatic 0)))))
     ∷ statement_2
     ∷ [])
 
@@ -38,7 +43,12 @@ unfolding program statement_1 statement_2 computing
 run = refl
 
 counted : counts (meaning program default_sizes [] 20) ≡
-    record { turns = 1; work = 74; accesses = writes 0x10001000 8 ∷ writes 0x10001008 4 ∷ reads 0x10001010 8 ∷ reads 0x10000000 4 ∷ reads 0x10001018 4 ∷ [] }
+    record {
+      turns = 1;
+      work = 74;
+      accesses = writes 0x10001000 8 ∷ writes 0x10001008 4 ∷ reads 0x10001010 8
+          ∷ reads 0x10000000 4 ∷ reads 0x10001018 4 ∷ [];
+    }
 unfolding program statement_1 statement_2 computing
 counted = refl
 

@@ -18,12 +18,18 @@ use Rattle.obj_memory.specs.declared.int_type.IntType.TheVariants.{Char}
 use Rattle.obj_memory.specs.declared.operator.BinaryOperator.TheVariants.{Add, Equal}
 use Rattle.sb_base.specs.Budgets.{default_sizes}
 use Rattle.source_meaning.specs.Meaning.{meaning}
-use Rattle.source_meaning_rows.proofs.Samples.{address, binary, compare, computing, content, convert, decay, defined, deref, exited, five, four, index, int, integer_kind, library, lvalue, main_type, member, none, number, object_variable, one, parenthesized, part, pointer, program_of, read, seen, static_object, three, two, with_parts}
+use Rattle.source_meaning_rows.proofs.Samples.{address, binary, compare, computing, content, convert, decay, defined}
+use Rattle.source_meaning_rows.proofs.Samples.{deref, exited, five, four, index, int, integer_kind, library, lvalue}
+use Rattle.source_meaning_rows.proofs.Samples.{main_type, member, none, number, object_variable, one, parenthesized}
+use Rattle.source_meaning_rows.proofs.Samples.{part, pointer, program_of, read, seen, static_object, three, two}
+use Rattle.source_meaning_rows.proofs.Samples.{with_parts}
 use Rattle.std.proofs.Common.{Some, [], refl, true, ◌∷◌, ◌≡◌}
 use Rattle.std.specs.Prelude.{codes}
 
 statement_1 : Statement
-statement_1 = declaration (one (with_parts 0 (two (part 4 (content (number 3 8))) (part 0 (content (convert (integer_kind Char) (number 3 9)))))))
+statement_1 = declaration
+    (one (with_parts 0 (two (part 4 (content (number 3 8)))
+    (part 0 (content (convert (integer_kind Char) (number 3 9)))))))
 
 statement_2 : Statement
 statement_2 = declaration (one (with_parts 1 (four
@@ -40,82 +46,187 @@ statement_3 = declaration (one (with_parts 2 (four
     (part 24 (content (convert (integer_kind Char) (number 3 5)))))))
 
 statement_4 : Statement
-statement_4 = expression_statement (library 4 int Putchar (one (binary 4 Add (number 4 48) (convert int (read (member 4 (integer_kind Char) 0 (member 4 (Structure 8) 0 (lvalue 4 (Structure 32) (tree.static 0)))))))))
+statement_4 = expression_statement
+    (library 4 int Putchar
+    (one (binary 4 Add (number 4 48)
+    (convert int (read (member 4 (integer_kind Char) 0
+    (member 4 (Structure 8) 0 (lvalue 4 (Structure 32) (tree.static 0)))))))))
 
 statement_5 : Statement
-statement_5 = expression_statement (library 4 int Putchar (one (binary 4 Add (number 4 48) (read (member 4 int 4 (member 4 (Structure 8) 0 (lvalue 4 (Structure 32) (tree.static 0))))))))
+statement_5 = expression_statement
+    (library 4 int Putchar
+    (one (binary 4 Add (number 4 48)
+    (read (member 4 int 4 (member 4 (Structure 8) 0 (lvalue 4 (Structure 32) (tree.static 0))))))))
 
 statement_6 : Statement
-statement_6 = expression_statement (library 4 int Putchar (one (binary 4 Add (number 4 48) (parenthesized (compare 4 Equal (read (member 4 pointer 8 (lvalue 4 (Structure 32) (tree.static 0)))) (convert pointer (number 4 0)))))))
+statement_6 = expression_statement
+    (library 4 int Putchar
+    (one (binary 4 Add (number 4 48)
+    (parenthesized (compare 4 Equal (read (member 4 pointer 8 (lvalue 4 (Structure 32) (tree.static 0))))
+    (convert pointer (number 4 0)))))))
 
 statement_7 : Statement
-statement_7 = expression_statement (library 4 int Putchar (one (binary 4 Add (number 4 48) (convert int (read (member 4 (integer_kind Char) 0 (index 4 (Structure 8) (decay (member 4 (Array 16) 16 (lvalue 4 (Structure 32) (tree.static 0)))) (number 4 0))))))))
+statement_7 = expression_statement
+    (library 4 int Putchar
+    (one (binary 4 Add (number 4 48)
+    (convert int (read (member 4 (integer_kind Char) 0
+    (index 4 (Structure 8) (decay (member 4 (Array 16) 16 (lvalue 4 (Structure 32) (tree.static 0))))
+    (number 4 0))))))))
 
 statement_8 : Statement
-statement_8 = expression_statement (library 4 int Putchar (one (binary 4 Add (number 4 48) (read (member 4 int 4 (index 4 (Structure 8) (decay (member 4 (Array 16) 16 (lvalue 4 (Structure 32) (tree.static 0)))) (number 4 0)))))))
+statement_8 = expression_statement
+    (library 4 int Putchar
+    (one (binary 4 Add (number 4 48)
+    (read (member 4 int 4
+    (index 4 (Structure 8) (decay (member 4 (Array 16) 16 (lvalue 4 (Structure 32) (tree.static 0)))) (number 4 0)))))))
 
 statement_9 : Statement
-statement_9 = expression_statement (library 4 int Putchar (one (binary 4 Add (number 4 48) (convert int (read (member 4 (integer_kind Char) 0 (index 4 (Structure 8) (decay (member 4 (Array 16) 16 (lvalue 4 (Structure 32) (tree.static 0)))) (number 4 1))))))))
+statement_9 = expression_statement
+    (library 4 int Putchar
+    (one (binary 4 Add (number 4 48)
+    (convert int (read (member 4 (integer_kind Char) 0
+    (index 4 (Structure 8) (decay (member 4 (Array 16) 16 (lvalue 4 (Structure 32) (tree.static 0))))
+    (number 4 1))))))))
 
 statement_10 : Statement
-statement_10 = expression_statement (library 4 int Putchar (one (binary 4 Add (number 4 48) (read (member 4 int 4 (index 4 (Structure 8) (decay (member 4 (Array 16) 16 (lvalue 4 (Structure 32) (tree.static 0)))) (number 4 1)))))))
+statement_10 = expression_statement
+    (library 4 int Putchar
+    (one (binary 4 Add (number 4 48)
+    (read (member 4 int 4
+    (index 4 (Structure 8) (decay (member 4 (Array 16) 16 (lvalue 4 (Structure 32) (tree.static 0)))) (number 4 1)))))))
 
 statement_11 : Statement
-statement_11 = expression_statement (library 5 int Putchar (one (binary 5 Add (number 5 48) (convert int (read (index 5 (integer_kind Char) (decay (member 5 (Array 4) 0 (lvalue 5 (Structure 4) (tree.static 1)))) (number 5 0)))))))
+statement_11 = expression_statement
+    (library 5 int Putchar
+    (one (binary 5 Add (number 5 48)
+    (convert int (read (index 5 (integer_kind Char)
+    (decay (member 5 (Array 4) 0 (lvalue 5 (Structure 4) (tree.static 1)))) (number 5 0)))))))
 
 statement_12 : Statement
-statement_12 = expression_statement (library 5 int Putchar (one (binary 5 Add (number 5 48) (convert int (read (index 5 (integer_kind Char) (decay (member 5 (Array 4) 0 (lvalue 5 (Structure 4) (tree.static 1)))) (number 5 1)))))))
+statement_12 = expression_statement
+    (library 5 int Putchar
+    (one (binary 5 Add (number 5 48)
+    (convert int (read (index 5 (integer_kind Char)
+    (decay (member 5 (Array 4) 0 (lvalue 5 (Structure 4) (tree.static 1)))) (number 5 1)))))))
 
 statement_13 : Statement
-statement_13 = expression_statement (library 5 int Putchar (one (binary 5 Add (number 5 48) (convert int (read (index 5 (integer_kind Char) (decay (member 5 (Array 4) 0 (lvalue 5 (Structure 4) (tree.static 1)))) (number 5 2)))))))
+statement_13 = expression_statement
+    (library 5 int Putchar
+    (one (binary 5 Add (number 5 48)
+    (convert int (read (index 5 (integer_kind Char)
+    (decay (member 5 (Array 4) 0 (lvalue 5 (Structure 4) (tree.static 1)))) (number 5 2)))))))
 
 statement_14 : Statement
-statement_14 = expression_statement (library 5 int Putchar (one (binary 5 Add (number 5 48) (convert int (read (member 5 (integer_kind Char) 0 (lvalue 5 (Structure 8) (tree.automatic 0))))))))
+statement_14 = expression_statement
+    (library 5 int Putchar
+    (one (binary 5 Add (number 5 48)
+    (convert int (read (member 5 (integer_kind Char) 0 (lvalue 5 (Structure 8) (tree.automatic 0))))))))
 
 statement_15 : Statement
-statement_15 = expression_statement (library 5 int Putchar (one (binary 5 Add (number 5 48) (read (member 5 int 4 (lvalue 5 (Structure 8) (tree.automatic 0)))))))
+statement_15 = expression_statement
+    (library 5 int Putchar
+    (one (binary 5 Add (number 5 48) (read (member 5 int 4 (lvalue 5 (Structure 8) (tree.automatic 0)))))))
 
 statement_16 : Statement
-statement_16 = expression_statement (library 6 int Putchar (one (binary 6 Add (number 6 48) (convert int (read (member 6 (integer_kind Char) 0 (member 6 (Structure 8) 0 (lvalue 6 (Structure 32) (tree.automatic 1)))))))))
+statement_16 = expression_statement
+    (library 6 int Putchar
+    (one (binary 6 Add (number 6 48)
+    (convert int (read (member 6 (integer_kind Char) 0
+    (member 6 (Structure 8) 0 (lvalue 6 (Structure 32) (tree.automatic 1)))))))))
 
 statement_17 : Statement
-statement_17 = expression_statement (library 6 int Putchar (one (binary 6 Add (number 6 48) (read (member 6 int 4 (member 6 (Structure 8) 0 (lvalue 6 (Structure 32) (tree.automatic 1))))))))
+statement_17 = expression_statement
+    (library 6 int Putchar
+    (one (binary 6 Add (number 6 48)
+    (read (member 6 int 4 (member 6 (Structure 8) 0 (lvalue 6 (Structure 32) (tree.automatic 1))))))))
 
 statement_18 : Statement
-statement_18 = expression_statement (library 6 int Putchar (one (binary 6 Add (number 6 48) (read (deref 6 int (read (member 6 pointer 8 (lvalue 6 (Structure 32) (tree.automatic 1)))))))))
+statement_18 = expression_statement
+    (library 6 int Putchar
+    (one (binary 6 Add (number 6 48)
+    (read (deref 6 int (read (member 6 pointer 8 (lvalue 6 (Structure 32) (tree.automatic 1)))))))))
 
 statement_19 : Statement
-statement_19 = expression_statement (library 6 int Putchar (one (binary 6 Add (number 6 48) (read (member 6 int 4 (index 6 (Structure 8) (decay (member 6 (Array 16) 16 (lvalue 6 (Structure 32) (tree.automatic 1)))) (number 6 0)))))))
+statement_19 = expression_statement
+    (library 6 int Putchar
+    (one (binary 6 Add (number 6 48)
+    (read (member 6 int 4
+    (index 6 (Structure 8) (decay (member 6 (Array 16) 16 (lvalue 6 (Structure 32) (tree.automatic 1))))
+    (number 6 0)))))))
 
 statement_20 : Statement
-statement_20 = expression_statement (library 6 int Putchar (one (binary 6 Add (number 6 48) (convert int (read (member 6 (integer_kind Char) 0 (index 6 (Structure 8) (decay (member 6 (Array 16) 16 (lvalue 6 (Structure 32) (tree.automatic 1)))) (number 6 1))))))))
+statement_20 = expression_statement
+    (library 6 int Putchar
+    (one (binary 6 Add (number 6 48)
+    (convert int (read (member 6 (integer_kind Char) 0
+    (index 6 (Structure 8) (decay (member 6 (Array 16) 16 (lvalue 6 (Structure 32) (tree.automatic 1))))
+    (number 6 1))))))))
 
 statement_21 : Statement
-statement_21 = expression_statement (library 6 int Putchar (one (binary 6 Add (number 6 48) (read (member 6 int 4 (index 6 (Structure 8) (decay (member 6 (Array 16) 16 (lvalue 6 (Structure 32) (tree.automatic 1)))) (number 6 1)))))))
+statement_21 = expression_statement
+    (library 6 int Putchar
+    (one (binary 6 Add (number 6 48)
+    (read (member 6 int 4
+    (index 6 (Structure 8) (decay (member 6 (Array 16) 16 (lvalue 6 (Structure 32) (tree.automatic 1))))
+    (number 6 1)))))))
 
 statement_22 : Statement
-statement_22 = expression_statement (library 7 int Putchar (one (binary 7 Add (number 7 48) (read (member 7 int 4 (member 7 (Structure 8) 0 (lvalue 7 (Structure 32) (tree.automatic 2))))))))
+statement_22 = expression_statement
+    (library 7 int Putchar
+    (one (binary 7 Add (number 7 48)
+    (read (member 7 int 4 (member 7 (Structure 8) 0 (lvalue 7 (Structure 32) (tree.automatic 2))))))))
 
 statement_23 : Statement
-statement_23 = expression_statement (library 7 int Putchar (one (binary 7 Add (number 7 48) (read (deref 7 int (read (member 7 pointer 8 (lvalue 7 (Structure 32) (tree.automatic 2)))))))))
+statement_23 = expression_statement
+    (library 7 int Putchar
+    (one (binary 7 Add (number 7 48)
+    (read (deref 7 int (read (member 7 pointer 8 (lvalue 7 (Structure 32) (tree.automatic 2)))))))))
 
 statement_24 : Statement
-statement_24 = expression_statement (library 7 int Putchar (one (binary 7 Add (number 7 48) (convert int (read (member 7 (integer_kind Char) 0 (index 7 (Structure 8) (decay (member 7 (Array 16) 16 (lvalue 7 (Structure 32) (tree.automatic 2)))) (number 7 0))))))))
+statement_24 = expression_statement
+    (library 7 int Putchar
+    (one (binary 7 Add (number 7 48)
+    (convert int (read (member 7 (integer_kind Char) 0
+    (index 7 (Structure 8) (decay (member 7 (Array 16) 16 (lvalue 7 (Structure 32) (tree.automatic 2))))
+    (number 7 0))))))))
 
 statement_25 : Statement
-statement_25 = expression_statement (library 7 int Putchar (one (binary 7 Add (number 7 48) (read (member 7 int 4 (index 7 (Structure 8) (decay (member 7 (Array 16) 16 (lvalue 7 (Structure 32) (tree.automatic 2)))) (number 7 0)))))))
+statement_25 = expression_statement
+    (library 7 int Putchar
+    (one (binary 7 Add (number 7 48)
+    (read (member 7 int 4
+    (index 7 (Structure 8) (decay (member 7 (Array 16) 16 (lvalue 7 (Structure 32) (tree.automatic 2))))
+    (number 7 0)))))))
 
 statement_26 : Statement
-statement_26 = expression_statement (library 7 int Putchar (one (binary 7 Add (number 7 48) (convert int (read (member 7 (integer_kind Char) 0 (index 7 (Structure 8) (decay (member 7 (Array 16) 16 (lvalue 7 (Structure 32) (tree.automatic 2)))) (number 7 1))))))))
+statement_26 = expression_statement
+    (library 7 int Putchar
+    (one (binary 7 Add (number 7 48)
+    (convert int (read (member 7 (integer_kind Char) 0
+    (index 7 (Structure 8) (decay (member 7 (Array 16) 16 (lvalue 7 (Structure 32) (tree.automatic 2))))
+    (number 7 1))))))))
 
 statement_27 : Statement
-statement_27 = expression_statement (library 7 int Putchar (one (binary 7 Add (number 7 48) (read (member 7 int 4 (index 7 (Structure 8) (decay (member 7 (Array 16) 16 (lvalue 7 (Structure 32) (tree.automatic 2)))) (number 7 1)))))))
+statement_27 = expression_statement
+    (library 7 int Putchar
+    (one (binary 7 Add (number 7 48)
+    (read (member 7 int 4
+    (index 7 (Structure 8) (decay (member 7 (Array 16) 16 (lvalue 7 (Structure 32) (tree.automatic 2))))
+    (number 7 1)))))))
 
 statement_28 : Statement
-statement_28 = expression_statement (library 8 int Putchar (one (binary 8 Add (number 8 48) (convert int (read (index 8 (integer_kind Char) (decay (member 8 (Array 4) 0 (lvalue 8 (Structure 4) (tree.automatic 3)))) (number 8 0)))))))
+statement_28 = expression_statement
+    (library 8 int Putchar
+    (one (binary 8 Add (number 8 48)
+    (convert int (read (index 8 (integer_kind Char)
+    (decay (member 8 (Array 4) 0 (lvalue 8 (Structure 4) (tree.automatic 3)))) (number 8 0)))))))
 
 statement_29 : Statement
-statement_29 = expression_statement (library 8 int Putchar (one (binary 8 Add (number 8 48) (convert int (read (index 8 (integer_kind Char) (decay (member 8 (Array 4) 0 (lvalue 8 (Structure 4) (tree.automatic 3)))) (number 8 1)))))))
+statement_29 = expression_statement
+    (library 8 int Putchar
+    (one (binary 8 Add (number 8 48)
+    (convert int (read (index 8 (integer_kind Char)
+    (decay (member 8 (Array 4) 0 (lvalue 8 (Structure 4) (tree.automatic 3)))) (number 8 1)))))))
 
 function_main : Function
 function_main = defined 3 0 none
@@ -175,9 +286,15 @@ program = program_of
     0
 
 run : seen (meaning program default_sizes [] 20) ≡ exited (codes "12130045609898701207345021") 0
-unfolding program function_main statement_1 statement_2 statement_3 statement_4 statement_5 statement_6 statement_7 statement_8 statement_9 statement_10 statement_11 statement_12 statement_13 statement_14 statement_15 statement_16 statement_17 statement_18 statement_19 statement_20 statement_21 statement_22 statement_23 statement_24 statement_25 statement_26 statement_27 statement_28 statement_29 computing
+unfolding program function_main statement_1 statement_2 statement_3 statement_4 statement_5 statement_6 statement_7
+    statement_8 statement_9 statement_10 statement_11 statement_12 statement_13 statement_14 statement_15 statement_16
+    statement_17 statement_18 statement_19 statement_20 statement_21 statement_22 statement_23 statement_24 statement_25
+    statement_26 statement_27 statement_28 statement_29 computing
 run = refl
 
 valid : is_valid_program program ≡ true
-unfolding program function_main statement_1 statement_2 statement_3 statement_4 statement_5 statement_6 statement_7 statement_8 statement_9 statement_10 statement_11 statement_12 statement_13 statement_14 statement_15 statement_16 statement_17 statement_18 statement_19 statement_20 statement_21 statement_22 statement_23 statement_24 statement_25 statement_26 statement_27 statement_28 statement_29 computing
+unfolding program function_main statement_1 statement_2 statement_3 statement_4 statement_5 statement_6 statement_7
+    statement_8 statement_9 statement_10 statement_11 statement_12 statement_13 statement_14 statement_15 statement_16
+    statement_17 statement_18 statement_19 statement_20 statement_21 statement_22 statement_23 statement_24 statement_25
+    statement_26 statement_27 statement_28 statement_29 computing
 valid = refl

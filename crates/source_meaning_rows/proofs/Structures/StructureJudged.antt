@@ -8,7 +8,9 @@ use Rattle.c_tree.specs.ValidProgram.{is_valid_program}
 use Rattle.c_tree.specs.declared.expression.Kind.TheVariants.{Structure}
 use Rattle.sb_base.specs.Budgets.{default_sizes}
 use Rattle.source_meaning.specs.Meaning.{meaning}
-use Rattle.source_meaning_rows.proofs.Samples.{address, assign, cast, computing, deref, int, lvalue, main_alone, member, none, number, one, plain, plain_variable, pointer, read, seen, static_object, stopped, three, with_value}
+use Rattle.source_meaning_rows.proofs.Samples.{address, assign, cast, computing, deref, int, lvalue, main_alone, member}
+use Rattle.source_meaning_rows.proofs.Samples.{none, number, one, plain, plain_variable, pointer, read, seen}
+use Rattle.source_meaning_rows.proofs.Samples.{static_object, stopped, three, with_value}
 use Rattle.std.proofs.Common.{Some, [], refl, true, ◌≡◌}
 use Rattle.std.specs.Prelude.{codes}
 
@@ -18,8 +20,10 @@ program = main_alone
     (one (plain_variable pointer))
     248
     (three
-    (declaration (one (with_value 0 (cast 1 pointer (address 1 (member 1 int 4 (lvalue 1 (Structure 8) (tree.static 0))))))))
-    (expression_statement (assign 2 (deref 2 (Structure 8) (plain 2 pointer 0)) (read (lvalue 2 (Structure 8) (tree.static 0)))))
+    (declaration (one (with_value 0
+    (cast 1 pointer (address 1 (member 1 int 4 (lvalue 1 (Structure 8) (tree.static 0))))))))
+    (expression_statement
+    (assign 2 (deref 2 (Structure 8) (plain 2 pointer 0)) (read (lvalue 2 (Structure 8) (tree.static 0)))))
     (return (Some (number 2 0))))
 
 run : seen (meaning program default_sizes [] 20) ≡ stopped [] (codes "sbcets: spatial violation at line 2\n") 120

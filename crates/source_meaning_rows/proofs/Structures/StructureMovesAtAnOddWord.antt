@@ -1,4 +1,5 @@
--- A structure value has its words as an object at a multiple of 16 has them: one that was read at 4 modulo 8 has no tags.
+-- A structure value has its words as an object at a multiple of 16 has them: one that was read at 4 modulo 8 has no
+-- tags.
 -- The text is rows/structure_moves_at_an_odd_word.c, its tree by rows/trees.py.
 --     struct s{int*p;};int z=7;char b[32];struct s id(struct s x){return x;}
 --     int main(void){struct s u;struct s*q=(struct s*)(b+4);u.p=&z;*q=u;putchar(48+*id(u).p);
@@ -7,7 +8,8 @@ use Rattle.c_tree.specs.Programs.{Function, Program}
 use Rattle.c_tree.specs.Statements.{expression_statement, declaration, return}
 use Rattle.c_tree.specs.Tree.{automatic, static}
 use Rattle.c_tree.specs.ValidProgram.{is_valid_program}
-use Rattle.c_tree.specs.declared.c_type.TypeWord.TheVariants.{Takes, Gives, Integer as IntegerWord, Structure as StructureWord}
+use Rattle.c_tree.specs.declared.c_type.TypeWord.TheVariants.{Takes, Gives, Integer as IntegerWord}
+use Rattle.c_tree.specs.declared.c_type.TypeWord.TheVariants.{Structure as StructureWord}
 use Rattle.c_tree.specs.declared.expression.Kind.TheVariants.{Structure, Array}
 use Rattle.c_tree.specs.declared.expression.OffsetForm.TheVariants.{PointerPlusIndex}
 use Rattle.c_tree.specs.declared.expression.Routine.TheVariants.{Putchar}
@@ -15,7 +17,11 @@ use Rattle.obj_memory.specs.declared.int_type.IntType.TheVariants.{Int}
 use Rattle.obj_memory.specs.declared.operator.BinaryOperator.TheVariants.{Add}
 use Rattle.sb_base.specs.Budgets.{default_sizes}
 use Rattle.source_meaning.specs.Meaning.{meaning}
-use Rattle.source_meaning_rows.proofs.Samples.{int, pointer, number, plain, decay, address, parenthesized, cast, binary, offset, assign, call, library, read, lvalue, deref, member, member_of_value, content, part, with_value, without_value, plain_variable, object_variable, static_object, function_type, defined, program_with, computing, seen, stopped}
+use Rattle.source_meaning_rows.proofs.Samples.{int, pointer, number, plain, decay, address, parenthesized, cast, binary}
+use Rattle.source_meaning_rows.proofs.Samples.{offset, assign, call, library, read, lvalue, deref, member}
+use Rattle.source_meaning_rows.proofs.Samples.{member_of_value, content, part, with_value, without_value}
+use Rattle.source_meaning_rows.proofs.Samples.{plain_variable, object_variable, static_object, function_type, defined}
+use Rattle.source_meaning_rows.proofs.Samples.{program_with, computing, seen, stopped}
 use Rattle.std.proofs.Common.{◌∷◌, [], Some, ◌≡◌, refl, true}
 use Rattle.std.specs.Prelude.{codes}
 

@@ -1,5 +1,7 @@
 -- A structure is moved as a whole, also where its places overlap. The text is rows/structure_overlap.c.
---     struct s{int a[3];}x[2]={{{1,2,3}},{{4,5,6}}};int main(void){struct s*p=x;struct s*q=(struct s*)((int*)x+1);*q=*p;putchar(48+x[0].a[0]);putchar(48+x[0].a[1]);putchar(48+x[0].a[2]);putchar(48+x[1].a[0]);return x[1].a[1];}
+--     struct s{int a[3];}x[2]={{{1,2,3}},{{4,5,6}}};int main(void){struct s*p=x;struct s*q=(struct
+-- s*)((int*)x+1);*q=*p;putchar(48+x[0].a[0]);putchar(48+x[0].a[1]);putchar(48+x[0].a[2]);putchar(48+x[1].a[0]);return
+-- x[1].a[1];}
 use Rattle.c_tree.specs.Programs.{Program}
 use Rattle.c_tree.specs.Statements.{Statement, expression_statement, declaration, return}
 use Rattle.c_tree.specs.Tree as tree
@@ -10,15 +12,22 @@ use Rattle.c_tree.specs.declared.expression.Routine.TheVariants.{Putchar}
 use Rattle.obj_memory.specs.declared.operator.BinaryOperator.TheVariants.{Add}
 use Rattle.sb_base.specs.Budgets.{default_sizes}
 use Rattle.source_meaning.specs.Meaning.{meaning}
-use Rattle.source_meaning_rows.proofs.Samples.{assign, binary, cast, computing, content, decay, deref, exited, index, int, library, lvalue, main_alone, member, number, offset, one, parenthesized, part, plain, plain_variable, pointer, read, seen, six, static_object, two, with_value}
+use Rattle.source_meaning_rows.proofs.Samples.{assign, binary, cast, computing, content, decay, deref, exited, index}
+use Rattle.source_meaning_rows.proofs.Samples.{int, library, lvalue, main_alone, member, number, offset, one}
+use Rattle.source_meaning_rows.proofs.Samples.{parenthesized, part, plain, plain_variable, pointer, read, seen, six}
+use Rattle.source_meaning_rows.proofs.Samples.{static_object, two, with_value}
 use Rattle.std.proofs.Common.{Some, [], refl, true, ◌∷◌, ◌≡◌}
 use Rattle.std.specs.Prelude.{codes}
 
 statement_1 : Statement
-statement_1 = declaration (one (with_value 1 (cast 1 pointer (parenthesized (offset 1 PointerPlusIndex 4 (cast 1 pointer (decay (lvalue 1 (Array 24) (tree.static 0)))) (number 1 1))))))
+statement_1 = declaration
+    (one (with_value 1 (cast 1 pointer
+    (parenthesized (offset 1 PointerPlusIndex 4 (cast 1 pointer (decay (lvalue 1 (Array 24) (tree.static 0))))
+    (number 1 1))))))
 
 statement_2 : Statement
-statement_2 = expression_statement (assign 1 (deref 1 (Structure 12) (plain 1 pointer 1)) (read (deref 1 (Structure 12) (plain 1 pointer 0))))
+statement_2 = expression_statement
+    (assign 1 (deref 1 (Structure 12) (plain 1 pointer 1)) (read (deref 1 (Structure 12) (plain 1 pointer 0))))
 
 statement_3 : Statement
 statement_3 = expression_statement (library 1 int Putchar (one (binary 1 Add (number 1 48) (read (index 1 int

@@ -1,17 +1,22 @@
 -- What a function does to a structure parameter stays in it; what its pointers reach is shared.
 -- The text is rows/structure_parameter_is_a_copy.c, its tree by rows/trees.py.
---     struct s{int n;int*p;};int z=1;int f(struct s x){x.n=9;*x.p=x.n;x.p=&x.n;return *x.p;}int main(void){struct s v;v.n=2;v.p=&z;int t=f(v);return t*10+v.n+*v.p;}
+--     struct s{int n;int*p;};int z=1;int f(struct s x){x.n=9;*x.p=x.n;x.p=&x.n;return *x.p;}int main(void){struct s
+-- v;v.n=2;v.p=&z;int t=f(v);return t*10+v.n+*v.p;}
 use Rattle.c_tree.specs.Programs.{Function, Program}
 use Rattle.c_tree.specs.Statements.{expression_statement, declaration, return}
 use Rattle.c_tree.specs.Tree.{automatic, static}
 use Rattle.c_tree.specs.ValidProgram.{is_valid_program}
-use Rattle.c_tree.specs.declared.c_type.TypeWord.TheVariants.{Takes, Gives, Integer as IntegerWord, Structure as StructureWord}
+use Rattle.c_tree.specs.declared.c_type.TypeWord.TheVariants.{Takes, Gives, Integer as IntegerWord}
+use Rattle.c_tree.specs.declared.c_type.TypeWord.TheVariants.{Structure as StructureWord}
 use Rattle.c_tree.specs.declared.expression.Kind.TheVariants.{Structure}
 use Rattle.obj_memory.specs.declared.int_type.IntType.TheVariants.{Int}
 use Rattle.obj_memory.specs.declared.operator.BinaryOperator.TheVariants.{Add, Multiply}
 use Rattle.sb_base.specs.Budgets.{default_sizes}
 use Rattle.source_meaning.specs.Meaning.{meaning}
-use Rattle.source_meaning_rows.proofs.Samples.{int, pointer, number, plain, address, binary, assign, call, read, lvalue, deref, member, content, part, with_value, without_value, plain_variable, object_variable, static_object, function_type, defined, program_with, computing, seen, exited}
+use Rattle.source_meaning_rows.proofs.Samples.{int, pointer, number, plain, address, binary, assign, call, read, lvalue}
+use Rattle.source_meaning_rows.proofs.Samples.{deref, member, content, part, with_value, without_value, plain_variable}
+use Rattle.source_meaning_rows.proofs.Samples.{object_variable, static_object, function_type, defined, program_with}
+use Rattle.source_meaning_rows.proofs.Samples.{computing, seen, exited}
 use Rattle.std.proofs.Common.{◌∷◌, [], Some, ◌≡◌, refl, true}
 
 function_f : Function

@@ -6,13 +6,16 @@
 use Rattle.c_tree.specs.Programs.{Function, Program}
 use Rattle.c_tree.specs.Statements.{expression_statement, declaration, return}
 use Rattle.c_tree.specs.ValidProgram.{is_valid_program}
-use Rattle.c_tree.specs.declared.c_type.TypeWord.TheVariants.{Takes, Gives, Integer as IntegerWord, Pointer as PointerWord, Structure as StructureWord}
+use Rattle.c_tree.specs.declared.c_type.TypeWord.TheVariants.{Takes, Gives, Integer as IntegerWord}
+use Rattle.c_tree.specs.declared.c_type.TypeWord.TheVariants.{Pointer as PointerWord, Structure as StructureWord}
 use Rattle.c_tree.specs.declared.expression.Kind.TheVariants.{Void, Structure}
 use Rattle.c_tree.specs.declared.expression.Routine.TheVariants.{Malloc, Free, Putchar}
 use Rattle.obj_memory.specs.declared.int_type.IntType.TheVariants.{Int, UnsignedLong}
 use Rattle.sb_base.specs.Budgets.{default_sizes}
 use Rattle.source_meaning.specs.Meaning.{meaning}
-use Rattle.source_meaning_rows.proofs.Samples.{int, pointer, integer_kind, number, plain, convert, assign, call, library, read, deref, arrow, member_of_value, with_value, plain_variable, function_type, defined, program_with, computing, seen, stopped}
+use Rattle.source_meaning_rows.proofs.Samples.{int, pointer, integer_kind, number, plain, convert, assign, call}
+use Rattle.source_meaning_rows.proofs.Samples.{library, read, deref, arrow, member_of_value, with_value, plain_variable}
+use Rattle.source_meaning_rows.proofs.Samples.{function_type, defined, program_with, computing, seen, stopped}
 use Rattle.std.proofs.Common.{◌∷◌, [], Some, ◌≡◌, refl, true}
 use Rattle.std.specs.Prelude.{codes}
 

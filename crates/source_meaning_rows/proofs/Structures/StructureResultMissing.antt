@@ -12,7 +12,10 @@ use Rattle.obj_memory.specs.declared.int_type.IntType.TheVariants.{Int}
 use Rattle.obj_memory.specs.declared.operator.BinaryOperator.TheVariants.{Add, Equal}
 use Rattle.sb_base.specs.Budgets.{default_sizes}
 use Rattle.source_meaning.specs.Meaning.{meaning}
-use Rattle.source_meaning_rows.proofs.Samples.{int, pointer, number, parenthesized, convert, binary, compare, call, library, read, lvalue, member, member_of_value, content, part, with_parts, object_variable, function_type, defined, program_with, computing, seen, exited}
+use Rattle.source_meaning_rows.proofs.Samples.{int, pointer, number, parenthesized, convert, binary, compare, call}
+use Rattle.source_meaning_rows.proofs.Samples.{library, read, lvalue, member, member_of_value, content, part}
+use Rattle.source_meaning_rows.proofs.Samples.{with_parts, object_variable, function_type, defined, program_with}
+use Rattle.source_meaning_rows.proofs.Samples.{computing, seen, exited}
 use Rattle.std.proofs.Common.{◌∷◌, [], Some, ◌≡◌, refl, true}
 use Rattle.std.specs.Prelude.{codes}
 

@@ -11,7 +11,10 @@ use Rattle.c_tree.specs.declared.expression.Kind.TheVariants.{Structure}
 use Rattle.obj_memory.specs.declared.int_type.IntType.TheVariants.{Int}
 use Rattle.sb_base.specs.Budgets.{default_sizes}
 use Rattle.source_meaning.specs.Meaning.{meaning}
-use Rattle.source_meaning_rows.proofs.Samples.{int, pointer, number, address, assign, call, read, lvalue, deref, member, member_of_value, content, part, with_parts, without_value, object_variable, function_type, defined, program_with, computing, seen, stopped}
+use Rattle.source_meaning_rows.proofs.Samples.{int, pointer, number, address, assign, call, read, lvalue, deref, member}
+use Rattle.source_meaning_rows.proofs.Samples.{member_of_value, content, part, with_parts, without_value}
+use Rattle.source_meaning_rows.proofs.Samples.{object_variable, function_type, defined, program_with, computing, seen}
+use Rattle.source_meaning_rows.proofs.Samples.{stopped}
 use Rattle.std.proofs.Common.{◌∷◌, [], Some, ◌≡◌, refl, true}
 use Rattle.std.specs.Prelude.{codes}
 

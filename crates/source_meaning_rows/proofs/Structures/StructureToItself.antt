@@ -8,15 +8,20 @@ use Rattle.c_tree.specs.declared.expression.Kind.TheVariants.{Structure}
 use Rattle.c_tree.specs.declared.expression.Routine.TheVariants.{Putchar}
 use Rattle.sb_base.specs.Budgets.{default_sizes}
 use Rattle.source_meaning.specs.Meaning.{meaning}
-use Rattle.source_meaning_rows.proofs.Samples.{address, assign, computing, content, deref, exited, five, int, library, lvalue, main_alone, member, none, number, one, part, pointer, read, seen, static_object, two}
+use Rattle.source_meaning_rows.proofs.Samples.{address, assign, computing, content, deref, exited, five, int, library}
+use Rattle.source_meaning_rows.proofs.Samples.{lvalue, main_alone, member, none, number, one, part, pointer, read, seen}
+use Rattle.source_meaning_rows.proofs.Samples.{static_object, two}
 use Rattle.std.proofs.Common.{Some, [], refl, true, ◌≡◌}
 use Rattle.std.specs.Prelude.{codes}
 
 statement_1 : Statement
-statement_1 = expression_statement (assign 1 (member 1 pointer 0 (lvalue 1 (Structure 16) (tree.static 0))) (address 1 (lvalue 1 int (tree.static 1))))
+statement_1 = expression_statement
+    (assign 1 (member 1 pointer 0 (lvalue 1 (Structure 16) (tree.static 0))) (address 1 (lvalue 1 int (tree.static 1))))
 
 statement_2 : Statement
-statement_2 = expression_statement (library 1 int Putchar (one (read (deref 1 int (read (member 1 pointer 0 (lvalue 1 (Structure 16) (tree.static 0))))))))
+statement_2 = expression_statement
+    (library 1 int Putchar
+    (one (read (deref 1 int (read (member 1 pointer 0 (lvalue 1 (Structure 16) (tree.static 0))))))))
 
 program : Program
 program = main_alone
@@ -25,7 +30,8 @@ program = main_alone
     208
     (five statement_1
     (expression_statement (assign 1 (member 1 int 8 (lvalue 1 (Structure 16) (tree.static 0))) (number 1 1)))
-    (expression_statement (assign 1 (lvalue 1 (Structure 16) (tree.static 0)) (read (lvalue 1 (Structure 16) (tree.static 0)))))
+    (expression_statement
+    (assign 1 (lvalue 1 (Structure 16) (tree.static 0)) (read (lvalue 1 (Structure 16) (tree.static 0)))))
     statement_2
     (return (Some (read (member 1 int 8 (lvalue 1 (Structure 16) (tree.static 0)))))))
 

@@ -9,11 +9,16 @@ use Rattle.c_tree.specs.ValidProgram.{is_valid_program}
 use Rattle.c_tree.specs.declared.expression.Kind.TheVariants.{Structure}
 use Rattle.sb_base.specs.Budgets.{default_sizes}
 use Rattle.source_meaning.specs.Meaning.{meaning}
-use Rattle.source_meaning_rows.proofs.Samples.{assign, computing, counts, exited, int, lvalue, main_alone, member_of_value, none, object_variable, one, parenthesized, read, reads, seen, static_object, two, without_value}
+use Rattle.source_meaning_rows.proofs.Samples.{assign, computing, counts, exited, int, lvalue, main_alone}
+use Rattle.source_meaning_rows.proofs.Samples.{member_of_value, none, object_variable, one, parenthesized, read, reads}
+use Rattle.source_meaning_rows.proofs.Samples.{seen, static_object, two, without_value}
 use Rattle.std.proofs.Common.{Some, [], refl, true, ◌∷◌, ◌≡◌}
 
 statement_1 : Statement
-statement_1 = return (Some (read (member_of_value 1 int 4 (parenthesized (assign 1 (lvalue 1 (Structure 8) (tree.automatic 0)) (read (lvalue 1 (Structure 8) (tree.static 0))))))))
+statement_1 = return (Some
+    (read (member_of_value 1 int 4
+    (parenthesized (assign 1 (lvalue 1 (Structure 8) (tree.automatic 0))
+    (read (lvalue 1 (Structure 8) (tree.static 0))))))))
 
 program : Program
 program = main_alone
@@ -21,7 +26,8 @@ program = main_alone
     (one (object_variable (Structure 8)))
     248
     ((declaration (without_value 0 ∷ []))
-    ∷ (expression_statement (assign 1 (lvalue 1 (Structure 8) (tree.automatic 0)) (read (lvalue 1 (Structure 8) (tree.static 0)))))
+    ∷ (expression_statement
+    (assign 1 (lvalue 1 (Structure 8) (tree.automatic 0)) (read (lvalue 1 (Structure 8) (tree.static 0)))))
     ∷ statement_1
     ∷ [])
 
@@ -29,7 +35,8 @@ run : seen (meaning program default_sizes [] 20) ≡ exited [] 0
 unfolding program statement_1 computing
 run = refl
 
-counted : counts (meaning program default_sizes [] 20) ≡ record { turns = 1; work = 37; accesses = reads 0x10001004 4 ∷ [] }
+counted : counts (meaning program default_sizes [] 20)
+    ≡ record { turns = 1; work = 37; accesses = reads 0x10001004 4 ∷ [] }
 unfolding program statement_1 computing
 counted = refl
 

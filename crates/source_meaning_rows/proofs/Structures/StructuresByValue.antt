@@ -1,22 +1,31 @@
--- A structure is given back and passed with its tags, and a parameter is an object of its own. Work: the call of main and its body 2,
--- v placed 17, t 1; for mk the 16 bytes that the initializer zeroes, 3 for the call and its argument, k 1, the body 1, r placed 17,
--- its members 6 and 5, the return 2, the 16 bytes of the result, and 16 where they are moved into v; for use 3 for the call and its argument, of
--- which 16 bytes are found, q 1, the body 1, q placed 17 and filled 16, the assignment 10, the return 3; the return of main 7.
+-- A structure is given back and passed with its tags, and a parameter is an object of its own. Work: the call of main
+-- and its body 2,
+-- v placed 17, t 1; for mk the 16 bytes that the initializer zeroes, 3 for the call and its argument, k 1, the body 1,
+-- r placed 17,
+-- its members 6 and 5, the return 2, the 16 bytes of the result, and 16 where they are moved into v; for use 3 for the
+-- call and its argument, of
+-- which 16 bytes are found, q 1, the body 1, q placed 17 and filled 16, the assignment 10, the return 3; the return of
+-- main 7.
 -- Three keys are taken, one for each call.
 -- The text is rows/structures_by_value.c, its tree by rows/trees.py.
---     struct p{int*a;int b;};int z=6;struct p mk(int k){struct p r;r.a=&z;r.b=k;return r;}int use(struct p q){q.b=q.b+*q.a;return q.b;}
+--     struct p{int*a;int b;};int z=6;struct p mk(int k){struct p r;r.a=&z;r.b=k;return r;}int use(struct p
+-- q){q.b=q.b+*q.a;return q.b;}
 --     int main(void){struct p v=mk(1);int t=use(v);return t*10+v.b;}
 use Rattle.c_tree.specs.Programs.{Function, Program}
 use Rattle.c_tree.specs.Statements.{expression_statement, declaration, return}
 use Rattle.c_tree.specs.Tree.{automatic, static}
 use Rattle.c_tree.specs.ValidProgram.{is_valid_program}
-use Rattle.c_tree.specs.declared.c_type.TypeWord.TheVariants.{Takes, Gives, Integer as IntegerWord, Structure as StructureWord}
+use Rattle.c_tree.specs.declared.c_type.TypeWord.TheVariants.{Takes, Gives, Integer as IntegerWord}
+use Rattle.c_tree.specs.declared.c_type.TypeWord.TheVariants.{Structure as StructureWord}
 use Rattle.c_tree.specs.declared.expression.Kind.TheVariants.{Structure}
 use Rattle.obj_memory.specs.declared.int_type.IntType.TheVariants.{Int}
 use Rattle.obj_memory.specs.declared.operator.BinaryOperator.TheVariants.{Add, Multiply}
 use Rattle.sb_base.specs.Budgets.{default_sizes}
 use Rattle.source_meaning.specs.Meaning.{meaning}
-use Rattle.source_meaning_rows.proofs.Samples.{int, pointer, number, plain, address, binary, assign, call, read, lvalue, deref, member, content, part, with_value, with_parts, without_value, plain_variable, object_variable, static_object, function_type, defined, program_with, computing, seen, counts, exited, stopped, reads, writes}
+use Rattle.source_meaning_rows.proofs.Samples.{int, pointer, number, plain, address, binary, assign, call, read, lvalue}
+use Rattle.source_meaning_rows.proofs.Samples.{deref, member, content, part, with_value, with_parts, without_value}
+use Rattle.source_meaning_rows.proofs.Samples.{plain_variable, object_variable, static_object, function_type, defined}
+use Rattle.source_meaning_rows.proofs.Samples.{program_with, computing, seen, counts, exited, stopped, reads, writes}
 use Rattle.std.proofs.Common.{◌∷◌, [], Some, ◌≡◌, refl, true}
 use Rattle.std.specs.Prelude.{codes}
 

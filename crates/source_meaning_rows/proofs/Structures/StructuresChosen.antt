@@ -1,4 +1,5 @@
--- Structures that a conditional chooses, as a result, as the source of a member and as arguments: the tags go with them.
+-- Structures that a conditional chooses, as a result, as the source of a member and as arguments: the tags go with
+-- them.
 -- The text is rows/structures_chosen.c, its tree by rows/trees.py.
 --     struct s{int*p;int n;};int a=5;int b=6;struct s pick(int c,struct s x,struct s y){return c?x:y;}
 --     int main(void){struct s u;struct s v;u.p=&a;u.n=1;v.p=&b;v.n=2;struct s w=pick(0,u,v);int t=(1?u:v).n;
@@ -7,13 +8,18 @@ use Rattle.c_tree.specs.Programs.{Function, Program}
 use Rattle.c_tree.specs.Statements.{expression_statement, declaration, return}
 use Rattle.c_tree.specs.Tree.{automatic, static}
 use Rattle.c_tree.specs.ValidProgram.{is_valid_program}
-use Rattle.c_tree.specs.declared.c_type.TypeWord.TheVariants.{Takes, Gives, Integer as IntegerWord, Structure as StructureWord}
+use Rattle.c_tree.specs.declared.c_type.TypeWord.TheVariants.{Takes, Gives, Integer as IntegerWord}
+use Rattle.c_tree.specs.declared.c_type.TypeWord.TheVariants.{Structure as StructureWord}
 use Rattle.c_tree.specs.declared.expression.Kind.TheVariants.{Structure}
 use Rattle.obj_memory.specs.declared.int_type.IntType.TheVariants.{Int}
 use Rattle.obj_memory.specs.declared.operator.BinaryOperator.TheVariants.{Add, Multiply}
 use Rattle.sb_base.specs.Budgets.{default_sizes}
 use Rattle.source_meaning.specs.Meaning.{meaning}
-use Rattle.source_meaning_rows.proofs.Samples.{int, pointer, number, plain, address, parenthesized, binary, conditional, assign, call, read, lvalue, deref, member, member_of_value, content, part, with_value, with_parts, without_value, plain_variable, object_variable, static_object, function_type, defined, program_with, computing, seen, exited}
+use Rattle.source_meaning_rows.proofs.Samples.{int, pointer, number, plain, address, parenthesized, binary, conditional}
+use Rattle.source_meaning_rows.proofs.Samples.{assign, call, read, lvalue, deref, member, member_of_value, content}
+use Rattle.source_meaning_rows.proofs.Samples.{part, with_value, with_parts, without_value, plain_variable}
+use Rattle.source_meaning_rows.proofs.Samples.{object_variable, static_object, function_type, defined, program_with}
+use Rattle.source_meaning_rows.proofs.Samples.{computing, seen, exited}
 use Rattle.std.proofs.Common.{◌∷◌, [], Some, ◌≡◌, refl, true}
 
 function_pick : Function

@@ -1,17 +1,22 @@
 -- Structures as argument and result of calls through a pointer, one inside the other.
 -- The text is rows/structures_through_pointers.c, its tree by rows/trees.py.
---     struct s{int n;int*p;};int z=8;struct s f(struct s x,int k){x.n=x.n+k;return x;}int main(void){struct s(*g)(struct s,int)=f;struct s v;v.n=1;v.p=&z;v=g(g(v,2),3);return v.n*10+*v.p;}
+--     struct s{int n;int*p;};int z=8;struct s f(struct s x,int k){x.n=x.n+k;return x;}int main(void){struct
+-- s(*g)(struct s,int)=f;struct s v;v.n=1;v.p=&z;v=g(g(v,2),3);return v.n*10+*v.p;}
 use Rattle.c_tree.specs.Programs.{Function, Program}
 use Rattle.c_tree.specs.Statements.{expression_statement, declaration, return}
 use Rattle.c_tree.specs.Tree.{automatic, static}
 use Rattle.c_tree.specs.ValidProgram.{is_valid_program}
-use Rattle.c_tree.specs.declared.c_type.TypeWord.TheVariants.{Takes, Gives, Integer as IntegerWord, Structure as StructureWord}
+use Rattle.c_tree.specs.declared.c_type.TypeWord.TheVariants.{Takes, Gives, Integer as IntegerWord}
+use Rattle.c_tree.specs.declared.c_type.TypeWord.TheVariants.{Structure as StructureWord}
 use Rattle.c_tree.specs.declared.expression.Kind.TheVariants.{Structure}
 use Rattle.obj_memory.specs.declared.int_type.IntType.TheVariants.{Int}
 use Rattle.obj_memory.specs.declared.operator.BinaryOperator.TheVariants.{Add, Multiply}
 use Rattle.sb_base.specs.Budgets.{default_sizes}
 use Rattle.source_meaning.specs.Meaning.{meaning}
-use Rattle.source_meaning_rows.proofs.Samples.{int, pointer, number, plain, function, address, binary, assign, call_through, read, lvalue, deref, member, content, part, with_value, without_value, plain_variable, object_variable, static_object, function_type, defined, program_with, computing, seen, exited}
+use Rattle.source_meaning_rows.proofs.Samples.{int, pointer, number, plain, function, address, binary, assign}
+use Rattle.source_meaning_rows.proofs.Samples.{call_through, read, lvalue, deref, member, content, part, with_value}
+use Rattle.source_meaning_rows.proofs.Samples.{without_value, plain_variable, object_variable, static_object}
+use Rattle.source_meaning_rows.proofs.Samples.{function_type, defined, program_with, computing, seen, exited}
 use Rattle.std.proofs.Common.{◌∷◌, [], Some, ◌≡◌, refl, true}
 
 function_f : Function

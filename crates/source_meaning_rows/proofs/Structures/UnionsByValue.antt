@@ -1,17 +1,22 @@
 -- A union is passed and given back with the tag of its word, which an integer member leaves.
 -- The text is rows/unions_by_value.c, its tree by rows/trees.py.
---     union u{int*p;long i;};int z=4;union u f(union u x){x.i=x.i+0;return x;}int main(void){union u v;v.p=&z;return *f(v).p;}
+--     union u{int*p;long i;};int z=4;union u f(union u x){x.i=x.i+0;return x;}int main(void){union u v;v.p=&z;return
+-- *f(v).p;}
 use Rattle.c_tree.specs.Programs.{Function, Program}
 use Rattle.c_tree.specs.Statements.{expression_statement, declaration, return}
 use Rattle.c_tree.specs.Tree.{automatic, static}
 use Rattle.c_tree.specs.ValidProgram.{is_valid_program}
-use Rattle.c_tree.specs.declared.c_type.TypeWord.TheVariants.{Takes, Gives, Integer as IntegerWord, Structure as StructureWord}
+use Rattle.c_tree.specs.declared.c_type.TypeWord.TheVariants.{Takes, Gives, Integer as IntegerWord}
+use Rattle.c_tree.specs.declared.c_type.TypeWord.TheVariants.{Structure as StructureWord}
 use Rattle.c_tree.specs.declared.expression.Kind.TheVariants.{Structure}
 use Rattle.obj_memory.specs.declared.int_type.IntType.TheVariants.{Int, Long}
 use Rattle.obj_memory.specs.declared.operator.BinaryOperator.TheVariants.{Add}
 use Rattle.sb_base.specs.Budgets.{default_sizes}
 use Rattle.source_meaning.specs.Meaning.{meaning}
-use Rattle.source_meaning_rows.proofs.Samples.{int, pointer, integer_kind, number, address, convert, binary, assign, call, read, lvalue, deref, member, member_of_value, content, part, without_value, object_variable, static_object, function_type, defined, program_with, computing, seen, exited}
+use Rattle.source_meaning_rows.proofs.Samples.{int, pointer, integer_kind, number, address, convert, binary, assign}
+use Rattle.source_meaning_rows.proofs.Samples.{call, read, lvalue, deref, member, member_of_value, content, part}
+use Rattle.source_meaning_rows.proofs.Samples.{without_value, object_variable, static_object, function_type, defined}
+use Rattle.source_meaning_rows.proofs.Samples.{program_with, computing, seen, exited}
 use Rattle.std.proofs.Common.{◌∷◌, [], Some, ◌≡◌, refl, true}
 
 function_f : Function

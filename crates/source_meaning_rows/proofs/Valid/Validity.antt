@@ -1,4 +1,5 @@
--- What makes a program valid, each rule both ways: a program that breaks just this rule, and beside it one that keeps it.
+-- What makes a program valid, each rule both ways: a program that breaks just this rule, and beside it one that keeps
+-- it.
 use Rattle.std.proofs.Common.{◌≡◌, ℕ, ◌∷◌, [], ◌^◌, ◌+◌, ◌-◌, Some, None, refl, true, false}
 use Rattle.c_tree.specs.Programs.{Program}
 use Rattle.c_tree.specs.Statements.{Statement, expression_statement, declaration, if_then, empty, return, while_do}
@@ -16,7 +17,11 @@ use Rattle.c_tree.specs.declared.expression.Kind.{Kind}
 use Rattle.c_tree.specs.declared.program.Variable.{Variable}
 use Rattle.c_tree.specs.Programs.{StaticObject, FunctionType}
 use Rattle.c_tree.specs.Tree.{Expression}
-use Rattle.source_meaning_rows.proofs.Samples.{computing, none, one, two, int, integer_kind, pointer, number, cast, convert, function, address, read, lvalue, member, arrow, offset, step_plain, plain_variable, object_variable, without_value, content, part, static_object, static_within, main_alone, main_type, function_type, defined, program_of}
+use Rattle.source_meaning_rows.proofs.Samples.{computing, none, one, two, int, integer_kind, pointer, number, cast}
+use Rattle.source_meaning_rows.proofs.Samples.{convert, function, address, read, lvalue, member, arrow, offset}
+use Rattle.source_meaning_rows.proofs.Samples.{step_plain, plain_variable, object_variable, without_value, content}
+use Rattle.source_meaning_rows.proofs.Samples.{part, static_object, static_within, main_alone, main_type, function_type}
+use Rattle.source_meaning_rows.proofs.Samples.{defined, program_of}
 
 -- `int main(void){E;return 0;}`
 main_of : Expression → Program
@@ -35,7 +40,8 @@ converted_from_a_cast = refl
 -- An object has from 1 to 2^32 bytes.
 
 object_of : Kind → Program
-object_of kind = main_alone none (one (object_variable kind)) 208 (two (declaration (one (without_value 0))) (return (Some (number 1 0))))
+object_of kind = main_alone none (one (object_variable kind)) 208
+    (two (declaration (one (without_value 0))) (return (Some (number 1 0))))
 
 object_of_no_bytes : is_valid_program (object_of (Array 0)) ≡ false
 unfolding object_of computing
@@ -57,7 +63,8 @@ object_of_more_bytes = refl
 
 member_of : Kind → Program
 member_of kind = main_alone (one (static_object (Structure 8) none)) none 168
-    (two (expression_statement (address 1 (member 1 kind 0 (lvalue 1 (Structure 8) (static 0))))) (return (Some (number 1 0))))
+    (two (expression_statement (address 1 (member 1 kind 0 (lvalue 1 (Structure 8) (static 0)))))
+    (return (Some (number 1 0))))
 
 member_of_no_bytes : is_valid_program (member_of (Array 0)) ≡ false
 unfolding member_of computing
@@ -83,7 +90,9 @@ member_of_more_bytes = refl
 -- So has an element, by which a pointer is moved.
 
 moved_by : Expression → (size : ℕ) → Program
-moved_by index size = main_alone none none 208 (two (expression_statement (offset 1 PointerPlusIndex size (cast 1 pointer (number 1 0)) index)) (return (Some (number 1 0))))
+moved_by index size = main_alone none none 208
+    (two (expression_statement (offset 1 PointerPlusIndex size (cast 1 pointer (number 1 0)) index))
+    (return (Some (number 1 0))))
 
 element_of_no_bytes : is_valid_program (moved_by (number 1 1) 0) ≡ false
 unfolding moved_by computing
@@ -124,7 +133,8 @@ above_int = refl
 -- A variable that is no object is a scalar.
 
 plain_of : Kind → Program
-plain_of kind = main_alone none (one (plain_variable kind)) 208 (two (declaration (one (without_value 0))) (return (Some (number 1 0))))
+plain_of kind = main_alone none (one (plain_variable kind)) 208
+    (two (declaration (one (without_value 0))) (return (Some (number 1 0))))
 
 plain_structure : is_valid_program (plain_of (Structure 8)) ≡ false
 unfolding plain_of computing
@@ -147,11 +157,13 @@ empty_in_a_branch : is_valid_program (body_of empty) ≡ true
 unfolding body_of computing
 empty_in_a_branch = refl
 
-declared_in_a_loop : is_valid_program (main_alone none none 168 (two (while_do (number 1 0) (declaration none)) (return (Some (number 1 0))))) ≡ false
+declared_in_a_loop : is_valid_program
+    (main_alone none none 168 (two (while_do (number 1 0) (declaration none)) (return (Some (number 1 0))))) ≡ false
 unfolding computing
 declared_in_a_loop = refl
 
-empty_in_a_loop : is_valid_program (main_alone none none 168 (two (while_do (number 1 0) empty) (return (Some (number 1 0))))) ≡ true
+empty_in_a_loop : is_valid_program
+    (main_alone none none 168 (two (while_do (number 1 0) empty) (return (Some (number 1 0))))) ≡ true
 unfolding computing
 empty_in_a_loop = refl
 
@@ -181,15 +193,20 @@ two_equal_types : is_valid_program (types_of main_type) ≡ false
 unfolding types_of computing
 two_equal_types = refl
 
-two_types : is_valid_program (types_of (function_type (Takes ∷ IntegerWord Int ∷ Gives ∷ IntegerWord Long ∷ []) (one int) (integer_kind Long))) ≡ true
+two_types : is_valid_program
+    (types_of (function_type (Takes ∷ IntegerWord Int ∷ Gives ∷ IntegerWord Long ∷ []) (one int) (integer_kind Long)))
+    ≡ true
 unfolding types_of computing
 two_types = refl
 
-another_result : is_valid_program (types_of (function_type (Takes ∷ IntegerWord Int ∷ Gives ∷ IntegerWord Long ∷ []) (one int) int)) ≡ false
+another_result : is_valid_program
+    (types_of (function_type (Takes ∷ IntegerWord Int ∷ Gives ∷ IntegerWord Long ∷ []) (one int) int)) ≡ false
 unfolding types_of computing
 another_result = refl
 
-another_parameter : is_valid_program (types_of (function_type (Takes ∷ IntegerWord Int ∷ Gives ∷ IntegerWord Long ∷ []) (one pointer) (integer_kind Long))) ≡ false
+another_parameter : is_valid_program
+    (types_of (function_type (Takes ∷ IntegerWord Int ∷ Gives ∷ IntegerWord Long ∷ []) (one pointer)
+    (integer_kind Long))) ≡ false
 unfolding types_of computing
 another_parameter = refl
 
@@ -220,11 +237,13 @@ function_not_there : is_valid_program (main_of (function 1 1)) ≡ false
 unfolding main_of computing
 function_not_there = refl
 
--- A static object in a block has the number of that function, and what its initializer names is judged there. An initializer that is
+-- A static object in a block has the number of that function, and what its initializer names is judged there. An
+-- initializer that is
 -- no constant is valid: whether it is one is a question of its own.
 
 static_of : StaticObject → Program
-static_of object = main_alone (one object) (one (object_variable int)) 208 (two (declaration (one (without_value 0))) (return (Some (number 1 0))))
+static_of object = main_alone (one object) (one (object_variable int)) 208
+    (two (declaration (one (without_value 0))) (return (Some (number 1 0))))
 
 within_main : is_valid_program (static_of (static_within 0 int (one (part 0 (content (number 1 1)))))) ≡ true
 unfolding static_of computing
@@ -234,10 +253,12 @@ within_no_function : is_valid_program (static_of (static_within 1 int (one (part
 unfolding static_of computing
 within_no_function = refl
 
-names_a_variable_of_main : is_valid_program (static_of (static_within 0 pointer (one (part 0 (content (address 1 (lvalue 1 int (automatic 0)))))))) ≡ true
+names_a_variable_of_main : is_valid_program
+    (static_of (static_within 0 pointer (one (part 0 (content (address 1 (lvalue 1 int (automatic 0)))))))) ≡ true
 unfolding static_of computing
 names_a_variable_of_main = refl
 
-names_a_variable_outside : is_valid_program (static_of (static_object pointer (one (part 0 (content (address 1 (lvalue 1 int (automatic 0)))))))) ≡ false
+names_a_variable_outside : is_valid_program
+    (static_of (static_object pointer (one (part 0 (content (address 1 (lvalue 1 int (automatic 0)))))))) ≡ false
 unfolding static_of computing
 names_a_variable_outside = refl

@@ -1,4 +1,8 @@
-use Rattle.source_meaning.proofs.ActionsAct.{acts_operate, local_load, local_store, acts_make_object, local_put_bytes, acts_take_key, acts_located, acts_read_scalar, acts_write_scalar, acts_move_bytes, acts_read_lvalue, acts_write_lvalue, acts_read_rvalue, acts_write_rvalue, acts_take_value, acts_updated, acts_update, acts_set_plain, acts_update_plain, acts_zero_variable, acts_store_bytes}
+use Rattle.source_meaning.proofs.ActionsAct.{acts_operate, local_load, local_store, acts_make_object, local_put_bytes}
+use Rattle.source_meaning.proofs.ActionsAct.{acts_take_key, acts_located, acts_read_scalar, acts_write_scalar}
+use Rattle.source_meaning.proofs.ActionsAct.{acts_move_bytes, acts_read_lvalue, acts_write_lvalue, acts_read_rvalue}
+use Rattle.source_meaning.proofs.ActionsAct.{acts_write_rvalue, acts_take_value, acts_updated, acts_update}
+use Rattle.source_meaning.proofs.ActionsAct.{acts_set_plain, acts_update_plain, acts_zero_variable, acts_store_bytes}
 use Rattle.source_meaning.proofs.laws.accesses_are_actions.Goals as goal
 use Rattle.source_meaning.specs.Actions.{updated}
 

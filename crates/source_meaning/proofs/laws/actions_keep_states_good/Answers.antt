@@ -1,6 +1,8 @@
 use Rattle.source_meaning.specs.Good.{Any}
 use Rattle.source_meaning.proofs.Sure.{sure_post, sure_weak}
-use Rattle.source_meaning.proofs.SureActions.{sure_load, sure_store, sure_update, sure_updated, sure_operate, sure_callee, sure_update_plain, sure_set_plain, sure_zero_variable, sure_put_bytes, sure_take_key}
+use Rattle.source_meaning.proofs.SureActions.{sure_load, sure_store, sure_update, sure_updated, sure_operate}
+use Rattle.source_meaning.proofs.SureActions.{sure_callee, sure_update_plain, sure_set_plain, sure_zero_variable}
+use Rattle.source_meaning.proofs.SureActions.{sure_put_bytes, sure_take_key}
 use Rattle.source_meaning.proofs.SureStructures.{sure_read_rvalue, sure_write_rvalue, take_sure}
 use Rattle.source_meaning.proofs.SureLibrary.{sure_routine}
 use Rattle.source_meaning.proofs.SureBytes.{sure_print}
@@ -14,7 +16,8 @@ returns c = record {
   load = λ sc b k q line. sure_load b k q line;
   store = λ sc b k q line v. sure_store b k q line v;
   update = λ sc b k q line u w right at f. sure_update b k q line u w right at f;
-  updated = λ sc u k w right line old. sure_post (λ v o h. h.1) (sure_weak (λ o h. (tt, h)) (sure_updated {P = Any} u k w right line old));
+  updated = λ sc u k w right line old. sure_post (λ v o h. h.1)
+      (sure_weak (λ o h. (tt, h)) (sure_updated {P = Any} u k w right line old));
   operate = λ sc op t x y line result r. sure_operate op t x y line result r;
   callee = λ sc functions type_number v line. sure_callee functions type_number v line;
   update_plain = λ sc u k x w named right at f. sure_update_plain x u k w named right at f;

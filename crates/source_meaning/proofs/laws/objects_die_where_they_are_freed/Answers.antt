@@ -1,5 +1,11 @@
 use Rattle.source_meaning.specs.Actions.{updated}
-use Rattle.source_meaning.proofs.Living.{lives_located, lives_read_scalar, lives_write_scalar, lives_move_bytes, lives_load, lives_store, lives_read_lvalue, lives_write_lvalue, lives_read_rvalue, lives_write_rvalue, lives_take_value, lives_updated, lives_update, lives_operate, lives_make_object, lives_put_bytes, lives_take_key, lives_set_plain, lives_update_plain, lives_zero_variable, lives_store_bytes, lives_routine, lives_print, lives_callee, lives_set_up, lives_enter_block}
+use Rattle.source_meaning.proofs.Living.{lives_located, lives_read_scalar, lives_write_scalar, lives_move_bytes}
+use Rattle.source_meaning.proofs.Living.{lives_load, lives_store, lives_read_lvalue, lives_write_lvalue}
+use Rattle.source_meaning.proofs.Living.{lives_read_rvalue, lives_write_rvalue, lives_take_value, lives_updated}
+use Rattle.source_meaning.proofs.Living.{lives_update, lives_operate, lives_make_object, lives_put_bytes}
+use Rattle.source_meaning.proofs.Living.{lives_take_key, lives_set_plain, lives_update_plain, lives_zero_variable}
+use Rattle.source_meaning.proofs.Living.{lives_store_bytes, lives_routine, lives_print, lives_callee, lives_set_up}
+use Rattle.source_meaning.proofs.Living.{lives_enter_block}
 use Rattle.source_meaning.proofs.laws.objects_die_where_they_are_freed.Goals as goal
 
 pub returns : goal.returns

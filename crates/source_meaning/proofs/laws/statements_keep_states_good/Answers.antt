@@ -4,4 +4,5 @@ use Rattle.source_meaning.proofs.ValidProgramNames.{agree_same, statement_names}
 use Rattle.source_meaning.specs.Good.{context_of}
 
 pub returns : goal.returns
-returns c = λ base boundary env i vs within s h. execute_sure i vs s (statement_names (agree_same (context_of base boundary env.variables vs).scope) within s h)
+returns c = λ base boundary env i vs within s h. execute_sure i vs s
+    (statement_names (agree_same (context_of base boundary env.variables vs).scope) within s h)

@@ -4,4 +4,9 @@ use Rattle.c_tree.specs.declared.expression.Kind.TheVariants.{Scalar as OfScalar
 use Rattle.source_meaning.proofs.laws.valid_operators_give_their_types.Goals as goal
 
 pub returns : goal.returns
-returns c = record { unary = unary_fits; binary = binary_fits; update = λ u k right e. update_kind u (OfScalar k) right e }
+returns c = record {
+  unary = unary_fits;
+  binary = binary_fits;
+  update = λ u k right e. update_kind u (OfScalar k) right
+      e;
+}

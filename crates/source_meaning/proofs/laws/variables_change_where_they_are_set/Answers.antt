@@ -1,6 +1,10 @@
 use Rattle.source_meaning.specs.Actions.{updated}
 use Rattle.source_meaning.proofs.Local.{local_keeps}
-use Rattle.source_meaning.proofs.ActionsAct.{local_located, local_read_scalar, local_write_scalar, local_move_bytes, local_load, local_store, local_read_lvalue, local_write_lvalue, local_read_rvalue, local_write_rvalue, local_take_value, local_updated, local_update, local_operate, local_make_object, local_put_bytes, local_take_key, local_zero_variable, local_store_bytes, local_callee}
+use Rattle.source_meaning.proofs.ActionsAct.{local_located, local_read_scalar, local_write_scalar, local_move_bytes}
+use Rattle.source_meaning.proofs.ActionsAct.{local_load, local_store, local_read_lvalue, local_write_lvalue}
+use Rattle.source_meaning.proofs.ActionsAct.{local_read_rvalue, local_write_rvalue, local_take_value, local_updated}
+use Rattle.source_meaning.proofs.ActionsAct.{local_update, local_operate, local_make_object, local_put_bytes}
+use Rattle.source_meaning.proofs.ActionsAct.{local_take_key, local_zero_variable, local_store_bytes, local_callee}
 use Rattle.source_meaning.proofs.LibraryActs.{local_routine, local_print}
 use Rattle.source_meaning.proofs.laws.variables_change_where_they_are_set.Goals as goal
 
@@ -18,7 +22,8 @@ returns c = record {
   write_rvalue = λ kind j p line v. local_keeps (local_write_rvalue kind j p line v);
   taken = λ kind line v. local_keeps (local_take_value kind line v);
   updated = λ u k right line old. local_keeps (local_updated u k right line old);
-  update = λ u k j p line right at f. local_keeps (local_update k j p line (updated u k right at) f (local_updated u k right at));
+  update = λ u k j p line right at f. local_keeps
+      (local_update k j p line (updated u k right at) f (local_updated u k right at));
   operate = λ op t x y line. local_keeps (local_operate op t x y line);
   make = λ storage address size. local_keeps (local_make_object storage address size);
   put = λ bytes. local_keeps (local_put_bytes bytes);

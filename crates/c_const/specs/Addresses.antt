@@ -6,8 +6,11 @@ use Rattle.obj_memory.specs.declared.value.Value.{Value}
 use Rattle.obj_memory.specs.Judgement.{moved, narrowed}
 use Rattle.c_tree.specs.declared.expression.Kind.{Kind}
 use Rattle.c_tree.specs.declared.expression.Kind.TheVariants as kind
-use Rattle.c_tree.specs.declared.expression.OffsetForm.TheVariants.{PointerPlusIndex, IndexPlusPointer, PointerMinusIndex}
-use Rattle.c_tree.specs.Tree.{Expression, expression, Node, function, decay, address, parenthesized, deref_function, address_function, cast, convert, offset_by, Lvalue, lvalue, LvalueNode, static, deref, index, member, arrow, parenthesized_lvalue, kind_of}
+use Rattle.c_tree.specs.declared.expression.OffsetForm.TheVariants.{PointerPlusIndex, IndexPlusPointer}
+use Rattle.c_tree.specs.declared.expression.OffsetForm.TheVariants.{PointerMinusIndex}
+use Rattle.c_tree.specs.Tree.{Expression, expression, Node, function, decay, address, parenthesized, deref_function}
+use Rattle.c_tree.specs.Tree.{address_function, cast, convert, offset_by, Lvalue, lvalue, LvalueNode, static, deref}
+use Rattle.c_tree.specs.Tree.{index, member, arrow, parenthesized_lvalue, kind_of}
 use Rattle.c_const.specs.Integers.{constant_word}
 
 -- pointers to the static objects and to the functions of a program, by number
@@ -66,7 +69,8 @@ abbrev mutual
   node_designated ps (deref_function e) = address_of ps e
   node_designated ps _ = None
 
-  -- the pointer to what an lvalue designates, where it is a static object or a part of one: the name of a static object,
+  -- the pointer to what an lvalue designates, where it is a static object or a part of one: the name of a static
+  -- object,
   -- or `.m`, `[K]`, `*` or `->m` over such an lvalue or an address constant
   pub place_of : Pointers → Lvalue → Option Value
   place_of ps (lvalue kind line node) = node_place ps node

@@ -10,7 +10,8 @@ use Rattle.words.specs.TwosComplement.{signed}
 use Rattle.c_tree.specs.declared.expression.Kind.{Kind}
 use Rattle.c_tree.specs.declared.expression.Kind.TheVariants as kind
 use Rattle.c_tree.specs.Kinds.{is_integer}
-use Rattle.c_tree.specs.Tree.{Expression, expression, Node, constant, parenthesized, cast, convert, unary, binary, logical_and, logical_or, conditional, kind_of}
+use Rattle.c_tree.specs.Tree.{Expression, expression, Node, constant, parenthesized, cast, convert, unary, binary}
+use Rattle.c_tree.specs.Tree.{logical_and, logical_or, conditional, kind_of}
 
 -- the type at which an operator sees an operand
 abbrev pub type_of : Kind → IntType

@@ -7,7 +7,8 @@ ghost use Rattle.obj_memory.specs.Access.{overwrite, scalar_size};
 ghost use Rattle.c_tree.specs.Kinds.{size_of_kind};
 ghost use Rattle.c_tree.specs.View.{content_of, expression_of, part_of, static_of};
 ghost use Rattle.c_tree.specs.ValidProgram.{content_size};
-ghost use Rattle.c_const.specs.Contents.{constant_in, initial_contents, is_inside, is_laid_out, with_content, with_parts, with_scalar, with_tag, zero_contents};
+ghost use Rattle.c_const.specs.Contents.{constant_in, initial_contents, is_inside, is_laid_out, with_content};
+ghost use Rattle.c_const.specs.Contents.{with_parts, with_scalar, with_tag, zero_contents};
 ghost use Rattle.c_const.specs.View.{pointers_of};
 ghost use Rattle.c_const.specs.Outcomes.{IsInitial, Stores};
 
@@ -196,7 +197,8 @@ impl InitialObject {
 
     fn store(&mut self, pointers: &Pointers, offset: u64, content: &Content) -> Result<(), Line>
         requires { offset + content_size (content_of content.now) ≤ length self.old.bytes }
-        ensures value { Stores result (with_content (pointers_of pointers.now) offset (content_of content.now) self.old) self.new }
+        ensures value { Stores result (with_content (pointers_of pointers.now) offset (content_of content.now) self.old)
+            self.new }
         ensures size { length self.new.bytes ≡ length self.old.bytes }
     {
         match content {

@@ -1,4 +1,5 @@
--- Casts of valid values are valid, and so are values that pass to an object of another type, with the kind of that type.
+-- Casts of valid values are valid, and so are values that pass to an object of another type, with the kind of that
+-- type.
 use Rattle.std.proofs.Common.{◌≡◌, ℕ, Bool, true, false, Option, Some, None, List, [], ◌∷◌, refl, ◌∙◌}
 use Rattle.std.specs.Prelude.{if◌then◌else◌}
 use Rattle.c_tree.specs.declared.c_type.TypeWord.{TypeWord}
@@ -27,7 +28,8 @@ KindIs (class.Integer t) k = k ≡ Some (integer t)
 KindIs (class.Pointer to) k = k ≡ Some pointer
 KindIs class.Other k = Unit {0}
 
-kind_is : (structures : List (Option TypeExtent)) (ws : List TypeWord) → KindIs (class_of structures ws) (kind_of_type structures ws)
+kind_is : (structures : List (Option TypeExtent)) (ws : List TypeWord)
+    → KindIs (class_of structures ws) (kind_of_type structures ws)
 kind_is structures [] = tt
 kind_is structures (word.Void ∷ behind) = tt
 kind_is structures (word.Integer t ∷ behind) = refl
@@ -41,7 +43,8 @@ kind_is structures (word.Takes ∷ behind) = tt
 kind_is structures (word.Gives ∷ behind) = tt
 
 -- qualifiers do not change it
-pub unqualified_kind : (structures : List (Option TypeExtent)) (ws : List TypeWord) → kind_of_type structures (unqualified ws) ≡ kind_of_type structures ws
+pub unqualified_kind : (structures : List (Option TypeExtent)) (ws : List TypeWord)
+    → kind_of_type structures (unqualified ws) ≡ kind_of_type structures ws
 unqualified_kind structures [] = refl
 unqualified_kind structures (word.Const ∷ behind) = unqualified_kind structures behind
 unqualified_kind structures (word.Void ∷ behind) = refl
@@ -54,12 +57,14 @@ unqualified_kind structures (word.Structure n ∷ behind) = refl
 unqualified_kind structures (word.Takes ∷ behind) = refl
 unqualified_kind structures (word.Gives ∷ behind) = refl
 
-void_kind : (structures : List (Option TypeExtent)) (ws : List TypeWord) → is_void_type ws ≡ true → kind_of_type structures ws ≡ Some kind.Void
+void_kind : (structures : List (Option TypeExtent)) (ws : List TypeWord) → is_void_type ws ≡ true
+    → kind_of_type structures ws ≡ Some kind.Void
 void_kind structures [] e = absurd cc
 void_kind structures (word.Void ∷ behind) e = refl
 void_kind structures (w ∷ behind) e = absurd cc
 
-module _ (scope : Scope) (structures : List (Option TypeExtent)) (line : ℕ) (to : List TypeWord) (a : Value) (fa : IsFine scope structures a) where
+module _ (scope : Scope) (structures : List (Option TypeExtent)) (line : ℕ) (to : List TypeWord) (a : Value)
+    (fa : IsFine scope structures a) where
   cast_into : (k : Kind) → is_conversion (kind_of a.tree) k ≡ true → kind_of_type structures (unqualified to) ≡ Some k
       → IfFine scope structures (cast_to to line (Some k) a)
   cast_into k can same = record { valid = all fa.valid can; kind = same; bare = refl }
@@ -82,4 +87,5 @@ pub cast_fine : (scope : Scope) (structures : List (Option TypeExtent)) (line : 
     → IsFine scope structures a → IfFine scope structures (cast structures line to a)
 unfolding cast
 cast_fine scope structures line to a fa =
-    cast_cases scope structures line to a fa (is_void_type (unqualified to)) (class_of structures to) refl (kind_is structures to)
+    cast_cases scope structures line to a fa (is_void_type (unqualified to)) (class_of structures to) refl
+    (kind_is structures to)

@@ -47,7 +47,8 @@ both_true false b e = absurd cc
 
 module _ (scope : Scope) (structures : List (Option TypeExtent)) (line : ℕ) where
   -- the kind of a promoted operand is what the operator wants
-  promoting_fine : (op : UnaryOperator) → ((k : Kind) → is_operand op k k ≡ (is_promoted k && is_kind k k)) → (c : Class) (a : Value)
+  promoting_fine : (op : UnaryOperator) → ((k : Kind) → is_operand op k k ≡ (is_promoted k && is_kind k k))
+      → (c : Class) (a : Value)
       → IsFine scope structures a → HasKind c (kind_of a.tree) → IfFine scope structures (promoting op line c a)
   promoting_fine op wants (class.Integer j) a fa ha =
       let t = promoted j in
@@ -61,18 +62,25 @@ module _ (scope : Scope) (structures : List (Option TypeExtent)) (line : ℕ) wh
   promoting_fine op wants (class.Pointer to) a fa ha = tt
   promoting_fine op wants class.Other a fa ha = tt
 
-  negating_fine : (b : Bool) (a : Value) → IsFine scope structures a → (b ≡ true → is_scalar_kind (kind_of a.tree) ≡ true)
+  negating_fine : (b : Bool) (a : Value) → IsFine scope structures a
+      → (b ≡ true → is_scalar_kind (kind_of a.tree) ≡ true)
       → IfFine scope structures (negating line b a)
   negating_fine true a fa h = record { valid = all fa.valid (all (h refl) refl); kind = refl; bare = refl }
   negating_fine false a fa h = tt
 
-  unary_cases : (op : UnaryOperator) (a : Value) → IsFine scope structures a → IfFine scope structures (unary_of op line (class_of structures a.type) a)
-  unary_cases Plus a fa = promoting_fine Plus (λ k. refl) (class_of structures a.type) a fa (class_kind structures a.type (kind_of a.tree) fa.kind)
-  unary_cases Negate a fa = promoting_fine Negate (λ k. refl) (class_of structures a.type) a fa (class_kind structures a.type (kind_of a.tree) fa.kind)
-  unary_cases Complement a fa = promoting_fine Complement (λ k. refl) (class_of structures a.type) a fa (class_kind structures a.type (kind_of a.tree) fa.kind)
-  unary_cases Not a fa = negating_fine (is_scalar (class_of structures a.type)) a fa (scalar_value scope structures a fa)
+  unary_cases : (op : UnaryOperator) (a : Value) → IsFine scope structures a
+      → IfFine scope structures (unary_of op line (class_of structures a.type) a)
+  unary_cases Plus a fa = promoting_fine Plus (λ k. refl) (class_of structures a.type) a fa
+      (class_kind structures a.type (kind_of a.tree) fa.kind)
+  unary_cases Negate a fa = promoting_fine Negate (λ k. refl) (class_of structures a.type) a fa
+      (class_kind structures a.type (kind_of a.tree) fa.kind)
+  unary_cases Complement a fa = promoting_fine Complement (λ k. refl) (class_of structures a.type) a fa
+      (class_kind structures a.type (kind_of a.tree) fa.kind)
+  unary_cases Not a fa = negating_fine (is_scalar (class_of structures a.type)) a fa
+      (scalar_value scope structures a fa)
 
-  logical_cases : (op : LogicalOperator) (b : Bool) (x y : Value) → IsFine scope structures x → IsFine scope structures y
+  logical_cases : (op : LogicalOperator) (b : Bool) (x y : Value) → IsFine scope structures x
+      → IsFine scope structures y
       → (b ≡ true → (is_scalar_kind (kind_of x.tree) ≡ true) × (is_scalar_kind (kind_of y.tree) ≡ true))
       → IfFine scope structures (logical_of op line b x y)
   logical_cases logical.And true x y fx fy h = record {
@@ -92,7 +100,8 @@ pub unary_fine : (scope : Scope) (structures : List (Option TypeExtent)) (op : U
 unfolding unary
 unary_fine scope structures op line a fa = unary_cases scope structures line op a fa
 
-pub logical_fine : (scope : Scope) (structures : List (Option TypeExtent)) (op : LogicalOperator) (line : ℕ) (a b : Value)
+pub logical_fine : (scope : Scope) (structures : List (Option TypeExtent)) (op : LogicalOperator) (line : ℕ)
+    (a b : Value)
     → IsFine scope structures a → IsFine scope structures b → IfFine scope structures (combined structures op line a b)
 unfolding combined
 logical_fine scope structures op line a b fa fb =

@@ -1,9 +1,12 @@
 -- Integer types and kinds.
-use Rattle.std.proofs.Common.{◌≡◌, ℕ, zero, suc, Bool, true, false, Option, Some, None, List, [], ◌∷◌, refl, ap, sym, ◌∙◌}
+use Rattle.std.proofs.Common.{◌≡◌, ℕ, zero, suc, Bool, true, false, Option, Some, None, List, [], ◌∷◌, refl, ap, sym}
+use Rattle.std.proofs.Common.{◌∙◌}
 use Rattle.std.specs.Prelude.{if◌then◌else◌}
 use Rattle.std.proofs.lemmas.Bool.{eqb-true}
 use Rattle.obj_memory.specs.declared.int_type.IntType.{IntType}
-use Rattle.obj_memory.specs.declared.int_type.IntType.TheVariants.{Char, SignedChar, UnsignedChar, Short, UnsignedShort, Int, UnsignedInt, Long, UnsignedLong, LongLong, UnsignedLongLong}
+use Rattle.obj_memory.specs.declared.int_type.IntType.TheVariants.{Char, SignedChar, UnsignedChar, Short, UnsignedShort}
+use Rattle.obj_memory.specs.declared.int_type.IntType.TheVariants.{Int, UnsignedInt, Long, UnsignedLong, LongLong}
+use Rattle.obj_memory.specs.declared.int_type.IntType.TheVariants.{UnsignedLongLong}
 use Rattle.obj_memory.specs.Integers.{rank, is_signed, promoted, unsigned_of, mixed_type, balanced_type, common_type}
 use Rattle.c_tree.specs.declared.c_type.TypeWord.{TypeWord}
 use Rattle.c_tree.specs.declared.c_type.TypeWord.TheVariants as word
@@ -64,7 +67,8 @@ same_number UnsignedLongLong = refl
 
 -- the type of an operation is promoted
 
-promoted_if : (b : Bool) (s t : IntType) → is_promoted_type s ≡ true → is_promoted_type t ≡ true → is_promoted_type (if b then s else t) ≡ true
+promoted_if : (b : Bool) (s t : IntType) → is_promoted_type s ≡ true → is_promoted_type t ≡ true
+    → is_promoted_type (if b then s else t) ≡ true
 promoted_if true s t p q = p
 promoted_if false s t p q = q
 
@@ -96,11 +100,13 @@ unsigned_promoted UnsignedLong h = h
 unsigned_promoted LongLong h = h
 unsigned_promoted UnsignedLongLong h = h
 
-mixed_promoted : (s u : IntType) → is_promoted_type s ≡ true → is_promoted_type u ≡ true → is_promoted_type (mixed_type s u) ≡ true
+mixed_promoted : (s u : IntType) → is_promoted_type s ≡ true → is_promoted_type u ≡ true
+    → is_promoted_type (mixed_type s u) ≡ true
 unfolding mixed_type
 mixed_promoted s u p q = promoted_if _ u _ q (promoted_if _ s (unsigned_of s) p (unsigned_promoted s p))
 
-balanced_promoted : (s t : IntType) → is_promoted_type s ≡ true → is_promoted_type t ≡ true → is_promoted_type (balanced_type s t) ≡ true
+balanced_promoted : (s t : IntType) → is_promoted_type s ≡ true → is_promoted_type t ≡ true
+    → is_promoted_type (balanced_type s t) ≡ true
 unfolding balanced_type
 balanced_promoted s t p q =
     promoted_if (is_signed s) _ _
@@ -136,9 +142,11 @@ target_sized : (structures : List (Option TypeExtent)) (ws : List TypeWord) → 
 target_sized structures [] = object_sized (extent_of structures [])
 target_sized structures (word.Void ∷ behind) = tt
 target_sized structures (word.Integer t ∷ behind) = object_sized (extent_of structures (word.Integer t ∷ behind))
-target_sized structures (word.Enumeration n ∷ behind) = object_sized (extent_of structures (word.Enumeration n ∷ behind))
+target_sized structures (word.Enumeration n ∷ behind) = object_sized
+    (extent_of structures (word.Enumeration n ∷ behind))
 target_sized structures (word.Pointer ∷ behind) = object_sized (extent_of structures (word.Pointer ∷ behind))
-target_sized structures (word.Array count bytes ∷ behind) = object_sized (extent_of structures (word.Array count bytes ∷ behind))
+target_sized structures (word.Array count bytes ∷ behind) = object_sized
+    (extent_of structures (word.Array count bytes ∷ behind))
 target_sized structures (word.OpenArray ∷ behind) = object_sized (extent_of structures (word.OpenArray ∷ behind))
 target_sized structures (word.Structure n ∷ behind) = object_sized (extent_of structures (word.Structure n ∷ behind))
 target_sized structures (word.Const ∷ behind) = target_sized structures behind
@@ -148,7 +156,8 @@ target_sized structures (word.Gives ∷ behind) = tt
 some_kind : (j k : Kind) → Some j ≡ Some k → k ≡ j
 some_kind j k e = cc
 
-pub class_kind : (structures : List (Option TypeExtent)) (ws : List TypeWord) (k : Kind) → kind_of_type structures ws ≡ Some k → HasKind (class_of structures ws) k
+pub class_kind : (structures : List (Option TypeExtent)) (ws : List TypeWord) (k : Kind)
+    → kind_of_type structures ws ≡ Some k → HasKind (class_of structures ws) k
 class_kind structures [] k e = tt
 class_kind structures (word.Void ∷ behind) k e = tt
 class_kind structures (word.Integer t ∷ behind) k e = some_kind _ k e

@@ -43,12 +43,15 @@ abbrev pub is_structure_type : List TypeWord → Bool
 is_structure_type (Structure n ∷ behind) = true
 is_structure_type type = false
 
--- how a value of a type comes to an object of another (6.5.16.1 paragraph 1): an integer as one of another type; a pointer
+-- how a value of a type comes to an object of another (6.5.16.1 paragraph 1): an integer as one of another type; a
+-- pointer
 -- to one type, or to or from void, and a null pointer constant, as a pointer; a structure as it is
 abbrev pub passing_of : (same_pointee is_null is_same_structure : Bool) → (to from : Class) → Passing
 passing_of same null structure (class.Integer j) (class.Integer k) = passing.Convert (integer j)
-passing_of same null structure (class.Pointer s) (class.Pointer t) = if may_meet same s t || null then passing.Convert pointer else passing.NoWay
-passing_of same null structure (class.Pointer s) (class.Integer k) = if null then passing.Convert pointer else passing.NoWay
+passing_of same null structure (class.Pointer s) (class.Pointer t) = if may_meet same s t || null
+    then passing.Convert pointer else passing.NoWay
+passing_of same null structure (class.Pointer s) (class.Integer k) = if null then passing.Convert pointer
+    else passing.NoWay
 passing_of same null structure class.Other class.Other = if structure then passing.AsItIs else passing.NoWay
 passing_of same null structure _ _ = passing.NoWay
 
@@ -63,4 +66,5 @@ are_one_structure to from = is_structure_type to && same_words to from
 
 unfoldable pub assigned : List (Option TypeExtent) → (line : ℕ) → (to : List TypeWord) → Value → Answer Expression
 assigned structures line to a =
-    passed (passing_of (same_pointee to a.type) (is_null a) (are_one_structure (unqualified to) (unqualified a.type)) (class_of structures to) (class_of structures a.type)) line a.tree
+    passed (passing_of (same_pointee to a.type) (is_null a) (are_one_structure (unqualified to) (unqualified a.type))
+    (class_of structures to) (class_of structures a.type)) line a.tree

@@ -3,8 +3,12 @@
 use Rattle.std.specs.Prelude.{Bool, true, false, ◌||◌, ◌&&◌, if◌then◌else◌}
 use Rattle.obj_memory.specs.Integers.{common_type, promoted}
 use Rattle.obj_memory.specs.declared.operator.BinaryOperator.{BinaryOperator}
-use Rattle.obj_memory.specs.declared.operator.BinaryOperator.TheVariants.{Add, Subtract, Multiply, Divide, Remainder, ShiftLeft, ShiftRight, BitAnd, BitXor, BitOr, Less, Greater, LessOrEqual, GreaterOrEqual, Equal, NotEqual}
-use Rattle.c_tree.specs.declared.expression.OffsetForm.TheVariants.{PointerPlusIndex, IndexPlusPointer, PointerMinusIndex}
+use Rattle.obj_memory.specs.declared.operator.BinaryOperator.TheVariants.{Add, Subtract, Multiply, Divide, Remainder}
+use Rattle.obj_memory.specs.declared.operator.BinaryOperator.TheVariants.{ShiftLeft, ShiftRight, BitAnd, BitXor, BitOr}
+use Rattle.obj_memory.specs.declared.operator.BinaryOperator.TheVariants.{Less, Greater, LessOrEqual, GreaterOrEqual}
+use Rattle.obj_memory.specs.declared.operator.BinaryOperator.TheVariants.{Equal, NotEqual}
+use Rattle.c_tree.specs.declared.expression.OffsetForm.TheVariants.{PointerPlusIndex, IndexPlusPointer}
+use Rattle.c_tree.specs.declared.expression.OffsetForm.TheVariants.{PointerMinusIndex}
 use Rattle.c_rules.specs.declared.class.Class.{Class}
 use Rattle.c_rules.specs.declared.class.Class.TheVariants.{Integer, Pointer}
 use Rattle.c_rules.specs.declared.class.Target.{Target}

@@ -6,7 +6,8 @@ use Rattle.obj_memory.specs.declared.operator.UnaryOperator.TheVariants.{Plus, N
 use Rattle.obj_memory.specs.Integers.{promoted}
 use Rattle.c_tree.specs.Extents.{TypeExtent}
 use Rattle.c_tree.specs.Kinds.{integer}
-use Rattle.c_tree.specs.Tree.{Node, expression, unary as unary_node, logical_and, logical_or, comma as comma_node, kind_of}
+use Rattle.c_tree.specs.Tree.{Node, expression, unary as unary_node, logical_and, logical_or, comma as comma_node}
+use Rattle.c_tree.specs.Tree.{kind_of}
 use Rattle.c_rules.specs.declared.class.Class.{Class}
 use Rattle.c_rules.specs.declared.class.Class.TheVariants as class
 use Rattle.c_rules.specs.declared.fault.Rule.TheVariants.{Operands}
@@ -31,7 +32,8 @@ promoting op line _ a = violates Operands line
 
 -- `!` of a scalar
 abbrev pub negating : (line : ℕ) → (is_scalar : Bool) → Value → Answer Value
-negating line true a = Ok (record { type = integer_words Int; tree = expression (integer Int) line (unary_node Not a.tree) })
+negating line true a = Ok
+    (record { type = integer_words Int; tree = expression (integer Int) line (unary_node Not a.tree) })
 negating line false a = violates Operands line
 
 abbrev pub unary_of : UnaryOperator → (line : ℕ) → Class → Value → Answer Value
@@ -49,11 +51,13 @@ logical_node logical.And a b = logical_and a.tree b.tree
 logical_node logical.Or a b = logical_or a.tree b.tree
 
 abbrev pub logical_of : LogicalOperator → (line : ℕ) → (are_scalars : Bool) → Value → Value → Answer Value
-logical_of op line true a b = Ok (record { type = integer_words Int; tree = expression (integer Int) line (logical_node op a b) })
+logical_of op line true a b = Ok
+    (record { type = integer_words Int; tree = expression (integer Int) line (logical_node op a b) })
 logical_of op line false a b = violates Operands line
 
 unfoldable pub combined : List (Option TypeExtent) → LogicalOperator → (line : ℕ) → Value → Value → Answer Value
-combined structures op line a b = logical_of op line (is_scalar (class_of structures a.type) && is_scalar (class_of structures b.type)) a b
+combined structures op line a b = logical_of op line
+    (is_scalar (class_of structures a.type) && is_scalar (class_of structures b.type)) a b
 
 -- `,` of any two
 unfoldable pub comma : (line : ℕ) → Value → Value → Answer Value

@@ -126,7 +126,9 @@ fn both_converted(
     left: Expression,
     right: Expression,
 ) -> Result<(Expression, Expression), AllocError>
-    ensures { IfOk result (λ both. (expression_of both.0 ≡ converted kinds.0 (expression_of left)) × (expression_of both.1 ≡ converted kinds.1 (expression_of right))) }
+    ensures { IfOk result
+        (λ both. (expression_of both.0 ≡ converted kinds.0 (expression_of left))
+        × (expression_of both.1 ≡ converted kinds.1 (expression_of right))) }
 {
     let (right, left) = beside(right, converted(alloc, kinds.0, left))?;
     beside(left, converted(alloc, kinds.1, right))

@@ -3,7 +3,8 @@
 ghost use Rattle.std.specs.Prelude.{◌≡◌};
 ghost use Rattle.c_tree.specs.View.{expression_of};
 ghost use Rattle.c_rules.specs.Answer.{Gives};
-ghost use Rattle.c_rules.specs.Conversions.{are_one_structure, assigned, cast, cast_kind, is_structure_type, is_void_type, passed, passing_of};
+ghost use Rattle.c_rules.specs.Conversions.{are_one_structure, assigned, cast, cast_kind, is_structure_type};
+ghost use Rattle.c_rules.specs.Conversions.{is_void_type, passed, passing_of};
 ghost use Rattle.c_rules.specs.Values.{value_of};
 
 use crate::class::Class;
@@ -85,7 +86,8 @@ fn cast_kind(is_void: bool, to: Class, from: Class) -> Option<Kind>
     }
 }
 
-/// A value as one of a type, as by assignment, with the line of the token at which that is judged. The rule on conversions
+/// A value as one of a type, as by assignment, with the line of the token at which that is judged. The rule on
+/// conversions
 /// is violated where C99 6.5.16.1 does not allow it.
 #[tactic(auto, unfolding(crate::specs::Conversions::assigned))]
 pub fn assigned(

@@ -1,4 +1,5 @@
-//! Building of trees from trees. These functions are generic: a `?` beside an owned tree drops it, and the proof of a drop
+//! Building of trees from trees. These functions are generic: a `?` beside an owned tree drops it, and the proof of a
+//! drop
 //! writes out the whole type unless the type is a parameter.
 
 ghost use Rattle.std.specs.Prelude.{◌≡◌, IfOk, Ok, Err};

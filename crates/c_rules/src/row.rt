@@ -1,7 +1,8 @@
 //! The tables of the operators between two operands (C99 6.5.5 to 6.5.12).
 
 ghost use Rattle.std.specs.Prelude.{◌≡◌};
-ghost use Rattle.c_rules.specs.Rows.{comparison_row, difference_row, integer_row, is_object, is_void, may_meet, row_of, shift_row, sum_row};
+ghost use Rattle.c_rules.specs.Rows.{comparison_row, difference_row, integer_row, is_object, is_void, may_meet, row_of};
+ghost use Rattle.c_rules.specs.Rows.{shift_row, sum_row};
 
 use crate::class::{Class, Target};
 use c_tree::OffsetForm;

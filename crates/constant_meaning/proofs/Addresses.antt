@@ -7,17 +7,22 @@ use Rattle.obj_memory.specs.Judgement.{moved, narrowed}
 use Rattle.c_tree.specs.declared.expression.Kind.{Kind}
 use Rattle.c_tree.specs.declared.expression.Kind.TheVariants as kind
 use Rattle.c_tree.specs.declared.expression.OffsetForm.{OffsetForm}
-use Rattle.c_tree.specs.declared.expression.OffsetForm.TheVariants.{PointerPlusIndex, IndexPlusPointer, PointerMinusIndex}
-use Rattle.c_tree.specs.Tree.{Expression, expression, Node, function, decay, address, parenthesized, deref_function, address_function, cast, convert, offset_by, Lvalue, lvalue, LvalueNode, static, deref, index, member, arrow, parenthesized_lvalue, kind_of}
+use Rattle.c_tree.specs.declared.expression.OffsetForm.TheVariants.{PointerPlusIndex, IndexPlusPointer}
+use Rattle.c_tree.specs.declared.expression.OffsetForm.TheVariants.{PointerMinusIndex}
+use Rattle.c_tree.specs.Tree.{Expression, expression, Node, function, decay, address, parenthesized, deref_function}
+use Rattle.c_tree.specs.Tree.{address_function, cast, convert, offset_by, Lvalue, lvalue, LvalueNode, static, deref}
+use Rattle.c_tree.specs.Tree.{index, member, arrow, parenthesized_lvalue, kind_of}
 use Rattle.c_const.specs.Integers.{constant_word}
-use Rattle.c_const.specs.Addresses.{Pointers, untagged, forward, back, to_pointer, address_of, node_address, designated, node_designated, place_of, node_place as place_in}
+use Rattle.c_const.specs.Addresses.{Pointers, untagged, forward, back, to_pointer, address_of, node_address, designated}
+use Rattle.c_const.specs.Addresses.{node_designated, place_of, node_place as place_in}
 use Rattle.source_meaning.specs.State.{Env, State, Rvalue, Run, ◌>>=◌}
 use Rattle.source_meaning.specs.Actions.{integer, converted, offset_value}
 use Rattle.source_meaning.specs.Structures.{give}
 use Rattle.source_meaning.specs.Expressions.{evaluate, value, place, node_place, function_pointer}
 use Rattle.source_meaning.specs.Acting.{at_work}
 use Rattle.constant_meaning.specs.Finding.{Finds, PointTo}
-use Rattle.constant_meaning.proofs.Steps.{finds_on, finds_counted, finds_give, finds_read, finds_same, finds_pointer, some_injective, mapped}
+use Rattle.constant_meaning.proofs.Steps.{finds_on, finds_counted, finds_give, finds_read, finds_same, finds_pointer}
+use Rattle.constant_meaning.proofs.Steps.{some_injective, mapped}
 use Rattle.constant_meaning.proofs.Integers.{constant_finds}
 
 -- a pointer and an index that are both known
@@ -48,7 +53,8 @@ record IsPointer (k : Kind) (w : Option ℕ) (p : Option Value) (v : Value) : Ty
   is_from : ((n : ℕ) × (w ≡ Some n) × (integer n ≡ from)) ⊎ (p ≡ Some from)
   to : converted k from ≡ v
 
-is_pointer : (to from : Kind) (w : Option ℕ) (p : Option Value) (v : Value) → to_pointer to from w p ≡ Some v → IsPointer to w p v
+is_pointer : (to from : Kind) (w : Option ℕ) (p : Option Value) (v : Value) → to_pointer to from w p ≡ Some v
+    → IsPointer to w p v
 is_pointer (kind.Scalar Pointer) (kind.Scalar (Integer t)) w p v e =
     let m = mapped untagged w v e in record { from = v; is_from = inl (m.from, m.is_from, m.to); to = refl }
 is_pointer (kind.Scalar Pointer) (kind.Scalar Pointer) w p v e = record { from = v; is_from = inr e; to = refl }
@@ -73,13 +79,15 @@ module _ (env : Env) (ps : Pointers) where
 
   -- a pointer and an index in the order of their form
   abbrev offset_run : OffsetForm → (size : ℕ) → (a b : Expression) → Run Rvalue
-  offset_run form size a b = evaluate env a >>= (λ x. evaluate env b >>= (λ y. give (offset_value form size x.value y.value)))
+  offset_run form size a b = evaluate env a
+      >>= (λ x. evaluate env b >>= (λ y. give (offset_value form size x.value y.value)))
 
   pointer_first : (size : ℕ) (a b : Expression) (v : Value) (s : State) → Found s a
       → forward size (address_of ps a) (constant_word b) ≡ Some v → Finds (offset_run PointerPlusIndex size a b) v s
   pointer_first size a b v s ih h =
       let m = moves_forward size (address_of ps a) (constant_word b) v h in
-      finds_on _ (ih m.pointer m.is_pointer) (finds_on _ (constant_finds env b m.index _ m.is_index) (finds_same m.to (finds_give _ _)))
+      finds_on _ (ih m.pointer m.is_pointer)
+      (finds_on _ (constant_finds env b m.index _ m.is_index) (finds_same m.to (finds_give _ _)))
 
   pointer_second : (size : ℕ) (a b : Expression) (v : Value) (s : State) → ((k : ℕ) → Found (at_work k s) b)
       → forward size (address_of ps b) (constant_word a) ≡ Some v → Finds (offset_run IndexPlusPointer size a b) v s
@@ -92,15 +100,19 @@ module _ (env : Env) (ps : Pointers) where
       → back size (address_of ps a) (constant_word b) ≡ Some v → Finds (offset_run PointerMinusIndex size a b) v s
   pointer_minus size a b v s ih h =
       let m = moves_back size (address_of ps a) (constant_word b) v h in
-      finds_on _ (ih m.pointer m.is_pointer) (finds_on _ (constant_finds env b m.index _ m.is_index) (finds_same m.to (finds_give _ _)))
+      finds_on _ (ih m.pointer m.is_pointer)
+      (finds_on _ (constant_finds env b m.index _ m.is_index) (finds_same m.to (finds_give _ _)))
 
   mutual
-    pub address_finds : (e : Expression) (v : Value) (s : State) → PointTo ps s.objects → address_of ps e ≡ Some v → Finds (evaluate env e) v s
+    pub address_finds : (e : Expression) (v : Value) (s : State) → PointTo ps s.objects → address_of ps e ≡ Some v
+        → Finds (evaluate env e) v s
     address_finds (expression k line n) v s t h = node_finds k line n v s t h
 
-    node_finds : (k : Kind) (line : ℕ) (n : Node) (v : Value) (s : State) → PointTo ps s.objects → node_address ps k n ≡ Some v
+    node_finds : (k : Kind) (line : ℕ) (n : Node) (v : Value) (s : State) → PointTo ps s.objects
+        → node_address ps k n ≡ Some v
         → Finds (value env n k line) v s
-    node_finds k line (function f) v s t h = finds_counted (finds_same (sym (t.functions f v h)) (finds_give (function_pointer f) _))
+    node_finds k line (function f) v s t h = finds_counted
+        (finds_same (sym (t.functions f v h)) (finds_give (function_pointer f) _))
     node_finds k line (decay p) v s t h = finds_pointer (place_finds p v s t h)
     node_finds k line (address p) v s t h = finds_counted (finds_pointer (place_finds p v _ t h))
     node_finds k line (parenthesized e) v s t h = finds_counted (address_finds e v _ t h)
@@ -115,7 +127,8 @@ module _ (env : Env) (ps : Pointers) where
         finds_counted (pointer_minus size a b v _ (λ x g. address_finds a x _ t g) h)
     node_finds k line n v s t h = absurd cc
 
-    designated_finds : (e : Expression) (v : Value) (s : State) → PointTo ps s.objects → designated ps e ≡ Some v → Finds (evaluate env e) v s
+    designated_finds : (e : Expression) (v : Value) (s : State) → PointTo ps s.objects → designated ps e ≡ Some v
+        → Finds (evaluate env e) v s
     designated_finds (expression k line n) v s t h = node_designated_finds k line n v s t h
 
     node_designated_finds : (k : Kind) (line : ℕ) (n : Node) (v : Value) (s : State) → PointTo ps s.objects
@@ -126,12 +139,14 @@ module _ (env : Env) (ps : Pointers) where
     node_designated_finds k line (deref_function e) v s t h = finds_counted (finds_pointer (address_finds e v _ t h))
     node_designated_finds k line n v s t h = absurd cc
 
-    place_finds : (p : Lvalue) (v : Value) (s : State) → PointTo ps s.objects → place_of ps p ≡ Some v → Finds (place env p) v s
+    place_finds : (p : Lvalue) (v : Value) (s : State) → PointTo ps s.objects → place_of ps p ≡ Some v
+        → Finds (place env p) v s
     place_finds (lvalue k line n) v s t h = node_place_finds n v s t h
 
     node_place_finds : (n : LvalueNode) (v : Value) (s : State) → PointTo ps s.objects → place_in ps n ≡ Some v
         → Finds (node_place env n) v s
-    node_place_finds (static n) v s t h = finds_counted (finds_same (sym (t.statics n v h)) (finds_read (λ s. pointer_to n s.objects) _))
+    node_place_finds (static n) v s t h = finds_counted
+        (finds_same (sym (t.statics n v h)) (finds_read (λ s. pointer_to n s.objects) _))
     node_place_finds (deref e) v s t h = finds_counted (finds_pointer (address_finds e v _ t h))
     node_place_finds (index PointerPlusIndex size a b) v s t h =
         finds_counted (pointer_first size a b v _ (λ x g. address_finds a x _ t g) h)

@@ -7,15 +7,18 @@ use Rattle.obj_memory.specs.Operators.{one_if, unary_value, binary_value}
 use Rattle.c_tree.specs.declared.expression.Kind.{Kind}
 use Rattle.c_tree.specs.declared.expression.Kind.TheVariants as kind
 use Rattle.c_tree.specs.Kinds.{is_integer}
-use Rattle.c_tree.specs.Tree.{Expression, expression, Node, constant, parenthesized, cast, convert, unary, binary, logical_and, logical_or, conditional, kind_of}
-use Rattle.c_const.specs.Integers.{type_of, has_form, node_has_form, with_value, truth, value_of, node_value, constant_word}
+use Rattle.c_tree.specs.Tree.{Expression, expression, Node, constant, parenthesized, cast, convert, unary, binary}
+use Rattle.c_tree.specs.Tree.{logical_and, logical_or, conditional, kind_of}
+use Rattle.c_const.specs.Integers.{type_of, has_form, node_has_form, with_value, truth, value_of, node_value}
+use Rattle.c_const.specs.Integers.{constant_word}
 use Rattle.source_meaning.specs.State.{Env, State, Rvalue, Run, ◌>>=◌, choose}
 use Rattle.source_meaning.specs.Actions.{integer, is_zero, scalar_of, integer_type, converted}
 use Rattle.source_meaning.specs.Structures.{give}
 use Rattle.source_meaning.specs.Expressions.{evaluate, value}
 use Rattle.source_meaning.specs.Acting.{at_work}
 use Rattle.constant_meaning.specs.Finding.{Finds}
-use Rattle.constant_meaning.proofs.Steps.{finds_on, finds_counted, finds_give, finds_same, finds_quotient, both, follows, mapped, some_injective}
+use Rattle.constant_meaning.proofs.Steps.{finds_on, finds_counted, finds_give, finds_same, finds_quotient, both}
+use Rattle.constant_meaning.proofs.Steps.{follows, mapped, some_injective}
 
 -- operators see an operand at the same type
 same_type : (k : Kind) → type_of k ≡ integer_type (scalar_of k)
@@ -72,7 +75,8 @@ or_finds : (b : Bool) (env : Env) (e : Expression) (w : ℕ) (s : State) → IsF
 or_finds true env e w s ih h = tested_finds env e w s ih h
 or_finds false env e w s ih h = finds_same (ap integer (some_injective h)) (finds_give (integer 1) s)
 
-either_finds : (b : Bool) (env : Env) (first second : Expression) (w : ℕ) (s : State) → IsFound env first → IsFound env second
+either_finds : (b : Bool) (env : Env) (first second : Expression) (w : ℕ) (s : State) → IsFound env first
+    → IsFound env second
     → (if b then value_of second else value_of first) ≡ Some w
     → Finds (choose b (evaluate env second) (evaluate env first)) (integer w) s
 either_finds true env first second w s ih ih' h = ih' w s h
@@ -85,7 +89,8 @@ mutual
 
   node_finds : (env : Env) (k : Kind) (line : ℕ) (n : Node) → is_integer k ≡ true → node_has_form n ≡ true
       → (w : ℕ) (s : State) → node_value k n ≡ Some w → Finds (value env n k line) (integer w) s
-  node_finds env k line (constant x) i f w s v = finds_counted (finds_same (ap integer (some_injective v)) (finds_give (integer x) _))
+  node_finds env k line (constant x) i f w s v = finds_counted
+      (finds_same (ap integer (some_injective v)) (finds_give (integer x) _))
   node_finds env k line (parenthesized e) i f w s v = finds_counted (form_finds env e f w _ v)
   node_finds env k line (cast e) i f w s v =
       let m = mapped (fit (type_of k)) (value_of e) w v in
@@ -106,8 +111,10 @@ mutual
       let x = follows (value_of a) (λ x. with_value (value_of b) (binary_value op t x)) w v in
       let y = follows (value_of b) (binary_value op t x.first) w x.then in
       let same = ap (λ t. binary_value op t x.first y.first) (sym (same_type (kind_of a))) in
-      finds_counted (finds_on _ (form_finds env a fs.0 x.first _ x.is_first) (finds_on _ (form_finds env b fs.1 y.first _ y.is_first)
-      (finds_quotient (binary_value op (integer_type (scalar_of (kind_of a))) x.first y.first) w line _ (same ∙ y.then))))
+      finds_counted (finds_on _ (form_finds env a fs.0 x.first _ x.is_first)
+      (finds_on _ (form_finds env b fs.1 y.first _ y.is_first)
+      (finds_quotient (binary_value op (integer_type (scalar_of (kind_of a))) x.first y.first) w line _
+      (same ∙ y.then))))
   node_finds env k line (logical_and a b) i f w s v =
       let fs = both (has_form a) (has_form b) f in
       let x = follows (value_of a) (λ x. if x == 0 then Some 0 else truth (value_of b)) w v in
@@ -134,5 +141,6 @@ pub constant_is : (e : Expression) (w : ℕ) → constant_word e ≡ Some w → 
 unfolding constant_word
 constant_is e w h = constant_cases (has_form e) (value_of e) w h
 
-pub constant_finds : (env : Env) (e : Expression) (w : ℕ) (s : State) → constant_word e ≡ Some w → Finds (evaluate env e) (integer w) s
+pub constant_finds : (env : Env) (e : Expression) (w : ℕ) (s : State) → constant_word e ≡ Some w
+    → Finds (evaluate env e) (integer w) s
 constant_finds env e w s h = let c = constant_is e w h in form_finds env e c.0 w s c.1

@@ -7,14 +7,20 @@ use Rattle.obj_memory.specs.declared.value.Value.{Value}
 use Rattle.obj_memory.specs.Judgement.{narrowed}
 use Rattle.c_tree.specs.declared.expression.Kind.{Kind}
 use Rattle.c_tree.specs.declared.expression.Kind.TheVariants as kind
-use Rattle.c_tree.specs.declared.expression.OffsetForm.TheVariants.{PointerPlusIndex, IndexPlusPointer, PointerMinusIndex}
+use Rattle.c_tree.specs.declared.expression.OffsetForm.TheVariants.{PointerPlusIndex, IndexPlusPointer}
+use Rattle.c_tree.specs.declared.expression.OffsetForm.TheVariants.{PointerMinusIndex}
 use Rattle.c_tree.specs.Kinds.{is_integer}
-use Rattle.c_tree.specs.Tree.{Expression, expression, Node, constant, function, decay, address, parenthesized, deref_function, address_function, cast, convert, unary, binary, offset_by, logical_and, logical_or, conditional, Lvalue, lvalue, LvalueNode, static, deref, index, member, arrow, parenthesized_lvalue, kind_of, line_of}
+use Rattle.c_tree.specs.Tree.{Expression, expression, Node, constant, function, decay, address, parenthesized}
+use Rattle.c_tree.specs.Tree.{deref_function, address_function, cast, convert, unary, binary, offset_by, logical_and}
+use Rattle.c_tree.specs.Tree.{logical_or, conditional, Lvalue, lvalue, LvalueNode, static, deref, index, member, arrow}
+use Rattle.c_tree.specs.Tree.{parenthesized_lvalue, kind_of, line_of}
 use Rattle.c_tree.specs.Statements.{Content, value_content, literal_content, Part}
-use Rattle.c_tree.specs.Walk.{any_of, walk_lvalue, walk_operands, walk_lvalue_operands, names_made, names_itself, names_variable, visited, visited_lvalue}
+use Rattle.c_tree.specs.Walk.{any_of, walk_lvalue, walk_operands, walk_lvalue_operands, names_made, names_itself}
+use Rattle.c_tree.specs.Walk.{names_variable, visited, visited_lvalue}
 use Rattle.c_tree.specs.ValidProgram.{content_names_variable, name_variables}
 use Rattle.c_const.specs.Integers.{has_form, node_has_form, constant_word}
-use Rattle.c_const.specs.Addresses.{Pointers, untagged, to_pointer, address_of, node_address, designated, node_designated, place_of, node_place}
+use Rattle.c_const.specs.Addresses.{Pointers, untagged, to_pointer, address_of, node_address, designated}
+use Rattle.c_const.specs.Addresses.{node_designated, place_of, node_place}
 use Rattle.c_const.specs.Contents.{Contents, constant_in, with_content, with_parts}
 use Rattle.constant_meaning.proofs.Steps.{both, mapped}
 use Rattle.constant_meaning.proofs.Integers.{constant_is}
@@ -36,15 +42,19 @@ mutual
   form_unnamed : (e : Expression) → has_form e ≡ true → names_variable e ≡ false
   form_unnamed (expression k line n) f = node_unnamed k n (both (is_integer k) (node_has_form n) f).1
 
-  node_unnamed : (k : Kind) (n : Node) → node_has_form n ≡ true → (names_itself (visited k n) || any_of (walk_operands names_made n)) ≡ false
+  node_unnamed : (k : Kind) (n : Node) → node_has_form n ≡ true
+      → (names_itself (visited k n) || any_of (walk_operands names_made n)) ≡ false
   node_unnamed k (constant w) f = refl
   node_unnamed k (parenthesized e) f = one (form_unnamed e f)
   node_unnamed k (cast e) f = one (form_unnamed e f)
   node_unnamed k (convert e) f = one (form_unnamed e f)
   node_unnamed k (unary op e) f = one (form_unnamed e f)
-  node_unnamed k (binary op a b) f = let fs = both (has_form a) (has_form b) f in two (form_unnamed a fs.0) (form_unnamed b fs.1)
-  node_unnamed k (logical_and a b) f = let fs = both (has_form a) (has_form b) f in two (form_unnamed a fs.0) (form_unnamed b fs.1)
-  node_unnamed k (logical_or a b) f = let fs = both (has_form a) (has_form b) f in two (form_unnamed a fs.0) (form_unnamed b fs.1)
+  node_unnamed k (binary op a b) f = let fs = both (has_form a) (has_form b) f in two (form_unnamed a fs.0)
+      (form_unnamed b fs.1)
+  node_unnamed k (logical_and a b) f = let fs = both (has_form a) (has_form b) f in two (form_unnamed a fs.0)
+      (form_unnamed b fs.1)
+  node_unnamed k (logical_or a b) f = let fs = both (has_form a) (has_form b) f in two (form_unnamed a fs.0)
+      (form_unnamed b fs.1)
   node_unnamed k (conditional c a b) f =
       let fs = both (has_form c) (has_form a && has_form b) f in
       let gs = both (has_form a) (has_form b) fs.1 in
@@ -55,7 +65,8 @@ constant_unnamed : (e : Expression) (w : ℕ) → constant_word e ≡ Some w →
 constant_unnamed e w h = form_unnamed e (constant_is e w h).0
 
 module _ (ps : Pointers) where
-  converted_unnamed : (to from : Kind) (e : Expression) (v : Value) → ((x : Value) → address_of ps e ≡ Some x → names_variable e ≡ false)
+  converted_unnamed : (to from : Kind) (e : Expression) (v : Value)
+      → ((x : Value) → address_of ps e ≡ Some x → names_variable e ≡ false)
       → to_pointer to from (constant_word e) (address_of ps e) ≡ Some v → names_variable e ≡ false
   converted_unnamed (kind.Scalar Pointer) (kind.Scalar (Integer t)) e v ih h =
       let m = mapped untagged (constant_word e) v h in constant_unnamed e m.from m.is_from
@@ -119,18 +130,23 @@ module _ (ps : Pointers) where
     node_place_unnamed k (parenthesized_lvalue p) v h = one (place_unnamed p v h)
     node_place_unnamed k n v h = absurd cc
 
-  value_unnamed : (k : Kind) (e : Expression) (c : Scalar × Value) → constant_in ps k e ≡ Some c → names_variable e ≡ false
+  value_unnamed : (k : Kind) (e : Expression) (c : Scalar × Value) → constant_in ps k e ≡ Some c
+      → names_variable e ≡ false
   value_unnamed (kind.Scalar (Integer t)) e c h =
-      let m = mapped (λ w. let r : Scalar × Value = (Integer t, untagged w) in r) (constant_word e) c h in constant_unnamed e m.from m.is_from
+      let m = mapped (λ w. let r : Scalar × Value = (Integer t, untagged w) in r) (constant_word e) c h in
+      constant_unnamed e m.from m.is_from
   value_unnamed (kind.Scalar Pointer) e c h =
-      let m = mapped (λ v. let r : Scalar × Value = (Pointer, v) in r) (address_of ps e) c h in address_unnamed e m.from m.is_from
+      let m = mapped (λ v. let r : Scalar × Value = (Pointer, v) in r) (address_of ps e) c h in address_unnamed e
+      m.from m.is_from
   value_unnamed kind.Void e c h = absurd cc
   value_unnamed (kind.Structure size) e c h = absurd cc
   value_unnamed (kind.Array size) e c h = absurd cc
 
-  content_unnamed : (offset : ℕ) (content : Content) (c d : Contents) → with_content ps offset content c ≡ Ok d → content_names_variable content ≡ false
+  content_unnamed : (offset : ℕ) (content : Content) (c d : Contents) → with_content ps offset content c ≡ Ok d
+      → content_names_variable content ≡ false
   content_unnamed offset (value_content e) c d h =
-      let i = is_stored offset (line_of e) (constant_in ps (kind_of e) e) c d h in value_unnamed (kind_of e) e i.constant i.is_constant
+      let i = is_stored offset (line_of e) (constant_in ps (kind_of e) e) c d h in value_unnamed (kind_of e) e
+      i.constant i.is_constant
   content_unnamed offset (literal_content bytes) c d h = refl
 
   pub parts_unnamed : (qs : List Part) (c d : Contents) → with_parts ps qs c ≡ Ok d → name_variables qs ≡ false

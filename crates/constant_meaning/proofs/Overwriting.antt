@@ -1,14 +1,17 @@
 -- Lists with other elements from a place on.
-use Rattle.std.proofs.Common.{◌≡◌, ℕ, suc, ◌+◌, ◌-◌, ◌<◌, ◌≤◌, List, [], ◌∷◌, length, get_or, ap, sym, ◌∙◌, ◌⊎◌, inl, inr, arith}
+use Rattle.std.proofs.Common.{◌≡◌, ℕ, suc, ◌+◌, ◌-◌, ◌<◌, ◌≤◌, List, [], ◌∷◌, length, get_or, ap, sym, ◌∙◌, ◌⊎◌, inl}
+use Rattle.std.proofs.Common.{inr, arith}
 use Rattle.std.proofs.lemmas.Bool.{cases_lt}
 use Rattle.std.proofs.lemmas.List.{ext_get_or}
 use Rattle.std.proofs.lemmas.Grind.{common_steps}
 use Rattle.obj_memory.specs.Access.{overwrite}
 
-pub length_overwrite : (k : ℕ) (new old : List ℕ) → k + length new ≤ length old → length (overwrite k new old) ≡ length old
+pub length_overwrite : (k : ℕ) (new old : List ℕ) → k + length new ≤ length old
+    → length (overwrite k new old) ≡ length old
 length_overwrite k new old h = grind (arith, common_steps)
 
-before : (k : ℕ) (new old : List ℕ) (i : ℕ) → k + length new ≤ length old → i < k → get_or (overwrite k new old) i 0 ≡ get_or old i 0
+before : (k : ℕ) (new old : List ℕ) (i : ℕ) → k + length new ≤ length old → i < k
+    → get_or (overwrite k new old) i 0 ≡ get_or old i 0
 before k new old i h lt = grind (arith, common_steps)
 
 within : (k : ℕ) (new old : List ℕ) (i : ℕ) → k + length new ≤ length old → i < length new
@@ -48,12 +51,14 @@ module _ (k b : ℕ) (bs old : List ℕ) (fits : k + 1 + length bs ≤ length ol
       ∙ within_at k (b ∷ []) old 0 j (omega (arith, fits)) (omega arith) (omega (arith, e))
       ∙ sym (within_at k (b ∷ bs) old 0 j (omega (arith, fits)) (omega arith) (omega (arith, e)))
 
-  same_within : (i j : ℕ) → i < length bs → j ≡ k + 1 + i → get_or (overwrite (k + 1) bs first) j 0 ≡ get_or (overwrite k (b ∷ bs) old) j 0
+  same_within : (i j : ℕ) → i < length bs → j ≡ k + 1 + i
+      → get_or (overwrite (k + 1) bs first) j 0 ≡ get_or (overwrite k (b ∷ bs) old) j 0
   same_within i j lt e =
       within_at (k + 1) bs first i j (omega (arith, fits, long)) lt (omega (arith, e))
       ∙ sym (within_at k (b ∷ bs) old (suc i) j (omega (arith, fits)) (omega (arith, lt)) (omega (arith, e)))
 
-  same_behind : (j : ℕ) → k + 1 + length bs ≤ j → get_or (overwrite (k + 1) bs first) j 0 ≡ get_or (overwrite k (b ∷ bs) old) j 0
+  same_behind : (j : ℕ) → k + 1 + length bs ≤ j
+      → get_or (overwrite (k + 1) bs first) j 0 ≡ get_or (overwrite k (b ∷ bs) old) j 0
   same_behind j le =
       behind (k + 1) bs first j (omega (arith, fits, long)) (omega (arith, le))
       ∙ behind k (b ∷ []) old j (omega (arith, fits)) (omega (arith, le))
@@ -71,4 +76,5 @@ module _ (k b : ℕ) (bs old : List ℕ) (fits : k + 1 + length bs ≤ length ol
   same_at j (inr le) (inr past) = same_from j past (cases_lt j (k + 1 + length bs))
 
   pub more_elements : overwrite (k + 1) bs (overwrite k (b ∷ []) old) ≡ overwrite k (b ∷ bs) old
-  more_elements = ext_get_or 0 (overwrite (k + 1) bs first) (overwrite k (b ∷ bs) old) sizes (λ j lt. same_at j (cases_lt j k) (cases_lt j (k + 1)))
+  more_elements = ext_get_or 0 (overwrite (k + 1) bs first) (overwrite k (b ∷ bs) old) sizes
+      (λ j lt. same_at j (cases_lt j k) (cases_lt j (k + 1)))

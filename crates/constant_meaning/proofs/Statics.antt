@@ -1,5 +1,6 @@
 -- The static objects of a program whose initializers are constant.
-use Rattle.std.proofs.Common.{◌≡◌, ℕ, zero, suc, ◌+◌, ◌/◌, ◌<◌, ◌≤◌, ◌^◌, List, [], ◌∷◌, length, replicate, Bool, true, false, Some, Ok, refl, ap, sym, subst, ◌∙◌, arith}
+use Rattle.std.proofs.Common.{◌≡◌, ℕ, zero, suc, ◌+◌, ◌/◌, ◌<◌, ◌≤◌, ◌^◌, List, [], ◌∷◌, length, replicate, Bool, true}
+use Rattle.std.proofs.Common.{false, Some, Ok, refl, ap, sym, subst, ◌∙◌, arith}
 use Rattle.std.specs.Prelude.{slice_get}
 use Rattle.std.proofs.lemmas.List.{length-replicate}
 use Rattle.addr_map.specs.Places.{AreMapped, region_start}
@@ -16,7 +17,8 @@ use Rattle.c_const.specs.Contents.{Contents, zero_contents, with_parts, initial_
 use Rattle.source_meaning.specs.State.{Env, State, Run, Gives, on, choose, skip}
 use Rattle.source_meaning.specs.Initializers.{store_parts}
 use Rattle.source_meaning.specs.Places.{statics_first}
-use Rattle.source_meaning.specs.Meaning.{placed_statics, statics_end, setting_of, fresh, static_env, store_statics, objects_after, initial_objects}
+use Rattle.source_meaning.specs.Meaning.{placed_statics, statics_end, setting_of, fresh, static_env, store_statics}
+use Rattle.source_meaning.specs.Meaning.{objects_after, initial_objects}
 use Rattle.constant_meaning.specs.Finding.{PointTo}
 use Rattle.constant_meaning.specs.Leaving.{IsConstant, AreConstant}
 use Rattle.constant_meaning.proofs.Changes.{contents_of, Changed}
@@ -40,7 +42,8 @@ starts_zero o s h =
     let tags = h.tags in
     cc
 
-chosen : (b : Bool) (r : Run (Unit {0})) (n : ℕ) (c : Contents) (s : State) → b ≡ false → Leaves r n c s → Leaves (choose b skip r) n c s
+chosen : (b : Bool) (r : Run (Unit {0})) (n : ℕ) (c : Contents) (s : State) → b ≡ false → Leaves r n c s
+    → Leaves (choose b skip r) n c s
 chosen true r n c s e h = absurd cc
 chosen false r n c s e h = h
 
@@ -59,7 +62,8 @@ object_leaves ps env n o c s h placed made at =
     let low = placed.low in
     let starts : with_parts ps o.parts (contents_of (object_at s.objects n)) ≡ Ok c =
     ap (with_parts ps o.parts) (starts_zero o (object_at s.objects n) placed) ∙ leaves_of ps o c h.leaves in
-    chosen (name_variables o.parts) _ n c s (parts_unnamed ps o.parts (contents_of (object_at s.objects n)) c starts) (parts_leave ps env n (pointer_to n s.objects) (size_of_kind o.kind) o.parts s c refl
+    chosen (name_variables o.parts) _ n c s (parts_unnamed ps o.parts (contents_of (object_at s.objects n)) c starts)
+    (parts_leave ps env n (pointer_to n s.objects) (size_of_kind o.kind) o.parts s c refl
     (record { made = made; low = omega (arith, low, size); pointers = at }) h.bytes size h.inside starts)
 
 -- what is left of all objects from a number on: those before it stay, and each has its contents
@@ -69,7 +73,8 @@ record AllLeft (r : Run (Unit {0})) (n : ℕ) (cs : List Contents) (s : State) :
   before : (m : ℕ) → m < n → object_at after.objects m ≡ object_at s.objects m
   own : (k : ℕ) (c : Contents) → slice_get cs k ≡ Some c → contents_of (object_at after.objects (n + k)) ≡ c
 
-still_placed : (first n : ℕ) (os : List StaticObject) (c : Contents) (old new : Objects) → n < first → Changed n c old new
+still_placed : (first n : ℕ) (os : List StaticObject) (c : Contents) (old new : Objects) → n < first
+    → Changed n c old new
     → ArePlaced first os old → ArePlaced first os new
 still_placed first n [] c old new lt h placed = tt
 still_placed first n (o ∷ os) c old new lt h placed =
@@ -79,7 +84,8 @@ still_placed first n (o ∷ os) c old new lt h placed =
 some_same : (c d : Contents) → Some c ≡ Some d → c ≡ d
 some_same c d e = cc
 
-statics_leave : (ps : Pointers) (env : Env) (n : ℕ) (os : List StaticObject) (cs : List Contents) (s : State) → AreConstant ps os cs
+statics_leave : (ps : Pointers) (env : Env) (n : ℕ) (os : List StaticObject) (cs : List Contents) (s : State)
+    → AreConstant ps os cs
     → ArePlaced n os s.objects → n + length os ≤ length s.objects → PointTo ps s.objects
     → AllLeft (store_statics env n os) n cs s
 statics_leave ps env n [] [] s h placed made at = record {
@@ -100,7 +106,8 @@ statics_leave ps env n (o ∷ os) (c ∷ cs) s h placed made at =
     let next : n + 1 ≡ suc n = omega arith in
     let rest : AllLeft (store_statics env (n + 1) os) (n + 1) cs first.after =
     statics_leave ps env (n + 1) os cs first.after h.1
-    (subst (λ i. ArePlaced i os first.after.objects) (sym next) (still_placed (suc n) n os c s.objects first.after.objects (omega arith) first.changed placed.1))
+    (subst (λ i. ArePlaced i os first.after.objects) (sym next)
+    (still_placed (suc n) n os c s.objects first.after.objects (omega arith) first.changed placed.1))
     (omega (arith, made, count)) (pointers_stay first.changed at) in
     record {
       after = rest.after;
@@ -109,9 +116,11 @@ statics_leave ps env n (o ∷ os) (c ∷ cs) s h placed made at =
       own = own_of first rest;
     }
   where
-    own_of : (first : Leaves (choose (name_variables o.parts) skip (store_parts env (pointer_to n s.objects) o.parts)) n c s)
+    own_of : (first : Leaves (choose (name_variables o.parts) skip (store_parts env (pointer_to n s.objects) o.parts)) n
+        c s)
         → (rest : AllLeft (store_statics env (n + 1) os) (n + 1) cs first.after)
-        → (k : ℕ) (d : Contents) → slice_get (c ∷ cs) k ≡ Some d → contents_of (object_at rest.after.objects (n + k)) ≡ d
+        → (k : ℕ) (d : Contents) → slice_get (c ∷ cs) k ≡ Some d
+        → contents_of (object_at rest.after.objects (n + k)) ≡ d
     own_of first rest zero d e =
         let same : n + 0 ≡ n = omega arith in
         ap (λ i. contents_of (object_at rest.after.objects i)) same ∙ ap contents_of (rest.before n (omega arith))
@@ -126,7 +135,8 @@ ends : (os : List StaticObject) (offset : ℕ) → offset ≤ statics_end os off
 ends [] offset = omega arith
 ends (o ∷ os) offset = let rest = ends os (rounded_up 16 offset + size_of_kind o.kind) in omega (arith, rest)
 
-is_new : (o : StaticObject) (address : ℕ) → address + size_of_kind o.kind ≤ 2 ^ 64 → IsPlaced o (new_object Static address (size_of_kind o.kind))
+is_new : (o : StaticObject) (address : ℕ) → address + size_of_kind o.kind ≤ 2 ^ 64
+    → IsPlaced o (new_object Static address (size_of_kind o.kind))
 unfolding new_object
 is_new o address low = record { bytes = refl; tags = refl; low = low }
 
@@ -157,7 +167,8 @@ statics_low p budgets mapped = let globals = mapped.globals in omega (arith, glo
 abbrev pub placed_of : Program → BudgetSizes → Objects
 placed_of p budgets = placed_statics (statics_first (setting_of p budgets)) p.statics 0
 
-pub initial_contents_are : (p : Program) (budgets : BudgetSizes) (ps : Pointers) (cs : List Contents) → AreMapped (setting_of p budgets).sizes
+pub initial_contents_are : (p : Program) (budgets : BudgetSizes) (ps : Pointers) (cs : List Contents)
+    → AreMapped (setting_of p budgets).sizes
     → PointTo ps (placed_of p budgets) → AreConstant ps p.statics cs → (n : ℕ) (c : Contents) → slice_get cs n ≡ Some c
     → contents_of (object_at (initial_objects p (setting_of p budgets)) n) ≡ c
 initial_contents_are p budgets ps cs mapped at constant n c e =
@@ -166,7 +177,8 @@ initial_contents_are p budgets ps cs mapped at constant n c e =
     let count = count_placed (statics_first g) p.statics 0 in
     let left : AllLeft (store_statics (static_env g) 0 p.statics) 0 cs (fresh g placed []) =
     statics_leave ps (static_env g) 0 p.statics cs (fresh g placed []) constant
-    (are_behind (statics_first g) p.statics 0 0 placed (λ k. let same : 0 + k ≡ k = omega arith in ap (object_at placed) same) (statics_low p budgets mapped))
+    (are_behind (statics_first g) p.statics 0 0 placed
+    (λ k. let same : 0 + k ≡ k = omega arith in ap (object_at placed) same) (statics_low p budgets mapped))
     (omega (arith, count)) at in
     let same : n ≡ 0 + n = omega arith in
     ap (λ o. contents_of (object_at (objects_after placed o) n)) left.gives

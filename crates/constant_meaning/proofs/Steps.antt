@@ -16,7 +16,8 @@ pub finds_on : {r : Run Rvalue} (f : Rvalue → Run Rvalue) {v v' : Value} {s : 
     → (h : Finds r v s) → Finds (f (rvalue v)) v' (at_work h.work s) → Finds (r >>= f) v' s
 finds_on f h g = record { work = g.work; gives = ap (λ o. on o f) h.gives ∙ g.gives }
 
-pub finds_counted : {r : Run Rvalue} {v : Value} {s : State} → Finds r v (at_work (s.work + 1) s) → Finds (counted r) v s
+pub finds_counted : {r : Run Rvalue} {v : Value} {s : State} → Finds r v (at_work (s.work + 1) s)
+    → Finds (counted r) v s
 finds_counted h = record { work = h.work; gives = h.gives }
 
 pub finds_give : (v : Value) (s : State) → Finds (give v) v s
@@ -34,7 +35,8 @@ finds_pointer {v = v} {s = s} h = finds_on _ h (finds_give v (at_work h.work s))
 pub some_injective : {A : Type 0} {x y : A} → Some x ≡ Some y → x ≡ y
 some_injective e = cc
 
-pub finds_quotient : (o : Option ℕ) (w line : ℕ) (s : State) → o ≡ Some w → Finds (as_rvalue (value_or_divide o line)) (integer w) s
+pub finds_quotient : (o : Option ℕ) (w line : ℕ) (s : State) → o ≡ Some w
+    → Finds (as_rvalue (value_or_divide o line)) (integer w) s
 finds_quotient None w line s e = absurd cc
 finds_quotient (Some x) w line s e = finds_same (ap integer (some_injective e)) (finds_give (integer x) s)
 

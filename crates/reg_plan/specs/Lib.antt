@@ -1,0 +1,4 @@
+pub mod Effects
+pub mod Needs
+pub mod Flow
+pub mod Accepted

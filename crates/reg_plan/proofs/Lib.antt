@@ -1,3 +1,5 @@
 pub mod Flows
 pub mod Represents
 pub mod Ranges
+pub mod GivingOut
+pub mod Plans

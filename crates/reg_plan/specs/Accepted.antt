@@ -5,6 +5,7 @@ use Rattle.std.specs.Global.{Global}
 use Rattle.flat_meaning.specs.declared.instruction.FlatInstruction.{FlatInstruction}
 use Rattle.flat_meaning.specs.declared.function.FlatFunction.{FlatFunction}
 use Rattle.flat_meaning.specs.declared.function.FlatProgram.{FlatProgram}
+use Rattle.reg_plan.specs.declared.plan.TheConstants.{REGISTERS}
 use Rattle.reg_plan.specs.declared.plan.LiveInterval.{LiveInterval}
 use Rattle.reg_plan.specs.declared.plan.Place.{Place}
 use Rattle.reg_plan.specs.declared.plan.Place.TheVariants.{Register}
@@ -35,10 +36,6 @@ pub record AreClosed (p : FlatProgram) (f : ℕ) (body : List FlatInstruction) (
   pub made : (pc q y : ℕ) → LeadsAt body pc q → MakesAt p body pc y → IsLive plan q y
   pub rest : (pc q y : ℕ) → LeadsAt body pc q → IsLive plan q y → (MakesAt p body pc y → ⊥) → IsLive plan pc y
 
--- the number of registers that are given out
-abbrev pub register_count : ℕ
-register_count = 11
-
 -- the home of a virtual register is a word of the activation record behind the first, which has the return address
 pub record HasHome (f : FlatFunction) (y : ℕ) : Type 0 where
   pub word : ℕ
@@ -54,5 +51,5 @@ pub record IsAccepted (p : FlatProgram) (number : ℕ) (f : FlatFunction) (plan 
   pub registers : (pc x y r : ℕ) → pc < length f.body → IsLive plan pc x → IsLive plan pc y → slice_get plan.places.items x ≡ Some (Register r) → slice_get plan.places.items y ≡ Some (Register r) → x ≡ y
   pub inside : (pc y : ℕ) → pc < length f.body → IsLive plan pc y → HasHome f y
   pub places : (pc y : ℕ) → pc < length f.body → IsLive plan pc y → (place : Place) × (slice_get plan.places.items y ≡ Some place)
-  pub given : (pc y r : ℕ) → pc < length f.body → IsLive plan pc y → slice_get plan.places.items y ≡ Some (Register r) → r < register_count
+  pub given : (pc y r : ℕ) → pc < length f.body → IsLive plan pc y → slice_get plan.places.items y ≡ Some (Register r) → r < REGISTERS
   pub entry : (y : ℕ) → 0 < length f.body → IsLive plan 0 y → y < f.parameters

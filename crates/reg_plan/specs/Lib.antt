@@ -2,3 +2,5 @@ pub mod Effects
 pub mod Needs
 pub mod Flow
 pub mod Accepted
+pub mod Colours
+pub mod Planned

@@ -5,10 +5,12 @@
 //! is kept; it is accepted where no two that are live at one instruction are kept in one place (`specs/Accepted`).
 #![tactic(auto)]
 
+pub mod colouring;
 pub mod effects;
 pub mod flow;
 pub mod intervals;
 pub mod live;
 pub mod plan;
+pub mod planned;
 
 pub use crate::plan::{FunctionPlan, LiveInterval, Place, Plan};

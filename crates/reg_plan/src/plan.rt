@@ -7,12 +7,15 @@ pub struct LiveInterval {
     pub end: u32,
 }
 
+/// How many registers are given out: the saved registers s0 to s10, which are x8, x9 and x18 to x26 (RISC-V psABI).
+pub const REGISTERS: u32 = 11;
+
 /// Where the value of a virtual register is kept.
 #[derive(Clone, Copy)]
 pub enum Place {
     /// In its home, a word of the activation record.
     Home,
-    /// In the saved register with this number (RISC-V psABI, s0 to s11); s0 to s10 are given out: x8, x9 and x18 to x26.
+    /// In the saved register with this number, below `REGISTERS`.
     Register(u32),
 }
 

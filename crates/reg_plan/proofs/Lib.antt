@@ -3,3 +3,4 @@ pub mod Represents
 pub mod Ranges
 pub mod GivingOut
 pub mod Plans
+pub mod Exact

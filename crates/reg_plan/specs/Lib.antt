@@ -4,3 +4,4 @@ pub mod Flow
 pub mod Accepted
 pub mod Colours
 pub mod Planned
+pub mod Tests

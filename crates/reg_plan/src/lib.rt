@@ -5,6 +5,9 @@
 //! is kept; it is accepted where no two that are live at one instruction are kept in one place (`specs/Accepted`).
 #![tactic(auto)]
 
+pub mod accepts;
+pub mod apart;
+pub mod closed;
 pub mod colouring;
 pub mod effects;
 pub mod flow;

@@ -1,11 +1,13 @@
 -- Elements of lists by their places.
-use Rattle.std.proofs.Common.{◌≡◌, ℕ, zero, suc, ◌+◌, ◌<◌, ◌⊎◌, inl, inr, List, [], ◌∷◌, ◌++◌, length, get_or, Some, Bool, true, false, refl, sym, arith, not, if◌then◌else◌}
+use Rattle.std.proofs.Common.{◌≡◌, ℕ, zero, suc, ◌+◌, ◌<◌, ◌⊎◌, inl, inr, List, [], ◌∷◌, ◌++◌, length, get_or, Some}
+use Rattle.std.proofs.Common.{Bool, true, false, refl, sym, arith, not, if◌then◌else◌}
 use Rattle.std.specs.Prelude.{slice_get, slice_set, nat_eq}
 use Rattle.std.proofs.lemmas.Bool.{eq-eqb}
 use Rattle.data_flow.specs.NodeSets.{others}
 
 -- what stands in a list stands there when one more comes to its end
-pub at_front : {X : Type 0} (xs : List X) (y : X) (k : ℕ) (x : X) → slice_get xs k ≡ Some x → slice_get (xs ++ y ∷ []) k ≡ Some x
+pub at_front : {X : Type 0} (xs : List X) (y : X) (k : ℕ) (x : X) → slice_get xs k ≡ Some x
+    → slice_get (xs ++ y ∷ []) k ≡ Some x
 at_front [] y k x h = cc
 at_front (z ∷ zs) y zero x h = h
 at_front (z ∷ zs) y (suc k) x h = at_front zs y k x h
@@ -14,14 +16,16 @@ pub at_end : {X : Type 0} (xs : List X) (y : X) → slice_get (xs ++ y ∷ []) (
 at_end [] y = refl
 at_end (z ∷ zs) y = at_end zs y
 
-pub at_cases : {X : Type 0} (xs : List X) (y : X) (k : ℕ) (x : X) → slice_get (xs ++ y ∷ []) k ≡ Some x → (slice_get xs k ≡ Some x) ⊎ (x ≡ y)
+pub at_cases : {X : Type 0} (xs : List X) (y : X) (k : ℕ) (x : X) → slice_get (xs ++ y ∷ []) k ≡ Some x
+    → (slice_get xs k ≡ Some x) ⊎ (x ≡ y)
 at_cases [] y zero x h = inr (let e : y ≡ x = cc in sym e)
 at_cases [] y (suc k) x h = inl h
 at_cases (z ∷ zs) y zero x h = inl h
 at_cases (z ∷ zs) y (suc k) x h = at_cases zs y k x h
 
 -- how many numbers are others, when one is written
-pub others-set : (c : ℕ) (xs : List ℕ) (i : ℕ) → i < length xs → others c (slice_set xs i c) + (if not (nat_eq (get_or xs i 0) c) then 1 else 0) ≡ others c xs
+pub others-set : (c : ℕ) (xs : List ℕ) (i : ℕ) → i < length xs
+    → others c (slice_set xs i c) + (if not (nat_eq (get_or xs i 0) c) then 1 else 0) ≡ others c xs
 others-set c [] i lt = absurd (omega arith)
 others-set c (x ∷ xs) zero lt = rw (eq-eqb c c refl) (by (nat_eq x c))
   where
@@ -30,5 +34,7 @@ others-set c (x ∷ xs) zero lt = rw (eq-eqb c c refl) (by (nat_eq x c))
     by false = omega arith
 others-set c (x ∷ xs) (suc i) lt = by (others-set c xs i (omega arith))
   where
-    by : others c (slice_set xs i c) + (if not (nat_eq (get_or xs i 0) c) then 1 else 0) ≡ others c xs → ((if nat_eq x c then 0 else 1) + others c (slice_set xs i c)) + (if not (nat_eq (get_or xs i 0) c) then 1 else 0) ≡ (if nat_eq x c then 0 else 1) + others c xs
+    by : others c (slice_set xs i c) + (if not (nat_eq (get_or xs i 0) c) then 1 else 0) ≡ others c xs
+        → ((if nat_eq x c then 0 else 1) + others c (slice_set xs i c))
+        + (if not (nat_eq (get_or xs i 0) c) then 1 else 0) ≡ (if nat_eq x c then 0 else 1) + others c xs
     by h = omega (arith, h)

@@ -1,5 +1,6 @@
 -- Visits of nodes.
-use Rattle.std.proofs.Common.{◌≡◌, ◌≢◌, ℕ, ◌+◌, ◌⊎◌, inl, inr, ⊎_elim, List, [], ◌∷◌, ◌++◌, length, Some, Bool, true, false, not, refl, sym, ap, ◌∙◌, subst, arith, true≢false, if◌then◌else◌, length-append}
+use Rattle.std.proofs.Common.{◌≡◌, ◌≢◌, ℕ, ◌+◌, ◌⊎◌, inl, inr, ⊎_elim, List, [], ◌∷◌, ◌++◌, length, Some, Bool, true}
+use Rattle.std.proofs.Common.{false, not, refl, sym, ap, ◌∙◌, subst, arith, true≢false, if◌then◌else◌, length-append}
 use Rattle.std.specs.Prelude.{slice_get}
 use Rattle.std.proofs.lemmas.Bool.{cases_eq, cases_lt}
 use Rattle.data_flow.specs.declared.node_set.NodeSet.{NodeSet}
@@ -15,11 +16,14 @@ pub has_front : (xs : List ℕ) (y x : ℕ) → Has xs x → Has (xs ++ y ∷ []
 has_front xs y x h = (h.0, at_front xs y h.0 x h.1)
 
 -- a node that was not there
-pub visits_new : (s s' : NodeSet) (nodes nodes' : List ℕ) (v : ℕ) (new : Bool) → Lists s nodes → new ≡ not (is_in s v) → is_in s' v ≡ true → ((x : ℕ) → x ≢ v → is_in s' x ≡ is_in s x) → absent s' + (if new then 1 else 0) ≡ absent s → new ≡ true → nodes' ≡ nodes ++ v ∷ [] → Visits s s' nodes nodes' v
+pub visits_new : (s s' : NodeSet) (nodes nodes' : List ℕ) (v : ℕ) (new : Bool) → Lists s nodes → new ≡ not (is_in s v)
+    → is_in s' v ≡ true → ((x : ℕ) → x ≢ v → is_in s' x ≡ is_in s x) → absent s' + (if new then 1 else 0) ≡ absent s
+    → new ≡ true → nodes' ≡ nodes ++ v ∷ [] → Visits s s' nodes nodes' v
 visits_new s s' nodes nodes' v new l was here others fewer is e = record {
   lists = record {
     listed = λ k x h. ⊎_elim
-        (λ q. ⊎_elim (λ same. subst (λ z. is_in s' z ≡ true) (sym same) here) (λ ne. others x ne ∙ l.listed k x q) (cases_eq x v))
+        (λ q. ⊎_elim (λ same. subst (λ z. is_in s' z ≡ true) (sym same) here) (λ ne. others x ne ∙ l.listed k x q)
+        (cases_eq x v))
         (λ q. subst (λ z. is_in s' z ≡ true) (sym q) here)
         (at_cases nodes v k x (ap (λ xs. slice_get xs k) (sym e) ∙ h));
     all = λ x h. ⊎_elim
@@ -36,10 +40,14 @@ visits_new s s' nodes nodes' v new l was here others fewer is e = record {
 }
 
 -- a node that was there
-pub visits_old : (s s' : NodeSet) (nodes nodes' : List ℕ) (v : ℕ) (new : Bool) → Lists s nodes → new ≡ not (is_in s v) → is_in s' v ≡ true → ((x : ℕ) → x ≢ v → is_in s' x ≡ is_in s x) → absent s' + (if new then 1 else 0) ≡ absent s → new ≡ false → nodes' ≡ nodes → Visits s s' nodes nodes' v
+pub visits_old : (s s' : NodeSet) (nodes nodes' : List ℕ) (v : ℕ) (new : Bool) → Lists s nodes → new ≡ not (is_in s v)
+    → is_in s' v ≡ true → ((x : ℕ) → x ≢ v → is_in s' x ≡ is_in s x) → absent s' + (if new then 1 else 0) ≡ absent s
+    → new ≡ false → nodes' ≡ nodes → Visits s s' nodes nodes' v
 visits_old s s' nodes nodes' v new l was here others fewer is e =
     let there : is_in s v ≡ true = by (is_in s v) (sym was ∙ is) in
-    let same : (x : ℕ) → is_in s' x ≡ is_in s x = λ x. ⊎_elim (λ q. subst (λ z. is_in s' z ≡ is_in s z) (sym q) (here ∙ sym there)) (λ ne. others x ne) (cases_eq x v) in
+    let same : (x : ℕ) → is_in s' x
+    ≡ is_in s x = λ x. ⊎_elim (λ q. subst (λ z. is_in s' z ≡ is_in s z) (sym q) (here ∙ sym there))
+    (λ ne. others x ne) (cases_eq x v) in
     record {
       lists = record {
         listed = λ k x h. same x ∙ l.listed k x (ap (λ xs. slice_get xs k) (sym e) ∙ h);
@@ -70,26 +78,34 @@ visits_none but s visited nodes l = record {
 }
 
 -- one node more
-pub visits_more : (but s0 s s' : NodeSet) (visited : List ℕ) (i v : ℕ) (nodes0 nodes nodes' : List ℕ) → slice_get visited i ≡ Some v → VisitsAll but visited i s0 s nodes0 nodes → (is_in but v ≡ false → Visits s s' nodes nodes' v) → (is_in but v ≡ true → (s' ≡ s) × (nodes' ≡ nodes)) → VisitsAll but visited (i + 1) s0 s' nodes0 nodes'
+pub visits_more : (but s0 s s' : NodeSet) (visited : List ℕ) (i v : ℕ) (nodes0 nodes nodes' : List ℕ)
+    → slice_get visited i ≡ Some v → VisitsAll but visited i s0 s nodes0 nodes
+    → (is_in but v ≡ false → Visits s s' nodes nodes' v) → (is_in but v ≡ true → (s' ≡ s) × (nodes' ≡ nodes))
+    → VisitsAll but visited (i + 1) s0 s' nodes0 nodes'
 visits_more but s0 s s' visited i v nodes0 nodes nodes' here a visits stays = ⊎_elim
     (λ yes'. let e = stays yes' in record {
       lists = subst (λ z. Lists z nodes') (sym e.0) (subst (λ z. Lists s z) (sym e.1) a.lists);
       kept = λ k x h. ap (λ xs. slice_get xs k) e.1 ∙ a.kept k x h;
       has = λ k x lt h f. ⊎_elim
           (λ low. subst (λ xs. Has xs x) (sym e.1) (a.has k x low h f))
-          (λ high. absurd (true≢false (sym yes' ∙ (let same : k ≡ i = omega arith in let q : Some v ≡ Some x = sym here ∙ ap (slice_get visited) (sym same) ∙ h in let r : v ≡ x = cc in ap (is_in but) r ∙ f))))
+          (λ high. absurd (true≢false
+          (sym yes' ∙ (let same : k ≡ i = omega arith in let q : Some v ≡ Some x = sym here
+          ∙ ap (slice_get visited) (sym same) ∙ h in let r : v ≡ x = cc in ap (is_in but) r ∙ f))))
           (cases_lt k i);
       new = λ k x h. a.new k x (ap (λ xs. slice_get xs k) (sym e.1) ∙ h);
-      total = let f : absent s' ≡ absent s = ap absent e.0 in let g : length nodes' ≡ length nodes = ap length e.1 in omega (arith, f, g, a.total);
+      total = let f : absent s' ≡ absent s = ap absent e.0 in let g : length nodes'
+          ≡ length nodes = ap length e.1 in omega (arith, f, g, a.total);
     })
     (λ no'. let w = visits no' in record {
       lists = w.lists;
       kept = λ k x h. w.kept k x (a.kept k x h);
       has = λ k x lt h f. ⊎_elim
           (λ low. let o = a.has k x low h f in (o.0, w.kept o.0 x o.1))
-          (λ high. let same : k ≡ i = omega arith in let q : Some v ≡ Some x = sym here ∙ ap (slice_get visited) (sym same) ∙ h in let r : v ≡ x = cc in subst (Has nodes') r w.has)
+          (λ high. let same : k ≡ i = omega arith in let q : Some v ≡ Some x = sym here
+          ∙ ap (slice_get visited) (sym same) ∙ h in let r : v ≡ x = cc in subst (Has nodes') r w.has)
           (cases_lt k i);
-      new = λ k x h. ⊎_elim (λ q. a.new k x q) (λ q. inr (subst (Has visited) (sym q) (i, here), ap (is_in but) q ∙ no')) (w.new k x h);
+      new = λ k x h. ⊎_elim (λ q. a.new k x q)
+          (λ q. inr (subst (Has visited) (sym q) (i, here), ap (is_in but) q ∙ no')) (w.new k x h);
       total = w.total ∙ a.total;
     })
     (cases_of (is_in but v))

@@ -12,7 +12,8 @@ pub struct NodeSet {
     ghost begun: { 0 < current },
 }
 
-ghost use Rattle.std.specs.Prelude.{◌≡◌, ◌<◌, ◌≤◌, ◌+◌, ◌≢◌, ℕ, IfOk, OnOk, length, slice_index, not, true, false, if◌then◌else◌};
+ghost use Rattle.std.specs.Prelude.{◌≡◌, ◌<◌, ◌≤◌, ◌+◌, ◌≢◌, ℕ, IfOk, OnOk, length, slice_index, not, true, false};
+ghost use Rattle.std.specs.Prelude.{if◌then◌else◌};
 
 impl NodeSet {
     ghost use Rattle.data_flow.specs.NodeSets.{is_in, absent, node_count};

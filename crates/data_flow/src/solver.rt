@@ -33,7 +33,8 @@ fn visit_all(
     requires inside { AreBelow (node_count set.old) nodes.now }
     requires same_size { node_count but.now ≡ node_count set.old }
     requires lists { Lists set.old list.old.items }
-    ensures visits { OnOk result (VisitsAll but.now nodes.now (length nodes.now) set.old set.new list.old.items list.new.items) }
+    ensures visits { OnOk result
+        (VisitsAll but.now nodes.now (length nodes.now) set.old set.new list.old.items list.new.items) }
     ensures size { node_count set.new ≡ node_count set.old }
 {
     for node in nodes {
@@ -52,7 +53,8 @@ fn visit_unless(
     requires inside { node < node_count set.old }
     requires same_size { node_count but.now ≡ node_count set.old }
     requires lists { Lists set.old list.old.items }
-    ensures visits { OnOk result (is_in but.now node ≡ false → Visits set.old set.new list.old.items list.new.items node) }
+    ensures visits { OnOk result
+        (is_in but.now node ≡ false → Visits set.old set.new list.old.items list.new.items node) }
     ensures stays { OnOk result (is_in but.now node ≡ true → (set.new ≡ set.old) × (list.new.items ≡ list.old.items)) }
     ensures size { node_count set.new ≡ node_count set.old }
 {
@@ -76,7 +78,8 @@ fn insert_all(set: &mut NodeSet, nodes: &[u32])
 }
 
 /// The nodes that a fact reaches which is generated at some nodes, flows along edges, and is killed at some nodes: the
-/// least solution. It takes time for these nodes and their edges alone. The two sets, of all nodes, are only made use of.
+/// least solution. It takes time for these nodes and their edges alone. The two sets, of all nodes, are only made use
+/// of.
 pub fn least_solution(
     alloc: Global,
     edges: &Relation,
@@ -89,8 +92,10 @@ pub fn least_solution(
     requires generated_inside { AreBelow (node_count reached.old) generated.now }
     requires killed_inside { AreBelow (node_count reached.old) killed.now }
     requires same_size { node_count killing.old ≡ node_count reached.old }
-    ensures closed { IfOk result (λ nodes. (v : ℕ) → IsReached edges.now generated.now killed.now v → Has nodes.items v) }
-    ensures least { IfOk result (λ nodes. (v : ℕ) → Has nodes.items v → IsReached edges.now generated.now killed.now v) }
+    ensures closed { IfOk result
+        (λ nodes. (v : ℕ) → IsReached edges.now generated.now killed.now v → Has nodes.items v) }
+    ensures least { IfOk result
+        (λ nodes. (v : ℕ) → Has nodes.items v → IsReached edges.now generated.now killed.now v) }
     ensures reached_size { node_count reached.new ≡ node_count reached.old }
     ensures killing_size { node_count killing.new ≡ node_count killing.old }
 {

@@ -27,19 +27,25 @@ IsTaken ranges places r y = (x : ℕ) × (slice_get places x ≡ Some (Register 
 -- The registers below a number are given out: no two that share an instruction have the same, and one stays in its home
 -- only where each of these registers is taken.
 pub record IsColoured (ranges : List (Vec LiveInterval Global)) (places : List Place) (count : ℕ) : Type 0 where
-  pub apart : (x y r : ℕ) → slice_get places x ≡ Some (Register r) → slice_get places y ≡ Some (Register r) → Share ranges x y → x ≡ y
+  pub apart : (x y r : ℕ) → slice_get places x ≡ Some (Register r) → slice_get places y ≡ Some (Register r)
+      → Share ranges x y → x ≡ y
   pub given : (y r : ℕ) → slice_get places y ≡ Some (Register r) → r < count
   pub full : (y r : ℕ) → slice_get places y ≡ Some Home → r < count → IsTaken ranges places r y
 
--- One register more is being given out, and the virtual registers below a number were asked: the set has the instructions
+-- One register more is being given out, and the virtual registers below a number were asked: the set has the
+-- instructions
 -- before which it is in use.
-pub record IsColouring (ranges : List (Vec LiveInterval Global)) (places : List Place) (register next : ℕ) (used : NodeSet) : Type 0 where
-  pub apart : (x y r : ℕ) → slice_get places x ≡ Some (Register r) → slice_get places y ≡ Some (Register r) → Share ranges x y → x ≡ y
+pub record IsColouring (ranges : List (Vec LiveInterval Global)) (places : List Place) (register next : ℕ)
+    (used : NodeSet) : Type 0 where
+  pub apart : (x y r : ℕ) → slice_get places x ≡ Some (Register r) → slice_get places y ≡ Some (Register r)
+      → Share ranges x y → x ≡ y
   pub given : (y r : ℕ) → slice_get places y ≡ Some (Register r) → r < register + 1
   pub full : (y r : ℕ) → slice_get places y ≡ Some Home → r < register → IsTaken ranges places r y
   pub asked : (y : ℕ) → slice_get places y ≡ Some Home → y < next → IsTaken ranges places register y
-  pub in_use : (x pc : ℕ) → slice_get places x ≡ Some (Register register) → covers (range_of ranges x) pc ≡ true → is_in used pc ≡ true
-  pub only : (pc : ℕ) → is_in used pc ≡ true → (x : ℕ) × (slice_get places x ≡ Some (Register register)) × (covers (range_of ranges x) pc ≡ true)
+  pub in_use : (x pc : ℕ) → slice_get places x ≡ Some (Register register) → covers (range_of ranges x) pc ≡ true
+      → is_in used pc ≡ true
+  pub only : (pc : ℕ) → is_in used pc ≡ true
+      → (x : ℕ) × (slice_get places x ≡ Some (Register register)) × (covers (range_of ranges x) pc ≡ true)
 
 -- the live ranges have instructions below a number alone
 abbrev pub AreWithin : List (Vec LiveInterval Global) → ℕ → Type 0

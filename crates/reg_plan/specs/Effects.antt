@@ -3,7 +3,10 @@ use Rattle.std.specs.Prelude.{◌≡◌, ℕ, ◌+◌, ◌-◌, ◌⊎◌, Bool,
 use Rattle.flat_meaning.specs.declared.instruction.RightOperand.{RightOperand}
 use Rattle.flat_meaning.specs.declared.instruction.RightOperand.TheVariants.{Register, Number}
 use Rattle.flat_meaning.specs.declared.instruction.FlatInstruction.{FlatInstruction}
-use Rattle.flat_meaning.specs.declared.instruction.FlatInstruction.TheVariants.{Constant, Move, Operate, Operate32, Load, Store, Branch, JumpForward, JumpBack, Turn, Call, CallAddress, Return, Get, Put, Exit, End, Charged}
+use Rattle.flat_meaning.specs.declared.instruction.FlatInstruction.TheVariants.{Constant, Move, Operate, Operate32}
+use Rattle.flat_meaning.specs.declared.instruction.FlatInstruction.TheVariants.{Load, Store, Branch, JumpForward}
+use Rattle.flat_meaning.specs.declared.instruction.FlatInstruction.TheVariants.{JumpBack, Turn, Call, CallAddress}
+use Rattle.flat_meaning.specs.declared.instruction.FlatInstruction.TheVariants.{Return, Get, Put, Exit, End, Charged}
 use Rattle.flat_meaning.specs.declared.function.FlatProgram.{FlatProgram}
 use Rattle.flat_meaning.specs.Calls.{function_in}
 use Rattle.flat_meaning.specs.Meaning.{parameters_of, results_of}
@@ -42,7 +45,8 @@ read_by p f (Branch op y z past) = two (one y) (operand z)
 read_by p f (JumpForward past) = two none none
 read_by p f (JumpBack back) = two none none
 read_by p f Turn = two none none
-read_by p f (Call g first x) = record { left = none; right = none; others = many first (parameters_of (function_in p g)) }
+read_by p f (Call g first x) = record
+    { left = none; right = none; others = many first (parameters_of (function_in p g)) }
 read_by p f (CallAddress y first n x r) = record { left = one y; right = none; others = many first n }
 read_by p f (Return y) = record { left = none; right = none; others = many y (results_of (function_in p f)) }
 read_by p f (Get x) = two none none

@@ -1,4 +1,5 @@
--- Live ranges as a data-flow problem: its nodes are the instructions of a function, and its edges lead back from where an
+-- Live ranges as a data-flow problem: its nodes are the instructions of a function, and its edges lead back from where
+-- an
 -- instruction leads. There is one fact for each virtual register.
 use Rattle.std.specs.Prelude.{◌≡◌, ℕ, ◌<◌, ◌⊎◌, List, length, Option, Some}
 use Rattle.data_flow.specs.declared.relation.Relation.{Relation}
@@ -19,19 +20,24 @@ pub record AddsSuccessor (old new : Problem) (made : ℕ → Type 0) (place : �
   pub edge : (q : ℕ) → to ≡ Some q → q < count → IsRelated new.edges q place
   pub generates : (q y : ℕ) → to ≡ Some q → q < count → made y → IsRelated new.generated y q
   pub edges_kept : (q v : ℕ) → IsRelated old.edges q v → IsRelated new.edges q v
-  pub edges_only : (q v : ℕ) → IsRelated new.edges q v → IsRelated old.edges q v ⊎ ((to ≡ Some q) × (q < count) × (v ≡ place))
+  pub edges_only : (q v : ℕ) → IsRelated new.edges q v
+      → IsRelated old.edges q v ⊎ ((to ≡ Some q) × (q < count) × (v ≡ place))
   pub generated_kept : (y v : ℕ) → IsRelated old.generated y v → IsRelated new.generated y v
-  pub generated_only : (y v : ℕ) → IsRelated new.generated y v → IsRelated old.generated y v ⊎ ((to ≡ Some v) × (v < count) × made y)
+  pub generated_only : (y v : ℕ) → IsRelated new.generated y v
+      → IsRelated old.generated y v ⊎ ((to ≡ Some v) × (v < count) × made y)
   pub killed : new.killed ≡ old.killed
 
--- the problem has an edge for each place where an instruction leads, and the facts of what it reads and makes; all of the
+-- the problem has an edge for each place where an instruction leads, and the facts of what it reads and makes; all of
+-- the
 -- first so many instructions, and no others
-pub record Represents (p : FlatProgram) (f : ℕ) (body : List FlatInstruction) (done : ℕ) (problem : Problem) : Type 0 where
+pub record Represents (p : FlatProgram) (f : ℕ) (body : List FlatInstruction) (done : ℕ) (problem : Problem) : Type
+    0 where
   pub edges : (pc q : ℕ) → pc < done → LeadsAt body pc q → IsRelated problem.edges q pc
   pub edges_only : (q pc : ℕ) → IsRelated problem.edges q pc → LeadsAt body pc q
   pub read : (pc y : ℕ) → pc < done → ReadsAt p f body pc y → IsRelated problem.generated y pc
   pub made : (pc q y : ℕ) → pc < done → LeadsAt body pc q → MakesAt p body pc y → IsRelated problem.generated y q
-  pub generated_only : (y v : ℕ) → IsRelated problem.generated y v → ReadsAt p f body v y ⊎ ((pc : ℕ) × LeadsAt body pc v × MakesAt p body pc y)
+  pub generated_only : (y v : ℕ) → IsRelated problem.generated y v
+      → ReadsAt p f body v y ⊎ ((pc : ℕ) × LeadsAt body pc v × MakesAt p body pc y)
   pub killed : (pc y : ℕ) → pc < done → MakesAt p body pc y → IsRelated problem.killed y pc
   pub killed_only : (y pc : ℕ) → IsRelated problem.killed y pc → MakesAt p body pc y
 

@@ -1,4 +1,5 @@
--- What the plans are for: which functions can be planned, and what a plan of live ranges that are exactly where values are
+-- What the plans are for: which functions can be planned, and what a plan of live ranges that are exactly where values
+-- are
 -- needed is.
 use Rattle.std.specs.Prelude.{◌≡◌, ℕ, ◌^◌, ◌<◌, List, length, Some, slice_get}
 use Rattle.flat_meaning.specs.declared.function.FlatFunction.{FlatFunction}
@@ -12,13 +13,15 @@ use Rattle.reg_plan.specs.Flow.{IsNamed}
 use Rattle.reg_plan.specs.Accepted.{IsLive, HasHome, IsAccepted}
 use Rattle.reg_plan.specs.Colours.{IsTaken}
 
--- Each virtual register that a function reads or makes has a home, which lies within the activation record where its value
+-- Each virtual register that a function reads or makes has a home, which lies within the activation record where its
+-- value
 -- is needed; values that are needed together have different homes; and at the entry none but the parameters are needed.
 pub record IsPlannable (p : FlatProgram) (number : ℕ) (f : FlatFunction) : Type 0 where
   pub count : length f.body < 2 ^ 32
   pub named : IsNamed p number f.body (length f.homes)
   pub inside : (pc y : ℕ) → IsNeeded p number f.body pc y → HasHome f y
-  pub apart : (pc x y w : ℕ) → IsNeeded p number f.body pc x → IsNeeded p number f.body pc y → slice_get f.homes x ≡ Some w → slice_get f.homes y ≡ Some w → x ≡ y
+  pub apart : (pc x y w : ℕ) → IsNeeded p number f.body pc x → IsNeeded p number f.body pc y
+      → slice_get f.homes x ≡ Some w → slice_get f.homes y ≡ Some w → x ≡ y
   pub entry : (y : ℕ) → IsNeeded p number f.body 0 y → y < f.parameters
 
 abbrev pub ArePlannable : FlatProgram → Type 0
@@ -38,9 +41,12 @@ pub record IsPlanOfSlots (p : FlatProgram) (number : ℕ) (f : FlatFunction) (pl
 -- a value is kept in its home only where each register is given to one that is live with it before some instruction
 pub record IsPlanOfRegisters (p : FlatProgram) (number : ℕ) (f : FlatFunction) (plan : FunctionPlan) : Type 0 where
   pub least : IsLeastPlan p number f plan
-  pub full : (y r : ℕ) → slice_get plan.places.items y ≡ Some Home → r < REGISTERS → IsTaken plan.live.items plan.places.items r y
+  pub full : (y r : ℕ) → slice_get plan.places.items y ≡ Some Home → r < REGISTERS
+      → IsTaken plan.live.items plan.places.items r y
 
 -- the first functions, so many, have plans of which something holds
-pub record ArePlanned (p : FlatProgram) (plans : List FunctionPlan) (done : ℕ) (P : ℕ → FlatFunction → FunctionPlan → Type 0) : Type 0 where
+pub record ArePlanned (p : FlatProgram) (plans : List FunctionPlan) (done : ℕ)
+    (P : ℕ → FlatFunction → FunctionPlan → Type 0) : Type 0 where
   pub size : length plans ≡ done
-  pub each : (k : ℕ) (f : FlatFunction) → k < done → slice_get p.functions k ≡ Some f → (plan : FunctionPlan) × (slice_get plans k ≡ Some plan) × P k f plan
+  pub each : (k : ℕ) (f : FlatFunction) → k < done → slice_get p.functions k ≡ Some f
+      → (plan : FunctionPlan) × (slice_get plans k ≡ Some plan) × P k f plan

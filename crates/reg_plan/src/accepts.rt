@@ -41,8 +41,10 @@ fn has_home(function: &FlatFunction, register: usize) -> bool
 // Whether it has a place, which is none but its home and the registers that are given out.
 fn has_place(plan: &FunctionPlan, register: usize) -> bool
     ensures place { result ≡ true → (place : Place) × (slice_get plan.now.places.items register ≡ Some place) }
-    ensures given { result ≡ true → (r : ℕ) → slice_get plan.now.places.items register ≡ Some (Register r) → r < REGISTERS }
-    ensures no { (place : Place) → slice_get plan.now.places.items register ≡ Some place → ((r : ℕ) → slice_get plan.now.places.items register ≡ Some (Register r) → r < REGISTERS) → result ≡ true }
+    ensures given { result ≡ true → (r : ℕ) → slice_get plan.now.places.items register ≡ Some (Register r)
+        → r < REGISTERS }
+    ensures no { (place : Place) → slice_get plan.now.places.items register ≡ Some place
+        → ((r : ℕ) → slice_get plan.now.places.items register ≡ Some (Register r) → r < REGISTERS) → result ≡ true }
 {
     match place_of(plan, register) {
         Some(Place::Home) => true,
@@ -53,8 +55,10 @@ fn has_place(plan: &FunctionPlan, register: usize) -> bool
 
 // Whether a virtual register has both, where it is live.
 fn is_placed(function: &FlatFunction, plan: &FunctionPlan, register: usize, count: u64) -> bool
-    ensures yes { result ≡ true → (pc : ℕ) → pc < count → IsLive plan.now pc register → IsPlaced function.now plan.now register }
-    ensures no { ((pc : ℕ) → pc < count → IsLive plan.now pc register → IsPlaced function.now plan.now register) → result ≡ true }
+    ensures yes { result ≡ true → (pc : ℕ) → pc < count → IsLive plan.now pc register
+        → IsPlaced function.now plan.now register }
+    ensures no { ((pc : ℕ) → pc < count → IsLive plan.now pc register → IsPlaced function.now plan.now register)
+        → result ≡ true }
 {
     if !is_somewhere(range_of(plan, register), count) {
         return true;
@@ -75,8 +79,12 @@ fn is_entered(function: &FlatFunction, plan: &FunctionPlan, register: usize, cou
 
 // Whether a virtual register is kept apart from those before it.
 fn is_apart(function: &FlatFunction, plan: &FunctionPlan, register: usize, count: u64) -> bool
-    ensures yes { result ≡ true → (y : ℕ) → y < register → Meet count (range_of plan.now.live.items register) (range_of plan.now.live.items y) → AreApart function.now plan.now register y }
-    ensures no { ((y : ℕ) → y < register → Meet count (range_of plan.now.live.items register) (range_of plan.now.live.items y) → AreApart function.now plan.now register y) → result ≡ true }
+    ensures yes { result ≡ true → (y : ℕ) → y < register
+        → Meet count (range_of plan.now.live.items register) (range_of plan.now.live.items y)
+        → AreApart function.now plan.now register y }
+    ensures no { ((y : ℕ) → y < register
+        → Meet count (range_of plan.now.live.items register) (range_of plan.now.live.items y)
+        → AreApart function.now plan.now register y) → result ≡ true }
 {
     for other in 0..register {
         if !are_kept_apart(function, plan, register, other, count) {

@@ -114,8 +114,10 @@ pub(crate) fn are_kept_apart(
     y: usize,
     count: u64,
 ) -> bool
-    ensures yes { result ≡ true → Meet count (range_of plan.now.live.items x) (range_of plan.now.live.items y) → AreApart function.now plan.now x y }
-    ensures no { (Meet count (range_of plan.now.live.items x) (range_of plan.now.live.items y) → AreApart function.now plan.now x y) → result ≡ true }
+    ensures yes { result ≡ true → Meet count (range_of plan.now.live.items x) (range_of plan.now.live.items y)
+        → AreApart function.now plan.now x y }
+    ensures no { (Meet count (range_of plan.now.live.items x) (range_of plan.now.live.items y)
+        → AreApart function.now plan.now x y) → result ≡ true }
 {
     are_apart(function, plan, x, y) || !meet(range_of(plan, x), range_of(plan, y), count)
 }

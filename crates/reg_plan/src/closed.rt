@@ -64,7 +64,8 @@ fn are_live(plan: &FunctionPlan, place: u64, span: Span) -> bool
 
 // Whether a virtual register is live behind an instruction that does not make it, and not before.
 fn is_lost(plan: &FunctionPlan, made: Span, from: u64, to: u64, register: u64) -> bool
-    ensures { result ≡ (is_live plan.now to register && (not (is_among made register) && not (is_live plan.now from register))) }
+    ensures { result ≡ (is_live plan.now to register
+        && (not (is_among made register) && not (is_live plan.now from register))) }
 {
     is_live(plan, to, register) && (!is_among(made, register) && !is_live(plan, from, register))
 }
@@ -131,8 +132,10 @@ pub fn is_closed(
     plan: &FunctionPlan,
 ) -> bool
     requires { length body.now < 2 ^ 32 }
-    ensures yes { result ≡ true → (pc : ℕ) (i : FlatInstruction) → slice_get body.now pc ≡ Some i → IsClosedAt program.now number (length body.now) plan.now pc i }
-    ensures no { ((pc : ℕ) (i : FlatInstruction) → slice_get body.now pc ≡ Some i → IsClosedAt program.now number (length body.now) plan.now pc i) → result ≡ true }
+    ensures yes { result ≡ true → (pc : ℕ) (i : FlatInstruction) → slice_get body.now pc ≡ Some i
+        → IsClosedAt program.now number (length body.now) plan.now pc i }
+    ensures no { ((pc : ℕ) (i : FlatInstruction) → slice_get body.now pc ≡ Some i
+        → IsClosedAt program.now number (length body.now) plan.now pc i) → result ≡ true }
 {
     let count = body.len() as u64;
     for place in 0..body.len() {

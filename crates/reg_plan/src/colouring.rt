@@ -1,4 +1,5 @@
-//! Registers by greedy colouring: each register goes, in turn, to the virtual registers that share no instruction with one
+//! Registers by greedy colouring: each register goes, in turn, to the virtual registers that share no instruction with
+//! one
 //! that has it.
 
 ghost use Rattle.std.specs.Prelude.{◌≡◌, ◌<◌, ◌≤◌, ◌+◌, ◌⊎◌, ℕ, IfOk, OnOk, length, Some, true, false, slice_get};
@@ -143,7 +144,8 @@ pub fn coloured(
 
 /// The places of so many virtual registers, each in its home.
 pub fn all_at_home(alloc: Global, count: usize) -> Result<Vec<Place>, AllocError>
-    ensures home { IfOk result (λ places. (y : ℕ) (place : Place) → slice_get places.items y ≡ Some place → place ≡ Home) }
+    ensures home { IfOk result
+        (λ places. (y : ℕ) (place : Place) → slice_get places.items y ≡ Some place → place ≡ Home) }
     ensures size { IfOk result (λ places. length places.items ≡ count) }
 {
     let mut places = Vec::new(alloc);

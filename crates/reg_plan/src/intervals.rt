@@ -1,6 +1,7 @@
 //! Live ranges as intervals.
 
-ghost use Rattle.std.specs.Prelude.{◌≡◌, ◌<◌, ◌≤◌, ◌+◌, ◌-◌, ◌^◌, ◌||◌, ◌==◌, ℕ, IfOk, OnOk, length, Some, true, slice_get};
+ghost use Rattle.std.specs.Prelude.{◌≡◌, ◌<◌, ◌≤◌, ◌+◌, ◌-◌, ◌^◌, ◌||◌, ◌==◌, ℕ, IfOk, OnOk, length, Some, true};
+ghost use Rattle.std.specs.Prelude.{slice_get};
 ghost use Rattle.data_flow.specs.Relations.{Has};
 ghost use Rattle.data_flow.specs.Reached.{AreBelow};
 ghost use Rattle.reg_plan.specs.Accepted.{holds, covers};
@@ -26,7 +27,9 @@ fn extended(
 ) -> Result<LiveInterval, AllocError>
     requires small { place + 1 < 2 ^ 32 }
     requires forward { last.start ≤ last.end }
-    ensures covers { IfOk result (λ next. (pc : ℕ) → (covers list.new.items pc || holds next pc) ≡ ((covers list.old.items pc || holds last pc) || (pc == place))) }
+    ensures covers { IfOk result
+        (λ next. (pc : ℕ) → (covers list.new.items pc || holds next pc)
+        ≡ ((covers list.old.items pc || holds last pc) || (pc == place))) }
     ensures forward { IfOk result (λ next. next.start ≤ next.end) }
 {
     if place == last.end {

@@ -28,8 +28,10 @@ fn live_range(
     requires represents { Represents program.now function body.now (length body.now) problem.now }
     requires reached_size { node_count reached.old ≡ length body.now }
     requires killing_size { node_count killing.old ≡ length body.now }
-    ensures needed { IfOk result (λ list. (pc : ℕ) → IsNeeded program.now function body.now pc register → covers list.items pc ≡ true) }
-    ensures only { IfOk result (λ list. (pc : ℕ) → covers list.items pc ≡ true → IsNeeded program.now function body.now pc register) }
+    ensures needed { IfOk result
+        (λ list. (pc : ℕ) → IsNeeded program.now function body.now pc register → covers list.items pc ≡ true) }
+    ensures only { IfOk result
+        (λ list. (pc : ℕ) → covers list.items pc ≡ true → IsNeeded program.now function body.now pc register) }
     ensures reached_size { node_count reached.new ≡ length body.now }
     ensures killing_size { node_count killing.new ≡ length body.now }
 {
@@ -45,7 +47,8 @@ fn live_range(
     Ok(range)
 }
 
-/// The live ranges of the virtual registers of a function, so many of which have homes: each is exactly where its value is
+/// The live ranges of the virtual registers of a function, so many of which have homes: each is exactly where its value
+/// is
 /// needed. It takes time for the instructions in these ranges alone.
 pub fn live_ranges(
     alloc: Global,
@@ -57,8 +60,12 @@ pub fn live_ranges(
     requires count { length body.now < 2 ^ 32 }
     requires named { IsNamed program.now function body.now registers }
     ensures size { IfOk result (λ ranges. length ranges.items ≡ registers) }
-    ensures needed { IfOk result (λ ranges. (pc y : ℕ) → y < registers → IsNeeded program.now function body.now pc y → covers (intervals_of (slice_get ranges.items y)) pc ≡ true) }
-    ensures only { IfOk result (λ ranges. (pc y : ℕ) → covers (intervals_of (slice_get ranges.items y)) pc ≡ true → IsNeeded program.now function body.now pc y) }
+    ensures needed { IfOk result
+        (λ ranges. (pc y : ℕ) → y < registers → IsNeeded program.now function body.now pc y
+        → covers (intervals_of (slice_get ranges.items y)) pc ≡ true) }
+    ensures only { IfOk result
+        (λ ranges. (pc y : ℕ) → covers (intervals_of (slice_get ranges.items y)) pc ≡ true
+        → IsNeeded program.now function body.now pc y) }
 {
     let problem = problem_of(alloc, program, function, body, registers)?;
     let mut reached = NodeSet::new(alloc, body.len())?;

@@ -47,7 +47,9 @@ fn registers_of(
 pub fn slots(alloc: Global, program: &FlatProgram) -> Result<Plan, AllocError>
     requires count { length program.now.functions < 2 ^ 32 }
     requires plannable { ArePlannable program.now }
-    ensures { IfOk result (λ plan. ArePlanned program.now plan.functions.items (length program.now.functions) (IsPlanOfSlots program.now)) }
+    ensures { IfOk result
+        (λ plan. ArePlanned program.now plan.functions.items (length program.now.functions)
+        (IsPlanOfSlots program.now)) }
 {
     let mut plans = Vec::new(alloc);
     let functions = program.functions.as_slice();
@@ -62,7 +64,9 @@ pub fn slots(alloc: Global, program: &FlatProgram) -> Result<Plan, AllocError>
 pub fn registers(alloc: Global, program: &FlatProgram) -> Result<Plan, AllocError>
     requires count { length program.now.functions < 2 ^ 32 }
     requires plannable { ArePlannable program.now }
-    ensures { IfOk result (λ plan. ArePlanned program.now plan.functions.items (length program.now.functions) (IsPlanOfRegisters program.now)) }
+    ensures { IfOk result
+        (λ plan. ArePlanned program.now plan.functions.items (length program.now.functions)
+        (IsPlanOfRegisters program.now)) }
 {
     let mut plans = Vec::new(alloc);
     let functions = program.functions.as_slice();

@@ -6,4 +6,5 @@ use Rattle.reg_plan.specs.Accepted.{IsAccepted}
 use Rattle.reg_plan.proofs.accepts.accepts.Given as goal
 
 abbrev pub invariant-loop-number : goal.invariant-loop-number
-invariant-loop-number l = (k : ℕ) (f : FlatFunction) (plan : FunctionPlan) → k < l.number → slice_get l.functions k ≡ Some f → slice_get l.plans k ≡ Some plan → IsAccepted l.program k f plan
+invariant-loop-number l = (k : ℕ) (f : FlatFunction) (plan : FunctionPlan) → k < l.number
+    → slice_get l.functions k ≡ Some f → slice_get l.plans k ≡ Some plan → IsAccepted l.program k f plan

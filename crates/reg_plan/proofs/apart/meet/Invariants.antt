@@ -5,4 +5,5 @@ use Rattle.reg_plan.specs.Accepted.{holds, covers}
 use Rattle.reg_plan.proofs.apart.meet.Given as goal
 
 abbrev pub invariant-loop-interval : goal.invariant-loop-interval
-invariant-loop-interval l = (k pc : ℕ) (i : LiveInterval) → k < l.interval-index → slice_get l.left k ≡ Some i → pc < l.count → holds i pc ≡ true → covers l.right pc ≡ true → ⊥
+invariant-loop-interval l = (k pc : ℕ) (i : LiveInterval) → k < l.interval-index → slice_get l.left k ≡ Some i
+    → pc < l.count → holds i pc ≡ true → covers l.right pc ≡ true → ⊥

@@ -4,4 +4,5 @@ use Rattle.reg_plan.specs.Accepted.{IsLive}
 use Rattle.reg_plan.proofs.closed.none_is_lost.Given as goal
 
 abbrev pub invariant-loop-register : goal.invariant-loop-register
-invariant-loop-register l = (y : ℕ) → y < l.register → IsLive l.plan l.to y → is_among l.made y ≡ false → IsLive l.plan l.from y
+invariant-loop-register l = (y : ℕ) → y < l.register → IsLive l.plan l.to y → is_among l.made y ≡ false
+    → IsLive l.plan l.from y

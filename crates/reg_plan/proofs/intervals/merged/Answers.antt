@@ -10,11 +10,16 @@ loop-place-preserved c =
     let places = c.args.places.now in
     let here = slice_get-get_or places i 0 c.loop-place-test.true in
     record {
-      covered = covered_more places (λ pc. covers c.loop-place.list.items pc || holds c.loop-place.last pc) (λ pc. covers c.extended.new.list.items pc || holds c.in_ok-last.last pc) i (get_or places i 0) here c.in_ok-last.ensures.covers c.loop-place.invariant.covered;
-      only = only_more places (λ pc. covers c.loop-place.list.items pc || holds c.loop-place.last pc) (λ pc. covers c.extended.new.list.items pc || holds c.in_ok-last.last pc) i (get_or places i 0) here c.in_ok-last.ensures.covers c.loop-place.invariant.only;
+      covered = covered_more places (λ pc. covers c.loop-place.list.items pc || holds c.loop-place.last pc)
+          (λ pc. covers c.extended.new.list.items pc || holds c.in_ok-last.last pc) i (get_or places i 0) here
+          c.in_ok-last.ensures.covers c.loop-place.invariant.covered;
+      only = only_more places (λ pc. covers c.loop-place.list.items pc || holds c.loop-place.last pc)
+          (λ pc. covers c.extended.new.list.items pc || holds c.in_ok-last.last pc) i (get_or places i 0) here
+          c.in_ok-last.ensures.covers c.loop-place.invariant.only;
       forward = c.in_ok-last.ensures.forward;
     }
 
 pub returns-clause-covered : goal.returns-clause-covered
 returns-clause-covered c pc h =
-    c.in_ok-put.ensures pc ∙ c.loop-place.invariant.covered h.0 pc (let l = slice_get_within c.args.places.now h.0 pc h.1 in omega (arith, c.loop-place-test.false)) h.1
+    c.in_ok-put.ensures pc ∙ c.loop-place.invariant.covered h.0 pc
+    (let l = slice_get_within c.args.places.now h.0 pc h.1 in omega (arith, c.loop-place-test.false)) h.1

@@ -6,7 +6,8 @@ use Rattle.reg_plan.proofs.intervals.merged.Given as goal
 
 abbrev pub invariant-loop-place : goal.invariant-loop-place
 invariant-loop-place l = record {
-  covered : (k pc : ℕ) → k < l.place-index → slice_get l.places k ≡ Some pc → (covers l.list.items pc || holds l.last pc) ≡ true;
+  covered : (k pc : ℕ) → k < l.place-index → slice_get l.places k ≡ Some pc
+      → (covers l.list.items pc || holds l.last pc) ≡ true;
   only : (pc : ℕ) → (covers l.list.items pc || holds l.last pc) ≡ true → Has l.places pc;
   forward : l.last.start ≤ l.last.end;
 }

@@ -11,9 +11,14 @@ loop-register-preserved c =
     let e = c.in_ok-push.ensures.items in
     let r = c.in_ok-range.ensures in
     record {
-      size = ap length e ∙ length-append c.loop-register.ranges.items (c.in_ok-range.range ∷ []) ∙ omega (arith, i.size);
-      needed = λ pc y lt h. ap (λ l. covers (intervals_of (slice_get l y)) pc) e ∙ needed_more c.args.program.now c.args.function c.args.body.now c.loop-register.ranges.items c.in_ok-range.range n i.size i.needed r.needed pc y lt h;
-      only = λ pc y h. only_needed_more c.args.program.now c.args.function c.args.body.now c.loop-register.ranges.items c.in_ok-range.range n i.size i.only r.only pc y (ap (λ l. covers (intervals_of (slice_get l y)) pc) (sym e) ∙ h);
+      size = ap length e ∙ length-append c.loop-register.ranges.items (c.in_ok-range.range ∷ [])
+          ∙ omega (arith, i.size);
+      needed = λ pc y lt h. ap (λ l. covers (intervals_of (slice_get l y)) pc) e
+          ∙ needed_more c.args.program.now c.args.function c.args.body.now c.loop-register.ranges.items
+          c.in_ok-range.range n i.size i.needed r.needed pc y lt h;
+      only = λ pc y h. only_needed_more c.args.program.now c.args.function c.args.body.now c.loop-register.ranges.items
+          c.in_ok-range.range n i.size i.only r.only pc y
+          (ap (λ l. covers (intervals_of (slice_get l y)) pc) (sym e) ∙ h);
       reached_size = r.reached_size;
       killing_size = r.killing_size;
     }

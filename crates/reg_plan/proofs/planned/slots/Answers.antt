@@ -10,13 +10,20 @@ pub slots_of-requires : goal.slots_of-requires
 slots_of-requires c =
     let functions = c.as_slice-functions.result.now in
     let f = c.index-functions-number.result in
-    c.requires.plannable c.loop-number.number f (ap (λ l. slice_get l c.loop-number.number) (sym c.as_slice-functions.ensures) ∙ slice_get_read functions (length functions) c.loop-number.number f refl c.loop-number-test.true c.index-functions-number.is)
+    c.requires.plannable c.loop-number.number f
+    (ap (λ l. slice_get l c.loop-number.number) (sym c.as_slice-functions.ensures)
+    ∙ slice_get_read functions (length functions) c.loop-number.number f refl
+    c.loop-number-test.true c.index-functions-number.is)
 
 pub loop-number-preserved : goal.loop-number-preserved
 loop-number-preserved c =
     let functions = c.as_slice-functions.result.now in
     let f = c.index-functions-number.result in
-    subst (λ (l : List FunctionPlan). ArePlanned c.args.program.now l (c.loop-number.number + 1) (IsPlanOfSlots c.args.program.now)) (sym c.in_ok-push.ensures.items)
-    (planned_more c.args.program.now c.loop-number.plans.items c.loop-number.number (IsPlanOfSlots c.args.program.now) f c.in_ok-plan.plan c.loop-number.invariant
-    (ap (λ l. slice_get l c.loop-number.number) (sym c.as_slice-functions.ensures) ∙ slice_get_read functions (length functions) c.loop-number.number f refl c.loop-number-test.true c.index-functions-number.is)
+    subst (λ (l : List FunctionPlan). ArePlanned c.args.program.now l (c.loop-number.number + 1)
+    (IsPlanOfSlots c.args.program.now)) (sym c.in_ok-push.ensures.items)
+    (planned_more c.args.program.now c.loop-number.plans.items c.loop-number.number (IsPlanOfSlots c.args.program.now) f
+    c.in_ok-plan.plan c.loop-number.invariant
+    (ap (λ l. slice_get l c.loop-number.number) (sym c.as_slice-functions.ensures)
+    ∙ slice_get_read functions (length functions) c.loop-number.number f refl
+    c.loop-number-test.true c.index-functions-number.is)
     c.in_ok-plan.ensures)

@@ -1,0 +1,6 @@
+pub mod Flows
+pub mod Represents
+pub mod Ranges
+pub mod GivingOut
+pub mod Plans
+pub mod Exact

@@ -1,0 +1,9 @@
+use Rattle.std.proofs.Common.{◌≡◌, ◌<◌, ℕ, true, Some}
+use Rattle.std.specs.Prelude.{slice_get}
+use Rattle.reg_plan.specs.declared.plan.LiveInterval.{LiveInterval}
+use Rattle.reg_plan.specs.Accepted.{holds}
+use Rattle.reg_plan.proofs.accepts.is_somewhere.Given as goal
+
+abbrev pub invariant-loop-interval : goal.invariant-loop-interval
+invariant-loop-interval l = (k pc : ℕ) (i : LiveInterval) → k < l.interval-index → slice_get l.range k ≡ Some i
+    → pc < l.count → holds i pc ≡ true → ⊥

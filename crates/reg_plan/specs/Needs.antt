@@ -1,0 +1,23 @@
+-- Which values are needed where.
+use Rattle.std.specs.Prelude.{◌≡◌, ℕ, ◌<◌, List, length, Some, true, slice_get}
+use Rattle.flat_meaning.specs.declared.instruction.FlatInstruction.{FlatInstruction}
+use Rattle.flat_meaning.specs.declared.function.FlatProgram.{FlatProgram}
+use Rattle.reg_plan.specs.Effects.{read_by, is_read, made_by, is_among, Leads}
+
+-- the instruction at a place of a function reads a virtual register, makes it, and leads to an instruction
+abbrev pub ReadsAt : FlatProgram → (function : ℕ) → List FlatInstruction → (place y : ℕ) → Type 0
+ReadsAt p f body pc y = (i : FlatInstruction) × (slice_get body pc ≡ Some i) × (is_read (read_by p f i) y ≡ true)
+
+abbrev pub MakesAt : FlatProgram → List FlatInstruction → (place y : ℕ) → Type 0
+MakesAt p body pc y = (i : FlatInstruction) × (slice_get body pc ≡ Some i) × (is_among (made_by p i) y ≡ true)
+
+abbrev pub LeadsAt : List FlatInstruction → (place to : ℕ) → Type 0
+LeadsAt body pc q = (i : FlatInstruction) × (slice_get body pc ≡ Some i) × Leads i pc q × (q < length body)
+
+-- A value is needed before an instruction that reads it, behind one that makes it, and before one that leads to where
+-- it
+-- is needed and does not make it. These are the least sets that are closed so.
+pub data IsNeeded (p : FlatProgram) (f : ℕ) (body : List FlatInstruction) : ℕ → ℕ → Type 0 where
+  Read : (pc y : ℕ) → ReadsAt p f body pc y → IsNeeded p f body pc y
+  Made : (pc q y : ℕ) → LeadsAt body pc q → MakesAt p body pc y → IsNeeded p f body q y
+  Before : (pc q y : ℕ) → LeadsAt body pc q → IsNeeded p f body q y → (MakesAt p body pc y → ⊥) → IsNeeded p f body pc y

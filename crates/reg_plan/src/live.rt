@@ -1,0 +1,88 @@
+//! Live ranges of all virtual registers of a function.
+
+ghost use Rattle.std.specs.Prelude.{◌≡◌, ◌<◌, ◌≤◌, ◌+◌, ◌-◌, ◌^◌, ℕ, IfOk, OnOk, length, Some, true, slice_get};
+ghost use Rattle.data_flow.specs.NodeSets.{node_count};
+ghost use Rattle.reg_plan.specs.Needs.{IsNeeded};
+ghost use Rattle.reg_plan.specs.Flow.{Represents, IsNamed, HasSizes};
+ghost use Rattle.reg_plan.specs.Accepted.{covers, intervals_of};
+
+use crate::flow::{Problem, problem_of};
+use crate::intervals::intervals;
+use crate::plan::LiveInterval;
+use data_flow::{NodeSet, least_solution};
+use flat_meaning::{FlatInstruction, FlatProgram};
+use std::alloc::{AllocError, Global};
+
+// The live range of one virtual register.
+fn live_range(
+    alloc: Global,
+    program: &FlatProgram,
+    function: u32,
+    body: &[FlatInstruction],
+    problem: &Problem,
+    register: usize,
+    reached: &mut NodeSet,
+    killing: &mut NodeSet,
+) -> Result<Vec<LiveInterval>, AllocError>
+    requires count { length body.now < 2 ^ 32 }
+    requires represents { Represents program.now function body.now (length body.now) problem.now }
+    requires reached_size { node_count reached.old ≡ length body.now }
+    requires killing_size { node_count killing.old ≡ length body.now }
+    ensures needed { IfOk result
+        (λ list. (pc : ℕ) → IsNeeded program.now function body.now pc register → covers list.items pc ≡ true) }
+    ensures only { IfOk result
+        (λ list. (pc : ℕ) → covers list.items pc ≡ true → IsNeeded program.now function body.now pc register) }
+    ensures reached_size { node_count reached.new ≡ length body.now }
+    ensures killing_size { node_count killing.new ≡ length body.now }
+{
+    let places = least_solution(
+        alloc,
+        &problem.edges,
+        problem.generated.images(register),
+        problem.killed.images(register),
+        reached,
+        killing,
+    )?;
+    let range = intervals(alloc, places)?;
+    Ok(range)
+}
+
+/// The live ranges of the virtual registers of a function, so many of which have homes: each is exactly where its value
+/// is
+/// needed. It takes time for the instructions in these ranges alone.
+pub fn live_ranges(
+    alloc: Global,
+    program: &FlatProgram,
+    function: u32,
+    body: &[FlatInstruction],
+    registers: usize,
+) -> Result<Vec<Vec<LiveInterval>>, AllocError>
+    requires count { length body.now < 2 ^ 32 }
+    requires named { IsNamed program.now function body.now registers }
+    ensures size { IfOk result (λ ranges. length ranges.items ≡ registers) }
+    ensures needed { IfOk result
+        (λ ranges. (pc y : ℕ) → y < registers → IsNeeded program.now function body.now pc y
+        → covers (intervals_of (slice_get ranges.items y)) pc ≡ true) }
+    ensures only { IfOk result
+        (λ ranges. (pc y : ℕ) → covers (intervals_of (slice_get ranges.items y)) pc ≡ true
+        → IsNeeded program.now function body.now pc y) }
+{
+    let problem = problem_of(alloc, program, function, body, registers)?;
+    let mut reached = NodeSet::new(alloc, body.len())?;
+    let mut killing = NodeSet::new(alloc, body.len())?;
+    let mut ranges = Vec::new(alloc);
+    for register in 0..registers {
+        let range = live_range(
+            alloc,
+            program,
+            function,
+            body,
+            &problem,
+            register,
+            &mut reached,
+            &mut killing,
+        )?;
+        ranges.push(range)?;
+    }
+    Ok(ranges)
+}

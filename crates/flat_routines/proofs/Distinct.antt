@@ -1,5 +1,6 @@
 -- Registers that differ are a renaming.
-use Rattle.std.proofs.Common.{◌≡◌, ◌≢◌, ℕ, zero, suc, ◌+◌, ◌-◌, ◌<◌, ◌≤◌, List, [], ◌∷◌, ◌++◌, get_or, length, refl, sym}
+use Rattle.std.proofs.Common.{◌≡◌, ◌≢◌, ℕ, zero, suc, ◌+◌, ◌-◌, ◌<◌, ◌≤◌, List, [], ◌∷◌, ◌++◌, get_or, length, refl}
+use Rattle.std.proofs.Common.{sym}
 use Rattle.std.proofs.Common.{ap, ◌∙◌, arith, ⊎_elim}
 use Rattle.std.proofs.lemmas.Bool.{cases_lt}
 use Rattle.std.proofs.lemmas.List.{get_or_append_left, get_or-append_right}
@@ -81,7 +82,8 @@ register_of ins res own k = get_or (ins ++ (res ++ own)) k 0
 
 pub registers_rename : (ins res own : List ℕ) (t : ℕ) → AreRegisters ins res own t
     → IsRenaming (length ins + length (res ++ own)) (length ins) (register_of ins res own)
-registers_rename ins res own t r = are_renaming ins (res ++ own) (none_of_append ins res own t r.none r.ins_below r.from)
+registers_rename ins res own t r = are_renaming ins (res ++ own) (none_of_append ins res own t r.none r.ins_below
+    r.from)
     (distinct_append res own t r.distinct r.res_below r.own_distinct r.from)
 
 pub others_stay : (ins res own : List ℕ) (t : ℕ) → AreRegisters ins res own t → (s s' : State)

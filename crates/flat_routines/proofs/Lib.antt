@@ -5,3 +5,5 @@ pub mod Renamed
 pub mod Wrapped
 pub mod Distinct
 pub mod Lifted
+pub mod Regions
+pub mod Words

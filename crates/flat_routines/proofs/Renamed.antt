@@ -1,6 +1,7 @@
 -- A routine does the same over other registers, and wherever it stands.
 use Rattle.std.proofs.Common.{◌≡◌, ℕ, zero, suc, ◌+◌, ◌<◌, ◌≤◌, List, [], ◌∷◌, ◌++◌, ◌%◌, Bool, true, false}
-use Rattle.std.proofs.Common.{not, ◌&&◌, if◌then◌else◌, Some, None, Option, map, get_or, length, refl, sym, ap, ◌∙◌, subst}
+use Rattle.std.proofs.Common.{not, ◌&&◌, if◌then◌else◌, Some, None, Option, map, get_or, length, refl, sym, ap, ◌∙◌}
+use Rattle.std.proofs.Common.{subst}
 use Rattle.std.proofs.Common.{arith, ⊎_elim}
 use Rattle.std.specs.Prelude.{slice_get, option_map, nat_lt, nat_le, drop}
 use Rattle.std.proofs.lemmas.Bool.{cases_eq, and_parts, ltb-true, leb-true}
@@ -20,12 +21,14 @@ use Rattle.flat_meaning.specs.declared.instruction.FlatInstruction.TheVariants.{
 use Rattle.flat_meaning.specs.Memory.{put, load, store}
 use Rattle.flat_meaning.specs.Spaces.{is_of_objects, is_allowed}
 use Rattle.flat_meaning.specs.State.{Values, State}
-use Rattle.flat_meaning.specs.Meaning.{Context, Local, Goes, Ends, Leaves, Fails, right_value, with_register, with_access}
+use Rattle.flat_meaning.specs.Meaning.{Context, Local, Goes, Ends, Leaves, Fails, right_value, with_register}
+use Rattle.flat_meaning.specs.Meaning.{with_access}
 use Rattle.flat_meaning.specs.Meaning.{loads, stores, received, local}
 use Rattle.flat_meaning.proofs.Stored.{put_same, put_other}
 use Rattle.flat_routines.specs.Local.{local_cost, counted, act, local_step, local_run}
 use Rattle.flat_routines.specs.Routine.{HasAt, Outcome, Continues, Halts, left_at, Reaches, Either}
-use Rattle.flat_routines.specs.Renaming.{rename_right, rename, reads_right, fits, all_fit, IsRenaming, ChangesOnly, Agrees}
+use Rattle.flat_routines.specs.Renaming.{rename_right, rename, reads_right, fits, all_fit, IsRenaming, ChangesOnly}
+use Rattle.flat_routines.specs.Renaming.{Agrees}
 use Rattle.flat_routines.specs.Renaming.{through}
 use Rattle.flat_routines.specs.Laws.{AgreeAtEnd, Arrives}
 use Rattle.flat_routines.proofs.Steps.{run_zero, run_suc, run_ended, run_left, run_failed}
@@ -123,13 +126,23 @@ module _ (c : Context) (n d : ℕ) (f : ℕ → ℕ) (names : IsRenaming n d f) 
   choice_rel true l l' h = h
   choice_rel false l l' h = tt
 
-  access_rel : (v s : State) (a k : ℕ) (kind : AccessKind) → Rel v s → Rel (with_access c a k kind v) (with_access c a k kind s)
+  access_rel : (v s : State) (a k : ℕ) (kind : AccessKind) → Rel v s
+      → Rel (with_access c a k kind v) (with_access c a k kind s)
   access_rel v s a k kind r = kept_rel v s (with_access c a k kind)
       (λ z values. by z values (not c.is_runtime && is_of_objects c.sizes a k)) r
     where
       by : (z : State) (values : Values) (b : Bool)
-          → (if b then record (record z { values = values }) { accesses = z.accesses ++ record { address = a; size = k; kind = kind } ∷ [] } else record z { values = values })
-          ≡ record (if b then record z { accesses = z.accesses ++ record { address = a; size = k; kind = kind } ∷ [] } else z) { values = values }
+          → (if b then record (record z { values = values }) {
+            accesses = z.accesses ++ record {
+              address = a;
+              size =
+                  k;
+              kind = kind;
+            } ∷ [];
+          } else record z { values = values })
+          ≡ record (if b then record z {
+            accesses = z.accesses ++ record { address = a; size = k; kind = kind } ∷ [];
+          } else z) { values = values }
       by z values true = refl
       by z values false = refl
 
@@ -140,7 +153,8 @@ module _ (c : Context) (n d : ℕ) (f : ℕ → ℕ) (names : IsRenaming n d f) 
       let same : extended op (load k v.memory a) ≡ extended op (load k s.memory a) =
       ap (λ m. extended op (load k m a)) (sym (memory_same v s r)) in
       subst (λ z. RelAt (loads c op x a i v) (loads c op (f x) z (pc + i) s)) e
-      (choice_rel (is_allowed c.sizes a k) _ (Goes (pc + i + 1) (with_register (f x) (extended op (load k s.memory a)) (with_access c a k Read s)))
+      (choice_rel (is_allowed c.sizes a k) _ (Goes (pc + i + 1) (with_register (f x) (extended op (load k s.memory
+      a)) (with_access c a k Read s)))
       (next_rel i _ _ l (register_rel _ _ x _ _ dx xn same (access_rel v s a k Read r))))
 
   stores_rel : (op : StoreOp) (a a' w w' i : ℕ) (v s : State) → i < len → a ≡ a' → w ≡ w' → Rel v s
@@ -149,7 +163,10 @@ module _ (c : Context) (n d : ℕ) (f : ℕ → ℕ) (names : IsRenaming n d f) 
       let k = store_bytes op in
       subst (λ z. RelAt (stores c op a w i v) (stores c op z w' (pc + i) s)) ea
       (subst (λ z. RelAt (stores c op a w i v) (stores c op a z (pc + i) s)) ew
-      (choice_rel (is_allowed c.sizes a k) _ (Goes (pc + i + 1) (with_access c a k Write (record s { memory = store k s.memory a w })))
+      (choice_rel (is_allowed c.sizes a k) _ (Goes (pc + i + 1) (with_access c a k Write (record s {
+        memory = store k
+            s.memory a w;
+      })))
       (next_rel i _ _ l (access_rel _ _ a k Write
       (kept_rel v s (λ z. record z { memory = store k z.memory a w }) (λ z values. refl) r)))))
 
@@ -200,7 +217,8 @@ module _ (c : Context) (n d : ℕ) (f : ℕ → ℕ) (names : IsRenaming n d f) 
       (branch_rel (branch_taken op (v.values y) (right_value z v.values)) i past v s l (le_of (i + 1 + past) len p.1) r)
   local_rel i (JumpForward past) v s l e r = let le = le_of (i + 1 + past) len e in (omega arith, omega arith, r)
   local_rel i (JumpBack back) v s l e r = let le = le_of back i e in (omega arith, omega arith, r)
-  local_rel i Turn v s l e r = next_rel i _ _ l (kept_rel v s (λ z. record z { turns = z.turns + 1 }) (λ z values. refl) r)
+  local_rel i Turn v s l e r = next_rel i _ _ l (kept_rel v s (λ z. record z { turns = z.turns + 1 }) (λ z values.
+      refl) r)
   local_rel i (Call g first x) v s l e r = cc
   local_rel i (CallAddress y first m x k) v s l e r = cc
   local_rel i (Return y) v s l e r = cc
@@ -260,7 +278,8 @@ module _ (c : Context) (n d : ℕ) (f : ℕ → ℕ) (names : IsRenaming n d f) 
   left_not_leaves (Continues v) h = cc
   left_not_leaves (Halts status report v) h = cc
 
-module _ (c : Context) (n d : ℕ) (f : ℕ → ℕ) (names : IsRenaming n d f) (code r : List FlatInstruction) (pc : ℕ) (s0 : State)
+module _ (c : Context) (n d : ℕ) (f : ℕ
+    → ℕ) (names : IsRenaming n d f) (code r : List FlatInstruction) (pc : ℕ) (s0 : State)
     (fit : all_fit n d (length r) 0 r ≡ true) (has : HasAt code pc (map (rename f) r)) where
   abbrev Both : Local → Local → Type 0
   Both = RelAt c n d f names (length r) pc s0
@@ -298,7 +317,8 @@ module _ (c : Context) (n d : ℕ) (f : ℕ → ℕ) (names : IsRenaming n d f) 
           ap (λ o. local_run c r k (act c o i v)) (sym p.2) ∙ from_step in
           let both = local_rel c n d f names (length r) pc s0 i x (counted x v) (counted (rename f x) s) p.1 fx
           (counted_rel x rel.2) in
-          let t = again (local c x i (counted x v)) (local c (rename f x) (pc + i) (counted (rename f x) s)) both alone in
+          let t = again (local c x i (counted x v)) (local c (rename f x) (pc + i) (counted (rename f x) s)) both
+          alone in
           record {
             steps = suc t.steps;
             within = omega (arith, t.within);
@@ -398,7 +418,12 @@ renamed c n d f r names fit code pc s has b I J t =
           within = omega (arith, u.within, t.within);
           outcome = Halts status' report' s';
           comes = comes;
-          holds = (v, subst (λ z. J status' z v) same.1 (subst (λ z. J z report v) same.0 q), same.2.agrees, same.2.only);
+          holds = (
+            v,
+            subst (λ z. J status' z v) same.1 (subst (λ z. J z report v) same.0 q),
+            same.2.agrees,
+            same.2.only,
+          );
         }
         go (Continues v) (Halts status report s') q comes same = absurd same
         go (Halts status report v) (Continues s') q comes same = absurd same

@@ -152,7 +152,8 @@ module _ (c : Context) (code : List FlatInstruction) where
       })
 
   -- a jump
-  pub jump_on : (b pc past : ℕ) (s : State) (end : ℕ) (R : Outcome → Type 0) → slice_get code pc ≡ Some (JumpForward past)
+  pub jump_on : (b pc past : ℕ) (s : State) (end : ℕ) (R : Outcome → Type 0)
+      → slice_get code pc ≡ Some (JumpForward past)
       → Reaches c code b (Goes (pc + 1 + past) (worked s)) end R → Reaches c code (suc b) (Goes pc s) end R
   jump_on b pc past s end R at t = step_on b (Goes pc s) (Goes (pc + 1 + past) (worked s)) end R
       (ap (λ o. act c o pc s) at) t
@@ -227,7 +228,8 @@ module _ (c : Context) (code : List FlatInstruction) where
         subst (λ m. Reaches c code m (Goes pc s) (pc + length (until_code op x y body)) (Either D J)) (sym m)
         (step_on (b + suc (n * (b + 2) + 1)) (Goes pc s) (Goes (pc + 1) (worked s)) _ (Either D J)
         (ap (λ o. act c o pc s) has.0 ∙ ap (λ n. Goes n (worked s)) (cond-false _ (pc + 1 + (length body + 1)) _ d.0))
-        (next b (suc (n * (b + 2) + 1)) (Goes (pc + 1) (worked s)) (pc + 1 + length body) _ (λ s'. Left d.1 (worked s')) J
+        (next b (suc (n * (b + 2) + 1)) (Goes (pc + 1) (worked s)) (pc + 1 + length body) _ (λ s'. Left d.1 (worked
+        s')) J
         (Either D J) w'
         d.3
         (λ s2 w2 q. jump_back (n * (b + 2) + 1) (pc + 1 + length body) (length body + 1) pc s2 _ (Either D J) at_end
@@ -258,7 +260,8 @@ pub in_sequence : (c : Context) (a b : List FlatInstruction) (A B : ℕ) (P : Ho
     → Does c a P (λ s. A) Q → ((s : State) → Does c b (P' s) (λ s'. B) (Q' s))
     → ((s s' : State) → P s → Q s (Continues s') → P' s s')
     → ((s s' : State) (x : Outcome) → P s → Q s (Continues s') → Q' s s' x → R s x)
-    → ((s s' : State) (status : ℕ) (report : List ℕ) → P s → Q s (Halts status report s') → R s (Halts status report s'))
+    → ((s s' : State) (status : ℕ) (report : List ℕ) → P s → Q s (Halts status report s')
+    → R s (Halts status report s'))
     → Does c (a ++ b) P (λ s. A + B) R
 in_sequence c a b A B P P' Q R Q' da db middle on off = record {
   from = λ code pc s has w p.

@@ -21,8 +21,12 @@ pub access_shown : (c : Context) (a n : ℕ) (kind : AccessKind) (s : State)
     → with_access c a n kind s ≡ record s { accesses = with_shown c a n kind s.accesses }
 access_shown c a n kind s = by (not c.is_runtime && is_of_objects c.sizes a n)
   where
-    by : (b : Bool) → (if b then record s { accesses = s.accesses ++ record { address = a; size = n; kind = kind } ∷ [] } else s)
-        ≡ record s { accesses = if b then s.accesses ++ record { address = a; size = n; kind = kind } ∷ [] else s.accesses }
+    by : (b : Bool)
+        → (if b then record s { accesses = s.accesses ++ record { address = a; size = n; kind = kind } ∷ [] } else s)
+        ≡ record s {
+          accesses = if b then s.accesses ++ record { address = a; size = n; kind = kind } ∷ [] else
+              s.accesses;
+        }
     by true = refl
     by false = refl
 

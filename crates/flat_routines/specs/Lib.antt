@@ -5,3 +5,4 @@ pub mod Registers
 pub mod Renaming
 pub mod Lifted
 pub mod Laws
+pub mod Metadata

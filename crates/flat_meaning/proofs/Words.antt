@@ -48,7 +48,7 @@ right_fits (Register x) values h = h x
 right_fits (Number n) values h = omega arith
 
 -- what stays in its function
-abbrev LocalFits : Local → Type 0
+abbrev pub LocalFits : Local → Type 0
 LocalFits (Goes pc s) = IsOfWords s
 LocalFits (Ends status report s) = Unit {0}
 LocalFits Leaves = Unit {0}
@@ -76,7 +76,7 @@ received_fits x None s h = register_fits x _ s h (omega arith)
 received_fits x (Some byte) s h = let r = register_fits x (byte % 256) s h (omega arith) in
     record { values = r.values; memory = r.memory }
 
-local_fits : (c : Context) (i : FlatInstruction) (pc : ℕ) (s : State) → IsOfWords s → LocalFits (local c i pc s)
+pub local_fits : (c : Context) (i : FlatInstruction) (pc : ℕ) (s : State) → IsOfWords s → LocalFits (local c i pc s)
 local_fits c (Constant x n) pc s h = register_fits x _ s h (omega arith)
 local_fits c (Move x y) pc s h = register_fits x _ s h (h.values y)
 local_fits c (Operate op x y z) pc s h =

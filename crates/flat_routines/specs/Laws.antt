@@ -1,0 +1,24 @@
+-- Words of the laws.
+use Rattle.std.specs.Prelude.{◌≡◌, ℕ, ◌≤◌, List}
+use Rattle.flat_meaning.specs.declared.instruction.FlatInstruction.{FlatInstruction}
+use Rattle.flat_meaning.specs.State.{State}
+use Rattle.flat_meaning.specs.Meaning.{Context, Goes}
+use Rattle.flat_routines.specs.Local.{local_run}
+use Rattle.flat_routines.specs.Routine.{Outcome, Continues, Halts, left_at}
+use Rattle.flat_routines.specs.Renaming.{ChangesOnly, Agrees}
+
+-- two outcomes agree, and of the registers only those for the ones from d on may have changed
+abbrev pub AgreeAtEnd : (n d : ℕ) (f : ℕ → ℕ) (s : State) → Outcome → Outcome → Type 0
+AgreeAtEnd n d f s (Continues v) (Continues s') = Agrees n f v s' × ChangesOnly n d f s s'
+AgreeAtEnd n d f s (Halts status report v) (Halts status' report' s') =
+    (status ≡ status') × (report ≡ report') × Agrees n f v s' × ChangesOnly n d f s s'
+AgreeAtEnd n d f s _ _ = ⊥
+
+-- the code comes from one place to another within so many steps, with an outcome that agrees
+pub record Arrives (c : Context) (n d : ℕ) (f : ℕ → ℕ) (code : List FlatInstruction) (bound pc : ℕ) (s : State)
+    (place : ℕ) (x : Outcome) : Type 0 where
+  pub steps : ℕ
+  pub within : steps ≤ bound
+  pub outcome : Outcome
+  pub comes : local_run c code steps (Goes pc s) ≡ left_at place outcome
+  pub agree : AgreeAtEnd n d f s x outcome

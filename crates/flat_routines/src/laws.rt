@@ -1,0 +1,40 @@
+//! Laws of routines, each as the contract of a function that does nothing: crates above rest on them. Those that speak
+//! of any condition and any result are public lemmas of `proofs/Rules`, `proofs/Renamed` and `proofs/Wrapped`.
+
+ghost use Rattle.std.specs.Prelude.{◌≡◌, ◌+◌, ℕ, List, Bool, true, map, length};
+ghost use Rattle.behaviours.specs.Steps.{run};
+ghost use Rattle.addr_map.specs.Places.{MapSizes};
+ghost use Rattle.flat_meaning.specs.declared.instruction.FlatInstruction.{FlatInstruction};
+ghost use Rattle.flat_meaning.specs.declared.function.FlatProgram.{FlatProgram};
+ghost use Rattle.flat_meaning.specs.Calls.{function_in};
+ghost use Rattle.flat_meaning.specs.State.{State, Frame, Stands};
+ghost use Rattle.flat_meaning.specs.Meaning.{Context, Goes, body_of, context, step};
+ghost use Rattle.flat_routines.specs.Local.{local_run};
+ghost use Rattle.flat_routines.specs.Routine.{HasAt, Outcome, left_at};
+ghost use Rattle.flat_routines.specs.Effects.{effects, AreAllowed};
+ghost use Rattle.flat_routines.specs.Renaming.{rename, all_fit, IsRenaming, through};
+ghost use Rattle.flat_routines.specs.Lifted.{stage_of};
+ghost use Rattle.flat_routines.specs.Laws.{Arrives};
+
+/// A routine does from any place of any function, and over any registers, what it does alone from place 0 and over its
+/// own, in no more steps; all registers but those that it is given to write keep their values.
+pub fn routines_do_the_same_anywhere()
+    ensures { (c : Context) (n d : ℕ) (f : ℕ → ℕ) (r : List FlatInstruction) → IsRenaming n d f
+        → all_fit n d (length r) 0 r ≡ true
+        → (code : List FlatInstruction) (pc : ℕ) (s : State) → HasAt code pc (map (rename f) r)
+        → (k : ℕ) (x : Outcome) → local_run c r k (Goes 0 (through f s)) ≡ left_at (length r) x
+        → Arrives c n d f code k pc s (pc + length r) x }
+{}
+
+/// Instructions without jumps that may be done do what their effects say, one step each.
+pub fn straight_code_has_its_effects()
+    ensures { (c : Context) (code is : List FlatInstruction) (pc : ℕ) (s : State) → AreAllowed c is s → HasAt code pc is
+        → local_run c code (length is) (Goes pc s) ≡ Goes (pc + length is) (effects c is s) }
+{}
+
+/// What a function does within itself, the run of its program does in as many steps.
+pub fn programs_run_their_functions()
+    ensures { (m : MapSizes) (p : FlatProgram) (f : ℕ) (frames : List Frame) (n pc : ℕ) (s : State) (place : ℕ)
+        (x : Outcome) → local_run (context m p f frames) (body_of (function_in p f)) n (Goes pc s) ≡ left_at place x
+        → run (step m p) n (Stands f pc s frames) ≡ stage_of f frames place x }
+{}

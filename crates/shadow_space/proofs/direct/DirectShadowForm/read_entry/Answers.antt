@@ -1,0 +1,14 @@
+use Rattle.std.proofs.Common.{sym, subst}
+use Rattle.std.proofs.lemmas.Result.{IfOk-weaker}
+use Rattle.flat_routines.proofs.Regions.{laid_out}
+use Rattle.shadow_space.specs.Form.{IsReadRoutine}
+use Rattle.shadow_space.specs.Direct.{direct_entry}
+use Rattle.shadow_space.proofs.Entries.{direct_reads}
+use Rattle.shadow_space.proofs.direct.DirectShadowForm.read_entry.Goals as goal
+
+pub returns-clause-does : goal.returns-clause-does
+returns-clause-does c = IfOk-weaker _ _ _
+    (λ r e. subst (IsReadRoutine c.args.map.now direct_entry (λ m. Unit {0}) c.args.at c.args.into c.args.scratch)
+    (sym e)
+    (direct_reads c.args.map.now c.args.at c.args.into c.args.scratch (laid_out c.args.map.now c.requires.map)
+    c.requires.distinct c.requires.below)) c.read_code.ensures

@@ -1,0 +1,14 @@
+use Rattle.std.proofs.Common.{sym, subst}
+use Rattle.std.proofs.lemmas.Result.{IfOk-weaker}
+use Rattle.flat_routines.proofs.Regions.{laid_out}
+use Rattle.shadow_space.specs.Form.{IsWriteRoutine}
+use Rattle.shadow_space.specs.Direct.{direct_entry}
+use Rattle.shadow_space.proofs.Entries.{direct_writes}
+use Rattle.shadow_space.proofs.direct.DirectShadowForm.write_entry.Goals as goal
+
+pub returns-clause-does : goal.returns-clause-does
+returns-clause-does c = IfOk-weaker _ _ _
+    (λ r e. subst (IsWriteRoutine c.args.map.now direct_entry (λ m. Unit {0}) c.args.at c.args.from c.args.scratch)
+    (sym e)
+    (direct_writes c.args.map.now c.args.at c.args.from c.args.scratch (laid_out c.args.map.now c.requires.map)
+    c.requires.below)) c.write_code.ensures

@@ -1,0 +1,71 @@
+-- What the routines of a form of the shadow space do.
+use Rattle.std.specs.Prelude.{◌≡◌, ◌≢◌, ℕ, ◌+◌, ◌*◌, ◌%◌, ◌<◌, ◌≤◌, ◌⊎◌, List, [], Bool}
+use Rattle.addr_map.specs.declared.region.Region.TheVariants.{Heap}
+use Rattle.addr_map.specs.Places.{MapSizes, objects_begin, region_end}
+use Rattle.flat_meaning.specs.declared.instruction.FlatInstruction.{FlatInstruction}
+use Rattle.flat_meaning.specs.Memory.{Bytes}
+use Rattle.flat_meaning.specs.State.{State}
+use Rattle.flat_routines.specs.declared.registers.Entry.{Entry}
+use Rattle.flat_routines.specs.Registers.{OthersStay}
+use Rattle.flat_routines.specs.Routine.{Does, Either, Never}
+use Rattle.flat_routines.specs.Metadata.{View, no_metadata, metadata_in, entry_registers, IsObjectWord}
+use Rattle.flat_routines.specs.Metadata.{KeepsButShadow, ShowsNothing}
+
+-- a routine does the same in functions of the program and of the runtime, whatever the calls have taken
+abbrev pub DoesAnywhere : MapSizes → List FlatInstruction → (State → Type 0) → (steps : ℕ) → (State → State → Type 0)
+    → Type 0
+DoesAnywhere map r P steps Q =
+    (runtime : Bool) (charge : ℕ)
+    → Does (record { sizes = map; is_runtime = runtime; charge = charge }) r P (λ s. steps) (λ s. Either (Q s) Never)
+
+pub record HasRead (entry : View) (at : ℕ) (into : Entry) (scratch : ℕ) (s s' : State) : Type 0 where
+  pub read : metadata_in s'.values into ≡ entry s.memory (s.values at)
+  pub memory : s'.memory ≡ s.memory
+  pub shows : ShowsNothing s s'
+  pub others : OthersStay (entry_registers into) scratch s s'
+
+pub record HasWritten (map : MapSizes) (entry : View) (IsGood : Bytes → Type 0) (at : ℕ) (from : Entry) (scratch : ℕ)
+    (s s' : State) : Type 0 where
+  pub written : entry s'.memory (s.values at) ≡ metadata_in s.values from
+  pub other_words : (a : ℕ) → IsObjectWord map a → a ≢ s.values at → entry s'.memory a ≡ entry s.memory a
+  pub good : IsGood s'.memory
+  pub memory : KeepsButShadow map s.memory s'.memory
+  pub shows : ShowsNothing s s'
+  pub others : OthersStay [] scratch s s'
+
+pub record HasCleared (map : MapSizes) (entry : View) (IsGood : Bytes → Type 0) (first count scratch : ℕ)
+    (s s' : State) : Type 0 where
+  pub cleared : (k : ℕ) → k < count → entry s'.memory (s.values first + 8 * k) ≡ no_metadata
+  pub other_words : (a : ℕ) → IsObjectWord map a → (a < s.values first) ⊎ (s.values first + 8 * count ≤ a)
+      → entry s'.memory a ≡ entry s.memory a
+  pub good : IsGood s'.memory
+  pub memory : KeepsButShadow map s.memory s'.memory
+  pub shows : ShowsNothing s s'
+  pub others : OthersStay [] scratch s s'
+
+-- so many words of object space, whose bytes are these
+pub record IsWordRange (map : MapSizes) (first bytes count : ℕ) : Type 0 where
+  pub begins : objects_begin ≤ first
+  pub ends : first + 8 * count ≤ region_end map Heap
+  pub bytes_of_words : bytes ≡ 8 * count
+  pub aligned : first % 8 ≡ 0
+
+-- the entry of the word at an address is read, or written, within 32 steps
+abbrev pub IsReadRoutine : MapSizes → View → (Bytes → Type 0) → (at : ℕ) → Entry → (scratch : ℕ) → List FlatInstruction
+    → Type 0
+IsReadRoutine map entry IsGood at into scratch r =
+    DoesAnywhere map r (λ s. IsObjectWord map (s.values at) × IsGood s.memory) 32 (HasRead entry at into scratch)
+
+abbrev pub IsWriteRoutine : MapSizes → View → (Bytes → Type 0) → (at : ℕ) → Entry → (scratch : ℕ) → List FlatInstruction
+    → Type 0
+IsWriteRoutine map entry IsGood at from scratch r =
+    DoesAnywhere map r (λ s. IsObjectWord map (s.values at) × IsGood s.memory) 32
+    (HasWritten map entry IsGood at from scratch)
+
+-- the entries of a range are cleared, within 32 steps and 32 for each word
+abbrev pub IsClearRoutine : MapSizes → View → (Bytes → Type 0) → (first bytes scratch : ℕ) → List FlatInstruction
+    → Type 0
+IsClearRoutine map entry IsGood first bytes scratch r =
+    (count : ℕ)
+    → DoesAnywhere map r (λ s. IsWordRange map (s.values first) (s.values bytes) count × IsGood s.memory)
+    (32 + 32 * count) (HasCleared map entry IsGood first count scratch)

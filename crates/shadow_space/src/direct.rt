@@ -1,0 +1,216 @@
+//! The direct form.
+
+ghost use Rattle.std.specs.Prelude.{◌≡◌, ◌+◌, ◌≤◌, ◌^◌, IfOk};
+ghost use Rattle.shadow_space.specs.Direct.{direct_entry, direct_read, direct_write, direct_clear};
+
+use crate::form::ShadowForm;
+use addr_map::AddrMap;
+use flat_meaning::{FlatInstruction, RightOperand};
+use flat_routines::Entry;
+use rv_isa::{BranchOp, LoadOp, RegOp, StoreOp};
+use std::alloc::{AllocError, Global};
+
+/// The form in which the entry of each word has a place of its own, at four times the word's address.
+pub struct Direct;
+
+impl ShadowForm for Direct {
+    ghost entry = { direct_entry };
+
+    ghost IsGood = { λ _ _. Unit {0} };
+
+    fn read_entry(
+        alloc: Global,
+        map: &AddrMap,
+        at: u32,
+        into: Entry,
+        scratch: u32,
+    ) -> Result<Vec<FlatInstruction>, AllocError> {
+        read_code(alloc, at, into, scratch)
+    }
+
+    fn write_entry(
+        alloc: Global,
+        map: &AddrMap,
+        at: u32,
+        from: Entry,
+        scratch: u32,
+    ) -> Result<Vec<FlatInstruction>, AllocError> {
+        write_code(alloc, at, from, scratch)
+    }
+
+    fn clear(
+        alloc: Global,
+        map: &AddrMap,
+        first: u32,
+        bytes: u32,
+        scratch: u32,
+    ) -> Result<Vec<FlatInstruction>, AllocError> {
+        clear_code(alloc, first, bytes, scratch)
+    }
+
+    fn entries_are_local() {}
+}
+
+// Four times an address is its bits shifted by two.
+fn read_code(
+    alloc: Global,
+    at: u32,
+    into: Entry,
+    scratch: u32,
+) -> Result<Vec<FlatInstruction>, AllocError>
+    ensures { IfOk result (λ r. r.items ≡ direct_read at into scratch) }
+{
+    let code = [
+        FlatInstruction::Operate {
+            op: RegOp::Sll,
+            into: scratch,
+            left: at,
+            right: RightOperand::Number(2),
+        },
+        FlatInstruction::Load {
+            op: LoadOp::Ld,
+            into: into.base,
+            at: scratch,
+            offset: 0,
+        },
+        FlatInstruction::Load {
+            op: LoadOp::Ld,
+            into: into.bound,
+            at: scratch,
+            offset: 8,
+        },
+        FlatInstruction::Load {
+            op: LoadOp::Ld,
+            into: into.key,
+            at: scratch,
+            offset: 16,
+        },
+        FlatInstruction::Load {
+            op: LoadOp::Ld,
+            into: into.lock,
+            at: scratch,
+            offset: 24,
+        },
+    ];
+    Vec::from_slice(alloc, &code)
+}
+
+fn write_code(
+    alloc: Global,
+    at: u32,
+    from: Entry,
+    scratch: u32,
+) -> Result<Vec<FlatInstruction>, AllocError>
+    ensures { IfOk result (λ r. r.items ≡ direct_write at from scratch) }
+{
+    let code = [
+        FlatInstruction::Operate {
+            op: RegOp::Sll,
+            into: scratch,
+            left: at,
+            right: RightOperand::Number(2),
+        },
+        FlatInstruction::Store {
+            op: StoreOp::Sd,
+            at: scratch,
+            offset: 0,
+            from: from.base,
+        },
+        FlatInstruction::Store {
+            op: StoreOp::Sd,
+            at: scratch,
+            offset: 8,
+            from: from.bound,
+        },
+        FlatInstruction::Store {
+            op: StoreOp::Sd,
+            at: scratch,
+            offset: 16,
+            from: from.key,
+        },
+        FlatInstruction::Store {
+            op: StoreOp::Sd,
+            at: scratch,
+            offset: 24,
+            from: from.lock,
+        },
+    ];
+    Vec::from_slice(alloc, &code)
+}
+
+fn clear_code(
+    alloc: Global,
+    first: u32,
+    bytes: u32,
+    scratch: u32,
+) -> Result<Vec<FlatInstruction>, AllocError>
+    requires { scratch ≤ 2 ^ 31 }
+    ensures { IfOk result (λ r. r.items ≡ direct_clear first bytes scratch (scratch + 1) (scratch + 2)) }
+{
+    let cursor = scratch;
+    let end = scratch + 1;
+    let zero = scratch + 2;
+    let code = [
+        FlatInstruction::Operate {
+            op: RegOp::Sll,
+            into: cursor,
+            left: first,
+            right: RightOperand::Number(2),
+        },
+        FlatInstruction::Operate {
+            op: RegOp::Sll,
+            into: end,
+            left: bytes,
+            right: RightOperand::Number(2),
+        },
+        FlatInstruction::Operate {
+            op: RegOp::Add,
+            into: end,
+            left: end,
+            right: RightOperand::Register(cursor),
+        },
+        FlatInstruction::Constant {
+            into: zero,
+            value: 0,
+        },
+        // each turn clears one entry
+        FlatInstruction::Branch {
+            op: BranchOp::Bgeu,
+            left: cursor,
+            right: RightOperand::Register(end),
+            past: 6,
+        },
+        FlatInstruction::Store {
+            op: StoreOp::Sd,
+            at: cursor,
+            offset: 0,
+            from: zero,
+        },
+        FlatInstruction::Store {
+            op: StoreOp::Sd,
+            at: cursor,
+            offset: 8,
+            from: zero,
+        },
+        FlatInstruction::Store {
+            op: StoreOp::Sd,
+            at: cursor,
+            offset: 16,
+            from: zero,
+        },
+        FlatInstruction::Store {
+            op: StoreOp::Sd,
+            at: cursor,
+            offset: 24,
+            from: zero,
+        },
+        FlatInstruction::Operate {
+            op: RegOp::Add,
+            into: cursor,
+            left: cursor,
+            right: RightOperand::Number(32),
+        },
+        FlatInstruction::JumpBack { back: 6 },
+    ];
+    Vec::from_slice(alloc, &code)
+}

@@ -1,0 +1,73 @@
+//! What a form of the shadow space gives.
+
+ghost use Rattle.std.specs.Prelude.{◌≡◌, ℕ, ◌≤◌, ◌^◌, IfOk, [], ◌∷◌, length};
+ghost use Rattle.addr_map.specs.Places.{MapSizes, AreMapped};
+ghost use Rattle.flat_meaning.specs.Memory.{Bytes};
+ghost use Rattle.flat_routines.specs.Registers.{AreDistinct, AreBelow};
+ghost use Rattle.flat_routines.specs.Metadata.{View, IsObjectWord, KeepsShadow, entry_registers};
+ghost use Rattle.shadow_space.specs.Form.{IsReadRoutine, IsWriteRoutine, IsClearRoutine};
+
+use addr_map::AddrMap;
+use flat_meaning::FlatInstruction;
+use flat_routines::Entry;
+use std::alloc::{AllocError, Global};
+
+/// A form of the shadow space. The addresses handed to routines are multiples of 8, and the words there lie in object
+/// space. A routine may write the registers from `scratch` on, and those that it gives a result in; it touches the
+/// shadow space alone, shows nothing and does not end the run. The only refusal is that memory fails.
+pub trait ShadowForm {
+    /// The entry of each word, by the memory.
+    ghost entry: { View };
+
+    /// What holds of the memory whenever a routine is called.
+    ghost IsGood: { MapSizes → Bytes → Type 0 };
+
+    /// Reads the entry of the word at the address in `at` into the registers of `into`.
+    fn read_entry(
+        alloc: Global,
+        map: &AddrMap,
+        at: u32,
+        into: Entry,
+        scratch: u32,
+    ) -> Result<Vec<FlatInstruction>, AllocError>
+        requires map { AreMapped map.now }
+        requires distinct { AreDistinct (at ∷ entry_registers into) }
+        requires below { AreBelow scratch (at ∷ entry_registers into) }
+        requires room { scratch ≤ 2 ^ 31 }
+        ensures does { IfOk result (λ r. IsReadRoutine map.now entry (IsGood map.now) at into scratch r.items) }
+        ensures short { IfOk result (λ r. length r.items ≤ 32) };
+
+    /// Writes the values of the registers of `from` as the entry of the word at the address in `at`.
+    fn write_entry(
+        alloc: Global,
+        map: &AddrMap,
+        at: u32,
+        from: Entry,
+        scratch: u32,
+    ) -> Result<Vec<FlatInstruction>, AllocError>
+        requires map { AreMapped map.now }
+        requires below { AreBelow scratch (at ∷ entry_registers from) }
+        requires room { scratch ≤ 2 ^ 31 }
+        ensures does { IfOk result (λ r. IsWriteRoutine map.now entry (IsGood map.now) at from scratch r.items) }
+        ensures short { IfOk result (λ r. length r.items ≤ 32) };
+
+    /// Makes the entries of the words from the address in `first` on, as many bytes as `bytes` holds, those of words
+    /// without a pointer.
+    fn clear(
+        alloc: Global,
+        map: &AddrMap,
+        first: u32,
+        bytes: u32,
+        scratch: u32,
+    ) -> Result<Vec<FlatInstruction>, AllocError>
+        requires map { AreMapped map.now }
+        requires below { AreBelow scratch (first ∷ bytes ∷ []) }
+        requires room { scratch ≤ 2 ^ 31 }
+        ensures does { IfOk result (λ r. IsClearRoutine map.now entry (IsGood map.now) first bytes scratch r.items) }
+        ensures short { IfOk result (λ r. length r.items ≤ 32) };
+
+    /// Entries depend on the bytes of the shadow space alone, and so does what holds of the memory.
+    fn entries_are_local()
+        ensures { (map : MapSizes) (m m' : Bytes) → AreMapped map → KeepsShadow map m m' → IsGood map m
+            → IsGood map m' × ((a : ℕ) → IsObjectWord map a → entry m' a ≡ entry m a) };
+}

@@ -1,0 +1,12 @@
+//! The shadow space: where the metadata of the words of object space stands, and the routines that read and write it.
+//!
+//! A form of the shadow space (`form`) says what the entry of a word is in a memory, and gives the routines; what is
+//! proved of them speaks of entries alone, so code above is the same for every form. In the direct form (`direct`)
+//! the entry of a word has a place of its own.
+#![tactic(auto)]
+
+pub mod direct;
+pub mod form;
+
+pub use crate::direct::Direct;
+pub use crate::form::ShadowForm;

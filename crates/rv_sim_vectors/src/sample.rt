@@ -11,9 +11,9 @@ use std::alloc::{AllocError, Global};
 /// Rows at 0x10000, of 32 bytes, and code at 0x100000, of one ECALL, which may be executed alone; objects at
 /// 0x10000000,
 /// of 0x2000 bytes, and runtime at 0x40000000, of 0x1000 bytes, which may be read and written. The run begins at the
-/// rows. In the file the program headers stand at 64, 120, 176 and 232.
+/// jump table. In the file the program headers stand at 64, 120, 176 and 232.
 pub fn parts(alloc: Global, jump_table: Vec<u8>, objects: Vec<u8>) -> Result<NewImage, AllocError>
-    requires rows { length rows.items ≤ 32 }
+    requires jump_table { length jump_table.items ≤ 32 }
     requires objects { length objects.items ≤ 32 }
     ensures { IfOk result SegmentsFit }
 {
@@ -21,7 +21,7 @@ pub fn parts(alloc: Global, jump_table: Vec<u8>, objects: Vec<u8>) -> Result<New
         entry: 0x10000,
         jump_table: NewSegment {
             address: 0x10000,
-            bytes: rows,
+            bytes: jump_table,
             size: 32,
         },
         code: NewSegment {

@@ -228,15 +228,15 @@ fn trapped(errors: &[u8]) -> Shown<'_> {
     }
 }
 
-// Images by hand: parts with these rows, where the run begins. The rows have 32 bytes; those behind the given ones are
+// Images by hand: segments with this jump table, where the run begins. It has 32 bytes; those behind the given ones are
 // zero. The objects have a page.
 fn parts(alloc: Global, jump_table: Vec<u8>) -> Result<NewImage, AllocError>
-    requires { length rows.items ≤ 32 }
+    requires { length jump_table.items ≤ 32 }
     ensures { IfOk result SegmentsFit }
 {
     Ok(NewImage {
         entry: 0x1_0000,
-        jump_table: part(0x1_0000, rows, 32),
+        jump_table: part(0x1_0000, jump_table, 32),
         code: part(0x10_0000, Vec::new(alloc), 4),
         objects: part(0x1000_0000, Vec::new(alloc), 0x1000),
         runtime: part(0x4000_0000, Vec::new(alloc), 16),
@@ -305,7 +305,7 @@ fn run(alloc: Global, image: &[u8], streams: &Streams) -> Result<Left, Fail> {
 #[test]
 fn images_that_trap(rt: HostRuntime) -> Result<(), Fail> {
     let access = load(LoadOp::Ld, 0);
-    let jump_table: [(&[Instr], &[u8]); 5] = [
+    let rows: [(&[Instr], &[u8]); 5] = [
         (&[], b"sbcets: error: trap illegal at 0x10000\n"),
         (&[access], b"sbcets: error: trap access at 0x10000\n"),
         (
@@ -387,7 +387,7 @@ fn streams_that_fail(rt: HostRuntime) -> Result<(), Fail> {
     assert_eq!(rt; run(alloc, &reading, &failing)?.shown(), INPUT_FAILED);
     // The line comes in pieces: the third is the kind of the trap.
     let breaking = image_of(alloc, &[Instr::Ebreak])?;
-    let jump_table: [(&[(u64, u64)], &[u8]); 2] = [
+    let rows: [(&[(u64, u64)], &[u8]); 2] = [
         (&[(0, 0)], b""),
         (&[(2, 1)], b"sbcets: error: trap b"),
     ];

@@ -1,22 +1,20 @@
 -- One object changes, in the list and in memory.
-use Rattle.std.proofs.Common.{◌≡◌, ◌≢◌, ℕ, zero, suc, ◌+◌, ◌*◌, ◌/◌, ◌%◌, ◌<◌, ◌≤◌, ◌⊎◌, inl, inr, List, [], ◌∷◌, Bool, true, false}
-use Rattle.std.proofs.Common.{length, get_or, refl, sym, ap, ◌∙◌, subst, arith, ⊎_elim}
+use Rattle.std.proofs.Common.{◌≡◌, ◌≢◌, ℕ, zero, suc, ◌+◌, ◌*◌, ◌/◌, ◌<◌, ◌≤◌, ◌⊎◌, inl, inr, [], ◌∷◌}
+use Rattle.std.proofs.Common.{true}
+use Rattle.std.proofs.Common.{length, get_or, sym, ◌∙◌, subst, arith, ⊎_elim}
 use Rattle.std.proofs.lemmas.Bool.{cases_eq}
-use Rattle.addr_map.specs.declared.region.Region.TheVariants.{Heap, Locks}
-use Rattle.addr_map.specs.Places.{MapSizes, AreMapped, objects_begin, spaces_begin, region_size, region_start, region_end}
-use Rattle.addr_map.specs.Places.{lock_count}
+use Rattle.addr_map.specs.Places.{MapSizes, AreMapped, region_size, region_start}
 use Rattle.obj_memory.specs.declared.object.Storage.{Storage}
 use Rattle.obj_memory.specs.declared.object.Storage.TheVariants.{Static, Automatic, Allocated}
-use Rattle.obj_memory.specs.declared.value.Tag.TheVariants.{Untagged}
-use Rattle.obj_memory.specs.Heap.{object_room, block_room}
+use Rattle.obj_memory.specs.Heap.{object_room}
 use Rattle.obj_memory.specs.Objects.{ObjectState, Objects, object_at}
-use Rattle.obj_memory.specs.Sound.{IsSound, IsSoundObject, KeepsObjects, IsSameBut, AreDisjoint, AreBeside}
+use Rattle.obj_memory.specs.Sound.{IsSound, IsSoundObject, KeepsObjects, AreBeside}
 use Rattle.obj_memory.proofs.Making.{disjoint_kept}
-use Rattle.flat_meaning.specs.Memory.{Bytes, load}
+use Rattle.flat_meaning.specs.Memory.{Bytes}
 use Rattle.flat_routines.specs.Metadata.{IsObjectWord}
 use Rattle.flat_routines.proofs.Regions.{IsLaidOut}
-use Rattle.flat_objects.specs.StandsFor.{Views, Keys, BlockRow, no_row, spell, IsPlaced, IsLock, global_lock, IsKeyed}
-use Rattle.flat_objects.specs.StandsFor.{AreKeyed, IsHere, AreLocked, IsRowOf, IsTable, StandsFor}
+use Rattle.flat_objects.specs.StandsFor.{Views, Keys, BlockRow, no_row, IsPlaced, IsLock, global_lock, IsKeyed}
+use Rattle.flat_objects.specs.StandsFor.{IsHere, AreLocked, IsRowOf, IsTable, StandsFor}
 use Rattle.flat_objects.specs.Changes.{Changes}
 
 -- what is live was made
@@ -38,7 +36,8 @@ size_of_room Static size = omega arith
 size_of_room Automatic size = omega arith
 size_of_room Allocated size = omega arith
 
-pub beside_bytes : (o x : ObjectState) → AreBeside o x → (o.address + o.size ≤ x.address) ⊎ (x.address + x.size ≤ o.address)
+pub beside_bytes : (o x : ObjectState) → AreBeside o x
+    → (o.address + o.size ≤ x.address) ⊎ (x.address + x.size ≤ o.address)
 beside_bytes o x h =
     let a = size_of_room o.storage o.size in let b = size_of_room x.storage x.size in
     ⊎_elim (λ l. inl (omega arith)) (λ r. inr (omega arith)) h
@@ -74,10 +73,10 @@ module _ (g : Views) (k : Keys) (mapped : AreMapped g.sizes) (ok : IsLaidOut g.s
       let out = beside_bytes o x (st.disjoint.apart j n ne l live) in
       record {
         bytes = λ i il. c.bytes (o.address + i) (omega (arith, p.last))
-        (⊎_elim (λ z. inl (omega (arith, z))) (λ z. inr (omega (arith, z))) out) ∙ h.bytes i il;
+            (⊎_elim (λ z. inl (omega (arith, z))) (λ z. inr (omega (arith, z))) out) ∙ h.bytes i il;
         tags = λ w wl. (let word = word_of g.sizes g.functions old o w (st.sound.at j) p wl in
-        c.entries (o.address + 8 * w) word
-        (⊎_elim (λ z. inl (omega (arith, z))) (λ z. inr (omega (arith, z))) out)) ∙ h.tags w wl;
+            c.entries (o.address + 8 * w) word
+            (⊎_elim (λ z. inl (omega (arith, z))) (λ z. inr (omega (arith, z))) out)) ∙ h.tags w wl;
       }
 
   here : (j : ℕ) → (object_at new j).is_live ≡ true → IsHere g k m' (object_at new j)
@@ -89,10 +88,10 @@ module _ (g : Views) (k : Keys) (mapped : AreMapped g.sizes) (ok : IsLaidOut g.s
   locks : AreLocked g.sizes k new m'
   locks = record {
     live = λ j l. (let h = st.keyed.each j (live_is_made old j (was_live j l)) in c.tables.locks (k.held j).lock h.lock)
-    ∙ st.locks.live j (was_live j l);
+        ∙ st.locks.live j (was_live j l);
     dead = λ j l d e. (let l' : j < length old = omega (arith, l, keeps.count) in
-    st.locks.dead j l' (sym (keeps.at j).live ∙ d)
-    (sym (c.tables.locks (k.held j).lock (st.keyed.each j l').lock) ∙ e));
+        st.locks.dead j l' (sym (keeps.at j).live ∙ d)
+        (sym (c.tables.locks (k.held j).lock (st.keyed.each j l').lock) ∙ e));
     global = c.tables.locks (global_lock g.sizes) (global_is_lock g.sizes mapped) ∙ st.locks.global;
     unused = λ a l ne none. c.tables.locks a l ∙ st.locks.unused a l ne (λ j jl. none j ((keeps.at j).live ∙ jl));
   }
@@ -113,7 +112,7 @@ module _ (g : Views) (k : Keys) (mapped : AreMapped g.sizes) (ok : IsLaidOut g.s
     by_address = st.table.by_address;
     block_of = λ i l. (let r = st.table.block_of i l in (r.0, row_kept (get_or (g.blocks m) i no_row) r.0 r.1));
     row_of = λ j l b. (let r = st.table.row_of j (was_live j l) (sym (keeps.at j).storage ∙ b) in
-    (r.0, r.1, row_kept (get_or (g.blocks m) r.0 no_row) j r.2));
+        (r.0, r.1, row_kept (get_or (g.blocks m) r.0 no_row) j r.2));
   }
 
   pub changed : StandsFor g k new m'
@@ -124,7 +123,7 @@ module _ (g : Views) (k : Keys) (mapped : AreMapped g.sizes) (ok : IsLaidOut g.s
     keyed = record {
       each = keyed;
       alone = λ i j il jl ne e. st.keyed.alone i j (omega (arith, il, keeps.count)) (omega (arith, jl, keeps.count)) ne
-      (sym (keeps.at i).storage ∙ e);
+          (sym (keeps.at i).storage ∙ e);
     };
     here = here;
     locks = locks;

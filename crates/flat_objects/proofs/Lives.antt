@@ -1,18 +1,19 @@
 -- Births and deaths.
-use Rattle.std.proofs.Common.{◌≡◌, ◌≢◌, ℕ, zero, suc, ◌+◌, ◌*◌, ◌/◌, ◌<◌, ◌≤◌, ◌⊎◌, inl, inr, Bool, true, false, length, get_or}
+use Rattle.std.proofs.Common.{◌≡◌, ◌≢◌, ℕ, ◌+◌, ◌<◌, ◌≤◌, ◌⊎◌, inl, inr, true, false}
+use Rattle.std.proofs.Common.{length, get_or}
 use Rattle.std.proofs.Common.{refl, sym, ap, ◌∙◌, subst, arith, ⊎_elim}
 use Rattle.std.proofs.lemmas.Bool.{cases_eq, cases_lt, cases_Bool}
-use Rattle.addr_map.specs.Places.{MapSizes, AreMapped}
+use Rattle.addr_map.specs.Places.{AreMapped}
 use Rattle.obj_memory.specs.declared.object.Storage.{Storage}
 use Rattle.obj_memory.specs.declared.object.Storage.TheVariants.{Static, Automatic, Allocated}
 use Rattle.obj_memory.specs.declared.value.Tag.{Tag}
 use Rattle.obj_memory.specs.declared.value.Tag.TheVariants.{Untagged, OfFunction, OfObject}
-use Rattle.obj_memory.specs.Objects.{ObjectState, Objects, object_at}
-use Rattle.obj_memory.specs.Sound.{IsSound, IsSoundTag}
+use Rattle.obj_memory.specs.Objects.{Objects, object_at}
+use Rattle.obj_memory.specs.Sound.{IsSoundTag}
 use Rattle.flat_meaning.specs.Memory.{Bytes, load}
-use Rattle.flat_objects.specs.StandsFor.{Views, Keys, Holding, spell, IsPlaced, IsLock, global_lock, IsKeyed, AreKeyed}
+use Rattle.flat_objects.specs.StandsFor.{Views, Keys, spell, IsPlaced, IsLock, global_lock, IsKeyed}
 use Rattle.flat_objects.specs.StandsFor.{IsHere, AreLocked, StandsFor}
-use Rattle.flat_objects.specs.Changes.{KeepsLive, IsFresh, AreBorn, AreDead}
+use Rattle.flat_objects.specs.Changes.{AreBorn, AreDead}
 use Rattle.flat_objects.proofs.Changing.{live_is_made, global_is_lock}
 
 storage_cases : (s : Storage) → (s ≡ Static) ⊎ (s ≢ Static)
@@ -72,10 +73,12 @@ module _ (g : Views) (k k' : Keys) (mapped : AreMapped g.sizes) (old new : Objec
       record {
         lock = subst (λ z. IsLock g.sizes z.lock) (sym d) q.lock;
         static = λ s. subst (λ z. (z.key ≡ 1) × (z.lock ≡ global_lock g.sizes)) (sym d)
-        (q.static (ap (λ o. o.storage) (sym e) ∙ s));
-        other = λ s. (let y = q.other (λ z. s (ap (λ o. o.storage) e ∙ z)) in
-        (ap (λ z. z.key) d ∙ y.0 ∙ ap (λ z. 2 + z) (sym w), (let a = y.1 in omega arith),
-        subst (λ z. z.lock ≢ global_lock g.sizes) (sym d) y.2));
+            (q.static (ap (λ o. o.storage) (sym e) ∙ s));
+        other = λ s. (let y = q.other (λ z. s (ap (λ o. o.storage) e ∙ z)) in (
+          ap (λ z. z.key) d ∙ y.0 ∙ ap (λ z. 2 + z) (sym w),
+          (let a = y.1 in omega arith),
+          subst (λ z. z.lock ≢ global_lock g.sizes) (sym d) y.2,
+        ));
       }))
       (λ h. (let r = b.made in let w = b.new_own n h in record {
         lock = subst (IsLock g.sizes) (sym (new_lock n h)) b.lock_word;
@@ -103,7 +106,7 @@ module _ (g : Views) (k k' : Keys) (mapped : AreMapped g.sizes) (old new : Objec
       (λ h. subst (IsHere g k' m') (sym (b.same n h)) (let live = was_live n h l in let q = st.here n live in record {
         bytes = λ j jl. b.keeps.bytes n live j jl ∙ q.bytes j jl;
         tags = λ w wl. b.keeps.entries n live w wl ∙ q.tags w wl
-        ∙ sym (spell_same g k k' old (get_or (object_at old n).tags w Untagged) b.held ((st.sound.at n).tag w));
+            ∙ sym (spell_same g k k' old (get_or (object_at old n).tags w Untagged) b.held ((st.sound.at n).tag w));
       }))
       (λ h. (let q = b.fresh n h (made n l) in record {
         bytes = λ j jl. q.bytes j jl ∙ sym (q.zeros j);
@@ -123,22 +126,24 @@ module _ (g : Views) (k k' : Keys) (mapped : AreMapped g.sizes) (old new : Objec
   locks : AreLocked g.sizes k' new m'
   locks = record {
     live = λ n l. ⊎_elim
-    (λ h. (let live = was_live n h l in
-    subst (λ z. load 8 m' z.lock ≡ z.key) (sym (b.held n h))
-    (b.keeps.locks (k.held n).lock (st.keyed.each n h).lock (b.free n live) ∙ st.locks.live n live)))
-    (λ h. subst (λ z. load 8 m' z.lock ≡ z.key) (sym (b.new_held n h)) b.locked)
-    (each n);
+        (λ h. (let live = was_live n h l in
+        subst (λ z. load 8 m' z.lock ≡ z.key) (sym (b.held n h))
+        (b.keeps.locks (k.held n).lock (st.keyed.each n h).lock (b.free n live) ∙ st.locks.live n live)))
+        (λ h. subst (λ z. load 8 m' z.lock ≡ z.key) (sym (b.new_held n h)) b.locked)
+        (each n);
     dead = λ n l d. ⊎_elim
-    (λ h. subst (λ z. load 8 m' z.lock ≢ z.key) (sym (b.held n h)) (dead_stays n h d (cases_eq (k.held n).lock lock)))
-    (λ h q. (let z : true ≡ false = sym (b.fresh n h l).live ∙ d in cc))
-    (each n);
+        (λ h. subst (λ z. load 8 m' z.lock ≢ z.key) (sym (b.held n h)) (dead_stays n h d (cases_eq (k.held n).lock
+            lock)))
+        (λ h q. (let z : true ≡ false = sym (b.fresh n h l).live ∙ d in cc))
+        (each n);
     global = b.keeps.locks (global_lock g.sizes) (global_is_lock g.sizes mapped) (λ e. b.not_global (sym e))
-    ∙ st.locks.global;
+        ∙ st.locks.global;
     unused = λ a l ne none.
-    b.keeps.locks a l
-    (λ e. none (length old) (b.fresh (length old) (omega arith) b.some).live (new_lock (length old) (omega arith) ∙ sym e))
-    ∙ st.locks.unused a l ne (λ n live e. (let h = live_is_made old n live in
-    none n (ap (λ o. o.is_live) (b.same n h) ∙ live) (ap (λ z. z.lock) (b.held n h) ∙ e)));
+        b.keeps.locks a l
+        (λ e. none (length old) (b.fresh (length old) (omega arith) b.some).live (new_lock (length old) (omega arith) ∙
+        sym e))
+        ∙ st.locks.unused a l ne (λ n live e. (let h = live_is_made old n live in
+        none n (ap (λ o. o.is_live) (b.same n h) ∙ live) (ap (λ z. z.lock) (b.held n h) ∙ e)));
   }
 
   pub born : StandsFor g k' new m'
@@ -188,10 +193,11 @@ module _ (g : Views) (k : Keys) (mapped : AreMapped g.sizes) (old new : Objects)
   locks_left : AreLocked g.sizes k new m'
   locks_left = record {
     live = λ n l. (let q = lived n l in
-    b.keeps.locks (k.held n).lock (st.keyed.each n (live_is_made old n q.1)).lock (b.gone n l) ∙ st.locks.live n q.1);
+        b.keeps.locks (k.held n).lock (st.keyed.each n (live_is_made old n q.1)).lock (b.gone n l) ∙ st.locks.live n
+            q.1);
     dead = λ n l d. dies n (omega (arith, l, b.count)) d (cases_eq (k.held n).lock lock);
     global = b.keeps.locks (global_lock g.sizes) (global_is_lock g.sizes mapped) (λ e. b.not_global (sym e))
-    ∙ st.locks.global;
+        ∙ st.locks.global;
     unused = λ a l ne none. unused a l ne none (cases_eq a lock);
   }
     where
@@ -214,7 +220,7 @@ module _ (g : Views) (k : Keys) (mapped : AreMapped g.sizes) (old new : Objects)
         other = λ e. h.other (λ z. e (same_storage n ∙ z));
       });
       alone = λ n j nl jl ne e. st.keyed.alone n j (omega (arith, nl, b.count)) (omega (arith, jl, b.count)) ne
-      (sym (same_storage n) ∙ e);
+          (sym (same_storage n) ∙ e);
     };
     here = still_here;
     locks = locks_left;

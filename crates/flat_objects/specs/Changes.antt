@@ -1,13 +1,14 @@
 -- What actions do to a memory and to the objects that it stands for.
-use Rattle.std.specs.Prelude.{◌≡◌, ◌≢◌, ℕ, suc, ◌+◌, ◌-◌, ◌*◌, ◌/◌, ◌%◌, ◌<◌, ◌≤◌, ◌⊎◌, List, true, false, length, get_or}
-use Rattle.addr_map.specs.Places.{MapSizes, spaces_begin}
+use Rattle.std.specs.Prelude.{◌≡◌, ◌≢◌, ℕ, suc, ◌+◌, ◌-◌, ◌*◌, ◌/◌, ◌%◌, ◌<◌, ◌≤◌, ◌⊎◌, List, true, false, length}
+use Rattle.std.specs.Prelude.{get_or}
+use Rattle.addr_map.specs.Places.{spaces_begin}
 use Rattle.obj_memory.specs.declared.object.Storage.TheVariants.{Static, Allocated}
 use Rattle.obj_memory.specs.declared.value.Tag.TheVariants.{Untagged}
 use Rattle.obj_memory.specs.Objects.{ObjectState, Objects, object_at}
 use Rattle.obj_memory.specs.Sound.{IsSound, AreDisjoint}
-use Rattle.flat_meaning.specs.Memory.{Bytes, load, KeepsBut}
+use Rattle.flat_meaning.specs.Memory.{Bytes, load}
 use Rattle.flat_routines.specs.Metadata.{no_metadata, IsObjectWord}
-use Rattle.flat_objects.specs.StandsFor.{Views, Holding, Keys, IsPlaced, IsLock, global_lock, IsHere, IsTable}
+use Rattle.flat_objects.specs.StandsFor.{Views, Keys, IsPlaced, IsLock, global_lock, IsHere, IsTable}
 
 -- lock words, the counter of keys and the table of blocks stay
 pub record KeepsTables (g : Views) (m m' : Bytes) : Type 0 where

@@ -94,7 +94,8 @@ pub record IsHere (g : Views) (k : Keys) (m : Bytes) (o : ObjectState) : Type 0 
   pub bytes : (j : ℕ) → j < o.size → m (o.address + j) ≡ get_or o.bytes j 0
   pub tags : (w : ℕ) → w < o.size / 8 → g.entry m (o.address + 8 * w) ≡ spell g k (get_or o.tags w Untagged)
 
--- A lock word holds the key of an object exactly where that object is live. The global one holds 1, and one that no live
+-- A lock word holds the key of an object exactly where that object is live. The global one holds 1, and one that no
+-- live
 -- object uses 0.
 pub record AreLocked (sizes : MapSizes) (k : Keys) (objects : Objects) (m : Bytes) : Type 0 where
   pub live : (n : ℕ) → (object_at objects n).is_live ≡ true → load 8 m (k.held n).lock ≡ (k.held n).key

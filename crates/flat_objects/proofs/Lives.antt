@@ -133,7 +133,7 @@ module _ (g : Views) (k k' : Keys) (mapped : AreMapped g.sizes) (old new : Objec
         (each n);
     dead = λ n l d. ⊎_elim
         (λ h. subst (λ z. load 8 m' z.lock ≢ z.key) (sym (b.held n h)) (dead_stays n h d (cases_eq (k.held n).lock
-            lock)))
+        lock)))
         (λ h q. (let z : true ≡ false = sym (b.fresh n h l).live ∙ d in cc))
         (each n);
     global = b.keeps.locks (global_lock g.sizes) (global_is_lock g.sizes mapped) (λ e. b.not_global (sym e))
@@ -194,7 +194,7 @@ module _ (g : Views) (k : Keys) (mapped : AreMapped g.sizes) (old new : Objects)
   locks_left = record {
     live = λ n l. (let q = lived n l in
         b.keeps.locks (k.held n).lock (st.keyed.each n (live_is_made old n q.1)).lock (b.gone n l) ∙ st.locks.live n
-            q.1);
+        q.1);
     dead = λ n l d. dies n (omega (arith, l, b.count)) d (cases_eq (k.held n).lock lock);
     global = b.keeps.locks (global_lock g.sizes) (global_is_lock g.sizes mapped) (λ e. b.not_global (sym e))
         ∙ st.locks.global;

@@ -1,0 +1,4 @@
+pub mod Changing
+pub mod Lives
+pub mod Moves
+pub mod Starts

@@ -1,0 +1,3 @@
+pub mod StandsFor
+pub mod Changes
+pub mod Start

@@ -1,6 +1,6 @@
-//! What `*`, `&`, `[]`, `.`, `->` and `sizeof` make of lvalues, functions and values, and what value each of these stands
-//! for (C99 6.3.2.1, 6.5.2, 6.5.3): the typed expression, or the rule that it violates. As in `c_rules`, nothing here looks
-//! at a name, a scope or the syntax.
+//! What `*`, `&`, `[]`, `.`, `->` and `sizeof` make of lvalues, functions and values, and what value each of these
+//! stands for (C99 6.3.2.1, 6.5.2, 6.5.3): the typed expression, or the rule that it violates. As in `c_rules`, nothing
+//! here looks at a name, a scope or the syntax.
 #![tactic(auto)]
 
 pub mod operand;

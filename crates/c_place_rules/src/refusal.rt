@@ -1,5 +1,5 @@
-//! Refusals beside owned trees. The function is generic, since the proof of a drop writes out the whole type unless the type
-//! is a parameter.
+//! Refusals beside owned trees. The function is generic, since the proof of a drop writes out the whole type unless
+//! the type is a parameter.
 
 ghost use Rattle.std.specs.Prelude.{◌≡◌, Err};
 ghost use Rattle.c_rules.specs.declared.fault.Refusal.TheVariants.{Fault as OfFault};

@@ -1,0 +1,3 @@
+pub mod Targets
+pub mod Operands
+pub mod Places

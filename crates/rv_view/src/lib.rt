@@ -1,0 +1,8 @@
+//! The machine that runs a compiled program, seen as functions: its data memory is one function from addresses to
+//! bytes,
+//! as that of flat code is, and its code stands in segments that no store changes.
+//!
+//! `specs/Segments` says what the segments are and when they hold the bytes of a memory.
+#![tactic(auto)]
+
+pub mod laws;

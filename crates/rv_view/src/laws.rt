@@ -1,11 +1,14 @@
 //! Laws of the view, each as the contract of a function that does nothing: the back end rests on them.
 
-ghost use Rattle.std.specs.Prelude.{◌≡◌, ℕ, ◌+◌, ◌<◌, ◌≤◌, List, [], ◌∷◌, Some, true, length, drop};
+ghost use Rattle.std.specs.Prelude.{◌≡◌, ℕ, ◌+◌, ◌<◌, ◌≤◌, List, [], ◌∷◌, Some, None, true, length, drop};
 ghost use Rattle.byteorder.specs.Endian.{little_number};
 ghost use Rattle.addr_map.specs.Places.{functions_begin, code_begin};
 ghost use Rattle.flat_meaning.specs.Memory.{Bytes};
 ghost use Rattle.flat_meaning.specs.Memory.{load as load_of, store as store_of};
 ghost use Rattle.rv_sim.specs.Memory.{load, store, fetch, bytes_at, may_write};
+ghost use Rattle.rv_isa.specs.declared.instruction.Instr.{Instr};
+ghost use Rattle.rv_sim.specs.Run.{Configuration, runs};
+ghost use Rattle.rv_view.specs.Views.{View, Layout, Fits, AllStand, AllGoOn, Shows, StaysOutside, performs};
 ghost use Rattle.rv_view.specs.Segments.{segments, AreApart, Hold, IsOfData};
 
 /// A load from the data segments gives the number that stands in the memory.
@@ -43,4 +46,12 @@ pub fn words_are_fetched()
     ensures code { (table code objects spaces : List ℕ) (place : ℕ) → AreApart table code objects spaces
         → place + 4 ≤ length code
         → fetch (segments table code objects spaces) (code_begin + place) ≡ Some (little_number 4 (drop place code)) }
+{}
+
+/// Instructions that go on, one after another, do to the machine what they do to the view, in one step each.
+pub fn straight_code_performs()
+    ensures { (l : Layout) (is : List Instr) (c : Configuration) (v : View) → Fits l → AllStand l v.pc is
+        → AllGoOn l.object_bytes l.space_bytes is v → Shows l c v
+        → (after : Configuration) × (runs (length is) c ≡ (after, None)) × Shows l after (performs is v)
+        × StaysOutside c after }
 {}

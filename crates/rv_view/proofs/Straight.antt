@@ -45,7 +45,7 @@ runs_then (suc n) k c after e =
     let z : suc n + k ≡ suc (n + k) = omega arith in
     ap (λ j. runs j c) z ∙ runs-suc (n + k) c ∙ ap onwards (runs_then n k c after e) ∙ sym (runs-suc n after)
 
-runs_one : (c after : Configuration) → turn c ≡ (after, None) → runs 1 c ≡ (after, None)
+pub runs_one : (c after : Configuration) → turn c ≡ (after, None) → runs 1 c ≡ (after, None)
 runs_one c after e = runs-suc 0 c ∙ ap onwards (runs-zero c) ∙ e
 
 -- ---- registers
@@ -69,14 +69,14 @@ some_stored Sd = omega arith
 abbrev pub at_register : List ℕ → ℕ → ℕ
 at_register registers r = if r == 0 then 0 else slice_index registers r
 
-length_with : (registers : List ℕ) (rd n : ℕ) → length (with_register registers rd n) ≡ length registers
+pub length_with : (registers : List ℕ) (rd n : ℕ) → length (with_register registers rd n) ≡ length registers
 length_with registers rd n = by (rd == 0)
   where
     by : (b : Bool) → length (if b then registers else slice_set registers rd n) ≡ length registers
     by true = refl
     by false = length-set registers rd n
 
-reads_with : (registers : List ℕ) (x : ℕ → ℕ) (rd n : ℕ) → length registers ≡ 32
+pub reads_with : (registers : List ℕ) (x : ℕ → ℕ) (rd n : ℕ) → length registers ≡ 32
     → ((r : ℕ) → r < 32 → at_register registers r ≡ x r) → rd < 32 → (r : ℕ) → r < 32
     → at_register (with_register registers rd n) r ≡ with_value x rd n r
 reads_with registers x rd n count are small r lt = ⊎_elim
@@ -104,22 +104,22 @@ reads_with registers x rd n count are small r lt = ⊎_elim
 -- ---- one instruction
 
 -- a state is what a view shows of it
-record Sees (l : Layout) (s : MachineState) (pc : ℕ) (x : ℕ → ℕ) (m : Bytes) : Type 0 where
-  objects : List ℕ
-  spaces : List ℕ
-  memory_is : s.memory ≡ segments l.table l.code objects spaces
-  hold : Hold l.object_bytes l.space_bytes m objects spaces
-  pc_is : s.pc ≡ pc
-  count : length s.registers ≡ 32
-  registers_are : (r : ℕ) → r < 32 → register s r ≡ x r
+pub record Sees (l : Layout) (s : MachineState) (pc : ℕ) (x : ℕ → ℕ) (m : Bytes) : Type 0 where
+  pub objects : List ℕ
+  pub spaces : List ℕ
+  pub memory_is : s.memory ≡ segments l.table l.code objects spaces
+  pub hold : Hold l.object_bytes l.space_bytes m objects spaces
+  pub pc_is : s.pc ≡ pc
+  pub count : length s.registers ≡ 32
+  pub registers_are : (r : ℕ) → r < 32 → register s r ≡ x r
 
 -- a step is done, and this is seen behind it
-record Reaches (l : Layout) (t : Stepped) (pc : ℕ) (x : ℕ → ℕ) (m : Bytes) : Type 0 where
-  state : MachineState
-  is : t ≡ (state, Done)
-  sees : Sees l state pc x m
+pub record Reaches (l : Layout) (t : Stepped) (pc : ℕ) (x : ℕ → ℕ) (m : Bytes) : Type 0 where
+  pub state : MachineState
+  pub is : t ≡ (state, Done)
+  pub sees : Sees l state pc x m
 
-apart_of : (l : Layout) (objects spaces : List ℕ) → Fits l → length objects ≡ l.object_bytes
+pub apart_of : (l : Layout) (objects spaces : List ℕ) → Fits l → length objects ≡ l.object_bytes
     → length spaces ≡ l.space_bytes → AreApart l.table l.code objects spaces
 apart_of l objects spaces f a b = record {
   table_fits = f.table_fits;
@@ -128,10 +128,10 @@ apart_of l objects spaces f a b = record {
   spaces_fit = omega (arith, f.spaces_fit);
 }
 
-next_is : (s : MachineState) (pc : ℕ) → pc + 4 < 2 ^ 64 → s.pc ≡ pc → next_pc s ≡ pc + 4
+pub next_is : (s : MachineState) (pc : ℕ) → pc + 4 < 2 ^ 64 → s.pc ≡ pc → next_pc s ≡ pc + 4
 next_is s pc small e = omega (arith, e)
 
-given : (l : Layout) (s : MachineState) (pc : ℕ) (x : ℕ → ℕ) (m : Bytes) (rd n n' : ℕ) → pc + 4 < 2 ^ 64 → rd < 32
+pub given : (l : Layout) (s : MachineState) (pc : ℕ) (x : ℕ → ℕ) (m : Bytes) (rd n n' : ℕ) → pc + 4 < 2 ^ 64 → rd < 32
     → n ≡ n' → Sees l s pc x m → Reaches l (gives s rd n) (pc + 4) (with_value x rd n') m
 unfolding gives
 given l s pc x m rd n n' small r e h = record {
@@ -191,7 +191,8 @@ store_reaches l s pc x m op a a' n n' f small ea en d h =
       };
     }
 
-passes_reaches : (l : Layout) (s : MachineState) (pc : ℕ) (x : ℕ → ℕ) (m : Bytes) → pc + 4 < 2 ^ 64 → Sees l s pc x m
+pub passes_reaches : (l : Layout) (s : MachineState) (pc : ℕ) (x : ℕ → ℕ) (m : Bytes) → pc + 4 < 2 ^ 64
+    → Sees l s pc x m
     → Reaches l (passes s) (pc + 4) x m
 unfolding passes
 passes_reaches l s pc x m small h = record {
@@ -289,7 +290,7 @@ behind o n (Branch op rs1 rs2 imm) v g = absurd g
 behind o n Ecall v g = absurd g
 behind o n Ebreak v g = absurd g
 
-accesses_are : (l : Layout) (i : Instr) (s : MachineState) (v : View) → IsOfTable i
+pub accesses_are : (l : Layout) (i : Instr) (s : MachineState) (v : View) → IsOfTable i
     → fetch s.memory s.pc ≡ Some (word_of i) → Sees l s v.pc v.registers v.memory
     → object_access s ≡ accesses_by v.pc (access_in i v)
 unfolding object_access next_access

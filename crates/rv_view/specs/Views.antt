@@ -126,3 +126,17 @@ pub record StaysOutside (c c' : Configuration) : Type 0 where
   pub output : c'.output ≡ c.output
   pub errors : c'.errors ≡ c.errors
   pub taken : c'.taken ≡ c.taken
+
+-- a byte went to the output, and what else is outside stays
+pub record Sends (c c' : Configuration) (byte : ℕ) : Type 0 where
+  pub output : c'.output ≡ c.output ++ byte ∷ []
+  pub input : c'.input ≡ c.input
+  pub errors : c'.errors ≡ c.errors
+  pub taken : c'.taken ≡ c.taken
+
+-- a byte of the input was taken, and what else is outside stays
+pub record Takes (c c' : Configuration) (rest : List ℕ) : Type 0 where
+  pub input : c'.input ≡ rest
+  pub taken : c'.taken ≡ c.taken + 1
+  pub output : c'.output ≡ c.output
+  pub errors : c'.errors ≡ c.errors

@@ -2,7 +2,8 @@
 //! bytes,
 //! as that of flat code is, and its code stands in segments that no store changes.
 //!
-//! `specs/Segments` says what the segments are and when they hold the bytes of a memory.
+//! `specs/Segments` says what the segments are and when they hold the bytes of a memory, `specs/Views` what a view is, what
+//! an instruction does to it, and when a machine is what a view shows.
 #![tactic(auto)]
 
 pub mod laws;

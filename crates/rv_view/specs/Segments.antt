@@ -1,6 +1,5 @@
 -- The memory of a machine that runs a compiled program: four segments, of which two hold code and two hold data; and
--- the
--- data as one memory, the byte at each address.
+-- the data as one memory, the byte at each address.
 use Rattle.std.specs.Prelude.{◌≡◌, ℕ, ◌+◌, ◌^◌, ◌<◌, ◌≤◌, ◌⊎◌, List, [], ◌∷◌, length, true, false, slice_index}
 use Rattle.addr_map.specs.Places.{functions_begin, code_begin, objects_begin, spaces_begin}
 use Rattle.rv_sim.specs.Memory.{SegmentState}

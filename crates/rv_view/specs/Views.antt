@@ -1,9 +1,8 @@
 -- What is seen of a machine: registers and memory as functions, and the accesses so far; and what an instruction that
--- goes on
--- to the next does to it.
+-- goes on to the next does to it.
 use Rattle.std.specs.Prelude.{◌≡◌, ℕ, ◌+◌, ◌*◌, ◌^◌, ◌<◌, ◌≤◌, ◌==◌, if◌then◌else◌, List, [], ◌∷◌, ◌++◌}
 use Rattle.std.specs.Prelude.{length}
-use Rattle.std.specs.Prelude.{Option, Some, None}
+use Rattle.std.specs.Prelude.{Bool, Option, Some, None}
 use Rattle.addr_map.specs.Places.{functions_begin, code_begin, objects_begin, spaces_begin, is_code_address}
 use Rattle.behaviours.specs.Shown.{Access, Read, Write}
 use Rattle.rv_isa.specs.declared.instruction.Instr.{Instr}
@@ -33,6 +32,13 @@ with_value x r v = if r == 0 then x else put x r v
 
 abbrev pub gets : View → (register value : ℕ) → View
 gets v rd n = record v { pc = v.pc + 4; registers = with_value v.registers rd n }
+
+-- a jump that links, and a branch
+abbrev pub links : View → (register target : ℕ) → View
+links v rd target = record v { pc = target; registers = with_value v.registers rd (v.pc + 4) }
+
+abbrev pub branches : View → (taken : Bool) → (target : ℕ) → View
+branches v taken target = record v { pc = if taken then target else v.pc + 4 }
 
 abbrev pub address_in : View → (register imm : ℕ) → ℕ
 address_in v rs1 imm = wrap (v.registers rs1 + sext 12 imm)

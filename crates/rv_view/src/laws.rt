@@ -1,6 +1,6 @@
 //! Laws of the view, each as the contract of a function that does nothing: the back end rests on them.
 
-ghost use Rattle.std.specs.Prelude.{◌≡◌, ℕ, ◌+◌, ◌%◌, ◌<◌, ◌≤◌, if◌then◌else◌, List, [], ◌∷◌, Some, None, true, length};
+ghost use Rattle.std.specs.Prelude.{◌≡◌, ℕ, ◌+◌, ◌%◌, ◌<◌, ◌≤◌, List, [], ◌∷◌, Some, None, true, length};
 ghost use Rattle.std.specs.Prelude.{drop};
 ghost use Rattle.byteorder.specs.Endian.{little_number};
 ghost use Rattle.addr_map.specs.Places.{functions_begin, code_begin};
@@ -14,8 +14,8 @@ ghost use Rattle.rv_isa.specs.Word.{sext};
 ghost use Rattle.rv_isa.specs.Results.{wrap, branch_taken};
 ghost use Rattle.rv_sim.specs.declared.stop.Stop.TheVariants.{Exited};
 ghost use Rattle.rv_sim.specs.Run.{Configuration, runs};
-ghost use Rattle.rv_view.specs.Views.{View, Layout, Fits, StandsAt, AllStand, with_value, AllGoOn, Shows, StaysOutside};
-ghost use Rattle.rv_view.specs.Views.{Sends, Takes, performs};
+ghost use Rattle.rv_view.specs.Views.{View, Layout, Fits, StandsAt, AllStand, AllGoOn, Shows, StaysOutside};
+ghost use Rattle.rv_view.specs.Views.{Sends, Takes, gets, links, branches, performs};
 ghost use Rattle.rv_view.specs.Segments.{segments, AreApart, Hold, IsOfData};
 
 /// A load from the data segments gives the number that stands in the memory.
@@ -69,16 +69,16 @@ pub fn jumps_lead_to_their_targets()
         → StandsAt l v.pc (Jal rd imm)
         → wrap (v.pc + sext 21 imm) ≡ target → target % 4 ≡ 0 → Shows l c v
         → (after : Configuration) × (runs 1 c ≡ (after, None))
-        × Shows l after (record v { pc = target; registers = with_value v.registers rd (v.pc + 4) }) × StaysOutside c after }
+        × Shows l after (links v rd target) × StaysOutside c after }
     ensures jalr { (l : Layout) (rd rs1 imm target : ℕ) (c : Configuration) (v : View) → Fits l
         → StandsAt l v.pc (Jalr rd rs1 imm) → wrap (v.registers rs1 + sext 12 imm) ≡ target → target % 4 ≡ 0
         → Shows l c v
         → (after : Configuration) × (runs 1 c ≡ (after, None))
-        × Shows l after (record v { pc = target; registers = with_value v.registers rd (v.pc + 4) }) × StaysOutside c after }
+        × Shows l after (links v rd target) × StaysOutside c after }
     ensures branch { (l : Layout) (op : BranchOp) (rs1 rs2 imm target : ℕ) (c : Configuration) (v : View) → Fits l
         → StandsAt l v.pc (Branch op rs1 rs2 imm) → wrap (v.pc + sext 13 imm) ≡ target → target % 4 ≡ 0 → Shows l c v
         → (after : Configuration) × (runs 1 c ≡ (after, None))
-        × Shows l after (record v { pc = if branch_taken op (v.registers rs1) (v.registers rs2) then target else v.pc + 4 })
+        × Shows l after (branches v (branch_taken op (v.registers rs1) (v.registers rs2)) target)
         × StaysOutside c after }
 {}
 
@@ -94,7 +94,7 @@ pub fn write_sends_a_byte()
         → v.registers 10 ≡ 1 → v.registers 12 ≡ 1 → IsOfData l.object_bytes l.space_bytes (v.registers 11) 1
         → Shows l c v
         → (after : Configuration) × (runs 1 c ≡ (after, None))
-        × Shows l after (record v { pc = v.pc + 4; registers = with_value v.registers 10 1 })
+        × Shows l after (gets v 10 1)
         × Sends c after (v.memory (v.registers 11)) }
 {}
 
@@ -104,7 +104,7 @@ pub fn read_gives_nothing_at_the_end()
         → v.registers 10 ≡ 0 → v.registers 12 ≡ 1 → IsOfData l.object_bytes l.space_bytes (v.registers 11) 1
         → c.input ≡ [] → Shows l c v
         → (after : Configuration) × (runs 1 c ≡ (after, None))
-        × Shows l after (record v { pc = v.pc + 4; registers = with_value v.registers 10 0 }) × StaysOutside c after }
+        × Shows l after (gets v 10 0) × StaysOutside c after }
 {}
 
 /// The environment call read of one byte takes the next byte of the input and puts it into the memory.
@@ -113,6 +113,6 @@ pub fn read_takes_a_byte()
         → v.registers 17 ≡ 63 → v.registers 10 ≡ 0 → v.registers 12 ≡ 1
         → IsOfData l.object_bytes l.space_bytes (v.registers 11) 1 → c.input ≡ byte ∷ rest → Shows l c v
         → (after : Configuration) × (runs 1 c ≡ (after, None))
-        × Shows l after (record v { pc = v.pc + 4; registers = with_value v.registers 10 1; memory = store_of 1 v.memory (v.registers 11) byte })
+        × Shows l after (record (gets v 10 1) { memory = store_of 1 v.memory (v.registers 11) byte })
         × Takes c after rest }
 {}

@@ -31,8 +31,7 @@ abbrev pub IsLive : FunctionPlan → (place y : ℕ) → Type 0
 IsLive plan pc y = is_live plan pc y ≡ true
 
 -- The live ranges are closed backwards over all paths: what an instruction reads is live before it, what it makes is
--- live
--- behind it, and what else is live behind it is live before it.
+-- live behind it, and what else is live behind it is live before it.
 pub record AreClosed (p : FlatProgram) (f : ℕ) (body : List FlatInstruction) (plan : FunctionPlan) : Type 0 where
   pub read : (pc y : ℕ) → ReadsAt p f body pc y → IsLive plan pc y
   pub made : (pc q y : ℕ) → LeadsAt body pc q → MakesAt p body pc y → IsLive plan q y
@@ -45,9 +44,8 @@ pub record HasHome (f : FlatFunction) (y : ℕ) : Type 0 where
   pub inside : 8 * word + 16 ≤ f.room
 
 -- A plan is accepted where the live ranges are closed; two that are live before one instruction have different homes,
--- and
--- different registers if they have any; each that is live has a home and a place, and the register is one that is given
--- out; and at the entry no others than the parameters are live.
+-- and different registers if they have any; each that is live has a home and a place, and the register is one that is
+-- given out; and at the entry no others than the parameters are live.
 pub record IsAccepted (p : FlatProgram) (number : ℕ) (f : FlatFunction) (plan : FunctionPlan) : Type 0 where
   pub closed : AreClosed p number f.body plan
   pub homes : (pc x y w : ℕ) → pc < length f.body → IsLive plan pc x → IsLive plan pc y → slice_get f.homes x ≡ Some w

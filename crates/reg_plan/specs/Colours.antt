@@ -33,8 +33,7 @@ pub record IsColoured (ranges : List (Vec LiveInterval Global)) (places : List P
   pub full : (y r : ℕ) → slice_get places y ≡ Some Home → r < count → IsTaken ranges places r y
 
 -- One register more is being given out, and the virtual registers below a number were asked: the set has the
--- instructions
--- before which it is in use.
+-- instructions before which it is in use.
 pub record IsColouring (ranges : List (Vec LiveInterval Global)) (places : List Place) (register next : ℕ)
     (used : NodeSet) : Type 0 where
   pub apart : (x y r : ℕ) → slice_get places x ≡ Some (Register r) → slice_get places y ≡ Some (Register r)

@@ -1,6 +1,5 @@
 -- Live ranges as a data-flow problem: its nodes are the instructions of a function, and its edges lead back from where
--- an
--- instruction leads. There is one fact for each virtual register.
+-- an instruction leads. There is one fact for each virtual register.
 use Rattle.std.specs.Prelude.{◌≡◌, ℕ, ◌<◌, ◌⊎◌, List, length, Option, Some}
 use Rattle.data_flow.specs.declared.relation.Relation.{Relation}
 use Rattle.data_flow.specs.Relations.{IsRelated}
@@ -28,8 +27,7 @@ pub record AddsSuccessor (old new : Problem) (made : ℕ → Type 0) (place : �
   pub killed : new.killed ≡ old.killed
 
 -- the problem has an edge for each place where an instruction leads, and the facts of what it reads and makes; all of
--- the
--- first so many instructions, and no others
+-- the first so many instructions, and no others
 pub record Represents (p : FlatProgram) (f : ℕ) (body : List FlatInstruction) (done : ℕ) (problem : Problem) : Type
     0 where
   pub edges : (pc q : ℕ) → pc < done → LeadsAt body pc q → IsRelated problem.edges q pc

@@ -15,8 +15,7 @@ abbrev pub LeadsAt : List FlatInstruction → (place to : ℕ) → Type 0
 LeadsAt body pc q = (i : FlatInstruction) × (slice_get body pc ≡ Some i) × Leads i pc q × (q < length body)
 
 -- A value is needed before an instruction that reads it, behind one that makes it, and before one that leads to where
--- it
--- is needed and does not make it. These are the least sets that are closed so.
+-- it is needed and does not make it. These are the least sets that are closed so.
 pub data IsNeeded (p : FlatProgram) (f : ℕ) (body : List FlatInstruction) : ℕ → ℕ → Type 0 where
   Read : (pc y : ℕ) → ReadsAt p f body pc y → IsNeeded p f body pc y
   Made : (pc q y : ℕ) → LeadsAt body pc q → MakesAt p body pc y → IsNeeded p f body q y

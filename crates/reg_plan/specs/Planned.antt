@@ -1,6 +1,5 @@
 -- What the plans are for: which functions can be planned, and what a plan of live ranges that are exactly where values
--- are
--- needed is.
+-- are needed is.
 use Rattle.std.specs.Prelude.{◌≡◌, ℕ, ◌^◌, ◌<◌, List, length, Some, slice_get}
 use Rattle.flat_meaning.specs.declared.function.FlatFunction.{FlatFunction}
 use Rattle.flat_meaning.specs.declared.function.FlatProgram.{FlatProgram}
@@ -14,8 +13,8 @@ use Rattle.reg_plan.specs.Accepted.{IsLive, HasHome, IsAccepted}
 use Rattle.reg_plan.specs.Colours.{IsTaken}
 
 -- Each virtual register that a function reads or makes has a home, which lies within the activation record where its
--- value
--- is needed; values that are needed together have different homes; and at the entry none but the parameters are needed.
+-- value is needed; values that are needed together have different homes; and at the entry none but the parameters are
+-- needed.
 pub record IsPlannable (p : FlatProgram) (number : ℕ) (f : FlatFunction) : Type 0 where
   pub count : length f.body < 2 ^ 32
   pub named : IsNamed p number f.body (length f.homes)

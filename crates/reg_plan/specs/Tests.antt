@@ -47,9 +47,8 @@ pub record IsPlaced (f : FlatFunction) (plan : FunctionPlan) (y : ℕ) : Type 0 
   pub is : slice_get plan.places.items y ≡ Some place
   pub given : (r : ℕ) → slice_get plan.places.items y ≡ Some (Register r) → r < REGISTERS
 
--- what the plan says of a virtual register: where it is live it has a home and a place; it is live at the entry only if
--- it is
--- a parameter; and it is kept apart from those before it
+-- what the plan says of a virtual register: where it is live it has a home and a place; it is live at the entry only
+-- if it is a parameter; and it is kept apart from those before it
 pub record IsKept (f : FlatFunction) (plan : FunctionPlan) (count : ℕ) (x : ℕ) : Type 0 where
   pub placed : (pc : ℕ) → pc < count → IsLive plan pc x → IsPlaced f plan x
   pub entry : 0 < count → IsLive plan 0 x → x < f.parameters

@@ -135,7 +135,8 @@ fn is_accepted(
 /// Whether the plans of all functions of a program are accepted.
 pub fn accepts(program: &FlatProgram, plan: &Plan) -> bool
     requires functions { length program.now.functions < 2 ^ 32 }
-    requires instructions { (k : ℕ) (f : FlatFunction) → slice_get program.now.functions k ≡ Some f → length f.body < 2 ^ 32 }
+    requires instructions { (k : ℕ) (f : FlatFunction) → slice_get program.now.functions k ≡ Some f
+        → length f.body < 2 ^ 32 }
     ensures yes { result ≡ true → AreAccepted program.now plan.now.functions.items }
     ensures no { AreAccepted program.now plan.now.functions.items → result ≡ true }
 {

@@ -1,9 +1,9 @@
 //! Where the values of flat code are kept: in registers of the machine, or in the words of the activation record.
 //!
-//! A value is needed at an instruction where a path leads from there to an instruction that reads it, with none between
-//! that makes it (`specs/Needs`): its live range. A plan says of each virtual register where it is live and where its
-//! value
-//! is kept; it is accepted where no two that are live at one instruction are kept in one place (`specs/Accepted`).
+//! A value is needed at an instruction where a path leads from there to an instruction that reads it, with none
+//! between that makes it (`specs/Needs`): its live range. A plan says of each virtual register where it is live and
+//! where its value is kept; it is accepted where no two that are live at one instruction are kept in one place
+//! (`specs/Accepted`).
 #![tactic(auto)]
 
 pub mod accepts;

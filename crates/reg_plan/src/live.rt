@@ -47,9 +47,8 @@ fn live_range(
     Ok(range)
 }
 
-/// The live ranges of the virtual registers of a function, so many of which have homes: each is exactly where its value
-/// is
-/// needed. It takes time for the instructions in these ranges alone.
+/// The live ranges of the virtual registers of a function, so many of which have homes: each is exactly where its
+/// value is needed. It takes time for the instructions in these ranges alone.
 pub fn live_ranges(
     alloc: Global,
     program: &FlatProgram,

@@ -5,6 +5,7 @@ use Rattle.std.proofs.Math.Nat.{add-mod-mod}
 pub moves_forward : (word offset : ℕ) → (word + offset % 2 ^ 64) % 2 ^ 64 ≡ (word + offset) % 2 ^ 64
 moves_forward word offset = add-mod-mod word offset (2 ^ 64)
 
-pub moves_back : (word offset : ℕ) → (word + (0 + (2 ^ 64 - offset)) % 2 ^ 64) % 2 ^ 64 ≡ (word + (2 ^ 64 - offset)) % 2 ^ 64
+pub moves_back : (word offset : ℕ)
+    → (word + (0 + (2 ^ 64 - offset)) % 2 ^ 64) % 2 ^ 64 ≡ (word + (2 ^ 64 - offset)) % 2 ^ 64
 moves_back word offset =
     ap (λ n. (word + n % 2 ^ 64) % 2 ^ 64) (zero-add (2 ^ 64 - offset)) ∙ add-mod-mod word (2 ^ 64 - offset) (2 ^ 64)

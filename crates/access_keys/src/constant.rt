@@ -3,7 +3,8 @@
 ghost use Rattle.std.specs.Prelude.{◌≡◌};
 ghost use Rattle.source_meaning.specs.Actions.{scalar_of, integer_type};
 ghost use Rattle.c_tree.specs.View.{expression_of};
-ghost use Rattle.c_lower.specs.Keys.{constant_of, constant_fit, constant_unary, constant_binary, constant_choice, variable_of};
+ghost use Rattle.c_lower.specs.Keys.{constant_of, constant_fit, constant_unary, constant_binary, constant_choice};
+ghost use Rattle.c_lower.specs.Keys.{variable_of};
 
 use c_tree::{Expression, Kind, Node};
 use obj_memory::{BinaryOperator, IntType, Scalar, UnaryOperator};

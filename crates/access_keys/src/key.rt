@@ -4,7 +4,9 @@ ghost use Rattle.std.specs.Prelude.{◌≡◌, ◌+◌, ◌-◌, ◌*◌, ◌%�
 ghost use Rattle.source_meaning.specs.Expressions.{is_judged};
 ghost use Rattle.tac_ir.specs.declared.key.Member.{Member};
 ghost use Rattle.c_tree.specs.View.{expression_of, lvalue_of};
-ghost use Rattle.c_lower.specs.Keys.{base_key, key_plus, key_minus, member_key, index_of, pointer_key, place_key, read_key, write_key, assigns_base, assigns_scaled, assigns_path, assigns_key, moved_key, scaled_key};
+ghost use Rattle.c_lower.specs.Keys.{base_key, key_plus, key_minus, member_key, index_of, pointer_key, place_key};
+ghost use Rattle.c_lower.specs.Keys.{read_key, write_key, assigns_base, assigns_scaled, assigns_path, assigns_key};
+ghost use Rattle.c_lower.specs.Keys.{moved_key, scaled_key};
 ghost use Rattle.access_keys.specs.Built.{key_with, key_on};
 
 use crate::assigned::assigns;
@@ -65,7 +67,8 @@ fn moved_forward(head: KeyHead, index: u64, size: u64) -> Option<KeyHead>
 
 // The same of elements subtracted.
 fn moved_back(head: KeyHead, index: u64, size: u64) -> Option<KeyHead>
-    ensures { (path : List Member) → key_with result path ≡ Some (moved_key (2 ^ 64 - index * size % 2 ^ 64) (key_on head path)) }
+    ensures { (path : List Member)
+        → key_with result path ≡ Some (moved_key (2 ^ 64 - index * size % 2 ^ 64) (key_on head path)) }
 {
     Some(KeyHead {
         base: head.base,
@@ -90,7 +93,8 @@ fn scaled(head: KeyHead, variable: usize, size: u64) -> Option<KeyHead>
 
 // An index added.
 fn plus(head: Option<KeyHead>, index: &Expression, size: u64) -> Option<KeyHead>
-    ensures { (path : List Member) → key_with result path ≡ key_plus (key_with head path) (index_of (expression_of index.now)) size }
+    ensures { (path : List Member)
+        → key_with result path ≡ key_plus (key_with head path) (index_of (expression_of index.now)) size }
 {
     match head {
         None => None,
@@ -106,7 +110,8 @@ fn plus(head: Option<KeyHead>, index: &Expression, size: u64) -> Option<KeyHead>
 
 // An index subtracted.
 fn minus(head: Option<KeyHead>, index: &Expression, size: u64) -> Option<KeyHead>
-    ensures { (path : List Member) → key_with result path ≡ key_minus (key_with head path) (index_of (expression_of index.now)) size }
+    ensures { (path : List Member)
+        → key_with result path ≡ key_minus (key_with head path) (index_of (expression_of index.now)) size }
 {
     match (head, constant(index)) {
         (Some(head), Some(word)) => moved_back(head, word, size),
@@ -274,7 +279,8 @@ fn whole(head: KeyHead, path: Vec<Member>) -> Key
     }
 }
 
-/// The key of an lvalue that is read, where its access is judged and its pointer has a key. An error comes where there is
+/// The key of an lvalue that is read, where its access is judged and its pointer has a key. An error comes where there
+/// is
 /// no memory for it.
 pub fn read_key(alloc: Global, p: &Lvalue) -> Result<Option<Key>, AllocError>
     ensures { IfOk result (λ key. key ≡ read_key (lvalue_of p.now)) }

@@ -6,4 +6,5 @@ use Rattle.access_keys.proofs.assigned.+assigned.Given as goal
 
 abbrev pub invariant-any_assigns-loop-first : goal.invariant-any_assigns-loop-first
 invariant-any_assigns-loop-first l =
-    any_assigns l.x (expressions_in (map expression_of (drop l.first-index l.args))) ≡ any_assigns l.fn.x (expressions_in (map expression_of l.fn.args))
+    any_assigns l.x (expressions_in (map expression_of (drop l.first-index l.args)))
+    ≡ any_assigns l.fn.x (expressions_in (map expression_of l.fn.args))

@@ -1,2 +1,3 @@
 pub mod Inserted
 pub mod Counting
+pub mod Building

@@ -36,7 +36,7 @@ pub enum RightOperand {
 }
 
 /// An instruction.
-#[derive(Drop)]
+#[derive(Clone, Copy)]
 pub enum Instruction {
     /// Nothing stands here yet.
     Reserved,

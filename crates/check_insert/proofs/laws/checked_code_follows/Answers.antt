@@ -1,4 +1,4 @@
-use Rattle.check_insert.proofs.Insert.{insert_follows}
+use Rattle.check_insert.proofs.Following.{insert_follows}
 use Rattle.check_insert.proofs.laws.checked_code_follows.Goals as goal
 
 pub returns : goal.returns

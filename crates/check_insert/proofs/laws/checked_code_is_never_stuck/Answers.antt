@@ -1,4 +1,4 @@
-use Rattle.check_insert.proofs.Insert.{checked_follows, checked_never_stuck}
+use Rattle.check_insert.proofs.Following.{checked_follows, checked_never_stuck}
 use Rattle.check_insert.proofs.laws.checked_code_is_never_stuck.Goals as goal
 
 pub returns : goal.returns

@@ -1,0 +1,5 @@
+pub mod Growing
+pub mod Counts
+pub mod Steps
+pub mod Parts
+pub mod Views

@@ -1,0 +1,4 @@
+pub mod Emitted
+pub mod Nodes
+pub mod Shapes
+pub mod Last

@@ -1,0 +1,4 @@
+pub mod Opened
+pub mod BlockParts
+pub mod InitializerParts
+pub mod LoopParts

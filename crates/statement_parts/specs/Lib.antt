@@ -1,0 +1,6 @@
+pub mod Items
+pub mod Counting
+pub mod Leaving
+pub mod Objects
+pub mod Code
+pub mod Loops

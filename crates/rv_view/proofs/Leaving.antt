@@ -30,14 +30,14 @@ use Rattle.rv_view.proofs.Places.{sent_data, received_data, store_data}
 use Rattle.rv_view.proofs.Straight.{Sees, Reaches, given, passes_reaches, next_is, apart_of, length_with, reads_with}
 use Rattle.rv_view.proofs.Straight.{runs_one, accesses_are}
 
-no_access : (accesses : List Access) (pc : ℕ) → accesses ++ accesses_by pc None ≡ accesses
+pub no_access : (accesses : List Access) (pc : ℕ) → accesses ++ accesses_by pc None ≡ accesses
 no_access accesses pc = by (is_code_address pc)
   where
     by : (b : Bool) → accesses ++ (if b then [] else []) ≡ accesses
     by true = append-nil accesses
     by false = append-nil accesses
 
-sees_of : (l : Layout) (c : Configuration) (v : View) → Shows l c v → Sees l c.state v.pc v.registers v.memory
+pub sees_of : (l : Layout) (c : Configuration) (v : View) → Shows l c v → Sees l c.state v.pc v.registers v.memory
 sees_of l c v h = record {
   objects = h.objects;
   spaces = h.spaces;
@@ -56,7 +56,7 @@ fetched l i c v fit stands h =
     ∙ stands.fetched h.objects h.spaces (apart_of l h.objects h.spaces fit h.hold.objects_length h.hold.spaces_length)
 
 -- an instruction without an access
-comes : (l : Layout) (i : Instr) (c : Configuration) (v : View) (pc : ℕ) (x : ℕ → ℕ) → Fits l → StandsAt l v.pc i
+pub comes : (l : Layout) (i : Instr) (c : Configuration) (v : View) (pc : ℕ) (x : ℕ → ℕ) → Fits l → StandsAt l v.pc i
     → access_in i v ≡ None → Shows l c v → Reaches l (executes i c.state) pc x v.memory
     → (after : Configuration) × (runs 1 c ≡ (after, None)) × Shows l after (record v { pc = pc; registers = x })
     × StaysOutside c after
@@ -159,7 +159,7 @@ branch l op rs1 rs2 imm target c v fit stands e four h =
     (ap (λ p. wrap (p + sext 13 imm)) h.pc_is ∙ e) four (sees_of l c v h))
 
 -- an environment call
-asks : (l : Layout) (c : Configuration) (v : View) → Fits l → StandsAt l v.pc Ecall → Shows l c v → runs 1 c ≡ calls c
+pub asks : (l : Layout) (c : Configuration) (v : View) → Fits l → StandsAt l v.pc Ecall → Shows l c v → runs 1 c ≡ calls c
 unfolding executes turn
 asks l c v fit stands h =
     let e : step c.state ≡ (c.state, Ask) = step-word c.state Ecall stands.of_table
@@ -175,7 +175,7 @@ exits l c v fit stands number h =
     asks l c v fit stands h ∙ done ∙ ap (λ n. (c, Some (Exited (n % 256)))) (h.registers_are 10 (omega arith))
 
 -- what a call that answers leaves in the state
-answers : (l : Layout) (c : Configuration) (v : View) (n : ℕ) → v.pc + 4 < 2 ^ 64 → Shows l c v
+pub answers : (l : Layout) (c : Configuration) (v : View) (n : ℕ) → v.pc + 4 < 2 ^ 64 → Shows l c v
     → Reaches l (gives c.state 10 n) (v.pc + 4) (with_value v.registers 10 n) v.memory
 answers l c v n small h = given l c.state v.pc v.registers v.memory 10 n n small (omega arith) refl (sees_of l c v h)
 

@@ -14,7 +14,7 @@ use Rattle.rv_view.specs.Segments.{code_segment, data_segment, segments, AreApar
 use Rattle.rv_view.proofs.Numbers.{StandAt, number_is_load, with_number_at, length-with_number_at, stored_stands}
 
 -- an address in a segment, before it and behind it
-within : (s : SegmentState) (a : ℕ) → s.address ≤ a → a < s.address + length s.bytes → holds s a ≡ true
+pub within : (s : SegmentState) (a : ℕ) → s.address ≤ a → a < s.address + length s.bytes → holds s a ≡ true
 within s a l h = rw (le-leb s.address a l, lt-ltb (a - s.address) (length s.bytes) (omega arith)) refl
 
 before : (s : SegmentState) (a : ℕ) → a < s.address → holds s a ≡ false

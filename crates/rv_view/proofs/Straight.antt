@@ -37,7 +37,7 @@ use Rattle.rv_view.proofs.Places.{load_data, store_data}
 
 -- ---- runs
 
-runs_then : (n k : ℕ) (c after : Configuration) → runs k c ≡ (after, None) → runs (n + k) c ≡ runs n after
+pub runs_then : (n k : ℕ) (c after : Configuration) → runs k c ≡ (after, None) → runs (n + k) c ≡ runs n after
 runs_then zero k c after e =
     let z : 0 + k ≡ k = omega arith in
     ap (λ j. runs j c) z ∙ e ∙ sym (runs-zero after)

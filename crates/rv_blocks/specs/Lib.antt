@@ -1,0 +1,3 @@
+pub mod Places
+pub mod Blocks
+pub mod Effects

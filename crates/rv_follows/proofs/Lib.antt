@@ -1,0 +1,16 @@
+pub mod Runs
+pub mod Regions
+pub mod Sound
+pub mod Standing
+pub mod Locals
+pub mod Asks
+pub mod Outside
+pub mod Calling
+pub mod Entering
+pub mod CallSim
+pub mod ReturnSim
+pub mod ReturnStep
+pub mod Bounds
+pub mod Whole
+pub mod Stages
+pub mod Follows

@@ -1,0 +1,4 @@
+pub mod Table
+pub mod Placed
+pub mod Laid
+pub mod Bytes

@@ -1,0 +1,4 @@
+//! What stands for the names of a source where a construct is typed (C99 6.2.1 to 6.2.3).
+#![tactic(auto)]
+
+pub mod names;

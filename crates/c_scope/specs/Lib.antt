@@ -1,1 +1,5 @@
 pub mod Names
+pub mod Composite
+pub mod Declaring
+pub mod Structures
+pub mod Environment

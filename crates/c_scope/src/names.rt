@@ -1,6 +1,6 @@
 //! Names and the scopes in which they are declared (C99 6.2.1). A name is the list of its bytes.
 
-ghost use Rattle.std.specs.Prelude.{◌≡◌, [], map, OnOk, option_copied};
+ghost use Rattle.std.specs.Prelude.{◌≡◌, [], length, map, OnOk, option_copied};
 ghost use Rattle.c_scope.specs.Names.{bound, closed, declared, found, is_file_scope, meaning, names_of, opened, scopes_of};
 
 use indexmap::IndexMap;
@@ -28,6 +28,13 @@ impl<'a, T: Drop> Names<'a, T> {
         ensures { option_copied result ≡ declared name.now (names_of self.now) }
     {
         self.entries.get(name)
+    }
+
+    /// How many names there are.
+    pub fn len(&self) -> usize
+        ensures { result ≡ length (names_of self.now) }
+    {
+        self.entries.len()
     }
 
     /// A name stands for something from now on. One that is declared again keeps its place.

@@ -2,4 +2,3 @@ pub mod Names
 pub mod Composite
 pub mod Declaring
 pub mod Structures
-pub mod Environment

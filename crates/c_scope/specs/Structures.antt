@@ -47,11 +47,11 @@ changed (suc n) change (x ∷ xs) = x ∷ changed n change xs
 abbrev pub begun : ℕ → Structures → Structures
 begun n s = record s { bodies = changed n (λ b. record b { is_begun = true }) s.bodies }
 
-abbrev pub completed : ℕ → TypeExtent → Names Member → Structures → Structures
-completed n extent members s = record {
-  extents = changed n (λ e. Some extent) s.extents;
-  bodies = changed n (λ b. record b { members = members }) s.bodies;
-}
+abbrev pub with_extent : ℕ → TypeExtent → Structures → Structures
+with_extent n extent s = record s { extents = changed n (λ e. Some extent) s.extents }
+
+abbrev pub with_members : ℕ → Names Member → Structures → Structures
+with_members n members s = record s { bodies = changed n (λ b. record b { members = members }) s.bodies }
 
 abbrev pub begun_body : Option Body → Bool
 begun_body None = false

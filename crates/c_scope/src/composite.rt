@@ -20,7 +20,7 @@ pub fn composite(
     let mut words = Vec::new(alloc);
     let mut rest = right;
     for word in left {
-        let Some((other, behind)) = rest.split_first() else {
+        let [other, behind @ ..] = rest else {
             return Ok(None);
         };
         let Some(both) = joint(*word, *other) else {
@@ -43,7 +43,7 @@ pub fn are_compatible(left: &[TypeWord], right: &[TypeWord]) -> bool
 {
     let mut rest = right;
     for word in left {
-        let Some((other, behind)) = rest.split_first() else {
+        let [other, behind @ ..] = rest else {
             return false;
         };
         if joint(*word, *other).is_none() {

@@ -109,7 +109,7 @@ impl Declared<'_, '_> {
 
     // In one scope a name repeats only at file scope, or where it has linkage.
     fn clashes(&self, in_file: bool, here: Option<&Meaning>) -> bool
-        ensures { result ≡ clashes in_file (declaration_of self.now) (option_copied here) }
+        ensures { result ≡ clashes in_file (declaration_of self.now) (option_copied here.entry) }
     {
         match here {
             None => false,
@@ -119,7 +119,7 @@ impl Declared<'_, '_> {
 
     // All declarations with linkage have compatible types, and one is a definition.
     fn differs(&self, entity: Option<&Entity>) -> bool
-        ensures { result ≡ differs (declaration_of self.now) (option_copied entity) }
+        ensures { result ≡ differs (declaration_of self.now) (option_copied entity.entry) }
     {
         match entity {
             None => false,

@@ -25,8 +25,9 @@ pub struct Structures<'a> {
 
 impl<'a> Structures<'a> {
     ghost use Rattle.std.specs.Prelude.{◌≡◌, ◌++◌, ◌∷◌, [], IfOk, OnOk, option_copied, length, slice_get};
-    ghost use Rattle.c_scope.specs.Structures.{begun, completed, declared_structure, file_tag_of, is_begun, is_known, member_of, none};
+    ghost use Rattle.c_scope.specs.Structures.{begun, declared_structure, file_tag_of, is_begun, is_known, member_of, none};
     ghost use Rattle.c_scope.specs.Structures.{structures_of};
+    ghost use Rattle.c_scope.specs.Structures.{with_extent, with_members};
     ghost use Rattle.c_scope.specs.Names.{names_of};
 
     /// None yet.
@@ -54,7 +55,7 @@ impl<'a> Structures<'a> {
     ) -> Result<usize, AllocError>
         ensures number { IfOk result (λ number. number ≡ length (structures_of self.old).extents) }
         ensures declared { OnOk result (structures_of self.new
-            ≡ declared_structure (option_copied file_tag) (structures_of self.old)) }
+            ≡ declared_structure (option_copied file_tag.entry) (structures_of self.old)) }
     {
         let number = self.extents.len();
         self.extents.push(None)?;
@@ -97,20 +98,33 @@ impl<'a> Structures<'a> {
     pub fn begin(&mut self, number: usize)
         ensures { structures_of self.new ≡ begun number (structures_of self.old) }
     {
-        if let Some(body) = self.bodies.get_mut(number) {
-            body.is_begun = true;
+        if number < self.bodies.len() {
+            self.bodies[number].is_begun = true;
         }
     }
 
     /// This one is complete: its size and alignment, and its members by name.
     pub fn complete(&mut self, number: usize, extent: Extent, members: Names<'a, Member>)
-        ensures { structures_of self.new ≡ completed number extent (names_of members) (structures_of self.old) }
+        ensures { structures_of self.new
+            ≡ with_members number (names_of members.entry) (with_extent number extent (structures_of self.old)) }
     {
-        if let Some(known) = self.extents.get_mut(number) {
-            *known = Some(extent);
+        self.set_extent(number, extent);
+        self.set_members(number, members);
+    }
+
+    fn set_extent(&mut self, number: usize, extent: Extent)
+        ensures { structures_of self.new ≡ with_extent number extent (structures_of self.old) }
+    {
+        if number < self.extents.len() {
+            self.extents[number] = Some(extent);
         }
-        if let Some(body) = self.bodies.get_mut(number) {
-            body.members = members;
+    }
+
+    fn set_members(&mut self, number: usize, members: Names<'a, Member>)
+        ensures { structures_of self.new ≡ with_members number (names_of members.entry) (structures_of self.old) }
+    {
+        if number < self.bodies.len() {
+            self.bodies[number].members = members;
         }
     }
 

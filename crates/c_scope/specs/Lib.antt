@@ -2,3 +2,4 @@ pub mod Names
 pub mod Composite
 pub mod Declaring
 pub mod Structures
+pub mod Environment

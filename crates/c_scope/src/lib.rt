@@ -3,7 +3,7 @@
 
 pub mod composite;
 pub mod declaring;
-//pub mod environment;
+pub mod environment;
 pub mod meaning;
 pub mod names;
 pub mod structures;

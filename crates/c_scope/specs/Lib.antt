@@ -3,3 +3,5 @@ pub mod Composite
 pub mod Declaring
 pub mod Structures
 pub mod Environment
+pub mod Tags
+pub mod Library

@@ -4,6 +4,8 @@
 pub mod composite;
 pub mod declaring;
 pub mod environment;
+pub mod library;
 pub mod meaning;
 pub mod names;
 pub mod structures;
+pub mod tags;

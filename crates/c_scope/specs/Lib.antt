@@ -5,3 +5,4 @@ pub mod Structures
 pub mod Environment
 pub mod Tags
 pub mod Library
+pub mod Start

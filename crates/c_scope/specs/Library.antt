@@ -1,6 +1,6 @@
 -- The functions of the library, which are declared before the first token of a file, and their types (C99 7.17, 7.19 to
 -- 7.21).
-use Rattle.std.specs.Prelude.{ℕ, List, [], ◌∷◌, ◌++◌}
+use Rattle.std.specs.Prelude.{ℕ, List, [], ◌∷◌, ◌++◌, codes}
 use Rattle.obj_memory.specs.declared.int_type.IntType.TheVariants.{Char, Int, UnsignedLong}
 use Rattle.c_tree.specs.declared.c_type.TypeWord.{TypeWord}
 use Rattle.c_tree.specs.declared.c_type.TypeWord.TheVariants as word
@@ -68,3 +68,31 @@ taking (t ∷ ts) type = word.Takes ∷ words_of t ++ taking ts type
 
 abbrev pub signature : Routine → List TypeWord
 signature r = taking (takes r) (word.Gives ∷ words_of (gives r))
+
+abbrev pub name_of : Routine → List ℕ
+name_of routine.Malloc = codes "malloc"
+name_of routine.Calloc = codes "calloc"
+name_of routine.Free = codes "free"
+name_of routine.Realloc = codes "realloc"
+name_of routine.Memcpy = codes "memcpy"
+name_of routine.Memmove = codes "memmove"
+name_of routine.Memset = codes "memset"
+name_of routine.Memcmp = codes "memcmp"
+name_of routine.Strlen = codes "strlen"
+name_of routine.Strcmp = codes "strcmp"
+name_of routine.Strcpy = codes "strcpy"
+name_of routine.Strncpy = codes "strncpy"
+name_of routine.Strcat = codes "strcat"
+name_of routine.Strchr = codes "strchr"
+name_of routine.Putchar = codes "putchar"
+name_of routine.Getchar = codes "getchar"
+name_of routine.Puts = codes "puts"
+name_of routine.Exit = codes "exit"
+name_of routine.Abort = codes "abort"
+
+abbrev pub routines : List Routine
+routines =
+    routine.Malloc ∷ routine.Calloc ∷ routine.Free ∷ routine.Realloc ∷ routine.Memcpy ∷
+    routine.Memmove ∷ routine.Memset ∷ routine.Memcmp ∷ routine.Strlen ∷ routine.Strcmp ∷
+    routine.Strcpy ∷ routine.Strncpy ∷ routine.Strcat ∷ routine.Strchr ∷ routine.Putchar ∷
+    routine.Getchar ∷ routine.Puts ∷ routine.Exit ∷ routine.Abort ∷ []

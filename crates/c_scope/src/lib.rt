@@ -7,5 +7,6 @@ pub mod environment;
 pub mod library;
 pub mod meaning;
 pub mod names;
+pub mod start;
 pub mod structures;
 pub mod tags;

@@ -2,7 +2,7 @@
 //! to 7.21).
 
 ghost use Rattle.std.specs.Prelude.{◌≡◌, ◌++◌, OnOk, IfOk};
-ghost use Rattle.c_scope.specs.Library.{gives, signature, takes, taking, words_of};
+ghost use Rattle.c_scope.specs.Library.{gives, name_of, signature, takes, taking, words_of};
 
 use c_tree::{CType, Routine, TypeWord};
 use obj_memory::IntType;
@@ -25,6 +25,56 @@ pub enum LibraryType {
     Text,
     /// `const char *`
     ConstText,
+}
+
+/// The routines, in the order in which they are declared.
+pub const ROUTINES: [Routine; 19] = [
+    Routine::Malloc,
+    Routine::Calloc,
+    Routine::Free,
+    Routine::Realloc,
+    Routine::Memcpy,
+    Routine::Memmove,
+    Routine::Memset,
+    Routine::Memcmp,
+    Routine::Strlen,
+    Routine::Strcmp,
+    Routine::Strcpy,
+    Routine::Strncpy,
+    Routine::Strcat,
+    Routine::Strchr,
+    Routine::Putchar,
+    Routine::Getchar,
+    Routine::Puts,
+    Routine::Exit,
+    Routine::Abort,
+];
+
+/// The name of a routine.
+pub fn name(routine: Routine) -> &'static [u8]
+    ensures { result.now ≡ name_of routine }
+{
+    match routine {
+        Routine::Malloc => b"malloc",
+        Routine::Calloc => b"calloc",
+        Routine::Free => b"free",
+        Routine::Realloc => b"realloc",
+        Routine::Memcpy => b"memcpy",
+        Routine::Memmove => b"memmove",
+        Routine::Memset => b"memset",
+        Routine::Memcmp => b"memcmp",
+        Routine::Strlen => b"strlen",
+        Routine::Strcmp => b"strcmp",
+        Routine::Strcpy => b"strcpy",
+        Routine::Strncpy => b"strncpy",
+        Routine::Strcat => b"strcat",
+        Routine::Strchr => b"strchr",
+        Routine::Putchar => b"putchar",
+        Routine::Getchar => b"getchar",
+        Routine::Puts => b"puts",
+        Routine::Exit => b"exit",
+        Routine::Abort => b"abort",
+    }
 }
 
 /// The type of a routine, as its prototype in 7.19 to 7.21 says.

@@ -148,10 +148,10 @@ statics_with env d (Some e) = env.statics
 abbrev pub linked_as : Environment → Declaration → Entity → Environment
 linked_as env d e =
     with_name d.name (meaning.Named e.what (visible_type d.type (meaning d.name env.names)))
-        (record env {
-          entities = bound d.name e env.entities;
-          statics = statics_with env d (declared d.name env.entities);
-        })
+    (record env {
+      entities = bound d.name e env.entities;
+      statics = statics_with env d (declared d.name env.entities);
+    })
 
 abbrev pub linked : Environment → Declaration → Environment
 linked env d = linked_as env d (entity_with env d (declared d.name env.entities))

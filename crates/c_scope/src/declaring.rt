@@ -182,11 +182,7 @@ impl Surroundings<'_> {
         ensures { result ≡ judged (surroundings_of self.now) (declaration_of declared.now) }
     {
         let storage = Rule::MisplacedStorage;
-        if is_misplaced(
-            self.in_file,
-            is_function(declared.c_type),
-            declared.storage,
-        ) {
+        if is_misplaced(self.in_file, is_function(declared.c_type), declared.storage) {
             return violation(storage, declared.specifiers_line);
         }
         if self.is_redeclared(declared) {

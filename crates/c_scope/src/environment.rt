@@ -11,7 +11,7 @@ ghost use Rattle.c_scope.specs.Names.{meaning, names_of};
 ghost use Rattle.c_scope.specs.Structures.{structures_of};
 
 use crate::composite::composite;
-use crate::declaring::{Declared, Surroundings, is_linked, is_function};
+use crate::declaring::{Declared, Surroundings, is_function, is_linked};
 use crate::meaning::{Designated, Entity, Meaning, Storage, Tag};
 use crate::names::{Names, Scopes};
 use crate::structures::Structures;
@@ -232,7 +232,7 @@ impl<'a> Environment<'a> {
         match words {
             [
                 TypeWord::Integer(_) | TypeWord::Enumeration(_) | TypeWord::Pointer,
-                ..,
+                ..
             ] => true,
             [TypeWord::Structure(number), ..] => self.structure_ends_complete(*number),
             [TypeWord::Const | TypeWord::Array { .. }, behind @ ..] => self.ends_complete(behind),

@@ -149,10 +149,7 @@ fn gives(routine: Routine) -> LibraryType
         Routine::Free | Routine::Exit | Routine::Abort => LibraryType::Void,
         Routine::Strlen => LibraryType::Size,
         Routine::Strcpy | Routine::Strncpy | Routine::Strcat | Routine::Strchr => LibraryType::Text,
-        Routine::Memcmp
-        | Routine::Strcmp
-        | Routine::Putchar
-        | Routine::Getchar
-        | Routine::Puts => LibraryType::Int,
+        Routine::Memcmp | Routine::Strcmp | Routine::Putchar | Routine::Getchar | Routine::Puts =>
+            LibraryType::Int,
     }
 }

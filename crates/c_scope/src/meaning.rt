@@ -39,7 +39,7 @@ pub enum Meaning {
 }
 
 /// What a tag stands for, by the number of its declaration (6.7.2.3).
-#[derive(Clone, Copy)]
+#[derive(Clone, Copy, PartialEq, Eq)]
 pub enum Tag {
     /// A structure, by its number among structures and unions.
     Structure(usize),

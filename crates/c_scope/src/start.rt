@@ -93,6 +93,7 @@ impl<'a> Environment<'a> {
             (environment_of self.new ≡ with_size_type (environment_of self.old)) }
     {
         let words = vec![in alloc; TypeWord::Integer(IntType::UnsignedLong)]?;
-        self.names.bind(b"size_t", Meaning::Typedef(CType::new(words)))
+        self.names
+            .bind(b"size_t", Meaning::Typedef(CType::new(words)))
     }
 }

@@ -6,9 +6,9 @@ use Rattle.c_scope.proofs.environment.Environment.mark_enumeration.Goals as goal
 pub returns-then-number-len : goal.returns-then-number-len
 returns-then-number-len c =
     ap (λ es. record (environment_of c.args.self.now) { enumerations = es })
-        (replaced (λ b. true) c.args.self.now.enumerations.items c.args.number _ (omega arith) refl)
+    (replaced (λ b. true) c.args.self.now.enumerations.items c.args.number _ (omega arith) refl)
 
 pub returns-else-number-len : goal.returns-else-number-len
 returns-else-number-len c =
     ap (λ es. record (environment_of c.args.self.now) { enumerations = es })
-        (unreplaced (λ b. true) c.args.self.now.enumerations.items c.args.number (omega arith))
+    (unreplaced (λ b. true) c.args.self.now.enumerations.items c.args.number (omega arith))

@@ -1,6 +1,6 @@
 -- One element of a list changed, in code and as defined.
 use Rattle.std.proofs.Common.{◌≡◌, ℕ, zero, suc, ◌<◌, ◌≤◌, List, [], ◌∷◌, map, length, get_or, slice_set, refl, ap, ◌∙◌}
-use Rattle.std.proofs.Common.{arith, sym}
+use Rattle.std.proofs.Common.{arith}
 use Rattle.c_scope.specs.Structures.{changed}
 
 module _ {A B : Type 0} (view : B → A) (change : A → A) where

@@ -1,5 +1,6 @@
 -- What loops over the words of two types find.
-use Rattle.std.proofs.Common.{◌≡◌, ℕ, zero, suc, ◌<◌, List, [], ◌∷◌, drop, length, None, Option, is_some, false, Bool, option_map}
+use Rattle.std.proofs.Common.{◌≡◌, ℕ, zero, suc, ◌<◌, List, [], ◌∷◌, drop, length, None, Option, is_some, false}
+use Rattle.std.proofs.Common.{option_map}
 use Rattle.std.proofs.Common.{◌++◌, refl, ap, ◌∙◌, sym, arith}
 use Rattle.c_tree.specs.declared.c_type.TypeWord.{TypeWord}
 use Rattle.c_scope.specs.Composite.{composite}

@@ -1,12 +1,12 @@
 -- What maps of names look up and take in, and scopes that are opened and closed.
-use Rattle.std.proofs.Common.{◌≡◌, ℕ, zero, suc, ◌+◌, ◌<◌, ◌≤◌, Bool, true, false, cond, List, [], ◌∷◌, ◌++◌, map, drop}
-use Rattle.std.proofs.Common.{length, get_or, Option, Some, None, refl, sym, ap, ◌∙◌, arith, nat_eq}
-use Rattle.std.specs.Cmp.Lexicographic.{pointwise}
+use Rattle.std.proofs.Common.{◌≡◌, ℕ, zero, suc, ◌+◌, ◌≤◌, Bool, true, false, cond, List, [], ◌∷◌, ◌++◌, map, drop}
+use Rattle.std.proofs.Common.{length, get_or, Option, Some, None, refl, sym, ap, ◌∙◌, arith}
 use Rattle.std.specs.Borrow.{Bor}
 use Rattle.std.specs.Map.{lookup}
 use Rattle.std.proofs.lemmas.List.{drop_more}
 use Rattle.indexmap.specs.IndexMap.{insert_entry}
-use Rattle.c_scope.specs.Names.{Name, Names, around, bound, closed, declared, found, innermost, is_name, or_else, Scopes}
+use Rattle.c_scope.specs.Names.{Name, Names, around, bound, closed, declared, found, innermost, is_name, or_else}
+use Rattle.c_scope.specs.Names.{Scopes}
 
 abbrev row : {A : Type 0} → Bor (List ℕ) × A → Name × A
 row e = (e.0.now, e.1)
@@ -46,7 +46,8 @@ pub closed_is : {A : Type 0} (scopes : Scopes A) (ss : List (Names A)) (s : Name
 closed_is scopes ss s is =
     let a = ap around is ∙ around_last ss s in
     let b = ap (innermost scopes.current) is ∙ innermost_last scopes.current ss s in
-    ap (λ o. record { outer = o; current = s }) (sym a) ∙ ap (λ c. record { outer = around scopes.outer; current = c }) (sym b)
+    ap (λ o. record { outer = o; current = s }) (sym a)
+    ∙ ap (λ c. record { outer = around scopes.outer; current = c }) (sym b)
 
 -- what is found in the inner scopes is found
 from_inner : {A : Type 0} (inner outer : Option A) (what : A) → inner ≡ Some what → or_else inner outer ≡ Some what
@@ -66,7 +67,8 @@ module _ {A B : Type 0} (view : B → Names A) (name : Name) where
       → found name (map view (drop i ss)) ≡ None → found name (map view (drop j ss)) ≡ declared name (view s)
   outward ss i j s next inside is none =
       ap (λ xs. found name (map view xs)) (drop_more ss j s (omega arith))
-      ∙ ap (λ o. or_else o (declared name (view (get_or ss j s)))) (ap (λ n. found name (map view (drop n ss))) next ∙ none)
+      ∙ ap (λ o. or_else o (declared name (view (get_or ss j s))))
+      (ap (λ n. found name (map view (drop n ss))) next ∙ none)
       ∙ ap (λ x. declared name (view x)) (sym is)
 
   pub found_here : (ss : List B) (i j : ℕ) (s : B) (what : A) → j + 1 ≡ i → i ≤ length ss → s ≡ get_or ss j s

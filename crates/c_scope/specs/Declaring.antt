@@ -1,15 +1,14 @@
 -- What a declarator declares, and the rules that it may violate (C99 6.2.2, 6.2.7, 6.7, 6.9.2).
-use Rattle.std.specs.Prelude.{ℕ, ◌+◌, Bool, true, false, not, ◌&&◌, ◌||◌, if◌then◌else◌, List, [], ◌∷◌, length}
-use Rattle.std.specs.Prelude.{Option, Some, None, is_some, option_copied, Result, Ok, Err}
+use Rattle.std.specs.Prelude.{ℕ, Bool, true, false, not, ◌&&◌, ◌||◌, if◌then◌else◌, List, [], ◌∷◌}
+use Rattle.std.specs.Prelude.{Option, Some, None, is_some, option_copied, Ok, Err}
 use Rattle.c_tree.specs.declared.c_type.TypeWord.{TypeWord}
-use Rattle.c_tree.specs.declared.c_type.TypeWord.TheVariants.{OpenArray, Const, Structure, Takes, Gives}
+use Rattle.c_tree.specs.declared.c_type.TypeWord.TheVariants.{OpenArray, Takes, Gives}
 use Rattle.c_tree.specs.Extents.{TypeExtent}
 use Rattle.c_rules.specs.declared.class.Target.{Target}
 use Rattle.c_rules.specs.declared.class.Target.TheVariants as target
-use Rattle.c_rules.specs.declared.fault.Fault.{Fault}
 use Rattle.c_rules.specs.declared.fault.Rule.{Rule}
 use Rattle.c_rules.specs.declared.fault.Rule.TheVariants.{Redeclared, Incomplete, MisplacedStorage}
-use Rattle.c_rules.specs.Answer.{Answer, ◌>>=◌}
+use Rattle.c_rules.specs.Answer.{Answer}
 use Rattle.c_rules.specs.Types.{target_of}
 use Rattle.c_scope.specs.declared.meaning.Designated.{Designated}
 use Rattle.c_scope.specs.declared.meaning.Designated.TheVariants as what

@@ -1,9 +1,8 @@
 -- What stands for names where a construct is typed, and what a declarator adds (C99 6.2.1 to 6.2.4, 6.7, 6.9.2).
-use Rattle.std.specs.Prelude.{◌≡◌, ℕ, ◌+◌, Bool, true, false, ◌&&◌, ◌||◌, if◌then◌else◌, List, [], ◌∷◌, ◌++◌, length}
+use Rattle.std.specs.Prelude.{◌≡◌, ℕ, ◌+◌, Bool, true, false, ◌||◌, if◌then◌else◌, List, [], ◌∷◌, length}
 use Rattle.std.specs.Prelude.{Option, Some, None, is_some, Result, Ok, Err, slice_get}
 use Rattle.c_tree.specs.declared.c_type.TypeWord.{TypeWord}
 use Rattle.c_tree.specs.declared.c_type.TypeWord.TheVariants as word
-use Rattle.c_tree.specs.Extents.{TypeExtent}
 use Rattle.c_rules.specs.declared.fault.Refusal.{Refusal}
 use Rattle.c_rules.specs.Answer.{Answer, Fails, ◌>>=◌}
 use Rattle.c_scope.specs.declared.environment.Environment as code
@@ -18,13 +17,13 @@ use Rattle.c_scope.specs.declared.meaning.Storage.TheVariants as storage
 use Rattle.c_scope.specs.declared.meaning.Tag.{Tag}
 use Rattle.c_scope.specs.Composite.{composite}
 use Rattle.c_scope.specs.Declaring.{Declaration, Surroundings, is_linked, has_linkage, is_definition, is_function}
-use Rattle.c_scope.specs.Declaring.{is_tentative, is_typedef, judged}
+use Rattle.c_scope.specs.Declaring.{is_tentative, judged}
 use Rattle.c_scope.specs.Names.{Name, Names, Scopes, bound, closed, declared, is_file_scope, meaning, names_of, opened}
 use Rattle.c_scope.specs.Names.{scopes_of}
 use Rattle.c_scope.specs.Structures.{Structures, file_tag_of, is_known, structures_of}
 
--- What the file says as a whole, before it is typed: the functions that it defines, numbered in their order, the objects
--- that it defines, also tentatively, and the tags whose structures and unions get their members at file scope.
+-- What the file says as a whole, before it is typed: the functions that it defines, numbered in their order, the
+-- objects that it defines, also tentatively, and the tags whose structures and unions get their members at file scope.
 pub record Facts : Type 0 where
   pub functions : Names ℕ
   pub objects : Names Bool
@@ -67,7 +66,8 @@ gets_tag facts None = false
 gets_tag facts (Some tag) = is_some (declared tag facts.tags)
 
 abbrev pub structure_ends_complete : Facts → Structures → ℕ → Bool
-structure_ends_complete facts s n = is_known (slice_get s.extents n) || gets_tag facts (file_tag_of (slice_get s.bodies n))
+structure_ends_complete facts s n =
+    is_known (slice_get s.extents n) || gets_tag facts (file_tag_of (slice_get s.bodies n))
 
 abbrev pub ends_complete : Facts → Structures → List TypeWord → Bool
 ends_complete facts s [] = false

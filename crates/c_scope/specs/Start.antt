@@ -1,11 +1,10 @@
 -- What stands for names at the start of a file: the library's functions, which are declared before the first token, and
 -- size_t (C99 7.17, 7.19 to 7.21).
-use Rattle.std.specs.Prelude.{ℕ, true, false, List, [], ◌∷◌, codes}
+use Rattle.std.specs.Prelude.{true, false, List, [], ◌∷◌, codes}
 use Rattle.obj_memory.specs.declared.int_type.IntType.TheVariants.{UnsignedLong}
 use Rattle.c_tree.specs.declared.c_type.TypeWord.{TypeWord}
 use Rattle.c_tree.specs.declared.c_type.TypeWord.TheVariants.{Integer}
 use Rattle.c_tree.specs.declared.expression.Routine.{Routine}
-use Rattle.c_scope.specs.declared.meaning.Designated.{Designated}
 use Rattle.c_scope.specs.declared.meaning.Designated.TheVariants.{Library}
 use Rattle.c_scope.specs.declared.meaning.LibraryFunction.{LibraryFunction}
 use Rattle.c_scope.specs.declared.meaning.LibraryFunction.TheVariants as library

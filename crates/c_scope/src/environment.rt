@@ -4,7 +4,8 @@ ghost use Rattle.std.specs.Prelude.{◌≡◌, ◌+◌, OnOk, IfOk, is_some, len
 ghost use Rattle.c_rules.specs.Answer.{Gives};
 ghost use Rattle.c_scope.specs.Composite.{composite};
 ghost use Rattle.c_scope.specs.Declaring.{Surroundings, declaration_of, surroundings_of};
-ghost use Rattle.c_scope.specs.Environment.{at_end, declared_in, designated, ends_complete, entity_with, environment_of};
+ghost use Rattle.c_scope.specs.Environment.{at_end, declared_in, designated, ends_complete};
+ghost use Rattle.c_scope.specs.Environment.{entity_with, environment_of};
 ghost use Rattle.c_scope.specs.Environment.{facts_of, linked, statics_with, surroundings, type_or, visible_type};
 ghost use Rattle.c_scope.specs.Environment.{with_declarator, with_name, without_linkage};
 ghost use Rattle.c_scope.specs.Names.{meaning, names_of};
@@ -227,7 +228,8 @@ impl<'a> Environment<'a> {
 
     // Whether a type is complete at the end of the file.
     fn ends_complete(&self, words: &[TypeWord]) -> bool
-        ensures { result ≡ ends_complete (environment_of self.now).facts (environment_of self.now).structures words.now }
+        ensures { result
+            ≡ ends_complete (environment_of self.now).facts (environment_of self.now).structures words.now }
     {
         match words {
             [

@@ -1,7 +1,8 @@
 //! Names and the scopes in which they are declared (C99 6.2.1). A name is the list of its bytes.
 
 ghost use Rattle.std.specs.Prelude.{◌≡◌, [], length, map, OnOk, option_copied};
-ghost use Rattle.c_scope.specs.Names.{bound, closed, declared, found, is_file_scope, meaning, names_of, opened, scopes_of};
+ghost use Rattle.c_scope.specs.Names.{bound, closed, declared, found, is_file_scope, meaning};
+ghost use Rattle.c_scope.specs.Names.{names_of, opened, scopes_of};
 
 use indexmap::IndexMap;
 use std::alloc::{AllocError, Global};

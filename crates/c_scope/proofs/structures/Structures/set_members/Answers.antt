@@ -1,4 +1,4 @@
-use Rattle.std.proofs.Common.{true, ap, arith, refl}
+use Rattle.std.proofs.Common.{ap, arith, refl}
 use Rattle.c_scope.specs.Names.{names_of}
 use Rattle.c_scope.specs.Structures.{body_of, structures_of}
 use Rattle.c_scope.proofs.Changing.{changed_element, nothing_changed}

@@ -23,11 +23,11 @@ use Rattle.c_rules.specs.Rows.{row_of}
 use Rattle.c_rules.specs.Conversions.{assigned}
 use Rattle.c_place_rules.specs.Operands.{Operand}
 use Rattle.c_place_rules.specs.Places.{type_in}
-use Rattle.c_assignment_rules.specs.declared.assignment.Change.{Change}
-use Rattle.c_assignment_rules.specs.declared.assignment.StepOperator.{StepOperator}
-use Rattle.c_assignment_rules.specs.declared.assignment.StepOperator.TheVariants.{Increment, Decrement}
+use Rattle.c_assignment_rules.specs.declared.operators.Change.{Change}
+use Rattle.c_assignment_rules.specs.declared.operators.StepOperator.{StepOperator}
+use Rattle.c_assignment_rules.specs.declared.operators.StepOperator.TheVariants.{Increment, Decrement}
 use Rattle.c_assignment_rules.specs.Assignable.{assignable}
-use Rattle.c_assignment_rules.specs.Writing.{set, change, step_by, written}
+use Rattle.c_assignment_rules.specs.Writing.{Writing, set, change, step_by, written}
 
 -- `=`: the right operand as one of the type of the left one
 unfoldable pub assignment : List (Option TypeExtent) → (with_const : List Bool) → (line : ℕ) → Operand → Value
@@ -57,27 +57,29 @@ abbrev pub converted_if : Option Kind → Expression → Expression
 converted_if None e = e
 converted_if (Some k) e = converted k e
 
-abbrev pub changed_by : (line : ℕ) → Option Change → Operand → Value → Answer Value
-changed_by line None o a = violates Operands line
-changed_by line (Some c) o a = written line o (change c.update (converted_if c.operand a.tree))
+abbrev pub change_to : (line : ℕ) → Option Change → Value → Answer Writing
+change_to line None a = violates Operands line
+change_to line (Some c) a = Ok (change c.update (converted_if c.operand a.tree))
 
 unfoldable pub compound : List (Option TypeExtent) → (with_const : List Bool) → BinaryOperator → (line : ℕ) → Operand
     → Value → Answer Value
 compound structures with_const op line o a =
     assignable structures with_const line o >>= λ p.
-    changed_by line (change_between op (class_of structures (type_in p)) (class_of structures a.type)) p a
+    change_to line (change_between op (class_of structures (type_in p)) (class_of structures a.type)) a >>= λ w.
+    written line p w
 
 -- `++` adds the int 1, `--` subtracts it (6.5.2.4 paragraph 2, 6.5.3.1 paragraph 2)
 abbrev pub operator_of : StepOperator → BinaryOperator
 operator_of Increment = Add
 operator_of Decrement = Subtract
 
-abbrev pub stepped_by : (line : ℕ) → Fixity → Option Change → Operand → Answer Value
-stepped_by line fixity None o = violates Operands line
-stepped_by line fixity (Some c) o = written line o (step_by c.update fixity)
+abbrev pub step_to : (line : ℕ) → Fixity → Option Change → Answer Writing
+step_to line fixity None = violates Operands line
+step_to line fixity (Some c) = Ok (step_by c.update fixity)
 
 unfoldable pub stepped : List (Option TypeExtent) → (with_const : List Bool) → StepOperator → Fixity → (line : ℕ)
     → Operand → Answer Value
 stepped structures with_const op fixity line o =
     assignable structures with_const line o >>= λ p.
-    stepped_by line fixity (change_between (operator_of op) (class_of structures (type_in p)) (class.Integer Int)) p
+    step_to line fixity (change_between (operator_of op) (class_of structures (type_in p)) (class.Integer Int)) >>= λ w.
+    written line p w

@@ -2,10 +2,10 @@
 //! or the rule that it violates. As in `c_rules`, nothing here looks at a name, a scope or the syntax.
 #![tactic(auto)]
 
-pub mod assignable;
-pub mod assignment;
 pub mod laws;
+pub mod modifiable;
+pub mod operators;
 pub mod writing;
 
-pub use crate::assignable::{assignable, has_const};
-pub use crate::assignment::{StepOperator, assignment, compound, stepped};
+pub use crate::modifiable::{assignable, has_const};
+pub use crate::operators::{StepOperator, assignment, compound, stepped};

@@ -87,7 +87,7 @@ fn variable_written(
 }
 
 // Two values, if both were made.
-fn both<T: Drop, U>(
+fn both<T: Drop, U: Drop>(
     first: Result<T, AllocError>,
     second: Result<U, AllocError>,
 ) -> Result<(T, U), AllocError>

@@ -33,11 +33,7 @@ pub fn assignable(
     }
 }
 
-fn write_rule(
-    structures: &[Option<Extent>],
-    with_const: &[bool],
-    operand: &Operand,
-) -> Option<Rule>
+fn write_rule(structures: &[Option<Extent>], with_const: &[bool], operand: &Operand) -> Option<Rule>
     ensures { result ≡ write_rule structures.now with_const.now (operand_of operand.now) }
 {
     match operand {

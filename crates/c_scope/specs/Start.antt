@@ -10,7 +10,7 @@ use Rattle.c_scope.specs.declared.meaning.LibraryFunction.{LibraryFunction}
 use Rattle.c_scope.specs.declared.meaning.LibraryFunction.TheVariants as library
 use Rattle.c_scope.specs.declared.meaning.Meaning.TheVariants.{Named, Typedef}
 use Rattle.c_scope.specs.Environment.{Environment, Facts, with_name}
-use Rattle.c_scope.specs.Library.{name_of, routines, signature}
+use Rattle.c_scope.specs.Library.{name_of, routines}
 use Rattle.c_scope.specs.Names.{Name, bound}
 use Rattle.c_scope.specs.Structures.{none}
 
@@ -35,7 +35,7 @@ with_library name function type env =
     })
 
 abbrev pub with_routine : Routine → Environment → Environment
-with_routine r env = with_library (name_of r) (library.Routine r) (signature r) env
+with_routine r env = with_library (name_of r) (library.Routine r) (routine_words r) env
 
 abbrev pub with_routines : List Routine → Environment → Environment
 with_routines [] env = env

@@ -6,17 +6,18 @@ ghost use Rattle.c_scope.specs.Start.{empty, start, with_library, with_routine, 
 ghost use Rattle.c_scope.specs.Start.{with_size_type};
 
 use crate::environment::{Environment, Facts};
-use crate::library::{ROUTINES, name, signature};
+use crate::library::{ROUTINES, name};
 use crate::meaning::{Designated, Entity, LibraryFunction, Meaning};
 use crate::names::{Names, Scopes};
 use crate::structures::Structures;
+use c_call_rules::routine_type;
 use c_tree::{CType, Routine, TypeWord};
 use obj_memory::IntType;
 use std::alloc::{AllocError, Global};
 
 impl<'a> Environment<'a> {
     ghost use Rattle.std.specs.Prelude.{◌≡◌, [], ◌∷◌, IfOk, OnOk};
-    ghost use Rattle.c_scope.specs.Library.{name_of, signature};
+    ghost use Rattle.c_scope.specs.Library.{name_of};
 
     /// What stands for names at the start of a file of which this is known: the library's functions and `size_t`.
     #[tactic(auto, unfolding(crate::specs::Start::start))]
@@ -57,13 +58,8 @@ impl<'a> Environment<'a> {
     fn add_routine(&mut self, alloc: Global, routine: Routine) -> Result<(), AllocError>
         ensures { OnOk result (environment_of self.new ≡ with_routine routine (environment_of self.old)) }
     {
-        let c_type = signature(alloc, routine)?;
-        self.add_library(
-            alloc,
-            name(routine),
-            LibraryFunction::Routine(routine),
-            c_type.words(),
-        )
+        let function = LibraryFunction::Routine(routine);
+        self.add_library(alloc, name(routine), function, routine_type(routine))
     }
 
     fn add_library(

@@ -7,4 +7,6 @@ mod declarations;
 #[cfg(test)]
 mod library;
 #[cfg(test)]
+mod specifiers;
+#[cfg(test)]
 mod tags;

@@ -21,6 +21,7 @@ use Rattle.c_rules.specs.Values.{Value}
 use Rattle.c_rules.specs.Unary.{is_scalar, promoting, negating, unary_of, unary, logical_of, combined, comma}
 use Rattle.c_rules.specs.Fine.{IsFine, IfFine}
 use Rattle.c_rules.proofs.TypeKinds.{HasKind, class_kind, same_number, promotes}
+use Rattle.c_rules.proofs.SameTypes.{both_true}
 use Rattle.c_rules.proofs.FineBinary.{all, integer_converts}
 
 pub same_kind : (k : Kind) → is_kind k k ≡ true
@@ -40,10 +41,6 @@ pub scalar_value : (scope : Scope) (structures : List (Option TypeExtent)) (v : 
     → is_scalar (class_of structures v.type) ≡ true → is_scalar_kind (kind_of v.tree) ≡ true
 scalar_value scope structures v f e =
     scalar_kind (class_of structures v.type) (kind_of v.tree) (class_kind structures v.type (kind_of v.tree) f.kind) e
-
-both_true : (a b : Bool) → (a && b) ≡ true → (a ≡ true) × (b ≡ true)
-both_true true b e = (refl, e)
-both_true false b e = absurd cc
 
 module _ (scope : Scope) (structures : List (Option TypeExtent)) (line : ℕ) where
   -- the kind of a promoted operand is what the operator wants

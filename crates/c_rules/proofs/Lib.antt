@@ -1,4 +1,5 @@
-mod TypeKinds
-mod FineBinary
-mod FineUnary
-mod FineConversions
+pub mod TypeKinds
+pub mod SameTypes
+pub mod FineBinary
+pub mod FineUnary
+pub mod FineConversions

@@ -8,8 +8,8 @@ ghost use Rattle.c_tree.specs.Valid.{Scope};
 ghost use Rattle.c_rules.specs.Binary.{binary};
 ghost use Rattle.c_rules.specs.declared.unary.LogicalOperator.{LogicalOperator};
 ghost use Rattle.c_rules.specs.Unary.{combined, comma, unary};
-ghost use Rattle.c_rules.specs.Conversions.{cast};
-ghost use Rattle.c_rules.specs.Fine.{IfFine, IsFine};
+ghost use Rattle.c_rules.specs.Conversions.{assigned, cast};
+ghost use Rattle.c_rules.specs.Fine.{IfFine, IfFineAs, IsFine};
 ghost use Rattle.c_rules.specs.Values.{Value};
 
 /// What an operator between two operands gives is valid where its operands are, and has the kind of its type.
@@ -38,4 +38,10 @@ pub fn logical_operators_keep_trees_valid()
 pub fn casts_keep_trees_valid()
     ensures { (scope : Scope) (structures : List (Option TypeExtent)) (line : ℕ) (to : List TypeWord) (a : Value)
         → IsFine scope structures a → IfFine scope structures (cast structures line to a) }
+{}
+
+/// So is what a conversion as by assignment gives: it has the kind of the type to which it passes, and may be stored.
+pub fn conversions_keep_trees_valid()
+    ensures { (scope : Scope) (structures : List (Option TypeExtent)) (line : ℕ) (to : List TypeWord) (a : Value)
+        → IsFine scope structures a → IfFineAs scope structures to (assigned structures line to a) }
 {}

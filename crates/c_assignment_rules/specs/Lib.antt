@@ -1,0 +1,3 @@
+pub mod Assignable
+pub mod Writing
+pub mod Assignments

@@ -1,0 +1,4 @@
+pub mod FirstTypes
+pub mod Pushed
+pub mod FineCalls
+pub mod RoutineTypes

@@ -1,0 +1,4 @@
+pub mod FunctionTypes
+pub mod Calls
+pub mod FineCalls
+pub mod Routines

@@ -1,0 +1,3 @@
+mod Scoping
+mod Changing
+mod Compositing

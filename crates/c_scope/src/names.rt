@@ -1,0 +1,131 @@
+//! Names and the scopes in which they are declared (C99 6.2.1). A name is the list of its bytes.
+
+ghost use Rattle.std.specs.Prelude.{◌≡◌, [], length, map, OnOk, option_copied};
+ghost use Rattle.c_scope.specs.Names.{bound, closed, declared, found, is_file_scope, meaning};
+ghost use Rattle.c_scope.specs.Names.{names_of, opened, scopes_of};
+
+use indexmap::IndexMap;
+use std::alloc::{AllocError, Global};
+use std::mem;
+
+/// The names that a scope declares, in the order of their declarations, and what stands for each.
+#[derive(Drop)]
+pub struct Names<'a, T> {
+    entries: IndexMap<&'a [u8], T>,
+}
+
+impl<'a, T: Drop> Names<'a, T> {
+    /// No names.
+    pub fn new(alloc: Global) -> Self
+        ensures { names_of result ≡ [] }
+    {
+        Names {
+            entries: IndexMap::new(alloc),
+        }
+    }
+
+    /// What stands for a name, where the scope declares it.
+    pub fn get(&self, name: &[u8]) -> Option<&T>
+        ensures { option_copied result ≡ declared name.now (names_of self.now) }
+    {
+        self.entries.get(name)
+    }
+
+    /// How many names there are.
+    pub fn len(&self) -> usize
+        ensures { result ≡ length (names_of self.now) }
+    {
+        self.entries.len()
+    }
+
+    /// A name stands for something from now on. One that is declared again keeps its place.
+    pub fn bind(&mut self, name: &'a [u8], what: T) -> Result<(), AllocError>
+        ensures { OnOk result (names_of self.new ≡ bound name.now what (names_of self.old)) }
+    {
+        self.entries.insert(name, what)?;
+        Ok(())
+    }
+}
+
+/// The scopes that are open: the innermost one, and those around it, of which that of the file is the first.
+#[derive(Drop)]
+pub struct Scopes<'a, T> {
+    outer: Vec<Names<'a, T>>,
+    current: Names<'a, T>,
+}
+
+impl<'a, T: Drop> Scopes<'a, T> {
+    /// The scope of a file, which declares no name yet.
+    pub fn new(alloc: Global) -> Self
+        ensures { scopes_of result ≡ record { outer = []; current = [] } }
+    {
+        Scopes {
+            outer: Vec::new(alloc),
+            current: Names::new(alloc),
+        }
+    }
+
+    /// Whether no block is open.
+    pub fn is_file_scope(&self) -> bool
+        ensures { result ≡ is_file_scope (scopes_of self.now) }
+    {
+        self.outer.is_empty()
+    }
+
+    /// Opens the scope of a block.
+    pub fn open(&mut self, alloc: Global) -> Result<(), AllocError>
+        ensures { OnOk result (scopes_of self.new ≡ opened (scopes_of self.old)) }
+    {
+        let before = mem::replace(&mut self.current, Names::new(alloc));
+        self.outer.push(before)?;
+        Ok(())
+    }
+
+    /// Closes the innermost scope; that of the file stays.
+    pub fn close(&mut self)
+        ensures { scopes_of self.new ≡ closed (scopes_of self.old) }
+    {
+        if let Some(before) = self.outer.pop() {
+            self.current = before;
+        }
+    }
+
+    /// What stands for a name in the innermost scope, where that declares it.
+    pub fn here(&self, name: &[u8]) -> Option<&T>
+        ensures { option_copied result ≡ declared name.now (scopes_of self.now).current }
+    {
+        self.current.get(name)
+    }
+
+    /// What stands for a name in the innermost scope that declares it.
+    pub fn get(&self, name: &[u8]) -> Option<&T>
+        ensures { option_copied result ≡ meaning name.now (scopes_of self.now) }
+    {
+        match self.current.get(name) {
+            Some(what) => Some(what),
+            None => found(&self.outer, name),
+        }
+    }
+
+    /// A name of the innermost scope stands for something from now on.
+    pub fn bind(&mut self, name: &'a [u8], what: T) -> Result<(), AllocError>
+        ensures { OnOk result (scopes_of self.new
+            ≡ record (scopes_of self.old) { current = bound name.now what (scopes_of self.old).current }) }
+    {
+        self.current.bind(name, what)
+    }
+}
+
+// What stands for a name in the last of these scopes that declares it.
+fn found<'b, T: Drop>(scopes: &'b [Names<T>], name: &[u8]) -> Option<&'b T>
+    ensures { option_copied result ≡ found name.now (map names_of scopes.now) }
+{
+    let mut count = scopes.len();
+    while count > 0 {
+        count -= 1;
+        if let Some(what) = scopes[count].get(name) {
+            return Some(what);
+        }
+    }
+    None
+}

@@ -84,8 +84,8 @@ fn one_passed(
     }
 }
 
-// Values and one more behind them.
-fn pushed<T: Drop>(before: Vec<T>, next: T) -> Result<Vec<T>, AllocError>
+/// Values and one more behind them.
+pub fn pushed<T: Drop>(before: Vec<T>, next: T) -> Result<Vec<T>, AllocError>
     ensures { IfOk result (λ all. all.items ≡ before.items ++ next ∷ []) }
 {
     let mut all = before;

@@ -10,6 +10,7 @@ ghost use Rattle.c_rules.specs.Values.{Value};
 ghost use Rattle.c_call_rules.specs.FunctionTypes.{callee_type};
 ghost use Rattle.c_call_rules.specs.Calls.{Callee, called, called_through};
 ghost use Rattle.c_call_rules.specs.FineCalls.{AreFine, HasSignature, IsFineCallee, Spells};
+ghost use Rattle.c_call_rules.specs.Printing.{Format, formatted};
 ghost use Rattle.c_call_rules.specs.Routines.{routine_words};
 
 /// What a call gives is valid where the callee has a signature that its type spells, and the arguments are valid; and
@@ -29,4 +30,11 @@ pub fn calls_keep_trees_valid()
 pub fn routines_have_their_signatures()
     ensures { (structures : List (Option TypeExtent)) (r : Routine)
         → Spells structures (routine_words r) (routine_signature r) }
+{}
+
+/// What a call of `printf` gives is valid where the arguments behind its format are.
+pub fn printing_keeps_trees_valid()
+    ensures { (scope : Scope) (structures : List (Option TypeExtent)) (line : ℕ) (format : Option Format)
+        (vs : List Value) → AreFine scope structures vs
+        → IfFine scope structures (formatted structures line format vs) }
 {}

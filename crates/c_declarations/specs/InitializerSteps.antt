@@ -2,7 +2,7 @@
 use Rattle.std.specs.Prelude.{ℕ, List, map, Result, Option}
 use Rattle.std.specs.declared.alloc.Global.{Global}
 use denote.Ref.{MutBor, Bor}
-use Rattle.c_syntax.specs.declared.place.Place.{Place}
+use Rattle.c_syntax.specs.declared.position.Position.{Position}
 use Rattle.c_syntax.specs.declared.declaration.Initializer.{Initializer}
 use Rattle.c_syntax.specs.declared.declaration.InitializerItem as rj
 use Rattle.c_syntax.specs.Tree as t
@@ -22,5 +22,5 @@ pub record DeeperInitializers (n : ℕ)
       → Reads initializer_of (initializers names.now n old.now.rest.now) r new.now.rest.now
 
 -- items behind commas, and the last comma (C99 6.7.8)
-abbrev pub items_to_brace : List (Place × rj.InitializerItem) × Option Place → List (Place × t.InitializerItem) × Option Place
+abbrev pub items_to_brace : List (Position × rj.InitializerItem) × Option Position → List (Position × t.InitializerItem) × Option Position
 items_to_brace x = (map (behind_comma item_of) x.0, x.1)

@@ -1,8 +1,10 @@
 //! Reading declarations (C99 6.7). Expressions, declarators, specifiers and initializers have at most some number of levels.
 
-ghost use Rattle.std.specs.Prelude.{◌≡◌, true, false, None, length, IfOk, IfErr};
+ghost use Rattle.std.specs.Prelude.{◌≡◌, true, false, None, length, suc, IfOk, IfErr};
 ghost use Rattle.c_grammar.specs.DeclarationReader as spec;
+ghost use Rattle.c_grammar.specs.Nested.{readers};
 ghost use Rattle.c_grammar.specs.Reads.{Reads};
+ghost use Rattle.c_grammar.specs.declared.declarator_kind.DeclaratorKind.TheVariants as declarator_kinds;
 ghost use Rattle.c_grammar.specs.declared.cursor.Fault.TheVariants.{Refused};
 ghost use Rattle.c_syntax.specs.Formed as formed;
 ghost use Rattle.c_syntax.specs.View.{declarator_of, specifiers_in};
@@ -17,7 +19,8 @@ use c_lexer::{Punctuator, Spelling};
 use c_syntax::names::declared_name;
 use c_syntax::specifiers::has_typedef;
 use c_syntax::{
-    Declaration, Declarator, InitDeclarator, InitDeclarators, Initializer, Items, Place, Specifier,
+    Boxed, Declaration, Declarator, InitDeclarator, InitDeclarators, Initializer, Items, Position,
+    Specifier,
 };
 use std::alloc::{AllocError, Global};
 
@@ -49,6 +52,27 @@ pub fn add_defined_name<'a>(
     Ok(())
 }
 
+/// Reads a declarator with a name (C99 6.7.5).
+pub fn named_declarator<'a>(
+    alloc: Global,
+    names: &[Spelling<'a>],
+    tokens: &mut Cursor<'_, 'a>,
+    levels: u8,
+) -> Result<Boxed<Declarator<'a>>, Fault>
+    ensures { Reads declarator_of ((readers names.now (suc levels)).declarator declarator_kinds.Named tokens.old.rest.now)
+        result tokens.new.rest.now }
+{
+    let declarator = declarator(
+        alloc,
+        names,
+        tokens,
+        levels as usize + 1,
+        DeclaratorKind::Named,
+    )?;
+    let declarator = declarator.boxed(alloc)?;
+    Ok(declarator.tree)
+}
+
 /// Reads `=` and an initializer, or nothing where no `=` stands next (C99 6.7).
 #[tactic(auto, unfolding(c_grammar::specs::DeclarationReader::initialized_from))]
 fn initialized<'a>(
@@ -56,15 +80,16 @@ fn initialized<'a>(
     names: &[Spelling<'a>],
     tokens: &mut Cursor<'_, 'a>,
     levels: u8,
-) -> Result<Option<(Place, Initializer<'a>)>, Fault>
+) -> Result<Option<(Position, Boxed<Initializer<'a>>)>, Fault>
     ensures { Reads initialized_of (spec.initialized_from levels names.now tokens.old.rest.now) result tokens.new.rest.now }
 {
     if !next_is(tokens.rest, Punctuator::Assign) {
         return Ok(None);
     }
-    let place = tokens.expect(Punctuator::Assign)?;
+    let position = tokens.expect(Punctuator::Assign)?;
     let value = initializer(alloc, names, tokens, levels as usize + 1)?;
-    Ok(Some((place, value)))
+    let value = Boxed::new(alloc, value)?;
+    Ok(Some((position, value)))
 }
 
 /// Reads what stands behind a declarator that is no typedef's (C99 6.7).
@@ -74,7 +99,7 @@ fn init_declarator_behind<'a>(
     names: &[Spelling<'a>],
     tokens: &mut Cursor<'_, 'a>,
     levels: u8,
-    declarator: Declarator<'a>,
+    declarator: Boxed<Declarator<'a>>,
 ) -> Result<InitDeclarator<'a>, Fault>
     ensures { Reads init_declarator_of (spec.init_declarator_behind levels false names.now (declarator_of declarator.entry) tokens.old.rest.now) result tokens.new.rest.now }
 {
@@ -96,14 +121,8 @@ fn init_declarator<'a>(
 ) -> Result<InitDeclarator<'a>, Fault>
     ensures { Reads init_declarator_of (spec.init_declarator_from levels false names.now tokens.old.rest.now) result tokens.new.rest.now }
 {
-    let declarator = declarator(
-        alloc,
-        names,
-        tokens,
-        levels as usize + 1,
-        DeclaratorKind::Named,
-    )?;
-    init_declarator_behind(alloc, names, tokens, levels, declarator.tree)
+    let declarator = named_declarator(alloc, names, tokens, levels)?;
+    init_declarator_behind(alloc, names, tokens, levels, declarator)
 }
 
 /// Reads the declarators behind the first of a declaration that is no typedef, each behind its comma (C99 6.7).
@@ -113,16 +132,16 @@ fn more_init_declarators<'a>(
     names: &[Spelling<'a>],
     tokens: &mut Cursor<'_, 'a>,
     levels: u8,
-) -> Result<Items<(Place, InitDeclarator<'a>)>, Fault>
+) -> Result<Items<(Position, InitDeclarator<'a>)>, Fault>
     ensures { Reads more_init_declarators_in (spec.more_init_declarators_from levels false (length tokens.old.rest.now) names.now tokens.old.rest.now) result tokens.new.rest.now }
 {
     let mut others = Vec::new(alloc);
     for _ in 0..tokens.rest.len() {
-        let Some(place) = tokens.take(Punctuator::Comma) else {
+        let Some(position) = tokens.take(Punctuator::Comma) else {
             return Ok(Items::from_vec(others));
         };
         let (before, other) = beside(others, init_declarator(alloc, names, tokens, levels))?;
-        others = with_item(before, (place, other))?;
+        others = with_item(before, (position, other))?;
     }
     Ok(Items::from_vec(others))
 }
@@ -134,13 +153,13 @@ fn typedef_behind<'a>(
     names: &mut Vec<Spelling<'a>>,
     tokens: &mut Cursor<'_, 'a>,
     levels: u8,
-    declarator: Declarator<'a>,
+    declarator: Boxed<Declarator<'a>>,
 ) -> Result<InitDeclarator<'a>, Fault>
     ensures read { Reads init_declarator_of (spec.init_declarator_behind levels true names.old.items (declarator_of declarator.entry) tokens.old.rest.now) result tokens.new.rest.now }
     ensures declarator { IfOk result (λ x. x.declarator ≡ declarator.entry) }
     ensures names { IfOk result (λ _. names.new.items ≡ formed.names_after true (declarator_of declarator.entry) names.old.items) }
 {
-    let added = add_typedef_name(names, &declarator);
+    let added = add_typedef_name(names, declarator.get());
     let (declarator, ()) = beside(declarator, added)?;
     let initializer = initialized(alloc, names.as_slice(), tokens, levels);
     let (declarator, initializer) = beside(declarator, initializer)?;
@@ -161,14 +180,8 @@ fn typedef_declarator<'a>(
     ensures read { Reads init_declarator_of (spec.init_declarator_from levels true names.old.items tokens.old.rest.now) result tokens.new.rest.now }
     ensures names { IfOk result (λ x. names.new.items ≡ formed.names_after true (declarator_of x.declarator) names.old.items) }
 {
-    let declarator = declarator(
-        alloc,
-        names.as_slice(),
-        tokens,
-        levels as usize + 1,
-        DeclaratorKind::Named,
-    )?;
-    typedef_behind(alloc, names, tokens, levels, declarator.tree)
+    let declarator = named_declarator(alloc, names.as_slice(), tokens, levels)?;
+    typedef_behind(alloc, names, tokens, levels, declarator)
 }
 
 /// Reads the declarators behind the first of a typedef, each behind its comma (C99 6.7, 6.7.7).
@@ -178,17 +191,17 @@ fn more_typedef_declarators<'a>(
     names: &mut Vec<Spelling<'a>>,
     tokens: &mut Cursor<'_, 'a>,
     levels: u8,
-) -> Result<Items<(Place, InitDeclarator<'a>)>, Fault>
+) -> Result<Items<(Position, InitDeclarator<'a>)>, Fault>
     ensures read { Reads more_init_declarators_in (spec.more_init_declarators_from levels true (length tokens.old.rest.now) names.old.items tokens.old.rest.now) result tokens.new.rest.now }
     ensures names { IfOk result (λ z. names.new.items ≡ formed.names_after_more true (more_init_declarators_in z) names.old.items) }
 {
     let mut others = Vec::new(alloc);
     for _ in 0..tokens.rest.len() {
-        let Some(place) = tokens.take(Punctuator::Comma) else {
+        let Some(position) = tokens.take(Punctuator::Comma) else {
             return Ok(Items::from_vec(others));
         };
         let (before, other) = beside(others, typedef_declarator(alloc, names, tokens, levels))?;
-        others = with_item(before, (place, other))?;
+        others = with_item(before, (position, other))?;
     }
     Ok(Items::from_vec(others))
 }
@@ -201,7 +214,7 @@ fn plain_declaration_behind<'a>(
     tokens: &mut Cursor<'_, 'a>,
     levels: u8,
     specifiers: Items<Specifier<'a>>,
-    declarator: Declarator<'a>,
+    declarator: Boxed<Declarator<'a>>,
 ) -> Result<Declaration<'a>, Fault>
     requires { formed.has_typedef (specifiers_in specifiers) ≡ false }
     ensures read { Reads declaration_of (spec.declaration_behind levels names.now (specifiers_in specifiers.entry) (declarator_of declarator.entry) tokens.old.rest.now) result tokens.new.rest.now }
@@ -212,9 +225,11 @@ fn plain_declaration_behind<'a>(
     let parts = beside(parts, more_init_declarators(alloc, names, tokens, levels))?;
     let (parts, semicolon) = beside(parts, tokens.expect(Punctuator::Semicolon))?;
     let ((specifiers, first), others) = parts;
+    let declarators = Boxed::new(alloc, InitDeclarators { first, others });
+    let (specifiers, declarators) = beside(specifiers, declarators)?;
     Ok(Declaration {
         specifiers,
-        declarators: Some(InitDeclarators { first, others }),
+        declarators: Some(declarators),
         semicolon,
     })
 }
@@ -227,7 +242,7 @@ fn typedef_declaration_behind<'a>(
     tokens: &mut Cursor<'_, 'a>,
     levels: u8,
     specifiers: Items<Specifier<'a>>,
-    declarator: Declarator<'a>,
+    declarator: Boxed<Declarator<'a>>,
 ) -> Result<Declaration<'a>, Fault>
     requires { formed.has_typedef (specifiers_in specifiers) ≡ true }
     ensures read { Reads declaration_of (spec.declaration_behind levels names.old.items (specifiers_in specifiers.entry) (declarator_of declarator.entry) tokens.old.rest.now) result tokens.new.rest.now }
@@ -241,9 +256,11 @@ fn typedef_declaration_behind<'a>(
     )?;
     let (parts, semicolon) = beside(parts, tokens.expect(Punctuator::Semicolon))?;
     let ((specifiers, first), others) = parts;
+    let declarators = Boxed::new(alloc, InitDeclarators { first, others });
+    let (specifiers, declarators) = beside(specifiers, declarators)?;
     Ok(Declaration {
         specifiers,
-        declarators: Some(InitDeclarators { first, others }),
+        declarators: Some(declarators),
         semicolon,
     })
 }
@@ -256,7 +273,7 @@ pub fn declaration_behind<'a>(
     tokens: &mut Cursor<'_, 'a>,
     levels: u8,
     specifiers: Items<Specifier<'a>>,
-    declarator: Declarator<'a>,
+    declarator: Boxed<Declarator<'a>>,
 ) -> Result<Declaration<'a>, Fault>
     ensures read { Reads declaration_of (spec.declaration_behind levels names.old.items (specifiers_in specifiers.entry) (declarator_of declarator.entry) tokens.old.rest.now) result tokens.new.rest.now }
     ensures names { IfOk result (λ x. names.new.items ≡ formed.names_after_declaration (declaration_of x) names.old.items) }
@@ -308,13 +325,7 @@ pub fn local<'a>(
     if next_is(tokens.rest, Punctuator::Semicolon) {
         return bare_declaration(tokens, levels, specifiers.tree);
     }
-    let declarator = declarator(
-        alloc,
-        names,
-        tokens,
-        levels as usize + 1,
-        DeclaratorKind::Named,
-    );
+    let declarator = named_declarator(alloc, names, tokens, levels);
     let (specifiers, declarator) = beside(specifiers, declarator)?;
     plain_declaration_behind(
         alloc,
@@ -322,6 +333,6 @@ pub fn local<'a>(
         tokens,
         levels,
         specifiers.tree,
-        declarator.tree,
+        declarator,
     )
 }

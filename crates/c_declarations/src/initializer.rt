@@ -15,12 +15,12 @@ use c_expressions::nested::expression;
 use c_grammar::cursor::{Cursor, Fault, next_is};
 use c_lexer::{Punctuator, Spelling};
 use c_syntax::{
-    Boxed, Designation, Designator, Initializer, InitializerItem, Items, Place, Placed,
+    Boxed, Designation, Designator, Initializer, InitializerItem, Items, Position, Positioned,
 };
 use std::alloc::Global;
 
 /// Whether a designator begins with the next word.
-fn begins_designator(rest: &[Placed]) -> bool
+fn begins_designator(rest: &[Positioned]) -> bool
     ensures { result ≡ reader.next_is spec.begins_designator rest.now }
 {
     next_is(rest, Punctuator::LeftBracket) || next_is(rest, Punctuator::Dot)
@@ -37,7 +37,7 @@ fn element<'a>(
     ensures { Reads designator_of (spec.element_from (readers names.now levels) tokens.old.rest.now) result tokens.new.rest.now }
 {
     let left = tokens.expect(Punctuator::LeftBracket)?;
-    let size = expression(alloc, names, tokens, levels, None, 3)?;
+    let size = expression(alloc, names, tokens, levels, None, 3)?.boxed(alloc)?;
     let (size, right) = beside(size, tokens.expect(Punctuator::RightBracket))?;
     Ok(Designator::Element(left, size.tree, right))
 }
@@ -51,9 +51,9 @@ fn member_named<'a>(
 ) -> Result<Designator<'a>, Fault>
     ensures { Reads designator_of (spec.member_named_from (readers names.now levels) tokens.old.rest.now) result tokens.new.rest.now }
 {
-    let place = tokens.expect(Punctuator::Dot)?;
+    let position = tokens.expect(Punctuator::Dot)?;
     let name = tokens.identifier()?;
-    Ok(Designator::Member(place, name))
+    Ok(Designator::Member(position, name))
 }
 
 /// Reads a designator (C99 6.7.8).
@@ -173,20 +173,20 @@ impl<
     fn more_items(
         &self,
         tokens: &mut Cursor<'_, 'a>,
-    ) -> Result<(Items<(Place, InitializerItem<'a>)>, Option<Place>), Fault>
+    ) -> Result<(Items<(Position, InitializerItem<'a>)>, Option<Position>), Fault>
         requires { DeeperInitializers self.now.levels (I.pre self.now.initializer) (I.post self.now.initializer) }
         ensures { Reads items_to_brace (behind_commas_to_brace (spec.item_from (readers self.now.names.now self.now.levels) (spec.initializers self.now.names.now self.now.levels)) (length tokens.old.rest.now) tokens.old.rest.now) result tokens.new.rest.now }
     {
         let mut others = Vec::new(self.alloc);
         for _ in 0..tokens.rest.len() {
-            let Some(place) = tokens.take(Punctuator::Comma) else {
+            let Some(position) = tokens.take(Punctuator::Comma) else {
                 return Ok((Items::from_vec(others), None));
             };
             if next_is(tokens.rest, Punctuator::RightBrace) {
-                return Ok((Items::from_vec(others), Some(place)));
+                return Ok((Items::from_vec(others), Some(position)));
             }
             let (before, item) = beside(others, self.item(tokens))?;
-            others = with_item(before, (place, item))?;
+            others = with_item(before, (position, item))?;
         }
         Ok((Items::from_vec(others), None))
     }
@@ -207,7 +207,7 @@ impl<
 }
 
 /// Whether an initializer in braces begins with the next word, where there may be this number of levels.
-pub fn begins_braced(rest: &[Placed], levels: usize) -> bool
+pub fn begins_braced(rest: &[Positioned], levels: usize) -> bool
     ensures { result ≡ reader.next_is_punctuator p.LeftBrace rest.now && nat_le 1 levels }
 {
     next_is(rest, Punctuator::LeftBrace) && 1 <= levels

@@ -1,9 +1,9 @@
 -- One more specifier, and the end.
 use Rattle.std.proofs.Common.{◌≡◌, ℕ, zero, suc, Bool, true, false, List, [], ◌∷◌, ◌++◌, length, get_or, take, drop, ◌-◌, ◌≤◌, Ok, Err, refl, sym, ap, ◌∙◌}
 use Rattle.std.proofs.lemmas.Bool.{false≢true}
-use Rattle.c_lexer.specs.declared.token.Word.TheVariants as word
-use Rattle.c_syntax.specs.declared.place.Placed.{Placed}
-use Rattle.c_syntax.specs.declared.place.Spelled.{Spelled}
+use Rattle.c_lexer.specs.declared.token.TokenKind.TheVariants as kinds
+use Rattle.c_syntax.specs.declared.position.Positioned.{Positioned}
+use Rattle.c_syntax.specs.declared.position.Spelled.{Spelled}
 use Rattle.c_syntax.specs.declared.specifiers.TypeWords.{TypeWords}
 use Rattle.c_syntax.specs.declared.tree.Specifier as rs
 use Rattle.c_syntax.specs.Tree.{Specifiers, Specifier}
@@ -39,12 +39,12 @@ before_none [] = refl
 before_none (x ∷ xs) = ap (λ z. t.specifiers (specifier_of x) z) (before_none xs)
 
 -- a typedef name
-pub specifier_name : (names : List (List ℕ)) (deeper : Readers) (levels : ℕ) (i : Words) (first : Placed) (s : List ℕ) (x : Spelled) → 1 ≤ length i → first ≡ get_or i 0 first
-    → first.word ≡ word.Identifier s → x.spelling ≡ s → x.place ≡ first.place → specifier_next names deeper levels i ≡ Ok (t.typedef_name x, take (length i - 1) (drop 1 i))
-specifier_name names deeper levels i first s x some is named spelled placed =
+pub specifier_name : (names : List (List ℕ)) (deeper : Readers) (levels : ℕ) (i : Words) (first : Positioned) (s : List ℕ) (x : Spelled) → 1 ≤ length i → first ≡ get_or i 0 first
+    → first.kind ≡ kinds.Identifier s → x.spelling ≡ s → x.position ≡ first.position → specifier_next names deeper levels i ≡ Ok (t.typedef_name x, take (length i - 1) (drop 1 i))
+specifier_name names deeper levels i first s x some is named spelled positioned =
     let j = take (length i - 1) (drop 1 i) in
-    ap (λ i. specifier_next names deeper levels i) (first_word i first some is) ∙ ap (λ w. specifier_by names deeper levels w first.place j) named
-    ∙ ap (λ s. Ok (t.typedef_name (spelled_at s first.place), j)) (sym spelled) ∙ ap (λ at. Ok (t.typedef_name (spelled_at x.spelling at), j)) (sym placed)
+    ap (λ i. specifier_next names deeper levels i) (first_word i first some is) ∙ ap (λ w. specifier_by names deeper levels w first.position j) named
+    ∙ ap (λ s. Ok (t.typedef_name (spelled_at s first.position), j)) (sym spelled) ∙ ap (λ at. Ok (t.typedef_name (spelled_at x.spelling at), j)) (sym positioned)
 
 module _ (names : List (List ℕ)) (deeper : Readers) (levels : ℕ) (allowed : Bool) where
   pub specifier_turn : (n : ℕ) (w : TypeWords) (xs : List rs.Specifier) (x : rs.Specifier) (i new : Words)

@@ -18,7 +18,7 @@ module _ (names : List (List ℕ)) (deeper : Readers) (levels : ℕ) where
   unfolding suffixes_from
   suffix_turn n e d [] new said is test one = absurd (false≢true test)
   suffix_turn n e d (first ∷ i) new said is test one =
-      let here : begins_suffix first.word && nat_lt (declarator_levels e) levels ≡ true = ap (λ l. begins_suffix first.word && nat_lt l levels) (sym is) ∙ test in
+      let here : begins_suffix first.kind && nat_lt (declarator_levels e) levels ≡ true = ap (λ l. begins_suffix first.kind && nat_lt l levels) (sym is) ∙ test in
       rw (here, one) refl
 
   -- the suffix is refused
@@ -28,7 +28,7 @@ module _ (names : List (List ℕ)) (deeper : Readers) (levels : ℕ) where
   suffix_fails n e i new said o Memory read is test one = tt
   suffix_fails n e [] new said o Refused read is test one = absurd (false≢true test)
   suffix_fails n e (first ∷ i) new said o Refused read is test one =
-      let here : begins_suffix first.word && nat_lt (declarator_levels e) levels ≡ true = ap (λ l. begins_suffix first.word && nat_lt l levels) (sym is) ∙ test in
+      let here : begins_suffix first.kind && nat_lt (declarator_levels e) levels ≡ true = ap (λ l. begins_suffix first.kind && nat_lt l levels) (sym is) ∙ test in
       read ∙ rw (here, one) refl
 
   -- there is no more suffix
@@ -38,7 +38,7 @@ module _ (names : List (List ℕ)) (deeper : Readers) (levels : ℕ) where
   suffix_end zero e i said is test = refl
   suffix_end (suc n) e [] said is test = refl
   suffix_end (suc n) e (first ∷ i) said is test =
-      let here : begins_suffix first.word && nat_lt (declarator_levels e) levels ≡ false = ap (λ l. begins_suffix first.word && nat_lt l levels) (sym is) ∙ test in
+      let here : begins_suffix first.kind && nat_lt (declarator_levels e) levels ≡ false = ap (λ l. begins_suffix first.kind && nat_lt l levels) (sym is) ∙ test in
       rw here refl
 
   -- the count has ended

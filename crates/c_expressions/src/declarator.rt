@@ -17,9 +17,9 @@ use crate::leveled::{Leveled, beside, beside_boxed, joined, leaf};
 use crate::specifier::begins_specifiers;
 use c_grammar::cursor::{Cursor, Fault, is_punctuator, is_same, next_is, spelled};
 use c_grammar::declarator_kind::DeclaratorKind;
-use c_lexer::{Punctuator, Spelling, Word};
+use c_lexer::{Punctuator, Spelling, TokenKind};
 use c_syntax::names::is_among;
-use c_syntax::{Declarator, Expression, Items, Place, Placed, Specifier, Spelled};
+use c_syntax::{Declarator, Expression, Items, Position, Positioned, Specifier, Spelled};
 use std::alloc::Global;
 
 /// Whether a declarator of this kind may have a name.
@@ -37,7 +37,7 @@ fn must_have_name(kind: DeclaratorKind) -> bool
 }
 
 /// No word of a declarator.
-fn unnamed<'a>(kind: DeclaratorKind, rest: &[Placed<'a>]) -> Result<Leveled<Declarator<'a>>, Fault>
+fn unnamed<'a>(kind: DeclaratorKind, rest: &[Positioned<'a>]) -> Result<Leveled<Declarator<'a>>, Fault>
     ensures { ReadsLeveled declarator_of declarator_levels 1 (spec.unnamed_at kind rest.now) result rest.now }
 {
     if must_have_name(kind) {
@@ -55,14 +55,14 @@ fn named<'a>(name: Spelled<'a>) -> Leveled<Declarator<'a>>
 }
 
 /// Whether the next word begins or ends parameters.
-fn begins_parameters(names: &[Spelling], rest: &[Placed]) -> bool
+fn begins_parameters(names: &[Spelling], rest: &[Positioned]) -> bool
     ensures { result ≡ next_is_punctuator p.RightParenthesis rest.now || common.begins_specifiers names.now rest.now }
 {
     next_is(rest, Punctuator::RightParenthesis) || begins_specifiers(names, rest)
 }
 
 /// Whether the next word is `(` or `[`, and a declarator with these levels has fewer than a number.
-fn begins_suffix(rest: &[Placed], levels: usize, limit: usize) -> bool
+fn begins_suffix(rest: &[Positioned], levels: usize, limit: usize) -> bool
     ensures { result ≡ next_is spec.begins_suffix rest.now && nat_lt levels limit }
 {
     let begins = next_is(rest, Punctuator::LeftParenthesis)
@@ -78,7 +78,7 @@ impl<
         &[Spelling<'a>],
         &mut Cursor<'_, 'a>,
         usize,
-        Option<Place>,
+        Option<Position>,
         u8,
     ) -> Result<Leveled<Expression<'a>>, Fault>,
     S: Fn(
@@ -101,18 +101,18 @@ impl<
         &self,
         tokens: &mut Cursor<'_, 'a>,
         left: Leveled<Declarator<'a>>,
-        place: Place,
+        position: Position,
     ) -> Result<Leveled<Declarator<'a>>, Fault>
         requires deeper { Deeper self.now.levels (E.pre self.now.expression) (E.post self.now.expression) (S.pre self.now.specifiers) (S.post self.now.specifiers) (D.pre self.now.declarator) (D.post self.now.declarator) }
         requires known { Below self.now.levels left.levels (declarator_levels (declarator_of left.tree)) }
-        ensures { ReadsLeveled declarator_of declarator_levels (suc self.now.levels) (spec.function_from self.now.names.now (readers self.now.names.now self.now.levels) self.now.levels (declarator_of left.entry.tree) place tokens.old.rest.now) result tokens.new.rest.now }
+        ensures { ReadsLeveled declarator_of declarator_levels (suc self.now.levels) (spec.function_from self.now.names.now (readers self.now.names.now self.now.levels) self.now.levels (declarator_of left.entry.tree) position tokens.old.rest.now) result tokens.new.rest.now }
     {
         let called = beside(left.boxed(self.alloc)?, self.parameters(tokens))?;
         let (called, right) = beside(called, tokens.expect(Punctuator::RightParenthesis))?;
         let (left, parameters) = called;
         Ok(Leveled {
             levels: left.levels.max(parameters.levels) + 1,
-            tree: Declarator::Function(left.tree, place, parameters.tree, right),
+            tree: Declarator::Function(left.tree, position, parameters.tree, right),
         })
     }
 
@@ -122,20 +122,20 @@ impl<
         &self,
         tokens: &mut Cursor<'_, 'a>,
         kind: DeclaratorKind,
-        place: Place,
+        position: Position,
     ) -> Result<Leveled<Declarator<'a>>, Fault>
         requires deeper { Deeper self.now.levels (E.pre self.now.expression) (E.post self.now.expression) (S.pre self.now.specifiers) (S.post self.now.specifiers) (D.pre self.now.declarator) (D.post self.now.declarator) }
         requires some { 0 < self.now.levels }
-        ensures { ReadsLeveled declarator_of declarator_levels (suc self.now.levels) (spec.parenthesis_from self.now.names.now (readers self.now.names.now self.now.levels) self.now.levels kind place tokens.old.rest.now) result tokens.new.rest.now }
+        ensures { ReadsLeveled declarator_of declarator_levels (suc self.now.levels) (spec.parenthesis_from self.now.names.now (readers self.now.names.now self.now.levels) self.now.levels kind position tokens.old.rest.now) result tokens.new.rest.now }
     {
         if !must_have_name(kind) && begins_parameters(self.names, tokens.rest) {
             let nameless = unnamed(kind, tokens.rest)?;
-            return self.function(tokens, nameless, place);
+            return self.function(tokens, nameless, position);
         }
         let inner = self.declarator(tokens, kind)?.boxed(self.alloc)?;
         let (inner, right) = beside(inner, tokens.expect(Punctuator::RightParenthesis))?;
         Ok(Leveled {
-            tree: Declarator::Parenthesized(place, inner.tree, right),
+            tree: Declarator::Parenthesized(position, inner.tree, right),
             levels: inner.levels + 1,
         })
     }
@@ -153,20 +153,20 @@ impl<
         let [first, rest @ ..] = tokens.rest else {
             return unnamed(kind, tokens.rest);
         };
-        match &first.word {
-            Word::Identifier(spelling) => {
+        match &first.kind {
+            TokenKind::Identifier(spelling) => {
                 if !may_have_name(kind) || is_among(self.names, spelling) {
                     return unnamed(kind, tokens.rest);
                 }
                 tokens.rest = rest;
-                Ok(named(spelled(spelling, first.place)))
+                Ok(named(spelled(spelling, first.position)))
             }
-            Word::Punctuator(punctuator) => {
+            TokenKind::Punctuator(punctuator) => {
                 if !is_same(Punctuator::LeftParenthesis, *punctuator) || self.levels < 1 {
                     return unnamed(kind, tokens.rest);
                 }
                 tokens.rest = rest;
-                self.declarator_parenthesis(tokens, kind, first.place)
+                self.declarator_parenthesis(tokens, kind, first.position)
             }
             _ => unnamed(kind, tokens.rest),
         }
@@ -178,18 +178,18 @@ impl<
         &self,
         tokens: &mut Cursor<'_, 'a>,
         left: Leveled<Declarator<'a>>,
-        place: Place,
+        position: Position,
     ) -> Result<Leveled<Declarator<'a>>, Fault>
         requires deeper { Deeper self.now.levels (E.pre self.now.expression) (E.post self.now.expression) (S.pre self.now.specifiers) (S.post self.now.specifiers) (D.pre self.now.declarator) (D.post self.now.declarator) }
         requires known { Below self.now.levels left.levels (declarator_levels (declarator_of left.tree)) }
-        ensures { ReadsLeveled declarator_of declarator_levels (suc self.now.levels) (spec.array_from self.now.names.now (readers self.now.names.now self.now.levels) self.now.levels (declarator_of left.entry.tree) place tokens.old.rest.now) result tokens.new.rest.now }
+        ensures { ReadsLeveled declarator_of declarator_levels (suc self.now.levels) (spec.array_from self.now.names.now (readers self.now.names.now self.now.levels) self.now.levels (declarator_of left.entry.tree) position tokens.old.rest.now) result tokens.new.rest.now }
     {
         let left = left.boxed(self.alloc)?;
         if next_is(tokens.rest, Punctuator::RightBracket) {
             let (left, right) = beside(left, tokens.expect(Punctuator::RightBracket))?;
             return Ok(Leveled {
                 levels: left.levels + 1,
-                tree: Declarator::OpenArray(left.tree, place, right),
+                tree: Declarator::OpenArray(left.tree, position, right),
             });
         }
         let array = beside(left, self.expression(tokens, None, 3))?;
@@ -198,7 +198,7 @@ impl<
         let (left, size) = array.tree;
         Ok(Leveled {
             levels: array.levels + 1,
-            tree: Declarator::Array(left, place, size, right),
+            tree: Declarator::Array(left, position, size, right),
         })
     }
 
@@ -216,10 +216,10 @@ impl<
             return Err(Fault::Refused);
         };
         tokens.rest = rest;
-        if is_punctuator(&first.word, Punctuator::LeftBracket) {
-            self.array(tokens, left, first.place)
+        if is_punctuator(&first.kind, Punctuator::LeftBracket) {
+            self.array(tokens, left, first.position)
         } else {
-            self.function(tokens, left, first.place)
+            self.function(tokens, left, first.position)
         }
     }
 
@@ -263,16 +263,16 @@ impl<
         &self,
         tokens: &mut Cursor<'_, 'a>,
         kind: DeclaratorKind,
-        place: Place,
+        position: Position,
     ) -> Result<Leveled<Declarator<'a>>, Fault>
         requires deeper { Deeper self.now.levels (E.pre self.now.expression) (E.post self.now.expression) (S.pre self.now.specifiers) (S.post self.now.specifiers) (D.pre self.now.declarator) (D.post self.now.declarator) }
-        ensures { ReadsLeveled declarator_of declarator_levels (suc self.now.levels) (spec.pointer_from self.now.names.now (readers self.now.names.now self.now.levels) self.now.levels kind place tokens.old.rest.now) result tokens.new.rest.now }
+        ensures { ReadsLeveled declarator_of declarator_levels (suc self.now.levels) (spec.pointer_from self.now.names.now (readers self.now.names.now self.now.levels) self.now.levels kind position tokens.old.rest.now) result tokens.new.rest.now }
     {
         let consts = tokens.consts(self.alloc)?;
         let (consts, inner) = beside(consts, self.declarator(tokens, kind))?;
         let (consts, inner) = beside_boxed(self.alloc, consts, inner)?;
         Ok(Leveled {
-            tree: Declarator::Pointer(place, consts, inner.tree),
+            tree: Declarator::Pointer(position, consts, inner.tree),
             levels: inner.levels + 1,
         })
     }
@@ -290,10 +290,10 @@ impl<
         let [first, rest @ ..] = tokens.rest else {
             return self.suffixed(tokens, kind);
         };
-        if !is_punctuator(&first.word, Punctuator::Star) || self.levels < 1 {
+        if !is_punctuator(&first.kind, Punctuator::Star) || self.levels < 1 {
             return self.suffixed(tokens, kind);
         }
         tokens.rest = rest;
-        self.pointer(tokens, kind, first.place)
+        self.pointer(tokens, kind, first.position)
     }
 }

@@ -19,9 +19,9 @@ use crate::leveled::{
 use c_grammar::cursor::{Cursor, Fault, next_is};
 use c_grammar::declarator_kind::DeclaratorKind;
 use c_grammar::operation::{Operation, binds, needs, operation_of};
-use c_lexer::{Punctuator, Spelling, Word};
+use c_lexer::{Punctuator, Spelling, TokenKind};
 use c_syntax::operators::{binary_precedence, precedence};
-use c_syntax::{Arguments, Declarator, Expression, Items, Place, Placed, Specifier};
+use c_syntax::{Arguments, Declarator, Expression, Items, Position, Positioned, Specifier};
 use std::alloc::Global;
 
 impl<
@@ -32,7 +32,7 @@ impl<
         &[Spelling<'a>],
         &mut Cursor<'_, 'a>,
         usize,
-        Option<Place>,
+        Option<Position>,
         u8,
     ) -> Result<Leveled<Expression<'a>>, Fault>,
     S: Fn(
@@ -55,18 +55,18 @@ impl<
     fn more_arguments(
         &self,
         tokens: &mut Cursor<'_, 'a>,
-    ) -> Result<Leveled<Items<(Place, Expression<'a>)>>, Fault>
+    ) -> Result<Leveled<Items<(Position, Expression<'a>)>>, Fault>
         requires deeper { Deeper self.now.levels (E.pre self.now.expression) (E.post self.now.expression) (S.pre self.now.specifiers) (S.post self.now.specifiers) (D.pre self.now.declarator) (D.post self.now.declarator) }
         requires some { 0 < self.now.levels }
         ensures { ReadsLeveled arguments_behind arguments_behind_levels self.now.levels (behind_commas ((readers self.now.names.now self.now.levels).expression None 2) (length tokens.old.rest.now) tokens.old.rest.now) result tokens.new.rest.now }
     {
         let mut others = no_trees(self.alloc);
         for _ in 0..tokens.rest.len() {
-            let Some(place) = tokens.take(Punctuator::Comma) else {
+            let Some(position) = tokens.take(Punctuator::Comma) else {
                 return Ok(as_items(others));
             };
             let (before, argument) = beside(others, self.expression(tokens, None, 2))?;
-            others = with_next(before, place, argument)?;
+            others = with_next(before, position, argument)?;
         }
         Ok(as_items(others))
     }
@@ -95,18 +95,18 @@ impl<
         &self,
         tokens: &mut Cursor<'_, 'a>,
         left: Leveled<Expression<'a>>,
-        place: Place,
+        position: Position,
         punctuator: Punctuator,
     ) -> Result<Leveled<Expression<'a>>, Fault>
         requires deeper { Deeper self.now.levels (E.pre self.now.expression) (E.post self.now.expression) (S.pre self.now.specifiers) (S.post self.now.specifiers) (D.pre self.now.declarator) (D.post self.now.declarator) }
         requires known { Below self.now.levels left.levels (expression_levels (expression_of left.tree)) }
-        ensures { ReadsLeveled expression_of expression_levels (suc self.now.levels) (spec.operation_from self.now.names.now (readers self.now.names.now self.now.levels) self.now.levels (expression_of left.entry.tree) punctuator place (Some op.Binary) tokens.old.rest.now) result tokens.new.rest.now }
+        ensures { ReadsLeveled expression_of expression_levels (suc self.now.levels) (spec.operation_from self.now.names.now (readers self.now.names.now self.now.levels) self.now.levels (expression_of left.entry.tree) punctuator position (Some op.Binary) tokens.old.rest.now) result tokens.new.rest.now }
     {
         let right = self.expression(tokens, None, binary_precedence(punctuator) + 1);
         let (left, right) = boxed_pair(self.alloc, beside(left, right)?)?;
         Ok(Leveled {
             levels: left.levels.max(right.levels) + 1,
-            tree: Expression::Binary(left.tree, punctuator, place, right.tree),
+            tree: Expression::Binary(left.tree, punctuator, position, right.tree),
         })
     }
 
@@ -116,18 +116,18 @@ impl<
         &self,
         tokens: &mut Cursor<'_, 'a>,
         left: Leveled<Expression<'a>>,
-        place: Place,
+        position: Position,
         punctuator: Punctuator,
     ) -> Result<Leveled<Expression<'a>>, Fault>
         requires deeper { Deeper self.now.levels (E.pre self.now.expression) (E.post self.now.expression) (S.pre self.now.specifiers) (S.post self.now.specifiers) (D.pre self.now.declarator) (D.post self.now.declarator) }
         requires known { Below self.now.levels left.levels (expression_levels (expression_of left.tree)) }
-        ensures { ReadsLeveled expression_of expression_levels (suc self.now.levels) (spec.operation_from self.now.names.now (readers self.now.names.now self.now.levels) self.now.levels (expression_of left.entry.tree) punctuator place (Some op.Assignment) tokens.old.rest.now) result tokens.new.rest.now }
+        ensures { ReadsLeveled expression_of expression_levels (suc self.now.levels) (spec.operation_from self.now.names.now (readers self.now.names.now self.now.levels) self.now.levels (expression_of left.entry.tree) punctuator position (Some op.Assignment) tokens.old.rest.now) result tokens.new.rest.now }
     {
         let right = self.expression(tokens, None, 2);
         let (left, right) = boxed_pair(self.alloc, beside(left, right)?)?;
         Ok(Leveled {
             levels: left.levels.max(right.levels) + 1,
-            tree: Expression::Assignment(left.tree, punctuator, place, right.tree),
+            tree: Expression::Assignment(left.tree, punctuator, position, right.tree),
         })
     }
 
@@ -135,20 +135,20 @@ impl<
     fn conditional_of(
         &self,
         operands: (Leveled<Expression<'a>>, Leveled<Expression<'a>>),
-        place: Place,
-        colon: Place,
+        position: Position,
+        colon: Position,
         third: Leveled<Expression<'a>>,
     ) -> Result<Leveled<Expression<'a>>, Fault>
         requires known { Below self.now.levels operands.0.levels (expression_levels (expression_of operands.0.tree)) }
         requires known_second { Below self.now.levels operands.1.levels (expression_levels (expression_of operands.1.tree)) }
         requires known_third { Below self.now.levels third.levels (expression_levels (expression_of third.tree)) }
-        ensures { (i : Words) → ReadsLeveled expression_of expression_levels (suc self.now.levels) (conditional_at (expression_of operands.entry.0.tree) place (expression_of operands.entry.1.tree) colon (expression_of third.entry.tree) i) result i }
+        ensures { (i : Words) → ReadsLeveled expression_of expression_levels (suc self.now.levels) (conditional_at (expression_of operands.entry.0.tree) position (expression_of operands.entry.1.tree) colon (expression_of third.entry.tree) i) result i }
     {
         let operands = boxed_three(self.alloc, operands, third)?;
         let (condition, second, third) = operands.tree;
         Ok(Leveled {
             levels: operands.levels + 1,
-            tree: Expression::Conditional(condition, place, second, colon, third),
+            tree: Expression::Conditional(condition, position, second, colon, third),
         })
     }
 
@@ -158,16 +158,16 @@ impl<
         &self,
         tokens: &mut Cursor<'_, 'a>,
         left: Leveled<Expression<'a>>,
-        place: Place,
+        position: Position,
     ) -> Result<Leveled<Expression<'a>>, Fault>
         requires deeper { Deeper self.now.levels (E.pre self.now.expression) (E.post self.now.expression) (S.pre self.now.specifiers) (S.post self.now.specifiers) (D.pre self.now.declarator) (D.post self.now.declarator) }
         requires known { Below self.now.levels left.levels (expression_levels (expression_of left.tree)) }
-        ensures { ReadsLeveled expression_of expression_levels (suc self.now.levels) (spec.operation_from self.now.names.now (readers self.now.names.now self.now.levels) self.now.levels (expression_of left.entry.tree) punctuators.Question place (Some op.Conditional) tokens.old.rest.now) result tokens.new.rest.now }
+        ensures { ReadsLeveled expression_of expression_levels (suc self.now.levels) (spec.operation_from self.now.names.now (readers self.now.names.now self.now.levels) self.now.levels (expression_of left.entry.tree) punctuators.Question position (Some op.Conditional) tokens.old.rest.now) result tokens.new.rest.now }
     {
         let operands = beside(left, self.expression(tokens, None, 1))?;
         let (operands, colon) = beside(operands, tokens.expect(Punctuator::Colon))?;
         let (operands, second) = beside(operands, self.expression(tokens, None, 3))?;
-        self.conditional_of(operands, place, colon, second)
+        self.conditional_of(operands, position, colon, second)
     }
 
     /// Reads what follows `[` (C99 6.5.2.1).
@@ -176,11 +176,11 @@ impl<
         &self,
         tokens: &mut Cursor<'_, 'a>,
         left: Leveled<Expression<'a>>,
-        place: Place,
+        position: Position,
     ) -> Result<Leveled<Expression<'a>>, Fault>
         requires deeper { Deeper self.now.levels (E.pre self.now.expression) (E.post self.now.expression) (S.pre self.now.specifiers) (S.post self.now.specifiers) (D.pre self.now.declarator) (D.post self.now.declarator) }
         requires known { Below self.now.levels left.levels (expression_levels (expression_of left.tree)) }
-        ensures { ReadsLeveled expression_of expression_levels (suc self.now.levels) (spec.operation_from self.now.names.now (readers self.now.names.now self.now.levels) self.now.levels (expression_of left.entry.tree) punctuators.Question place (Some op.Subscript) tokens.old.rest.now) result tokens.new.rest.now }
+        ensures { ReadsLeveled expression_of expression_levels (suc self.now.levels) (spec.operation_from self.now.names.now (readers self.now.names.now self.now.levels) self.now.levels (expression_of left.entry.tree) punctuators.Question position (Some op.Subscript) tokens.old.rest.now) result tokens.new.rest.now }
     {
         let left = left.boxed(self.alloc)?;
         let operands = beside(left, self.expression(tokens, None, 1))?;
@@ -189,7 +189,7 @@ impl<
         let (left, index) = operands.tree;
         Ok(Leveled {
             levels: operands.levels + 1,
-            tree: Expression::Subscript(left, place, index, right),
+            tree: Expression::Subscript(left, position, index, right),
         })
     }
 
@@ -199,18 +199,18 @@ impl<
         &self,
         tokens: &mut Cursor<'_, 'a>,
         left: Leveled<Expression<'a>>,
-        place: Place,
+        position: Position,
     ) -> Result<Leveled<Expression<'a>>, Fault>
         requires deeper { Deeper self.now.levels (E.pre self.now.expression) (E.post self.now.expression) (S.pre self.now.specifiers) (S.post self.now.specifiers) (D.pre self.now.declarator) (D.post self.now.declarator) }
         requires known { Below self.now.levels left.levels (expression_levels (expression_of left.tree)) }
-        ensures { ReadsLeveled expression_of expression_levels (suc self.now.levels) (spec.operation_from self.now.names.now (readers self.now.names.now self.now.levels) self.now.levels (expression_of left.entry.tree) punctuators.Question place (Some op.Call) tokens.old.rest.now) result tokens.new.rest.now }
+        ensures { ReadsLeveled expression_of expression_levels (suc self.now.levels) (spec.operation_from self.now.names.now (readers self.now.names.now self.now.levels) self.now.levels (expression_of left.entry.tree) punctuators.Question position (Some op.Call) tokens.old.rest.now) result tokens.new.rest.now }
     {
         let called = beside(left.boxed(self.alloc)?, self.arguments(tokens))?;
         let (called, right) = beside(called, tokens.expect(Punctuator::RightParenthesis))?;
         let (left, arguments) = called;
         Ok(Leveled {
             levels: left.levels.max(arguments.levels) + 1,
-            tree: Expression::Call(left.tree, place, arguments.tree, right),
+            tree: Expression::Call(left.tree, position, arguments.tree, right),
         })
     }
 
@@ -220,17 +220,17 @@ impl<
         &self,
         tokens: &mut Cursor<'_, 'a>,
         left: Leveled<Expression<'a>>,
-        place: Place,
+        position: Position,
         punctuator: Punctuator,
     ) -> Result<Leveled<Expression<'a>>, Fault>
         requires deeper { Deeper self.now.levels (E.pre self.now.expression) (E.post self.now.expression) (S.pre self.now.specifiers) (S.post self.now.specifiers) (D.pre self.now.declarator) (D.post self.now.declarator) }
         requires known { Below self.now.levels left.levels (expression_levels (expression_of left.tree)) }
-        ensures { ReadsLeveled expression_of expression_levels (suc self.now.levels) (spec.operation_from self.now.names.now (readers self.now.names.now self.now.levels) self.now.levels (expression_of left.entry.tree) punctuator place (Some op.Member) tokens.old.rest.now) result tokens.new.rest.now }
+        ensures { ReadsLeveled expression_of expression_levels (suc self.now.levels) (spec.operation_from self.now.names.now (readers self.now.names.now self.now.levels) self.now.levels (expression_of left.entry.tree) punctuator position (Some op.Member) tokens.old.rest.now) result tokens.new.rest.now }
     {
         let (left, name) = beside(left.boxed(self.alloc)?, tokens.identifier())?;
         Ok(Leveled {
             levels: left.levels + 1,
-            tree: Expression::Member(left.tree, punctuator, place, name),
+            tree: Expression::Member(left.tree, punctuator, position, name),
         })
     }
 
@@ -239,16 +239,16 @@ impl<
     fn postfix(
         &self,
         left: Leveled<Expression<'a>>,
-        place: Place,
+        position: Position,
         punctuator: Punctuator,
     ) -> Result<Leveled<Expression<'a>>, Fault>
         requires known { Below self.now.levels left.levels (expression_levels (expression_of left.tree)) }
-        ensures { (i : Words) → ReadsLeveled expression_of expression_levels (suc self.now.levels) (postfix_at (expression_of left.entry.tree) punctuator place i) result i }
+        ensures { (i : Words) → ReadsLeveled expression_of expression_levels (suc self.now.levels) (postfix_at (expression_of left.entry.tree) punctuator position i) result i }
     {
         let left = left.boxed(self.alloc)?;
         Ok(Leveled {
             levels: left.levels + 1,
-            tree: Expression::Postfix(left.tree, punctuator, place),
+            tree: Expression::Postfix(left.tree, punctuator, position),
         })
     }
 
@@ -258,22 +258,22 @@ impl<
         &self,
         tokens: &mut Cursor<'_, 'a>,
         left: Leveled<Expression<'a>>,
-        place: Place,
+        position: Position,
         punctuator: Punctuator,
         operation: Operation,
     ) -> Result<Leveled<Expression<'a>>, Fault>
         requires deeper { Deeper self.now.levels (E.pre self.now.expression) (E.post self.now.expression) (S.pre self.now.specifiers) (S.post self.now.specifiers) (D.pre self.now.declarator) (D.post self.now.declarator) }
         requires known { Below self.now.levels left.levels (expression_levels (expression_of left.tree)) }
-        ensures { ReadsLeveled expression_of expression_levels (suc self.now.levels) (spec.operation_from self.now.names.now (readers self.now.names.now self.now.levels) self.now.levels (expression_of left.entry.tree) punctuator place (Some operation) tokens.old.rest.now) result tokens.new.rest.now }
+        ensures { ReadsLeveled expression_of expression_levels (suc self.now.levels) (spec.operation_from self.now.names.now (readers self.now.names.now self.now.levels) self.now.levels (expression_of left.entry.tree) punctuator position (Some operation) tokens.old.rest.now) result tokens.new.rest.now }
     {
         match operation {
-            Operation::Binary => self.binary(tokens, left, place, punctuator),
-            Operation::Assignment => self.assignment(tokens, left, place, punctuator),
-            Operation::Conditional => self.conditional(tokens, left, place),
-            Operation::Subscript => self.subscript(tokens, left, place),
-            Operation::Call => self.call(tokens, left, place),
-            Operation::Member => self.member(tokens, left, place, punctuator),
-            Operation::Postfix => self.postfix(left, place, punctuator),
+            Operation::Binary => self.binary(tokens, left, position, punctuator),
+            Operation::Assignment => self.assignment(tokens, left, position, punctuator),
+            Operation::Conditional => self.conditional(tokens, left, position),
+            Operation::Subscript => self.subscript(tokens, left, position),
+            Operation::Call => self.call(tokens, left, position),
+            Operation::Member => self.member(tokens, left, position, punctuator),
+            Operation::Postfix => self.postfix(left, position, punctuator),
         }
     }
 
@@ -283,15 +283,15 @@ impl<
         &self,
         tokens: &mut Cursor<'_, 'a>,
         left: Leveled<Expression<'a>>,
-        place: Place,
+        position: Position,
         punctuator: Punctuator,
     ) -> Result<Leveled<Expression<'a>>, Fault>
         requires deeper { Deeper self.now.levels (E.pre self.now.expression) (E.post self.now.expression) (S.pre self.now.specifiers) (S.post self.now.specifiers) (D.pre self.now.declarator) (D.post self.now.declarator) }
         requires known { Below self.now.levels left.levels (expression_levels (expression_of left.tree)) }
-        ensures { ReadsLeveled expression_of expression_levels (suc self.now.levels) (spec.operation_from self.now.names.now (readers self.now.names.now self.now.levels) self.now.levels (expression_of left.entry.tree) punctuator place (spec.operation punctuator) tokens.old.rest.now) result tokens.new.rest.now }
+        ensures { ReadsLeveled expression_of expression_levels (suc self.now.levels) (spec.operation_from self.now.names.now (readers self.now.names.now self.now.levels) self.now.levels (expression_of left.entry.tree) punctuator position (spec.operation punctuator) tokens.old.rest.now) result tokens.new.rest.now }
     {
         match operation_of(punctuator) {
-            Some(operation) => self.operation_by(tokens, left, place, punctuator, operation),
+            Some(operation) => self.operation_by(tokens, left, position, punctuator, operation),
             None => Err(Fault::Refused),
         }
     }
@@ -310,11 +310,11 @@ impl<
             return Err(Fault::Refused);
         };
         tokens.rest = rest;
-        match &first.word {
-            Word::Punctuator(punctuator) => self.operation_of(
+        match &first.kind {
+            TokenKind::Punctuator(punctuator) => self.operation_of(
                 tokens,
                 left,
-                first.place,
+                first.position,
                 *punctuator,
             ),
             _ => Err(Fault::Refused),
@@ -322,13 +322,13 @@ impl<
     }
 
     /// Whether the next word goes on with this operand as an expression of at least this precedence.
-    fn goes_on(&self, rest: &[Placed], least: u8, left: &Leveled<Expression<'a>>) -> bool
+    fn goes_on(&self, rest: &[Positioned], least: u8, left: &Leveled<Expression<'a>>) -> bool
         ensures { result ≡ operation_is_next self.now.levels least (expression_of left.now.tree) left.now.levels rest.now }
     {
         match rest.first() {
             Some(first) => {
-                least <= binds(&first.word)
-                    && (needs(&first.word) <= precedence(&left.tree) && left.levels < self.levels)
+                least <= binds(&first.kind)
+                    && (needs(&first.kind) <= precedence(&left.tree) && left.levels < self.levels)
             }
             None => false,
         }
@@ -359,7 +359,7 @@ impl<
     fn first_operand(
         &self,
         tokens: &mut Cursor<'_, 'a>,
-        opened: Option<Place>,
+        opened: Option<Position>,
         least: u8,
     ) -> Result<Leveled<Expression<'a>>, Fault>
         requires deeper { Deeper self.now.levels (E.pre self.now.expression) (E.post self.now.expression) (S.pre self.now.specifiers) (S.post self.now.specifiers) (D.pre self.now.declarator) (D.post self.now.declarator) }
@@ -367,17 +367,17 @@ impl<
     {
         match opened {
             None => self.operand(tokens, least),
-            Some(place) if self.levels >= 1 => self.parenthesized(tokens, place),
+            Some(position) if self.levels >= 1 => self.parenthesized(tokens, position),
             Some(_) => Err(Fault::Refused),
         }
     }
 
-    /// Reads an expression of at least this precedence; a place is that of the `(` that was taken.
+    /// Reads an expression of at least this precedence; a position is that of the `(` that was taken.
     #[tactic(auto, unfolding(c_grammar::specs::ExpressionReader::expression_at))]
     pub fn expression_at(
         &self,
         tokens: &mut Cursor<'_, 'a>,
-        opened: Option<Place>,
+        opened: Option<Position>,
         least: u8,
     ) -> Result<Leveled<Expression<'a>>, Fault>
         requires deeper { Deeper self.now.levels (E.pre self.now.expression) (E.post self.now.expression) (S.pre self.now.specifiers) (S.post self.now.specifiers) (D.pre self.now.declarator) (D.post self.now.declarator) }

@@ -10,7 +10,7 @@ use crate::leveled::Leveled;
 use c_grammar::cursor::{Cursor, Fault};
 use c_grammar::declarator_kind::DeclaratorKind;
 use c_lexer::Spelling;
-use c_syntax::{Declarator, Expression, Items, Place, Specifier};
+use c_syntax::{Declarator, Expression, Items, Position, Specifier};
 use std::alloc::Global;
 
 /// The rules for what has at most some number of levels, with the functions that read what has fewer.
@@ -38,7 +38,7 @@ impl<
         &[Spelling<'a>],
         &mut Cursor<'_, 'a>,
         usize,
-        Option<Place>,
+        Option<Position>,
         u8,
     ) -> Result<Leveled<Expression<'a>>, Fault>,
     S: Fn(
@@ -56,11 +56,11 @@ impl<
         DeclaratorKind,
     ) -> Result<Leveled<Declarator<'a>>, Fault>,
 > Grammar<'t, 'a, E, S, D> {
-    /// Reads an expression of at least this precedence with fewer levels; a place is that of the `(` that was taken.
+    /// Reads an expression of at least this precedence with fewer levels; a position is that of the `(` that was taken.
     pub fn expression(
         &self,
         tokens: &mut Cursor<'_, 'a>,
-        opened: Option<Place>,
+        opened: Option<Position>,
         least: u8,
     ) -> Result<Leveled<Expression<'a>>, Fault>
         requires { Deeper self.now.levels (E.pre self.now.expression) (E.post self.now.expression) (S.pre self.now.specifiers) (S.post self.now.specifiers) (D.pre self.now.declarator) (D.post self.now.declarator) }

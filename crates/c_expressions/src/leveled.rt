@@ -6,7 +6,7 @@ ghost use Rattle.c_grammar.specs.declared.cursor.Fault.TheVariants.{Refused};
 ghost use Rattle.c_grammar.specs.declared.cursor.Fault.{Fault};
 
 use c_grammar::cursor::Fault;
-use c_syntax::{Boxed, Items, Place};
+use c_syntax::{Boxed, Items, Position};
 use std::alloc::{AllocError, Global};
 
 /// A tree and how many levels it has, so that they need no counting.
@@ -154,10 +154,10 @@ pub fn with_tree<T: Drop>(
 
 /// The trees and one more behind a comma, or the answer that there is no memory for it.
 pub fn with_next<T: Drop>(
-    trees: Leveled<Vec<(Place, T)>>,
-    comma: Place,
+    trees: Leveled<Vec<(Position, T)>>,
+    comma: Position,
     tree: Leveled<T>,
-) -> Result<Leveled<Vec<(Place, T)>>, AllocError>
+) -> Result<Leveled<Vec<(Position, T)>>, AllocError>
     ensures { IfOk result (λ more. (more.tree.items ≡ trees.tree.items ++ ((comma, tree.tree) ∷ [])) × (more.levels ≡ max tree.levels trees.levels)) }
 {
     let Leveled { tree, levels } = tree;
@@ -184,8 +184,8 @@ pub fn as_items<T>(trees: Leveled<Vec<T>>) -> Leveled<Items<T>>
 /// The trees as a list, and the comma behind the last of them, where one stands there.
 pub fn before_comma<T>(
     trees: Leveled<Vec<T>>,
-    comma: Option<Place>,
-) -> Leveled<(Items<T>, Option<Place>)>
+    comma: Option<Position>,
+) -> Leveled<(Items<T>, Option<Position>)>
     ensures trees { result.tree.0 ≡ trees.tree.items }
     ensures comma { result.tree.1 ≡ comma }
     ensures levels { result.levels ≡ trees.levels }

@@ -11,10 +11,10 @@ use crate::leveled::Leveled;
 use c_grammar::cursor::{Cursor, Fault};
 use c_grammar::declarator_kind::DeclaratorKind;
 use c_lexer::Spelling;
-use c_syntax::{Declarator, Expression, Items, Place, Specifier};
+use c_syntax::{Declarator, Expression, Items, Position, Specifier};
 use std::alloc::Global;
 
-/// Reads an expression of at least this precedence with fewer than this number of levels; a place is that of the `(` that
+/// Reads an expression of at least this precedence with fewer than this number of levels; a position is that of the `(` that
 /// was taken (C99 6.5).
 #[cycle(reader)]
 pub fn expression<'a>(
@@ -22,7 +22,7 @@ pub fn expression<'a>(
     names: &[Spelling<'a>],
     tokens: &mut Cursor<'_, 'a>,
     levels: usize,
-    opened: Option<Place>,
+    opened: Option<Position>,
     least: u8,
 ) -> Result<Leveled<Expression<'a>>, Fault>
     ensures { ReadsLeveled expression_of expression_levels levels ((readers names.now levels).expression opened least tokens.old.rest.now) result tokens.new.rest.now }

@@ -17,22 +17,22 @@ use c_grammar::cursor::{Cursor, Fault, next_is};
 use c_grammar::declarator_kind::DeclaratorKind;
 use c_lexer::{Keyword, Punctuator, Spelling};
 use c_syntax::{
-    Boxed, Declarator, Expression, Items, Parameters, Place, Specifier, TypedDeclarator,
+    Boxed, Declarator, Expression, Items, Parameters, Position, Specifier, TypedDeclarator,
 };
 use std::alloc::{AllocError, Global};
 
-/// The place of the word `void`.
-fn void_word(specifier: &Specifier) -> Option<Place>
+/// The position of the word `void`.
+fn void_word(specifier: &Specifier) -> Option<Position>
     ensures { result ≡ void_word (specifier_of specifier.now) }
 {
     match specifier {
-        Specifier::Keyword(Keyword::Void, place) => Some(*place),
+        Specifier::Keyword(Keyword::Void, position) => Some(*position),
         _ => None,
     }
 }
 
-/// The place of the word `void` where it is the only specifier.
-fn void_alone(specifiers: &[Specifier]) -> Option<Place>
+/// The position of the word `void` where it is the only specifier.
+fn void_alone(specifiers: &[Specifier]) -> Option<Position>
     ensures { result ≡ void_alone (specifiers_in specifiers.now) }
 {
     let Some((first, others)) = specifiers.split_first() else {
@@ -44,9 +44,9 @@ fn void_alone(specifiers: &[Specifier]) -> Option<Place>
     }
 }
 
-/// The place of the word `void` where it is the whole parameter.
+/// The position of the word `void` where it is the whole parameter.
 #[tactic(auto, using(c_syntax::proofs::TypedView::typed_view))]
-fn void_parameter(parameter: &TypedDeclarator) -> Option<Place>
+fn void_parameter(parameter: &TypedDeclarator) -> Option<Position>
     ensures { result ≡ void_parameter (typed_of parameter.now) }
 {
     match &parameter.declarator {
@@ -55,8 +55,8 @@ fn void_parameter(parameter: &TypedDeclarator) -> Option<Place>
     }
 }
 
-/// The place of the word `void` where it is all that stands between the parentheses (C99 6.7.5.3).
-fn lone_void(first: &TypedDeclarator, others: &[(Place, TypedDeclarator)]) -> Option<Place>
+/// The position of the word `void` where it is all that stands between the parentheses (C99 6.7.5.3).
+fn lone_void(first: &TypedDeclarator, others: &[(Position, TypedDeclarator)]) -> Option<Position>
     ensures { result ≡ lone_void (typed_of first.now) (more_parameters_in others.now) }
 {
     match others.first() {
@@ -70,12 +70,12 @@ fn lone_void(first: &TypedDeclarator, others: &[(Place, TypedDeclarator)]) -> Op
 fn parameters_of<'a>(
     alloc: Global,
     first: TypedDeclarator<'a>,
-    others: Items<(Place, TypedDeclarator<'a>)>,
+    others: Items<(Position, TypedDeclarator<'a>)>,
 ) -> Result<Parameters<'a>, AllocError>
     ensures { IfOk result (λ x. parameters_of x ≡ spec.parameters_of (typed_of first.entry) (more_parameters_in others.entry)) }
 {
     match lone_void(&first, others.as_slice()) {
-        Some(place) => Ok(Parameters::Void(place)),
+        Some(position) => Ok(Parameters::Void(position)),
         None => Ok(Parameters::Given(Boxed::new(alloc, first)?, others)),
     }
 }
@@ -113,7 +113,7 @@ impl<
         &[Spelling<'a>],
         &mut Cursor<'_, 'a>,
         usize,
-        Option<Place>,
+        Option<Position>,
         u8,
     ) -> Result<Leveled<Expression<'a>>, Fault>,
     S: Fn(
@@ -150,18 +150,18 @@ impl<
     fn more_parameters(
         &self,
         tokens: &mut Cursor<'_, 'a>,
-    ) -> Result<Leveled<Items<(Place, TypedDeclarator<'a>)>>, Fault>
+    ) -> Result<Leveled<Items<(Position, TypedDeclarator<'a>)>>, Fault>
         requires deeper { Deeper self.now.levels (E.pre self.now.expression) (E.post self.now.expression) (S.pre self.now.specifiers) (S.post self.now.specifiers) (D.pre self.now.declarator) (D.post self.now.declarator) }
         requires some { 0 < self.now.levels }
         ensures { ReadsLeveled parameters_behind parameters_behind_levels self.now.levels (behind_commas (spec.typed_from (readers self.now.names.now self.now.levels) kind.Either) (length tokens.old.rest.now) tokens.old.rest.now) result tokens.new.rest.now }
     {
         let mut others = no_trees(self.alloc);
         for _ in 0..tokens.rest.len() {
-            let Some(place) = tokens.take(Punctuator::Comma) else {
+            let Some(position) = tokens.take(Punctuator::Comma) else {
                 return Ok(as_items(others));
             };
             let (before, parameter) = beside(others, self.typed(tokens, DeclaratorKind::Either))?;
-            others = with_next(before, place, parameter)?;
+            others = with_next(before, position, parameter)?;
         }
         Ok(as_items(others))
     }

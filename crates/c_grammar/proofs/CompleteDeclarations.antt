@@ -2,7 +2,7 @@
 use Rattle.std.proofs.Common.{◌≡◌, ℕ, zero, suc, ◌<◌, ◌≤◌, Bool, true, false, List, [], ◌∷◌, Ok, Option, Some, None, length, refl, arith}
 use Rattle.c_lexer.specs.Spellings.{punctuator_spelling}
 use Rattle.c_lexer.specs.declared.punctuator.Punctuator.TheVariants as p
-use Rattle.c_syntax.specs.declared.place.Place.{Place}
+use Rattle.c_syntax.specs.declared.position.Position.{Position}
 use Rattle.c_syntax.specs.Tree.{Specifiers, Declarator, Initializer}
 use Rattle.c_syntax.specs.Statements.{InitDeclarator, InitDeclarators, Declaration}
 use Rattle.c_syntax.specs.Words.{Words, punctuator, specifiers_words, declarator_words, initializer_words, initialized_words, init_declarator_words, more_init_declarators_words, init_declarators_words, declaration_words}
@@ -22,31 +22,31 @@ use Rattle.c_grammar.proofs.CompleteInitializers.{initializers_complete}
 
 -- ---- what stands behind a declarator
 
-declarators_bind : (z : List (Place × InitDeclarator)) (at : Place) (r : Words) → next_binds (more_init_declarators_words z (punctuator p.Semicolon at ∷ r)) < 2
+declarators_bind : (z : List (Position × InitDeclarator)) (at : Position) (r : Words) → next_binds (more_init_declarators_words z (punctuator p.Semicolon at ∷ r)) < 2
 declarators_bind [] at r = omega (arith, semicolon_binds at r)
 declarators_bind (x ∷ z) at r = omega (arith, comma_binds x.0 (init_declarator_words x.1 (more_init_declarators_words z (punctuator p.Semicolon at ∷ r))))
 
-declarators_no_assign : (z : List (Place × InitDeclarator)) (at : Place) (r : Words) → next_is_punctuator p.Assign (more_init_declarators_words z (punctuator p.Semicolon at ∷ r)) ≡ false
+declarators_no_assign : (z : List (Position × InitDeclarator)) (at : Position) (r : Words) → next_is_punctuator p.Assign (more_init_declarators_words z (punctuator p.Semicolon at ∷ r)) ≡ false
 unfolding is_same punctuator_spelling
 declarators_no_assign [] at r = refl
 declarators_no_assign (x ∷ z) at r = refl
 
-pub initialized_quiet : (v : Option (Place × Initializer)) (z : List (Place × InitDeclarator)) (at : Place) (r : Words) → is_quiet (initialized_words v (more_init_declarators_words z (punctuator p.Semicolon at ∷ r))) ≡ true
+pub initialized_quiet : (v : Option (Position × Initializer)) (z : List (Position × InitDeclarator)) (at : Position) (r : Words) → is_quiet (initialized_words v (more_init_declarators_words z (punctuator p.Semicolon at ∷ r))) ≡ true
 initialized_quiet None [] at r = refl
 initialized_quiet None (x ∷ z) at r = refl
 initialized_quiet (Some v) z at r = refl
 
-pub initialized_no_brace : (v : Option (Place × Initializer)) (z : List (Place × InitDeclarator)) (at : Place) (r : Words) → next_is_punctuator p.LeftBrace (initialized_words v (more_init_declarators_words z (punctuator p.Semicolon at ∷ r))) ≡ false
+pub initialized_no_brace : (v : Option (Position × Initializer)) (z : List (Position × InitDeclarator)) (at : Position) (r : Words) → next_is_punctuator p.LeftBrace (initialized_words v (more_init_declarators_words z (punctuator p.Semicolon at ∷ r))) ≡ false
 unfolding is_same punctuator_spelling
 initialized_no_brace None [] at r = refl
 initialized_no_brace None (x ∷ z) at r = refl
 initialized_no_brace (Some v) z at r = refl
 
-semicolon_no_comma : (at : Place) (r : Words) → next_is_punctuator p.Comma (punctuator p.Semicolon at ∷ r) ≡ false
+semicolon_no_comma : (at : Position) (r : Words) → next_is_punctuator p.Comma (punctuator p.Semicolon at ∷ r) ≡ false
 unfolding is_same punctuator_spelling
 semicolon_no_comma at r = refl
 
-pub semicolon_no_brace : (at : Place) (r : Words) → next_is_punctuator p.LeftBrace (punctuator p.Semicolon at ∷ r) ≡ false
+pub semicolon_no_brace : (at : Position) (r : Words) → next_is_punctuator p.LeftBrace (punctuator p.Semicolon at ∷ r) ≡ false
 unfolding is_same punctuator_spelling
 semicolon_no_brace at r = refl
 
@@ -57,20 +57,20 @@ module _ (levels : ℕ) where
       → (readers names (suc levels)).declarator kind.Named (declarator_words d r) ≡ Ok (d, r)
   declared_again names d r h quiet = (complete names (suc levels)).declarators kind.Named d r h.1.1 (omega (arith, h.0)) (named_fits d h.1.0) quiet
 
-  initialized_again : (names : List (List ℕ)) (v : Option (Place × Initializer)) (r : Words) → IsInitialized levels names v → next_binds r < 2 → next_is_punctuator p.Assign r ≡ false
+  initialized_again : (names : List (List ℕ)) (v : Option (Position × Initializer)) (r : Words) → IsInitialized levels names v → next_binds r < 2 → next_is_punctuator p.Assign r ≡ false
       → initialized_from levels names (initialized_words v r) ≡ Ok (v, r)
   unfolding initialized_from
   initialized_again names None r h f plain = rw plain refl
   initialized_again names (Some v) r h f plain =
       rw (same p.Assign, expected p.Assign v.0 (initializer_words v.1 r), initializers_complete names (suc levels) v.1 r h.1 (omega (arith, h.0)) f) refl
 
-  behind_again : (is_typedef : Bool) (names : List (List ℕ)) (d : Declarator) (v : Option (Place × Initializer)) (r : Words) → IsInitialized levels (names_after is_typedef d names) v
+  behind_again : (is_typedef : Bool) (names : List (List ℕ)) (d : Declarator) (v : Option (Position × Initializer)) (r : Words) → IsInitialized levels (names_after is_typedef d names) v
       → next_binds r < 2 → next_is_punctuator p.Assign r ≡ false → init_declarator_behind levels is_typedef names d (initialized_words v r) ≡ Ok (record { declarator = d; initializer = v }, r)
   unfolding init_declarator_behind
   behind_again is_typedef names d v r h f plain = rw (initialized_again (names_after is_typedef d names) v r h f plain) refl
 
   -- a declarator behind a comma
-  one_again : (is_typedef : Bool) (names : List (List ℕ)) (x : InitDeclarator) (z : List (Place × InitDeclarator)) (at : Place) (r : Words) → IsInitDeclarator levels is_typedef names x
+  one_again : (is_typedef : Bool) (names : List (List ℕ)) (x : InitDeclarator) (z : List (Position × InitDeclarator)) (at : Position) (r : Words) → IsInitDeclarator levels is_typedef names x
       → init_declarator_from levels is_typedef names (init_declarator_words x (more_init_declarators_words z (punctuator p.Semicolon at ∷ r)))
       ≡ Ok (x, more_init_declarators_words z (punctuator p.Semicolon at ∷ r))
   unfolding init_declarator_from
@@ -81,7 +81,7 @@ module _ (levels : ℕ) where
         behind_again is_typedef names x.declarator x.initializer behind h.1 (declarators_bind z at r) (declarators_no_assign z at r),
       ) refl
 
-  more_again : (n : ℕ) (is_typedef : Bool) (names : List (List ℕ)) (z : List (Place × InitDeclarator)) (at : Place) (r : Words) → AreMoreInitDeclarators levels is_typedef names z
+  more_again : (n : ℕ) (is_typedef : Bool) (names : List (List ℕ)) (z : List (Position × InitDeclarator)) (at : Position) (r : Words) → AreMoreInitDeclarators levels is_typedef names z
       → length (more_init_declarators_words z (punctuator p.Semicolon at ∷ r)) ≤ n
       → more_init_declarators_from levels is_typedef n names (more_init_declarators_words z (punctuator p.Semicolon at ∷ r)) ≡ Ok (z, punctuator p.Semicolon at ∷ r)
   unfolding more_init_declarators_from
@@ -98,7 +98,7 @@ module _ (levels : ℕ) where
   -- ---- declarations
 
   -- what stands behind the first declarator
-  pub declaration_again : (names : List (List ℕ)) (z : Specifiers) (x : InitDeclarator) (m : List (Place × InitDeclarator)) (at : Place) (r : Words)
+  pub declaration_again : (names : List (List ℕ)) (z : Specifiers) (x : InitDeclarator) (m : List (Position × InitDeclarator)) (at : Position) (r : Words)
       → IsInitDeclarator levels (has_typedef z) names x → AreMoreInitDeclarators levels (has_typedef z) (names_after (has_typedef z) x.declarator names) m
       → declaration_behind levels names z x.declarator (initialized_words x.initializer (more_init_declarators_words m (punctuator p.Semicolon at ∷ r)))
       ≡ Ok (record { specifiers = z; declarators = Some (record { first = x; others = m }); semicolon = at }, r)
@@ -111,7 +111,7 @@ module _ (levels : ℕ) where
         expected p.Semicolon at r,
       ) refl
 
-  pub bare_again : (z : Specifiers) (at : Place) (r : Words) → bare_declaration_from levels z (punctuator p.Semicolon at ∷ r) ≡ Ok (record { specifiers = z; declarators = None; semicolon = at }, r)
+  pub bare_again : (z : Specifiers) (at : Position) (r : Words) → bare_declaration_from levels z (punctuator p.Semicolon at ∷ r) ≡ Ok (record { specifiers = z; declarators = None; semicolon = at }, r)
   unfolding bare_declaration_from
   bare_again z at r = rw (expected p.Semicolon at r) refl
 
@@ -123,12 +123,12 @@ module _ (levels : ℕ) where
       (named_no_specifiers names d r named.1.1 named.1.0) (named_no_brace names d r named.1.1 named.1.0)
 
   -- specifiers before a semicolon
-  pub semicolon_behind_again : (names : List (List ℕ)) (allowed : Bool) (z : Specifiers) (at : Place) (r : Words) → BeginDeclaration levels names z → (allowed ≡ false → has_typedef z ≡ false)
+  pub semicolon_behind_again : (names : List (List ℕ)) (allowed : Bool) (z : Specifiers) (at : Position) (r : Words) → BeginDeclaration levels names z → (allowed ≡ false → has_typedef z ≡ false)
       → (readers names (suc levels)).specifiers allowed (specifiers_words z (punctuator p.Semicolon at ∷ r)) ≡ Ok (z, punctuator p.Semicolon at ∷ r)
   semicolon_behind_again names allowed z at r h fits =
       (complete names (suc levels)).specifiers allowed z (punctuator p.Semicolon at ∷ r) h.1.0 h.1.1 fits (omega (arith, h.0)) refl (semicolon_no_brace at r)
 
-  parts_again : (names : List (List ℕ)) (z : Specifiers) (o : Option InitDeclarators) (at : Place) (r : Words) → has_typedef z ≡ false → BeginDeclaration levels names z → AreInitDeclarators levels (has_typedef z) names o
+  parts_again : (names : List (List ℕ)) (z : Specifiers) (o : Option InitDeclarators) (at : Position) (r : Words) → has_typedef z ≡ false → BeginDeclaration levels names z → AreInitDeclarators levels (has_typedef z) names o
       → local_from levels names (specifiers_words z (init_declarators_words o (punctuator p.Semicolon at ∷ r))) ≡ Ok (record { specifiers = z; declarators = o; semicolon = at }, r)
   unfolding local_from
   parts_again names z None at r plain begins h =

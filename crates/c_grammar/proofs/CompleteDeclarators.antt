@@ -5,9 +5,9 @@ use Rattle.c_lexer.specs.Spellings.{punctuator_spelling}
 use Rattle.c_lexer.specs.declared.keyword.Keyword.TheVariants as k
 use Rattle.c_lexer.specs.declared.punctuator.Punctuator.{Punctuator}
 use Rattle.c_lexer.specs.declared.punctuator.Punctuator.TheVariants as p
-use Rattle.c_lexer.specs.declared.token.Word.{Word}
-use Rattle.c_lexer.specs.declared.token.Word.TheVariants as word
-use Rattle.c_syntax.specs.declared.place.Place.{Place}
+use Rattle.c_lexer.specs.declared.token.TokenKind.{TokenKind}
+use Rattle.c_lexer.specs.declared.token.TokenKind.TheVariants as kinds
+use Rattle.c_syntax.specs.declared.position.Position.{Position}
 use Rattle.c_syntax.specs.Tree.{Declarator, Parameters}
 use Rattle.c_syntax.specs.Tree as t
 use Rattle.c_syntax.specs.Levels.{expression_levels, declarator_levels, parameters_levels}
@@ -23,15 +23,15 @@ use Rattle.c_grammar.proofs.FirstWords.{is_const, is_declarator_word, excluded, 
 use Rattle.c_grammar.proofs.CompleteTyped.{parameters_again, parameter_first}
 
 -- the words `const` are read as far as they go
-const_ends : (w : Word) (at : Place) (r : Words) → is_const w ≡ false → consts_from (word_at w at ∷ r) ≡ Ok ([], word_at w at ∷ r)
+const_ends : (w : TokenKind) (at : Position) (r : Words) → is_const w ≡ false → consts_from (word_at w at ∷ r) ≡ Ok ([], word_at w at ∷ r)
 unfolding consts_from
-const_ends (word.Keyword k.Const) at r h = cc
+const_ends (kinds.Keyword k.Const) at r h = cc
 const_ends _ at r h = refl
 
-consts_again : (z : List Place) (r : Words) → next_is is_const r ≡ false → consts_from (const_words z r) ≡ Ok (z, r)
+consts_again : (z : List Position) (r : Words) → next_is is_const r ≡ false → consts_from (const_words z r) ≡ Ok (z, r)
 unfolding consts_from
 consts_again [] [] h = refl
-consts_again [] (first ∷ r) h = const_ends first.word first.place r h
+consts_again [] (first ∷ r) h = const_ends first.kind first.position r h
 consts_again (at ∷ z) r h = rw (consts_again z r h) refl
 
 -- what may stand behind no word of a declarator: a suffix `[`, or what may stand behind a whole one
@@ -39,34 +39,34 @@ abbrev is_free_punctuator : Punctuator → Bool
 is_free_punctuator p.LeftBracket = true
 is_free_punctuator x = is_quiet_punctuator x
 
-abbrev is_free_word : Word → Bool
-is_free_word (word.Punctuator x) = is_free_punctuator x
+abbrev is_free_word : TokenKind → Bool
+is_free_word (kinds.Punctuator x) = is_free_punctuator x
 is_free_word _ = false
 
 abbrev is_free : Words → Bool
 is_free [] = false
-is_free (first ∷ i) = is_free_word first.word
+is_free (first ∷ i) = is_free_word first.kind
 
 quiet_free_punctuator : (x : Punctuator) → is_quiet_punctuator x ≡ true → is_free_punctuator x ≡ true
 quiet_free_punctuator p.LeftBracket h = refl
 quiet_free_punctuator _ h = h
 
-quiet_free_word : (w : Word) → is_quiet_word w ≡ true → is_free_word w ≡ true
-quiet_free_word (word.Punctuator x) h = quiet_free_punctuator x h
+quiet_free_word : (w : TokenKind) → is_quiet_word w ≡ true → is_free_word w ≡ true
+quiet_free_word (kinds.Punctuator x) h = quiet_free_punctuator x h
 quiet_free_word _ h = h
 
 quiet_free : (i : Words) → is_quiet i ≡ true → is_free i ≡ true
 quiet_free [] h = h
-quiet_free (first ∷ i) h = quiet_free_word first.word h
+quiet_free (first ∷ i) h = quiet_free_word first.kind h
 
-quiet_suffix_punctuator : (x : Punctuator) → is_quiet_punctuator x ≡ true → begins_suffix (word.Punctuator x) ≡ false
+quiet_suffix_punctuator : (x : Punctuator) → is_quiet_punctuator x ≡ true → begins_suffix (kinds.Punctuator x) ≡ false
 unfolding is_same punctuator_spelling
 quiet_suffix_punctuator p.LeftParenthesis h = cc
 quiet_suffix_punctuator p.LeftBracket h = cc
 quiet_suffix_punctuator _ h = refl
 
-quiet_suffix : (w : Word) → is_quiet_word w ≡ true → begins_suffix w ≡ false
-quiet_suffix (word.Punctuator x) h = quiet_suffix_punctuator x h
+quiet_suffix : (w : TokenKind) → is_quiet_word w ≡ true → begins_suffix w ≡ false
+quiet_suffix (kinds.Punctuator x) h = quiet_suffix_punctuator x h
 quiet_suffix _ h = refl
 
 may_be : (may : Bool) → (may ≡ false → true ≡ false) → may ≡ true
@@ -79,24 +79,24 @@ must_not false h = refl
 
 module _ (names : List (List ℕ)) (d : ℕ) (deeper : Readers) (known : CompleteReaders names d deeper) where
   -- nothing is read where no word of a declarator stands
-  nothing_by_punctuator : (q : DeclaratorKind) (x : Punctuator) (at : Place) (r : Words) → must_have_name q ≡ false → is_free_punctuator x ≡ true
-      → direct_by names deeper d q (word.Punctuator x) at r ≡ Ok (t.unnamed, punctuator x at ∷ r)
+  nothing_by_punctuator : (q : DeclaratorKind) (x : Punctuator) (at : Position) (r : Words) → must_have_name q ≡ false → is_free_punctuator x ≡ true
+      → direct_by names deeper d q (kinds.Punctuator x) at r ≡ Ok (t.unnamed, punctuator x at ∷ r)
   unfolding is_same punctuator_spelling
   nothing_by_punctuator q p.LeftParenthesis at r plain h = cc
   nothing_by_punctuator q _ at r plain h = rw plain refl
 
-  nothing_by : (q : DeclaratorKind) (w : Word) (at : Place) (r : Words) → must_have_name q ≡ false → is_free_word w ≡ true
+  nothing_by : (q : DeclaratorKind) (w : TokenKind) (at : Position) (r : Words) → must_have_name q ≡ false → is_free_word w ≡ true
       → direct_by names deeper d q w at r ≡ Ok (t.unnamed, word_at w at ∷ r)
-  nothing_by q (word.Punctuator x) at r plain h = nothing_by_punctuator q x at r plain h
+  nothing_by q (kinds.Punctuator x) at r plain h = nothing_by_punctuator q x at r plain h
   nothing_by q _ at r plain h = cc
 
   nothing_here : (q : DeclaratorKind) (r : Words) → must_have_name q ≡ false → is_free r ≡ true → direct_from names deeper d q r ≡ Ok (t.unnamed, r)
   unfolding direct_from
   nothing_here q [] plain h = cc
-  nothing_here q (first ∷ r) plain h = nothing_by q first.word first.place r plain h
+  nothing_here q (first ∷ r) plain h = nothing_by q first.kind first.position r plain h
 
   -- parameters begin with a type, or there are none
-  parameters_open : (a : Parameters) (q : Place) (r : Words) → AreParameters names a
+  parameters_open : (a : Parameters) (q : Position) (r : Words) → AreParameters names a
       → (next_is_punctuator p.RightParenthesis (parameters_words a (punctuator p.RightParenthesis q ∷ r)) || begins_specifiers names (parameters_words a (punctuator p.RightParenthesis q ∷ r))) ≡ true
   unfolding is_same punctuator_spelling with_keyword
   parameters_open t.no_parameters q r h = refl
@@ -114,11 +114,11 @@ module _ (names : List (List ℕ)) (d : ℕ) (deeper : Readers) (known : Complet
         excluded (is_declarator_word names) (is_specifier_word names) (declarator_no_specifier names) (declarator_words e i) (declarator_first names e i h some),
       ) refl
 
-  function_again : (e : Declarator) (l : Place) (a : Parameters) (q : Place) (r : Words) → AreParameters names a → parameters_levels a < d
+  function_again : (e : Declarator) (l : Position) (a : Parameters) (q : Position) (r : Words) → AreParameters names a → parameters_levels a < d
       → function_from names deeper d e l (parameters_words a (punctuator p.RightParenthesis q ∷ r)) ≡ Ok (t.function e l a q, r)
   function_again e l a q r h low = rw (parameters_again names d deeper known a q r h low, expected p.RightParenthesis q r) refl
 
-  array_again : (e : Declarator) (l : Place) (x : t.Expression) (q : Place) (r : Words) → IsDeclarator names (t.array e l x q) → expression_levels x < d
+  array_again : (e : Declarator) (l : Position) (x : t.Expression) (q : Position) (r : Words) → IsDeclarator names (t.array e l x q) → expression_levels x < d
       → array_from names deeper d e l (expression_words x (punctuator p.RightBracket q ∷ r)) ≡ Ok (t.array e l x q, r)
   unfolding array_from
   array_again e l x q r h low =
@@ -128,16 +128,16 @@ module _ (names : List (List ℕ)) (d : ℕ) (deeper : Readers) (known : Complet
         expected p.RightBracket q r,
       ) refl
 
-  open_array_again : (e : Declarator) (l q : Place) (r : Words) → array_from names deeper d e l (punctuator p.RightBracket q ∷ r) ≡ Ok (t.open_array e l q, r)
+  open_array_again : (e : Declarator) (l q : Position) (r : Words) → array_from names deeper d e l (punctuator p.RightBracket q ∷ r) ≡ Ok (t.open_array e l q, r)
   unfolding array_from
   open_array_again e l q r = rw (same p.RightBracket, expected p.RightBracket q r) refl
 
   -- behind a first `(`
-  opening : (q : DeclaratorKind) (l : Place) (i : Words) → 1 ≤ d → direct_from names deeper d q (punctuator p.LeftParenthesis l ∷ i) ≡ parenthesis_from names deeper d q l i
+  opening : (q : DeclaratorKind) (l : Position) (i : Words) → 1 ≤ d → direct_from names deeper d q (punctuator p.LeftParenthesis l ∷ i) ≡ parenthesis_from names deeper d q l i
   unfolding direct_from is_same punctuator_spelling
   opening q l i level = rw (le-leb 1 d level) refl
 
-  grouped_again : (q : DeclaratorKind) (l : Place) (e : Declarator) (c : Place) (r : Words) → IsDeclarator names (t.grouped l e c) → NameFits q e → declarator_levels e < d
+  grouped_again : (q : DeclaratorKind) (l : Position) (e : Declarator) (c : Position) (r : Words) → IsDeclarator names (t.grouped l e c) → NameFits q e → declarator_levels e < d
       → parenthesis_from names deeper d q l (declarator_words e (punctuator p.RightParenthesis c ∷ r)) ≡ Ok (t.grouped l e c, r)
   unfolding parenthesis_from
   grouped_again q l e c r h fits low =
@@ -149,7 +149,7 @@ module _ (names : List (List ℕ)) (d : ℕ) (deeper : Readers) (known : Complet
       ) refl
 
   -- parameters behind nothing
-  abstract_function_again : (q : DeclaratorKind) (l : Place) (a : Parameters) (c : Place) (r : Words) → must_have_name q ≡ false → AreParameters names a → parameters_levels a < d
+  abstract_function_again : (q : DeclaratorKind) (l : Position) (a : Parameters) (c : Position) (r : Words) → must_have_name q ≡ false → AreParameters names a → parameters_levels a < d
       → parenthesis_from names deeper d q l (parameters_words a (punctuator p.RightParenthesis c ∷ r)) ≡ Ok (t.function t.unnamed l a c, r)
   unfolding parenthesis_from
   abstract_function_again q l a c r plain h low = rw (plain, parameters_open a c r h, function_again t.unnamed l a c r h low) refl
@@ -158,10 +158,10 @@ module _ (names : List (List ℕ)) (d : ℕ) (deeper : Readers) (known : Complet
   suffixed q x = direct_from names deeper d q x >>= λ e i. suffixes_from names deeper d d e i
 
   -- from a declarator that stands before a suffix
-  suffix_step : (q : DeclaratorKind) (x : Words) (n : ℕ) (l e : Declarator) (w : Punctuator) (at : Place) (i r : Words)
+  suffix_step : (q : DeclaratorKind) (x : Words) (n : ℕ) (l e : Declarator) (w : Punctuator) (at : Position) (i r : Words)
       → suffixed q x ≡ suffixes_from names deeper d n l (punctuator w at ∷ i) → d ≤ n + declarator_levels l
-      → begins_suffix (word.Punctuator w) ≡ true → declarator_levels l < d
-      → suffix_from names deeper d l (word.Punctuator w) at i ≡ Ok (e, r) → declarator_levels l < declarator_levels e
+      → begins_suffix (kinds.Punctuator w) ≡ true → declarator_levels l < d
+      → suffix_from names deeper d l (kinds.Punctuator w) at i ≡ Ok (e, r) → declarator_levels l < declarator_levels e
       → (j : ℕ) × (d ≤ j + declarator_levels e) × (suffixed q x ≡ suffixes_from names deeper d j e r)
   unfolding suffixes_from
   suffix_step q x zero l e w at i r read room is low step up = absurd (omega arith)
@@ -171,13 +171,13 @@ module _ (names : List (List ℕ)) (d : ℕ) (deeper : Readers) (known : Complet
   unfolding suffixes_from
   suffixes_end zero e r h = refl
   suffixes_end (suc n) e [] h = refl
-  suffixes_end (suc n) e (first ∷ r) h = rw (quiet_suffix first.word h) refl
+  suffixes_end (suc n) e (first ∷ r) h = rw (quiet_suffix first.kind h) refl
 
-  bracket_suffix : begins_suffix (word.Punctuator p.LeftBracket) ≡ true
+  bracket_suffix : begins_suffix (kinds.Punctuator p.LeftBracket) ≡ true
   unfolding is_same punctuator_spelling
   bracket_suffix = refl
 
-  parenthesis_suffix : begins_suffix (word.Punctuator p.LeftParenthesis) ≡ true
+  parenthesis_suffix : begins_suffix (kinds.Punctuator p.LeftParenthesis) ≡ true
   unfolding is_same punctuator_spelling
   parenthesis_suffix = refl
 
@@ -219,7 +219,7 @@ module _ (names : List (List ℕ)) (d : ℕ) (deeper : Readers) (known : Complet
       let s = read_up_to q e r h o hi fit (λ _. quiet_free r quiet) in
       no_star q (declarator_words e r) (direct_no_star names e r h o (quiet_no_star names r quiet)) ∙ s.2 ∙ suffixes_end s.0 e r quiet
 
-  pointer_again : (q : DeclaratorKind) (at : Place) (z : List Place) (e : Declarator) (r : Words) → IsDeclarator names e → declarator_levels e < d → NameFits q e → is_quiet r ≡ true
+  pointer_again : (q : DeclaratorKind) (at : Position) (z : List Position) (e : Declarator) (r : Words) → IsDeclarator names e → declarator_levels e < d → NameFits q e → is_quiet r ≡ true
       → declarator_at names deeper d q (declarator_words (t.pointer at z e) r) ≡ Ok (t.pointer at z e, r)
   unfolding declarator_at pointer_from
   pointer_again q at z e r h low fit quiet =

@@ -5,10 +5,10 @@ use Rattle.std.proofs.lemmas.Bool.{le-leb, lt-ltb, lt-leb, and_from}
 use Rattle.c_lexer.specs.Spellings.{punctuator_spelling}
 use Rattle.c_lexer.specs.declared.punctuator.Punctuator.{Punctuator}
 use Rattle.c_lexer.specs.declared.punctuator.Punctuator.TheVariants as p
-use Rattle.c_lexer.specs.declared.token.Word.{Word}
-use Rattle.c_lexer.specs.declared.token.Word.TheVariants as word
-use Rattle.c_syntax.specs.declared.place.Place.{Place}
-use Rattle.c_syntax.specs.declared.place.Spelled.{Spelled}
+use Rattle.c_lexer.specs.declared.token.TokenKind.{TokenKind}
+use Rattle.c_lexer.specs.declared.token.TokenKind.TheVariants as kinds
+use Rattle.c_syntax.specs.declared.position.Position.{Position}
+use Rattle.c_syntax.specs.declared.position.Spelled.{Spelled}
 use Rattle.c_syntax.specs.Tree.{Expression, Arguments, MoreArguments}
 use Rattle.c_syntax.specs.Tree as t
 use Rattle.c_syntax.specs.View.{more_arguments_of}
@@ -28,7 +28,7 @@ use Rattle.c_grammar.proofs.Lists.{comma_turn, comma_end}
 use Rattle.c_grammar.proofs.CompleteTyped.{type_name_again, type_name_first}
 
 -- the elements of a list of arguments
-abbrev pub arguments_list : MoreArguments → List (Place × Expression)
+abbrev pub arguments_list : MoreArguments → List (Position × Expression)
 arguments_list t.end_of_arguments = []
 arguments_list (t.more_arguments at e m) = (at, e) ∷ arguments_list m
 
@@ -84,34 +84,34 @@ some_precedence names (t.unary w at e) h = omega arith
 some_precedence names (t.sizeof_expression at e) h = omega arith
 some_precedence names _ h = omega arith
 
-more_binds : (m : MoreArguments) (q : Place) (r : Words) → next_binds (more_arguments_words m (punctuator p.RightParenthesis q ∷ r)) < 2
+more_binds : (m : MoreArguments) (q : Position) (r : Words) → next_binds (more_arguments_words m (punctuator p.RightParenthesis q ∷ r)) < 2
 more_binds t.end_of_arguments q r = omega (arith, parenthesis_binds q r)
 more_binds (t.more_arguments at e m) q r = omega (arith, comma_binds at (expression_words e (more_arguments_words m (punctuator p.RightParenthesis q ∷ r))))
 
 -- string literals are read as far as they go
-string_ends : (w : Word) (at : Place) (r : Words) → word_binds w < 18 → strings_from (word_at w at ∷ r) ≡ Ok ([], word_at w at ∷ r)
+string_ends : (w : TokenKind) (at : Position) (r : Words) → word_binds w < 18 → strings_from (word_at w at ∷ r) ≡ Ok ([], word_at w at ∷ r)
 unfolding strings_from
-string_ends (word.StringLiteral s) at r h = absurd (omega arith)
+string_ends (kinds.StringLiteral s) at r h = absurd (omega arith)
 string_ends _ at r h = refl
 
 strings_again : (z : List Spelled) (r : Words) → next_binds r < 18 → strings_from (strings_words z r) ≡ Ok (z, r)
 unfolding strings_from
 strings_again [] [] h = refl
-strings_again [] (first ∷ r) h = string_ends first.word first.place r h
+strings_again [] (first ∷ r) h = string_ends first.kind first.position r h
 strings_again (x ∷ z) r h = rw (strings_again z r h) refl
 
 -- an operation goes on where it binds tightly enough, and nothing else does
 operation_goes_on : (names : List (List ℕ)) (deeper : Readers) (d m : ℕ) (l : Expression) (w : Punctuator) (o : Operation) → operation w ≡ Some o
-    → m ≤ operation_binds w (Some o) → operation_needs w (Some o) ≤ precedence l → expression_levels l < d → goes_on names deeper d m l (word.Punctuator w) ≡ true
+    → m ≤ operation_binds w (Some o) → operation_needs w (Some o) ≤ precedence l → expression_levels l < d → goes_on names deeper d m l (kinds.Punctuator w) ≡ true
 operation_goes_on names deeper d m l w o is a b c =
     rw is (and_from _ _ (le-leb m (operation_binds w (Some o)) a) (and_from _ _ (le-leb (operation_needs w (Some o)) (precedence l) b) (lt-ltb (expression_levels l) d c)))
 
-word_ends : (names : List (List ℕ)) (deeper : Readers) (d m : ℕ) (l : Expression) (w : Word) → word_binds w < m → goes_on names deeper d m l w ≡ false
+word_ends : (names : List (List ℕ)) (deeper : Readers) (d m : ℕ) (l : Expression) (w : TokenKind) → word_binds w < m → goes_on names deeper d m l w ≡ false
 word_ends names deeper d m l w a = rw (lt-leb m (binds w) (binds_below w m a)) refl
 
 module _ (names : List (List ℕ)) (d : ℕ) (deeper : Readers) (known : CompleteReaders names d deeper) where
   -- from an operand that stands before a punctuator whose operation goes on with it
-  operation_step : (x : Words) (m n : ℕ) (l e : Expression) (w : Punctuator) (at : Place) (o : Operation) (i r : Words)
+  operation_step : (x : Words) (m n : ℕ) (l e : Expression) (w : Punctuator) (at : Position) (o : Operation) (i r : Words)
       → expression_at names deeper d None m x ≡ operations_from names deeper d n m l (punctuator w at ∷ i) → d ≤ n + expression_levels l
       → operation w ≡ Some o → m ≤ operation_binds w (Some o) → operation_needs w (Some o) ≤ precedence l → expression_levels l < d
       → operation_from names deeper d l w at (Some o) i ≡ Ok (e, r) → expression_levels l < expression_levels e
@@ -124,9 +124,9 @@ module _ (names : List (List ℕ)) (d : ℕ) (deeper : Readers) (known : Complet
   unfolding operations_from
   operations_end m zero e r h = refl
   operations_end m (suc n) e [] h = refl
-  operations_end m (suc n) e (first ∷ r) h = rw (word_ends names deeper d m e first.word h) refl
+  operations_end m (suc n) e (first ∷ r) h = rw (word_ends names deeper d m e first.kind h) refl
 
-  more_again : (n : ℕ) (m : MoreArguments) (q : Place) (r : Words) → AreMoreArguments names m → more_arguments_levels m < d
+  more_again : (n : ℕ) (m : MoreArguments) (q : Position) (r : Words) → AreMoreArguments names m → more_arguments_levels m < d
       → length (more_arguments_words m (punctuator p.RightParenthesis q ∷ r)) ≤ n
       → behind_commas (deeper.expression None 2) n (more_arguments_words m (punctuator p.RightParenthesis q ∷ r)) ≡ Ok (arguments_list m, punctuator p.RightParenthesis q ∷ r)
   unfolding is_same punctuator_spelling
@@ -137,7 +137,7 @@ module _ (names : List (List ℕ)) (d : ℕ) (deeper : Readers) (known : Complet
       (known.expressions 2 e (more_arguments_words m (punctuator p.RightParenthesis q ∷ r)) h.1 (omega arith) (omega arith) h.0 (more_binds m q r))
       (more_again n m q r h.2 (omega arith) (omega (arith, expression_longer e (more_arguments_words m (punctuator p.RightParenthesis q ∷ r)))))
 
-  arguments_again : (a : Arguments) (q : Place) (r : Words) → AreArguments names a → arguments_levels a < d
+  arguments_again : (a : Arguments) (q : Position) (r : Words) → AreArguments names a → arguments_levels a < d
       → arguments_from names deeper d (arguments_words a (punctuator p.RightParenthesis q ∷ r)) ≡ Ok (a, punctuator p.RightParenthesis q ∷ r)
   unfolding arguments_from is_same punctuator_spelling
   arguments_again t.no_arguments q r h low = refl
@@ -151,7 +151,7 @@ module _ (names : List (List ℕ)) (d : ℕ) (deeper : Readers) (known : Complet
 
   -- ---- operands
 
-  unary_again : (m : ℕ) (w : Punctuator) (at : Place) (e : Expression) (r : Words) → 1 ≤ operand_precedence w → operand_precedence w ≤ precedence e → IsExpression names e
+  unary_again : (m : ℕ) (w : Punctuator) (at : Position) (e : Expression) (r : Words) → 1 ≤ operand_precedence w → operand_precedence w ≤ precedence e → IsExpression names e
       → expression_levels e < d → next_binds r < 16 → operand_by_punctuator names deeper d m w at (expression_words e r) ≡ Ok (t.unary w at e, r)
   unfolding operand_by_punctuator
   unary_again m w at e r some fits h low f =
@@ -163,11 +163,11 @@ module _ (names : List (List ℕ)) (d : ℕ) (deeper : Readers) (known : Complet
       ) refl
 
   -- behind `(`
-  opening : (m : ℕ) (l : Place) (i : Words) → 1 ≤ d → operand_by_punctuator names deeper d m p.LeftParenthesis l i ≡ parenthesis_from names deeper d m l i
+  opening : (m : ℕ) (l : Position) (i : Words) → 1 ≤ d → operand_by_punctuator names deeper d m p.LeftParenthesis l i ≡ parenthesis_from names deeper d m l i
   unfolding operand_by_punctuator operand_precedence is_same punctuator_spelling
   opening m l i level = rw (le-leb 1 d level) refl
 
-  parenthesized_again : (m : ℕ) (l : Place) (e : Expression) (q : Place) (r : Words) → IsExpression names e → expression_levels e < d
+  parenthesized_again : (m : ℕ) (l : Position) (e : Expression) (q : Position) (r : Words) → IsExpression names e → expression_levels e < d
       → parenthesis_from names deeper d m l (expression_words e (punctuator p.RightParenthesis q ∷ r)) ≡ Ok (t.parenthesized l e q, r)
   unfolding parenthesis_from parenthesized_from
   parenthesized_again m l e q r h low =
@@ -177,7 +177,7 @@ module _ (names : List (List ℕ)) (d : ℕ) (deeper : Readers) (known : Complet
         expected p.RightParenthesis q r,
       ) refl
 
-  cast_again : (m : ℕ) (l : Place) (x : t.TypedDeclarator) (q : Place) (e : Expression) (r : Words) → m ≤ 14 → IsExpression names (t.cast l x q e)
+  cast_again : (m : ℕ) (l : Position) (x : t.TypedDeclarator) (q : Position) (e : Expression) (r : Words) → m ≤ 14 → IsExpression names (t.cast l x q e)
       → typed_levels x < d → expression_levels e < d → next_binds r < 16
       → parenthesis_from names deeper d m l (typed_words x (punctuator p.RightParenthesis q ∷ expression_words e r)) ≡ Ok (t.cast l x q e, r)
   unfolding parenthesis_from cast_from
@@ -191,7 +191,7 @@ module _ (names : List (List ℕ)) (d : ℕ) (deeper : Readers) (known : Complet
 
   -- ---- `sizeof`
 
-  sizeof_type_again : (at l : Place) (x : t.TypedDeclarator) (q : Place) (r : Words) → IsExpression names (t.sizeof_type at l x q) → typed_levels x < d
+  sizeof_type_again : (at l : Position) (x : t.TypedDeclarator) (q : Position) (r : Words) → IsExpression names (t.sizeof_type at l x q) → typed_levels x < d
       → sizeof_from names deeper d at (punctuator p.LeftParenthesis l ∷ typed_words x (punctuator p.RightParenthesis q ∷ r)) ≡ Ok (t.sizeof_type at l x q, r)
   unfolding sizeof_from sizeof_parenthesis_from
   sizeof_type_again at l x q r h low =
@@ -204,7 +204,7 @@ module _ (names : List (List ℕ)) (d : ℕ) (deeper : Readers) (known : Complet
   -- the words begin with `(` and a type
   abbrev opens_type : Words → Bool
   opens_type [] = false
-  opens_type (first ∷ i) = is_punctuator p.LeftParenthesis first.word && begins_specifiers names i
+  opens_type (first ∷ i) = is_punctuator p.LeftParenthesis first.kind && begins_specifiers names i
 
   no_parenthesis : (w : Punctuator) → 1 ≤ operand_precedence w → is_same p.LeftParenthesis w ≡ false
   unfolding is_same punctuator_spelling operand_precedence
@@ -230,26 +230,26 @@ module _ (names : List (List ℕ)) (d : ℕ) (deeper : Readers) (known : Complet
   no_type_in_parentheses (t.conditional c q a colon b) i h o = absurd (omega arith)
   no_type_in_parentheses (t.assignment a w at b) i h o = absurd (omega arith)
 
-  sizeof_by_punctuator : (x : Punctuator) (at l : Place) (i : Words) (e : Expression) (r : Words)
+  sizeof_by_punctuator : (x : Punctuator) (at l : Position) (i : Words) (e : Expression) (r : Words)
       → (is_same p.LeftParenthesis x && begins_specifiers names i) ≡ false → deeper.expression None 15 (punctuator x l ∷ i) ≡ Ok (e, r)
       → sizeof_from names deeper d at (punctuator x l ∷ i) ≡ Ok (t.sizeof_expression at e, r)
   unfolding sizeof_from sizeof_parenthesis_from is_same punctuator_spelling
   sizeof_by_punctuator p.LeftParenthesis at l i e r h read = rw (h, known.opened l 15 i e r h read) refl
   sizeof_by_punctuator _ at l i e r h read = rw read refl
 
-  sizeof_by : (w : Word) (at l : Place) (i : Words) (e : Expression) (r : Words)
+  sizeof_by : (w : TokenKind) (at l : Position) (i : Words) (e : Expression) (r : Words)
       → (is_punctuator p.LeftParenthesis w && begins_specifiers names i) ≡ false → deeper.expression None 15 (word_at w l ∷ i) ≡ Ok (e, r)
       → sizeof_from names deeper d at (word_at w l ∷ i) ≡ Ok (t.sizeof_expression at e, r)
   unfolding sizeof_from
-  sizeof_by (word.Punctuator x) at l i e r h read = sizeof_by_punctuator x at l i e r h read
+  sizeof_by (kinds.Punctuator x) at l i e r h read = sizeof_by_punctuator x at l i e r h read
   sizeof_by _ at l i e r h read = rw read refl
 
-  sizeof_words : (at : Place) (i : Words) (e : Expression) (r : Words) → next_is (is_expression_word names) i ≡ true → opens_type i ≡ false
+  sizeof_words : (at : Position) (i : Words) (e : Expression) (r : Words) → next_is (is_expression_word names) i ≡ true → opens_type i ≡ false
       → deeper.expression None 15 i ≡ Ok (e, r) → sizeof_from names deeper d at i ≡ Ok (t.sizeof_expression at e, r)
   sizeof_words at [] e r some h read = cc
-  sizeof_words at (first ∷ i) e r some h read = sizeof_by first.word at first.place i e r h read
+  sizeof_words at (first ∷ i) e r some h read = sizeof_by first.kind at first.position i e r h read
 
-  sizeof_again : (at : Place) (e : Expression) (r : Words) → IsExpression names e → 15 ≤ precedence e → expression_levels e < d → next_binds r < 16
+  sizeof_again : (at : Position) (e : Expression) (r : Words) → IsExpression names e → 15 ≤ precedence e → expression_levels e < d → next_binds r < 16
       → sizeof_from names deeper d at (expression_words e r) ≡ Ok (t.sizeof_expression at e, r)
   sizeof_again at e r h o low f =
       sizeof_words at (expression_words e r) e r (expression_first names e r h) (no_type_in_parentheses e r h o)
@@ -318,13 +318,13 @@ module _ (names : List (List ℕ)) (d : ℕ) (deeper : Readers) (known : Complet
       → expression_at names deeper d None m (expression_words e r) ≡ Ok (e, r)
   expression_again m e r h hi low at f = let s = read_up_to m e r low at h hi (omega (arith, precedence_limit e)) in s.2 ∙ operations_end m s.0 e r f
 
-  opened_by : (l : Place) (m : ℕ) (x : Words) (e : Expression) (r : Words) (b : Bool) → nat_le 1 d ≡ b → begins_specifiers names x ≡ false
+  opened_by : (l : Position) (m : ℕ) (x : Words) (e : Expression) (r : Words) (b : Bool) → nat_le 1 d ≡ b → begins_specifiers names x ≡ false
       → expression_at names deeper d None m (punctuator p.LeftParenthesis l ∷ x) ≡ Ok (e, r) → expression_at names deeper d (Some l) m x ≡ Ok (e, r)
   unfolding expression_at operand_from operand_by_punctuator parenthesis_from operand_precedence is_same punctuator_spelling
   opened_by l m x e r true level h read = sym (rw (level, h) refl) ∙ read
   opened_by l m x e r false level h read = cc
 
   -- it makes no difference who takes the first `(`
-  pub opened_again : (l : Place) (m : ℕ) (x : Words) (e : Expression) (r : Words) → begins_specifiers names x ≡ false
+  pub opened_again : (l : Position) (m : ℕ) (x : Words) (e : Expression) (r : Words) → begins_specifiers names x ≡ false
       → expression_at names deeper d None m (punctuator p.LeftParenthesis l ∷ x) ≡ Ok (e, r) → expression_at names deeper d (Some l) m x ≡ Ok (e, r)
   opened_again l m x e r h read = opened_by l m x e r (nat_le 1 d) refl h read

@@ -3,9 +3,9 @@ use Rattle.std.proofs.Common.{◌≡◌, ℕ, zero, suc, ◌<◌, ◌≤◌, Boo
 use Rattle.std.proofs.lemmas.Bool.{le-leb}
 use Rattle.c_lexer.specs.Spellings.{punctuator_spelling}
 use Rattle.c_lexer.specs.declared.punctuator.Punctuator.TheVariants as p
-use Rattle.c_lexer.specs.declared.token.Word.{Word}
-use Rattle.c_syntax.specs.declared.place.Place.{Place}
-use Rattle.c_syntax.specs.declared.place.Spelled.{Spelled}
+use Rattle.c_lexer.specs.declared.token.TokenKind.{TokenKind}
+use Rattle.c_syntax.specs.declared.position.Position.{Position}
+use Rattle.c_syntax.specs.declared.position.Spelled.{Spelled}
 use Rattle.c_syntax.specs.Tree.{Expression, Designator, Designation, Initializer, InitializerItem, MoreItems}
 use Rattle.c_syntax.specs.Tree as t
 use Rattle.c_syntax.specs.StatementsView.{more_items_of}
@@ -24,7 +24,7 @@ use Rattle.c_grammar.proofs.Lists.{comma_to_brace_turn, comma_to_brace_last, com
 use Rattle.c_grammar.proofs.Complete.{complete}
 
 -- the items behind the first as a list
-abbrev pub items_list : MoreItems → List (Place × InitializerItem)
+abbrev pub items_list : MoreItems → List (Position × InitializerItem)
 items_list t.end_of_items = []
 items_list (t.more_items at x m) = (at, x) ∷ items_list m
 
@@ -33,25 +33,25 @@ same_items t.end_of_items = refl
 same_items (t.more_items at x m) = ap (λ m. t.more_items at x m) (same_items m)
 
 -- a word of neither kind is none of both
-next_is_neither : (a b : Word → Bool) (i : Words) → next_is a i ≡ false → next_is b i ≡ false → next_is (λ w. a w || b w) i ≡ false
+next_is_neither : (a b : TokenKind → Bool) (i : Words) → next_is a i ≡ false → next_is b i ≡ false → next_is (λ w. a w || b w) i ≡ false
 next_is_neither a b [] h f = refl
 next_is_neither a b (first ∷ i) h f = rw (h, f) refl
 
 -- ---- first words
 
-bracket_begins : (at : Place) (i : Words) → next_is begins_designator (punctuator p.LeftBracket at ∷ i) ≡ true
+bracket_begins : (at : Position) (i : Words) → next_is begins_designator (punctuator p.LeftBracket at ∷ i) ≡ true
 unfolding is_same punctuator_spelling
 bracket_begins at i = refl
 
-dot_begins : (at : Place) (i : Words) → next_is begins_designator (punctuator p.Dot at ∷ i) ≡ true
+dot_begins : (at : Position) (i : Words) → next_is begins_designator (punctuator p.Dot at ∷ i) ≡ true
 unfolding is_same punctuator_spelling
 dot_begins at i = refl
 
-dot_no_bracket : (at : Place) (i : Words) → next_is_punctuator p.LeftBracket (punctuator p.Dot at ∷ i) ≡ false
+dot_no_bracket : (at : Position) (i : Words) → next_is_punctuator p.LeftBracket (punctuator p.Dot at ∷ i) ≡ false
 unfolding is_same punctuator_spelling
 dot_no_bracket at i = refl
 
-assign_ends : (at : Place) (i : Words) → next_is begins_designator (punctuator p.Assign at ∷ i) ≡ false
+assign_ends : (at : Position) (i : Words) → next_is begins_designator (punctuator p.Assign at ∷ i) ≡ false
 unfolding is_same punctuator_spelling
 assign_ends at i = refl
 
@@ -60,13 +60,13 @@ designators_first [] i some = cc
 designators_first (t.element l e q ∷ z) i some = bracket_begins l (expression_words e (punctuator p.RightBracket q ∷ designators_words z i))
 designators_first (t.member_named q x ∷ z) i some = dot_begins q (identifier x ∷ designators_words z i)
 
-designators_no_brace : (z : List Designator) (at : Place) (i : Words) → next_is_punctuator p.RightBrace (designators_words z (punctuator p.Assign at ∷ i)) ≡ false
+designators_no_brace : (z : List Designator) (at : Position) (i : Words) → next_is_punctuator p.RightBrace (designators_words z (punctuator p.Assign at ∷ i)) ≡ false
 unfolding is_same punctuator_spelling
 designators_no_brace [] at i = refl
 designators_no_brace (t.element l e r ∷ z) at i = refl
 designators_no_brace (t.member_named q x ∷ z) at i = refl
 
-items_bind : (m : MoreItems) (c : Option Place) (q : Place) (r : Words) → next_binds (more_items_words m (comma_words c (punctuator p.RightBrace q ∷ r))) < 2
+items_bind : (m : MoreItems) (c : Option Position) (q : Position) (r : Words) → next_binds (more_items_words m (comma_words c (punctuator p.RightBrace q ∷ r))) < 2
 items_bind t.end_of_items None q r = omega (arith, brace_binds q r)
 items_bind t.end_of_items (Some at) q r = omega (arith, comma_binds at (punctuator p.RightBrace q ∷ r))
 items_bind (t.more_items at x m) c q r = omega (arith, comma_binds at (item_words x (more_items_words m (comma_words c (punctuator p.RightBrace q ∷ r)))))
@@ -90,7 +90,7 @@ module _ (names : List (List ℕ)) where
   module _ (d : ℕ) (deeper : Readers) (known : CompleteReaders names d deeper) where
     -- ---- designators
 
-    element_again : (l : Place) (e : Expression) (q : Place) (r : Words) → IsExpression names e → 3 ≤ precedence e → expression_levels e < d
+    element_again : (l : Position) (e : Expression) (q : Position) (r : Words) → IsExpression names e → 3 ≤ precedence e → expression_levels e < d
         → element_from deeper (punctuator p.LeftBracket l ∷ expression_words e (punctuator p.RightBracket q ∷ r)) ≡ Ok (t.element l e q, r)
     unfolding element_from
     element_again l e q r h at low =
@@ -100,11 +100,11 @@ module _ (names : List (List ℕ)) where
           expected p.RightBracket q r,
         ) refl
 
-    member_named_again : (at : Place) (x : Spelled) (r : Words) → member_named_from deeper (punctuator p.Dot at ∷ identifier x ∷ r) ≡ Ok (t.member_named at x, r)
+    member_named_again : (at : Position) (x : Spelled) (r : Words) → member_named_from deeper (punctuator p.Dot at ∷ identifier x ∷ r) ≡ Ok (t.member_named at x, r)
     unfolding member_named_from identifier_from
     member_named_again at x r = rw (expected p.Dot at (identifier x ∷ r)) refl
 
-    designators_again : (n : ℕ) (z : List Designator) (at : Place) (r : Words) → AreDesignators names z → designators_levels z < d
+    designators_again : (n : ℕ) (z : List Designator) (at : Position) (r : Words) → AreDesignators names z → designators_levels z < d
         → length (designators_words z (punctuator p.Assign at ∷ r)) ≤ n
         → designators_from deeper n (designators_words z (punctuator p.Assign at ∷ r)) ≡ Ok (z, punctuator p.Assign at ∷ r)
     unfolding designators_from
@@ -127,7 +127,7 @@ module _ (names : List (List ℕ)) where
           designators_again n z at r h low (omega arith),
         ) refl
 
-    some_designation_again : (z : List Designator) (at : Place) (r : Words) → is_empty z ≡ false → AreDesignators names z → designators_levels z < d
+    some_designation_again : (z : List Designator) (at : Position) (r : Words) → is_empty z ≡ false → AreDesignators names z → designators_levels z < d
         → designation_from deeper (designators_words z (punctuator p.Assign at ∷ r)) ≡ Ok (Some (record { designators = z; equals = at }), r)
     unfolding designation_from
     some_designation_again z at r some h low =
@@ -153,7 +153,7 @@ module _ (names : List (List ℕ)) where
       item_again (t.item x v) r h low f =
           rw (designation_again x (initializer_words v r) h.0 (omega arith) (initializer_no_designator v r h.1), inside v r h.1 (omega arith) f) refl
 
-      items_again : (n : ℕ) (m : MoreItems) (c : Option Place) (q : Place) (r : Words) → AreMoreItems names m → more_items_levels m < d
+      items_again : (n : ℕ) (m : MoreItems) (c : Option Position) (q : Position) (r : Words) → AreMoreItems names m → more_items_levels m < d
           → length (more_items_words m (comma_words c (punctuator p.RightBrace q ∷ r))) ≤ n
           → behind_commas_to_brace (item_from deeper initializer) n (more_items_words m (comma_words c (punctuator p.RightBrace q ∷ r))) ≡ Ok ((items_list m, c), punctuator p.RightBrace q ∷ r)
       unfolding is_same punctuator_spelling
@@ -168,7 +168,7 @@ module _ (names : List (List ℕ)) where
           (item_again x behind h.0 (omega arith) (items_bind m c q r))
           (items_again n m c q r h.1 (omega arith) (omega (arith, item_longer x behind)))
 
-      braced_again : (l : Place) (x : InitializerItem) (m : MoreItems) (c : Option Place) (q : Place) (r : Words) → IsItem names x → AreMoreItems names m → item_levels x < d → more_items_levels m < d
+      braced_again : (l : Position) (x : InitializerItem) (m : MoreItems) (c : Option Position) (q : Position) (r : Words) → IsItem names x → AreMoreItems names m → item_levels x < d → more_items_levels m < d
           → braced_from (item_from deeper initializer) (initializer_words (t.braced l x m c q) r) ≡ Ok (t.braced l x m c q, r)
       unfolding braced_from
       braced_again l x m c q r one others low shallow =

@@ -6,10 +6,10 @@ use Rattle.c_lexer.specs.declared.keyword.Keyword.{Keyword}
 use Rattle.c_lexer.specs.declared.keyword.Keyword.TheVariants as k
 use Rattle.c_lexer.specs.declared.punctuator.Punctuator.{Punctuator}
 use Rattle.c_lexer.specs.declared.punctuator.Punctuator.TheVariants as p
-use Rattle.c_lexer.specs.declared.token.Word.{Word}
-use Rattle.c_lexer.specs.declared.token.Word.TheVariants as word
-use Rattle.c_syntax.specs.declared.place.Place.{Place}
-use Rattle.c_syntax.specs.declared.place.Spelled.{Spelled}
+use Rattle.c_lexer.specs.declared.token.TokenKind.{TokenKind}
+use Rattle.c_lexer.specs.declared.token.TokenKind.TheVariants as kinds
+use Rattle.c_syntax.specs.declared.position.Position.{Position}
+use Rattle.c_syntax.specs.declared.position.Spelled.{Spelled}
 use Rattle.c_syntax.specs.declared.specifiers.TypeWords.{TypeWords}
 use Rattle.c_syntax.specs.Tree.{Specifiers, Specifier, Members, Enumerator, MoreEnumerators}
 use Rattle.c_syntax.specs.Tree as t
@@ -51,7 +51,7 @@ no_tagged k.Struct w h = refl
 no_tagged k.Union w h = refl
 no_tagged _ w h = cc
 
-keyword_goes : (allowed : Bool) (x : Keyword) (at : Place) (w v : TypeWords) → with_keyword x w ≡ Some v → (allowed ≡ false → is_typedef (t.keyword x at) ≡ false)
+keyword_goes : (allowed : Bool) (x : Keyword) (at : Position) (w v : TypeWords) → with_keyword x w ≡ Some v → (allowed ≡ false → is_typedef (t.keyword x at) ≡ false)
     → goes_on_with_keyword allowed w x ≡ true
 keyword_goes allowed k.Typedef at w v is fits = allowed_there allowed fits
 keyword_goes allowed k.Enum at w v is fits = let none = no_tagged k.Enum w refl in cc
@@ -92,19 +92,19 @@ keyword_ends allowed k.Unsigned w h = cc
 keyword_ends allowed _ w h = refl
 
 module _ (names : List (List ℕ)) (d : ℕ) (deeper : Readers) (known : CompleteReaders names d deeper) where
-  word_ends : (allowed : Bool) (x : Word) (w : TypeWords) → is_specifier_word names x ≡ false → goes_on_with names deeper d allowed w x ≡ false
-  word_ends allowed (word.Keyword x) w h = keyword_ends allowed x w h
-  word_ends allowed (word.Identifier s) w h = rw h refl
+  word_ends : (allowed : Bool) (x : TokenKind) (w : TypeWords) → is_specifier_word names x ≡ false → goes_on_with names deeper d allowed w x ≡ false
+  word_ends allowed (kinds.Keyword x) w h = keyword_ends allowed x w h
+  word_ends allowed (kinds.Identifier s) w h = rw h refl
   word_ends allowed _ w h = refl
 
   end : (allowed : Bool) (n : ℕ) (w : TypeWords) (r : Words) → is_type w ≡ true → begins_specifiers names r ≡ false → specifiers_behind names deeper d allowed n w r ≡ Ok (t.no_specifiers, r)
   unfolding specifiers_behind
   end allowed zero w r is h = rw is refl
   end allowed (suc n) w [] is h = rw is refl
-  end allowed (suc n) w (first ∷ r) is h = rw (word_ends allowed first.word w h, is) refl
+  end allowed (suc n) w (first ∷ r) is h = rw (word_ends allowed first.kind w h, is) refl
 
   -- a specifier by its first word
-  turn : (allowed : Bool) (n : ℕ) (w v : TypeWords) (first : Word) (at : Place) (x : Specifier) (z : Specifiers) (i j r : Words)
+  turn : (allowed : Bool) (n : ℕ) (w v : TypeWords) (first : TokenKind) (at : Position) (x : Specifier) (z : Specifiers) (i j r : Words)
       → goes_on_with names deeper d allowed w first ≡ true → specifier_by names deeper d first at i ≡ Ok (x, j) → with_specifier x w ≡ Some v
       → specifiers_behind names deeper d allowed n v j ≡ Ok (z, r) → specifiers_behind names deeper d allowed (suc n) w (word_at first at ∷ i) ≡ Ok (t.specifiers x z, r)
   unfolding specifiers_behind
@@ -112,7 +112,7 @@ module _ (names : List (List ℕ)) (d : ℕ) (deeper : Readers) (known : Complet
 
   -- ---- one specifier
 
-  keyword_again : (x : Keyword) (at : Place) (w v : TypeWords) (i : Words) → with_keyword x w ≡ Some v → specifier_by_keyword names deeper d x at i ≡ Ok (t.keyword x at, i)
+  keyword_again : (x : Keyword) (at : Position) (w v : TypeWords) (i : Words) → with_keyword x w ≡ Some v → specifier_by_keyword names deeper d x at i ≡ Ok (t.keyword x at, i)
   keyword_again k.Enum at w v i is = let none = no_tagged k.Enum w refl in cc
   keyword_again k.Struct at w v i is = let none = no_tagged k.Struct w refl in cc
   keyword_again k.Union at w v i is = let none = no_tagged k.Union w refl in cc
@@ -121,18 +121,18 @@ module _ (names : List (List ℕ)) (d : ℕ) (deeper : Readers) (known : Complet
   no_body : (i : Words) → next_is_punctuator p.LeftBrace i ≡ false → begins_body names deeper d i ≡ false
   no_body i h = and_right (nat_le 1 d) (next_is_punctuator p.LeftBrace i) h
 
-  structure_again : (x : Keyword) (at : Place) (tag : Spelled) (i : Words) → next_is_punctuator p.LeftBrace i ≡ false
+  structure_again : (x : Keyword) (at : Position) (tag : Spelled) (i : Words) → next_is_punctuator p.LeftBrace i ≡ false
       → structure_from names deeper d x at (identifier tag ∷ i) ≡ Ok (t.structure x at tag, i)
   unfolding structure_from identifier_from
   structure_again x at tag i h = rw (no_body (identifier tag ∷ i) refl, no_body i h) refl
 
-  structure_body_again : (x : Keyword) (at : Place) (tag : Option Spelled) (l : Place) (m : Members) (q : Place) (i : Words) → is_no_member m ≡ false → AreMembers names m → members_levels m < d
+  structure_body_again : (x : Keyword) (at : Position) (tag : Option Spelled) (l : Position) (m : Members) (q : Position) (i : Words) → is_no_member m ≡ false → AreMembers names m → members_levels m < d
       → structure_body_from names deeper d x at tag (punctuator p.LeftBrace l ∷ members_words m (punctuator p.RightBrace q ∷ i)) ≡ Ok (t.structure_body x at tag l m q, i)
   unfolding structure_body_from
   structure_body_again x at tag l m q i some h low =
       rw (expected p.LeftBrace l (members_words m (punctuator p.RightBrace q ∷ i)), members_again names d deeper known m q i some h low, expected p.RightBrace q i) refl
 
-  tagged_structure_again : (x : Keyword) (at : Place) (tag : Option Spelled) (l : Place) (m : Members) (q : Place) (i : Words) → is_no_member m ≡ false → AreMembers names m → members_levels m < d
+  tagged_structure_again : (x : Keyword) (at : Position) (tag : Option Spelled) (l : Position) (m : Members) (q : Position) (i : Words) → is_no_member m ≡ false → AreMembers names m → members_levels m < d
       → structure_from names deeper d x at (tag_words tag (punctuator p.LeftBrace l ∷ members_words m (punctuator p.RightBrace q ∷ i))) ≡ Ok (t.structure_body x at tag l m q, i)
   unfolding structure_from identifier_from
   tagged_structure_again x at None l m q i some h low =
@@ -140,11 +140,11 @@ module _ (names : List (List ℕ)) (d : ℕ) (deeper : Readers) (known : Complet
   tagged_structure_again x at (Some tag) l m q i some h low =
       let level : 1 ≤ d = omega arith in rw (le-leb 1 d level, same p.LeftBrace, structure_body_again x at (Some tag) l m q i some h low) refl
 
-  enumeration_again : (at : Place) (tag : Spelled) (i : Words) → next_is_punctuator p.LeftBrace i ≡ false → enumeration_from names deeper d at (identifier tag ∷ i) ≡ Ok (t.enumeration at tag, i)
+  enumeration_again : (at : Position) (tag : Spelled) (i : Words) → next_is_punctuator p.LeftBrace i ≡ false → enumeration_from names deeper d at (identifier tag ∷ i) ≡ Ok (t.enumeration at tag, i)
   unfolding enumeration_from identifier_from
   enumeration_again at tag i h = rw (no_body (identifier tag ∷ i) refl, no_body i h) refl
 
-  enumeration_body_again : (at : Place) (tag : Option Spelled) (l : Place) (e : Enumerator) (m : MoreEnumerators) (c : Option Place) (q : Place) (i : Words)
+  enumeration_body_again : (at : Position) (tag : Option Spelled) (l : Position) (e : Enumerator) (m : MoreEnumerators) (c : Option Position) (q : Position) (i : Words)
       → IsEnumerator names e → AreMoreEnumerators names m → enumerator_levels e < d → more_enumerators_levels m < d
       → enumeration_body_from names deeper d at tag (punctuator p.LeftBrace l ∷ enumerator_words e (more_enumerators_words m (comma_words c (punctuator p.RightBrace q ∷ i)))) ≡ Ok (t.enumeration_body at tag l e m c q, i)
   unfolding enumeration_body_from
@@ -158,7 +158,7 @@ module _ (names : List (List ℕ)) (d : ℕ) (deeper : Readers) (known : Complet
         same_enumerators m,
       ) refl
 
-  tagged_enumeration_again : (at : Place) (tag : Option Spelled) (l : Place) (e : Enumerator) (m : MoreEnumerators) (c : Option Place) (q : Place) (i : Words)
+  tagged_enumeration_again : (at : Position) (tag : Option Spelled) (l : Position) (e : Enumerator) (m : MoreEnumerators) (c : Option Position) (q : Position) (i : Words)
       → IsEnumerator names e → AreMoreEnumerators names m → enumerator_levels e < d → more_enumerators_levels m < d
       → enumeration_from names deeper d at (tag_words tag (punctuator p.LeftBrace l ∷ enumerator_words e (more_enumerators_words m (comma_words c (punctuator p.RightBrace q ∷ i))))) ≡ Ok (t.enumeration_body at tag l e m c q, i)
   unfolding enumeration_from identifier_from
@@ -174,18 +174,18 @@ module _ (names : List (List ℕ)) (d : ℕ) (deeper : Readers) (known : Complet
       → specifiers_behind names deeper d allowed n v i ≡ Ok (z, r) → specifiers_behind names deeper d allowed (suc n) w (specifier_words x i) ≡ Ok (t.specifiers x z, r)
   unfolding with_specifier
   specifier_again allowed n w v (t.keyword x at) z i r is h fits low brace others =
-      turn allowed n w v (word.Keyword x) at (t.keyword x at) z i i r (keyword_goes allowed x at w v is fits) (keyword_again x at w v i is) is others
+      turn allowed n w v (kinds.Keyword x) at (t.keyword x at) z i i r (keyword_goes allowed x at w v is fits) (keyword_again x at w v i is) is others
   specifier_again allowed n w v (t.typedef_name x) z i r is h fits low brace others =
-      turn allowed n w v (word.Identifier x.spelling) x.place (t.typedef_name x) z i i r (rw (h, is) refl) refl is others
+      turn allowed n w v (kinds.Identifier x.spelling) x.position (t.typedef_name x) z i i r (rw (h, is) refl) refl is others
   specifier_again allowed n w v (t.structure x at tag) z i r is h fits low brace others =
-      turn allowed n w v (word.Keyword x) at (t.structure x at tag) z (identifier tag ∷ i) i r (structure_goes allowed x w v is) (rw (structure_keyword x w v is, structure_again x at tag i brace) refl) is others
+      turn allowed n w v (kinds.Keyword x) at (t.structure x at tag) z (identifier tag ∷ i) i r (structure_goes allowed x w v is) (rw (structure_keyword x w v is, structure_again x at tag i brace) refl) is others
   specifier_again allowed n w v (t.structure_body x at tag l m q) z i r is h fits low brace others =
-      turn allowed n w v (word.Keyword x) at (t.structure_body x at tag l m q) z (tag_words tag (punctuator p.LeftBrace l ∷ members_words m (punctuator p.RightBrace q ∷ i))) i r
+      turn allowed n w v (kinds.Keyword x) at (t.structure_body x at tag l m q) z (tag_words tag (punctuator p.LeftBrace l ∷ members_words m (punctuator p.RightBrace q ∷ i))) i r
       (structure_goes allowed x w v is) (rw (structure_keyword x w v is, tagged_structure_again x at tag l m q i h.0 h.1 (omega arith)) refl) is others
   specifier_again allowed n w v (t.enumeration at tag) z i r is h fits low brace others =
-      turn allowed n w v (word.Keyword k.Enum) at (t.enumeration at tag) z (identifier tag ∷ i) i r (rw is refl) (enumeration_again at tag i brace) is others
+      turn allowed n w v (kinds.Keyword k.Enum) at (t.enumeration at tag) z (identifier tag ∷ i) i r (rw is refl) (enumeration_again at tag i brace) is others
   specifier_again allowed n w v (t.enumeration_body at tag l e m c q) z i r is h fits low brace others =
-      turn allowed n w v (word.Keyword k.Enum) at (t.enumeration_body at tag l e m c q) z
+      turn allowed n w v (kinds.Keyword k.Enum) at (t.enumeration_body at tag l e m c q) z
       (tag_words tag (punctuator p.LeftBrace l ∷ enumerator_words e (more_enumerators_words m (comma_words c (punctuator p.RightBrace q ∷ i))))) i r
       (rw is refl) (tagged_enumeration_again at tag l e m c q i h.0 h.1 (omega arith) (omega arith)) is others
 

@@ -3,7 +3,7 @@ use Rattle.std.proofs.Common.{◌≡◌, ℕ, zero, suc, ◌<◌, ◌≤◌, tru
 use Rattle.c_lexer.specs.Spellings.{punctuator_spelling}
 use Rattle.c_lexer.specs.declared.keyword.Keyword.TheVariants as k
 use Rattle.c_lexer.specs.declared.punctuator.Punctuator.TheVariants as p
-use Rattle.c_syntax.specs.declared.place.Place.{Place}
+use Rattle.c_syntax.specs.declared.position.Position.{Position}
 use Rattle.c_syntax.specs.Tree.{TypedDeclarator, Specifiers, Declarator, Parameters, MoreParameters}
 use Rattle.c_syntax.specs.Tree as t
 use Rattle.c_syntax.specs.View.{more_parameters_of}
@@ -22,7 +22,7 @@ use Rattle.c_grammar.proofs.Longer.{typed_longer}
 use Rattle.c_grammar.proofs.Lists.{comma_turn, comma_end}
 
 -- the elements of a list of parameters
-abbrev pub parameters_list : MoreParameters → List (Place × TypedDeclarator)
+abbrev pub parameters_list : MoreParameters → List (Position × TypedDeclarator)
 parameters_list t.end_of_parameters = []
 parameters_list (t.more_parameters at x m) = (at, x) ∷ parameters_list m
 
@@ -34,11 +34,11 @@ no_lone_void : (x : TypedDeclarator) (m : MoreParameters) → is_lone_void x m �
 no_lone_void (t.typed (t.specifiers (t.keyword k.Void at) t.no_specifiers) t.unnamed) t.end_of_parameters h = cc
 no_lone_void x m h = refl
 
-more_quiet : (m : MoreParameters) (q : Place) (r : Words) → is_quiet (more_parameters_words m (punctuator p.RightParenthesis q ∷ r)) ≡ true
+more_quiet : (m : MoreParameters) (q : Position) (r : Words) → is_quiet (more_parameters_words m (punctuator p.RightParenthesis q ∷ r)) ≡ true
 more_quiet t.end_of_parameters q r = refl
 more_quiet (t.more_parameters at x m) q r = refl
 
-more_no_brace : (m : MoreParameters) (q : Place) (r : Words) → next_is_punctuator p.LeftBrace (more_parameters_words m (punctuator p.RightParenthesis q ∷ r)) ≡ false
+more_no_brace : (m : MoreParameters) (q : Position) (r : Words) → next_is_punctuator p.LeftBrace (more_parameters_words m (punctuator p.RightParenthesis q ∷ r)) ≡ false
 unfolding is_same punctuator_spelling
 more_no_brace t.end_of_parameters q r = refl
 more_no_brace (t.more_parameters at x m) q r = refl
@@ -63,7 +63,7 @@ module _ (names : List (List ℕ)) (d : ℕ) (deeper : Readers) (known : Complet
       ) refl
 
   -- the words of a type name and `)`
-  pub type_name_again : {A : Type 0} (f : TypedDeclarator → Place → Words → Outcome A) (x : TypedDeclarator) (q : Place) (r : Words)
+  pub type_name_again : {A : Type 0} (f : TypedDeclarator → Position → Words → Outcome A) (x : TypedDeclarator) (q : Position) (r : Words)
       → IsTypeName names x → typed_levels x < d → type_name_from names deeper d f (typed_words x (punctuator p.RightParenthesis q ∷ r)) ≡ f x q r
   unfolding is_same punctuator_spelling
   type_name_again f (t.typed z e) q r h low =
@@ -79,7 +79,7 @@ module _ (names : List (List ℕ)) (d : ℕ) (deeper : Readers) (known : Complet
   pub parameter_first : (x : TypedDeclarator) (i : Words) → IsParameter names x → begins_specifiers names (typed_words x i) ≡ true
   parameter_first (t.typed z e) i h = specifiers_first names z (declarator_words e i) h.0 h.1
 
-  more_again : (n : ℕ) (m : MoreParameters) (q : Place) (r : Words) → AreMoreParameters names m → more_parameters_levels m < d
+  more_again : (n : ℕ) (m : MoreParameters) (q : Position) (r : Words) → AreMoreParameters names m → more_parameters_levels m < d
       → length (more_parameters_words m (punctuator p.RightParenthesis q ∷ r)) ≤ n
       → behind_commas (typed_from deeper kind.Either) n (more_parameters_words m (punctuator p.RightParenthesis q ∷ r)) ≡ Ok (parameters_list m, punctuator p.RightParenthesis q ∷ r)
   unfolding is_same punctuator_spelling
@@ -91,13 +91,13 @@ module _ (names : List (List ℕ)) (d : ℕ) (deeper : Readers) (known : Complet
       (more_again n m q r h.1 (omega arith) (omega (arith, typed_longer x (more_parameters_words m (punctuator p.RightParenthesis q ∷ r)))))
 
   -- the word `void` alone
-  void_again : (at q : Place) (r : Words) → 0 < d
+  void_again : (at q : Position) (r : Words) → 0 < d
       → typed_from deeper kind.Either (parameters_words (t.void_parameters at) (punctuator p.RightParenthesis q ∷ r)) ≡ Ok (t.typed (t.specifiers (t.keyword k.Void at) t.no_specifiers) t.unnamed, punctuator p.RightParenthesis q ∷ r)
   unfolding is_same punctuator_spelling with_specifier with_keyword
   void_again at q r low =
       parameter_again (t.typed (t.specifiers (t.keyword k.Void at) t.no_specifiers) t.unnamed) (punctuator p.RightParenthesis q ∷ r) (refl, (tt, tt), refl, tt) (omega arith) refl refl
 
-  pub parameters_again : (a : Parameters) (q : Place) (r : Words) → AreParameters names a → parameters_levels a < d
+  pub parameters_again : (a : Parameters) (q : Position) (r : Words) → AreParameters names a → parameters_levels a < d
       → parameters_from deeper (parameters_words a (punctuator p.RightParenthesis q ∷ r)) ≡ Ok (a, punctuator p.RightParenthesis q ∷ r)
   unfolding parameters_from is_same punctuator_spelling
   parameters_again t.no_parameters q r h low = refl

@@ -2,7 +2,7 @@
 use Rattle.std.proofs.Common.{◌≡◌, ℕ, zero, suc, ◌≤◌, true, false, List, [], ◌∷◌, Ok, Option, Some, None, length, refl, arith}
 use Rattle.c_lexer.specs.Spellings.{punctuator_spelling}
 use Rattle.c_lexer.specs.declared.punctuator.Punctuator.TheVariants as p
-use Rattle.c_syntax.specs.declared.place.Place.{Place}
+use Rattle.c_syntax.specs.declared.position.Position.{Position}
 use Rattle.c_syntax.specs.Tree.{Specifiers, Declarator}
 use Rattle.c_syntax.specs.Statements.{Block, InitDeclarators, External, Unit}
 use Rattle.c_syntax.specs.Statements as s
@@ -31,7 +31,7 @@ module _ (levels : ℕ) where
   unfolding definition_from
   definition_again names z d b r defines low h = rw (defines, blocks_complete levels (names_after (has_typedef z) d names) (suc levels) b r h (omega arith)) refl
 
-  declaration_parts_again : (names : List (List ℕ)) (z : Specifiers) (o : Option InitDeclarators) (at : Place) (r : Words) → BeginDeclaration levels names z → AreInitDeclarators levels (has_typedef z) names o
+  declaration_parts_again : (names : List (List ℕ)) (z : Specifiers) (o : Option InitDeclarators) (at : Position) (r : Words) → BeginDeclaration levels names z → AreInitDeclarators levels (has_typedef z) names o
       → external_from levels names (specifiers_words z (init_declarators_words o (punctuator p.Semicolon at ∷ r))) ≡ Ok (s.declaration (record { specifiers = z; declarators = o; semicolon = at }), r)
   unfolding external_from external_behind
   declaration_parts_again names z None at r begins h =

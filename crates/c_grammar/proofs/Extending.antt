@@ -1,7 +1,7 @@
 -- A loop that reads a list: what has come, and what the reader of the rest gives.
 use Rattle.std.proofs.Common.{◌≡◌, ℕ, suc, max, true, false, List, [], ◌∷◌, ◌++◌, map, Ok, Err, Option, Some, None, refl, sym, ap, ◌∙◌, arith}
 use Rattle.c_lexer.specs.declared.punctuator.Punctuator.TheVariants as p
-use Rattle.c_syntax.specs.declared.place.Place.{Place}
+use Rattle.c_syntax.specs.declared.position.Position.{Position}
 use Rattle.c_syntax.specs.View.{behind_comma}
 use Rattle.c_syntax.specs.Words.{Words, punctuator}
 use Rattle.c_grammar.specs.Reads.{Fails}
@@ -37,7 +37,7 @@ extending_one xs x (Ok z) = ap (λ y. Ok (y, z.1)) (sym (append_one xs x z.0))
 extending_one xs x (Err e) = refl
 
 -- one more element of the code's list, behind its comma
-pub comma_turn : {A B : Type 0} (view : A → B) (element : Reader B) (n : ℕ) (xs : List (Place × A)) (x : A) (tokens : Words) (at : Place) (i new : Words)
+pub comma_turn : {A B : Type 0} (view : A → B) (element : Reader B) (n : ℕ) (xs : List (Position × A)) (x : A) (tokens : Words) (at : Position) (i new : Words)
     → tokens ≡ punctuator p.Comma at ∷ i → element i ≡ Ok (view x, new)
     → extending (map (behind_comma view) xs) (behind_commas element (suc n) tokens) ≡ extending (map (behind_comma view) (xs ++ (at, x) ∷ [])) (behind_commas element n new)
 unfolding behind_commas
@@ -46,7 +46,7 @@ comma_turn view element n xs x tokens at i new start one =
     ∙ rw (same p.Comma, one) (rw (map_one (behind_comma view) xs (at, x)) (extending_one (map (behind_comma view) xs) (at, view x) (behind_commas element n new)))
 
 -- behind a comma there is no element
-pub comma_fails : {B : Type 0} (element : Reader B) (n : ℕ) (xs : List (Place × B)) (tokens : Words) (at : Place) (i new : Words) (o : Outcome (List (Place × B))) (e : Fault)
+pub comma_fails : {B : Type 0} (element : Reader B) (n : ℕ) (xs : List (Position × B)) (tokens : Words) (at : Position) (i new : Words) (o : Outcome (List (Position × B))) (e : Fault)
     → o ≡ extending xs (behind_commas element (suc n) tokens) → tokens ≡ punctuator p.Comma at ∷ i → Fails (element i) e new → Fails o e new
 unfolding behind_commas
 comma_fails element n xs tokens at i new o Memory read start one = tt
@@ -54,11 +54,11 @@ comma_fails element n xs tokens at i new o Refused read start one =
     read ∙ ap (λ i. extending xs (behind_commas element (suc n) i)) start ∙ rw (same p.Comma, one) refl
 
 -- no element comes any more, where no comma is next
-pub comma_end : {A : Type 0} (element : Reader A) (n : ℕ) (xs : List (Place × A)) (i : Words) → next_is_punctuator p.Comma i ≡ false → extending xs (behind_commas element n i) ≡ Ok (xs, i)
+pub comma_end : {A : Type 0} (element : Reader A) (n : ℕ) (xs : List (Position × A)) (i : Words) → next_is_punctuator p.Comma i ≡ false → extending xs (behind_commas element n i) ≡ Ok (xs, i)
 comma_end element n xs i none = ap (λ o. extending xs o) (l.comma_end element n i none) ∙ extended xs i
 
 -- no element comes any more, where the count has ended
-pub comma_done : {A : Type 0} (element : Reader A) (xs : List (Place × A)) (i : Words) → extending xs (behind_commas element 0 i) ≡ Ok (xs, i)
+pub comma_done : {A : Type 0} (element : Reader A) (xs : List (Position × A)) (i : Words) → extending xs (behind_commas element 0 i) ≡ Ok (xs, i)
 unfolding behind_commas
 comma_done element xs i = extended xs i
 
@@ -89,18 +89,18 @@ brace_done element xs i list = refl
 -- ---- elements behind commas, and a last comma before `}`
 
 -- these elements, and then what is read
-abbrev pub extending_last : {A : Type 0} → List A → Outcome (List A × Option Place) → Outcome (List A × Option Place)
+abbrev pub extending_last : {A : Type 0} → List A → Outcome (List A × Option Position) → Outcome (List A × Option Position)
 extending_last xs o = o >>= λ z i. Ok ((xs ++ z.0, z.1), i)
 
-last_one : {A : Type 0} (xs : List A) (x : A) (o : Outcome (List A × Option Place)) → extending_last xs (o >>= λ z i. Ok ((x ∷ z.0, z.1), i)) ≡ extending_last (xs ++ x ∷ []) o
+last_one : {A : Type 0} (xs : List A) (x : A) (o : Outcome (List A × Option Position)) → extending_last xs (o >>= λ z i. Ok ((x ∷ z.0, z.1), i)) ≡ extending_last (xs ++ x ∷ []) o
 last_one xs x (Ok z) = ap (λ y. Ok ((y, z.0.1), z.1)) (sym (append_one xs x z.0.0))
 last_one xs x (Err e) = refl
 
-last_extended : {A : Type 0} (xs : List A) (c : Option Place) (i : Words) → extending_last xs (Ok (([], c), i)) ≡ Ok ((xs, c), i)
+last_extended : {A : Type 0} (xs : List A) (c : Option Position) (i : Words) → extending_last xs (Ok (([], c), i)) ≡ Ok ((xs, c), i)
 last_extended xs c i = ap (λ z. Ok ((z, c), i)) (append_none xs)
 
 -- one more element of the code's list
-pub last_turn : {A B : Type 0} (view : A → B) (element : Reader B) (n : ℕ) (xs : List (Place × A)) (x : A) (tokens : Words) (at : Place) (i new : Words)
+pub last_turn : {A B : Type 0} (view : A → B) (element : Reader B) (n : ℕ) (xs : List (Position × A)) (x : A) (tokens : Words) (at : Position) (i new : Words)
     → tokens ≡ punctuator p.Comma at ∷ i → next_is_punctuator p.RightBrace i ≡ false → element i ≡ Ok (view x, new)
     → extending_last (map (behind_comma view) xs) (behind_commas_to_brace element (suc n) tokens) ≡ extending_last (map (behind_comma view) (xs ++ (at, x) ∷ [])) (behind_commas_to_brace element n new)
 unfolding behind_commas_to_brace
@@ -109,7 +109,7 @@ last_turn view element n xs x tokens at i new start more one =
     ∙ rw (same p.Comma, more, one) (rw (map_one (behind_comma view) xs (at, x)) (last_one (map (behind_comma view) xs) (at, view x) (behind_commas_to_brace element n new)))
 
 -- behind a comma there is no element
-pub last_fails : {B : Type 0} (element : Reader B) (n : ℕ) (xs : List (Place × B)) (tokens : Words) (at : Place) (i new : Words) (o : Outcome (List (Place × B) × Option Place)) (e : Fault)
+pub last_fails : {B : Type 0} (element : Reader B) (n : ℕ) (xs : List (Position × B)) (tokens : Words) (at : Position) (i new : Words) (o : Outcome (List (Position × B) × Option Position)) (e : Fault)
     → o ≡ extending_last xs (behind_commas_to_brace element (suc n) tokens) → tokens ≡ punctuator p.Comma at ∷ i → next_is_punctuator p.RightBrace i ≡ false → Fails (element i) e new → Fails o e new
 unfolding behind_commas_to_brace
 last_fails element n xs tokens at i new o Memory read start more one = tt
@@ -117,17 +117,17 @@ last_fails element n xs tokens at i new o Refused read start more one =
     read ∙ ap (λ i. extending_last xs (behind_commas_to_brace element (suc n) i)) start ∙ rw (same p.Comma, more, one) refl
 
 -- a last comma
-pub last_comma : {B : Type 0} (element : Reader B) (n : ℕ) (xs : List (Place × B)) (tokens : Words) (at : Place) (i : Words)
+pub last_comma : {B : Type 0} (element : Reader B) (n : ℕ) (xs : List (Position × B)) (tokens : Words) (at : Position) (i : Words)
     → tokens ≡ punctuator p.Comma at ∷ i → next_is_punctuator p.RightBrace i ≡ true → extending_last xs (behind_commas_to_brace element (suc n) tokens) ≡ Ok ((xs, Some at), i)
 last_comma element n xs tokens at i start here =
     ap (λ i. extending_last xs (behind_commas_to_brace element (suc n) i)) start
     ∙ ap (λ o. extending_last xs o) (l.comma_to_brace_last element n at i here) ∙ last_extended xs (Some at) i
 
 -- no last comma
-pub last_end : {B : Type 0} (element : Reader B) (n : ℕ) (xs : List (Place × B)) (i : Words) → next_is_punctuator p.Comma i ≡ false → extending_last xs (behind_commas_to_brace element n i) ≡ Ok ((xs, None), i)
+pub last_end : {B : Type 0} (element : Reader B) (n : ℕ) (xs : List (Position × B)) (i : Words) → next_is_punctuator p.Comma i ≡ false → extending_last xs (behind_commas_to_brace element n i) ≡ Ok ((xs, None), i)
 last_end element n xs i none = ap (λ o. extending_last xs o) (l.comma_to_brace_end element n i none) ∙ last_extended xs None i
 
-pub last_done : {B : Type 0} (element : Reader B) (xs : List (Place × B)) (i : Words) → extending_last xs (behind_commas_to_brace element 0 i) ≡ Ok ((xs, None), i)
+pub last_done : {B : Type 0} (element : Reader B) (xs : List (Position × B)) (i : Words) → extending_last xs (behind_commas_to_brace element 0 i) ≡ Ok ((xs, None), i)
 unfolding behind_commas_to_brace
 last_done element xs i = last_extended xs None i
 

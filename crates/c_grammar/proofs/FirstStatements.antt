@@ -5,9 +5,9 @@ use Rattle.c_lexer.specs.declared.keyword.Keyword.{Keyword}
 use Rattle.c_lexer.specs.declared.keyword.Keyword.TheVariants as k
 use Rattle.c_lexer.specs.declared.punctuator.Punctuator.{Punctuator}
 use Rattle.c_lexer.specs.declared.punctuator.Punctuator.TheVariants as p
-use Rattle.c_lexer.specs.declared.token.Word.{Word}
-use Rattle.c_lexer.specs.declared.token.Word.TheVariants as word
-use Rattle.c_syntax.specs.declared.place.Place.{Place}
+use Rattle.c_lexer.specs.declared.token.TokenKind.{TokenKind}
+use Rattle.c_lexer.specs.declared.token.TokenKind.TheVariants as kinds
+use Rattle.c_syntax.specs.declared.position.Position.{Position}
 use Rattle.c_syntax.specs.Tree.{Expression}
 use Rattle.c_syntax.specs.Statements.{Statement, Block, BlockItems, BlockItem}
 use Rattle.c_syntax.specs.Statements as s
@@ -69,36 +69,36 @@ right_brace_apart _ h = refl
 
 module _ (names : List (List ℕ)) where
   -- the word may begin a statement
-  abbrev pub is_statement_word : Word → Bool
-  is_statement_word (word.Keyword x) = is_statement_keyword x
-  is_statement_word (word.Punctuator x) = is_statement_punctuator x
+  abbrev pub is_statement_word : TokenKind → Bool
+  is_statement_word (kinds.Keyword x) = is_statement_keyword x
+  is_statement_word (kinds.Punctuator x) = is_statement_punctuator x
   is_statement_word w = is_expression_word names w
 
-  expression_begins : (w : Word) → is_expression_word names w ≡ true → is_statement_word w ≡ true
-  expression_begins (word.Keyword x) h = sizeof_begins x h
-  expression_begins (word.Punctuator x) h = operand_begins x h
+  expression_begins : (w : TokenKind) → is_expression_word names w ≡ true → is_statement_word w ≡ true
+  expression_begins (kinds.Keyword x) h = sizeof_begins x h
+  expression_begins (kinds.Punctuator x) h = operand_begins x h
   expression_begins _ h = h
 
-  statement_no_specifier : (w : Word) → is_statement_word w ≡ true → is_specifier_word names w ≡ false
-  statement_no_specifier (word.Keyword x) h = statement_keyword_no_specifier x h
-  statement_no_specifier (word.Identifier x) h = expression_no_specifier names (word.Identifier x) h
+  statement_no_specifier : (w : TokenKind) → is_statement_word w ≡ true → is_specifier_word names w ≡ false
+  statement_no_specifier (kinds.Keyword x) h = statement_keyword_no_specifier x h
+  statement_no_specifier (kinds.Identifier x) h = expression_no_specifier names (kinds.Identifier x) h
   statement_no_specifier _ h = refl
 
-  no_else : (w : Word) → is_statement_word w ≡ true → is_else w ≡ false
-  no_else (word.Keyword k.Else) h = cc
+  no_else : (w : TokenKind) → is_statement_word w ≡ true → is_else w ≡ false
+  no_else (kinds.Keyword k.Else) h = cc
   no_else _ h = refl
 
-  no_right_brace : (w : Word) → is_statement_word w ≡ true → is_punctuator p.RightBrace w ≡ false
-  no_right_brace (word.Punctuator x) h = right_brace_apart x h
+  no_right_brace : (w : TokenKind) → is_statement_word w ≡ true → is_punctuator p.RightBrace w ≡ false
+  no_right_brace (kinds.Punctuator x) h = right_brace_apart x h
   no_right_brace _ h = refl
 
-  specifier_no_else : (w : Word) → is_specifier_word names w ≡ true → is_else w ≡ false
+  specifier_no_else : (w : TokenKind) → is_specifier_word names w ≡ true → is_else w ≡ false
   unfolding with_keyword
-  specifier_no_else (word.Keyword k.Else) h = cc
+  specifier_no_else (kinds.Keyword k.Else) h = cc
   specifier_no_else _ h = refl
 
   module _ (levels : ℕ) where
-    optional_begins : (e : Option Expression) (at : Place) (i : Words) → IsOptional levels names e → next_is is_statement_word (optional_words e (punctuator p.Semicolon at ∷ i)) ≡ true
+    optional_begins : (e : Option Expression) (at : Position) (i : Words) → IsOptional levels names e → next_is is_statement_word (optional_words e (punctuator p.Semicolon at ∷ i)) ≡ true
     optional_begins None at i h = refl
     optional_begins (Some e) at i h =
         let behind : Words = punctuator p.Semicolon at ∷ i in
@@ -133,6 +133,6 @@ module _ (names : List (List ℕ)) where
     item_no_else (s.inner x) i h = excluded is_statement_word is_else no_else (statement_words x i) (statement_first x i h)
 
     -- no item of a block begins with `else`
-    pub items_no_else : (m : BlockItems) (at : Place) (i : Words) → AreItems levels names m → next_is is_else (items_words m (punctuator p.RightBrace at ∷ i)) ≡ false
+    pub items_no_else : (m : BlockItems) (at : Position) (i : Words) → AreItems levels names m → next_is is_else (items_words m (punctuator p.RightBrace at ∷ i)) ≡ false
     items_no_else s.no_items at i h = refl
     items_no_else (s.items x m) at i h = item_no_else x (items_words m (punctuator p.RightBrace at ∷ i)) h.0

@@ -1,8 +1,8 @@
 -- The words of a tree go before what follows it.
 use Rattle.std.proofs.Common.{suc, ◌≤◌, List, [], ◌∷◌, length, Option, Some, None, arith}
 use Rattle.c_lexer.specs.declared.punctuator.Punctuator.TheVariants as p
-use Rattle.c_syntax.specs.declared.place.Place.{Place}
-use Rattle.c_syntax.specs.declared.place.Spelled.{Spelled}
+use Rattle.c_syntax.specs.declared.position.Position.{Position}
+use Rattle.c_syntax.specs.declared.position.Spelled.{Spelled}
 use Rattle.c_syntax.specs.Tree.{Expression, Arguments, MoreArguments, TypedDeclarator, Declarator, Parameters, MoreParameters, Specifiers, Specifier, Members, Member, MoreDeclarators, Enumerator, MoreEnumerators}
 use Rattle.c_syntax.specs.Tree as t
 use Rattle.c_syntax.specs.Words.{Words, punctuator, identifier, strings_words, const_words, tag_words, comma_words, expression_words, arguments_words, more_arguments_words, typed_words, declarator_words, parameters_words, more_parameters_words, specifiers_words, specifier_words, members_words, member_words, more_declarators_words, enumerator_words, more_enumerators_words}
@@ -11,7 +11,7 @@ pub strings_longer : (z : List Spelled) (i : Words) → length i ≤ length (str
 strings_longer [] i = omega arith
 strings_longer (x ∷ z) i = omega (arith, strings_longer z i)
 
-pub const_longer : (z : List Place) (i : Words) → length i ≤ length (const_words z i)
+pub const_longer : (z : List Position) (i : Words) → length i ≤ length (const_words z i)
 const_longer [] i = omega arith
 const_longer (at ∷ z) i = omega (arith, const_longer z i)
 
@@ -19,7 +19,7 @@ pub tag_longer : (x : Option Spelled) (i : Words) → length i ≤ length (tag_w
 tag_longer None i = omega arith
 tag_longer (Some x) i = omega arith
 
-pub comma_longer : (c : Option Place) (i : Words) → length i ≤ length (comma_words c i)
+pub comma_longer : (c : Option Position) (i : Words) → length i ≤ length (comma_words c i)
 comma_longer None i = omega arith
 comma_longer (Some at) i = omega arith
 

@@ -2,7 +2,7 @@
 use Rattle.std.proofs.Common.{suc, ◌≤◌, List, [], ◌∷◌, length, Option, Some, None, arith}
 use Rattle.c_lexer.specs.declared.keyword.Keyword.TheVariants as k
 use Rattle.c_lexer.specs.declared.punctuator.Punctuator.TheVariants as p
-use Rattle.c_syntax.specs.declared.place.Place.{Place}
+use Rattle.c_syntax.specs.declared.position.Position.{Position}
 use Rattle.c_syntax.specs.Tree.{Expression, Designator, Designation, Initializer, InitializerItem, MoreItems}
 use Rattle.c_syntax.specs.Tree as t
 use Rattle.c_syntax.specs.Statements.{InitDeclarator, InitDeclarators, Declaration, ForInit, Statement, Block, BlockItems, BlockItem, External}
@@ -39,14 +39,14 @@ mutual
 
 -- ---- declarations
 
-pub initialized_longer : (v : Option (Place × Initializer)) (i : Words) → length i ≤ length (initialized_words v i)
+pub initialized_longer : (v : Option (Position × Initializer)) (i : Words) → length i ≤ length (initialized_words v i)
 initialized_longer None i = omega arith
 initialized_longer (Some v) i = omega (arith, initializer_longer v.1 i)
 
 pub init_declarator_longer : (x : InitDeclarator) (i : Words) → length i ≤ length (init_declarator_words x i)
 init_declarator_longer x i = omega (arith, declarator_longer x.declarator (initialized_words x.initializer i), initialized_longer x.initializer i)
 
-pub more_init_declarators_longer : (z : List (Place × InitDeclarator)) (i : Words) → length i ≤ length (more_init_declarators_words z i)
+pub more_init_declarators_longer : (z : List (Position × InitDeclarator)) (i : Words) → length i ≤ length (more_init_declarators_words z i)
 more_init_declarators_longer [] i = omega arith
 more_init_declarators_longer (x ∷ z) i = omega (arith, init_declarator_longer x.1 (more_init_declarators_words z i), more_init_declarators_longer z i)
 

@@ -1,7 +1,7 @@
 -- What is read as a declaration is a well-formed one with the words that were read (C99 6.7).
 use Rattle.std.proofs.Common.{◌≡◌, ℕ, zero, suc, Bool, false, List, [], ◌∷◌, length, Option, Some, None, refl, ap, ◌∙◌, arith}
 use Rattle.c_lexer.specs.declared.punctuator.Punctuator.TheVariants as p
-use Rattle.c_syntax.specs.declared.place.Place.{Place}
+use Rattle.c_syntax.specs.declared.position.Position.{Position}
 use Rattle.c_syntax.specs.Tree.{Specifiers, Declarator, Initializer}
 use Rattle.c_syntax.specs.Statements.{InitDeclarator, Declaration}
 use Rattle.c_syntax.specs.Words.{Words, punctuator, specifiers_words, declarator_words, initialized_words, init_declarator_words, more_init_declarators_words, declaration_words}
@@ -9,7 +9,7 @@ use Rattle.c_syntax.specs.Formed.{has_typedef, names_after, BeginDeclaration, Is
 use Rattle.c_grammar.specs.Nested.{readers}
 use Rattle.c_grammar.specs.DeclarationReader.{initialized_from, init_declarator_behind, init_declarator_from, more_init_declarators_from, declaration_behind, bare_declaration_from, local_from}
 use Rattle.c_grammar.specs.declared.declarator_kind.DeclaratorKind.TheVariants as kind
-use Rattle.c_grammar.proofs.Inversion.{Gives, gives_ok, gives_bind, gives_map, gives_if, same_placed, expect_gives}
+use Rattle.c_grammar.proofs.Inversion.{Gives, gives_ok, gives_bind, gives_map, gives_if, same_positioned, expect_gives}
 use Rattle.c_grammar.proofs.SoundTyped.{specifiers_part, declarator_part}
 use Rattle.c_grammar.proofs.Sound.{sound}
 use Rattle.c_grammar.proofs.SoundInitializers.{initializers_gives}
@@ -37,7 +37,7 @@ module _ (levels : ℕ) where
       record { formed = (omega (arith, f.low), (f.fits.1 refl, f.formed)); same = f.same }
 
   -- the words i are those of `=` and an initializer, or none, and then r
-  record FoundInitialized (names : List (List ℕ)) (i : Words) (x : Option (Place × Initializer)) (r : Words) : Type 0 where
+  record FoundInitialized (names : List (List ℕ)) (i : Words) (x : Option (Position × Initializer)) (r : Words) : Type 0 where
     formed : IsInitialized levels names x
     same : i ≡ initialized_words x r
 
@@ -73,7 +73,7 @@ module _ (levels : ℕ) where
       record { formed = g.formed; same = f.same ∙ g.same }
 
   -- the words i are those of declarators behind the first and then r
-  record FoundMoreInitDeclarators (is_typedef : Bool) (names : List (List ℕ)) (i : Words) (z : List (Place × InitDeclarator)) (r : Words) : Type 0 where
+  record FoundMoreInitDeclarators (is_typedef : Bool) (names : List (List ℕ)) (i : Words) (z : List (Position × InitDeclarator)) (r : Words) : Type 0 where
     formed : AreMoreInitDeclarators levels is_typedef names z
     same : i ≡ more_init_declarators_words z r
 
@@ -84,9 +84,9 @@ module _ (levels : ℕ) where
   more_init_declarators_gives is_typedef (suc n) names [] = gives_ok [] [] (record { formed = tt; same = refl })
   more_init_declarators_gives is_typedef (suc n) names (first ∷ i) = gives_if
       (λ c. gives_bind (init_declarator_gives is_typedef names i) λ x j f. gives_bind (more_init_declarators_gives is_typedef n (names_after is_typedef x.declarator names) j) λ z r g.
-      gives_ok ((first.place, x) ∷ z) r (record {
+      gives_ok ((first.position, x) ∷ z) r (record {
         formed = (f.formed, g.formed);
-        same = same_placed p.Comma first.word first.place i c ∙ ap (λ i. punctuator p.Comma first.place ∷ i) (f.same ∙ ap (λ i. init_declarator_words x i) g.same);
+        same = same_positioned p.Comma first.kind first.position i c ∙ ap (λ i. punctuator p.Comma first.position ∷ i) (f.same ∙ ap (λ i. init_declarator_words x i) g.same);
       }))
       (λ _. gives_ok [] (first ∷ i) (record { formed = tt; same = refl }))
 

@@ -4,9 +4,9 @@ use Rattle.std.proofs.lemmas.Bool.{leb-true, ltb-true, and_parts}
 use Rattle.c_lexer.specs.declared.keyword.Keyword.TheVariants as k
 use Rattle.c_lexer.specs.declared.punctuator.Punctuator.{Punctuator}
 use Rattle.c_lexer.specs.declared.punctuator.Punctuator.TheVariants as p
-use Rattle.c_lexer.specs.declared.token.Word.{Word}
-use Rattle.c_lexer.specs.declared.token.Word.TheVariants as word
-use Rattle.c_syntax.specs.declared.place.Place.{Place}
+use Rattle.c_lexer.specs.declared.token.TokenKind.{TokenKind}
+use Rattle.c_lexer.specs.declared.token.TokenKind.TheVariants as kinds
+use Rattle.c_syntax.specs.declared.position.Position.{Position}
 use Rattle.c_syntax.specs.Tree.{Expression, Arguments}
 use Rattle.c_syntax.specs.Tree as t
 use Rattle.c_syntax.specs.View.{more_arguments_of}
@@ -20,7 +20,7 @@ use Rattle.c_grammar.specs.declared.declarator_kind.DeclaratorKind.TheVariants a
 use Rattle.c_grammar.specs.declared.operation.Operation.{Operation}
 use Rattle.c_grammar.specs.declared.operation.Operation.TheVariants as op
 use Rattle.c_grammar.proofs.Known.{SoundReaders, FoundExpression, with_opened}
-use Rattle.c_grammar.proofs.Inversion.{Gives, gives_ok, gives_err, gives_bind, gives_map, gives_if, by_test, same_punctuator, same_placed, expect_gives, identifier_gives, ordinary_by_gives, strings_gives, FoundEach, BehindComma, behind_commas_gives}
+use Rattle.c_grammar.proofs.Inversion.{Gives, gives_ok, gives_err, gives_bind, gives_map, gives_if, by_test, same_punctuator, same_positioned, expect_gives, identifier_gives, ordinary_by_gives, strings_gives, FoundEach, BehindComma, behind_commas_gives}
 use Rattle.c_grammar.proofs.SoundTyped.{opened_part, expression_part, typed_gives}
 
 -- ---- operators
@@ -70,7 +70,7 @@ module _ (names : List (List ℕ)) (levels : ℕ) (deeper : Readers) (known : So
 
   -- ---- operands
 
-  cast_gives : (l : Place) (i : Words) → Gives (cast_from names deeper levels l i) (FoundExpression names (suc levels) 14 (punctuator p.LeftParenthesis l ∷ i))
+  cast_gives : (l : Position) (i : Words) → Gives (cast_from names deeper levels l i) (FoundExpression names (suc levels) 14 (punctuator p.LeftParenthesis l ∷ i))
   unfolding cast_from
   cast_gives l i = gives_bind (typed_gives names levels deeper known kind.Abstract i) λ x i f. gives_bind (expect_gives p.RightParenthesis i) λ r i g.
       gives_bind (part 14 i (omega arith)) λ e i h. gives_ok (t.cast l x r e) i (record {
@@ -80,18 +80,18 @@ module _ (names : List (List ℕ)) (levels : ℕ) (deeper : Readers) (known : So
         same = rw (f.same, g, h.same) refl;
       })
 
-  parenthesized_gives : (l : Place) (i : Words) → Gives (parenthesized_from names deeper levels l i) (FoundExpression names (suc levels) 16 (punctuator p.LeftParenthesis l ∷ i))
+  parenthesized_gives : (l : Position) (i : Words) → Gives (parenthesized_from names deeper levels l i) (FoundExpression names (suc levels) 16 (punctuator p.LeftParenthesis l ∷ i))
   unfolding parenthesized_from
   parenthesized_gives l i = gives_bind (part 1 i (omega arith)) λ e i f. gives_bind (expect_gives p.RightParenthesis i) λ r i g.
       gives_ok (t.parenthesized l e r) i (record { formed = f.formed; low = omega (arith, f.low); binding = omega arith; same = rw (f.same, g) refl })
 
-  parenthesis_gives : (m : ℕ) (l : Place) (i : Words) → m < 16 → Gives (parenthesis_from names deeper levels m l i) (FoundExpression names (suc levels) m (punctuator p.LeftParenthesis l ∷ i))
+  parenthesis_gives : (m : ℕ) (l : Position) (i : Words) → m < 16 → Gives (parenthesis_from names deeper levels m l i) (FoundExpression names (suc levels) m (punctuator p.LeftParenthesis l ∷ i))
   unfolding parenthesis_from
   parenthesis_gives m l i low = gives_if
       (λ _. gives_if (λ h. gives_map (cast_gives l i) λ e r f. weaker (leb-true m 14 h) f) (λ _. gives_err i))
       (λ _. gives_map (parenthesized_gives l i) λ e r f. weaker (omega arith) f)
 
-  sizeof_parenthesis_gives : (at l : Place) (i : Words)
+  sizeof_parenthesis_gives : (at l : Position) (i : Words)
       → Gives (sizeof_parenthesis_from names deeper levels at l i) (FoundExpression names (suc levels) 15 (keyword k.Sizeof at ∷ punctuator p.LeftParenthesis l ∷ i))
   unfolding sizeof_parenthesis_from
   sizeof_parenthesis_gives at l i = gives_if
@@ -100,20 +100,20 @@ module _ (names : List (List ℕ)) (levels : ℕ) (deeper : Readers) (known : So
       (λ _. gives_bind (opened_part names levels deeper known (Some l) 15 i (omega arith)) λ e i f.
       gives_ok (t.sizeof_expression at e) i (record { formed = (f.binding, f.formed); low = omega (arith, f.low); binding = omega arith; same = ap (λ i. keyword k.Sizeof at ∷ i) f.same }))
 
-  sizeof_gives : (at : Place) (i : Words) → Gives (sizeof_from names deeper levels at i) (FoundExpression names (suc levels) 15 (keyword k.Sizeof at ∷ i))
+  sizeof_gives : (at : Position) (i : Words) → Gives (sizeof_from names deeper levels at i) (FoundExpression names (suc levels) 15 (keyword k.Sizeof at ∷ i))
   unfolding sizeof_from
   sizeof_gives at [] = gives_err []
   sizeof_gives at (first ∷ i) = gives_if
-      (λ c. gives_map (sizeof_parenthesis_gives at first.place i) λ e r f. record {
+      (λ c. gives_map (sizeof_parenthesis_gives at first.position i) λ e r f. record {
         formed = f.formed;
         low = f.low;
         binding = f.binding;
-        same = ap (λ i. keyword k.Sizeof at ∷ i) (same_placed p.LeftParenthesis first.word first.place i c) ∙ f.same;
+        same = ap (λ i. keyword k.Sizeof at ∷ i) (same_positioned p.LeftParenthesis first.kind first.position i c) ∙ f.same;
       })
       (λ _. gives_bind (part 15 (first ∷ i) (omega arith)) λ e i f.
       gives_ok (t.sizeof_expression at e) i (record { formed = (f.binding, f.formed); low = omega (arith, f.low); binding = omega arith; same = ap (λ i. keyword k.Sizeof at ∷ i) f.same }))
 
-  operand_by_punctuator_gives : (m : ℕ) (x : Punctuator) (at : Place) (i : Words) → m < 16
+  operand_by_punctuator_gives : (m : ℕ) (x : Punctuator) (at : Position) (i : Words) → m < 16
       → Gives (operand_by_punctuator names deeper levels m x at i) (FoundExpression names (suc levels) m (punctuator x at ∷ i))
   unfolding operand_by_punctuator
   operand_by_punctuator_gives m x at i low = gives_if
@@ -133,21 +133,21 @@ module _ (names : List (List ℕ)) (levels : ℕ) (deeper : Readers) (known : So
       })
       (λ _. gives_err (punctuator x at ∷ i)))
 
-  operand_by_gives : (m : ℕ) (w : Word) (at : Place) (i : Words) → m < 16 → Gives (operand_by names deeper levels m w at i) (FoundExpression names (suc levels) m (word_at w at ∷ i))
-  operand_by_gives m (word.Identifier s) at i low = gives_bind (ordinary_by_gives names (word.Identifier s) at i) λ x r f.
+  operand_by_gives : (m : ℕ) (w : TokenKind) (at : Position) (i : Words) → m < 16 → Gives (operand_by names deeper levels m w at i) (FoundExpression names (suc levels) m (word_at w at ∷ i))
+  operand_by_gives m (kinds.Identifier s) at i low = gives_bind (ordinary_by_gives names (kinds.Identifier s) at i) λ x r f.
       gives_ok (t.identifier x) r (record { formed = f.0; low = omega arith; binding = omega arith; same = f.1 })
-  operand_by_gives m (word.Integer s) at i low = gives_ok (t.integer (record { spelling = s; place = at })) i (record { formed = tt; low = omega arith; binding = omega arith; same = refl })
-  operand_by_gives m (word.Character s) at i low = gives_ok (t.character (record { spelling = s; place = at })) i (record { formed = tt; low = omega arith; binding = omega arith; same = refl })
-  operand_by_gives m (word.StringLiteral s) at i low = gives_bind (strings_gives i) λ z r f.
-      gives_ok (t.strings (record { spelling = s; place = at }) z) r (record { formed = tt; low = omega arith; binding = omega arith; same = ap (λ i. word_at (word.StringLiteral s) at ∷ i) f })
-  operand_by_gives m (word.Punctuator x) at i low = operand_by_punctuator_gives m x at i low
-  operand_by_gives m (word.Keyword k.Sizeof) at i low = gives_if (λ _. gives_map (sizeof_gives at i) λ e r f. weaker (omega arith) f) (λ _. gives_err (keyword k.Sizeof at ∷ i))
+  operand_by_gives m (kinds.Integer s) at i low = gives_ok (t.integer (record { spelling = s; position = at })) i (record { formed = tt; low = omega arith; binding = omega arith; same = refl })
+  operand_by_gives m (kinds.Character s) at i low = gives_ok (t.character (record { spelling = s; position = at })) i (record { formed = tt; low = omega arith; binding = omega arith; same = refl })
+  operand_by_gives m (kinds.StringLiteral s) at i low = gives_bind (strings_gives i) λ z r f.
+      gives_ok (t.strings (record { spelling = s; position = at }) z) r (record { formed = tt; low = omega arith; binding = omega arith; same = ap (λ i. word_at (kinds.StringLiteral s) at ∷ i) f })
+  operand_by_gives m (kinds.Punctuator x) at i low = operand_by_punctuator_gives m x at i low
+  operand_by_gives m (kinds.Keyword k.Sizeof) at i low = gives_if (λ _. gives_map (sizeof_gives at i) λ e r f. weaker (omega arith) f) (λ _. gives_err (keyword k.Sizeof at ∷ i))
   operand_by_gives m w at i low = gives_err (word_at w at ∷ i)
 
   operand_gives : (m : ℕ) (i : Words) → m < 16 → Gives (operand_from names deeper levels m i) (FoundExpression names (suc levels) m i)
   unfolding operand_from
   operand_gives m [] low = gives_err []
-  operand_gives m (first ∷ i) low = operand_by_gives m first.word first.place i low
+  operand_gives m (first ∷ i) low = operand_by_gives m first.kind first.position i low
 
   -- ---- operations
 
@@ -157,7 +157,7 @@ module _ (names : List (List ℕ)) (levels : ℕ) (deeper : Readers) (known : So
     low : arguments_levels a < levels
     same : i ≡ arguments_words a r
 
-  more_arguments_found : 0 < levels → (i : Words) (z : List (Place × Expression)) (r : Words) → FoundEach (BehindComma (FoundExpression names levels 2)) i z r
+  more_arguments_found : 0 < levels → (i : Words) (z : List (Position × Expression)) (r : Words) → FoundEach (BehindComma (FoundExpression names levels 2)) i z r
       → AreMoreArguments names (more_arguments_of z) × (more_arguments_levels (more_arguments_of z) < levels) × (i ≡ more_arguments_words (more_arguments_of z) r)
   more_arguments_found some i [] r f = (tt, some, f)
   more_arguments_found some i (x ∷ z) r f =
@@ -175,7 +175,7 @@ module _ (names : List (List ℕ)) (levels : ℕ) (deeper : Readers) (known : So
       gives_ok (t.arguments e (more_arguments_of z)) r (record { formed = (f.binding, f.formed, m.0); low = omega (arith, f.low, m.1); same = f.same ∙ ap (λ i. expression_words e i) m.2 }))
 
   -- an operation on an expression that stands before its punctuator
-  operation_gives : (i : Words) (l : Expression) (x : Punctuator) (at : Place) (o : Option Operation) (j : Words) → IsOperation x o
+  operation_gives : (i : Words) (l : Expression) (x : Punctuator) (at : Position) (o : Option Operation) (j : Words) → IsOperation x o
       → FoundExpression names levels (operation_needs x o) i l (punctuator x at ∷ j)
       → Gives (operation_from names deeper levels l x at o j) (FoundExpression names (suc levels) (operation_binds x o) i)
   unfolding operation_from
@@ -220,9 +220,9 @@ module _ (names : List (List ℕ)) (levels : ℕ) (deeper : Readers) (known : So
   operation_gives i l x at (Some op.Postfix) j is first =
       gives_ok (t.postfix l x at) j (record { formed = (is, first.binding, first.formed); low = omega (arith, first.low); binding = omega arith; same = first.same })
 
-  operation_by_gives : (i : Words) (l : Expression) (w : Word) (at : Place) (j : Words) → FoundExpression names levels (needs w) i l (word_at w at ∷ j)
+  operation_by_gives : (i : Words) (l : Expression) (w : TokenKind) (at : Position) (j : Words) → FoundExpression names levels (needs w) i l (word_at w at ∷ j)
       → Gives (operation_by names deeper levels l w at j) (FoundExpression names (suc levels) (binds w) i)
-  operation_by_gives i l (word.Punctuator x) at j first = operation_gives i l x at (operation x) j (operation_is x) first
+  operation_by_gives i l (kinds.Punctuator x) at j first = operation_gives i l x at (operation x) j (operation_is x) first
   operation_by_gives i l w at j first = gives_err j
 
   operations_gives : (n m : ℕ) (i : Words) (l : Expression) (j : Words) → FoundExpression names (suc levels) m i l j
@@ -230,25 +230,25 @@ module _ (names : List (List ℕ)) (levels : ℕ) (deeper : Readers) (known : So
   unfolding operations_from
   operations_gives zero m i l j first = gives_ok l j first
   operations_gives (suc n) m i l [] first = gives_ok l [] first
-  operations_gives (suc n) m i l (next ∷ j) first = gives_if {b = goes_on names deeper levels m l next.word}
+  operations_gives (suc n) m i l (next ∷ j) first = gives_if {b = goes_on names deeper levels m l next.kind}
       (λ c.
-      let tests = and_parts (nat_le m (binds next.word)) _ c in
-      let others = and_parts (nat_le (needs next.word) (precedence l)) (nat_lt (expression_levels l) levels) tests.1 in
-      let operand : FoundExpression names levels (needs next.word) i l (next ∷ j) = record {
+      let tests = and_parts (nat_le m (binds next.kind)) _ c in
+      let others = and_parts (nat_le (needs next.kind) (precedence l)) (nat_lt (expression_levels l) levels) tests.1 in
+      let operand : FoundExpression names levels (needs next.kind) i l (next ∷ j) = record {
         formed = first.formed;
         low = ltb-true (expression_levels l) levels others.1;
-        binding = leb-true (needs next.word) (precedence l) others.0;
+        binding = leb-true (needs next.kind) (precedence l) others.0;
         same = first.same;
       } in
-      gives_bind (operation_by_gives i l next.word next.place j operand) λ e r f. operations_gives n m i e r (weaker (leb-true m (binds next.word) tests.0) f))
+      gives_bind (operation_by_gives i l next.kind next.position j operand) λ e r f. operations_gives n m i e r (weaker (leb-true m (binds next.kind) tests.0) f))
       (λ _. gives_ok l (next ∷ j) first)
 
-  first_operand_gives : (opened : Option Place) (m : ℕ) (i : Words) → m < 16
+  first_operand_gives : (opened : Option Position) (m : ℕ) (i : Words) → m < 16
       → Gives (first_operand names deeper levels opened m i) (FoundExpression names (suc levels) m (with_opened opened i))
   first_operand_gives None m i low = operand_gives m i low
   first_operand_gives (Some l) m i low = gives_if (λ _. gives_map (parenthesized_gives l i) λ e r f. weaker (omega arith) f) (λ _. gives_err i)
 
-  pub expression_gives : (opened : Option Place) (m : ℕ) (i : Words) → m < 16
+  pub expression_gives : (opened : Option Position) (m : ℕ) (i : Words) → m < 16
       → Gives (expression_at names deeper levels opened m i) (FoundExpression names (suc levels) m (with_opened opened i))
   unfolding expression_at
   expression_gives opened m i low = gives_bind (first_operand_gives opened m i low) λ l j f. operations_gives levels m (with_opened opened i) l j f

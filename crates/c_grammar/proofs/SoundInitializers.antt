@@ -2,8 +2,8 @@
 use Rattle.std.proofs.Common.{◌≡◌, ℕ, zero, suc, ◌<◌, nat_le, Bool, true, false, List, [], ◌∷◌, length, Option, Some, None, refl, ap, ◌∙◌, arith}
 use Rattle.std.proofs.lemmas.Bool.{leb-true, and_parts, both_ways, false≢true}
 use Rattle.c_lexer.specs.declared.punctuator.Punctuator.TheVariants as p
-use Rattle.c_lexer.specs.declared.token.Word.{Word}
-use Rattle.c_syntax.specs.declared.place.Place.{Place}
+use Rattle.c_lexer.specs.declared.token.TokenKind.{TokenKind}
+use Rattle.c_syntax.specs.declared.position.Position.{Position}
 use Rattle.c_syntax.specs.Tree.{Initializer, InitializerItem, Designator, Designation}
 use Rattle.c_syntax.specs.Tree as t
 use Rattle.c_syntax.specs.StatementsView.{more_items_of}
@@ -26,7 +26,7 @@ pub record FoundInitializer (names : List (List ℕ)) (n : ℕ) (i : Words) (v :
   pub same : i ≡ initializer_words v r
 
 -- where there is a next word, there are words
-some_words : (is : Word → Bool) (i : Words) → next_is is i ≡ true → 0 < length i
+some_words : (is : TokenKind → Bool) (i : Words) → next_is is i ≡ true → 0 < length i
 some_words is [] h = absurd (false≢true h)
 some_words is (first ∷ i) h = omega arith
 
@@ -95,7 +95,7 @@ module _ (names : List (List ℕ)) (levels : ℕ) (some : 0 < levels) (deeper : 
     low : item_levels x < levels
     same : i ≡ item_words x r
 
-  more_items_found : (i : Words) (z : List (Place × InitializerItem)) (r : Words) → FoundEach (BehindComma FoundItem) i z r
+  more_items_found : (i : Words) (z : List (Position × InitializerItem)) (r : Words) → FoundEach (BehindComma FoundItem) i z r
       → AreMoreItems names (more_items_of z) × (more_items_levels (more_items_of z) < levels) × (i ≡ more_items_words (more_items_of z) r)
   more_items_found i [] r f = (tt, some, f)
   more_items_found i (x ∷ z) r f =

@@ -4,10 +4,10 @@ use Rattle.std.proofs.lemmas.Bool.{leb-true, and_parts, both_ways, or_from}
 use Rattle.c_lexer.specs.declared.keyword.Keyword.{Keyword}
 use Rattle.c_lexer.specs.declared.keyword.Keyword.TheVariants as k
 use Rattle.c_lexer.specs.declared.punctuator.Punctuator.TheVariants as p
-use Rattle.c_lexer.specs.declared.token.Word.{Word}
-use Rattle.c_lexer.specs.declared.token.Word.TheVariants as word
-use Rattle.c_syntax.specs.declared.place.Place.{Place}
-use Rattle.c_syntax.specs.declared.place.Spelled.{Spelled}
+use Rattle.c_lexer.specs.declared.token.TokenKind.{TokenKind}
+use Rattle.c_lexer.specs.declared.token.TokenKind.TheVariants as kinds
+use Rattle.c_syntax.specs.declared.position.Position.{Position}
+use Rattle.c_syntax.specs.declared.position.Spelled.{Spelled}
 use Rattle.c_syntax.specs.declared.specifiers.TypeWords.{TypeWords}
 use Rattle.c_syntax.specs.Tree.{Declarator, Specifiers, Specifier, Members, Member, Enumerator}
 use Rattle.c_syntax.specs.Tree as t
@@ -31,7 +31,7 @@ module _ (names : List (List ℕ)) (levels : ℕ) (deeper : Readers) (known : So
     low : member_levels x < levels
     same : i ≡ member_words x r
 
-  more_declarators_found : 0 < levels → (i : Words) (z : List (Place × Declarator)) (r : Words) → FoundEach (BehindComma (FoundDeclarator names levels kind.Named)) i z r
+  more_declarators_found : 0 < levels → (i : Words) (z : List (Position × Declarator)) (r : Words) → FoundEach (BehindComma (FoundDeclarator names levels kind.Named)) i z r
       → AreMoreDeclarators names (more_declarators_of z) × (more_declarators_levels (more_declarators_of z) < levels) × (i ≡ more_declarators_words (more_declarators_of z) r)
   more_declarators_found some i [] r f = (tt, some, f)
   more_declarators_found some i (x ∷ z) r f =
@@ -86,7 +86,7 @@ module _ (names : List (List ℕ)) (levels : ℕ) (deeper : Readers) (known : So
       gives_ok (t.valued x at e) i (record { formed = (f.0, h.binding, h.formed); low = h.low; same = rw (f.1, g, h.same) refl }))
       (λ _. gives_ok (t.plain x) i (record { formed = f.0; low = some; same = f.1 }))
 
-  more_enumerators_found : 0 < levels → (i : Words) (z : List (Place × Enumerator)) (r : Words) → FoundEach (BehindComma FoundEnumerator) i z r
+  more_enumerators_found : 0 < levels → (i : Words) (z : List (Position × Enumerator)) (r : Words) → FoundEach (BehindComma FoundEnumerator) i z r
       → AreMoreEnumerators names (more_enumerators_of z) × (more_enumerators_levels (more_enumerators_of z) < levels) × (i ≡ more_enumerators_words (more_enumerators_of z) r)
   more_enumerators_found some i [] r f = (tt, some, f)
   more_enumerators_found some i (x ∷ z) r f =
@@ -111,7 +111,7 @@ module _ (names : List (List ℕ)) (levels : ℕ) (deeper : Readers) (known : So
   structure_adds : (x : Keyword) (w : TypeWords) → is_structure_keyword x ≡ true → is_some (with_other w) ≡ true → is_some (if is_structure_keyword x then with_other w else None) ≡ true
   structure_adds x w h adds = rw h adds
 
-  structure_body_gives : (allowed : Bool) (w : TypeWords) (x : Keyword) (at : Place) (tag : Option Spelled) (i : Words) → is_structure_keyword x ≡ true → is_some (with_other w) ≡ true
+  structure_body_gives : (allowed : Bool) (w : TypeWords) (x : Keyword) (at : Position) (tag : Option Spelled) (i : Words) → is_structure_keyword x ≡ true → is_some (with_other w) ≡ true
       → Gives (structure_body_from names deeper levels x at tag i) (FoundSpecifier allowed w (keyword x at ∷ tag_words tag i))
   unfolding structure_body_from with_specifier
   structure_body_gives allowed w x at tag i h adds = gives_bind (expect_gives p.LeftBrace i) λ l i f. gives_bind (members_gives i) λ m i g. gives_bind (expect_gives p.RightBrace i) λ r i e.
@@ -123,7 +123,7 @@ module _ (names : List (List ℕ)) (levels : ℕ) (deeper : Readers) (known : So
         same = rw (f, g.same, e) refl;
       })
 
-  structure_gives : (allowed : Bool) (w : TypeWords) (x : Keyword) (at : Place) (i : Words) → is_structure_keyword x ≡ true → is_some (with_other w) ≡ true
+  structure_gives : (allowed : Bool) (w : TypeWords) (x : Keyword) (at : Position) (i : Words) → is_structure_keyword x ≡ true → is_some (with_other w) ≡ true
       → Gives (structure_from names deeper levels x at i) (FoundSpecifier allowed w (keyword x at ∷ i))
   unfolding structure_from with_specifier
   structure_gives allowed w x at i h adds = gives_if {b = begins_body names deeper levels i}
@@ -132,7 +132,7 @@ module _ (names : List (List ℕ)) (levels : ℕ) (deeper : Readers) (known : So
       (λ _. gives_map (structure_body_gives allowed w x at (Some tag) j h adds) λ y r g. moved (ap (λ i. keyword x at ∷ i) f) g)
       (λ _. gives_ok (t.structure x at tag) j (record { formed = tt; no_typedef = λ _. refl; adds = structure_adds x w h adds; low = omega arith; same = ap (λ i. keyword x at ∷ i) f })))
 
-  enumeration_body_gives : (allowed : Bool) (w : TypeWords) (at : Place) (tag : Option Spelled) (i : Words) → 0 < levels → is_some (with_other w) ≡ true
+  enumeration_body_gives : (allowed : Bool) (w : TypeWords) (at : Position) (tag : Option Spelled) (i : Words) → 0 < levels → is_some (with_other w) ≡ true
       → Gives (enumeration_body_from names deeper levels at tag i) (FoundSpecifier allowed w (keyword k.Enum at ∷ tag_words tag i))
   unfolding enumeration_body_from with_specifier
   enumeration_body_gives allowed w at tag i some adds = gives_bind (expect_gives p.LeftBrace i) λ l i f. gives_bind (enumerator_gives some i) λ e j g.
@@ -147,7 +147,7 @@ module _ (names : List (List ℕ)) (levels : ℕ) (deeper : Readers) (known : So
         same = rw (f, g.same, found.2, others.2, last) refl;
       })
 
-  enumeration_gives : (allowed : Bool) (w : TypeWords) (at : Place) (i : Words) → is_some (with_other w) ≡ true
+  enumeration_gives : (allowed : Bool) (w : TypeWords) (at : Position) (i : Words) → is_some (with_other w) ≡ true
       → Gives (enumeration_from names deeper levels at i) (FoundSpecifier allowed w (keyword k.Enum at ∷ i))
   unfolding enumeration_from with_specifier
   enumeration_gives allowed w at i adds = gives_if
@@ -159,7 +159,7 @@ module _ (names : List (List ℕ)) (levels : ℕ) (deeper : Readers) (known : So
       some_level : (i : Words) → begins_body names deeper levels i ≡ true → 0 < levels
       some_level i c = leb-true 1 levels (and_parts (nat_le 1 levels) _ c).0
 
-  by_keyword_gives : (allowed : Bool) (w : TypeWords) (x : Keyword) (at : Place) (i : Words) → goes_on_with_keyword allowed w x ≡ true
+  by_keyword_gives : (allowed : Bool) (w : TypeWords) (x : Keyword) (at : Position) (i : Words) → goes_on_with_keyword allowed w x ≡ true
       → Gives (specifier_by_keyword names deeper levels x at i) (FoundSpecifier allowed w (keyword x at ∷ i))
   unfolding with_specifier with_keyword
   by_keyword_gives allowed w k.Struct at i h = structure_gives allowed w k.Struct at i refl h
@@ -169,13 +169,13 @@ module _ (names : List (List ℕ)) (levels : ℕ) (deeper : Readers) (known : So
       gives_ok (t.keyword k.Typedef at) i (record { formed = tt; no_typedef = λ e. absurd (both_ways allowed e h); adds = refl; low = omega arith; same = refl })
   by_keyword_gives allowed w x at i h = gives_ok (t.keyword x at) i (record { formed = tt; no_typedef = λ _. refl; adds = h; low = omega arith; same = refl })
 
-  specifier_gives : (allowed : Bool) (w : TypeWords) (first : Word) (at : Place) (i : Words) → goes_on_with names deeper levels allowed w first ≡ true
+  specifier_gives : (allowed : Bool) (w : TypeWords) (first : TokenKind) (at : Position) (i : Words) → goes_on_with names deeper levels allowed w first ≡ true
       → Gives (specifier_by names deeper levels first at i) (FoundSpecifier allowed w (word_at first at ∷ i))
   unfolding with_specifier
-  specifier_gives allowed w (word.Keyword x) at i h = by_keyword_gives allowed w x at i h
-  specifier_gives allowed w (word.Identifier s) at i h =
+  specifier_gives allowed w (kinds.Keyword x) at i h = by_keyword_gives allowed w x at i h
+  specifier_gives allowed w (kinds.Identifier s) at i h =
       let tests = and_parts (is_among s names) (is_some (with_other w)) h in
-      gives_ok (t.typedef_name (record { spelling = s; place = at })) i (record { formed = tests.0; no_typedef = λ _. refl; adds = tests.1; low = omega arith; same = refl })
+      gives_ok (t.typedef_name (record { spelling = s; position = at })) i (record { formed = tests.0; no_typedef = λ _. refl; adds = tests.1; low = omega arith; same = refl })
   specifier_gives allowed w first at i h = gives_err (word_at first at ∷ i)
 
   -- ---- specifiers
@@ -200,7 +200,7 @@ module _ (names : List (List ℕ)) (levels : ℕ) (deeper : Readers) (known : So
   behind_gives allowed zero w i = ended_gives allowed w i
   behind_gives allowed (suc n) w [] = ended_gives allowed w []
   behind_gives allowed (suc n) w (first ∷ i) = gives_if
-      (λ c. gives_bind (specifier_gives allowed w first.word first.place i c) λ x i f. gives_bind (behind_gives allowed n (words_with x w) i) λ z r g.
+      (λ c. gives_bind (specifier_gives allowed w first.kind first.position i c) λ x i f. gives_bind (behind_gives allowed n (words_with x w) i) λ z r g.
       gives_ok (t.specifiers x z) r (record {
         one_type = ap (λ o. names_type o z) (there w (with_specifier x w) f.adds) ∙ g.one_type;
         each = (f.formed, g.each);

@@ -1,6 +1,6 @@
 -- What the readers of fewer levels give, and with them a type name or a parameter.
 use Rattle.std.proofs.Common.{◌≡◌, ℕ, ◌<◌, Bool, false, List, Option, None, refl, arith}
-use Rattle.c_syntax.specs.declared.place.Place.{Place}
+use Rattle.c_syntax.specs.declared.position.Position.{Position}
 use Rattle.c_syntax.specs.Tree.{TypedDeclarator}
 use Rattle.c_syntax.specs.Tree as t
 use Rattle.c_syntax.specs.Levels.{typed_levels}
@@ -19,7 +19,7 @@ pub record FoundTyped (names : List (List ℕ)) (n : ℕ) (d : DeclaratorKind) (
   pub same : i ≡ typed_words x r
 
 module _ (names : List (List ℕ)) (n : ℕ) (deeper : Readers) (known : SoundReaders names n deeper) where
-  pub opened_part : (opened : Option Place) (m : ℕ) (i : Words) → m < 16 → Gives (deeper.expression opened m i) (FoundExpression names n m (with_opened opened i))
+  pub opened_part : (opened : Option Position) (m : ℕ) (i : Words) → m < 16 → Gives (deeper.expression opened m i) (FoundExpression names n m (with_opened opened i))
   opened_part opened m i low = record { given = λ e r h. known.expressions opened m i e r low h }
 
   pub expression_part : (m : ℕ) (i : Words) → m < 16 → Gives (deeper.expression None m i) (FoundExpression names n m i)

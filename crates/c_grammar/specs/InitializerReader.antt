@@ -1,7 +1,7 @@
 -- Reading initializers (C99 6.7.8).
 use Rattle.std.specs.Prelude.{ℕ, zero, suc, nat_le, Bool, ◌&&◌, ◌||◌, if◌then◌else◌, List, [], ◌∷◌, Ok, Err, Option, Some, None, length}
 use Rattle.c_lexer.specs.declared.punctuator.Punctuator.TheVariants as p
-use Rattle.c_lexer.specs.declared.token.Word.{Word}
+use Rattle.c_lexer.specs.declared.token.TokenKind.{TokenKind}
 use Rattle.c_syntax.specs.Tree.{Initializer, InitializerItem, Designator, Designation}
 use Rattle.c_syntax.specs.Tree as t
 use Rattle.c_syntax.specs.StatementsView.{more_items_of}
@@ -11,7 +11,7 @@ use Rattle.c_grammar.specs.Readers.{Readers}
 use Rattle.c_grammar.specs.Nested.{readers}
 
 -- `[` or `.`
-abbrev pub begins_designator : Word → Bool
+abbrev pub begins_designator : TokenKind → Bool
 begins_designator w = is_punctuator p.LeftBracket w || is_punctuator p.Dot w
 
 module _ (deeper : Readers) where

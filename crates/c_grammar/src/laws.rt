@@ -6,7 +6,7 @@ ghost use Rattle.c_syntax.specs.Words.{Words, unit_words};
 ghost use Rattle.c_syntax.specs.Formed.{IsWellFormed};
 ghost use Rattle.c_grammar.specs.UnitReader.{unit_from};
 
-/// Two well-formed files with equal words are equal, the places of their tokens included.
+/// Two well-formed files with equal words are equal, the positions of their tokens included.
 #[tactic(auto, using(crate::proofs::Unique::one_tree))]
 pub fn words_have_one_tree()
     ensures { (a b : Unit) → IsWellFormed a → IsWellFormed b → unit_words a ≡ unit_words b → a ≡ b }

@@ -1,7 +1,7 @@
 -- What makes a word the longest one at the front of a text.
 use Rattle.std.proofs.Common.{◌≡◌, ℕ, zero, suc, ◌<◌, ◌≤◌, Bool, true, false, ◌⊎◌, ⊎_elim, List, take, Some, None, refl, sym, ap, ◌∙◌, arith}
 use Rattle.std.proofs.lemmas.Bool.{cases_Bool}
-use Rattle.c_lexer.specs.declared.token.Word.{Word}
+use Rattle.c_lexer.specs.declared.token.TokenKind.{TokenKind}
 use Rattle.c_lexer.specs.Longest.{longest_to}
 use Rattle.c_lexer.specs.Words.{word_of}
 
@@ -16,7 +16,7 @@ pub longest_none : (n : ℕ) (z : List ℕ) → ((m : ℕ) → 1 ≤ m → m ≤
 longest_none zero z none = refl
 longest_none (suc n) z none = rw (none (suc n) (omega arith) (omega arith)) (longest_none n z (λ m a b. none m a (omega arith)))
 
-pub longest_at : (n k : ℕ) (z : List ℕ) (w : Word) → 1 ≤ k → k ≤ n → word_of (take k z) ≡ Some w
+pub longest_at : (n k : ℕ) (z : List ℕ) (w : TokenKind) → 1 ≤ k → k ≤ n → word_of (take k z) ≡ Some w
     → ((m : ℕ) → k < m → m ≤ n → word_of (take m z) ≡ None) → longest_to n z ≡ Some (w, k)
 longest_at zero k z w some room at beyond = absurd (omega arith)
 longest_at (suc n) k z w some room at beyond =

@@ -5,8 +5,8 @@ use Rattle.std.specs.List.{prefix_len, list_all}
 use Rattle.std.proofs.lemmas.Bool.{false≢true, false_from_ne_true, leb-true, lt-leb, eqb-true, ne_eqb, and_parts, and_left, and_right, or_cases}
 use Rattle.c_lexer.specs.declared.punctuator.Punctuator.{Punctuator}
 use Rattle.c_lexer.specs.declared.punctuator.TheConstants.{PUNCTUATORS}
-use Rattle.c_lexer.specs.declared.token.Word.{Word}
-use Rattle.c_lexer.specs.declared.token.Word.TheVariants as word
+use Rattle.c_lexer.specs.declared.token.TokenKind.{TokenKind}
+use Rattle.c_lexer.specs.declared.token.TokenKind.TheVariants as kinds
 use Rattle.c_lexer.specs.Characters.{is_between, is_digit, is_nondigit, continues_identifier}
 use Rattle.c_lexer.specs.Literals.{character_value, bytes_of_literal, characters_of}
 use Rattle.c_lexer.specs.Longest.{longest, longest_to, or_shorter, is_valid, valid, begins_comment, front_token}
@@ -80,7 +80,7 @@ unfolding bytes_of_literal characters_of
 no_string b y h = rw h
 
 word_of_nondigit : (b : ℕ) (y : List ℕ) → is_nondigit b ≡ true
-    → word_of (b ∷ y) ≡ cond (list_all continues_identifier y) (Some (named (b ∷ y) (keyword_of (b ∷ y)))) (cond (b == 76 && is_literal y) (Some (word.Wide (b ∷ y))) None)
+    → word_of (b ∷ y) ≡ cond (list_all continues_identifier y) (Some (named (b ∷ y) (keyword_of (b ∷ y)))) (cond (b == 76 && is_literal y) (Some (kinds.Wide (b ∷ y))) None)
 unfolding word_of
 word_of_nondigit b y h =
     rw (
@@ -104,21 +104,21 @@ number_apart b y h =
     second (c ∷ y) e = and_left (is_apart c) (list_all is_apart y) (digit_apart c e)
 
 word_of_number : (b : ℕ) (y : List ℕ) → is_nondigit b ≡ false → begins_number b y ≡ true
-    → word_of (b ∷ y) ≡ cond (all_continue_number b y) (Some (word.Integer (b ∷ y))) None
+    → word_of (b ∷ y) ≡ cond (all_continue_number b y) (Some (kinds.Integer (b ∷ y))) None
 unfolding word_of
 word_of_number b y h n =
     let p = begins_between b y n in
     rw (h, n, no_character b y (ne_eqb b 39 (λ e. omega arith)), no_string b y (ne_eqb b 34 (λ e. omega arith)), not_nondigit b 76 h refl, no_punctuator (b ∷ y) (number_apart b y n))
 
-word_of_double_quote : (y : List ℕ) → word_of (34 ∷ y) ≡ cond (is_literal (34 ∷ y)) (Some (word.StringLiteral (34 ∷ y))) None
+word_of_double_quote : (y : List ℕ) → word_of (34 ∷ y) ≡ cond (is_literal (34 ∷ y)) (Some (kinds.StringLiteral (34 ∷ y))) None
 unfolding word_of
 word_of_double_quote y = rw (no_character 34 y refl, no_punctuator (34 ∷ y) refl)
 
-word_of_quote : (y : List ℕ) → word_of (39 ∷ y) ≡ cond (is_literal (39 ∷ y)) (Some (word.Character (39 ∷ y))) None
+word_of_quote : (y : List ℕ) → word_of (39 ∷ y) ≡ cond (is_literal (39 ∷ y)) (Some (kinds.Character (39 ∷ y))) None
 unfolding word_of
 word_of_quote y = rw (no_string 39 y refl, no_punctuator (39 ∷ y) refl) (by (is_character (39 ∷ y)))
   where
-    by : (v : Bool) → cond v (Some (word.Character (39 ∷ y))) None ≡ cond (v || false) (Some (word.Character (39 ∷ y))) None
+    by : (v : Bool) → cond v (Some (kinds.Character (39 ∷ y))) None ≡ cond (v || false) (Some (kinds.Character (39 ∷ y))) None
     by true = refl
     by false = refl
 
@@ -157,12 +157,12 @@ quote_front (suc n) (c ∷ z) l =
 not_literal : (z : List ℕ) (m : ℕ) → m ≤ length z → (literal_length z ≡ Some m → ⊥) → is_literal (take m z) ≡ false
 not_literal z m r none = false_from_ne_true (is_literal (take m z)) (λ e. none (literal_only z m r e))
 
-wide_longest : (z : List ℕ) (n : ℕ) → literal_length z ≡ Some n → longest (76 ∷ z) ≡ Some (word.Wide (76 ∷ take n z), suc n)
+wide_longest : (z : List ℕ) (n : ℕ) → literal_length z ≡ Some n → longest (76 ∷ z) ≡ Some (kinds.Wide (76 ∷ take n z), suc n)
 unfolding longest
 wide_longest z n h =
-    let at : word_of (76 ∷ take n z) ≡ Some (word.Wide (76 ∷ take n z)) =
+    let at : word_of (76 ∷ take n z) ≡ Some (kinds.Wide (76 ∷ take n z)) =
     word_of_nondigit 76 (take n z) refl ∙ rw (other n (literal_at z n h).some (literal_at z n h).room, (literal_at z n h).is) in
-    longest_at (suc (length z)) (suc n) (76 ∷ z) (word.Wide (76 ∷ take n z)) (omega arith) (omega (arith, (literal_at z n h).room)) at beyond
+    longest_at (suc (length z)) (suc n) (76 ∷ z) (kinds.Wide (76 ∷ take n z)) (omega arith) (omega (arith, (literal_at z n h).room)) at beyond
   where
     other : (m : ℕ) → 1 ≤ m → m ≤ length z → list_all continues_identifier (take m z) ≡ false
     other m a r = run_beyond continues_identifier z m (let e = quote_front n z (literal_at z n h) in omega arith) r
@@ -202,8 +202,8 @@ number_longest : (b : ℕ) (z : List ℕ) → is_nondigit b ≡ false → begins
 unfolding longest scan_number
 number_longest b z h n =
     let k = number_length b z in
-    let at : word_of (b ∷ take k z) ≡ Some (word.Integer (b ∷ take k z)) = word_of_number b (take k z) h (begins_taken b z k n (omega arith)) ∙ rw (number_within b z k (omega arith)) in
-    longest_at (suc (length z)) (suc k) (b ∷ z) (word.Integer (b ∷ take k z)) (omega arith) (omega (arith, number_fits b z)) at beyond
+    let at : word_of (b ∷ take k z) ≡ Some (kinds.Integer (b ∷ take k z)) = word_of_number b (take k z) h (begins_taken b z k n (omega arith)) ∙ rw (number_within b z k (omega arith)) in
+    longest_at (suc (length z)) (suc k) (b ∷ z) (kinds.Integer (b ∷ take k z)) (omega arith) (omega (arith, number_fits b z)) at beyond
   where
     beyond : (m : ℕ) → suc (number_length b z) < m → m ≤ suc (length z) → word_of (take m (b ∷ z)) ≡ None
     beyond zero a r = absurd (omega arith)
@@ -211,7 +211,7 @@ number_longest b z h n =
 
 -- ---- literals
 
-literal_longest : (make : List ℕ → Word) (b : ℕ) (z : List ℕ) (o : Option ℕ) → ((y : List ℕ) → word_of (b ∷ y) ≡ cond (is_literal (b ∷ y)) (Some (make (b ∷ y))) None)
+literal_longest : (make : List ℕ → TokenKind) (b : ℕ) (z : List ℕ) (o : Option ℕ) → ((y : List ℕ) → word_of (b ∷ y) ≡ cond (is_literal (b ∷ y)) (Some (make (b ∷ y))) None)
     → literal_length (b ∷ z) ≡ o → longest (b ∷ z) ≡ cut make (b ∷ z) o
 unfolding longest
 literal_longest make b z None of e = longest_none (suc (length z)) (b ∷ z) dead
@@ -256,7 +256,7 @@ punctuator_longest b z o h n d s e = by o e
     by : (o : Option Punctuator) → found_in PUNCTUATORS (b ∷ z) ≡ o → longest_to (suc (length z)) (b ∷ z) ≡ punctuator_found o
     by None e = longest_none (suc (length z)) (b ∷ z) (λ m a r. word_at m None a (none_found PUNCTUATORS (b ∷ z) m r e))
     by (Some p) e =
-        longest_at (suc (length z)) (length (punctuator_spelling p)) (b ∷ z) (word.Punctuator p) (found_some (b ∷ z) p e) (found_front PUNCTUATORS (b ∷ z) p e).room
+        longest_at (suc (length z)) (length (punctuator_spelling p)) (b ∷ z) (kinds.Punctuator p) (found_some (b ∷ z) p e) (found_front PUNCTUATORS (b ∷ z) p e).room
         (word_at (length (punctuator_spelling p)) (Some p) (found_some (b ∷ z) p e) (found_at PUNCTUATORS (b ∷ z) p e))
         (λ m a r. word_at m None (omega arith) (none_beyond PUNCTUATORS (b ∷ z) p m table_falls e a r))
 
@@ -270,21 +270,21 @@ scan_longest (b ∷ z) =
     (λ n. rw (h, n) (number_longest b z h n))
     (λ n. split (b == 34)
     (λ d. let q : b ≡ 34 = eqb-true b 34 d in
-    rw (h, n, d) (literal_longest word.StringLiteral b z (literal_length (b ∷ z)) (subst (λ b. (y : List ℕ) → word_of (b ∷ y) ≡ cond (is_literal (b ∷ y)) (Some (word.StringLiteral (b ∷ y))) None) (sym q) word_of_double_quote) refl))
+    rw (h, n, d) (literal_longest kinds.StringLiteral b z (literal_length (b ∷ z)) (subst (λ b. (y : List ℕ) → word_of (b ∷ y) ≡ cond (is_literal (b ∷ y)) (Some (kinds.StringLiteral (b ∷ y))) None) (sym q) word_of_double_quote) refl))
     (λ d. split (b == 39)
     (λ s. let q : b ≡ 39 = eqb-true b 39 s in
-    rw (h, n, d, s) (literal_longest word.Character b z (literal_length (b ∷ z)) (subst (λ b. (y : List ℕ) → word_of (b ∷ y) ≡ cond (is_literal (b ∷ y)) (Some (word.Character (b ∷ y))) None) (sym q) word_of_quote) refl))
+    rw (h, n, d, s) (literal_longest kinds.Character b z (literal_length (b ∷ z)) (subst (λ b. (y : List ℕ) → word_of (b ∷ y) ≡ cond (is_literal (b ∷ y)) (Some (kinds.Character (b ∷ y))) None) (sym q) word_of_quote) refl))
     (λ s. rw (h, n, d, s) (unfold scan_punctuator in punctuator_longest b z (found_in PUNCTUATORS (b ∷ z)) h n d s refl)))))
 
-longest_within : (k : ℕ) (z : List ℕ) (w : Word) (n : ℕ) → longest_to k z ≡ Some (w, n) → (1 ≤ n) × (n ≤ k)
+longest_within : (k : ℕ) (z : List ℕ) (w : TokenKind) (n : ℕ) → longest_to k z ≡ Some (w, n) → (1 ≤ n) × (n ≤ k)
 longest_within zero z w n h = absurd cc
 longest_within (suc k) z w n h = by (word_of (take (suc k) z)) h (longest_within k z w n)
   where
-    by : (o : Option Word) → or_shorter (suc k) o (longest_to k z) ≡ Some (w, n) → (longest_to k z ≡ Some (w, n) → (1 ≤ n) × (n ≤ k)) → (1 ≤ n) × (n ≤ suc k)
+    by : (o : Option TokenKind) → or_shorter (suc k) o (longest_to k z) ≡ Some (w, n) → (longest_to k z ≡ Some (w, n) → (1 ≤ n) × (n ≤ k)) → (1 ≤ n) × (n ≤ suc k)
     by None h less = let g = less h in (g.0, omega (arith, g.1))
-    by (Some v) h less = let a : Word × ℕ = (v, suc k) in let b : Word × ℕ = (w, n) in let same : a ≡ b = cc in let e : suc k ≡ n = ap (λ t. t.1) same in (omega arith, omega arith)
+    by (Some v) h less = let a : TokenKind × ℕ = (v, suc k) in let b : TokenKind × ℕ = (w, n) in let same : a ≡ b = cc in let e : suc k ≡ n = ap (λ t. t.1) same in (omega arith, omega arith)
 
-valid_same : (o : Option (Word × ℕ)) (t : Word × ℕ) → valid o ≡ Some t → o ≡ Some t
+valid_same : (o : Option (TokenKind × ℕ)) (t : TokenKind × ℕ) → valid o ≡ Some t → o ≡ Some t
 valid_same None t h = absurd cc
 valid_same (Some s) t h =
     split (is_valid s.0)
@@ -292,13 +292,13 @@ valid_same (Some s) t h =
     (λ e. let g : None ≡ Some t = rw e at h in absurd cc)
 
 -- a token has some bytes of the text
-pub front_within : (z : List ℕ) (w : Word) (n : ℕ) → front_token z ≡ Some (w, n) → (1 ≤ n) × (n ≤ length z)
+pub front_within : (z : List ℕ) (w : TokenKind) (n : ℕ) → front_token z ≡ Some (w, n) → (1 ≤ n) × (n ≤ length z)
 unfolding front_token longest
 front_within z w n h =
     split (begins_comment z)
     (λ e. let g : None ≡ Some (w, n) = rw e at h in absurd cc)
     (λ e. longest_within (length z) z w n (valid_same (longest_to (length z) z) (w, n) (rw e at h)))
 
-pub front_fits : (z : List ℕ) (o : Option (Word × ℕ)) → o ≡ front_token z → IfSome o (λ t. (1 ≤ t.1) × (t.1 ≤ length z))
+pub front_fits : (z : List ℕ) (o : Option (TokenKind × ℕ)) → o ≡ front_token z → IfSome o (λ t. (1 ≤ t.1) × (t.1 ≤ length z))
 front_fits z None h = tt
 front_fits z (Some t) h = front_within z t.0 t.1 (sym h)

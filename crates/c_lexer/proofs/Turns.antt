@@ -4,7 +4,7 @@ use Rattle.std.specs.Prelude.{nat_lt, ◌==◌, Result, is_ok, is_err}
 use Rattle.std.proofs.lemmas.Bool.{eqb-true, true≢false}
 use Rattle.c_lexer.specs.Spelled.{TokenList}
 use Rattle.c_lexer.specs.declared.token.Token.{Token}
-use Rattle.c_lexer.specs.declared.token.Word.{Word}
+use Rattle.c_lexer.specs.declared.token.TokenKind.{TokenKind}
 use Rattle.c_lexer.specs.Longest.{front_token}
 use Rattle.c_lexer.specs.Separators.{Gap, gap}
 use Rattle.c_lexer.specs.Text.{newlines, line_of, Lexed, behind_tokens, at_end, token_behind, tokens_by, unless_empty, tokens_behind, tokens_to, tokens}
@@ -17,7 +17,7 @@ drop_length zero z h = omega arith
 drop_length (suc k) [] h = absurd (omega arith)
 drop_length (suc k) (b ∷ z) h = omega (arith, drop_length k z (omega arith))
 
-pub shorter_behind : (z : List ℕ) (w : Word) (k : ℕ) → front_token z ≡ Some (w, k) → length (drop k z) < length z
+pub shorter_behind : (z : List ℕ) (w : TokenKind) (k : ℕ) → front_token z ≡ Some (w, k) → length (drop k z) < length z
 shorter_behind z w k h =
     let p = front_within z w k h in
     let some = p.0 in
@@ -29,7 +29,7 @@ tokens_same zero m text first z h k = absurd (omega arith)
 tokens_same (suc n) zero text first z h k = absurd (omega arith)
 tokens_same (suc n) (suc m) text first z h k = by (gap first z) (ends_shorter (gap first z).rest z (gap_ends first z)) (tokens_same n m text false)
   where
-    at : (g : Gap) (y : List ℕ) (o : Option (Word × ℕ)) → g.rest ≡ y → length g.rest ≤ length z → front_token g.rest ≡ o
+    at : (g : Gap) (y : List ℕ) (o : Option (TokenKind × ℕ)) → g.rest ≡ y → length g.rest ≤ length z → front_token g.rest ≡ o
         → ((z : List ℕ) → length z < n → length z < m → tokens_to n text false z ≡ tokens_to m text false z)
         → tokens_by text z g o (tokens_to n text false) ≡ tokens_by text z g o (tokens_to m text false)
     at g y None e l f same = refl
@@ -98,9 +98,9 @@ pub turn_fault : (text z : List ℕ) (first : Bool) (g : Gap) (line : ℕ) (fron
 turn_fault text z first g line front p h f =
     rw (p.behind, unless_some g.rest (at_end text) (tokens_by text z g (front_token g.rest) (tokens_to (length z) text false)) h, f, line_at text z first g line p)
 
-pub turn_more : (text z : List ℕ) (first : Bool) (g : Gap) (line : ℕ) (front : List Token) (w : Word) (k : ℕ) → IsPlace text z first g line → 0 < length g.rest → front_token g.rest ≡ Some (w, k)
+pub turn_more : (text z : List ℕ) (first : Bool) (g : Gap) (line : ℕ) (front : List Token) (w : TokenKind) (k : ℕ) → IsPlace text z first g line → 0 < length g.rest → front_token g.rest ≡ Some (w, k)
     → behind_tokens front (tokens_to (suc (length z)) text first z)
-    ≡ behind_tokens (front ++ record { word = w; line = line; begins_line = g.has_newline; is_spaced = nat_lt (length g.rest) (length z) } ∷ []) (tokens_to (suc (length (drop k g.rest))) text false (drop k g.rest))
+    ≡ behind_tokens (front ++ record { kind = w; line = line; begins_line = g.has_newline; is_spaced = nat_lt (length g.rest) (length z) } ∷ []) (tokens_to (suc (length (drop k g.rest))) text false (drop k g.rest))
 turn_more text z first g line front w k p h f =
     let s = shorter_behind g.rest w k f in
     let l : length g.rest ≤ length z = subst (λ g. length g.rest ≤ length z) p.behind (ends_shorter (gap first z).rest z (gap_ends first z)) in
@@ -131,10 +131,10 @@ pub read_fault : (text z : List ℕ) (first : Bool) (g : Gap) (line : ℕ) (fron
     → None ≡ front_token g.rest → tokens text ≡ Err (record { at = length text - length g.rest; line = line })
 read_fault text z first g line front p read b e t f = read ∙ turn_fault text z first g line front p (some_left (length g.rest) b e t) (sym f)
 
-pub read_more : (text z : List ℕ) (first : Bool) (g : Gap) (line : ℕ) (front more : List Token) (w : Word) (k : ℕ) (r : List ℕ) → IsPlace text z first g line
+pub read_more : (text z : List ℕ) (first : Bool) (g : Gap) (line : ℕ) (front more : List Token) (w : TokenKind) (k : ℕ) (r : List ℕ) → IsPlace text z first g line
     → tokens text ≡ behind_tokens front (tokens_to (suc (length z)) text first z) → (b : Bool) → b ≡ (length g.rest == 0) → b ≡ false
     → Some (w, k) ≡ front_token g.rest → r ≡ drop k g.rest
-    → more ≡ front ++ record { word = w; line = line; begins_line = g.has_newline; is_spaced = nat_lt (length g.rest) (length z) } ∷ []
+    → more ≡ front ++ record { kind = w; line = line; begins_line = g.has_newline; is_spaced = nat_lt (length g.rest) (length z) } ∷ []
     → tokens text ≡ behind_tokens more (tokens_to (suc (length r)) text false r)
 read_more text z first g line front more w k r p read b e t f d m =
     rw (d, m) (read ∙ turn_more text z first g line front w k p (some_left (length g.rest) b e t) (sym f))

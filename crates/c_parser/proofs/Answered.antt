@@ -4,7 +4,7 @@ use Rattle.std.proofs.lemmas.List.{take_min}
 use Rattle.c_lexer.specs.Spelled.{TokenList}
 use Rattle.c_lexer.specs.declared.token.Token.{Token}
 use Rattle.c_syntax.specs.Statements.{Unit}
-use Rattle.c_syntax.specs.Words.{Words, placed, placed_from}
+use Rattle.c_syntax.specs.Words.{Words, positioned, positioned_from}
 use Rattle.c_grammar.specs.UnitReader.{unit_from}
 use Rattle.c_parser.specs.Parsed.{IsTreeOf, HasNoTree, IsWhereRefused, Told, is_nested_too_deep, line_at, IsFaultAt, Parses, IsSupported}
 use Rattle.c_parser.specs.Unsupported.{first_unsupported}
@@ -15,11 +15,11 @@ use Rattle.c_grammar.proofs.Refused.{none_where_refused}
 use Rattle.c_grammar.proofs.SoundUnits.{unit_sound}
 
 -- each token is one word
-pub as_many : (n : ℕ) (tokens : List Token) → length (placed_from n tokens) ≡ length tokens
+pub as_many : (n : ℕ) (tokens : List Token) → length (positioned_from n tokens) ≡ length tokens
 as_many n [] = refl
 as_many n (first ∷ i) = ap suc (as_many (suc n) i)
 
--- a fault at a place, by what the tokens up to there nest to
+-- a fault at a position, by what the tokens up to there nest to
 pub told : (list : TokenList) (at line end : ℕ) (is_nesting : Bool) → line ≡ line_at list at → end ≡ min (at + 1) (length list.tokens)
     → is_nested_too_deep (take end list.tokens) ≡ is_nesting → Told list at at line is_nesting
 told list at line end is_nesting on far kind =
@@ -28,22 +28,22 @@ told list at line end is_nesting on far kind =
     record { token = refl; on_line = on; kind = sym (ap (λ z. is_nested_too_deep z) up_to) ∙ kind }
 
 -- a file that was read
-pub read : (tokens : List Token) (words : Words) (u : Unit) (r : Words) → words ≡ placed tokens → unit_from words ≡ Ok (u, r) → IsTreeOf tokens u
+pub read : (tokens : List Token) (words : Words) (u : Unit) (r : Words) → words ≡ positioned tokens → unit_from words ≡ Ok (u, r) → IsTreeOf tokens u
 read tokens words u r e o = let f = unit_sound words u r o in record { formed = f.formed; same = f.same ∙ e }
 
 -- a text that was refused
-pub refused : (tokens : List Token) (words r : Words) → words ≡ placed tokens → unit_from words ≡ Err r → HasNoTree tokens
+pub refused : (tokens : List Token) (words r : Words) → words ≡ positioned tokens → unit_from words ≡ Err r → HasNoTree tokens
 refused tokens words r e o = λ u f. none_where_refused words r o u f.formed (f.same ∙ sym e)
 
 -- where it was refused
-pub stood : (tokens : List Token) (words r : Words) (at : ℕ) → words ≡ placed tokens → unit_from words ≡ Err r → at ≡ length words - length r
+pub stood : (tokens : List Token) (words r : Words) (at : ℕ) → words ≡ positioned tokens → unit_from words ≡ Err r → at ≡ length words - length r
     → IsWhereRefused tokens at
 stood tokens words r at e o here =
     let many : length words ≡ length tokens = ap length e ∙ as_many 0 tokens in
     record { rest = r; refused = ap unit_from (sym e) ∙ o; here = here ∙ ap (λ n. n - length r) many }
 
--- a fault at a place of a text that was refused
-pub refused_at : (list : TokenList) (words r : Words) (at : ℕ) (fault : ParseFault) → words ≡ placed list.tokens → unit_from words ≡ Err r
+-- a fault at a position of a text that was refused
+pub refused_at : (list : TokenList) (words r : Words) (at : ℕ) (fault : ParseFault) → words ≡ positioned list.tokens → unit_from words ≡ Err r
     → at ≡ length words - length r → at ≤ length list.tokens → IsFaultAt list at fault → Parses list (Err fault)
 refused_at list words r at Memory e o here within told = absurd told
 refused_at list words r at (Unsupported word line) e o here within told = absurd told

@@ -1,6 +1,6 @@
 -- The view of a block by its parts, its items up to `}`, and a statement by its first word.
 use Rattle.std.proofs.Common.{rules, arith, ◌≡◌, ℕ, suc, ◌-◌, ◌≤◌, Bool, true, false, Ok, Err, refl, List, length, get_or, take, drop, sym, ap, ◌∙◌}
-use Rattle.c_syntax.specs.declared.place.Placed.{Placed}
+use Rattle.c_syntax.specs.declared.position.Positioned.{Positioned}
 use Rattle.c_syntax.specs.declared.statement.Block as rb
 use Rattle.c_syntax.specs.declared.statement.BlockItem as rk
 use Rattle.c_syntax.specs.Statements as s
@@ -22,12 +22,12 @@ pub block_view : (b : rb.Block) → block_of b ≡ s.block b.left (items_in b.it
 block_view b = first_of (search (rules, rk.the_lemmas), grind (arith, rk.the_lemmas))
 
 -- by its first word
-pub by_first_word : (levels : ℕ) (names : List (List ℕ)) (deeper : StatementReaders) (depth : ℕ) (i : Words) (first : Placed)
+pub by_first_word : (levels : ℕ) (names : List (List ℕ)) (deeper : StatementReaders) (depth : ℕ) (i : Words) (first : Positioned)
     → 1 ≤ length i → first ≡ get_or i 0 first
-    → word_steps levels names deeper depth first.word first.place (take (length i - 1) (drop 1 i)) ≡ statement_at levels names deeper depth i
+    → word_steps levels names deeper depth first.kind first.position (take (length i - 1) (drop 1 i)) ≡ statement_at levels names deeper depth i
 unfolding statement_at
 by_first_word levels names deeper depth i first some is =
-    word_is levels names deeper depth first.word first.place (take (length i - 1) (drop 1 i))
+    word_is levels names deeper depth first.kind first.position (take (length i - 1) (drop 1 i))
     ∙ sym (ap (λ i. statement_at levels names deeper depth i) (first_word i first some is))
 
 -- an element before `}` could not be read

@@ -4,9 +4,9 @@ use Rattle.c_lexer.specs.declared.keyword.Keyword.{Keyword}
 use Rattle.c_lexer.specs.declared.keyword.Keyword.TheVariants as k
 use Rattle.c_lexer.specs.declared.punctuator.Punctuator.{Punctuator}
 use Rattle.c_lexer.specs.declared.punctuator.Punctuator.TheVariants as p
-use Rattle.c_lexer.specs.declared.token.Word.{Word}
-use Rattle.c_lexer.specs.declared.token.Word.TheVariants as word
-use Rattle.c_syntax.specs.declared.place.Place.{Place}
+use Rattle.c_lexer.specs.declared.token.TokenKind.{TokenKind}
+use Rattle.c_lexer.specs.declared.token.TokenKind.TheVariants as kinds
+use Rattle.c_syntax.specs.declared.position.Position.{Position}
 use Rattle.c_syntax.specs.declared.tree.Expression as rx
 use Rattle.c_syntax.specs.declared.statement.Statement as rs
 use Rattle.c_syntax.specs.Tree as t
@@ -24,26 +24,26 @@ use Rattle.c_parser.specs.declared.statement_tree.ForRest.{ForRest}
 
 -- an expression in parentheses
 pub record InParentheses : Type 0 where
-  pub left : Place
+  pub left : Position
   pub inner : t.Expression
-  pub right : Place
+  pub right : Position
 
 -- what stands behind the body of a `do`
 pub record BehindDo : Type 0 where
-  pub again : Place
+  pub again : Position
   pub condition : InParentheses
-  pub semicolon : Place
+  pub semicolon : Position
 
 -- what stands behind the second semicolon of a `for`
 pub record BehindFor : Type 0 where
   pub step : Option t.Expression
-  pub right : Place
+  pub right : Position
   pub body : s.Statement
 
 -- what stands behind the first part of a `for`
 pub record InFor : Type 0 where
   pub condition : Option t.Expression
-  pub semicolon : Place
+  pub semicolon : Position
   pub end : BehindFor
 
 abbrev pub parenthesized_of : Parenthesized → InParentheses
@@ -59,16 +59,16 @@ abbrev pub for_rest_of : ForRest → InFor
 for_rest_of x = record { condition = optional_of x.condition; semicolon = x.semicolon; end = for_end_of x.end }
 
 -- an expression or none, and the word behind it
-abbrev pub ended_of : Option rx.Expression × Place → Option t.Expression × Place
+abbrev pub ended_of : Option rx.Expression × Position → Option t.Expression × Position
 ended_of x = (optional_of x.0, x.1)
 
 -- the word before a statement, and the statement
-abbrev pub behind_word_of : Place × rs.Statement → Place × s.Statement
+abbrev pub behind_word_of : Position × rs.Statement → Position × s.Statement
 behind_word_of x = (x.0, statement_of x.1)
 
 module _ (levels : ℕ) (names : List (List ℕ)) where
   -- an expression, or none where this punctuator is next, and the punctuator
-  unfoldable pub ended_from : Punctuator → Words → Outcome (Option t.Expression × Place)
+  unfoldable pub ended_from : Punctuator → Words → Outcome (Option t.Expression × Position)
   ended_from x i = optional_from levels names x i >>= λ e i. expect x i >>= λ at i. Ok ((e, at), i)
 
   -- an expression in parentheses
@@ -89,11 +89,11 @@ module _ (levels : ℕ) (names : List (List ℕ)) where
 
   module _ (deeper : StatementReaders) where
     -- `:` and a statement (C99 6.8.1)
-    unfoldable pub labelled_from : Words → Outcome (Place × s.Statement)
+    unfoldable pub labelled_from : Words → Outcome (Position × s.Statement)
     labelled_from i = expect p.Colon i >>= λ colon i. deeper.statement i >>= λ x i. Ok ((colon, x), i)
 
     -- `else` and a statement (C99 6.8.4.1)
-    unfoldable pub otherwise_from : Words → Outcome (Place × s.Statement)
+    unfoldable pub otherwise_from : Words → Outcome (Position × s.Statement)
     otherwise_from i = take_word is_else i >>= λ q i. deeper.statement i >>= λ x i. Ok ((q, x), i)
 
     -- behind the second semicolon of a `for` (C99 6.8.5.3)
@@ -107,7 +107,7 @@ module _ (levels : ℕ) (names : List (List ℕ)) where
         ended_from p.Semicolon i >>= λ z i. for_end_from i >>= λ x i. Ok (record { condition = z.0; semicolon = z.1; end = x }, i)
 
     -- behind `if` (C99 6.8.4.1)
-    unfoldable pub if_steps : Place → Words → Outcome s.Statement
+    unfoldable pub if_steps : Position → Words → Outcome s.Statement
     if_steps at i =
         parenthesized_from i >>= λ h i. deeper.statement i >>= λ x i.
         (if next_is is_else i
@@ -115,35 +115,35 @@ module _ (levels : ℕ) (names : List (List ℕ)) where
         else Ok (s.if_then at h.left h.inner h.right x, i))
 
     -- behind `switch` (C99 6.8.4.2)
-    unfoldable pub switch_steps : Place → Words → Outcome s.Statement
+    unfoldable pub switch_steps : Position → Words → Outcome s.Statement
     switch_steps at i = parenthesized_from i >>= λ h i. deeper.block i >>= λ b i. Ok (s.switch at h.left h.inner h.right b, i)
 
     -- behind `while` (C99 6.8.5.1)
-    unfoldable pub while_steps : Place → Words → Outcome s.Statement
+    unfoldable pub while_steps : Position → Words → Outcome s.Statement
     while_steps at i = parenthesized_from i >>= λ h i. deeper.statement i >>= λ x i. Ok (s.while_do at h.left h.inner h.right x, i)
 
     -- behind `do` (C99 6.8.5.2)
-    unfoldable pub do_steps : Place → Words → Outcome s.Statement
+    unfoldable pub do_steps : Position → Words → Outcome s.Statement
     do_steps at i =
         deeper.statement i >>= λ x i. do_end_from i >>= λ z i.
         Ok (s.do_while at x z.again z.condition.left z.condition.inner z.condition.right z.semicolon, i)
 
     -- behind `for` (C99 6.8.5.3)
-    unfoldable pub for_steps : Place → Words → Outcome s.Statement
+    unfoldable pub for_steps : Position → Words → Outcome s.Statement
     for_steps at i =
         expect p.LeftParenthesis i >>= λ l i. for_init_from levels names i >>= λ f i. for_rest_from i >>= λ z i.
         Ok (s.for at l f z.condition z.semicolon z.end.step z.end.right z.end.body, i)
 
     -- behind `case` (C99 6.8.1)
-    unfoldable pub case_steps : Place → Words → Outcome s.Statement
+    unfoldable pub case_steps : Position → Words → Outcome s.Statement
     case_steps at i = constant_from i >>= λ e i. labelled_from i >>= λ z i. Ok (s.case at e z.0 z.1, i)
 
     -- behind `default` (C99 6.8.1)
-    unfoldable pub default_steps : Place → Words → Outcome s.Statement
+    unfoldable pub default_steps : Position → Words → Outcome s.Statement
     default_steps at i = labelled_from i >>= λ z i. Ok (s.default at z.0 z.1, i)
 
     -- a statement that begins with a keyword, which has another statement inside
-    unfoldable pub outer_steps : Keyword → Place → Words → Outcome s.Statement
+    unfoldable pub outer_steps : Keyword → Position → Words → Outcome s.Statement
     outer_steps k.If at i = if_steps at i
     outer_steps k.Switch at i = switch_steps at i
     outer_steps k.While at i = while_steps at i
@@ -151,28 +151,28 @@ module _ (levels : ℕ) (names : List (List ℕ)) where
     outer_steps k.For at i = for_steps at i
     outer_steps k.Case at i = case_steps at i
     outer_steps k.Default at i = default_steps at i
-    outer_steps x at i = Err (word_at (word.Keyword x) at ∷ i)
+    outer_steps x at i = Err (word_at (kinds.Keyword x) at ∷ i)
 
     -- a statement that begins with a keyword and has no other inside
-    unfoldable pub plain_steps : Keyword → Place → Words → Outcome s.Statement
+    unfoldable pub plain_steps : Keyword → Position → Words → Outcome s.Statement
     plain_steps x at i = plain_by levels names deeper x at i
 
     -- a statement that begins with a keyword
-    unfoldable pub keyword_steps : ℕ → Keyword → Place → Words → Outcome s.Statement
+    unfoldable pub keyword_steps : ℕ → Keyword → Position → Words → Outcome s.Statement
     keyword_steps depth x at i =
         if holds_statement x
-        then (if nat_le 1 depth then outer_steps x at i else Err (word_at (word.Keyword x) at ∷ i))
+        then (if nat_le 1 depth then outer_steps x at i else Err (word_at (kinds.Keyword x) at ∷ i))
         else plain_steps x at i
 
     -- a statement that begins with a punctuator
-    unfoldable pub punctuator_steps : Punctuator → Place → Words → Outcome s.Statement
+    unfoldable pub punctuator_steps : Punctuator → Position → Words → Outcome s.Statement
     punctuator_steps x at i =
         if is_same p.LeftBrace x
-        then (block_at levels names deeper (word_at (word.Punctuator x) at ∷ i) >>= λ b i. Ok (s.compound b, i))
-        else expression_statement_from levels names (word_at (word.Punctuator x) at ∷ i)
+        then (block_at levels names deeper (word_at (kinds.Punctuator x) at ∷ i) >>= λ b i. Ok (s.compound b, i))
+        else expression_statement_from levels names (word_at (kinds.Punctuator x) at ∷ i)
 
     -- a statement by its first word
-    unfoldable pub word_steps : ℕ → Word → Place → Words → Outcome s.Statement
-    word_steps depth (word.Keyword x) at i = keyword_steps depth x at i
-    word_steps depth (word.Punctuator x) at i = punctuator_steps x at i
+    unfoldable pub word_steps : ℕ → TokenKind → Position → Words → Outcome s.Statement
+    word_steps depth (kinds.Keyword x) at i = keyword_steps depth x at i
+    word_steps depth (kinds.Punctuator x) at i = punctuator_steps x at i
     word_steps depth w at i = expression_statement_from levels names (word_at w at ∷ i)

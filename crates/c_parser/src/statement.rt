@@ -1,7 +1,7 @@
 //! Reading statements (C99 6.8). Their expressions and declarations have at most some number of levels, and so do they.
 
 ghost use Rattle.std.specs.Prelude.{◌≡◌, ◌∷◌, length};
-ghost use Rattle.c_lexer.specs.declared.token.Word.TheVariants as word;
+ghost use Rattle.c_lexer.specs.declared.token.TokenKind.TheVariants as kinds;
 ghost use Rattle.c_grammar.specs.Reader as reader;
 ghost use Rattle.c_grammar.specs.Reader.{up_to_brace};
 ghost use Rattle.c_grammar.specs.StatementReader as spec;
@@ -21,17 +21,17 @@ use c_declarations::declaration::local;
 use c_expressions::nested::expression;
 use c_expressions::specifier::begins_specifiers;
 use c_grammar::cursor::{Cursor, Fault, is_same, next_is};
-use c_lexer::{Keyword, Punctuator, Spelling, Word};
-use c_syntax::{Block, BlockItem, Boxed, Expression, ForInit, Items, Place, Placed, Statement};
+use c_lexer::{Keyword, Punctuator, Spelling, TokenKind};
+use c_syntax::{Block, BlockItem, Boxed, Expression, ForInit, Items, Position, Positioned, Statement};
 use std::alloc::Global;
 
 /// Whether the next word is `else`.
-fn next_is_else(rest: &[Placed]) -> bool
+fn next_is_else(rest: &[Positioned]) -> bool
     ensures { result ≡ reader.next_is reader.is_else rest.now }
 {
     match rest.first() {
-        Some(first) => match &first.word {
-            Word::Keyword(Keyword::Else) => true,
+        Some(first) => match &first.kind {
+            TokenKind::Keyword(Keyword::Else) => true,
             _ => false,
         },
         None => false,
@@ -39,31 +39,31 @@ fn next_is_else(rest: &[Placed]) -> bool
 }
 
 /// Takes the word `while`.
-fn expect_while(tokens: &mut Cursor) -> Result<Place, Fault>
+fn expect_while(tokens: &mut Cursor) -> Result<Position, Fault>
     ensures { Reads (λ p. p) (reader.take_word reader.is_while tokens.old.rest.now) result tokens.new.rest.now }
 {
     let [first, rest @ ..] = tokens.rest else {
         return Err(Fault::Refused);
     };
-    let Word::Keyword(Keyword::While) = &first.word else {
+    let TokenKind::Keyword(Keyword::While) = &first.kind else {
         return Err(Fault::Refused);
     };
     tokens.rest = rest;
-    Ok(first.place)
+    Ok(first.position)
 }
 
 /// Takes the word `else`.
-fn expect_else(tokens: &mut Cursor) -> Result<Place, Fault>
+fn expect_else(tokens: &mut Cursor) -> Result<Position, Fault>
     ensures { Reads (λ p. p) (reader.take_word reader.is_else tokens.old.rest.now) result tokens.new.rest.now }
 {
     let [first, rest @ ..] = tokens.rest else {
         return Err(Fault::Refused);
     };
-    let Word::Keyword(Keyword::Else) = &first.word else {
+    let TokenKind::Keyword(Keyword::Else) = &first.kind else {
         return Err(Fault::Refused);
     };
     tokens.rest = rest;
-    Ok(first.place)
+    Ok(first.position)
 }
 
 /// Whether a statement that begins with the keyword has another inside (C99 6.8).
@@ -165,13 +165,13 @@ fn return_statement<'a>(
     names: &[Spelling<'a>],
     tokens: &mut Cursor<'_, 'a>,
     levels: u8,
-    place: Place,
+    position: Position,
 ) -> Result<Statement<'a>, Fault>
-    ensures { Reads statement_of (spec.return_from levels names.now place tokens.old.rest.now) result tokens.new.rest.now }
+    ensures { Reads statement_of (spec.return_from levels names.now position tokens.old.rest.now) result tokens.new.rest.now }
 {
     let value = optional(alloc, names, tokens, levels, Punctuator::Semicolon)?;
     let semicolon = tokens.expect(Punctuator::Semicolon)?;
-    Ok(return_with(place, value, semicolon))
+    Ok(return_with(position, value, semicolon))
 }
 
 /// Reads an expression, or none where this punctuator is next, and the punctuator.
@@ -182,12 +182,12 @@ fn ended<'a>(
     tokens: &mut Cursor<'_, 'a>,
     levels: u8,
     end: Punctuator,
-) -> Result<(Option<Expression<'a>>, Place), Fault>
+) -> Result<(Option<Expression<'a>>, Position), Fault>
     ensures { Reads parts.ended_of (parts.ended_from levels names.now end tokens.old.rest.now) result tokens.new.rest.now }
 {
     let value = optional(alloc, names, tokens, levels, end)?;
-    let place = tokens.expect(end)?;
-    Ok((value, place))
+    let position = tokens.expect(end)?;
+    Ok((value, position))
 }
 
 /// Reads an expression in parentheses.
@@ -261,7 +261,7 @@ impl<'t, 'a> Statements<'t, 'a> {
         &self,
         tokens: &mut Cursor<'_, 'a>,
         depth: usize,
-    ) -> Result<(Place, Boxed<Statement<'a>>), Fault>
+    ) -> Result<(Position, Boxed<Statement<'a>>), Fault>
         ensures { Reads parts.behind_word_of (parts.labelled_from self.now.levels self.now.names.now (spec.statements self.now.levels self.now.names.now depth) tokens.old.rest.now) result tokens.new.rest.now }
     {
         let colon = tokens.expect(Punctuator::Colon)?;
@@ -276,12 +276,12 @@ impl<'t, 'a> Statements<'t, 'a> {
         &self,
         tokens: &mut Cursor<'_, 'a>,
         depth: usize,
-    ) -> Result<(Place, Boxed<Statement<'a>>), Fault>
+    ) -> Result<(Position, Boxed<Statement<'a>>), Fault>
         ensures { Reads parts.behind_word_of (parts.otherwise_from self.now.levels self.now.names.now (spec.statements self.now.levels self.now.names.now depth) tokens.old.rest.now) result tokens.new.rest.now }
     {
-        let place = expect_else(tokens)?;
+        let position = expect_else(tokens)?;
         let inner = self.deeper(tokens, depth)?;
-        Ok((place, inner))
+        Ok((position, inner))
     }
 
     /// Reads what stands behind `if` (C99 6.8.4.1).
@@ -291,17 +291,17 @@ impl<'t, 'a> Statements<'t, 'a> {
         &self,
         tokens: &mut Cursor<'_, 'a>,
         depth: usize,
-        place: Place,
+        position: Position,
     ) -> Result<Statement<'a>, Fault>
-        ensures { Reads statement_of (parts.if_steps self.now.levels self.now.names.now (spec.statements self.now.levels self.now.names.now depth) place tokens.old.rest.now) result tokens.new.rest.now }
+        ensures { Reads statement_of (parts.if_steps self.now.levels self.now.names.now (spec.statements self.now.levels self.now.names.now depth) position tokens.old.rest.now) result tokens.new.rest.now }
     {
         let condition = parenthesized(self.alloc, self.names, tokens, self.levels)?;
         let first = self.deeper(tokens, depth)?;
         if !next_is_else(tokens.rest) {
-            return Ok(if_with(place, condition, first));
+            return Ok(if_with(position, condition, first));
         }
         let (otherwise, second) = self.otherwise(tokens, depth)?;
-        Ok(if_else_with(place, condition, first, otherwise, second))
+        Ok(if_else_with(position, condition, first, otherwise, second))
     }
 
     /// Reads what stands behind `switch` (C99 6.8.4.2).
@@ -311,13 +311,13 @@ impl<'t, 'a> Statements<'t, 'a> {
         &self,
         tokens: &mut Cursor<'_, 'a>,
         depth: usize,
-        place: Place,
+        position: Position,
     ) -> Result<Statement<'a>, Fault>
-        ensures { Reads statement_of (parts.switch_steps self.now.levels self.now.names.now (spec.statements self.now.levels self.now.names.now depth) place tokens.old.rest.now) result tokens.new.rest.now }
+        ensures { Reads statement_of (parts.switch_steps self.now.levels self.now.names.now (spec.statements self.now.levels self.now.names.now depth) position tokens.old.rest.now) result tokens.new.rest.now }
     {
         let value = parenthesized(self.alloc, self.names, tokens, self.levels)?;
         let block = self.block(tokens, depth)?;
-        Ok(switch_with(place, value, block))
+        Ok(switch_with(position, value, block))
     }
 
     /// Reads what stands behind `while` (C99 6.8.5.1).
@@ -327,13 +327,13 @@ impl<'t, 'a> Statements<'t, 'a> {
         &self,
         tokens: &mut Cursor<'_, 'a>,
         depth: usize,
-        place: Place,
+        position: Position,
     ) -> Result<Statement<'a>, Fault>
-        ensures { Reads statement_of (parts.while_steps self.now.levels self.now.names.now (spec.statements self.now.levels self.now.names.now depth) place tokens.old.rest.now) result tokens.new.rest.now }
+        ensures { Reads statement_of (parts.while_steps self.now.levels self.now.names.now (spec.statements self.now.levels self.now.names.now depth) position tokens.old.rest.now) result tokens.new.rest.now }
     {
         let condition = parenthesized(self.alloc, self.names, tokens, self.levels)?;
         let body = self.deeper(tokens, depth)?;
-        Ok(while_with(place, condition, body))
+        Ok(while_with(position, condition, body))
     }
 
     /// Reads what stands behind `do` (C99 6.8.5.2).
@@ -343,13 +343,13 @@ impl<'t, 'a> Statements<'t, 'a> {
         &self,
         tokens: &mut Cursor<'_, 'a>,
         depth: usize,
-        place: Place,
+        position: Position,
     ) -> Result<Statement<'a>, Fault>
-        ensures { Reads statement_of (parts.do_steps self.now.levels self.now.names.now (spec.statements self.now.levels self.now.names.now depth) place tokens.old.rest.now) result tokens.new.rest.now }
+        ensures { Reads statement_of (parts.do_steps self.now.levels self.now.names.now (spec.statements self.now.levels self.now.names.now depth) position tokens.old.rest.now) result tokens.new.rest.now }
     {
         let body = self.deeper(tokens, depth)?;
         let end = do_end(self.alloc, self.names, tokens, self.levels)?;
-        Ok(do_with(place, body, end))
+        Ok(do_with(position, body, end))
     }
 
     /// Reads what stands behind the second semicolon of a `for` (C99 6.8.5.3).
@@ -397,14 +397,14 @@ impl<'t, 'a> Statements<'t, 'a> {
         &self,
         tokens: &mut Cursor<'_, 'a>,
         depth: usize,
-        place: Place,
+        position: Position,
     ) -> Result<Statement<'a>, Fault>
-        ensures { Reads statement_of (parts.for_steps self.now.levels self.now.names.now (spec.statements self.now.levels self.now.names.now depth) place tokens.old.rest.now) result tokens.new.rest.now }
+        ensures { Reads statement_of (parts.for_steps self.now.levels self.now.names.now (spec.statements self.now.levels self.now.names.now depth) position tokens.old.rest.now) result tokens.new.rest.now }
     {
         let left = tokens.expect(Punctuator::LeftParenthesis)?;
         let first = for_init(self.alloc, self.names, tokens, self.levels)?;
         let rest = self.for_rest(tokens, depth)?;
-        Ok(for_with(place, left, first, rest))
+        Ok(for_with(position, left, first, rest))
     }
 
     /// Reads what stands behind `case` (C99 6.8.1).
@@ -414,13 +414,13 @@ impl<'t, 'a> Statements<'t, 'a> {
         &self,
         tokens: &mut Cursor<'_, 'a>,
         depth: usize,
-        place: Place,
+        position: Position,
     ) -> Result<Statement<'a>, Fault>
-        ensures { Reads statement_of (parts.case_steps self.now.levels self.now.names.now (spec.statements self.now.levels self.now.names.now depth) place tokens.old.rest.now) result tokens.new.rest.now }
+        ensures { Reads statement_of (parts.case_steps self.now.levels self.now.names.now (spec.statements self.now.levels self.now.names.now depth) position tokens.old.rest.now) result tokens.new.rest.now }
     {
         let value = constant(self.alloc, self.names, tokens, self.levels)?;
         let (colon, labelled) = self.labelled(tokens, depth)?;
-        Ok(case_with(place, value, colon, labelled))
+        Ok(case_with(position, value, colon, labelled))
     }
 
     /// Reads what stands behind `default` (C99 6.8.1).
@@ -430,12 +430,12 @@ impl<'t, 'a> Statements<'t, 'a> {
         &self,
         tokens: &mut Cursor<'_, 'a>,
         depth: usize,
-        place: Place,
+        position: Position,
     ) -> Result<Statement<'a>, Fault>
-        ensures { Reads statement_of (parts.default_steps self.now.levels self.now.names.now (spec.statements self.now.levels self.now.names.now depth) place tokens.old.rest.now) result tokens.new.rest.now }
+        ensures { Reads statement_of (parts.default_steps self.now.levels self.now.names.now (spec.statements self.now.levels self.now.names.now depth) position tokens.old.rest.now) result tokens.new.rest.now }
     {
         let (colon, labelled) = self.labelled(tokens, depth)?;
-        Ok(default_with(place, colon, labelled))
+        Ok(default_with(position, colon, labelled))
     }
 
     /// Reads a declaration or statement of a block (C99 6.8.2).
@@ -494,40 +494,40 @@ impl<'t, 'a> Statements<'t, 'a> {
         tokens: &mut Cursor<'r, 'a>,
         depth: usize,
         keyword: Keyword,
-        place: Place,
-        rest: &'r [Placed<'a>],
+        position: Position,
+        rest: &'r [Positioned<'a>],
     ) -> Result<Statement<'a>, Fault>
-        requires next { tokens.old.rest.now ≡ word_at (word.Keyword keyword) place ∷ rest.now }
-        ensures { Reads statement_of (parts.outer_steps self.now.levels self.now.names.now (spec.statements self.now.levels self.now.names.now depth) keyword place rest.now) result tokens.new.rest.now }
+        requires next { tokens.old.rest.now ≡ word_at (kinds.Keyword keyword) position ∷ rest.now }
+        ensures { Reads statement_of (parts.outer_steps self.now.levels self.now.names.now (spec.statements self.now.levels self.now.names.now depth) keyword position rest.now) result tokens.new.rest.now }
     {
         match keyword {
             Keyword::If => {
                 tokens.rest = rest;
-                self.if_statement(tokens, depth, place)
+                self.if_statement(tokens, depth, position)
             }
             Keyword::Switch => {
                 tokens.rest = rest;
-                self.switch_statement(tokens, depth, place)
+                self.switch_statement(tokens, depth, position)
             }
             Keyword::While => {
                 tokens.rest = rest;
-                self.while_statement(tokens, depth, place)
+                self.while_statement(tokens, depth, position)
             }
             Keyword::Do => {
                 tokens.rest = rest;
-                self.do_statement(tokens, depth, place)
+                self.do_statement(tokens, depth, position)
             }
             Keyword::For => {
                 tokens.rest = rest;
-                self.for_statement(tokens, depth, place)
+                self.for_statement(tokens, depth, position)
             }
             Keyword::Case => {
                 tokens.rest = rest;
-                self.case_statement(tokens, depth, place)
+                self.case_statement(tokens, depth, position)
             }
             Keyword::Default => {
                 tokens.rest = rest;
-                self.default_statement(tokens, depth, place)
+                self.default_statement(tokens, depth, position)
             }
             _ => Err(Fault::Refused),
         }
@@ -540,26 +540,26 @@ impl<'t, 'a> Statements<'t, 'a> {
         &self,
         tokens: &mut Cursor<'r, 'a>,
         keyword: Keyword,
-        place: Place,
-        rest: &'r [Placed<'a>],
+        position: Position,
+        rest: &'r [Positioned<'a>],
     ) -> Result<Statement<'a>, Fault>
-        requires next { tokens.old.rest.now ≡ word_at (word.Keyword keyword) place ∷ rest.now }
-        ensures { (deeper : spec.StatementReaders) → Reads statement_of (parts.plain_steps self.now.levels self.now.names.now deeper keyword place rest.now) result tokens.new.rest.now }
+        requires next { tokens.old.rest.now ≡ word_at (kinds.Keyword keyword) position ∷ rest.now }
+        ensures { (deeper : spec.StatementReaders) → Reads statement_of (parts.plain_steps self.now.levels self.now.names.now deeper keyword position rest.now) result tokens.new.rest.now }
     {
         match keyword {
             Keyword::Break => {
                 tokens.rest = rest;
                 let semicolon = tokens.expect(Punctuator::Semicolon)?;
-                Ok(break_with(place, semicolon))
+                Ok(break_with(position, semicolon))
             }
             Keyword::Continue => {
                 tokens.rest = rest;
                 let semicolon = tokens.expect(Punctuator::Semicolon)?;
-                Ok(continue_with(place, semicolon))
+                Ok(continue_with(position, semicolon))
             }
             Keyword::Return => {
                 tokens.rest = rest;
-                return_statement(self.alloc, self.names, tokens, self.levels, place)
+                return_statement(self.alloc, self.names, tokens, self.levels, position)
             }
             _ => expression_statement(self.alloc, self.names, tokens, self.levels),
         }
@@ -573,19 +573,19 @@ impl<'t, 'a> Statements<'t, 'a> {
         tokens: &mut Cursor<'r, 'a>,
         depth: usize,
         keyword: Keyword,
-        place: Place,
-        rest: &'r [Placed<'a>],
+        position: Position,
+        rest: &'r [Positioned<'a>],
     ) -> Result<Statement<'a>, Fault>
-        requires next { tokens.old.rest.now ≡ word_at (word.Keyword keyword) place ∷ rest.now }
-        ensures { Reads statement_of (parts.keyword_steps self.now.levels self.now.names.now (spec.statements self.now.levels self.now.names.now depth) depth keyword place rest.now) result tokens.new.rest.now }
+        requires next { tokens.old.rest.now ≡ word_at (kinds.Keyword keyword) position ∷ rest.now }
+        ensures { Reads statement_of (parts.keyword_steps self.now.levels self.now.names.now (spec.statements self.now.levels self.now.names.now depth) depth keyword position rest.now) result tokens.new.rest.now }
     {
         if !holds_statement(keyword) {
-            return self.plain(tokens, keyword, place, rest);
+            return self.plain(tokens, keyword, position, rest);
         }
         if depth < 1 {
             return Err(Fault::Refused);
         }
-        self.outer(tokens, depth, keyword, place, rest)
+        self.outer(tokens, depth, keyword, position, rest)
     }
 
     /// Reads a statement that begins with a punctuator, which is next, before the rest (C99 6.8).
@@ -596,11 +596,11 @@ impl<'t, 'a> Statements<'t, 'a> {
         tokens: &mut Cursor<'_, 'a>,
         depth: usize,
         punctuator: Punctuator,
-        place: Place,
-        rest: &[Placed<'a>],
+        position: Position,
+        rest: &[Positioned<'a>],
     ) -> Result<Statement<'a>, Fault>
-        requires next { tokens.old.rest.now ≡ word_at (word.Punctuator punctuator) place ∷ rest.now }
-        ensures { Reads statement_of (parts.punctuator_steps self.now.levels self.now.names.now (spec.statements self.now.levels self.now.names.now depth) punctuator place rest.now) result tokens.new.rest.now }
+        requires next { tokens.old.rest.now ≡ word_at (kinds.Punctuator punctuator) position ∷ rest.now }
+        ensures { Reads statement_of (parts.punctuator_steps self.now.levels self.now.names.now (spec.statements self.now.levels self.now.names.now depth) punctuator position rest.now) result tokens.new.rest.now }
     {
         if !is_same(Punctuator::LeftBrace, punctuator) {
             return expression_statement(self.alloc, self.names, tokens, self.levels);
@@ -616,20 +616,20 @@ impl<'t, 'a> Statements<'t, 'a> {
         &self,
         tokens: &mut Cursor<'r, 'a>,
         depth: usize,
-        first: &Word<'a>,
-        place: Place,
-        rest: &'r [Placed<'a>],
+        first: &TokenKind<'a>,
+        position: Position,
+        rest: &'r [Positioned<'a>],
     ) -> Result<Statement<'a>, Fault>
-        requires next { tokens.old.rest.now ≡ word_at first.now place ∷ rest.now }
-        ensures { Reads statement_of (parts.word_steps self.now.levels self.now.names.now (spec.statements self.now.levels self.now.names.now depth) depth first.now place rest.now) result tokens.new.rest.now }
+        requires next { tokens.old.rest.now ≡ word_at first.now position ∷ rest.now }
+        ensures { Reads statement_of (parts.word_steps self.now.levels self.now.names.now (spec.statements self.now.levels self.now.names.now depth) depth first.now position rest.now) result tokens.new.rest.now }
     {
         match first {
-            Word::Keyword(keyword) => self.by_keyword(tokens, depth, *keyword, place, rest),
-            Word::Punctuator(punctuator) => self.by_punctuator(
+            TokenKind::Keyword(keyword) => self.by_keyword(tokens, depth, *keyword, position, rest),
+            TokenKind::Punctuator(punctuator) => self.by_punctuator(
                 tokens,
                 depth,
                 *punctuator,
-                place,
+                position,
                 rest,
             ),
             _ => expression_statement(self.alloc, self.names, tokens, self.levels),
@@ -649,7 +649,7 @@ impl<'t, 'a> Statements<'t, 'a> {
         let [first, rest @ ..] = tokens.rest else {
             return Err(Fault::Refused);
         };
-        self.by_word(tokens, depth, &first.word, first.place, rest)
+        self.by_word(tokens, depth, &first.kind, first.position, rest)
     }
 
     /// Reads a statement with fewer than this number of levels (C99 6.8).

@@ -4,8 +4,8 @@ use mathlib.Core.Path.{refl}
 use Rattle.c_lexer.specs.declared.keyword.Keyword.{Keyword}
 use Rattle.c_lexer.specs.declared.keyword.Keyword.TheVariants as k
 use Rattle.c_lexer.specs.declared.punctuator.Punctuator.TheVariants as p
-use Rattle.c_syntax.specs.declared.place.Place.{Place}
-use Rattle.c_syntax.specs.declared.place.Spelled.{Spelled}
+use Rattle.c_syntax.specs.declared.position.Position.{Position}
+use Rattle.c_syntax.specs.declared.position.Spelled.{Spelled}
 use Rattle.c_syntax.specs.Tree.{Expression, Declarator, Parameters, Specifiers}
 use Rattle.c_syntax.specs.Tree as t
 use Rattle.c_syntax.specs.Statements.{Statement, Block, Declaration, Unit}
@@ -14,11 +14,11 @@ use Rattle.c_syntax.specs.Words as w
 use Rattle.c_syntax.specs.Levels.{expression_levels, statement_levels}
 use Rattle.c_syntax.specs.Formed.{SIZE_T, is_among, with_specifier, with_keyword, names_one_type, names_after_declaration, defines_function, ends_open, precedence}
 
-abbrev at : Place
+abbrev at : Position
 at = record { at = 0; line = 1 }
 
 abbrev spelled : List ℕ → Spelled
-spelled x = record { spelling = x; place = at }
+spelled x = record { spelling = x; position = at }
 
 -- `T`, `f`, `0`
 abbrev T : Spelled

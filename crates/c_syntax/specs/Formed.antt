@@ -7,7 +7,7 @@ use Rattle.c_lexer.specs.declared.keyword.Keyword.{Keyword}
 use Rattle.c_lexer.specs.declared.keyword.Keyword.TheVariants as k
 use Rattle.c_lexer.specs.declared.punctuator.Punctuator.{Punctuator}
 use Rattle.c_lexer.specs.declared.punctuator.Punctuator.TheVariants as p
-use Rattle.c_syntax.specs.declared.place.Place.{Place}
+use Rattle.c_syntax.specs.declared.position.Position.{Position}
 use Rattle.c_syntax.specs.declared.specifiers.TypeSize.{TypeSize}
 use Rattle.c_syntax.specs.declared.specifiers.TypeSize.TheVariants as size
 use Rattle.c_syntax.specs.declared.specifiers.TypeWords.{TypeWords}
@@ -409,7 +409,7 @@ abbrev pub names_after : Bool → Declarator → List (List ℕ) → List (List 
 names_after is_typedef d names = if is_typedef then with_declared (declared d) names else names
 
 -- the typedef names behind the declarators after the first
-abbrev pub names_after_more : Bool → List (Place × InitDeclarator) → List (List ℕ) → List (List ℕ)
+abbrev pub names_after_more : Bool → List (Position × InitDeclarator) → List (List ℕ) → List (List ℕ)
 names_after_more is_typedef [] names = names
 names_after_more is_typedef (x ∷ z) names = names_after_more is_typedef z (names_after is_typedef x.1.declarator names)
 
@@ -489,7 +489,7 @@ module _ (levels : ℕ) where
   IsDeclared names d = (declarator_levels d ≤ levels) × IsNamed names d
 
   -- its initializer, if there is one (C99 6.7.8)
-  abbrev pub IsInitialized : List (List ℕ) → Option (Place × Initializer) → Type 0
+  abbrev pub IsInitialized : List (List ℕ) → Option (Position × Initializer) → Type 0
   IsInitialized names None = ⊤
   IsInitialized names (Some x) = (initializer_levels x.1 ≤ levels) × IsInitializer names x.1
 
@@ -498,7 +498,7 @@ module _ (levels : ℕ) where
   IsInitDeclarator is_typedef names x = IsDeclared names x.declarator × IsInitialized (names_after is_typedef x.declarator names) x.initializer
 
   -- the declarators behind the first
-  abbrev pub AreMoreInitDeclarators : Bool → List (List ℕ) → List (Place × InitDeclarator) → Type 0
+  abbrev pub AreMoreInitDeclarators : Bool → List (List ℕ) → List (Position × InitDeclarator) → Type 0
   AreMoreInitDeclarators is_typedef names [] = ⊤
   AreMoreInitDeclarators is_typedef names (x ∷ z) = IsInitDeclarator is_typedef names x.1 × AreMoreInitDeclarators is_typedef (names_after is_typedef x.1.declarator names) z
 

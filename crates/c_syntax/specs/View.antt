@@ -1,6 +1,6 @@
 -- Trees without where they lie in memory: from the code's trees to the plain ones.
 use Rattle.std.specs.Prelude.{List, [], ◌∷◌, map}
-use Rattle.c_syntax.specs.declared.place.Place.{Place}
+use Rattle.c_syntax.specs.declared.position.Position.{Position}
 use Rattle.c_syntax.specs.declared.tree.Arguments.TheOpen.{Arguments-F, Declarator-F, Enumerator-F, Expression-F, Parameters-F, Specifier-F, Member-F, TypedDeclarator-F}
 use Rattle.c_syntax.specs.declared.tree.Arguments as ra
 use Rattle.c_syntax.specs.declared.tree.Declarator as rd
@@ -13,19 +13,19 @@ use Rattle.c_syntax.specs.declared.tree.TypedDeclarator as rt
 use Rattle.c_syntax.specs.Tree.{Expression, Arguments, MoreArguments, TypedDeclarator, Declarator, Parameters, MoreParameters, Specifiers, Specifier, Members, Member, MoreDeclarators, Enumerator, MoreEnumerators}
 use Rattle.c_syntax.specs.Tree as t
 
-abbrev pub more_arguments_of : List (Place × Expression) → MoreArguments
+abbrev pub more_arguments_of : List (Position × Expression) → MoreArguments
 more_arguments_of [] = t.end_of_arguments
 more_arguments_of (x ∷ z) = t.more_arguments x.0 x.1 (more_arguments_of z)
 
-abbrev pub more_parameters_of : List (Place × TypedDeclarator) → MoreParameters
+abbrev pub more_parameters_of : List (Position × TypedDeclarator) → MoreParameters
 more_parameters_of [] = t.end_of_parameters
 more_parameters_of (x ∷ z) = t.more_parameters x.0 x.1 (more_parameters_of z)
 
-abbrev pub more_declarators_of : List (Place × Declarator) → MoreDeclarators
+abbrev pub more_declarators_of : List (Position × Declarator) → MoreDeclarators
 more_declarators_of [] = t.end_of_declarators
 more_declarators_of (x ∷ z) = t.more_declarators x.0 x.1 (more_declarators_of z)
 
-abbrev pub more_enumerators_of : List (Place × Enumerator) → MoreEnumerators
+abbrev pub more_enumerators_of : List (Position × Enumerator) → MoreEnumerators
 more_enumerators_of [] = t.end_of_enumerators
 more_enumerators_of (x ∷ z) = t.more_enumerators x.0 x.1 (more_enumerators_of z)
 
@@ -126,20 +126,20 @@ typed_of = rt.fold-TypedDeclarator Arguments Declarator Enumerator Expression Pa
 abbrev pub specifiers_in : List rs.Specifier → Specifiers
 specifiers_in z = specifiers_of (map specifier_of z)
 
--- what stands behind a comma, with its place
-abbrev pub behind_comma : {A B : Type 0} → (A → B) → Place × A → Place × B
+-- what stands behind a comma, with its position
+abbrev pub behind_comma : {A B : Type 0} → (A → B) → Position × A → Position × B
 behind_comma f x = (x.0, f x.1)
 
-abbrev pub more_arguments_in : List (Place × rx.Expression) → MoreArguments
+abbrev pub more_arguments_in : List (Position × rx.Expression) → MoreArguments
 more_arguments_in z = more_arguments_of (map (behind_comma expression_of) z)
 
-abbrev pub more_parameters_in : List (Place × rt.TypedDeclarator) → MoreParameters
+abbrev pub more_parameters_in : List (Position × rt.TypedDeclarator) → MoreParameters
 more_parameters_in z = more_parameters_of (map (behind_comma typed_of) z)
 
-abbrev pub more_declarators_in : List (Place × rd.Declarator) → MoreDeclarators
+abbrev pub more_declarators_in : List (Position × rd.Declarator) → MoreDeclarators
 more_declarators_in z = more_declarators_of (map (behind_comma declarator_of) z)
 
-abbrev pub more_enumerators_in : List (Place × re.Enumerator) → MoreEnumerators
+abbrev pub more_enumerators_in : List (Position × re.Enumerator) → MoreEnumerators
 more_enumerators_in z = more_enumerators_of (map (behind_comma enumerator_of) z)
 
 abbrev pub members_in : List rm.Member → Members

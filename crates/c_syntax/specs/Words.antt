@@ -5,56 +5,56 @@ use Rattle.c_lexer.specs.declared.keyword.Keyword.TheVariants as k
 use Rattle.c_lexer.specs.declared.punctuator.Punctuator.{Punctuator}
 use Rattle.c_lexer.specs.declared.punctuator.Punctuator.TheVariants as p
 use Rattle.c_lexer.specs.declared.token.Token.{Token}
-use Rattle.c_lexer.specs.declared.token.Word.{Word}
-use Rattle.c_lexer.specs.declared.token.Word.TheVariants as word
-use Rattle.c_syntax.specs.declared.place.Place.{Place}
-use Rattle.c_syntax.specs.declared.place.Placed.{Placed}
-use Rattle.c_syntax.specs.declared.place.Spelled.{Spelled}
+use Rattle.c_lexer.specs.declared.token.TokenKind.{TokenKind}
+use Rattle.c_lexer.specs.declared.token.TokenKind.TheVariants as kinds
+use Rattle.c_syntax.specs.declared.position.Position.{Position}
+use Rattle.c_syntax.specs.declared.position.Positioned.{Positioned}
+use Rattle.c_syntax.specs.declared.position.Spelled.{Spelled}
 use Rattle.c_syntax.specs.Tree.{Expression, Arguments, MoreArguments, TypedDeclarator, Declarator, Parameters, MoreParameters, Specifiers, Specifier, Members, Member, MoreDeclarators, Enumerator, MoreEnumerators, Designator, Designation, Initializer, InitializerItem, MoreItems}
 use Rattle.c_syntax.specs.Tree as t
 use Rattle.c_syntax.specs.Statements.{InitDeclarator, InitDeclarators, Declaration, ForInit, Statement, Block, BlockItems, BlockItem, External, Unit}
 use Rattle.c_syntax.specs.Statements as s
 
--- words with their places
+-- words with their positions
 abbrev pub Words : Type 0
-Words = List Placed
+Words = List Positioned
 
--- tokens with their places, the first of which has this number
-abbrev pub placed_from : ℕ → List Token → Words
-placed_from n [] = []
-placed_from n (t ∷ z) = (record { word = t.word; place = record { at = n; line = t.line } }) ∷ placed_from (suc n) z
+-- tokens with their positions, the first of which has this number
+abbrev pub positioned_from : ℕ → List Token → Words
+positioned_from n [] = []
+positioned_from n (t ∷ z) = (record { kind = t.kind; position = record { at = n; line = t.line } }) ∷ positioned_from (suc n) z
 
--- the words of a text with their places, numbered from 0
-abbrev pub placed : List Token → Words
-placed tokens = placed_from 0 tokens
+-- the words of a text with their positions, numbered from 0
+abbrev pub positioned : List Token → Words
+positioned tokens = positioned_from 0 tokens
 
--- a word at a place
-abbrev pub word_at : Word → Place → Placed
-word_at w at = record { word = w; place = at }
+-- a word at a position
+abbrev pub word_at : TokenKind → Position → Positioned
+word_at w at = record { kind = w; position = at }
 
 -- a keyword
-abbrev pub keyword : Keyword → Place → Placed
-keyword w at = word_at (word.Keyword w) at
+abbrev pub keyword : Keyword → Position → Positioned
+keyword w at = word_at (kinds.Keyword w) at
 
 -- a punctuator
-abbrev pub punctuator : Punctuator → Place → Placed
-punctuator w at = word_at (word.Punctuator w) at
+abbrev pub punctuator : Punctuator → Position → Positioned
+punctuator w at = word_at (kinds.Punctuator w) at
 
 -- an identifier
-abbrev pub identifier : Spelled → Placed
-identifier x = word_at (word.Identifier x.spelling) x.place
+abbrev pub identifier : Spelled → Positioned
+identifier x = word_at (kinds.Identifier x.spelling) x.position
 
 -- an integer constant
-abbrev pub integer : Spelled → Placed
-integer x = word_at (word.Integer x.spelling) x.place
+abbrev pub integer : Spelled → Positioned
+integer x = word_at (kinds.Integer x.spelling) x.position
 
 -- a character constant
-abbrev pub character : Spelled → Placed
-character x = word_at (word.Character x.spelling) x.place
+abbrev pub character : Spelled → Positioned
+character x = word_at (kinds.Character x.spelling) x.position
 
 -- a string literal
-abbrev pub string : Spelled → Placed
-string x = word_at (word.StringLiteral x.spelling) x.place
+abbrev pub string : Spelled → Positioned
+string x = word_at (kinds.StringLiteral x.spelling) x.position
 
 -- string literals that stand side by side
 abbrev pub strings_words : List Spelled → Words → Words
@@ -62,7 +62,7 @@ strings_words [] i = i
 strings_words (x ∷ z) i = string x ∷ strings_words z i
 
 -- the words `const` behind a `*`
-abbrev pub const_words : List Place → Words → Words
+abbrev pub const_words : List Position → Words → Words
 const_words [] i = i
 const_words (at ∷ z) i = keyword k.Const at ∷ const_words z i
 
@@ -72,7 +72,7 @@ tag_words None i = i
 tag_words (Some x) i = identifier x ∷ i
 
 -- a last comma, or none
-abbrev pub comma_words : Option Place → Words → Words
+abbrev pub comma_words : Option Position → Words → Words
 comma_words None i = i
 comma_words (Some at) i = punctuator p.Comma at ∷ i
 
@@ -183,7 +183,7 @@ abbrev mutual
   more_items_words (t.more_items at x m) i = punctuator p.Comma at ∷ item_words x (more_items_words m i)
 
 -- an initializer behind its `=`, or none
-abbrev pub initialized_words : Option (Place × Initializer) → Words → Words
+abbrev pub initialized_words : Option (Position × Initializer) → Words → Words
 initialized_words None i = i
 initialized_words (Some x) i = punctuator p.Assign x.0 ∷ initializer_words x.1 i
 
@@ -192,7 +192,7 @@ abbrev pub init_declarator_words : InitDeclarator → Words → Words
 init_declarator_words x i = declarator_words x.declarator (initialized_words x.initializer i)
 
 -- the declarators behind the first
-abbrev pub more_init_declarators_words : List (Place × InitDeclarator) → Words → Words
+abbrev pub more_init_declarators_words : List (Position × InitDeclarator) → Words → Words
 more_init_declarators_words [] i = i
 more_init_declarators_words (x ∷ z) i = punctuator p.Comma x.0 ∷ init_declarator_words x.1 (more_init_declarators_words z i)
 

@@ -5,7 +5,7 @@ ghost use Rattle.c_syntax.specs.Formed as formed;
 ghost use Rattle.c_syntax.specs.Tree as tree;
 ghost use Rattle.c_syntax.specs.View as view;
 
-use crate::place::Place;
+use crate::position::Position;
 use crate::tree::{Declarator, Parameters, Specifier, TypedDeclarator};
 use c_lexer::Keyword;
 
@@ -82,7 +82,7 @@ fn is_void(parameter: &TypedDeclarator) -> bool
 /// Whether a first parameter is the word `void` and no others follow: this is the empty list, and no parameter (C99
 /// 6.7.5.3).
 #[tactic(auto, using(crate::proofs::TypedView::others_are_not_lone))]
-pub fn is_lone_void(first: &TypedDeclarator, others: &[(Place, TypedDeclarator)]) -> bool
+pub fn is_lone_void(first: &TypedDeclarator, others: &[(Position, TypedDeclarator)]) -> bool
     ensures { result ≡ formed.is_lone_void (view.typed_of first.now) (view.more_parameters_in others.now) }
 {
     match others {
@@ -100,7 +100,7 @@ fn is_named_parameter(parameter: &TypedDeclarator) -> bool
 }
 
 /// Whether the parameters behind the first have names.
-fn are_named_parameters(others: &[(Place, TypedDeclarator)]) -> bool
+fn are_named_parameters(others: &[(Position, TypedDeclarator)]) -> bool
     ensures { result ≡ formed.are_named_parameters (view.more_parameters_in others.now) }
 {
     for (_, parameter) in others {

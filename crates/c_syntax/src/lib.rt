@@ -5,7 +5,7 @@ pub mod declaration;
 pub mod declarators;
 pub mod names;
 pub mod operators;
-pub mod place;
+pub mod position;
 pub mod specifiers;
 pub mod statement;
 pub mod tree;
@@ -14,9 +14,11 @@ pub use crate::declaration::{
     Declaration, Designation, Designator, InitDeclarator, InitDeclarators, Initializer,
     InitializerItem,
 };
-pub use crate::place::{Place, Placed, Spelled, with_places};
+pub use crate::position::{Position, Positioned, Spelled, with_positions};
 pub use crate::specifiers::{TypeSize, TypeWords};
-pub use crate::statement::{Block, BlockItem, External, ForInit, Statement, Unit};
+pub use crate::statement::{
+    Block, BlockItem, CaseLabel, DoEnd, External, ForHead, ForInit, Parenthesized, Statement, Unit,
+};
 pub use crate::tree::{
     Arguments, Declarator, Enumerator, Expression, Member, Parameters, Specifier, TypedDeclarator,
 };

@@ -11,7 +11,7 @@ use c_syntax::operators::{
     binary_precedence, is_assignment, is_member_operator, is_postfix_operator, operand_precedence,
     precedence,
 };
-use c_syntax::place::Place;
+use c_syntax::position::Position;
 use c_syntax::specifiers::{has_typedef, names_one_type};
 use c_syntax::tree::{
     Arguments, Declarator, Enumerator, Expression, Member, Parameters, Specifier, TypedDeclarator,
@@ -113,7 +113,7 @@ pub(crate) fn is_argument<'r, 'a>(names: &'r [Spelling<'a>], argument: &'r Expre
 #[cycle(shapes)]
 fn are_more_arguments<'r, 'a>(
     names: &'r [Spelling<'a>],
-    others: &'r [(Place, Expression<'a>)],
+    others: &'r [(Position, Expression<'a>)],
 ) -> bool
     ensures { IsTrue result ↔ formed.AreMoreArguments names.now (view.more_arguments_in others.now) }
 {
@@ -210,7 +210,7 @@ fn are_parameters<'r, 'a>(names: &'r [Spelling<'a>], parameters: &'r Parameters<
 #[cycle(shapes)]
 fn are_more_parameters<'r, 'a>(
     names: &'r [Spelling<'a>],
-    others: &'r [(Place, TypedDeclarator<'a>)],
+    others: &'r [(Position, TypedDeclarator<'a>)],
 ) -> bool
     ensures { IsTrue result ↔ formed.AreMoreParameters names.now (view.more_parameters_in others.now) }
 {
@@ -296,7 +296,7 @@ fn is_member<'r, 'a>(names: &'r [Spelling<'a>], member: &'r Member<'a>) -> bool
 #[cycle(shapes)]
 fn are_more_declarators<'r, 'a>(
     names: &'r [Spelling<'a>],
-    others: &'r [(Place, Declarator<'a>)],
+    others: &'r [(Position, Declarator<'a>)],
 ) -> bool
     ensures { IsTrue result ↔ formed.AreMoreDeclarators names.now (view.more_declarators_in others.now) }
 {
@@ -327,7 +327,7 @@ fn is_enumerator<'r, 'a>(names: &'r [Spelling<'a>], enumerator: &'r Enumerator<'
 #[cycle(shapes)]
 fn are_more_enumerators<'r, 'a>(
     names: &'r [Spelling<'a>],
-    others: &'r [(Place, Enumerator<'a>)],
+    others: &'r [(Position, Enumerator<'a>)],
 ) -> bool
     ensures { IsTrue result ↔ formed.AreMoreEnumerators names.now (view.more_enumerators_in others.now) }
 {

@@ -5,7 +5,7 @@ ghost use Rattle.std.specs.Prelude.{IsTrue, ◌↔◌, ◌≤◌};
 ghost use Rattle.c_syntax.specs.Levels as spec;
 ghost use Rattle.c_syntax.specs.View as view;
 
-use c_syntax::place::Place;
+use c_syntax::position::Position;
 use c_syntax::tree::{
     Arguments, Declarator, Enumerator, Expression, Member, Parameters, Specifier, TypedDeclarator,
 };
@@ -70,7 +70,7 @@ fn arguments_fit(arguments: &Arguments, levels: usize) -> bool
 
 /// Whether the arguments behind the first have no more levels.
 #[cycle(levels)]
-fn more_arguments_fit(others: &[(Place, Expression)], levels: usize) -> bool
+fn more_arguments_fit(others: &[(Position, Expression)], levels: usize) -> bool
     ensures { IsTrue result ↔ (spec.more_arguments_levels (view.more_arguments_in others.now) ≤ levels) }
 {
     for (_, argument) in others {
@@ -132,7 +132,7 @@ fn parameters_fit(parameters: &Parameters, levels: usize) -> bool
 
 /// Whether the parameters behind the first have no more levels.
 #[cycle(levels)]
-fn more_parameters_fit(others: &[(Place, TypedDeclarator)], levels: usize) -> bool
+fn more_parameters_fit(others: &[(Position, TypedDeclarator)], levels: usize) -> bool
     ensures { IsTrue result ↔ (spec.more_parameters_levels (view.more_parameters_in others.now) ≤ levels) }
 {
     for (_, parameter) in others {
@@ -204,7 +204,7 @@ fn member_fits(member: &Member, levels: usize) -> bool
 
 /// Whether declarators behind commas have no more levels.
 #[cycle(levels)]
-fn more_declarators_fit(others: &[(Place, Declarator)], levels: usize) -> bool
+fn more_declarators_fit(others: &[(Position, Declarator)], levels: usize) -> bool
     ensures { IsTrue result ↔ (spec.more_declarators_levels (view.more_declarators_in others.now) ≤ levels) }
 {
     for (_, declarator) in others {
@@ -228,7 +228,7 @@ fn enumerator_fits(enumerator: &Enumerator, levels: usize) -> bool
 
 /// Whether enumerators behind commas have no more levels.
 #[cycle(levels)]
-fn more_enumerators_fit(others: &[(Place, Enumerator)], levels: usize) -> bool
+fn more_enumerators_fit(others: &[(Position, Enumerator)], levels: usize) -> bool
     ensures { IsTrue result ↔ (spec.more_enumerators_levels (view.more_enumerators_in others.now) ≤ levels) }
 {
     for (_, enumerator) in others {

@@ -16,13 +16,13 @@ returns-in_default c =
 pub returns-in_err-before : goal.returns-in_err-before
 returns-in_err-before c =
     let e = one_more (λ n. extending (more_init_declarators_in c.loop.others.items) (more_init_declarators_from c.args.levels false n c.args.names.now c.loop.tokens.rest.now)) _ c.loop.counter c.loop-test.true c.loop.invariant in
-    let f = init_declarator_fails c.args.levels false (length c.args.tokens.now.rest.now - (c.loop.counter + 1)) c.args.names.now (more_init_declarators_in c.loop.others.items) c.loop.tokens.rest.now c.in-Some.place c.take.new.self.rest.now c.init_declarator.new.tokens.rest.now _ c.in_err-before.field-0.0 e c.in-Some.ensures (refused init_declarator_of _ _ _ _ c.init_declarator.ensures (c.in_err-before.ensures.err _ refl)) in
+    let f = init_declarator_fails c.args.levels false (length c.args.tokens.now.rest.now - (c.loop.counter + 1)) c.args.names.now (more_init_declarators_in c.loop.others.items) c.loop.tokens.rest.now c.in-Some.position c.take.new.self.rest.now c.init_declarator.new.tokens.rest.now _ c.in_err-before.field-0.0 e c.in-Some.ensures (refused init_declarator_of _ _ _ _ c.init_declarator.ensures (c.in_err-before.ensures.err _ refl)) in
     first_of (search rules, grind (arith, common_steps))
 
 pub loop-preserved : goal.loop-preserved
 loop-preserved c =
     let e = one_more (λ n. extending (more_init_declarators_in c.loop.others.items) (more_init_declarators_from c.args.levels false n c.args.names.now c.loop.tokens.rest.now)) _ c.loop.counter c.loop-test.true c.loop.invariant in
-    rw (c.in_ok-others.ensures, c.in_ok-before.ensures.ok.0) (e ∙ init_declarator_turn c.args.levels false (length c.args.tokens.now.rest.now - (c.loop.counter + 1)) c.args.names.now c.loop.others.items c.in_ok-before.other c.loop.tokens.rest.now c.in-Some.place c.take.new.self.rest.now c.init_declarator.new.tokens.rest.now c.in-Some.ensures (read init_declarator_of _ _ _ _ c.init_declarator.ensures c.in_ok-before.ensures.ok.1))
+    rw (c.in_ok-others.ensures, c.in_ok-before.ensures.ok.0) (e ∙ init_declarator_turn c.args.levels false (length c.args.tokens.now.rest.now - (c.loop.counter + 1)) c.args.names.now c.loop.others.items c.in_ok-before.other c.loop.tokens.rest.now c.in-Some.position c.take.new.self.rest.now c.init_declarator.new.tokens.rest.now c.in-Some.ensures (read init_declarator_of _ _ _ _ c.init_declarator.ensures c.in_ok-before.ensures.ok.1))
 
 pub returns : goal.returns
 returns c =

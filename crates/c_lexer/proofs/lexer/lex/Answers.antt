@@ -38,9 +38,9 @@ loop-rest-preserved c =
     let d = take_rest c.skip_gap-gap.result.rest.now c.in-Some.length in
     let k = newlines_cut c.in-Some.length c.skip_gap-gap.result.rest.now in
     let n : c.newlines-in-loop-rest.result ≡ newlines (take c.in-Some.length c.skip_gap-gap.result.rest.now) = c.newlines-in-loop-rest.ensures.value in
-    let s = shorter_behind c.skip_gap-gap.result.rest.now c.in-Some.word c.in-Some.length (sym c.in-Some.ensures.value) in
+    let s = shorter_behind c.skip_gap-gap.result.rest.now c.in-Some.kind c.in-Some.length (sym c.in-Some.ensures.value) in
     record {
-      read = read_more c.args.text.now c.loop-rest.rest.now c.loop-rest.first g c.new-here.result c.loop-rest.items.items c.push.new.self.items c.in-Some.word c.in-Some.length _ at c.loop-rest.invariant.read c.is_empty.result c.is_empty.ensures c.if-is_empty.false c.in-Some.ensures.value d
+      read = read_more c.args.text.now c.loop-rest.rest.now c.loop-rest.first g c.new-here.result c.loop-rest.items.items c.push.new.self.items c.in-Some.kind c.in-Some.length _ at c.loop-rest.invariant.read c.is_empty.result c.is_empty.ensures c.if-is_empty.false c.in-Some.ensures.value d
           (pushed c.push.result c.push.new.self.items c.loop-rest.items.items _ c.is_err.result c.push.ensures.items c.is_err.ensures.value c.if-is_err.false);
       line = ap (λ r. c.loop-rest.line + c.newlines.result + c.newlines-in-loop-rest.result + newlines r) d ∙ omega (arith, p.counted);
       some = omega (arith, c.loop-rest.invariant.some);

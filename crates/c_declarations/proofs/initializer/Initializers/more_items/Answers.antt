@@ -18,19 +18,19 @@ returns-in_default g c =
 pub returns-then-next_is : goal.returns-then-next_is
 returns-then-next_is g c =
     let e = one_more (λ n. extending_to_brace (map (behind_comma item_of) c.loop.others.items) (behind_commas_to_brace (item_from (readers c.args.self.now.names.now c.args.self.now.levels) (initializers c.args.self.now.names.now c.args.self.now.levels)) n c.loop.tokens.rest.now)) _ c.loop.counter c.loop-test.true c.loop.invariant in
-    let f = e ∙ to_brace_last (item_from (readers c.args.self.now.names.now c.args.self.now.levels) (initializers c.args.self.now.names.now c.args.self.now.levels)) (length c.args.tokens.now.rest.now - (c.loop.counter + 1)) (map (behind_comma item_of) c.loop.others.items) c.loop.tokens.rest.now c.in-Some.place c.take.new.self.rest.now c.in-Some.ensures (sym c.next_is.ensures ∙ c.if-next_is.true) in
+    let f = e ∙ to_brace_last (item_from (readers c.args.self.now.names.now c.args.self.now.levels) (initializers c.args.self.now.names.now c.args.self.now.levels)) (length c.args.tokens.now.rest.now - (c.loop.counter + 1)) (map (behind_comma item_of) c.loop.others.items) c.loop.tokens.rest.now c.in-Some.position c.take.new.self.rest.now c.in-Some.ensures (sym c.next_is.ensures ∙ c.if-next_is.true) in
     first_of (search rules, grind (arith, common_steps))
 
 pub returns-in_err-before : goal.returns-in_err-before
 returns-in_err-before g c =
     let e = one_more (λ n. extending_to_brace (map (behind_comma item_of) c.loop.others.items) (behind_commas_to_brace (item_from (readers c.args.self.now.names.now c.args.self.now.levels) (initializers c.args.self.now.names.now c.args.self.now.levels)) n c.loop.tokens.rest.now)) _ c.loop.counter c.loop-test.true c.loop.invariant in
-    let f = to_brace_fails (item_from (readers c.args.self.now.names.now c.args.self.now.levels) (initializers c.args.self.now.names.now c.args.self.now.levels)) (length c.args.tokens.now.rest.now - (c.loop.counter + 1)) (map (behind_comma item_of) c.loop.others.items) c.loop.tokens.rest.now c.in-Some.place c.take.new.self.rest.now c.item.new.tokens.rest.now _ c.in_err-before.field-0.0 e c.in-Some.ensures (sym c.next_is.ensures ∙ c.if-next_is.false) (refused item_of _ _ _ _ c.item.ensures (c.in_err-before.ensures.err _ refl)) in
+    let f = to_brace_fails (item_from (readers c.args.self.now.names.now c.args.self.now.levels) (initializers c.args.self.now.names.now c.args.self.now.levels)) (length c.args.tokens.now.rest.now - (c.loop.counter + 1)) (map (behind_comma item_of) c.loop.others.items) c.loop.tokens.rest.now c.in-Some.position c.take.new.self.rest.now c.item.new.tokens.rest.now _ c.in_err-before.field-0.0 e c.in-Some.ensures (sym c.next_is.ensures ∙ c.if-next_is.false) (refused item_of _ _ _ _ c.item.ensures (c.in_err-before.ensures.err _ refl)) in
     first_of (search rules, grind (arith, common_steps))
 
 pub loop-preserved : goal.loop-preserved
 loop-preserved g c =
     let e = one_more (λ n. extending_to_brace (map (behind_comma item_of) c.loop.others.items) (behind_commas_to_brace (item_from (readers c.args.self.now.names.now c.args.self.now.levels) (initializers c.args.self.now.names.now c.args.self.now.levels)) n c.loop.tokens.rest.now)) _ c.loop.counter c.loop-test.true c.loop.invariant in
-    rw (c.in_ok-others.ensures, c.in_ok-before.ensures.ok.0) (e ∙ to_brace_turn item_of (item_from (readers c.args.self.now.names.now c.args.self.now.levels) (initializers c.args.self.now.names.now c.args.self.now.levels)) (length c.args.tokens.now.rest.now - (c.loop.counter + 1)) c.loop.others.items c.in_ok-before.item c.loop.tokens.rest.now c.in-Some.place c.take.new.self.rest.now c.item.new.tokens.rest.now c.in-Some.ensures (sym c.next_is.ensures ∙ c.if-next_is.false) (read item_of _ _ _ _ c.item.ensures c.in_ok-before.ensures.ok.1))
+    rw (c.in_ok-others.ensures, c.in_ok-before.ensures.ok.0) (e ∙ to_brace_turn item_of (item_from (readers c.args.self.now.names.now c.args.self.now.levels) (initializers c.args.self.now.names.now c.args.self.now.levels)) (length c.args.tokens.now.rest.now - (c.loop.counter + 1)) c.loop.others.items c.in_ok-before.item c.loop.tokens.rest.now c.in-Some.position c.take.new.self.rest.now c.item.new.tokens.rest.now c.in-Some.ensures (sym c.next_is.ensures ∙ c.if-next_is.false) (read item_of _ _ _ _ c.item.ensures c.in_ok-before.ensures.ok.1))
 
 pub returns : goal.returns
 returns g c =

@@ -15,9 +15,9 @@ returns g c =
     let q = c.in_ok-enumerators-2.ensures.ok.0 in
     let b = c.in_ok-enumerators.ensures.ok.0 ∙ c.in_ok-first.ensures in
     let levels = c.max.ensures ∙ ap (λ z. max z.0.levels z.1.levels) q ∙ ap (λ x. max x.levels c.in_ok-enumerators.enumerators.1.levels) b in
-    let view = enumeration_view c.args.place c.args.tag c.in_ok-left.left c.in_ok-enumerators.enumerators.0.tree c.in_ok-enumerators.enumerators.1.tree.0 c.in_ok-enumerators.enumerators.1.tree.1 c.in_ok-enumerators-2.right in (
+    let view = enumeration_view c.args.position c.args.tag c.in_ok-left.left c.in_ok-enumerators.enumerators.0.tree c.in_ok-enumerators.enumerators.1.tree.0 c.in_ok-enumerators.enumerators.1.tree.1 c.in_ok-enumerators-2.right in (
       rw q (
-          enumeration_read c.args.self.now.names.now (readers c.args.self.now.names.now c.args.self.now.levels) c.args.self.now.levels c.args.place c.args.tag
+          enumeration_read c.args.self.now.names.now (readers c.args.self.now.names.now c.args.self.now.levels) c.args.self.now.levels c.args.position c.args.tag
           c.args.tokens.now.rest.now c.expect.new.self.rest.now c.enumerator.new.tokens.rest.now c.more_enumerators.new.tokens.rest.now c.expect-2.new.self.rest.now
           c.in_ok-left.left c.in_ok-enumerators-2.right (enumerator_of c.in_ok-enumerators.enumerators.0.tree) (enumerators_behind c.in_ok-enumerators.enumerators.1.tree)
           c.in_ok-left.ensures.read (rw b c.in_ok-enumerator.ensures.0) o.0 r

@@ -1,4 +1,5 @@
-//! Reading declarations (C99 6.7). Expressions, declarators, specifiers and initializers have at most some number of levels.
+//! Reading declarations (C99 6.7). Expressions, declarators, specifiers and initializers have at most some number of
+//! levels.
 
 ghost use Rattle.std.specs.Prelude.{◌≡◌, true, false, None, length, suc, IfOk, IfErr};
 ghost use Rattle.c_grammar.specs.DeclarationReader as spec;
@@ -8,7 +9,8 @@ ghost use Rattle.c_grammar.specs.declared.declarator_kind.DeclaratorKind.TheVari
 ghost use Rattle.c_grammar.specs.declared.cursor.Fault.TheVariants.{Refused};
 ghost use Rattle.c_syntax.specs.Formed as formed;
 ghost use Rattle.c_syntax.specs.View.{declarator_of, specifiers_in};
-ghost use Rattle.c_syntax.specs.StatementsView.{initialized_of, init_declarator_of, more_init_declarators_in, declaration_of};
+ghost use Rattle.c_syntax.specs.StatementsView.{initialized_of, init_declarator_of, more_init_declarators_in};
+ghost use Rattle.c_syntax.specs.StatementsView.{declaration_of};
 
 use crate::initializer::initializer;
 use c_expressions::leveled::{beside, with_item};
@@ -24,12 +26,14 @@ use c_syntax::{
 };
 use std::alloc::{AllocError, Global};
 
-/// Puts the name of a declarator, if it has one, behind the typedef names, or answers that there is no memory (C99 6.7.7).
+/// Puts the name of a declarator, if it has one, behind the typedef names, or answers that there is no memory (C99
+/// 6.7.7).
 fn add_typedef_name<'a>(
     names: &mut Vec<Spelling<'a>>,
     declarator: &Declarator<'a>,
 ) -> Result<(), AllocError>
-    ensures { IfOk result (λ _. names.new.items ≡ formed.names_after true (declarator_of declarator.now) names.old.items) }
+    ensures { IfOk result (λ _. names.new.items ≡ formed.names_after true (declarator_of declarator.now)
+        names.old.items) }
 {
     if let Some(name) = declared_name(declarator) {
         names.push(name)?;
@@ -44,7 +48,8 @@ pub fn add_defined_name<'a>(
     specifiers: &[Specifier<'a>],
     declarator: &Declarator<'a>,
 ) -> Result<(), AllocError>
-    ensures { IfOk result (λ _. names.new.items ≡ formed.names_after (formed.has_typedef (specifiers_in specifiers.now)) (declarator_of declarator.now) names.old.items) }
+    ensures { IfOk result (λ _. names.new.items ≡ formed.names_after (formed.has_typedef (specifiers_in specifiers.now))
+        (declarator_of declarator.now) names.old.items) }
 {
     if has_typedef(specifiers) {
         add_typedef_name(names, declarator)?;
@@ -59,7 +64,8 @@ pub fn named_declarator<'a>(
     tokens: &mut Cursor<'_, 'a>,
     levels: u8,
 ) -> Result<Boxed<Declarator<'a>>, Fault>
-    ensures { Reads declarator_of ((readers names.now (suc levels)).declarator declarator_kinds.Named tokens.old.rest.now)
+    ensures { Reads declarator_of ((readers names.now (suc levels)).declarator declarator_kinds.Named
+        tokens.old.rest.now)
         result tokens.new.rest.now }
 {
     let declarator = declarator(
@@ -81,7 +87,8 @@ fn initialized<'a>(
     tokens: &mut Cursor<'_, 'a>,
     levels: u8,
 ) -> Result<Option<(Position, Boxed<Initializer<'a>>)>, Fault>
-    ensures { Reads initialized_of (spec.initialized_from levels names.now tokens.old.rest.now) result tokens.new.rest.now }
+    ensures { Reads initialized_of (spec.initialized_from levels names.now tokens.old.rest.now) result
+        tokens.new.rest.now }
 {
     if !next_is(tokens.rest, Punctuator::Assign) {
         return Ok(None);
@@ -101,7 +108,8 @@ fn init_declarator_behind<'a>(
     levels: u8,
     declarator: Boxed<Declarator<'a>>,
 ) -> Result<InitDeclarator<'a>, Fault>
-    ensures { Reads init_declarator_of (spec.init_declarator_behind levels false names.now (declarator_of declarator.entry) tokens.old.rest.now) result tokens.new.rest.now }
+    ensures { Reads init_declarator_of (spec.init_declarator_behind levels false names.now
+        (declarator_of declarator.entry) tokens.old.rest.now) result tokens.new.rest.now }
 {
     let initializer = initialized(alloc, names, tokens, levels);
     let (declarator, initializer) = beside(declarator, initializer)?;
@@ -119,7 +127,8 @@ fn init_declarator<'a>(
     tokens: &mut Cursor<'_, 'a>,
     levels: u8,
 ) -> Result<InitDeclarator<'a>, Fault>
-    ensures { Reads init_declarator_of (spec.init_declarator_from levels false names.now tokens.old.rest.now) result tokens.new.rest.now }
+    ensures { Reads init_declarator_of (spec.init_declarator_from levels false names.now tokens.old.rest.now) result
+        tokens.new.rest.now }
 {
     let declarator = named_declarator(alloc, names, tokens, levels)?;
     init_declarator_behind(alloc, names, tokens, levels, declarator)
@@ -133,7 +142,8 @@ fn more_init_declarators<'a>(
     tokens: &mut Cursor<'_, 'a>,
     levels: u8,
 ) -> Result<Items<(Position, InitDeclarator<'a>)>, Fault>
-    ensures { Reads more_init_declarators_in (spec.more_init_declarators_from levels false (length tokens.old.rest.now) names.now tokens.old.rest.now) result tokens.new.rest.now }
+    ensures { Reads more_init_declarators_in (spec.more_init_declarators_from levels false (length tokens.old.rest.now)
+        names.now tokens.old.rest.now) result tokens.new.rest.now }
 {
     let mut others = Vec::new(alloc);
     for _ in 0..tokens.rest.len() {
@@ -155,9 +165,11 @@ fn typedef_behind<'a>(
     levels: u8,
     declarator: Boxed<Declarator<'a>>,
 ) -> Result<InitDeclarator<'a>, Fault>
-    ensures read { Reads init_declarator_of (spec.init_declarator_behind levels true names.old.items (declarator_of declarator.entry) tokens.old.rest.now) result tokens.new.rest.now }
+    ensures read { Reads init_declarator_of (spec.init_declarator_behind levels true names.old.items
+        (declarator_of declarator.entry) tokens.old.rest.now) result tokens.new.rest.now }
     ensures declarator { IfOk result (λ x. x.declarator ≡ declarator.entry) }
-    ensures names { IfOk result (λ _. names.new.items ≡ formed.names_after true (declarator_of declarator.entry) names.old.items) }
+    ensures names { IfOk result (λ _. names.new.items ≡ formed.names_after true (declarator_of declarator.entry)
+        names.old.items) }
 {
     let added = add_typedef_name(names, declarator.get());
     let (declarator, ()) = beside(declarator, added)?;
@@ -177,8 +189,10 @@ fn typedef_declarator<'a>(
     tokens: &mut Cursor<'_, 'a>,
     levels: u8,
 ) -> Result<InitDeclarator<'a>, Fault>
-    ensures read { Reads init_declarator_of (spec.init_declarator_from levels true names.old.items tokens.old.rest.now) result tokens.new.rest.now }
-    ensures names { IfOk result (λ x. names.new.items ≡ formed.names_after true (declarator_of x.declarator) names.old.items) }
+    ensures read { Reads init_declarator_of (spec.init_declarator_from levels true names.old.items tokens.old.rest.now)
+        result tokens.new.rest.now }
+    ensures names { IfOk result (λ x. names.new.items ≡ formed.names_after true (declarator_of x.declarator)
+        names.old.items) }
 {
     let declarator = named_declarator(alloc, names.as_slice(), tokens, levels)?;
     typedef_behind(alloc, names, tokens, levels, declarator)
@@ -192,8 +206,10 @@ fn more_typedef_declarators<'a>(
     tokens: &mut Cursor<'_, 'a>,
     levels: u8,
 ) -> Result<Items<(Position, InitDeclarator<'a>)>, Fault>
-    ensures read { Reads more_init_declarators_in (spec.more_init_declarators_from levels true (length tokens.old.rest.now) names.old.items tokens.old.rest.now) result tokens.new.rest.now }
-    ensures names { IfOk result (λ z. names.new.items ≡ formed.names_after_more true (more_init_declarators_in z) names.old.items) }
+    ensures read { Reads more_init_declarators_in (spec.more_init_declarators_from levels true
+        (length tokens.old.rest.now) names.old.items tokens.old.rest.now) result tokens.new.rest.now }
+    ensures names { IfOk result (λ z. names.new.items ≡ formed.names_after_more true (more_init_declarators_in z)
+        names.old.items) }
 {
     let mut others = Vec::new(alloc);
     for _ in 0..tokens.rest.len() {
@@ -217,7 +233,8 @@ fn plain_declaration_behind<'a>(
     declarator: Boxed<Declarator<'a>>,
 ) -> Result<Declaration<'a>, Fault>
     requires { formed.has_typedef (specifiers_in specifiers) ≡ false }
-    ensures read { Reads declaration_of (spec.declaration_behind levels names.now (specifiers_in specifiers.entry) (declarator_of declarator.entry) tokens.old.rest.now) result tokens.new.rest.now }
+    ensures read { Reads declaration_of (spec.declaration_behind levels names.now (specifiers_in specifiers.entry)
+        (declarator_of declarator.entry) tokens.old.rest.now) result tokens.new.rest.now }
     ensures plain { IfOk result (λ x. formed.has_typedef (specifiers_in x.specifiers) ≡ false) }
 {
     let first = init_declarator_behind(alloc, names, tokens, levels, declarator);
@@ -245,8 +262,10 @@ fn typedef_declaration_behind<'a>(
     declarator: Boxed<Declarator<'a>>,
 ) -> Result<Declaration<'a>, Fault>
     requires { formed.has_typedef (specifiers_in specifiers) ≡ true }
-    ensures read { Reads declaration_of (spec.declaration_behind levels names.old.items (specifiers_in specifiers.entry) (declarator_of declarator.entry) tokens.old.rest.now) result tokens.new.rest.now }
-    ensures names { IfOk result (λ x. names.new.items ≡ formed.names_after_declaration (declaration_of x) names.old.items) }
+    ensures read { Reads declaration_of (spec.declaration_behind levels names.old.items (specifiers_in specifiers.entry)
+        (declarator_of declarator.entry) tokens.old.rest.now) result tokens.new.rest.now }
+    ensures names { IfOk result (λ x. names.new.items ≡ formed.names_after_declaration (declaration_of x)
+        names.old.items) }
 {
     let first = typedef_behind(alloc, names, tokens, levels, declarator);
     let parts = beside(specifiers, first)?;
@@ -265,8 +284,8 @@ fn typedef_declaration_behind<'a>(
     })
 }
 
-/// Reads the rest of a declaration behind its first declarator, and puts the names of a typedef behind the typedef names
-/// (C99 6.7, 6.7.7).
+/// Reads the rest of a declaration behind its first declarator, and puts the names of a typedef behind the typedef
+/// names (C99 6.7, 6.7.7).
 pub fn declaration_behind<'a>(
     alloc: Global,
     names: &mut Vec<Spelling<'a>>,
@@ -275,8 +294,10 @@ pub fn declaration_behind<'a>(
     specifiers: Items<Specifier<'a>>,
     declarator: Boxed<Declarator<'a>>,
 ) -> Result<Declaration<'a>, Fault>
-    ensures read { Reads declaration_of (spec.declaration_behind levels names.old.items (specifiers_in specifiers.entry) (declarator_of declarator.entry) tokens.old.rest.now) result tokens.new.rest.now }
-    ensures names { IfOk result (λ x. names.new.items ≡ formed.names_after_declaration (declaration_of x) names.old.items) }
+    ensures read { Reads declaration_of (spec.declaration_behind levels names.old.items (specifiers_in specifiers.entry)
+        (declarator_of declarator.entry) tokens.old.rest.now) result tokens.new.rest.now }
+    ensures names { IfOk result (λ x. names.new.items ≡ formed.names_after_declaration (declaration_of x)
+        names.old.items) }
 {
     if has_typedef(specifiers.as_slice()) {
         return typedef_declaration_behind(alloc, names, tokens, levels, specifiers, declarator);
@@ -299,7 +320,8 @@ pub fn bare_declaration<'a>(
     levels: u8,
     specifiers: Items<Specifier<'a>>,
 ) -> Result<Declaration<'a>, Fault>
-    ensures read { Reads declaration_of (spec.bare_declaration_from levels (specifiers_in specifiers.entry) tokens.old.rest.now) result tokens.new.rest.now }
+    ensures read { Reads declaration_of (spec.bare_declaration_from levels (specifiers_in specifiers.entry)
+        tokens.old.rest.now) result tokens.new.rest.now }
     ensures bare { IfOk result (λ x. x.declarators ≡ None) }
     ensures no_memory { IfErr result (λ f. f ≡ Refused) }
 {
@@ -327,12 +349,5 @@ pub fn local<'a>(
     }
     let declarator = named_declarator(alloc, names, tokens, levels);
     let (specifiers, declarator) = beside(specifiers, declarator)?;
-    plain_declaration_behind(
-        alloc,
-        names,
-        tokens,
-        levels,
-        specifiers.tree,
-        declarator,
-    )
+    plain_declaration_behind(alloc, names, tokens, levels, specifiers.tree, declarator)
 }

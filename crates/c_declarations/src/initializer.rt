@@ -34,7 +34,8 @@ fn element<'a>(
     tokens: &mut Cursor<'_, 'a>,
     levels: usize,
 ) -> Result<Designator<'a>, Fault>
-    ensures { Reads designator_of (spec.element_from (readers names.now levels) tokens.old.rest.now) result tokens.new.rest.now }
+    ensures { Reads designator_of (spec.element_from (readers names.now levels) tokens.old.rest.now) result
+        tokens.new.rest.now }
 {
     let left = tokens.expect(Punctuator::LeftBracket)?;
     let size = expression(alloc, names, tokens, levels, None, 3)?.boxed(alloc)?;
@@ -49,7 +50,8 @@ fn member_named<'a>(
     tokens: &mut Cursor<'_, 'a>,
     levels: usize,
 ) -> Result<Designator<'a>, Fault>
-    ensures { Reads designator_of (spec.member_named_from (readers names.now levels) tokens.old.rest.now) result tokens.new.rest.now }
+    ensures { Reads designator_of (spec.member_named_from (readers names.now levels) tokens.old.rest.now) result
+        tokens.new.rest.now }
 {
     let position = tokens.expect(Punctuator::Dot)?;
     let name = tokens.identifier()?;
@@ -63,7 +65,8 @@ fn designator<'a>(
     tokens: &mut Cursor<'_, 'a>,
     levels: usize,
 ) -> Result<Designator<'a>, Fault>
-    ensures { Reads designator_of (spec.designator_from (readers names.now levels) tokens.old.rest.now) result tokens.new.rest.now }
+    ensures { Reads designator_of (spec.designator_from (readers names.now levels) tokens.old.rest.now) result
+        tokens.new.rest.now }
 {
     if next_is(tokens.rest, Punctuator::LeftBracket) {
         element(alloc, names, tokens, levels)
@@ -80,7 +83,8 @@ fn designators<'a>(
     tokens: &mut Cursor<'_, 'a>,
     levels: usize,
 ) -> Result<Items<Designator<'a>>, Fault>
-    ensures { Reads designators_in (spec.designators_from (readers names.now levels) (length tokens.old.rest.now) tokens.old.rest.now) result tokens.new.rest.now }
+    ensures { Reads designators_in (spec.designators_from (readers names.now levels) (length tokens.old.rest.now)
+        tokens.old.rest.now) result tokens.new.rest.now }
 {
     let mut designators = Vec::new(alloc);
     for _ in 0..tokens.rest.len() {
@@ -101,7 +105,8 @@ fn designation<'a>(
     tokens: &mut Cursor<'_, 'a>,
     levels: usize,
 ) -> Result<Option<Designation<'a>>, Fault>
-    ensures { Reads designation_of (spec.designation_from (readers names.now levels) tokens.old.rest.now) result tokens.new.rest.now }
+    ensures { Reads designation_of (spec.designation_from (readers names.now levels) tokens.old.rest.now) result
+        tokens.new.rest.now }
 {
     if !begins_designator(tokens.rest) {
         return Ok(None);
@@ -122,7 +127,8 @@ pub fn value<'a>(
     tokens: &mut Cursor<'_, 'a>,
     levels: usize,
 ) -> Result<Initializer<'a>, Fault>
-    ensures { Reads initializer_of (spec.value_from (readers names.now levels) tokens.old.rest.now) result tokens.new.rest.now }
+    ensures { Reads initializer_of (spec.value_from (readers names.now levels) tokens.old.rest.now) result
+        tokens.new.rest.now }
 {
     let value = expression(alloc, names, tokens, levels, None, 2)?;
     Ok(Initializer::Value(value.tree))
@@ -149,7 +155,8 @@ impl<
     /// Reads an initializer with fewer levels.
     fn deeper(&self, tokens: &mut Cursor<'_, 'a>) -> Result<Initializer<'a>, Fault>
         requires { DeeperInitializers self.now.levels (I.pre self.now.initializer) (I.post self.now.initializer) }
-        ensures { Reads initializer_of (spec.initializers self.now.names.now self.now.levels tokens.old.rest.now) result tokens.new.rest.now }
+        ensures { Reads initializer_of (spec.initializers self.now.names.now self.now.levels tokens.old.rest.now) result
+            tokens.new.rest.now }
     {
         (self.initializer)(self.alloc, self.names, tokens, self.levels)
     }
@@ -158,7 +165,8 @@ impl<
     #[tactic(auto, unfolding(c_grammar::specs::InitializerReader::item_from))]
     fn item(&self, tokens: &mut Cursor<'_, 'a>) -> Result<InitializerItem<'a>, Fault>
         requires { DeeperInitializers self.now.levels (I.pre self.now.initializer) (I.post self.now.initializer) }
-        ensures { Reads item_of (spec.item_from (readers self.now.names.now self.now.levels) (spec.initializers self.now.names.now self.now.levels) tokens.old.rest.now) result tokens.new.rest.now }
+        ensures { Reads item_of (spec.item_from (readers self.now.names.now self.now.levels)
+            (spec.initializers self.now.names.now self.now.levels) tokens.old.rest.now) result tokens.new.rest.now }
     {
         let designation = designation(self.alloc, self.names, tokens, self.levels)?;
         let (designation, initializer) = beside(designation, self.deeper(tokens))?;
@@ -175,7 +183,9 @@ impl<
         tokens: &mut Cursor<'_, 'a>,
     ) -> Result<(Items<(Position, InitializerItem<'a>)>, Option<Position>), Fault>
         requires { DeeperInitializers self.now.levels (I.pre self.now.initializer) (I.post self.now.initializer) }
-        ensures { Reads items_to_brace (behind_commas_to_brace (spec.item_from (readers self.now.names.now self.now.levels) (spec.initializers self.now.names.now self.now.levels)) (length tokens.old.rest.now) tokens.old.rest.now) result tokens.new.rest.now }
+        ensures { Reads items_to_brace (behind_commas_to_brace (spec.item_from
+            (readers self.now.names.now self.now.levels) (spec.initializers self.now.names.now self.now.levels))
+            (length tokens.old.rest.now) tokens.old.rest.now) result tokens.new.rest.now }
     {
         let mut others = Vec::new(self.alloc);
         for _ in 0..tokens.rest.len() {
@@ -195,7 +205,8 @@ impl<
     #[tactic(auto, unfolding(c_grammar::specs::InitializerReader::braced_from))]
     pub fn braced(&self, tokens: &mut Cursor<'_, 'a>) -> Result<Initializer<'a>, Fault>
         requires { DeeperInitializers self.now.levels (I.pre self.now.initializer) (I.post self.now.initializer) }
-        ensures { Reads initializer_of (spec.braced_from (spec.item_from (readers self.now.names.now self.now.levels) (spec.initializers self.now.names.now self.now.levels)) tokens.old.rest.now) result tokens.new.rest.now }
+        ensures { Reads initializer_of (spec.braced_from (spec.item_from (readers self.now.names.now self.now.levels)
+            (spec.initializers self.now.names.now self.now.levels)) tokens.old.rest.now) result tokens.new.rest.now }
     {
         let left = tokens.expect(Punctuator::LeftBrace)?;
         let first = Boxed::new(self.alloc, self.item(tokens)?)?;

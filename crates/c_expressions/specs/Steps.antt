@@ -8,10 +8,13 @@ use Rattle.c_syntax.specs.declared.tree.Enumerator as re
 use Rattle.c_syntax.specs.declared.tree.Expression as rx
 use Rattle.c_syntax.specs.declared.tree.Specifier as rs
 use Rattle.c_syntax.specs.declared.tree.TypedDeclarator as rt
-use Rattle.c_syntax.specs.Tree.{Expression, Specifiers, TypedDeclarator, MoreParameters, Declarator, Specifier, Enumerator, Member}
+use Rattle.c_syntax.specs.Tree.{Expression, Specifiers, TypedDeclarator, MoreParameters, Declarator, Specifier}
+use Rattle.c_syntax.specs.Tree.{Enumerator, Member}
 use Rattle.c_syntax.specs.Tree as t
-use Rattle.c_syntax.specs.Levels.{more_arguments_levels, more_parameters_levels, more_declarators_levels, more_enumerators_levels}
-use Rattle.c_syntax.specs.View.{expression_of, specifier_of, typed_of, declarator_of, enumerator_of, behind_comma, more_arguments_of, more_parameters_of, more_declarators_of, more_enumerators_of}
+use Rattle.c_syntax.specs.Levels.{more_arguments_levels, more_parameters_levels, more_declarators_levels}
+use Rattle.c_syntax.specs.Levels.{more_enumerators_levels}
+use Rattle.c_syntax.specs.View.{expression_of, specifier_of, typed_of, declarator_of, enumerator_of, behind_comma}
+use Rattle.c_syntax.specs.View.{more_arguments_of, more_parameters_of, more_declarators_of, more_enumerators_of}
 use Rattle.c_syntax.specs.Words.{Words}
 use Rattle.c_syntax.specs.Formed.{operand_precedence, precedence}
 use Rattle.c_grammar.specs.Reader.{Outcome, ◌>>=◌, next_is}
@@ -39,7 +42,8 @@ operation_next names deeper levels l (first ∷ i) = operation_by names deeper l
 
 -- the next word goes on with this operand, of which the levels are told
 abbrev pub operation_is_next : ℕ → ℕ → Expression → ℕ → Words → Bool
-operation_is_next levels m l said i = next_is (λ w. nat_le m (binds w) && (nat_le (needs w) (precedence l) && nat_lt said levels)) i
+operation_is_next levels m l said i = next_is (λ w. nat_le m (binds w) &&
+    (nat_le (needs w) (precedence l) && nat_lt said levels)) i
 
 -- arguments behind commas
 abbrev pub arguments_behind : List (Position × rx.Expression) → List (Position × Expression)
@@ -83,7 +87,8 @@ abbrev pub declarators_behind_levels : List (Position × Declarator) → ℕ
 declarators_behind_levels z = more_declarators_levels (more_declarators_of z)
 
 -- enumerators behind commas, and a last comma
-abbrev pub enumerators_behind : List (Position × re.Enumerator) × Option Position → List (Position × Enumerator) × Option Position
+abbrev pub enumerators_behind : List (Position × re.Enumerator) × Option Position
+    → List (Position × Enumerator) × Option Position
 enumerators_behind z = (map (behind_comma enumerator_of) z.0, z.1)
 
 abbrev pub enumerators_behind_levels : List (Position × Enumerator) × Option Position → ℕ

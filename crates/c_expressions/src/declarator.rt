@@ -37,7 +37,10 @@ fn must_have_name(kind: DeclaratorKind) -> bool
 }
 
 /// No word of a declarator.
-fn unnamed<'a>(kind: DeclaratorKind, rest: &[Positioned<'a>]) -> Result<Leveled<Declarator<'a>>, Fault>
+fn unnamed<'a>(
+    kind: DeclaratorKind,
+    rest: &[Positioned<'a>],
+) -> Result<Leveled<Declarator<'a>>, Fault>
     ensures { ReadsLeveled declarator_of declarator_levels 1 (spec.unnamed_at kind rest.now) result rest.now }
 {
     if must_have_name(kind) {
@@ -103,9 +106,13 @@ impl<
         left: Leveled<Declarator<'a>>,
         position: Position,
     ) -> Result<Leveled<Declarator<'a>>, Fault>
-        requires deeper { Deeper self.now.levels (E.pre self.now.expression) (E.post self.now.expression) (S.pre self.now.specifiers) (S.post self.now.specifiers) (D.pre self.now.declarator) (D.post self.now.declarator) }
+        requires deeper { Deeper self.now.levels (E.pre self.now.expression) (E.post self.now.expression)
+            (S.pre self.now.specifiers) (S.post self.now.specifiers) (D.pre self.now.declarator)
+            (D.post self.now.declarator) }
         requires known { Below self.now.levels left.levels (declarator_levels (declarator_of left.tree)) }
-        ensures { ReadsLeveled declarator_of declarator_levels (suc self.now.levels) (spec.function_from self.now.names.now (readers self.now.names.now self.now.levels) self.now.levels (declarator_of left.entry.tree) position tokens.old.rest.now) result tokens.new.rest.now }
+        ensures { ReadsLeveled declarator_of declarator_levels (suc self.now.levels)
+            (spec.function_from self.now.names.now (readers self.now.names.now self.now.levels) self.now.levels
+            (declarator_of left.entry.tree) position tokens.old.rest.now) result tokens.new.rest.now }
     {
         let called = beside(left.boxed(self.alloc)?, self.parameters(tokens))?;
         let (called, right) = beside(called, tokens.expect(Punctuator::RightParenthesis))?;
@@ -116,7 +123,8 @@ impl<
         })
     }
 
-    /// Reads what follows a first `(`: the parameters of a function without a name, or a declarator in parentheses (C99 6.7.6).
+    /// Reads what follows a first `(`: the parameters of a function without a name, or a declarator in parentheses (C99
+    /// 6.7.6).
     #[tactic(auto, unfolding(c_grammar::specs::DeclaratorReader::parenthesis_from))]
     fn declarator_parenthesis(
         &self,
@@ -124,9 +132,13 @@ impl<
         kind: DeclaratorKind,
         position: Position,
     ) -> Result<Leveled<Declarator<'a>>, Fault>
-        requires deeper { Deeper self.now.levels (E.pre self.now.expression) (E.post self.now.expression) (S.pre self.now.specifiers) (S.post self.now.specifiers) (D.pre self.now.declarator) (D.post self.now.declarator) }
+        requires deeper { Deeper self.now.levels (E.pre self.now.expression) (E.post self.now.expression)
+            (S.pre self.now.specifiers) (S.post self.now.specifiers) (D.pre self.now.declarator)
+            (D.post self.now.declarator) }
         requires some { 0 < self.now.levels }
-        ensures { ReadsLeveled declarator_of declarator_levels (suc self.now.levels) (spec.parenthesis_from self.now.names.now (readers self.now.names.now self.now.levels) self.now.levels kind position tokens.old.rest.now) result tokens.new.rest.now }
+        ensures { ReadsLeveled declarator_of declarator_levels (suc self.now.levels)
+            (spec.parenthesis_from self.now.names.now (readers self.now.names.now self.now.levels) self.now.levels kind
+            position tokens.old.rest.now) result tokens.new.rest.now }
     {
         if !must_have_name(kind) && begins_parameters(self.names, tokens.rest) {
             let nameless = unnamed(kind, tokens.rest)?;
@@ -147,8 +159,12 @@ impl<
         tokens: &mut Cursor<'_, 'a>,
         kind: DeclaratorKind,
     ) -> Result<Leveled<Declarator<'a>>, Fault>
-        requires deeper { Deeper self.now.levels (E.pre self.now.expression) (E.post self.now.expression) (S.pre self.now.specifiers) (S.post self.now.specifiers) (D.pre self.now.declarator) (D.post self.now.declarator) }
-        ensures { ReadsLeveled declarator_of declarator_levels (suc self.now.levels) (spec.direct_from self.now.names.now (readers self.now.names.now self.now.levels) self.now.levels kind tokens.old.rest.now) result tokens.new.rest.now }
+        requires deeper { Deeper self.now.levels (E.pre self.now.expression) (E.post self.now.expression)
+            (S.pre self.now.specifiers) (S.post self.now.specifiers) (D.pre self.now.declarator)
+            (D.post self.now.declarator) }
+        ensures { ReadsLeveled declarator_of declarator_levels (suc self.now.levels)
+            (spec.direct_from self.now.names.now (readers self.now.names.now self.now.levels) self.now.levels kind
+            tokens.old.rest.now) result tokens.new.rest.now }
     {
         let [first, rest @ ..] = tokens.rest else {
             return unnamed(kind, tokens.rest);
@@ -180,9 +196,13 @@ impl<
         left: Leveled<Declarator<'a>>,
         position: Position,
     ) -> Result<Leveled<Declarator<'a>>, Fault>
-        requires deeper { Deeper self.now.levels (E.pre self.now.expression) (E.post self.now.expression) (S.pre self.now.specifiers) (S.post self.now.specifiers) (D.pre self.now.declarator) (D.post self.now.declarator) }
+        requires deeper { Deeper self.now.levels (E.pre self.now.expression) (E.post self.now.expression)
+            (S.pre self.now.specifiers) (S.post self.now.specifiers) (D.pre self.now.declarator)
+            (D.post self.now.declarator) }
         requires known { Below self.now.levels left.levels (declarator_levels (declarator_of left.tree)) }
-        ensures { ReadsLeveled declarator_of declarator_levels (suc self.now.levels) (spec.array_from self.now.names.now (readers self.now.names.now self.now.levels) self.now.levels (declarator_of left.entry.tree) position tokens.old.rest.now) result tokens.new.rest.now }
+        ensures { ReadsLeveled declarator_of declarator_levels (suc self.now.levels)
+            (spec.array_from self.now.names.now (readers self.now.names.now self.now.levels) self.now.levels
+            (declarator_of left.entry.tree) position tokens.old.rest.now) result tokens.new.rest.now }
     {
         let left = left.boxed(self.alloc)?;
         if next_is(tokens.rest, Punctuator::RightBracket) {
@@ -208,9 +228,13 @@ impl<
         tokens: &mut Cursor<'_, 'a>,
         left: Leveled<Declarator<'a>>,
     ) -> Result<Leveled<Declarator<'a>>, Fault>
-        requires deeper { Deeper self.now.levels (E.pre self.now.expression) (E.post self.now.expression) (S.pre self.now.specifiers) (S.post self.now.specifiers) (D.pre self.now.declarator) (D.post self.now.declarator) }
+        requires deeper { Deeper self.now.levels (E.pre self.now.expression) (E.post self.now.expression)
+            (S.pre self.now.specifiers) (S.post self.now.specifiers) (D.pre self.now.declarator)
+            (D.post self.now.declarator) }
         requires known { Below self.now.levels left.levels (declarator_levels (declarator_of left.tree)) }
-        ensures { ReadsLeveled declarator_of declarator_levels (suc self.now.levels) (suffix_next self.now.names.now (readers self.now.names.now self.now.levels) self.now.levels (declarator_of left.entry.tree) tokens.old.rest.now) result tokens.new.rest.now }
+        ensures { ReadsLeveled declarator_of declarator_levels (suc self.now.levels)
+            (suffix_next self.now.names.now (readers self.now.names.now self.now.levels) self.now.levels
+            (declarator_of left.entry.tree) tokens.old.rest.now) result tokens.new.rest.now }
     {
         let [first, rest @ ..] = tokens.rest else {
             return Err(Fault::Refused);
@@ -229,9 +253,13 @@ impl<
         tokens: &mut Cursor<'_, 'a>,
         first: Leveled<Declarator<'a>>,
     ) -> Result<Leveled<Declarator<'a>>, Fault>
-        requires deeper { Deeper self.now.levels (E.pre self.now.expression) (E.post self.now.expression) (S.pre self.now.specifiers) (S.post self.now.specifiers) (D.pre self.now.declarator) (D.post self.now.declarator) }
+        requires deeper { Deeper self.now.levels (E.pre self.now.expression) (E.post self.now.expression)
+            (S.pre self.now.specifiers) (S.post self.now.specifiers) (D.pre self.now.declarator)
+            (D.post self.now.declarator) }
         requires known { Below (suc self.now.levels) first.levels (declarator_levels (declarator_of first.tree)) }
-        ensures { ReadsLeveled declarator_of declarator_levels (suc self.now.levels) (spec.suffixes_from self.now.names.now (readers self.now.names.now self.now.levels) self.now.levels self.now.levels (declarator_of first.entry.tree) tokens.old.rest.now) result tokens.new.rest.now }
+        ensures { ReadsLeveled declarator_of declarator_levels (suc self.now.levels)
+            (spec.suffixes_from self.now.names.now (readers self.now.names.now self.now.levels) self.now.levels
+            self.now.levels (declarator_of first.entry.tree) tokens.old.rest.now) result tokens.new.rest.now }
     {
         let mut left = first;
         for _ in 0..self.levels {
@@ -250,8 +278,12 @@ impl<
         tokens: &mut Cursor<'_, 'a>,
         kind: DeclaratorKind,
     ) -> Result<Leveled<Declarator<'a>>, Fault>
-        requires deeper { Deeper self.now.levels (E.pre self.now.expression) (E.post self.now.expression) (S.pre self.now.specifiers) (S.post self.now.specifiers) (D.pre self.now.declarator) (D.post self.now.declarator) }
-        ensures { ReadsLeveled declarator_of declarator_levels (suc self.now.levels) (spec.suffixed_from self.now.names.now (readers self.now.names.now self.now.levels) self.now.levels kind tokens.old.rest.now) result tokens.new.rest.now }
+        requires deeper { Deeper self.now.levels (E.pre self.now.expression) (E.post self.now.expression)
+            (S.pre self.now.specifiers) (S.post self.now.specifiers) (D.pre self.now.declarator)
+            (D.post self.now.declarator) }
+        ensures { ReadsLeveled declarator_of declarator_levels (suc self.now.levels)
+            (spec.suffixed_from self.now.names.now (readers self.now.names.now self.now.levels) self.now.levels kind
+            tokens.old.rest.now) result tokens.new.rest.now }
     {
         let first = self.direct(tokens, kind)?;
         self.suffixes(tokens, first)
@@ -265,8 +297,12 @@ impl<
         kind: DeclaratorKind,
         position: Position,
     ) -> Result<Leveled<Declarator<'a>>, Fault>
-        requires deeper { Deeper self.now.levels (E.pre self.now.expression) (E.post self.now.expression) (S.pre self.now.specifiers) (S.post self.now.specifiers) (D.pre self.now.declarator) (D.post self.now.declarator) }
-        ensures { ReadsLeveled declarator_of declarator_levels (suc self.now.levels) (spec.pointer_from self.now.names.now (readers self.now.names.now self.now.levels) self.now.levels kind position tokens.old.rest.now) result tokens.new.rest.now }
+        requires deeper { Deeper self.now.levels (E.pre self.now.expression) (E.post self.now.expression)
+            (S.pre self.now.specifiers) (S.post self.now.specifiers) (D.pre self.now.declarator)
+            (D.post self.now.declarator) }
+        ensures { ReadsLeveled declarator_of declarator_levels (suc self.now.levels)
+            (spec.pointer_from self.now.names.now (readers self.now.names.now self.now.levels) self.now.levels kind
+            position tokens.old.rest.now) result tokens.new.rest.now }
     {
         let consts = tokens.consts(self.alloc)?;
         let (consts, inner) = beside(consts, self.declarator(tokens, kind))?;
@@ -284,8 +320,12 @@ impl<
         tokens: &mut Cursor<'_, 'a>,
         kind: DeclaratorKind,
     ) -> Result<Leveled<Declarator<'a>>, Fault>
-        requires deeper { Deeper self.now.levels (E.pre self.now.expression) (E.post self.now.expression) (S.pre self.now.specifiers) (S.post self.now.specifiers) (D.pre self.now.declarator) (D.post self.now.declarator) }
-        ensures { ReadsLeveled declarator_of declarator_levels (suc self.now.levels) (spec.declarator_at self.now.names.now (readers self.now.names.now self.now.levels) self.now.levels kind tokens.old.rest.now) result tokens.new.rest.now }
+        requires deeper { Deeper self.now.levels (E.pre self.now.expression) (E.post self.now.expression)
+            (S.pre self.now.specifiers) (S.post self.now.specifiers) (D.pre self.now.declarator)
+            (D.post self.now.declarator) }
+        ensures { ReadsLeveled declarator_of declarator_levels (suc self.now.levels)
+            (spec.declarator_at self.now.names.now (readers self.now.names.now self.now.levels) self.now.levels kind
+            tokens.old.rest.now) result tokens.new.rest.now }
     {
         let [first, rest @ ..] = tokens.rest else {
             return self.suffixed(tokens, kind);

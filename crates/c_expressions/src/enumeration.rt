@@ -47,9 +47,13 @@ impl<
     /// Reads an enumerator (C99 6.7.2.2).
     #[tactic(auto, unfolding(c_grammar::specs::SpecifierReader::enumerator_from))]
     fn enumerator(&self, tokens: &mut Cursor<'_, 'a>) -> Result<Leveled<Enumerator<'a>>, Fault>
-        requires deeper { Deeper self.now.levels (E.pre self.now.expression) (E.post self.now.expression) (S.pre self.now.specifiers) (S.post self.now.specifiers) (D.pre self.now.declarator) (D.post self.now.declarator) }
+        requires deeper { Deeper self.now.levels (E.pre self.now.expression) (E.post self.now.expression)
+            (S.pre self.now.specifiers) (S.post self.now.specifiers) (D.pre self.now.declarator)
+            (D.post self.now.declarator) }
         requires some { 0 < self.now.levels }
-        ensures { ReadsLeveled enumerator_of enumerator_levels self.now.levels (spec.enumerator_from self.now.names.now (readers self.now.names.now self.now.levels) self.now.levels tokens.old.rest.now) result tokens.new.rest.now }
+        ensures { ReadsLeveled enumerator_of enumerator_levels self.now.levels
+            (spec.enumerator_from self.now.names.now (readers self.now.names.now self.now.levels) self.now.levels
+            tokens.old.rest.now) result tokens.new.rest.now }
     {
         let name = tokens.ordinary(self.names)?;
         if !next_is(tokens.rest, Punctuator::Assign) {
@@ -69,9 +73,14 @@ impl<
         &self,
         tokens: &mut Cursor<'_, 'a>,
     ) -> Result<Leveled<(Items<(Position, Enumerator<'a>)>, Option<Position>)>, Fault>
-        requires deeper { Deeper self.now.levels (E.pre self.now.expression) (E.post self.now.expression) (S.pre self.now.specifiers) (S.post self.now.specifiers) (D.pre self.now.declarator) (D.post self.now.declarator) }
+        requires deeper { Deeper self.now.levels (E.pre self.now.expression) (E.post self.now.expression)
+            (S.pre self.now.specifiers) (S.post self.now.specifiers) (D.pre self.now.declarator)
+            (D.post self.now.declarator) }
         requires some { 0 < self.now.levels }
-        ensures { ReadsLeveled enumerators_behind enumerators_behind_levels self.now.levels (behind_commas_to_brace (spec.enumerator_from self.now.names.now (readers self.now.names.now self.now.levels) self.now.levels) (length tokens.old.rest.now) tokens.old.rest.now) result tokens.new.rest.now }
+        ensures { ReadsLeveled enumerators_behind enumerators_behind_levels self.now.levels
+            (behind_commas_to_brace (spec.enumerator_from self.now.names.now
+            (readers self.now.names.now self.now.levels) self.now.levels) (length tokens.old.rest.now)
+            tokens.old.rest.now) result tokens.new.rest.now }
     {
         let mut others = no_trees(self.alloc);
         for _ in 0..tokens.rest.len() {
@@ -95,9 +104,13 @@ impl<
         position: Position,
         tag: Option<Spelled<'a>>,
     ) -> Result<Leveled<Specifier<'a>>, Fault>
-        requires deeper { Deeper self.now.levels (E.pre self.now.expression) (E.post self.now.expression) (S.pre self.now.specifiers) (S.post self.now.specifiers) (D.pre self.now.declarator) (D.post self.now.declarator) }
+        requires deeper { Deeper self.now.levels (E.pre self.now.expression) (E.post self.now.expression)
+            (S.pre self.now.specifiers) (S.post self.now.specifiers) (D.pre self.now.declarator)
+            (D.post self.now.declarator) }
         requires some { 0 < self.now.levels }
-        ensures { ReadsLeveled specifier_of specifier_levels (suc self.now.levels) (spec.enumeration_body_from self.now.names.now (readers self.now.names.now self.now.levels) self.now.levels position tag.entry tokens.old.rest.now) result tokens.new.rest.now }
+        ensures { ReadsLeveled specifier_of specifier_levels (suc self.now.levels)
+            (spec.enumeration_body_from self.now.names.now (readers self.now.names.now self.now.levels) self.now.levels
+            position tag.entry tokens.old.rest.now) result tokens.new.rest.now }
     {
         let left = tokens.expect(Punctuator::LeftBrace)?;
         let first = self.enumerator(tokens)?.boxed(self.alloc)?;
@@ -121,8 +134,12 @@ impl<
         tokens: &mut Cursor<'_, 'a>,
         position: Position,
     ) -> Result<Leveled<Specifier<'a>>, Fault>
-        requires deeper { Deeper self.now.levels (E.pre self.now.expression) (E.post self.now.expression) (S.pre self.now.specifiers) (S.post self.now.specifiers) (D.pre self.now.declarator) (D.post self.now.declarator) }
-        ensures { ReadsLeveled specifier_of specifier_levels (suc self.now.levels) (spec.enumeration_from self.now.names.now (readers self.now.names.now self.now.levels) self.now.levels position tokens.old.rest.now) result tokens.new.rest.now }
+        requires deeper { Deeper self.now.levels (E.pre self.now.expression) (E.post self.now.expression)
+            (S.pre self.now.specifiers) (S.post self.now.specifiers) (D.pre self.now.declarator)
+            (D.post self.now.declarator) }
+        ensures { ReadsLeveled specifier_of specifier_levels (suc self.now.levels)
+            (spec.enumeration_from self.now.names.now (readers self.now.names.now self.now.levels) self.now.levels
+            position tokens.old.rest.now) result tokens.new.rest.now }
     {
         if begins_body(self.levels, tokens.rest) {
             return self.enumeration_body(tokens, position, None);

@@ -4,7 +4,8 @@ ghost use Rattle.std.specs.Prelude.{◌≡◌, suc, ◌<◌, length, Option, Non
 ghost use Rattle.c_grammar.specs.ExpressionReader as spec;
 ghost use Rattle.c_grammar.specs.Reader.{behind_commas};
 ghost use Rattle.c_grammar.specs.Nested.{readers};
-ghost use Rattle.c_expressions.specs.Steps.{arguments_behind, arguments_behind_levels, operation_next, operation_is_next, postfix_at, conditional_at};
+ghost use Rattle.c_expressions.specs.Steps.{arguments_behind, arguments_behind_levels, operation_next};
+ghost use Rattle.c_expressions.specs.Steps.{operation_is_next, postfix_at, conditional_at};
 ghost use Rattle.c_expressions.specs.LeveledReads.{ReadsLeveled, Below, Deeper};
 ghost use Rattle.c_grammar.specs.declared.operation.Operation.TheVariants as op;
 ghost use Rattle.c_lexer.specs.declared.punctuator.Punctuator.TheVariants as punctuators;
@@ -56,9 +57,13 @@ impl<
         &self,
         tokens: &mut Cursor<'_, 'a>,
     ) -> Result<Leveled<Items<(Position, Expression<'a>)>>, Fault>
-        requires deeper { Deeper self.now.levels (E.pre self.now.expression) (E.post self.now.expression) (S.pre self.now.specifiers) (S.post self.now.specifiers) (D.pre self.now.declarator) (D.post self.now.declarator) }
+        requires deeper { Deeper self.now.levels (E.pre self.now.expression) (E.post self.now.expression)
+            (S.pre self.now.specifiers) (S.post self.now.specifiers) (D.pre self.now.declarator)
+            (D.post self.now.declarator) }
         requires some { 0 < self.now.levels }
-        ensures { ReadsLeveled arguments_behind arguments_behind_levels self.now.levels (behind_commas ((readers self.now.names.now self.now.levels).expression None 2) (length tokens.old.rest.now) tokens.old.rest.now) result tokens.new.rest.now }
+        ensures { ReadsLeveled arguments_behind arguments_behind_levels self.now.levels
+            (behind_commas ((readers self.now.names.now self.now.levels).expression None 2) (length tokens.old.rest.now)
+            tokens.old.rest.now) result tokens.new.rest.now }
     {
         let mut others = no_trees(self.alloc);
         for _ in 0..tokens.rest.len() {
@@ -74,9 +79,13 @@ impl<
     /// Reads what stands between the parentheses of a call (C99 6.5.2.2).
     #[tactic(auto, unfolding(c_grammar::specs::ExpressionReader::arguments_from))]
     fn arguments(&self, tokens: &mut Cursor<'_, 'a>) -> Result<Leveled<Arguments<'a>>, Fault>
-        requires deeper { Deeper self.now.levels (E.pre self.now.expression) (E.post self.now.expression) (S.pre self.now.specifiers) (S.post self.now.specifiers) (D.pre self.now.declarator) (D.post self.now.declarator) }
+        requires deeper { Deeper self.now.levels (E.pre self.now.expression) (E.post self.now.expression)
+            (S.pre self.now.specifiers) (S.post self.now.specifiers) (D.pre self.now.declarator)
+            (D.post self.now.declarator) }
         requires some { 0 < self.now.levels }
-        ensures { ReadsLeveled arguments_of arguments_levels self.now.levels (spec.arguments_from self.now.names.now (readers self.now.names.now self.now.levels) self.now.levels tokens.old.rest.now) result tokens.new.rest.now }
+        ensures { ReadsLeveled arguments_of arguments_levels self.now.levels
+            (spec.arguments_from self.now.names.now (readers self.now.names.now self.now.levels) self.now.levels
+            tokens.old.rest.now) result tokens.new.rest.now }
     {
         if next_is(tokens.rest, Punctuator::RightParenthesis) {
             return Ok(leaf(Arguments::Empty));
@@ -98,9 +107,14 @@ impl<
         position: Position,
         punctuator: Punctuator,
     ) -> Result<Leveled<Expression<'a>>, Fault>
-        requires deeper { Deeper self.now.levels (E.pre self.now.expression) (E.post self.now.expression) (S.pre self.now.specifiers) (S.post self.now.specifiers) (D.pre self.now.declarator) (D.post self.now.declarator) }
+        requires deeper { Deeper self.now.levels (E.pre self.now.expression) (E.post self.now.expression)
+            (S.pre self.now.specifiers) (S.post self.now.specifiers) (D.pre self.now.declarator)
+            (D.post self.now.declarator) }
         requires known { Below self.now.levels left.levels (expression_levels (expression_of left.tree)) }
-        ensures { ReadsLeveled expression_of expression_levels (suc self.now.levels) (spec.operation_from self.now.names.now (readers self.now.names.now self.now.levels) self.now.levels (expression_of left.entry.tree) punctuator position (Some op.Binary) tokens.old.rest.now) result tokens.new.rest.now }
+        ensures { ReadsLeveled expression_of expression_levels (suc self.now.levels)
+            (spec.operation_from self.now.names.now (readers self.now.names.now self.now.levels) self.now.levels
+            (expression_of left.entry.tree) punctuator position (Some op.Binary) tokens.old.rest.now) result
+            tokens.new.rest.now }
     {
         let right = self.expression(tokens, None, binary_precedence(punctuator) + 1);
         let (left, right) = boxed_pair(self.alloc, beside(left, right)?)?;
@@ -119,9 +133,14 @@ impl<
         position: Position,
         punctuator: Punctuator,
     ) -> Result<Leveled<Expression<'a>>, Fault>
-        requires deeper { Deeper self.now.levels (E.pre self.now.expression) (E.post self.now.expression) (S.pre self.now.specifiers) (S.post self.now.specifiers) (D.pre self.now.declarator) (D.post self.now.declarator) }
+        requires deeper { Deeper self.now.levels (E.pre self.now.expression) (E.post self.now.expression)
+            (S.pre self.now.specifiers) (S.post self.now.specifiers) (D.pre self.now.declarator)
+            (D.post self.now.declarator) }
         requires known { Below self.now.levels left.levels (expression_levels (expression_of left.tree)) }
-        ensures { ReadsLeveled expression_of expression_levels (suc self.now.levels) (spec.operation_from self.now.names.now (readers self.now.names.now self.now.levels) self.now.levels (expression_of left.entry.tree) punctuator position (Some op.Assignment) tokens.old.rest.now) result tokens.new.rest.now }
+        ensures { ReadsLeveled expression_of expression_levels (suc self.now.levels)
+            (spec.operation_from self.now.names.now (readers self.now.names.now self.now.levels) self.now.levels
+            (expression_of left.entry.tree) punctuator position (Some op.Assignment) tokens.old.rest.now) result
+            tokens.new.rest.now }
     {
         let right = self.expression(tokens, None, 2);
         let (left, right) = boxed_pair(self.alloc, beside(left, right)?)?;
@@ -140,9 +159,12 @@ impl<
         third: Leveled<Expression<'a>>,
     ) -> Result<Leveled<Expression<'a>>, Fault>
         requires known { Below self.now.levels operands.0.levels (expression_levels (expression_of operands.0.tree)) }
-        requires known_second { Below self.now.levels operands.1.levels (expression_levels (expression_of operands.1.tree)) }
+        requires known_second { Below self.now.levels operands.1.levels
+            (expression_levels (expression_of operands.1.tree)) }
         requires known_third { Below self.now.levels third.levels (expression_levels (expression_of third.tree)) }
-        ensures { (i : Words) → ReadsLeveled expression_of expression_levels (suc self.now.levels) (conditional_at (expression_of operands.entry.0.tree) position (expression_of operands.entry.1.tree) colon (expression_of third.entry.tree) i) result i }
+        ensures { (i : Words) → ReadsLeveled expression_of expression_levels (suc self.now.levels)
+            (conditional_at (expression_of operands.entry.0.tree) position (expression_of operands.entry.1.tree) colon
+            (expression_of third.entry.tree) i) result i }
     {
         let operands = boxed_three(self.alloc, operands, third)?;
         let (condition, second, third) = operands.tree;
@@ -160,9 +182,14 @@ impl<
         left: Leveled<Expression<'a>>,
         position: Position,
     ) -> Result<Leveled<Expression<'a>>, Fault>
-        requires deeper { Deeper self.now.levels (E.pre self.now.expression) (E.post self.now.expression) (S.pre self.now.specifiers) (S.post self.now.specifiers) (D.pre self.now.declarator) (D.post self.now.declarator) }
+        requires deeper { Deeper self.now.levels (E.pre self.now.expression) (E.post self.now.expression)
+            (S.pre self.now.specifiers) (S.post self.now.specifiers) (D.pre self.now.declarator)
+            (D.post self.now.declarator) }
         requires known { Below self.now.levels left.levels (expression_levels (expression_of left.tree)) }
-        ensures { ReadsLeveled expression_of expression_levels (suc self.now.levels) (spec.operation_from self.now.names.now (readers self.now.names.now self.now.levels) self.now.levels (expression_of left.entry.tree) punctuators.Question position (Some op.Conditional) tokens.old.rest.now) result tokens.new.rest.now }
+        ensures { ReadsLeveled expression_of expression_levels (suc self.now.levels)
+            (spec.operation_from self.now.names.now (readers self.now.names.now self.now.levels) self.now.levels
+            (expression_of left.entry.tree) punctuators.Question position (Some op.Conditional) tokens.old.rest.now)
+            result tokens.new.rest.now }
     {
         let operands = beside(left, self.expression(tokens, None, 1))?;
         let (operands, colon) = beside(operands, tokens.expect(Punctuator::Colon))?;
@@ -178,9 +205,14 @@ impl<
         left: Leveled<Expression<'a>>,
         position: Position,
     ) -> Result<Leveled<Expression<'a>>, Fault>
-        requires deeper { Deeper self.now.levels (E.pre self.now.expression) (E.post self.now.expression) (S.pre self.now.specifiers) (S.post self.now.specifiers) (D.pre self.now.declarator) (D.post self.now.declarator) }
+        requires deeper { Deeper self.now.levels (E.pre self.now.expression) (E.post self.now.expression)
+            (S.pre self.now.specifiers) (S.post self.now.specifiers) (D.pre self.now.declarator)
+            (D.post self.now.declarator) }
         requires known { Below self.now.levels left.levels (expression_levels (expression_of left.tree)) }
-        ensures { ReadsLeveled expression_of expression_levels (suc self.now.levels) (spec.operation_from self.now.names.now (readers self.now.names.now self.now.levels) self.now.levels (expression_of left.entry.tree) punctuators.Question position (Some op.Subscript) tokens.old.rest.now) result tokens.new.rest.now }
+        ensures { ReadsLeveled expression_of expression_levels (suc self.now.levels)
+            (spec.operation_from self.now.names.now (readers self.now.names.now self.now.levels) self.now.levels
+            (expression_of left.entry.tree) punctuators.Question position (Some op.Subscript) tokens.old.rest.now)
+            result tokens.new.rest.now }
     {
         let left = left.boxed(self.alloc)?;
         let operands = beside(left, self.expression(tokens, None, 1))?;
@@ -201,9 +233,14 @@ impl<
         left: Leveled<Expression<'a>>,
         position: Position,
     ) -> Result<Leveled<Expression<'a>>, Fault>
-        requires deeper { Deeper self.now.levels (E.pre self.now.expression) (E.post self.now.expression) (S.pre self.now.specifiers) (S.post self.now.specifiers) (D.pre self.now.declarator) (D.post self.now.declarator) }
+        requires deeper { Deeper self.now.levels (E.pre self.now.expression) (E.post self.now.expression)
+            (S.pre self.now.specifiers) (S.post self.now.specifiers) (D.pre self.now.declarator)
+            (D.post self.now.declarator) }
         requires known { Below self.now.levels left.levels (expression_levels (expression_of left.tree)) }
-        ensures { ReadsLeveled expression_of expression_levels (suc self.now.levels) (spec.operation_from self.now.names.now (readers self.now.names.now self.now.levels) self.now.levels (expression_of left.entry.tree) punctuators.Question position (Some op.Call) tokens.old.rest.now) result tokens.new.rest.now }
+        ensures { ReadsLeveled expression_of expression_levels (suc self.now.levels)
+            (spec.operation_from self.now.names.now (readers self.now.names.now self.now.levels) self.now.levels
+            (expression_of left.entry.tree) punctuators.Question position (Some op.Call) tokens.old.rest.now) result
+            tokens.new.rest.now }
     {
         let called = beside(left.boxed(self.alloc)?, self.arguments(tokens))?;
         let (called, right) = beside(called, tokens.expect(Punctuator::RightParenthesis))?;
@@ -223,9 +260,14 @@ impl<
         position: Position,
         punctuator: Punctuator,
     ) -> Result<Leveled<Expression<'a>>, Fault>
-        requires deeper { Deeper self.now.levels (E.pre self.now.expression) (E.post self.now.expression) (S.pre self.now.specifiers) (S.post self.now.specifiers) (D.pre self.now.declarator) (D.post self.now.declarator) }
+        requires deeper { Deeper self.now.levels (E.pre self.now.expression) (E.post self.now.expression)
+            (S.pre self.now.specifiers) (S.post self.now.specifiers) (D.pre self.now.declarator)
+            (D.post self.now.declarator) }
         requires known { Below self.now.levels left.levels (expression_levels (expression_of left.tree)) }
-        ensures { ReadsLeveled expression_of expression_levels (suc self.now.levels) (spec.operation_from self.now.names.now (readers self.now.names.now self.now.levels) self.now.levels (expression_of left.entry.tree) punctuator position (Some op.Member) tokens.old.rest.now) result tokens.new.rest.now }
+        ensures { ReadsLeveled expression_of expression_levels (suc self.now.levels)
+            (spec.operation_from self.now.names.now (readers self.now.names.now self.now.levels) self.now.levels
+            (expression_of left.entry.tree) punctuator position (Some op.Member) tokens.old.rest.now) result
+            tokens.new.rest.now }
     {
         let (left, name) = beside(left.boxed(self.alloc)?, tokens.identifier())?;
         Ok(Leveled {
@@ -243,7 +285,8 @@ impl<
         punctuator: Punctuator,
     ) -> Result<Leveled<Expression<'a>>, Fault>
         requires known { Below self.now.levels left.levels (expression_levels (expression_of left.tree)) }
-        ensures { (i : Words) → ReadsLeveled expression_of expression_levels (suc self.now.levels) (postfix_at (expression_of left.entry.tree) punctuator position i) result i }
+        ensures { (i : Words) → ReadsLeveled expression_of expression_levels (suc self.now.levels)
+            (postfix_at (expression_of left.entry.tree) punctuator position i) result i }
     {
         let left = left.boxed(self.alloc)?;
         Ok(Leveled {
@@ -262,9 +305,14 @@ impl<
         punctuator: Punctuator,
         operation: Operation,
     ) -> Result<Leveled<Expression<'a>>, Fault>
-        requires deeper { Deeper self.now.levels (E.pre self.now.expression) (E.post self.now.expression) (S.pre self.now.specifiers) (S.post self.now.specifiers) (D.pre self.now.declarator) (D.post self.now.declarator) }
+        requires deeper { Deeper self.now.levels (E.pre self.now.expression) (E.post self.now.expression)
+            (S.pre self.now.specifiers) (S.post self.now.specifiers) (D.pre self.now.declarator)
+            (D.post self.now.declarator) }
         requires known { Below self.now.levels left.levels (expression_levels (expression_of left.tree)) }
-        ensures { ReadsLeveled expression_of expression_levels (suc self.now.levels) (spec.operation_from self.now.names.now (readers self.now.names.now self.now.levels) self.now.levels (expression_of left.entry.tree) punctuator position (Some operation) tokens.old.rest.now) result tokens.new.rest.now }
+        ensures { ReadsLeveled expression_of expression_levels (suc self.now.levels)
+            (spec.operation_from self.now.names.now (readers self.now.names.now self.now.levels) self.now.levels
+            (expression_of left.entry.tree) punctuator position (Some operation) tokens.old.rest.now) result
+            tokens.new.rest.now }
     {
         match operation {
             Operation::Binary => self.binary(tokens, left, position, punctuator),
@@ -286,9 +334,14 @@ impl<
         position: Position,
         punctuator: Punctuator,
     ) -> Result<Leveled<Expression<'a>>, Fault>
-        requires deeper { Deeper self.now.levels (E.pre self.now.expression) (E.post self.now.expression) (S.pre self.now.specifiers) (S.post self.now.specifiers) (D.pre self.now.declarator) (D.post self.now.declarator) }
+        requires deeper { Deeper self.now.levels (E.pre self.now.expression) (E.post self.now.expression)
+            (S.pre self.now.specifiers) (S.post self.now.specifiers) (D.pre self.now.declarator)
+            (D.post self.now.declarator) }
         requires known { Below self.now.levels left.levels (expression_levels (expression_of left.tree)) }
-        ensures { ReadsLeveled expression_of expression_levels (suc self.now.levels) (spec.operation_from self.now.names.now (readers self.now.names.now self.now.levels) self.now.levels (expression_of left.entry.tree) punctuator position (spec.operation punctuator) tokens.old.rest.now) result tokens.new.rest.now }
+        ensures { ReadsLeveled expression_of expression_levels (suc self.now.levels)
+            (spec.operation_from self.now.names.now (readers self.now.names.now self.now.levels) self.now.levels
+            (expression_of left.entry.tree) punctuator position (spec.operation punctuator) tokens.old.rest.now) result
+            tokens.new.rest.now }
     {
         match operation_of(punctuator) {
             Some(operation) => self.operation_by(tokens, left, position, punctuator, operation),
@@ -302,9 +355,13 @@ impl<
         tokens: &mut Cursor<'_, 'a>,
         left: Leveled<Expression<'a>>,
     ) -> Result<Leveled<Expression<'a>>, Fault>
-        requires deeper { Deeper self.now.levels (E.pre self.now.expression) (E.post self.now.expression) (S.pre self.now.specifiers) (S.post self.now.specifiers) (D.pre self.now.declarator) (D.post self.now.declarator) }
+        requires deeper { Deeper self.now.levels (E.pre self.now.expression) (E.post self.now.expression)
+            (S.pre self.now.specifiers) (S.post self.now.specifiers) (D.pre self.now.declarator)
+            (D.post self.now.declarator) }
         requires known { Below self.now.levels left.levels (expression_levels (expression_of left.tree)) }
-        ensures { ReadsLeveled expression_of expression_levels (suc self.now.levels) (operation_next self.now.names.now (readers self.now.names.now self.now.levels) self.now.levels (expression_of left.entry.tree) tokens.old.rest.now) result tokens.new.rest.now }
+        ensures { ReadsLeveled expression_of expression_levels (suc self.now.levels)
+            (operation_next self.now.names.now (readers self.now.names.now self.now.levels) self.now.levels
+            (expression_of left.entry.tree) tokens.old.rest.now) result tokens.new.rest.now }
     {
         let [first, rest @ ..] = tokens.rest else {
             return Err(Fault::Refused);
@@ -323,7 +380,8 @@ impl<
 
     /// Whether the next word goes on with this operand as an expression of at least this precedence.
     fn goes_on(&self, rest: &[Positioned], least: u8, left: &Leveled<Expression<'a>>) -> bool
-        ensures { result ≡ operation_is_next self.now.levels least (expression_of left.now.tree) left.now.levels rest.now }
+        ensures { result ≡ operation_is_next self.now.levels least (expression_of left.now.tree) left.now.levels
+            rest.now }
     {
         match rest.first() {
             Some(first) => {
@@ -341,9 +399,13 @@ impl<
         least: u8,
         first: Leveled<Expression<'a>>,
     ) -> Result<Leveled<Expression<'a>>, Fault>
-        requires deeper { Deeper self.now.levels (E.pre self.now.expression) (E.post self.now.expression) (S.pre self.now.specifiers) (S.post self.now.specifiers) (D.pre self.now.declarator) (D.post self.now.declarator) }
+        requires deeper { Deeper self.now.levels (E.pre self.now.expression) (E.post self.now.expression)
+            (S.pre self.now.specifiers) (S.post self.now.specifiers) (D.pre self.now.declarator)
+            (D.post self.now.declarator) }
         requires known { Below (suc self.now.levels) first.levels (expression_levels (expression_of first.tree)) }
-        ensures { ReadsLeveled expression_of expression_levels (suc self.now.levels) (spec.operations_from self.now.names.now (readers self.now.names.now self.now.levels) self.now.levels self.now.levels least (expression_of first.entry.tree) tokens.old.rest.now) result tokens.new.rest.now }
+        ensures { ReadsLeveled expression_of expression_levels (suc self.now.levels)
+            (spec.operations_from self.now.names.now (readers self.now.names.now self.now.levels) self.now.levels
+            self.now.levels least (expression_of first.entry.tree) tokens.old.rest.now) result tokens.new.rest.now }
     {
         let mut left = first;
         for _ in 0..self.levels {
@@ -362,8 +424,12 @@ impl<
         opened: Option<Position>,
         least: u8,
     ) -> Result<Leveled<Expression<'a>>, Fault>
-        requires deeper { Deeper self.now.levels (E.pre self.now.expression) (E.post self.now.expression) (S.pre self.now.specifiers) (S.post self.now.specifiers) (D.pre self.now.declarator) (D.post self.now.declarator) }
-        ensures { ReadsLeveled expression_of expression_levels (suc self.now.levels) (spec.first_operand self.now.names.now (readers self.now.names.now self.now.levels) self.now.levels opened least tokens.old.rest.now) result tokens.new.rest.now }
+        requires deeper { Deeper self.now.levels (E.pre self.now.expression) (E.post self.now.expression)
+            (S.pre self.now.specifiers) (S.post self.now.specifiers) (D.pre self.now.declarator)
+            (D.post self.now.declarator) }
+        ensures { ReadsLeveled expression_of expression_levels (suc self.now.levels)
+            (spec.first_operand self.now.names.now (readers self.now.names.now self.now.levels) self.now.levels opened
+            least tokens.old.rest.now) result tokens.new.rest.now }
     {
         match opened {
             None => self.operand(tokens, least),
@@ -380,8 +446,12 @@ impl<
         opened: Option<Position>,
         least: u8,
     ) -> Result<Leveled<Expression<'a>>, Fault>
-        requires deeper { Deeper self.now.levels (E.pre self.now.expression) (E.post self.now.expression) (S.pre self.now.specifiers) (S.post self.now.specifiers) (D.pre self.now.declarator) (D.post self.now.declarator) }
-        ensures { ReadsLeveled expression_of expression_levels (suc self.now.levels) (spec.expression_at self.now.names.now (readers self.now.names.now self.now.levels) self.now.levels opened least tokens.old.rest.now) result tokens.new.rest.now }
+        requires deeper { Deeper self.now.levels (E.pre self.now.expression) (E.post self.now.expression)
+            (S.pre self.now.specifiers) (S.post self.now.specifiers) (D.pre self.now.declarator)
+            (D.post self.now.declarator) }
+        ensures { ReadsLeveled expression_of expression_levels (suc self.now.levels)
+            (spec.expression_at self.now.names.now (readers self.now.names.now self.now.levels) self.now.levels opened
+            least tokens.old.rest.now) result tokens.new.rest.now }
     {
         let left = self.first_operand(tokens, opened, least)?;
         self.operations(tokens, least, left)

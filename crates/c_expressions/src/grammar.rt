@@ -1,4 +1,5 @@
-//! The rules of the grammar take the functions that read what has fewer levels as values, so that each is proved by itself.
+//! The rules of the grammar take the functions that read what has fewer levels as values, so that each is proved by
+//! itself.
 
 ghost use Rattle.std.specs.Prelude.{◌≡◌};
 ghost use Rattle.c_grammar.specs.Nested.{readers};
@@ -63,8 +64,12 @@ impl<
         opened: Option<Position>,
         least: u8,
     ) -> Result<Leveled<Expression<'a>>, Fault>
-        requires { Deeper self.now.levels (E.pre self.now.expression) (E.post self.now.expression) (S.pre self.now.specifiers) (S.post self.now.specifiers) (D.pre self.now.declarator) (D.post self.now.declarator) }
-        ensures { ReadsLeveled expression_of expression_levels self.now.levels ((readers self.now.names.now self.now.levels).expression opened least tokens.old.rest.now) result tokens.new.rest.now }
+        requires { Deeper self.now.levels (E.pre self.now.expression) (E.post self.now.expression)
+            (S.pre self.now.specifiers) (S.post self.now.specifiers) (D.pre self.now.declarator)
+            (D.post self.now.declarator) }
+        ensures { ReadsLeveled expression_of expression_levels self.now.levels
+            ((readers self.now.names.now self.now.levels).expression opened least tokens.old.rest.now) result
+            tokens.new.rest.now }
     {
         (self.expression)(self.alloc, self.names, tokens, self.levels, opened, least)
     }
@@ -75,8 +80,12 @@ impl<
         tokens: &mut Cursor<'_, 'a>,
         allowed: bool,
     ) -> Result<Leveled<Items<Specifier<'a>>>, Fault>
-        requires { Deeper self.now.levels (E.pre self.now.expression) (E.post self.now.expression) (S.pre self.now.specifiers) (S.post self.now.specifiers) (D.pre self.now.declarator) (D.post self.now.declarator) }
-        ensures { ReadsLeveled specifiers_in specifiers_levels self.now.levels ((readers self.now.names.now self.now.levels).specifiers allowed tokens.old.rest.now) result tokens.new.rest.now }
+        requires { Deeper self.now.levels (E.pre self.now.expression) (E.post self.now.expression)
+            (S.pre self.now.specifiers) (S.post self.now.specifiers) (D.pre self.now.declarator)
+            (D.post self.now.declarator) }
+        ensures { ReadsLeveled specifiers_in specifiers_levels self.now.levels
+            ((readers self.now.names.now self.now.levels).specifiers allowed tokens.old.rest.now) result
+            tokens.new.rest.now }
     {
         (self.specifiers)(self.alloc, self.names, tokens, self.levels, allowed)
     }
@@ -87,8 +96,12 @@ impl<
         tokens: &mut Cursor<'_, 'a>,
         kind: DeclaratorKind,
     ) -> Result<Leveled<Declarator<'a>>, Fault>
-        requires { Deeper self.now.levels (E.pre self.now.expression) (E.post self.now.expression) (S.pre self.now.specifiers) (S.post self.now.specifiers) (D.pre self.now.declarator) (D.post self.now.declarator) }
-        ensures { ReadsLeveled declarator_of declarator_levels self.now.levels ((readers self.now.names.now self.now.levels).declarator kind tokens.old.rest.now) result tokens.new.rest.now }
+        requires { Deeper self.now.levels (E.pre self.now.expression) (E.post self.now.expression)
+            (S.pre self.now.specifiers) (S.post self.now.specifiers) (D.pre self.now.declarator)
+            (D.post self.now.declarator) }
+        ensures { ReadsLeveled declarator_of declarator_levels self.now.levels
+            ((readers self.now.names.now self.now.levels).declarator kind tokens.old.rest.now) result
+            tokens.new.rest.now }
     {
         (self.declarator)(self.alloc, self.names, tokens, self.levels, kind)
     }

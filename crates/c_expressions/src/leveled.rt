@@ -1,5 +1,5 @@
-//! Trees with their levels. What is built of large trees goes through these functions, which are generic: a `?` beside an
-//! owned tree drops it, and the proof of a drop writes out the whole type unless the type is a parameter.
+//! Trees with their levels. What is built of large trees goes through these functions, which are generic: a `?` beside
+//! an owned tree drops it, and the proof of a drop writes out the whole type unless the type is a parameter.
 
 ghost use Rattle.std.specs.Prelude.{◌≡◌, ◌++◌, ◌∷◌, [], max, IfOk, Ok, Err, true, false};
 ghost use Rattle.c_grammar.specs.declared.cursor.Fault.TheVariants.{Refused};
@@ -86,13 +86,14 @@ pub fn boxed_pair<T: Drop, U: Drop>(
     beside_boxed(alloc, first, second)
 }
 
-/// Two trees as one, the second in a block of its own, with the levels of the deeper, or the answer that there is no memory
-/// for it.
+/// Two trees as one, the second in a block of its own, with the levels of the deeper, or the answer that there is no
+/// memory for it.
 pub fn joined<T: Drop, U: Drop>(
     alloc: Global,
     pair: (Leveled<T>, Leveled<U>),
 ) -> Result<Leveled<(T, Boxed<U>)>, AllocError>
-    ensures { IfOk result (λ both. (both.tree.0 ≡ pair.0.tree) × ((both.tree.1 ≡ pair.1.tree) × (both.levels ≡ max pair.0.levels pair.1.levels))) }
+    ensures { IfOk result (λ both. (both.tree.0 ≡ pair.0.tree)
+        × ((both.tree.1 ≡ pair.1.tree) × (both.levels ≡ max pair.0.levels pair.1.levels))) }
 {
     let (first, second) = pair;
     let (first, second) = beside_boxed(alloc, first, second)?;
@@ -102,14 +103,15 @@ pub fn joined<T: Drop, U: Drop>(
     })
 }
 
-/// Three trees as one, each in a block of its own, with the levels of the deepest, or the answer that there is no memory for
-/// them.
+/// Three trees as one, each in a block of its own, with the levels of the deepest, or the answer that there is no
+/// memory for them.
 pub fn boxed_three<T: Drop>(
     alloc: Global,
     pair: (Leveled<T>, Leveled<T>),
     third: Leveled<T>,
 ) -> Result<Leveled<(Boxed<T>, Boxed<T>, Boxed<T>)>, AllocError>
-    ensures trees { IfOk result (λ all. (all.tree.0 ≡ pair.0.tree) × ((all.tree.1 ≡ pair.1.tree) × (all.tree.2 ≡ third.tree))) }
+    ensures trees { IfOk result (λ all. (all.tree.0 ≡ pair.0.tree)
+        × ((all.tree.1 ≡ pair.1.tree) × (all.tree.2 ≡ third.tree))) }
     ensures levels { IfOk result (λ all. all.levels ≡ max pair.0.levels (max pair.1.levels third.levels)) }
 {
     let (first, second) = pair;
@@ -145,7 +147,8 @@ pub fn with_tree<T: Drop>(
     trees: Leveled<Vec<T>>,
     tree: Leveled<T>,
 ) -> Result<Leveled<Vec<T>>, AllocError>
-    ensures { IfOk result (λ more. (more.tree.items ≡ trees.tree.items ++ (tree.tree ∷ [])) × (more.levels ≡ max tree.levels trees.levels)) }
+    ensures { IfOk result (λ more. (more.tree.items ≡ trees.tree.items ++ (tree.tree ∷ []))
+        × (more.levels ≡ max tree.levels trees.levels)) }
 {
     let levels = tree.levels.max(trees.levels);
     let tree = with_item(trees.tree, tree.tree)?;
@@ -158,7 +161,8 @@ pub fn with_next<T: Drop>(
     comma: Position,
     tree: Leveled<T>,
 ) -> Result<Leveled<Vec<(Position, T)>>, AllocError>
-    ensures { IfOk result (λ more. (more.tree.items ≡ trees.tree.items ++ ((comma, tree.tree) ∷ [])) × (more.levels ≡ max tree.levels trees.levels)) }
+    ensures { IfOk result (λ more. (more.tree.items ≡ trees.tree.items ++ ((comma, tree.tree) ∷ []))
+        × (more.levels ≡ max tree.levels trees.levels)) }
 {
     let Leveled { tree, levels } = tree;
     with_tree(

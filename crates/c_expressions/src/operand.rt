@@ -52,7 +52,8 @@ fn strings<'a>(
     position: Position,
     others: Items<Spelled<'a>>,
 ) -> Leveled<Expression<'a>>
-    ensures tree { expression_of result.tree ≡ t.strings (record { spelling = spelling.now; position = position }) others.entry }
+    ensures tree { expression_of result.tree ≡ t.strings (record { spelling = spelling.now; position = position })
+        others.entry }
     ensures levels { result.levels ≡ 0 }
 {
     leaf(Expression::Strings(spelled(spelling, position), others))
@@ -91,8 +92,12 @@ impl<
         tokens: &mut Cursor<'_, 'a>,
         position: Position,
     ) -> Result<Leveled<Expression<'a>>, Fault>
-        requires deeper { Deeper self.now.levels (E.pre self.now.expression) (E.post self.now.expression) (S.pre self.now.specifiers) (S.post self.now.specifiers) (D.pre self.now.declarator) (D.post self.now.declarator) }
-        ensures { ReadsLeveled expression_of expression_levels (suc self.now.levels) (spec.parenthesized_from self.now.names.now (readers self.now.names.now self.now.levels) self.now.levels position tokens.old.rest.now) result tokens.new.rest.now }
+        requires deeper { Deeper self.now.levels (E.pre self.now.expression) (E.post self.now.expression)
+            (S.pre self.now.specifiers) (S.post self.now.specifiers) (D.pre self.now.declarator)
+            (D.post self.now.declarator) }
+        ensures { ReadsLeveled expression_of expression_levels (suc self.now.levels)
+            (spec.parenthesized_from self.now.names.now (readers self.now.names.now self.now.levels) self.now.levels
+            position tokens.old.rest.now) result tokens.new.rest.now }
     {
         let inner = self.expression(tokens, None, 1)?.boxed(self.alloc)?;
         let (inner, right) = beside(inner, tokens.expect(Punctuator::RightParenthesis))?;
@@ -109,8 +114,12 @@ impl<
         tokens: &mut Cursor<'_, 'a>,
         position: Position,
     ) -> Result<Leveled<Expression<'a>>, Fault>
-        requires deeper { Deeper self.now.levels (E.pre self.now.expression) (E.post self.now.expression) (S.pre self.now.specifiers) (S.post self.now.specifiers) (D.pre self.now.declarator) (D.post self.now.declarator) }
-        ensures { ReadsLeveled expression_of expression_levels (suc self.now.levels) (spec.cast_from self.now.names.now (readers self.now.names.now self.now.levels) self.now.levels position tokens.old.rest.now) result tokens.new.rest.now }
+        requires deeper { Deeper self.now.levels (E.pre self.now.expression) (E.post self.now.expression)
+            (S.pre self.now.specifiers) (S.post self.now.specifiers) (D.pre self.now.declarator)
+            (D.post self.now.declarator) }
+        ensures { ReadsLeveled expression_of expression_levels (suc self.now.levels)
+            (spec.cast_from self.now.names.now (readers self.now.names.now self.now.levels) self.now.levels position
+            tokens.old.rest.now) result tokens.new.rest.now }
     {
         let name = self
             .typed(tokens, DeclaratorKind::Abstract)?
@@ -132,8 +141,12 @@ impl<
         least: u8,
         position: Position,
     ) -> Result<Leveled<Expression<'a>>, Fault>
-        requires deeper { Deeper self.now.levels (E.pre self.now.expression) (E.post self.now.expression) (S.pre self.now.specifiers) (S.post self.now.specifiers) (D.pre self.now.declarator) (D.post self.now.declarator) }
-        ensures { ReadsLeveled expression_of expression_levels (suc self.now.levels) (spec.parenthesis_from self.now.names.now (readers self.now.names.now self.now.levels) self.now.levels least position tokens.old.rest.now) result tokens.new.rest.now }
+        requires deeper { Deeper self.now.levels (E.pre self.now.expression) (E.post self.now.expression)
+            (S.pre self.now.specifiers) (S.post self.now.specifiers) (D.pre self.now.declarator)
+            (D.post self.now.declarator) }
+        ensures { ReadsLeveled expression_of expression_levels (suc self.now.levels)
+            (spec.parenthesis_from self.now.names.now (readers self.now.names.now self.now.levels) self.now.levels least
+            position tokens.old.rest.now) result tokens.new.rest.now }
     {
         if !begins_specifiers(self.names, tokens.rest) {
             return self.parenthesized(tokens, position);
@@ -153,8 +166,12 @@ impl<
         position: Position,
         left: Position,
     ) -> Result<Leveled<Expression<'a>>, Fault>
-        requires deeper { Deeper self.now.levels (E.pre self.now.expression) (E.post self.now.expression) (S.pre self.now.specifiers) (S.post self.now.specifiers) (D.pre self.now.declarator) (D.post self.now.declarator) }
-        ensures { ReadsLeveled expression_of expression_levels (suc self.now.levels) (spec.sizeof_parenthesis_from self.now.names.now (readers self.now.names.now self.now.levels) self.now.levels position left tokens.old.rest.now) result tokens.new.rest.now }
+        requires deeper { Deeper self.now.levels (E.pre self.now.expression) (E.post self.now.expression)
+            (S.pre self.now.specifiers) (S.post self.now.specifiers) (D.pre self.now.declarator)
+            (D.post self.now.declarator) }
+        ensures { ReadsLeveled expression_of expression_levels (suc self.now.levels)
+            (spec.sizeof_parenthesis_from self.now.names.now (readers self.now.names.now self.now.levels)
+            self.now.levels position left tokens.old.rest.now) result tokens.new.rest.now }
     {
         if begins_specifiers(self.names, tokens.rest) {
             let name = self
@@ -180,8 +197,12 @@ impl<
         tokens: &mut Cursor<'_, 'a>,
         position: Position,
     ) -> Result<Leveled<Expression<'a>>, Fault>
-        requires deeper { Deeper self.now.levels (E.pre self.now.expression) (E.post self.now.expression) (S.pre self.now.specifiers) (S.post self.now.specifiers) (D.pre self.now.declarator) (D.post self.now.declarator) }
-        ensures { ReadsLeveled expression_of expression_levels (suc self.now.levels) (spec.sizeof_from self.now.names.now (readers self.now.names.now self.now.levels) self.now.levels position tokens.old.rest.now) result tokens.new.rest.now }
+        requires deeper { Deeper self.now.levels (E.pre self.now.expression) (E.post self.now.expression)
+            (S.pre self.now.specifiers) (S.post self.now.specifiers) (D.pre self.now.declarator)
+            (D.post self.now.declarator) }
+        ensures { ReadsLeveled expression_of expression_levels (suc self.now.levels)
+            (spec.sizeof_from self.now.names.now (readers self.now.names.now self.now.levels) self.now.levels position
+            tokens.old.rest.now) result tokens.new.rest.now }
     {
         let [first, rest @ ..] = tokens.rest else {
             return Err(Fault::Refused);
@@ -204,8 +225,12 @@ impl<
         operator: Punctuator,
         position: Position,
     ) -> Result<Leveled<Expression<'a>>, Fault>
-        requires deeper { Deeper self.now.levels (E.pre self.now.expression) (E.post self.now.expression) (S.pre self.now.specifiers) (S.post self.now.specifiers) (D.pre self.now.declarator) (D.post self.now.declarator) }
-        ensures { ReadsLeveled expression_of expression_levels (suc self.now.levels) (unary_from (readers self.now.names.now self.now.levels) operator position tokens.old.rest.now) result tokens.new.rest.now }
+        requires deeper { Deeper self.now.levels (E.pre self.now.expression) (E.post self.now.expression)
+            (S.pre self.now.specifiers) (S.post self.now.specifiers) (D.pre self.now.declarator)
+            (D.post self.now.declarator) }
+        ensures { ReadsLeveled expression_of expression_levels (suc self.now.levels)
+            (unary_from (readers self.now.names.now self.now.levels) operator position tokens.old.rest.now) result
+            tokens.new.rest.now }
     {
         let operand = self.expression(tokens, None, operand_precedence(operator))?;
         let operand = operand.boxed(self.alloc)?;
@@ -225,9 +250,13 @@ impl<
         position: Position,
         rest: &'r [Positioned<'a>],
     ) -> Result<Leveled<Expression<'a>>, Fault>
-        requires deeper { Deeper self.now.levels (E.pre self.now.expression) (E.post self.now.expression) (S.pre self.now.specifiers) (S.post self.now.specifiers) (D.pre self.now.declarator) (D.post self.now.declarator) }
+        requires deeper { Deeper self.now.levels (E.pre self.now.expression) (E.post self.now.expression)
+            (S.pre self.now.specifiers) (S.post self.now.specifiers) (D.pre self.now.declarator)
+            (D.post self.now.declarator) }
         requires next { tokens.old.rest.now ≡ word_at (kinds.Punctuator punctuator) position ∷ rest.now }
-        ensures { ReadsLeveled expression_of expression_levels (suc self.now.levels) (spec.operand_by_punctuator self.now.names.now (readers self.now.names.now self.now.levels) self.now.levels least punctuator position rest.now) result tokens.new.rest.now }
+        ensures { ReadsLeveled expression_of expression_levels (suc self.now.levels)
+            (spec.operand_by_punctuator self.now.names.now (readers self.now.names.now self.now.levels) self.now.levels
+            least punctuator position rest.now) result tokens.new.rest.now }
     {
         if operand_precedence(punctuator) >= 1 && self.levels >= 1 {
             tokens.rest = rest;
@@ -247,8 +276,12 @@ impl<
         tokens: &mut Cursor<'_, 'a>,
         least: u8,
     ) -> Result<Leveled<Expression<'a>>, Fault>
-        requires deeper { Deeper self.now.levels (E.pre self.now.expression) (E.post self.now.expression) (S.pre self.now.specifiers) (S.post self.now.specifiers) (D.pre self.now.declarator) (D.post self.now.declarator) }
-        ensures { ReadsLeveled expression_of expression_levels (suc self.now.levels) (spec.operand_from self.now.names.now (readers self.now.names.now self.now.levels) self.now.levels least tokens.old.rest.now) result tokens.new.rest.now }
+        requires deeper { Deeper self.now.levels (E.pre self.now.expression) (E.post self.now.expression)
+            (S.pre self.now.specifiers) (S.post self.now.specifiers) (D.pre self.now.declarator)
+            (D.post self.now.declarator) }
+        ensures { ReadsLeveled expression_of expression_levels (suc self.now.levels)
+            (spec.operand_from self.now.names.now (readers self.now.names.now self.now.levels) self.now.levels least
+            tokens.old.rest.now) result tokens.new.rest.now }
     {
         let [first, rest @ ..] = tokens.rest else {
             return Err(Fault::Refused);

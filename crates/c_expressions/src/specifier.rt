@@ -17,7 +17,9 @@ use c_grammar::cursor::{Cursor, Fault, spelled};
 use c_grammar::declarator_kind::DeclaratorKind;
 use c_lexer::{Keyword, Spelling, TokenKind};
 use c_syntax::names::is_among;
-use c_syntax::{Declarator, Expression, Items, Position, Positioned, Specifier, Spelled, TypeWords};
+use c_syntax::{
+    Declarator, Expression, Items, Position, Positioned, Specifier, Spelled, TypeWords,
+};
 use std::alloc::Global;
 
 /// Whether the keyword may begin specifiers.
@@ -103,8 +105,12 @@ impl<
         keyword: Keyword,
         position: Position,
     ) -> Result<Leveled<Specifier<'a>>, Fault>
-        requires deeper { Deeper self.now.levels (E.pre self.now.expression) (E.post self.now.expression) (S.pre self.now.specifiers) (S.post self.now.specifiers) (D.pre self.now.declarator) (D.post self.now.declarator) }
-        ensures { ReadsLeveled specifier_of specifier_levels (suc self.now.levels) (spec.specifier_by_keyword self.now.names.now (readers self.now.names.now self.now.levels) self.now.levels keyword position tokens.old.rest.now) result tokens.new.rest.now }
+        requires deeper { Deeper self.now.levels (E.pre self.now.expression) (E.post self.now.expression)
+            (S.pre self.now.specifiers) (S.post self.now.specifiers) (D.pre self.now.declarator)
+            (D.post self.now.declarator) }
+        ensures { ReadsLeveled specifier_of specifier_levels (suc self.now.levels)
+            (spec.specifier_by_keyword self.now.names.now (readers self.now.names.now self.now.levels) self.now.levels
+            keyword position tokens.old.rest.now) result tokens.new.rest.now }
     {
         match keyword {
             Keyword::Struct | Keyword::Union => self.structure(tokens, keyword, position),
@@ -115,8 +121,12 @@ impl<
 
     /// Reads a specifier by its first word.
     fn specifier(&self, tokens: &mut Cursor<'_, 'a>) -> Result<Leveled<Specifier<'a>>, Fault>
-        requires deeper { Deeper self.now.levels (E.pre self.now.expression) (E.post self.now.expression) (S.pre self.now.specifiers) (S.post self.now.specifiers) (D.pre self.now.declarator) (D.post self.now.declarator) }
-        ensures { ReadsLeveled specifier_of specifier_levels (suc self.now.levels) (specifier_next self.now.names.now (readers self.now.names.now self.now.levels) self.now.levels tokens.old.rest.now) result tokens.new.rest.now }
+        requires deeper { Deeper self.now.levels (E.pre self.now.expression) (E.post self.now.expression)
+            (S.pre self.now.specifiers) (S.post self.now.specifiers) (D.pre self.now.declarator)
+            (D.post self.now.declarator) }
+        ensures { ReadsLeveled specifier_of specifier_levels (suc self.now.levels)
+            (specifier_next self.now.names.now (readers self.now.names.now self.now.levels) self.now.levels
+            tokens.old.rest.now) result tokens.new.rest.now }
     {
         let [first, rest @ ..] = tokens.rest else {
             return Err(Fault::Refused);
@@ -136,7 +146,8 @@ impl<
 
     /// Whether a word goes on with specifiers behind these words of a type, where `typedef` is allowed or not.
     fn goes_on_with(&self, allowed: bool, words: TypeWords, word: &TokenKind) -> bool
-        ensures { result ≡ spec.goes_on_with self.now.names.now (readers self.now.names.now self.now.levels) self.now.levels allowed words word.now }
+        ensures { result ≡ spec.goes_on_with self.now.names.now (readers self.now.names.now self.now.levels)
+            self.now.levels allowed words word.now }
     {
         match word {
             TokenKind::Keyword(keyword) => goes_on_with_keyword(allowed, words, *keyword),
@@ -148,7 +159,8 @@ impl<
 
     /// Whether the next word goes on with specifiers.
     fn has_specifier(&self, allowed: bool, words: TypeWords, rest: &[Positioned<'a>]) -> bool
-        ensures { result ≡ next_is (spec.goes_on_with self.now.names.now (readers self.now.names.now self.now.levels) self.now.levels allowed words) rest.now }
+        ensures { result ≡ next_is (spec.goes_on_with self.now.names.now (readers self.now.names.now self.now.levels)
+            self.now.levels allowed words) rest.now }
     {
         match rest.first() {
             Some(first) => self.goes_on_with(allowed, words, &first.kind),
@@ -164,8 +176,11 @@ impl<
         specifiers: Leveled<Vec<Specifier<'a>>>,
         rest: &[Positioned<'a>],
     ) -> Result<Leveled<Items<Specifier<'a>>>, Fault>
-        requires known { Below (suc self.now.levels) specifiers.levels (specifiers_levels (specifiers_in specifiers.tree.items)) }
-        ensures { ReadsLeveled specifiers_in specifiers_levels (suc self.now.levels) (specifiers_extending specifiers.entry.tree.items (spec.ended self.now.names.now (readers self.now.names.now self.now.levels) self.now.levels words rest.now)) result rest.now }
+        requires known { Below (suc self.now.levels) specifiers.levels
+            (specifiers_levels (specifiers_in specifiers.tree.items)) }
+        ensures { ReadsLeveled specifiers_in specifiers_levels (suc self.now.levels)
+            (specifiers_extending specifiers.entry.tree.items (spec.ended self.now.names.now
+            (readers self.now.names.now self.now.levels) self.now.levels words rest.now)) result rest.now }
     {
         Ok(as_items(where_true(words.is_type(), specifiers)?))
     }
@@ -177,8 +192,12 @@ impl<
         tokens: &mut Cursor<'_, 'a>,
         allowed: bool,
     ) -> Result<Leveled<Items<Specifier<'a>>>, Fault>
-        requires deeper { Deeper self.now.levels (E.pre self.now.expression) (E.post self.now.expression) (S.pre self.now.specifiers) (S.post self.now.specifiers) (D.pre self.now.declarator) (D.post self.now.declarator) }
-        ensures { ReadsLeveled specifiers_in specifiers_levels (suc self.now.levels) (spec.specifiers_at self.now.names.now (readers self.now.names.now self.now.levels) self.now.levels allowed tokens.old.rest.now) result tokens.new.rest.now }
+        requires deeper { Deeper self.now.levels (E.pre self.now.expression) (E.post self.now.expression)
+            (S.pre self.now.specifiers) (S.post self.now.specifiers) (D.pre self.now.declarator)
+            (D.post self.now.declarator) }
+        ensures { ReadsLeveled specifiers_in specifiers_levels (suc self.now.levels)
+            (spec.specifiers_at self.now.names.now (readers self.now.names.now self.now.levels) self.now.levels allowed
+            tokens.old.rest.now) result tokens.new.rest.now }
     {
         let mut words = TypeWords::none();
         let mut specifiers = no_trees(self.alloc);

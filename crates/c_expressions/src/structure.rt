@@ -8,7 +8,8 @@ ghost use Rattle.c_grammar.specs.Nested.{readers};
 ghost use Rattle.c_expressions.specs.Steps.{declarators_behind, declarators_behind_levels};
 ghost use Rattle.c_expressions.specs.LeveledReads.{ReadsLeveled, Deeper};
 ghost use Rattle.c_grammar.specs.declared.declarator_kind.DeclaratorKind.TheVariants as kind;
-ghost use Rattle.c_syntax.specs.View.{specifiers_in, specifier_of, declarator_of, more_declarators_in, member_of, members_in};
+ghost use Rattle.c_syntax.specs.View.{specifiers_in, specifier_of, declarator_of, more_declarators_in, member_of};
+ghost use Rattle.c_syntax.specs.View.{members_in};
 ghost use Rattle.c_syntax.specs.Levels.{specifier_levels, member_levels, members_levels};
 ghost use Rattle.c_syntax.specs.Tree as t;
 
@@ -34,7 +35,8 @@ fn member_with<'a>(
     others: Leveled<Items<(Position, Declarator<'a>)>>,
     semicolon: Position,
 ) -> Leveled<Member<'a>>
-    ensures tree { member_of result.tree ≡ t.member_declaration (specifiers_in specifiers.entry.tree) (declarator_of first.entry.tree) (more_declarators_in others.entry.tree) semicolon }
+    ensures tree { member_of result.tree ≡ t.member_declaration (specifiers_in specifiers.entry.tree)
+        (declarator_of first.entry.tree) (more_declarators_in others.entry.tree) semicolon }
     ensures levels { result.levels ≡ max specifiers.entry.levels (max first.entry.levels others.entry.levels) }
 {
     let Leveled {
@@ -91,9 +93,13 @@ impl<
         &self,
         tokens: &mut Cursor<'_, 'a>,
     ) -> Result<Leveled<Items<(Position, Declarator<'a>)>>, Fault>
-        requires deeper { Deeper self.now.levels (E.pre self.now.expression) (E.post self.now.expression) (S.pre self.now.specifiers) (S.post self.now.specifiers) (D.pre self.now.declarator) (D.post self.now.declarator) }
+        requires deeper { Deeper self.now.levels (E.pre self.now.expression) (E.post self.now.expression)
+            (S.pre self.now.specifiers) (S.post self.now.specifiers) (D.pre self.now.declarator)
+            (D.post self.now.declarator) }
         requires some { 0 < self.now.levels }
-        ensures { ReadsLeveled declarators_behind declarators_behind_levels self.now.levels (behind_commas ((readers self.now.names.now self.now.levels).declarator kind.Named) (length tokens.old.rest.now) tokens.old.rest.now) result tokens.new.rest.now }
+        ensures { ReadsLeveled declarators_behind declarators_behind_levels self.now.levels
+            (behind_commas ((readers self.now.names.now self.now.levels).declarator kind.Named)
+            (length tokens.old.rest.now) tokens.old.rest.now) result tokens.new.rest.now }
     {
         let mut others = no_trees(self.alloc);
         for _ in 0..tokens.rest.len() {
@@ -112,9 +118,13 @@ impl<
     /// Reads a declaration of members (C99 6.7.2.1).
     #[tactic(auto, unfolding(c_grammar::specs::SpecifierReader::member_from))]
     fn member_declaration(&self, tokens: &mut Cursor<'_, 'a>) -> Result<Leveled<Member<'a>>, Fault>
-        requires deeper { Deeper self.now.levels (E.pre self.now.expression) (E.post self.now.expression) (S.pre self.now.specifiers) (S.post self.now.specifiers) (D.pre self.now.declarator) (D.post self.now.declarator) }
+        requires deeper { Deeper self.now.levels (E.pre self.now.expression) (E.post self.now.expression)
+            (S.pre self.now.specifiers) (S.post self.now.specifiers) (D.pre self.now.declarator)
+            (D.post self.now.declarator) }
         requires some { 0 < self.now.levels }
-        ensures { ReadsLeveled member_of member_levels self.now.levels (spec.member_from self.now.names.now (readers self.now.names.now self.now.levels) self.now.levels tokens.old.rest.now) result tokens.new.rest.now }
+        ensures { ReadsLeveled member_of member_levels self.now.levels
+            (spec.member_from self.now.names.now (readers self.now.names.now self.now.levels) self.now.levels
+            tokens.old.rest.now) result tokens.new.rest.now }
     {
         let specifiers = self.specifiers(tokens, false)?;
         let member = beside(specifiers, self.declarator(tokens, DeclaratorKind::Named))?;
@@ -126,9 +136,13 @@ impl<
 
     /// Reads declarations of members up to `}`, at least one (C99 6.7.2.1).
     fn members(&self, tokens: &mut Cursor<'_, 'a>) -> Result<Leveled<Items<Member<'a>>>, Fault>
-        requires deeper { Deeper self.now.levels (E.pre self.now.expression) (E.post self.now.expression) (S.pre self.now.specifiers) (S.post self.now.specifiers) (D.pre self.now.declarator) (D.post self.now.declarator) }
+        requires deeper { Deeper self.now.levels (E.pre self.now.expression) (E.post self.now.expression)
+            (S.pre self.now.specifiers) (S.post self.now.specifiers) (D.pre self.now.declarator)
+            (D.post self.now.declarator) }
         requires some { 0 < self.now.levels }
-        ensures { ReadsLeveled members_in members_levels self.now.levels (spec.members_from self.now.names.now (readers self.now.names.now self.now.levels) self.now.levels tokens.old.rest.now) result tokens.new.rest.now }
+        ensures { ReadsLeveled members_in members_levels self.now.levels
+            (spec.members_from self.now.names.now (readers self.now.names.now self.now.levels) self.now.levels
+            tokens.old.rest.now) result tokens.new.rest.now }
     {
         let first = self.member_declaration(tokens)?;
         let none: Leveled<Vec<Member<'a>>> = no_trees(self.alloc);
@@ -152,9 +166,13 @@ impl<
         position: Position,
         tag: Option<Spelled<'a>>,
     ) -> Result<Leveled<Specifier<'a>>, Fault>
-        requires deeper { Deeper self.now.levels (E.pre self.now.expression) (E.post self.now.expression) (S.pre self.now.specifiers) (S.post self.now.specifiers) (D.pre self.now.declarator) (D.post self.now.declarator) }
+        requires deeper { Deeper self.now.levels (E.pre self.now.expression) (E.post self.now.expression)
+            (S.pre self.now.specifiers) (S.post self.now.specifiers) (D.pre self.now.declarator)
+            (D.post self.now.declarator) }
         requires some { 0 < self.now.levels }
-        ensures { ReadsLeveled specifier_of specifier_levels (suc self.now.levels) (spec.structure_body_from self.now.names.now (readers self.now.names.now self.now.levels) self.now.levels keyword position tag.entry tokens.old.rest.now) result tokens.new.rest.now }
+        ensures { ReadsLeveled specifier_of specifier_levels (suc self.now.levels)
+            (spec.structure_body_from self.now.names.now (readers self.now.names.now self.now.levels) self.now.levels
+            keyword position tag.entry tokens.old.rest.now) result tokens.new.rest.now }
     {
         let left = tokens.expect(Punctuator::LeftBrace)?;
         let members = self.members(tokens)?;
@@ -173,8 +191,12 @@ impl<
         keyword: Keyword,
         position: Position,
     ) -> Result<Leveled<Specifier<'a>>, Fault>
-        requires deeper { Deeper self.now.levels (E.pre self.now.expression) (E.post self.now.expression) (S.pre self.now.specifiers) (S.post self.now.specifiers) (D.pre self.now.declarator) (D.post self.now.declarator) }
-        ensures { ReadsLeveled specifier_of specifier_levels (suc self.now.levels) (spec.structure_from self.now.names.now (readers self.now.names.now self.now.levels) self.now.levels keyword position tokens.old.rest.now) result tokens.new.rest.now }
+        requires deeper { Deeper self.now.levels (E.pre self.now.expression) (E.post self.now.expression)
+            (S.pre self.now.specifiers) (S.post self.now.specifiers) (D.pre self.now.declarator)
+            (D.post self.now.declarator) }
+        ensures { ReadsLeveled specifier_of specifier_levels (suc self.now.levels)
+            (spec.structure_from self.now.names.now (readers self.now.names.now self.now.levels) self.now.levels keyword
+            position tokens.old.rest.now) result tokens.new.rest.now }
     {
         if begins_body(self.levels, tokens.rest) {
             return self.structure_body(tokens, keyword, position, None);

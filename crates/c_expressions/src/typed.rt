@@ -4,10 +4,12 @@ ghost use Rattle.std.specs.Prelude.{◌≡◌, ◌<◌, length, max, IfOk};
 ghost use Rattle.c_grammar.specs.Reader.{behind_commas};
 ghost use Rattle.c_grammar.specs.Readers as spec;
 ghost use Rattle.c_grammar.specs.Nested.{readers};
-ghost use Rattle.c_expressions.specs.Steps.{void_word, void_alone, void_parameter, lone_void, parameters_behind, parameters_behind_levels};
+ghost use Rattle.c_expressions.specs.Steps.{void_word, void_alone, void_parameter, lone_void, parameters_behind};
+ghost use Rattle.c_expressions.specs.Steps.{parameters_behind_levels};
 ghost use Rattle.c_expressions.specs.LeveledReads.{ReadsLeveled, Deeper};
 ghost use Rattle.c_grammar.specs.declared.declarator_kind.DeclaratorKind.TheVariants as kind;
-ghost use Rattle.c_syntax.specs.View.{typed_of, parameters_of, more_parameters_in, specifier_of, specifiers_in, declarator_of};
+ghost use Rattle.c_syntax.specs.View.{typed_of, parameters_of, more_parameters_in, specifier_of, specifiers_in};
+ghost use Rattle.c_syntax.specs.View.{declarator_of};
 ghost use Rattle.c_syntax.specs.Tree as t;
 ghost use Rattle.c_syntax.specs.Levels.{typed_levels, parameters_levels};
 
@@ -72,7 +74,8 @@ fn parameters_of<'a>(
     first: TypedDeclarator<'a>,
     others: Items<(Position, TypedDeclarator<'a>)>,
 ) -> Result<Parameters<'a>, AllocError>
-    ensures { IfOk result (λ x. parameters_of x ≡ spec.parameters_of (typed_of first.entry) (more_parameters_in others.entry)) }
+    ensures { IfOk result (λ x. parameters_of x ≡ spec.parameters_of (typed_of first.entry)
+        (more_parameters_in others.entry)) }
 {
     match lone_void(&first, others.as_slice()) {
         Some(position) => Ok(Parameters::Void(position)),
@@ -85,7 +88,8 @@ fn typed_with<'a>(
     specifiers: Leveled<Items<Specifier<'a>>>,
     declarator: Leveled<Declarator<'a>>,
 ) -> Leveled<TypedDeclarator<'a>>
-    ensures tree { typed_of result.tree ≡ t.typed (specifiers_in specifiers.entry.tree) (declarator_of declarator.entry.tree) }
+    ensures tree { typed_of result.tree ≡ t.typed (specifiers_in specifiers.entry.tree)
+        (declarator_of declarator.entry.tree) }
     ensures levels { result.levels ≡ max specifiers.entry.levels declarator.entry.levels }
 {
     let Leveled {
@@ -138,8 +142,12 @@ impl<
         tokens: &mut Cursor<'_, 'a>,
         kind: DeclaratorKind,
     ) -> Result<Leveled<TypedDeclarator<'a>>, Fault>
-        requires deeper { Deeper self.now.levels (E.pre self.now.expression) (E.post self.now.expression) (S.pre self.now.specifiers) (S.post self.now.specifiers) (D.pre self.now.declarator) (D.post self.now.declarator) }
-        ensures { ReadsLeveled typed_of typed_levels self.now.levels (spec.typed_from (readers self.now.names.now self.now.levels) kind tokens.old.rest.now) result tokens.new.rest.now }
+        requires deeper { Deeper self.now.levels (E.pre self.now.expression) (E.post self.now.expression)
+            (S.pre self.now.specifiers) (S.post self.now.specifiers) (D.pre self.now.declarator)
+            (D.post self.now.declarator) }
+        ensures { ReadsLeveled typed_of typed_levels self.now.levels
+            (spec.typed_from (readers self.now.names.now self.now.levels) kind tokens.old.rest.now) result
+            tokens.new.rest.now }
     {
         let specifiers = self.specifiers(tokens, false)?;
         let (specifiers, declarator) = beside(specifiers, self.declarator(tokens, kind))?;
@@ -151,9 +159,13 @@ impl<
         &self,
         tokens: &mut Cursor<'_, 'a>,
     ) -> Result<Leveled<Items<(Position, TypedDeclarator<'a>)>>, Fault>
-        requires deeper { Deeper self.now.levels (E.pre self.now.expression) (E.post self.now.expression) (S.pre self.now.specifiers) (S.post self.now.specifiers) (D.pre self.now.declarator) (D.post self.now.declarator) }
+        requires deeper { Deeper self.now.levels (E.pre self.now.expression) (E.post self.now.expression)
+            (S.pre self.now.specifiers) (S.post self.now.specifiers) (D.pre self.now.declarator)
+            (D.post self.now.declarator) }
         requires some { 0 < self.now.levels }
-        ensures { ReadsLeveled parameters_behind parameters_behind_levels self.now.levels (behind_commas (spec.typed_from (readers self.now.names.now self.now.levels) kind.Either) (length tokens.old.rest.now) tokens.old.rest.now) result tokens.new.rest.now }
+        ensures { ReadsLeveled parameters_behind parameters_behind_levels self.now.levels
+            (behind_commas (spec.typed_from (readers self.now.names.now self.now.levels) kind.Either)
+            (length tokens.old.rest.now) tokens.old.rest.now) result tokens.new.rest.now }
     {
         let mut others = no_trees(self.alloc);
         for _ in 0..tokens.rest.len() {
@@ -169,9 +181,13 @@ impl<
     /// Reads what stands between the parentheses of a function declarator (C99 6.7.5.3).
     #[tactic(auto, unfolding(c_grammar::specs::Readers::parameters_from))]
     pub fn parameters(&self, tokens: &mut Cursor<'_, 'a>) -> Result<Leveled<Parameters<'a>>, Fault>
-        requires deeper { Deeper self.now.levels (E.pre self.now.expression) (E.post self.now.expression) (S.pre self.now.specifiers) (S.post self.now.specifiers) (D.pre self.now.declarator) (D.post self.now.declarator) }
+        requires deeper { Deeper self.now.levels (E.pre self.now.expression) (E.post self.now.expression)
+            (S.pre self.now.specifiers) (S.post self.now.specifiers) (D.pre self.now.declarator)
+            (D.post self.now.declarator) }
         requires some { 0 < self.now.levels }
-        ensures { ReadsLeveled parameters_of parameters_levels self.now.levels (spec.parameters_from (readers self.now.names.now self.now.levels) tokens.old.rest.now) result tokens.new.rest.now }
+        ensures { ReadsLeveled parameters_of parameters_levels self.now.levels
+            (spec.parameters_from (readers self.now.names.now self.now.levels) tokens.old.rest.now) result
+            tokens.new.rest.now }
     {
         if next_is(tokens.rest, Punctuator::RightParenthesis) {
             return Ok(leaf(Parameters::Empty));

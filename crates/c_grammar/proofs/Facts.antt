@@ -9,7 +9,8 @@ use Rattle.c_lexer.specs.declared.token.TokenKind.{TokenKind}
 use Rattle.c_lexer.specs.declared.token.TokenKind.TheVariants as kinds
 use Rattle.c_syntax.specs.declared.position.Position.{Position}
 use Rattle.c_syntax.specs.Words.{Words, punctuator}
-use Rattle.c_syntax.specs.Formed.{binary_precedence, operand_precedence, is_assignment, is_member_operator, is_postfix_operator}
+use Rattle.c_syntax.specs.Formed.{binary_precedence, operand_precedence, is_assignment, is_member_operator}
+use Rattle.c_syntax.specs.Formed.{is_postfix_operator}
 use Rattle.c_grammar.specs.declared.operation.Operation.{Operation}
 use Rattle.c_grammar.specs.declared.operation.Operation.TheVariants as op
 use Rattle.c_grammar.specs.Reader.{is_same, expect}

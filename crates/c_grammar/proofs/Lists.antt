@@ -9,7 +9,8 @@ use Rattle.c_grammar.proofs.Facts.{same}
 module _ {A : Type 0} (element : Reader A) where
   -- an element behind a comma, and what is read behind it
   pub comma_turn : (n : ℕ) (at : Position) (i j r : Words) (x : A) (z : List (Position × A))
-      → element i ≡ Ok (x, j) → behind_commas element n j ≡ Ok (z, r) → behind_commas element (suc n) (punctuator p.Comma at ∷ i) ≡ Ok ((at, x) ∷ z, r)
+      → element i ≡ Ok (x, j) → behind_commas element n j ≡ Ok (z, r)
+      → behind_commas element (suc n) (punctuator p.Comma at ∷ i) ≡ Ok ((at, x) ∷ z, r)
   unfolding behind_commas
   comma_turn n at i j r x z one others = rw (same p.Comma, one, others) refl
 
@@ -20,8 +21,10 @@ module _ {A : Type 0} (element : Reader A) where
   comma_end (suc n) (first ∷ r) h = rw h refl
 
   -- the same before `}`
-  pub comma_to_brace_turn : (n : ℕ) (at : Position) (i j r : Words) (x : A) (z : List (Position × A)) (c : Option Position)
-      → next_is_punctuator p.RightBrace i ≡ false → element i ≡ Ok (x, j) → behind_commas_to_brace element n j ≡ Ok ((z, c), r)
+  pub comma_to_brace_turn : (n : ℕ) (at : Position) (i j r : Words) (x : A) (z : List (Position × A))
+      (c : Option Position)
+      → next_is_punctuator p.RightBrace i ≡ false → element i ≡ Ok (x, j)
+      → behind_commas_to_brace element n j ≡ Ok ((z, c), r)
       → behind_commas_to_brace element (suc n) (punctuator p.Comma at ∷ i) ≡ Ok (((at, x) ∷ z, c), r)
   unfolding behind_commas_to_brace
   comma_to_brace_turn n at i j r x z c more one others = rw (same p.Comma, more, one, others) refl
@@ -33,7 +36,8 @@ module _ {A : Type 0} (element : Reader A) where
   comma_to_brace_last n at i h = rw (same p.Comma, h) refl
 
   -- no last comma
-  pub comma_to_brace_end : (n : ℕ) (r : Words) → next_is_punctuator p.Comma r ≡ false → behind_commas_to_brace element n r ≡ Ok (([], None), r)
+  pub comma_to_brace_end : (n : ℕ) (r : Words) → next_is_punctuator p.Comma r ≡ false
+      → behind_commas_to_brace element n r ≡ Ok (([], None), r)
   unfolding behind_commas_to_brace
   comma_to_brace_end zero r h = refl
   comma_to_brace_end (suc n) [] h = refl
@@ -41,10 +45,12 @@ module _ {A : Type 0} (element : Reader A) where
 
   -- an element that does not begin with `}`, and what is read behind it
   pub to_brace_turn : (n : ℕ) (i j r : Words) (x : A) (z : List A)
-      → next_is_punctuator p.RightBrace i ≡ false → element i ≡ Ok (x, j) → up_to_brace element n j ≡ Ok (z, r) → up_to_brace element (suc n) i ≡ Ok (x ∷ z, r)
+      → next_is_punctuator p.RightBrace i ≡ false → element i ≡ Ok (x, j) → up_to_brace element n j ≡ Ok (z, r)
+      → up_to_brace element (suc n) i ≡ Ok (x ∷ z, r)
   unfolding up_to_brace
   to_brace_turn n i j r x z more one others = rw (more, one, others) refl
 
-  pub to_brace_end : (n : ℕ) (i : Words) → next_is_punctuator p.RightBrace i ≡ true → up_to_brace element (suc n) i ≡ Ok ([], i)
+  pub to_brace_end : (n : ℕ) (i : Words) → next_is_punctuator p.RightBrace i ≡ true
+      → up_to_brace element (suc n) i ≡ Ok ([], i)
   unfolding up_to_brace
   to_brace_end n i h = rw h refl

@@ -1,5 +1,6 @@
 -- Reading declarators (C99 6.7.5, 6.7.6).
-use Rattle.std.specs.Prelude.{ℕ, zero, suc, nat_le, nat_lt, Bool, not, ◌&&◌, ◌||◌, if◌then◌else◌, List, [], ◌∷◌, Ok, Err, None}
+use Rattle.std.specs.Prelude.{ℕ, zero, suc, nat_le, nat_lt, Bool, not, ◌&&◌, ◌||◌, if◌then◌else◌, List, [], ◌∷◌, Ok}
+use Rattle.std.specs.Prelude.{Err, None}
 use Rattle.c_lexer.specs.declared.punctuator.Punctuator.TheVariants as p
 use Rattle.c_lexer.specs.declared.token.TokenKind.{TokenKind}
 use Rattle.c_lexer.specs.declared.token.TokenKind.TheVariants as kinds
@@ -24,7 +25,8 @@ begins_suffix w = is_punctuator p.LeftParenthesis w || is_punctuator p.LeftBrack
 module _ (names : List (List ℕ)) (deeper : Readers) (levels : ℕ) where
   -- behind the `(` of parameters (C99 6.7.5.3)
   abbrev pub function_from : Declarator → Position → Words → Outcome Declarator
-  function_from e at i = parameters_from deeper i >>= λ a i. expect p.RightParenthesis i >>= λ r i. Ok (t.function e at a r, i)
+  function_from e at i = parameters_from deeper i >>= λ a i. expect p.RightParenthesis i
+      >>= λ r i. Ok (t.function e at a r, i)
 
   -- behind a first `(`: parameters of a function without a name, or a declarator in parentheses (C99 6.7.6)
   unfoldable pub parenthesis_from : DeclaratorKind → Position → Words → Outcome Declarator
@@ -80,4 +82,5 @@ module _ (names : List (List ℕ)) (deeper : Readers) (levels : ℕ) where
   -- a declarator with at most this number of levels
   unfoldable pub declarator_at : DeclaratorKind → Words → Outcome Declarator
   declarator_at d [] = suffixed_from d []
-  declarator_at d (first ∷ i) = if is_punctuator p.Star first.kind && nat_le 1 levels then pointer_from d first.position i else suffixed_from d (first ∷ i)
+  declarator_at d (first ∷ i) = if is_punctuator p.Star first.kind && nat_le 1 levels then pointer_from d first.position
+      i else suffixed_from d (first ∷ i)

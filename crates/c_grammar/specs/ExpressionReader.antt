@@ -1,5 +1,7 @@
--- Reading expressions (C99 6.5): an operand, and operators with their other operands as long as they bind tightly enough.
-use Rattle.std.specs.Prelude.{ℕ, zero, suc, nat_le, nat_lt, Bool, ◌&&◌, if◌then◌else◌, List, [], ◌∷◌, Ok, Err, Option, Some, None, length}
+-- Reading expressions (C99 6.5): an operand, and operators with their other operands as long as they bind tightly
+-- enough.
+use Rattle.std.specs.Prelude.{ℕ, zero, suc, nat_le, nat_lt, Bool, ◌&&◌, if◌then◌else◌, List, [], ◌∷◌, Ok, Err, Option}
+use Rattle.std.specs.Prelude.{Some, None, length}
 use Rattle.c_lexer.specs.declared.keyword.Keyword.TheVariants as k
 use Rattle.c_lexer.specs.declared.punctuator.Punctuator.{Punctuator}
 use Rattle.c_lexer.specs.declared.punctuator.Punctuator.TheVariants as p
@@ -11,8 +13,10 @@ use Rattle.c_syntax.specs.Tree as t
 use Rattle.c_syntax.specs.View.{more_arguments_of}
 use Rattle.c_syntax.specs.Levels.{expression_levels}
 use Rattle.c_syntax.specs.Words.{Words, word_at}
-use Rattle.c_syntax.specs.Formed.{binary_precedence, operand_precedence, is_assignment, is_member_operator, is_postfix_operator, precedence}
-use Rattle.c_grammar.specs.Reader.{Outcome, ◌>>=◌, is_punctuator, is_same, next_is_punctuator, expect, identifier_from, ordinary_by, strings_from, behind_commas}
+use Rattle.c_syntax.specs.Formed.{binary_precedence, operand_precedence, is_assignment, is_member_operator}
+use Rattle.c_syntax.specs.Formed.{is_postfix_operator, precedence}
+use Rattle.c_grammar.specs.Reader.{Outcome, ◌>>=◌, is_punctuator, is_same, next_is_punctuator, expect, identifier_from}
+use Rattle.c_grammar.specs.Reader.{ordinary_by, strings_from, behind_commas}
 use Rattle.c_grammar.specs.Readers.{Readers, begins_specifiers, typed_from}
 use Rattle.c_grammar.specs.declared.declarator_kind.DeclaratorKind.TheVariants as kind
 use Rattle.c_grammar.specs.declared.operation.Operation.{Operation}
@@ -71,11 +75,13 @@ module _ (names : List (List ℕ)) (deeper : Readers) (levels : ℕ) where
 
   -- behind the `(` of an expression in parentheses (C99 6.5.1)
   unfoldable pub parenthesized_from : Position → Words → Outcome Expression
-  parenthesized_from l i = deeper.expression None 1 i >>= λ e i. expect p.RightParenthesis i >>= λ r i. Ok (t.parenthesized l e r, i)
+  parenthesized_from l i = deeper.expression None 1 i >>= λ e i. expect p.RightParenthesis i
+      >>= λ r i. Ok (t.parenthesized l e r, i)
 
   -- behind a `(` that begins a cast or an expression in parentheses
   unfoldable pub parenthesis_from : ℕ → Position → Words → Outcome Expression
-  parenthesis_from m l i = if begins_specifiers names i then (if nat_le m 14 then cast_from l i else Err i) else parenthesized_from l i
+  parenthesis_from m l i = if begins_specifiers names i then (if nat_le m 14 then cast_from l i else Err i) else
+      parenthesized_from l i
 
   -- behind `sizeof (` (C99 6.5.3.4)
   unfoldable pub sizeof_parenthesis_from : Position → Position → Words → Outcome Expression
@@ -106,9 +112,11 @@ module _ (names : List (List ℕ)) (deeper : Readers) (levels : ℕ) where
   operand_by m (kinds.Identifier s) at i = ordinary_by names (kinds.Identifier s) at i >>= λ x i. Ok (t.identifier x, i)
   operand_by m (kinds.Integer s) at i = Ok (t.integer (record { spelling = s; position = at }), i)
   operand_by m (kinds.Character s) at i = Ok (t.character (record { spelling = s; position = at }), i)
-  operand_by m (kinds.StringLiteral s) at i = strings_from i >>= λ z i. Ok (t.strings (record { spelling = s; position = at }) z, i)
+  operand_by m (kinds.StringLiteral s) at i = strings_from i >>= λ z i.
+      Ok (t.strings (record { spelling = s; position = at }) z, i)
   operand_by m (kinds.Punctuator x) at i = operand_by_punctuator m x at i
-  operand_by m (kinds.Keyword k.Sizeof) at i = if nat_le 1 levels then sizeof_from at i else Err (word_at (kinds.Keyword k.Sizeof) at ∷ i)
+  operand_by m (kinds.Keyword k.Sizeof) at i = if nat_le 1 levels then sizeof_from at i else Err
+      (word_at (kinds.Keyword k.Sizeof) at ∷ i)
   operand_by m w at i = Err (word_at w at ∷ i)
 
   -- an operand that is no operation on what stands before an operator (C99 6.5.1, 6.5.3, 6.5.4)
@@ -121,17 +129,22 @@ module _ (names : List (List ℕ)) (deeper : Readers) (levels : ℕ) where
   arguments_from i =
       if next_is_punctuator p.RightParenthesis i
       then Ok (t.no_arguments, i)
-      else (deeper.expression None 2 i >>= λ e i. behind_commas (deeper.expression None 2) (length i) i >>= λ z i. Ok (t.arguments e (more_arguments_of z), i))
+      else (deeper.expression None 2 i >>= λ e i. behind_commas (deeper.expression None 2) (length i) i
+      >>= λ z i. Ok (t.arguments e (more_arguments_of z), i))
 
   -- an operation on this first operand, behind its punctuator
   unfoldable pub operation_from : Expression → Punctuator → Position → Option Operation → Words → Outcome Expression
   operation_from l x at None i = Err i
-  operation_from l x at (Some op.Binary) i = deeper.expression None (suc (binary_precedence x)) i >>= λ e i. Ok (t.binary l x at e, i)
+  operation_from l x at (Some op.Binary) i = deeper.expression None (suc (binary_precedence x)) i
+      >>= λ e i. Ok (t.binary l x at e, i)
   operation_from l x at (Some op.Assignment) i = deeper.expression None 2 i >>= λ e i. Ok (t.assignment l x at e, i)
   operation_from l x at (Some op.Conditional) i =
-      deeper.expression None 1 i >>= λ a i. expect p.Colon i >>= λ colon i. deeper.expression None 3 i >>= λ b i. Ok (t.conditional l at a colon b, i)
-  operation_from l x at (Some op.Subscript) i = deeper.expression None 1 i >>= λ e i. expect p.RightBracket i >>= λ r i. Ok (t.subscript l at e r, i)
-  operation_from l x at (Some op.Call) i = arguments_from i >>= λ a i. expect p.RightParenthesis i >>= λ r i. Ok (t.call l at a r, i)
+      deeper.expression None 1 i >>= λ a i. expect p.Colon i >>= λ colon i. deeper.expression None 3 i
+      >>= λ b i. Ok (t.conditional l at a colon b, i)
+  operation_from l x at (Some op.Subscript) i = deeper.expression None 1 i >>= λ e i. expect p.RightBracket i
+      >>= λ r i. Ok (t.subscript l at e r, i)
+  operation_from l x at (Some op.Call) i = arguments_from i >>= λ a i. expect p.RightParenthesis i
+      >>= λ r i. Ok (t.call l at a r, i)
   operation_from l x at (Some op.Member) i = identifier_from i >>= λ y i. Ok (t.member l x at y, i)
   operation_from l x at (Some op.Postfix) i = Ok (t.postfix l x at, i)
 

@@ -1,6 +1,7 @@
--- Readers of words: what one gives is a value and the words behind it, or the words from the refused one on. A reader looks at
--- the next word alone, takes it, or refuses there.
-use Rattle.std.specs.Prelude.{ℕ, zero, suc, Bool, true, false, bytes_eq, if◌then◌else◌, List, [], ◌∷◌, Result, Ok, Err, Option, Some, None}
+-- Readers of words: what one gives is a value and the words behind it, or the words from the refused one on. A reader
+-- looks at the next word alone, takes it, or refuses there.
+use Rattle.std.specs.Prelude.{ℕ, zero, suc, Bool, true, false, bytes_eq, if◌then◌else◌, List, [], ◌∷◌, Result, Ok, Err}
+use Rattle.std.specs.Prelude.{Option, Some, None}
 use Rattle.c_lexer.specs.Spellings.{punctuator_spelling}
 use Rattle.c_lexer.specs.declared.keyword.Keyword.TheVariants as k
 use Rattle.c_lexer.specs.declared.punctuator.Punctuator.{Punctuator}
@@ -74,7 +75,8 @@ identifier_from (first ∷ i) = identifier_by first.kind first.position i
 
 -- an identifier that is no typedef name
 abbrev pub ordinary_by : List (List ℕ) → TokenKind → Position → Words → Outcome Spelled
-ordinary_by names (kinds.Identifier s) at i = if is_among s names then Err (word_at (kinds.Identifier s) at ∷ i) else Ok (record { spelling = s; position = at }, i)
+ordinary_by names (kinds.Identifier s) at i = if is_among s names then Err (word_at (kinds.Identifier s) at ∷ i) else Ok
+    (record { spelling = s; position = at }, i)
 ordinary_by names w at i = Err (word_at w at ∷ i)
 
 -- takes an identifier that is no typedef name
@@ -112,7 +114,8 @@ behind_commas element (suc n) (first ∷ i) =
     else Ok ([], first ∷ i)
 
 -- the same, where a last comma may stand before `}`
-unfoldable pub behind_commas_to_brace : {A : Type 0} → Reader A → ℕ → Words → Outcome (List (Position × A) × Option Position)
+unfoldable pub behind_commas_to_brace : {A : Type 0} → Reader A → ℕ → Words
+    → Outcome (List (Position × A) × Option Position)
 behind_commas_to_brace element zero i = Ok (([], None), i)
 behind_commas_to_brace element (suc n) [] = Ok (([], None), [])
 behind_commas_to_brace element (suc n) (first ∷ i) =

@@ -27,7 +27,8 @@ must_have_name _ = false
 
 -- the readers of what has fewer levels than a number
 pub record Readers : Type 0 where
-  -- an expression of at least this precedence; a position is that of the `(` before, which is its first word and was taken
+  -- an expression of at least this precedence; a position is that of the `(` before, which is its first word and was
+  -- taken
   pub expression : Option Position → ℕ → Words → Outcome Expression
   -- specifiers, `typedef` among them or not
   pub specifiers : Bool → Words → Outcome Specifiers
@@ -55,7 +56,8 @@ module _ (names : List (List ℕ)) where
 
 -- the word `void` alone is the empty list
 abbrev pub parameters_of : TypedDeclarator → MoreParameters → Parameters
-parameters_of (t.typed (t.specifiers (t.keyword k.Void at) t.no_specifiers) t.unnamed) t.end_of_parameters = t.void_parameters at
+parameters_of (t.typed (t.specifiers (t.keyword k.Void at) t.no_specifiers) t.unnamed) t.end_of_parameters =
+    t.void_parameters at
 parameters_of x m = t.parameters x m
 
 module _ (deeper : Readers) where
@@ -68,4 +70,5 @@ module _ (deeper : Readers) where
   parameters_from i =
       if next_is_punctuator p.RightParenthesis i
       then Ok (t.no_parameters, i)
-      else (typed_from kind.Either i >>= λ x i. behind_commas (typed_from kind.Either) (length i) i >>= λ z i. Ok (parameters_of x (more_parameters_of z), i))
+      else (typed_from kind.Either i >>= λ x i. behind_commas (typed_from kind.Either) (length i) i
+      >>= λ z i. Ok (parameters_of x (more_parameters_of z), i))

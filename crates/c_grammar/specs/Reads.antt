@@ -1,5 +1,6 @@
--- What a function that reads ensures: what the reader gives, or that memory failed. Behind a refusal the refused word is next.
-use Rattle.std.specs.Prelude.{◌≡◌, ◌<◌, false, Result, Ok, Err, List, [], ◌∷◌, length, Option, Some, None, ⊤}
+-- What a function that reads ensures: what the reader gives, or that memory failed. Behind a refusal the refused word
+-- is next.
+use Rattle.std.specs.Prelude.{◌≡◌, ◌<◌, false, Result, Ok, Err, [], ◌∷◌, length, Option, Some, None, ⊤}
 use Rattle.c_lexer.specs.declared.punctuator.Punctuator.{Punctuator}
 use Rattle.c_syntax.specs.Words.{Words, punctuator}
 use Rattle.c_grammar.specs.declared.cursor.Fault.{Fault}
@@ -23,5 +24,6 @@ Takes a old None new = (next_is_punctuator a old ≡ false) × (new ≡ old)
 
 -- the word `const` was taken, or another word is next
 abbrev pub TakesConst : Words → Option Position → Words → Type 0
-TakesConst old (Some at) new = (consts_from old ≡ (consts_from new >>= λ z i. Ok (at ∷ z, i))) × (length new < length old)
+TakesConst old (Some at) new = (consts_from old ≡ (consts_from new >>= λ z i. Ok (at ∷ z, i)))
+    × (length new < length old)
 TakesConst old None new = (consts_from old ≡ Ok ([], old)) × (new ≡ old)

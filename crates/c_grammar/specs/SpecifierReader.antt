@@ -1,5 +1,6 @@
 -- Reading specifiers (C99 6.7.1 to 6.7.4).
-use Rattle.std.specs.Prelude.{ℕ, zero, suc, nat_le, Bool, true, false, ◌&&◌, if◌then◌else◌, List, [], ◌∷◌, Ok, Err, Option, Some, None, is_some, length}
+use Rattle.std.specs.Prelude.{ℕ, zero, suc, nat_le, Bool, true, false, ◌&&◌, if◌then◌else◌, List, [], ◌∷◌, Ok, Err}
+use Rattle.std.specs.Prelude.{Option, Some, None, is_some, length}
 use Rattle.c_lexer.specs.declared.keyword.Keyword.{Keyword}
 use Rattle.c_lexer.specs.declared.keyword.Keyword.TheVariants as k
 use Rattle.c_lexer.specs.declared.punctuator.Punctuator.TheVariants as p
@@ -12,8 +13,10 @@ use Rattle.c_syntax.specs.Tree.{Specifiers, Specifier, Members, Member, Enumerat
 use Rattle.c_syntax.specs.Tree as t
 use Rattle.c_syntax.specs.View.{members_of, more_declarators_of, more_enumerators_of}
 use Rattle.c_syntax.specs.Words.{Words, word_at}
-use Rattle.c_syntax.specs.Formed.{is_among, with_keyword, with_other, with_specifier, is_structure_keyword, no_type, is_type}
-use Rattle.c_grammar.specs.Reader.{Outcome, ◌>>=◌, next_is_punctuator, expect, identifier_from, ordinary_from, behind_commas, behind_commas_to_brace, up_to_brace}
+use Rattle.c_syntax.specs.Formed.{is_among, with_keyword, with_other, with_specifier, is_structure_keyword, no_type}
+use Rattle.c_syntax.specs.Formed.{is_type}
+use Rattle.c_grammar.specs.Reader.{Outcome, ◌>>=◌, next_is_punctuator, expect, identifier_from, ordinary_from}
+use Rattle.c_grammar.specs.Reader.{behind_commas, behind_commas_to_brace, up_to_brace}
 use Rattle.c_grammar.specs.Readers.{Readers}
 use Rattle.c_grammar.specs.declared.declarator_kind.DeclaratorKind.TheVariants as kind
 
@@ -58,12 +61,14 @@ module _ (names : List (List ℕ)) (deeper : Readers) (levels : ℕ) where
 
   -- at least one (C99 6.7.2.1)
   unfoldable pub members_from : Words → Outcome Members
-  members_from i = member_from i >>= λ x i. up_to_brace member_from (length i) i >>= λ z i. Ok (t.members x (members_of z), i)
+  members_from i = member_from i >>= λ x i. up_to_brace member_from (length i) i
+      >>= λ z i. Ok (t.members x (members_of z), i)
 
   -- `{ members }`
   unfoldable pub structure_body_from : Keyword → Position → Option Spelled → Words → Outcome Specifier
   structure_body_from x at tag i =
-      expect p.LeftBrace i >>= λ l i. members_from i >>= λ m i. expect p.RightBrace i >>= λ r i. Ok (t.structure_body x at tag l m r, i)
+      expect p.LeftBrace i >>= λ l i. members_from i >>= λ m i. expect p.RightBrace i
+      >>= λ r i. Ok (t.structure_body x at tag l m r, i)
 
   -- `{` is next, and there is a level for what it begins
   abbrev pub begins_body : Words → Bool
@@ -74,7 +79,8 @@ module _ (names : List (List ℕ)) (deeper : Readers) (levels : ℕ) where
   structure_from x at i =
       if begins_body i
       then structure_body_from x at None i
-      else (identifier_from i >>= λ tag i. if begins_body i then structure_body_from x at (Some tag) i else Ok (t.structure x at tag, i))
+      else (identifier_from i >>= λ tag i. if begins_body i then structure_body_from x at (Some tag) i else Ok
+      (t.structure x at tag, i))
 
   -- a value that follows an enumerator's name, or none
   abbrev pub enumerator_behind : Spelled → Words → Outcome Enumerator
@@ -90,7 +96,8 @@ module _ (names : List (List ℕ)) (deeper : Readers) (levels : ℕ) where
   -- `{ enumerators }`
   unfoldable pub enumeration_body_from : Position → Option Spelled → Words → Outcome Specifier
   enumeration_body_from at tag i =
-      expect p.LeftBrace i >>= λ l i. enumerator_from i >>= λ e i. behind_commas_to_brace enumerator_from (length i) i >>= λ m i.
+      expect p.LeftBrace i >>= λ l i. enumerator_from i >>= λ e i. behind_commas_to_brace enumerator_from (length i) i
+      >>= λ m i.
       expect p.RightBrace i >>= λ r i. Ok (t.enumeration_body at tag l e (more_enumerators_of m.0) m.1 r, i)
 
   -- behind `enum` (C99 6.7.2.2)
@@ -98,7 +105,8 @@ module _ (names : List (List ℕ)) (deeper : Readers) (levels : ℕ) where
   enumeration_from at i =
       if begins_body i
       then enumeration_body_from at None i
-      else (identifier_from i >>= λ tag i. if begins_body i then enumeration_body_from at (Some tag) i else Ok (t.enumeration at tag, i))
+      else (identifier_from i >>= λ tag i. if begins_body i then enumeration_body_from at (Some tag) i else Ok
+      (t.enumeration at tag, i))
 
   -- a specifier that begins with a keyword
   abbrev pub specifier_by_keyword : Keyword → Position → Words → Outcome Specifier
@@ -122,7 +130,8 @@ module _ (names : List (List ℕ)) (deeper : Readers) (levels : ℕ) where
   specifiers_behind allowed (suc n) w [] = ended w []
   specifiers_behind allowed (suc n) w (first ∷ i) =
       if goes_on_with allowed w first.kind
-      then (specifier_by first.kind first.position i >>= λ x i. specifiers_behind allowed n (words_with x w) i >>= λ z i. Ok (t.specifiers x z, i))
+      then (specifier_by first.kind first.position i >>= λ x i. specifiers_behind allowed n (words_with x w) i
+      >>= λ z i. Ok (t.specifiers x z, i))
       else ended w (first ∷ i)
 
   -- C99 6.7.1 to 6.7.4

@@ -1,5 +1,6 @@
 -- Reading statements (C99 6.8).
-use Rattle.std.specs.Prelude.{ℕ, zero, suc, nat_le, Bool, true, false, if◌then◌else◌, List, [], ◌∷◌, Ok, Err, Option, Some, None, length}
+use Rattle.std.specs.Prelude.{ℕ, zero, suc, nat_le, Bool, true, false, if◌then◌else◌, List, [], ◌∷◌, Ok, Err, Option}
+use Rattle.std.specs.Prelude.{Some, None, length}
 use Rattle.c_lexer.specs.declared.keyword.Keyword.{Keyword}
 use Rattle.c_lexer.specs.declared.keyword.Keyword.TheVariants as k
 use Rattle.c_lexer.specs.declared.punctuator.Punctuator.{Punctuator}
@@ -12,7 +13,8 @@ use Rattle.c_syntax.specs.Statements.{Statement, Block, BlockItem, ForInit}
 use Rattle.c_syntax.specs.Statements as s
 use Rattle.c_syntax.specs.StatementsView.{items_of}
 use Rattle.c_syntax.specs.Words.{Words, word_at}
-use Rattle.c_grammar.specs.Reader.{Outcome, ◌>>=◌, is_same, is_else, is_while, next_is, next_is_punctuator, take_word, expect, up_to_brace}
+use Rattle.c_grammar.specs.Reader.{Outcome, ◌>>=◌, is_same, is_else, is_while, next_is, next_is_punctuator, take_word}
+use Rattle.c_grammar.specs.Reader.{expect, up_to_brace}
 use Rattle.c_grammar.specs.Readers.{begins_specifiers}
 use Rattle.c_grammar.specs.Nested.{readers}
 use Rattle.c_grammar.specs.DeclarationReader.{local_from}
@@ -179,7 +181,8 @@ module _ (levels : ℕ) (names : List (List ℕ)) where
     -- C99 6.8.2
     unfoldable pub block_at : Words → Outcome Block
     block_at i =
-        expect p.LeftBrace i >>= λ l i. up_to_brace block_item_from (length i) i >>= λ z i. expect p.RightBrace i >>= λ r i.
+        expect p.LeftBrace i >>= λ l i. up_to_brace block_item_from (length i) i >>= λ z i. expect p.RightBrace i
+        >>= λ r i.
         Ok (s.block l (items_of z) r, i)
 
     -- a statement that begins with a keyword, which has another statement inside

@@ -1,5 +1,6 @@
 -- The longest token at the front of a text (C99 6.4 paragraph 4).
-use Rattle.std.specs.Prelude.{ℕ, zero, suc, Bool, true, ◌&&◌, if◌then◌else◌, List, take, drop, length, Option, Some, None, is_some}
+use Rattle.std.specs.Prelude.{ℕ, zero, suc, Bool, true, ◌&&◌, if◌then◌else◌, List, take, drop, length, Option, Some}
+use Rattle.std.specs.Prelude.{None, is_some}
 use Rattle.c_lexer.specs.declared.token.TokenKind.{TokenKind}
 use Rattle.c_lexer.specs.declared.token.TokenKind.TheVariants as kinds
 use Rattle.c_lexer.specs.Characters.{begins}

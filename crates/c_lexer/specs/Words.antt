@@ -1,8 +1,9 @@
 -- The token that is all of some bytes (C99 6.4).
--- Left out: a backslash and a newline inside a token other than a comment, so that the backslash ends the token, and begins
--- none; `##`, which is two `#`; digraphs, trigraphs, universal character names, and letters outside ASCII.
+-- Left out: a backslash and a newline inside a token other than a comment, so that the backslash ends the token, and
+-- begins none; `##`, which is two `#`; digraphs, trigraphs, universal character names, and letters outside ASCII.
 -- A wide literal that is no token leaves its `L`, an identifier, and its quote, which begins none.
-use Rattle.std.specs.Prelude.{ℕ, Bool, true, false, ◌&&◌, ◌||◌, if◌then◌else◌, ◌==◌, List, [], ◌∷◌, Option, Some, None, is_some}
+use Rattle.std.specs.Prelude.{ℕ, Bool, true, false, ◌&&◌, ◌||◌, if◌then◌else◌, ◌==◌, List, [], ◌∷◌, Option, Some, None}
+use Rattle.std.specs.Prelude.{is_some}
 use Rattle.std.specs.List.{list_all}
 use Rattle.c_lexer.specs.declared.keyword.Keyword.{Keyword}
 use Rattle.c_lexer.specs.declared.punctuator.Punctuator.{Punctuator}

@@ -27,7 +27,8 @@ pub fn spellings_differ()
 
 /// The token at the front of a text has the bytes there, at least one.
 pub fn front_tokens_have_their_bytes()
-    ensures { (z : List ℕ) (w : TokenKind) (n : ℕ) → front_token z ≡ Some (w, n) → (spelling_of w ≡ take n z) × (1 ≤ n) × (n ≤ length z) }
+    ensures { (z : List ℕ) (w : TokenKind) (n : ℕ) → front_token z ≡ Some (w, n)
+        → (spelling_of w ≡ take n z) × (1 ≤ n) × (n ≤ length z) }
 {}
 
 /// The value of an integer constant fits its type.
@@ -40,8 +41,8 @@ pub fn literals_have_meanings()
     ensures { (w : TokenKind) → IsWord w → HasMeaning w }
 {}
 
-/// Each token of a text is the word that its bytes spell, and has a line of the text. There are at most as many tokens as
-/// bytes. The end is on the last line.
+/// Each token of a text is the word that its bytes spell, and has a line of the text. There are at most as many tokens
+/// as bytes. The end is on the last line.
 pub fn tokens_are_words()
     ensures words { (text : List ℕ) (found : TokenList) → tokens text ≡ Ok found → All (IsTokenOf text) found.tokens }
     ensures few { (text : List ℕ) (found : TokenList) → tokens text ≡ Ok found → length found.tokens ≤ length text }

@@ -117,7 +117,10 @@ fn scan_punctuator(text: &[u8]) -> Option<(TokenKind<'_>, usize)>
     ensures { result ≡ spec.scan_punctuator text.now }
 {
     let punctuator = punctuator_among(&PUNCTUATORS, text)?;
-    Some((TokenKind::Punctuator(punctuator), punctuator.spelling().len()))
+    Some((
+        TokenKind::Punctuator(punctuator),
+        punctuator.spelling().len(),
+    ))
 }
 
 // Of a text that begins with a nondigit.
@@ -194,7 +197,10 @@ fn scan(text: &[u8]) -> Option<(TokenKind<'_>, usize)>
     }
     if *first == b'"' {
         let length = literal_length(text)?;
-        return Some((TokenKind::StringLiteral(Spelling::new(&text[..length])), length));
+        return Some((
+            TokenKind::StringLiteral(Spelling::new(&text[..length])),
+            length,
+        ));
     }
     if *first == b'\'' {
         let length = literal_length(text)?;
@@ -220,9 +226,9 @@ fn scan_valid(text: &[u8]) -> Option<(TokenKind<'_>, usize)>
     Some((word, length))
 }
 
-/// The longest token at the front of a text that begins with no white space and no whole comment, and its length. `None`
-/// where none stands: at the end, at a comment that is never closed, and at a number that is no integer constant with a
-/// type.
+/// The longest token at the front of a text that begins with no white space and no whole comment, and its length.
+/// `None` where none stands: at the end, at a comment that is never closed, and at a number that is no integer constant
+/// with a type.
 pub fn front_token(text: &[u8]) -> Option<(TokenKind<'_>, usize)>
     requires { length text.now < 2 ^ 63 }
     ensures value { result ≡ front_token text.now }

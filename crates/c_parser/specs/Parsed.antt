@@ -1,5 +1,6 @@
 -- What the parser answers for the tokens of a text.
-use Rattle.std.specs.Prelude.{◌≡◌, Option, Some, None, ℕ, suc, ◌+◌, ◌-◌, ◌≤◌, nat_lt, Bool, true, false, if◌then◌else◌, List, [], ◌∷◌, take, drop, length, Result, Ok, Err, ⊤}
+use Rattle.std.specs.Prelude.{◌≡◌, Option, Some, None, ℕ, suc, ◌+◌, ◌-◌, ◌≤◌, nat_lt, Bool, true, false, if◌then◌else◌}
+use Rattle.std.specs.Prelude.{List, [], ◌∷◌, take, drop, length, Result, Ok, Err, ⊤}
 use Rattle.c_lexer.specs.Spelled.{TokenList}
 use Rattle.c_lexer.specs.declared.punctuator.Punctuator.TheVariants as p
 use Rattle.c_lexer.specs.declared.token.Token.{Token}
@@ -56,8 +57,8 @@ first_line (first ∷ i) end = first.line
 abbrev pub line_at : TokenList → ℕ → ℕ
 line_at list at = first_line (drop at list.tokens) list.end
 
--- what a fault tells at the token of this number, or at the end: its line, and whether the tokens up to and with it nest too
--- deep
+-- what a fault tells at the token of this number, or at the end: its line, and whether the tokens up to and with it
+-- nest too deep
 pub record Told (list : TokenList) (number at line : ℕ) (is_nesting : Bool) : Type 0 where
   pub token : at ≡ number
   pub on_line : line ≡ line_at list number

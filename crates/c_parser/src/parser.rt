@@ -7,7 +7,7 @@ use crate::fault::ParseFault;
 use crate::unit::unit;
 use crate::unsupported::first_unsupported;
 use c_grammar::cursor::{Cursor, Fault};
-use c_lexer::{Punctuator, Token, Tokens, TokenKind};
+use c_lexer::{Punctuator, Token, TokenKind, Tokens};
 use c_syntax::{Unit, with_positions};
 use sb_base::Line;
 use std::alloc::Global;
@@ -102,9 +102,9 @@ fn tree_of<'a>(alloc: Global, tokens: &Tokens<'a>) -> Result<Unit<'a>, ParseFaul
     }
 }
 
-/// The tree of a text: the well-formed one of at most 200 levels that has its words (C99 6.9), of which there is at most
-/// one. Or the first word that is in no part of the subset, wherever it stands; or, in a text without such a word that has
-/// no tree, the token at which the parser stood.
+/// The tree of a text: the well-formed one of at most 200 levels that has its words (C99 6.9), of which there is at
+/// most one. Or the first word that is in no part of the subset, wherever it stands; or, in a text without such a word
+/// that has no tree, the token at which the parser stood.
 #[tactic(auto, using(crate::proofs::Answered::supported))]
 pub fn parse<'a>(alloc: Global, tokens: &Tokens<'a>) -> Result<Unit<'a>, ParseFault>
     ensures judged { spec.Parses tokens.now result }

@@ -93,8 +93,8 @@ fn refusal(fault: ParseFault) -> Result<Verdict> {
     }
 }
 
-/// What the parser says of a text. An error: there is no memory, the text has no tokens or faulty directives, its tree has
-/// other words, or it is read otherwise the second time.
+/// What the parser says of a text. An error: there is no memory, the text has no tokens or faulty directives, its tree
+/// has other words, or it is read otherwise the second time.
 pub fn verdict_of(alloc: Global, text: &[u8]) -> Result<Verdict> {
     let tokens = tokens_of(alloc, text)?;
     let unit = match parse(alloc, &tokens) {

@@ -2,8 +2,8 @@
 
 use c_lexer::{Keyword, Spelling, lex};
 use c_syntax::{
-    Declaration, Declarator, External, InitDeclarator, InitDeclarators, Items, Position, Specifier,
-    Spelled, Unit, with_positions,
+    Boxed, Declaration, Declarator, External, InitDeclarator, InitDeclarators, Items, Position,
+    Specifier, Spelled, Unit, with_positions,
 };
 use c_syntax_checks::{well_formed, words};
 use sb_base::Line;
@@ -17,14 +17,19 @@ fn position(at: u64) -> Position {
     }
 }
 
-fn named(name: &'static [u8], at: u64) -> InitDeclarator<'static> {
-    InitDeclarator {
-        declarator: Declarator::Named(Spelled {
-            spelling: Spelling::new(name),
-            position: position(at),
-        }),
+fn named(
+    alloc: Global,
+    name: &'static [u8],
+    at: u64,
+) -> Result<InitDeclarator<'static>, AllocError> {
+    let declarator = Declarator::Named(Spelled {
+        spelling: Spelling::new(name),
+        position: position(at),
+    });
+    Ok(InitDeclarator {
+        declarator: Boxed::new(alloc, declarator)?,
         initializer: None,
-    }
+    })
 }
 
 fn only<T: Drop>(alloc: Global, item: T) -> Result<Items<T>, AllocError> {
@@ -35,12 +40,13 @@ fn only<T: Drop>(alloc: Global, item: T) -> Result<Items<T>, AllocError> {
 
 // `int x, y;`
 fn two_objects(alloc: Global) -> Result<Unit<'static>, AllocError> {
+    let specifiers = only(alloc, Specifier::Keyword(Keyword::Int, position(0)))?;
+    let first = named(alloc, b"x", 1)?;
+    let others = only(alloc, (position(2), named(alloc, b"y", 3)?))?;
+    let declarators = Boxed::new(alloc, InitDeclarators { first, others })?;
     let declaration = Declaration {
-        specifiers: only(alloc, Specifier::Keyword(Keyword::Int, position(0)))?,
-        declarators: Some(InitDeclarators {
-            first: named(b"x", 1),
-            others: only(alloc, (position(2), named(b"y", 3)))?,
-        }),
+        specifiers,
+        declarators: Some(declarators),
         semicolon: position(4),
     };
     Ok(Unit {

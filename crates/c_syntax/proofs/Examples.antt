@@ -12,7 +12,8 @@ use Rattle.c_syntax.specs.Statements.{Statement, Block, Declaration, Unit}
 use Rattle.c_syntax.specs.Statements as s
 use Rattle.c_syntax.specs.Words as w
 use Rattle.c_syntax.specs.Levels.{expression_levels, statement_levels}
-use Rattle.c_syntax.specs.Formed.{SIZE_T, is_among, with_specifier, with_keyword, names_one_type, names_after_declaration, defines_function, ends_open, precedence}
+use Rattle.c_syntax.specs.Formed.{SIZE_T, is_among, with_specifier, with_keyword, names_one_type}
+use Rattle.c_syntax.specs.Formed.{names_after_declaration, defines_function, ends_open, precedence}
 
 abbrev at : Position
 at = record { at = 0; line = 1 }
@@ -101,7 +102,8 @@ no_type_6 : names_one_type (words_of (k.Float ∷ [])) ≡ false
 unfolding with_specifier with_keyword
 no_type_6 = refl
 
-no_type_7 : names_one_type (t.specifiers (t.keyword k.Unsigned at) (t.specifiers (t.typedef_name T) t.no_specifiers)) ≡ false
+no_type_7 : names_one_type (t.specifiers (t.keyword k.Unsigned at) (t.specifiers (t.typedef_name T) t.no_specifiers))
+    ≡ false
 unfolding with_specifier with_keyword
 no_type_7 = refl
 
@@ -157,7 +159,8 @@ defines_no_2 : defines_function (called (t.grouped at (t.pointer at [] (t.named 
 defines_no_2 = refl
 
 -- the words of `typedef int T;`
-words_1 : w.unit_words (record { externals = s.declaration typedef_T ∷ [] }) ≡ w.keyword k.Typedef at ∷ w.keyword k.Int at ∷ w.identifier T ∷ w.punctuator p.Semicolon at ∷ []
+words_1 : w.unit_words (record { externals = s.declaration typedef_T ∷ [] }) ≡ w.keyword k.Typedef at
+    ∷ w.keyword k.Int at ∷ w.identifier T ∷ w.punctuator p.Semicolon at ∷ []
 words_1 = refl
 
 -- `sizeof (T) * 0` multiplies (C99 6.5.3.4): a cast is no operand of sizeof

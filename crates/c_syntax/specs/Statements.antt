@@ -34,7 +34,8 @@ mutual
     switch : Position → Position → Expression → Position → Block → Statement
     while_do : Position → Position → Expression → Position → Statement → Statement
     do_while : Position → Statement → Position → Position → Expression → Position → Position → Statement
-    for : Position → Position → ForInit → Option Expression → Position → Option Expression → Position → Statement → Statement
+    for : Position → Position → ForInit → Option Expression → Position → Option Expression → Position → Statement
+        → Statement
     case : Position → Expression → Position → Statement → Statement
     default : Position → Position → Statement → Statement
     break : Position → Position → Statement

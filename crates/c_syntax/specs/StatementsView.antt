@@ -64,10 +64,19 @@ more_init_declarators_in z = map (behind_comma init_declarator_of) z
 
 abbrev pub init_declarators_of : Option InitDeclarators → Option s.InitDeclarators
 init_declarators_of None = None
-init_declarators_of (Some x) = Some (record { first = init_declarator_of x.first; others = more_init_declarators_in x.others })
+init_declarators_of (Some x) = Some (record {
+  first = init_declarator_of x.first;
+  others =
+      more_init_declarators_in x.others;
+})
 
 abbrev pub declaration_of : Declaration → s.Declaration
-declaration_of x = record { specifiers = specifiers_in x.specifiers; declarators = init_declarators_of x.declarators; semicolon = x.semicolon }
+declaration_of x = record {
+  specifiers = specifiers_in x.specifiers;
+  declarators =
+      init_declarators_of x.declarators;
+  semicolon = x.semicolon;
+}
 
 abbrev pub optional_of : Option rx.Expression → Option t.Expression
 optional_of None = None

@@ -1,5 +1,5 @@
--- The syntax trees of expressions, declarators, specifiers and initializers (C99 6.5, 6.7). A node has the positions of its
--- own tokens in the order of the text; its constructor says which they are.
+-- The syntax trees of expressions, declarators, specifiers and initializers (C99 6.5, 6.7). A node has the positions of
+-- its own tokens in the order of the text; its constructor says which they are.
 use Rattle.std.specs.Prelude.{List, Option}
 use Rattle.c_lexer.specs.declared.keyword.Keyword.{Keyword}
 use Rattle.c_lexer.specs.declared.punctuator.Punctuator.{Punctuator}
@@ -79,7 +79,8 @@ mutual
     structure_body : Keyword → Position → Option Spelled → Position → Members → Position → Specifier
     -- 6.7.2.2
     enumeration : Position → Spelled → Specifier
-    enumeration_body : Position → Option Spelled → Position → Enumerator → MoreEnumerators → Option Position → Position → Specifier
+    enumeration_body : Position → Option Spelled → Position → Enumerator → MoreEnumerators → Option Position → Position
+        → Specifier
 
   -- C99 6.7.2.1
   pub data Members : Type 0 where

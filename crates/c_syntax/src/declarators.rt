@@ -55,7 +55,8 @@ pub fn is_plain_name(declarator: &Declarator) -> bool
 
 /// Whether a specifier is the word `void`.
 fn is_void_word(specifier: &Specifier) -> bool
-    ensures { result ≡ formed.is_void (tree.typed (tree.specifiers (view.specifier_of specifier.now) tree.no_specifiers) tree.unnamed) }
+    ensures { result ≡ formed.is_void (tree.typed (tree.specifiers (view.specifier_of specifier.now) tree.no_specifiers)
+        tree.unnamed) }
 {
     matches!(specifier, Specifier::Keyword(Keyword::Void, _))
 }

@@ -1,4 +1,5 @@
-//! Syntax trees of the C subset, the words that a tree is written with, and which trees are well formed (C99 6.5 to 6.9).
+//! Syntax trees of the C subset, the words that a tree is written with, and which trees are well formed (C99 6.5 to
+//! 6.9).
 #![tactic(auto)]
 
 pub mod declaration;

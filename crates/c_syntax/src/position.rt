@@ -36,7 +36,10 @@ pub struct Spelled<'a> {
 }
 
 /// The words of tokens with their positions, numbered from 0, or the answer that there is no memory for them.
-pub fn with_positions<'a>(alloc: Global, tokens: &[Token<'a>]) -> Result<Vec<Positioned<'a>>, AllocError>
+pub fn with_positions<'a>(
+    alloc: Global,
+    tokens: &[Token<'a>],
+) -> Result<Vec<Positioned<'a>>, AllocError>
     ensures { IfOk result (λ words. words.items ≡ positioned tokens.now) }
 {
     let mut words = Vec::new(alloc);

@@ -1,5 +1,5 @@
-//! Trees of statements and of whole files (C99 6.8, 6.9). Their large parts stand in blocks of memory of their own, since what
-//! hands a tree on, and its proof, pay for the size of the tree itself.
+//! Trees of statements and of whole files (C99 6.8, 6.9). Their large parts stand in blocks of memory of their own,
+//! since what hands a tree on, and its proof, pay for the size of the tree itself.
 
 ghost use Rattle.std.specs.Prelude.{◌≡◌};
 ghost use Rattle.c_syntax.specs.Formed as formed;

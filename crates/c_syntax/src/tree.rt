@@ -1,5 +1,5 @@
-//! Trees of expressions, declarators and specifiers, which contain each other (C99 6.5, 6.7). A node has the positions of
-//! its own tokens in the order of the text; what its variant fixes is not kept.
+//! Trees of expressions, declarators and specifiers, which contain each other (C99 6.5, 6.7). A node has the positions
+//! of its own tokens in the order of the text; what its variant fixes is not kept.
 
 use crate::position::{Position, Spelled};
 use c_lexer::{Keyword, Punctuator};
@@ -38,7 +38,13 @@ pub enum Expression<'a> {
     /// Two operands around an operator from `*` to `||`, or around the comma (6.5.5 to 6.5.14, 6.5.17).
     Binary(Boxed<Expression<'a>>, Punctuator, Position, Boxed<Expression<'a>>),
     /// `expression ? expression : expression` (6.5.15).
-    Conditional(Boxed<Expression<'a>>, Position, Boxed<Expression<'a>>, Position, Boxed<Expression<'a>>),
+    Conditional(
+        Boxed<Expression<'a>>,
+        Position,
+        Boxed<Expression<'a>>,
+        Position,
+        Boxed<Expression<'a>>,
+    ),
     /// Two operands around an assignment operator (6.5.16).
     Assignment(Boxed<Expression<'a>>, Punctuator, Position, Boxed<Expression<'a>>),
 }
@@ -109,8 +115,8 @@ pub enum Specifier<'a> {
     StructureBody(Keyword, Position, Option<Spelled<'a>>, Position, Items<Member<'a>>, Position),
     /// `enum` and a tag (6.7.2.2).
     Enumeration(Position, Spelled<'a>),
-    /// `enum`, a tag or none, `{`, the first enumerator, the others, each behind its comma, a last comma or none, and `}`
-    /// (6.7.2.2).
+    /// `enum`, a tag or none, `{`, the first enumerator, the others, each behind its comma, a last comma or none, and
+    /// `}` (6.7.2.2).
     EnumerationBody(
         Position,
         Option<Spelled<'a>>,

@@ -104,7 +104,8 @@ fn are_arguments<'r, 'a>(names: &'r [Spelling<'a>], arguments: &'r Arguments<'a>
 /// Whether it is a well-formed assignment expression (C99 6.5.16).
 #[cycle(shapes)]
 pub(crate) fn is_argument<'r, 'a>(names: &'r [Spelling<'a>], argument: &'r Expression<'a>) -> bool
-    ensures { IsTrue result ↔ ((2 ≤ formed.precedence (view.expression_of argument.now)) × formed.IsExpression names.now (view.expression_of argument.now)) }
+    ensures { IsTrue result ↔ ((2 ≤ formed.precedence (view.expression_of argument.now))
+        × formed.IsExpression names.now (view.expression_of argument.now)) }
 {
     2 <= precedence(argument) && is_expression(names, argument)
 }

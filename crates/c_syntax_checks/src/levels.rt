@@ -1,5 +1,5 @@
-//! Whether a tree has no more than some levels of nesting. No function here calls itself more deeply than the levels that
-//! it is given.
+//! Whether a tree has no more than some levels of nesting. No function here calls itself more deeply than the levels
+//! that it is given.
 
 ghost use Rattle.std.specs.Prelude.{IsTrue, ◌↔◌, ◌≤◌};
 ghost use Rattle.c_syntax.specs.Levels as spec;

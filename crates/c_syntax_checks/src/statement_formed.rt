@@ -20,8 +20,8 @@ use c_syntax::position::Position;
 use c_syntax::specifiers::has_typedef;
 use c_syntax::statement::{Block, BlockItem, External, ForInit, Statement, Unit, ends_open};
 use c_syntax::tree::{Declarator, Expression, Specifier};
-use tree_containers::Boxed;
 use std::alloc::{AllocError, Global};
+use tree_containers::Boxed;
 
 /// How many levels of nesting each part of a file may have.
 const LEVELS: usize = 200;
@@ -200,7 +200,8 @@ fn are_more_local_declarators<'r, 'a>(
     others: &'r [(Position, InitDeclarator<'a>)],
     levels: usize,
 ) -> bool
-    ensures { IsTrue result ↔ formed.AreMoreInitDeclarators levels false names.now (views.more_init_declarators_in others.now) }
+    ensures { IsTrue result ↔ formed.AreMoreInitDeclarators levels false names.now
+        (views.more_init_declarators_in others.now) }
 {
     for (_, declared) in others {
         if !is_local_declarator(names, declared, levels) {
@@ -216,7 +217,8 @@ fn are_local_declarators<'r, 'a>(
     declarators: &'r Option<Boxed<InitDeclarators<'a>>>,
     levels: usize,
 ) -> bool
-    ensures { IsTrue result ↔ formed.AreInitDeclarators levels false names.now (views.init_declarators_of declarators.now) }
+    ensures { IsTrue result ↔ formed.AreInitDeclarators levels false names.now
+        (views.init_declarators_of declarators.now) }
 {
     match declarators {
         None => true,
@@ -336,7 +338,8 @@ fn add_declared<'a>(
     names: &mut Vec<Spelling<'a>>,
     declarator: &Declarator<'a>,
 ) -> Result<(), AllocError>
-    ensures { OnOk result (names.new.items ≡ formed.with_declared (formed.declared (view.declarator_of declarator.now)) names.old.items) }
+    ensures { OnOk result (names.new.items ≡ formed.with_declared (formed.declared (view.declarator_of declarator.now))
+        names.old.items) }
 {
     match declared_name(declarator) {
         None => Ok(()),
@@ -353,7 +356,8 @@ fn add_name<'a>(
     is_typedef: bool,
     declarator: &Declarator<'a>,
 ) -> Result<(), AllocError>
-    ensures { OnOk result (names.new.items ≡ formed.names_after is_typedef (view.declarator_of declarator.now) names.old.items) }
+    ensures { OnOk result (names.new.items ≡ formed.names_after is_typedef (view.declarator_of declarator.now)
+        names.old.items) }
 {
     if is_typedef {
         add_declared(names, declarator)
@@ -370,8 +374,10 @@ fn is_init_declarator<'a>(
     declared: &InitDeclarator<'a>,
     levels: usize,
 ) -> Result<bool, AllocError>
-    ensures answer { IfOk result (λ b. IsTrue b ↔ formed.IsInitDeclarator levels is_typedef names.old.items (views.init_declarator_of declared.now)) }
-    ensures names { IfOk result (λ b. IsTrue b → names.new.items ≡ formed.names_after is_typedef (view.declarator_of declared.now.declarator) names.old.items) }
+    ensures answer { IfOk result (λ b. IsTrue b ↔ formed.IsInitDeclarator levels is_typedef names.old.items
+        (views.init_declarator_of declared.now)) }
+    ensures names { IfOk result (λ b. IsTrue b → names.new.items
+        ≡ formed.names_after is_typedef (view.declarator_of declared.now.declarator) names.old.items) }
 {
     let declarator = declared.declarator.get();
     if !is_declared(names.as_slice(), declarator, levels) {
@@ -381,16 +387,18 @@ fn is_init_declarator<'a>(
     Ok(is_initialized(names.as_slice(), &declared.initializer, levels))
 }
 
-/// Whether the declarators behind the first are well formed at file scope. Where they are, their names have been added to
-/// the typedef names, if they are a typedef's. An error: no memory for them.
+/// Whether the declarators behind the first are well formed at file scope. Where they are, their names have been added
+/// to the typedef names, if they are a typedef's. An error: no memory for them.
 fn are_more_init_declarators<'a>(
     names: &mut Vec<Spelling<'a>>,
     is_typedef: bool,
     others: &[(Position, InitDeclarator<'a>)],
     levels: usize,
 ) -> Result<bool, AllocError>
-    ensures answer { IfOk result (λ b. IsTrue b ↔ formed.AreMoreInitDeclarators levels is_typedef names.old.items (views.more_init_declarators_in others.now)) }
-    ensures names { IfOk result (λ b. IsTrue b → names.new.items ≡ formed.names_after_more is_typedef (views.more_init_declarators_in others.now) names.old.items) }
+    ensures answer { IfOk result (λ b. IsTrue b ↔ formed.AreMoreInitDeclarators levels is_typedef names.old.items
+        (views.more_init_declarators_in others.now)) }
+    ensures names { IfOk result (λ b. IsTrue b → names.new.items
+        ≡ formed.names_after_more is_typedef (views.more_init_declarators_in others.now) names.old.items) }
 {
     for (_, declared) in others {
         if !is_init_declarator(names, is_typedef, declared, levels)? {
@@ -400,16 +408,18 @@ fn are_more_init_declarators<'a>(
     Ok(true)
 }
 
-/// Whether the declarators of a declaration at file scope are well formed. Where they are, their names have been added to
-/// the typedef names, if they are a typedef's. An error: no memory for them.
+/// Whether the declarators of a declaration at file scope are well formed. Where they are, their names have been added
+/// to the typedef names, if they are a typedef's. An error: no memory for them.
 fn are_init_declarators<'a>(
     names: &mut Vec<Spelling<'a>>,
     is_typedef: bool,
     declarators: &Option<Boxed<InitDeclarators<'a>>>,
     levels: usize,
 ) -> Result<bool, AllocError>
-    ensures answer { IfOk result (λ b. IsTrue b ↔ formed.AreInitDeclarators levels is_typedef names.old.items (views.init_declarators_of declarators.now)) }
-    ensures names { IfOk result (λ b. IsTrue b → names.new.items ≡ formed.names_after_all is_typedef (views.init_declarators_of declarators.now) names.old.items) }
+    ensures answer { IfOk result (λ b. IsTrue b ↔ formed.AreInitDeclarators levels is_typedef names.old.items
+        (views.init_declarators_of declarators.now)) }
+    ensures names { IfOk result (λ b. IsTrue b → names.new.items
+        ≡ formed.names_after_all is_typedef (views.init_declarators_of declarators.now) names.old.items) }
 {
     match declarators {
         None => Ok(true),
@@ -423,15 +433,17 @@ fn are_init_declarators<'a>(
     }
 }
 
-/// Whether a declaration at file scope is well formed. Where it is, its names have been added to the typedef names, if it
-/// is a typedef. An error: no memory for them.
+/// Whether a declaration at file scope is well formed. Where it is, its names have been added to the typedef names, if
+/// it is a typedef. An error: no memory for them.
 fn is_declaration<'a>(
     names: &mut Vec<Spelling<'a>>,
     declaration: &Declaration<'a>,
     levels: usize,
 ) -> Result<bool, AllocError>
-    ensures answer { IfOk result (λ b. IsTrue b ↔ formed.IsDeclaration levels names.old.items (views.declaration_of declaration.now)) }
-    ensures names { IfOk result (λ b. IsTrue b → names.new.items ≡ formed.names_after_declaration (views.declaration_of declaration.now) names.old.items) }
+    ensures answer { IfOk result (λ b. IsTrue b ↔ formed.IsDeclaration levels names.old.items
+        (views.declaration_of declaration.now)) }
+    ensures names { IfOk result (λ b. IsTrue b → names.new.items
+        ≡ formed.names_after_declaration (views.declaration_of declaration.now) names.old.items) }
 {
     if !begin_declaration(names.as_slice(), declaration.specifiers.as_slice(), levels) {
         return Ok(false);
@@ -447,7 +459,9 @@ fn begin_definition<'r, 'a>(
     declarator: &'r Declarator<'a>,
     levels: usize,
 ) -> bool
-    ensures { IsTrue result ↔ (formed.BeginDeclaration levels names.now (view.specifiers_in specifiers.now) × formed.IsDeclared levels names.now (view.declarator_of declarator.now) × (formed.defines_function (view.declarator_of declarator.now) ≡ true)) }
+    ensures { IsTrue result ↔ (formed.BeginDeclaration levels names.now (view.specifiers_in specifiers.now)
+        × formed.IsDeclared levels names.now (view.declarator_of declarator.now)
+        × (formed.defines_function (view.declarator_of declarator.now) ≡ true)) }
 {
     begin_declaration(names, specifiers, levels)
         && is_declared(names, declarator, levels)
@@ -461,8 +475,10 @@ fn is_external<'a>(
     external: &External<'a>,
     levels: usize,
 ) -> Result<bool, AllocError>
-    ensures answer { IfOk result (λ b. IsTrue b ↔ formed.IsExternal levels names.old.items (views.external_of external.now)) }
-    ensures names { IfOk result (λ b. IsTrue b → names.new.items ≡ formed.names_after_external (views.external_of external.now) names.old.items) }
+    ensures answer { IfOk result (λ b. IsTrue b ↔ formed.IsExternal levels names.old.items
+        (views.external_of external.now)) }
+    ensures names { IfOk result (λ b. IsTrue b → names.new.items
+        ≡ formed.names_after_external (views.external_of external.now) names.old.items) }
 {
     match external {
         External::Function(specifiers, declarator, block) => {
@@ -477,14 +493,15 @@ fn is_external<'a>(
     }
 }
 
-/// Whether function definitions and declarations are well formed, each with the typedef names that those before it leave
-/// (C99 6.9). An error: no memory for the names.
+/// Whether function definitions and declarations are well formed, each with the typedef names that those before it
+/// leave (C99 6.9). An error: no memory for the names.
 fn are_externals<'a>(
     names: &mut Vec<Spelling<'a>>,
     externals: &[External<'a>],
     levels: usize,
 ) -> Result<bool, AllocError>
-    ensures { IfOk result (λ b. IsTrue b ↔ formed.AreExternals levels names.old.items (views.externals_in externals.now)) }
+    ensures { IfOk result (λ b. IsTrue b ↔ formed.AreExternals levels names.old.items
+        (views.externals_in externals.now)) }
 {
     for external in externals {
         if !is_external(names, external, levels)? {
@@ -494,8 +511,8 @@ fn are_externals<'a>(
     Ok(true)
 }
 
-/// Whether a file is well formed, with at most 200 levels of nesting in each of its parts (C99 6.5 to 6.9), or the answer
-/// that there is no memory for its typedef names.
+/// Whether a file is well formed, with at most 200 levels of nesting in each of its parts (C99 6.5 to 6.9), or the
+/// answer that there is no memory for its typedef names.
 pub fn well_formed(alloc: Global, unit: &Unit) -> Result<bool, AllocError>
     ensures { IfOk result (λ b. IsTrue b ↔ formed.IsWellFormed (views.unit_of unit.now)) }
 {

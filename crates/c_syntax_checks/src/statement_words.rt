@@ -20,15 +20,16 @@ use c_syntax::statement::{
     Block, BlockItem, External, ForHead, ForInit, Parenthesized, Statement, Unit,
 };
 use c_syntax::tree::Expression;
-use tree_containers::Boxed;
 use std::alloc::{AllocError, Global};
+use tree_containers::Boxed;
 
 /// Puts the words of designators (C99 6.7.8).
 fn put_designators<'a>(
     out: &mut Vec<Positioned<'a>>,
     designators: &[Designator<'a>],
 ) -> Result<(), AllocError>
-    ensures { OnOk result ((i : spec.Words) → out.new.items ++ i ≡ out.old.items ++ spec.designators_words (views.designators_in designators.now) i) }
+    ensures { OnOk result ((i : spec.Words) → out.new.items ++ i ≡ out.old.items
+        ++ spec.designators_words (views.designators_in designators.now) i) }
 {
     for designator in designators {
         put_designator(out, designator)?;
@@ -41,7 +42,8 @@ fn put_designator<'a>(
     out: &mut Vec<Positioned<'a>>,
     designator: &Designator<'a>,
 ) -> Result<(), AllocError>
-    ensures { OnOk result ((i : spec.Words) → out.new.items ++ i ≡ out.old.items ++ spec.designator_words (views.designator_of designator.now) i) }
+    ensures { OnOk result ((i : spec.Words) → out.new.items ++ i ≡ out.old.items
+        ++ spec.designator_words (views.designator_of designator.now) i) }
 {
     match designator {
         Designator::Element(left, index, right) => {
@@ -61,7 +63,8 @@ fn put_designation<'a>(
     out: &mut Vec<Positioned<'a>>,
     designation: &Option<Designation<'a>>,
 ) -> Result<(), AllocError>
-    ensures { OnOk result ((i : spec.Words) → out.new.items ++ i ≡ out.old.items ++ spec.designation_words (views.designation_of designation.now) i) }
+    ensures { OnOk result ((i : spec.Words) → out.new.items ++ i ≡ out.old.items
+        ++ spec.designation_words (views.designation_of designation.now) i) }
 {
     let Some(designation) = designation else {
         return Ok(());
@@ -76,7 +79,8 @@ fn put_initializer<'a>(
     out: &mut Vec<Positioned<'a>>,
     initializer: &Initializer<'a>,
 ) -> Result<(), AllocError>
-    ensures { OnOk result ((i : spec.Words) → out.new.items ++ i ≡ out.old.items ++ spec.initializer_words (views.initializer_of initializer.now) i) }
+    ensures { OnOk result ((i : spec.Words) → out.new.items ++ i ≡ out.old.items
+        ++ spec.initializer_words (views.initializer_of initializer.now) i) }
 {
     match initializer {
         Initializer::Value(expression) => put_expression(out, expression),
@@ -93,7 +97,8 @@ fn put_initializer<'a>(
 /// Puts the words of an initializer in a list.
 #[cycle(initializers)]
 fn put_item<'a>(out: &mut Vec<Positioned<'a>>, item: &InitializerItem<'a>) -> Result<(), AllocError>
-    ensures { OnOk result ((i : spec.Words) → out.new.items ++ i ≡ out.old.items ++ spec.item_words (views.item_of item.now) i) }
+    ensures { OnOk result ((i : spec.Words) → out.new.items ++ i ≡ out.old.items
+        ++ spec.item_words (views.item_of item.now) i) }
 {
     put_designation(out, &item.designation)?;
     put_initializer(out, &item.initializer)
@@ -105,7 +110,8 @@ fn put_more_items<'a>(
     out: &mut Vec<Positioned<'a>>,
     others: &[(Position, InitializerItem<'a>)],
 ) -> Result<(), AllocError>
-    ensures { OnOk result ((i : spec.Words) → out.new.items ++ i ≡ out.old.items ++ spec.more_items_words (views.more_items_in others.now) i) }
+    ensures { OnOk result ((i : spec.Words) → out.new.items ++ i ≡ out.old.items
+        ++ spec.more_items_words (views.more_items_in others.now) i) }
 {
     for (comma, item) in others {
         put_punctuator(out, Punctuator::Comma, *comma)?;
@@ -119,7 +125,8 @@ fn put_init_declarator<'a>(
     out: &mut Vec<Positioned<'a>>,
     declared: &InitDeclarator<'a>,
 ) -> Result<(), AllocError>
-    ensures { OnOk result ((i : spec.Words) → out.new.items ++ i ≡ out.old.items ++ spec.init_declarator_words (views.init_declarator_of declared.now) i) }
+    ensures { OnOk result ((i : spec.Words) → out.new.items ++ i ≡ out.old.items
+        ++ spec.init_declarator_words (views.init_declarator_of declared.now) i) }
 {
     put_declarator(out, declared.declarator.get())?;
     match &declared.initializer {
@@ -136,7 +143,8 @@ fn put_more_init_declarators<'a>(
     out: &mut Vec<Positioned<'a>>,
     others: &[(Position, InitDeclarator<'a>)],
 ) -> Result<(), AllocError>
-    ensures { OnOk result ((i : spec.Words) → out.new.items ++ i ≡ out.old.items ++ spec.more_init_declarators_words (views.more_init_declarators_in others.now) i) }
+    ensures { OnOk result ((i : spec.Words) → out.new.items ++ i ≡ out.old.items
+        ++ spec.more_init_declarators_words (views.more_init_declarators_in others.now) i) }
 {
     for (comma, declared) in others {
         put_punctuator(out, Punctuator::Comma, *comma)?;
@@ -150,7 +158,8 @@ fn put_declaration<'a>(
     out: &mut Vec<Positioned<'a>>,
     declaration: &Declaration<'a>,
 ) -> Result<(), AllocError>
-    ensures { OnOk result ((i : spec.Words) → out.new.items ++ i ≡ out.old.items ++ spec.declaration_words (views.declaration_of declaration.now) i) }
+    ensures { OnOk result ((i : spec.Words) → out.new.items ++ i ≡ out.old.items
+        ++ spec.declaration_words (views.declaration_of declaration.now) i) }
 {
     put_specifiers(out, declaration.specifiers.as_slice())?;
     if let Some(declarators) = &declaration.declarators {
@@ -166,7 +175,8 @@ fn put_optional<'a>(
     out: &mut Vec<Positioned<'a>>,
     expression: &Option<Boxed<Expression<'a>>>,
 ) -> Result<(), AllocError>
-    ensures { OnOk result ((i : spec.Words) → out.new.items ++ i ≡ out.old.items ++ spec.optional_words (views.optional_of expression.now) i) }
+    ensures { OnOk result ((i : spec.Words) → out.new.items ++ i ≡ out.old.items
+        ++ spec.optional_words (views.optional_of expression.now) i) }
 {
     match expression {
         None => Ok(()),
@@ -181,7 +191,10 @@ fn put_condition<'a>(
     position: Position,
     condition: &Parenthesized<'a>,
 ) -> Result<(), AllocError>
-    ensures { OnOk result ((i : spec.Words) → out.new.items ++ i ≡ out.old.items ++ (spec.keyword keyword position ∷ spec.punctuator punctuators.LeftParenthesis condition.now.left ∷ spec.expression_words (view.expression_of condition.now.inner) (spec.punctuator punctuators.RightParenthesis condition.now.right ∷ i))) }
+    ensures { OnOk result ((i : spec.Words) → out.new.items ++ i ≡ out.old.items
+        ++ (spec.keyword keyword position ∷ spec.punctuator punctuators.LeftParenthesis condition.now.left
+        ∷ spec.expression_words (view.expression_of condition.now.inner)
+        (spec.punctuator punctuators.RightParenthesis condition.now.right ∷ i))) }
 {
     put_keyword(out, keyword, position)?;
     put_punctuator(out, Punctuator::LeftParenthesis, condition.left)?;
@@ -191,7 +204,8 @@ fn put_condition<'a>(
 
 /// Puts the first part of the head of a `for`, with its semicolon (C99 6.8.5.3).
 fn put_for_init<'a>(out: &mut Vec<Positioned<'a>>, init: &ForInit<'a>) -> Result<(), AllocError>
-    ensures { OnOk result ((i : spec.Words) → out.new.items ++ i ≡ out.old.items ++ spec.for_init_words (views.for_init_of init.now) i) }
+    ensures { OnOk result ((i : spec.Words) → out.new.items ++ i ≡ out.old.items
+        ++ spec.for_init_words (views.for_init_of init.now) i) }
 {
     match init {
         ForInit::Declaration(declaration) => put_declaration(out, declaration),
@@ -204,7 +218,11 @@ fn put_for_init<'a>(out: &mut Vec<Positioned<'a>>, init: &ForInit<'a>) -> Result
 
 /// Puts the condition and the step of a `for`, with the semicolon and the parenthesis behind them.
 fn put_for_rest<'a>(out: &mut Vec<Positioned<'a>>, head: &ForHead<'a>) -> Result<(), AllocError>
-    ensures { OnOk result ((i : spec.Words) → out.new.items ++ i ≡ out.old.items ++ spec.optional_words (views.optional_of head.now.condition) (spec.punctuator punctuators.Semicolon head.now.semicolon ∷ spec.optional_words (views.optional_of head.now.step) (spec.punctuator punctuators.RightParenthesis head.now.right ∷ i))) }
+    ensures { OnOk result ((i : spec.Words) → out.new.items ++ i ≡ out.old.items
+        ++ spec.optional_words (views.optional_of head.now.condition)
+        (spec.punctuator punctuators.Semicolon head.now.semicolon
+        ∷ spec.optional_words (views.optional_of head.now.step) (spec.punctuator punctuators.RightParenthesis
+        head.now.right ∷ i))) }
 {
     put_optional(out, &head.condition)?;
     put_punctuator(out, Punctuator::Semicolon, head.semicolon)?;
@@ -214,8 +232,12 @@ fn put_for_rest<'a>(out: &mut Vec<Positioned<'a>>, head: &ForHead<'a>) -> Result
 
 /// Puts the words of a statement (C99 6.8).
 #[cycle(statements)]
-fn put_statement<'a>(out: &mut Vec<Positioned<'a>>, statement: &Statement<'a>) -> Result<(), AllocError>
-    ensures { OnOk result ((i : spec.Words) → out.new.items ++ i ≡ out.old.items ++ spec.statement_words (views.statement_of statement.now) i) }
+fn put_statement<'a>(
+    out: &mut Vec<Positioned<'a>>,
+    statement: &Statement<'a>,
+) -> Result<(), AllocError>
+    ensures { OnOk result ((i : spec.Words) → out.new.items ++ i ≡ out.old.items
+        ++ spec.statement_words (views.statement_of statement.now) i) }
 {
     match statement {
         Statement::Block(block) => put_block(out, block),
@@ -284,7 +306,8 @@ fn put_statement<'a>(out: &mut Vec<Positioned<'a>>, statement: &Statement<'a>) -
 /// Puts the words of a block (C99 6.8.2).
 #[cycle(statements)]
 fn put_block<'a>(out: &mut Vec<Positioned<'a>>, block: &Block<'a>) -> Result<(), AllocError>
-    ensures { OnOk result ((i : spec.Words) → out.new.items ++ i ≡ out.old.items ++ spec.block_words (views.block_of block.now) i) }
+    ensures { OnOk result ((i : spec.Words) → out.new.items ++ i ≡ out.old.items
+        ++ spec.block_words (views.block_of block.now) i) }
 {
     put_punctuator(out, Punctuator::LeftBrace, block.left)?;
     put_block_items(out, block.items.as_slice())?;
@@ -293,8 +316,12 @@ fn put_block<'a>(out: &mut Vec<Positioned<'a>>, block: &Block<'a>) -> Result<(),
 
 /// Puts the words of what stands in a block.
 #[cycle(statements)]
-fn put_block_items<'a>(out: &mut Vec<Positioned<'a>>, items: &[BlockItem<'a>]) -> Result<(), AllocError>
-    ensures { OnOk result ((i : spec.Words) → out.new.items ++ i ≡ out.old.items ++ spec.items_words (views.items_in items.now) i) }
+fn put_block_items<'a>(
+    out: &mut Vec<Positioned<'a>>,
+    items: &[BlockItem<'a>],
+) -> Result<(), AllocError>
+    ensures { OnOk result ((i : spec.Words) → out.new.items ++ i ≡ out.old.items
+        ++ spec.items_words (views.items_in items.now) i) }
 {
     for item in items {
         put_block_item(out, item)?;
@@ -305,7 +332,8 @@ fn put_block_items<'a>(out: &mut Vec<Positioned<'a>>, items: &[BlockItem<'a>]) -
 /// Puts the words of a declaration or statement of a block.
 #[cycle(statements)]
 fn put_block_item<'a>(out: &mut Vec<Positioned<'a>>, item: &BlockItem<'a>) -> Result<(), AllocError>
-    ensures { OnOk result ((i : spec.Words) → out.new.items ++ i ≡ out.old.items ++ spec.block_item_words (views.block_item_of item.now) i) }
+    ensures { OnOk result ((i : spec.Words) → out.new.items ++ i ≡ out.old.items
+        ++ spec.block_item_words (views.block_item_of item.now) i) }
 {
     match item {
         BlockItem::Declaration(declaration) => put_declaration(out, declaration),
@@ -314,8 +342,12 @@ fn put_block_item<'a>(out: &mut Vec<Positioned<'a>>, item: &BlockItem<'a>) -> Re
 }
 
 /// Puts the words of a function definition or a declaration (C99 6.9).
-fn put_external<'a>(out: &mut Vec<Positioned<'a>>, external: &External<'a>) -> Result<(), AllocError>
-    ensures { OnOk result ((i : spec.Words) → out.new.items ++ i ≡ out.old.items ++ spec.external_words (views.external_of external.now) i) }
+fn put_external<'a>(
+    out: &mut Vec<Positioned<'a>>,
+    external: &External<'a>,
+) -> Result<(), AllocError>
+    ensures { OnOk result ((i : spec.Words) → out.new.items ++ i ≡ out.old.items
+        ++ spec.external_words (views.external_of external.now) i) }
 {
     match external {
         External::Function(specifiers, declarator, block) => {

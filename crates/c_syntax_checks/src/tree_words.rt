@@ -14,10 +14,18 @@ use c_syntax::tree::{
 use std::alloc::AllocError;
 
 /// Puts a word behind the others.
-fn put<'a>(out: &mut Vec<Positioned<'a>>, word: TokenKind<'a>, position: Position) -> Result<(), AllocError>
-    ensures { OnOk result ((i : spec.Words) → out.new.items ++ i ≡ out.old.items ++ (spec.word_at word.entry position ∷ i)) }
+fn put<'a>(
+    out: &mut Vec<Positioned<'a>>,
+    word: TokenKind<'a>,
+    position: Position,
+) -> Result<(), AllocError>
+    ensures { OnOk result ((i : spec.Words) → out.new.items ++ i ≡ out.old.items
+        ++ (spec.word_at word.entry position ∷ i)) }
 {
-    out.push(Positioned { kind: word, position })?;
+    out.push(Positioned {
+        kind: word,
+        position,
+    })?;
     Ok(())
 }
 
@@ -27,7 +35,8 @@ pub(crate) fn put_keyword<'a>(
     keyword: Keyword,
     position: Position,
 ) -> Result<(), AllocError>
-    ensures { OnOk result ((i : spec.Words) → out.new.items ++ i ≡ out.old.items ++ (spec.keyword keyword position ∷ i)) }
+    ensures { OnOk result ((i : spec.Words) → out.new.items ++ i ≡ out.old.items
+        ++ (spec.keyword keyword position ∷ i)) }
 {
     put(out, TokenKind::Keyword(keyword), position)
 }
@@ -38,7 +47,8 @@ pub(crate) fn put_punctuator<'a>(
     punctuator: Punctuator,
     position: Position,
 ) -> Result<(), AllocError>
-    ensures { OnOk result ((i : spec.Words) → out.new.items ++ i ≡ out.old.items ++ (spec.punctuator punctuator position ∷ i)) }
+    ensures { OnOk result ((i : spec.Words) → out.new.items ++ i ≡ out.old.items
+        ++ (spec.punctuator punctuator position ∷ i)) }
 {
     put(out, TokenKind::Punctuator(punctuator), position)
 }
@@ -50,7 +60,11 @@ pub(crate) fn put_identifier<'a>(
 ) -> Result<(), AllocError>
     ensures { OnOk result ((i : spec.Words) → out.new.items ++ i ≡ out.old.items ++ (spec.identifier name.now ∷ i)) }
 {
-    put(out, TokenKind::Identifier(name.spelling.again()), name.position)
+    put(
+        out,
+        TokenKind::Identifier(name.spelling.again()),
+        name.position,
+    )
 }
 
 /// Puts string literals that stand side by side.
@@ -59,7 +73,8 @@ fn put_strings<'a>(
     first: &Spelled<'a>,
     others: &[Spelled<'a>],
 ) -> Result<(), AllocError>
-    ensures { OnOk result ((i : spec.Words) → out.new.items ++ i ≡ out.old.items ++ (spec.string first.now ∷ spec.strings_words others.now i)) }
+    ensures { OnOk result ((i : spec.Words) → out.new.items ++ i ≡ out.old.items
+        ++ (spec.string first.now ∷ spec.strings_words others.now i)) }
 {
     put(
         out,
@@ -104,7 +119,8 @@ fn put_head<'a>(
     tag: &Option<Spelled<'a>>,
     left: Position,
 ) -> Result<(), AllocError>
-    ensures { OnOk result ((i : spec.Words) → out.new.items ++ i ≡ out.old.items ++ (spec.keyword keyword position ∷ spec.tag_words tag.now (spec.punctuator punctuators.LeftBrace left ∷ i))) }
+    ensures { OnOk result ((i : spec.Words) → out.new.items ++ i ≡ out.old.items
+        ++ (spec.keyword keyword position ∷ spec.tag_words tag.now (spec.punctuator punctuators.LeftBrace left ∷ i))) }
 {
     put_keyword(out, keyword, position)?;
     put_tag(out, tag)?;
@@ -117,7 +133,8 @@ pub(crate) fn put_tail<'a>(
     comma: Option<Position>,
     right: Position,
 ) -> Result<(), AllocError>
-    ensures { OnOk result ((i : spec.Words) → out.new.items ++ i ≡ out.old.items ++ (spec.comma_words comma (spec.punctuator punctuators.RightBrace right ∷ i))) }
+    ensures { OnOk result ((i : spec.Words) → out.new.items ++ i ≡ out.old.items
+        ++ (spec.comma_words comma (spec.punctuator punctuators.RightBrace right ∷ i))) }
 {
     if let Some(position) = comma {
         put_punctuator(out, Punctuator::Comma, position)?;
@@ -131,7 +148,8 @@ pub(crate) fn put_expression<'a>(
     out: &mut Vec<Positioned<'a>>,
     expression: &Expression<'a>,
 ) -> Result<(), AllocError>
-    ensures { OnOk result ((i : spec.Words) → out.new.items ++ i ≡ out.old.items ++ spec.expression_words (view.expression_of expression.now) i) }
+    ensures { OnOk result ((i : spec.Words) → out.new.items ++ i ≡ out.old.items
+        ++ spec.expression_words (view.expression_of expression.now) i) }
 {
     match expression {
         Expression::Identifier(name) => put_identifier(out, name),
@@ -214,8 +232,12 @@ pub(crate) fn put_expression<'a>(
 
 /// Puts the words of arguments (C99 6.5.2.2).
 #[cycle(words)]
-fn put_arguments<'a>(out: &mut Vec<Positioned<'a>>, arguments: &Arguments<'a>) -> Result<(), AllocError>
-    ensures { OnOk result ((i : spec.Words) → out.new.items ++ i ≡ out.old.items ++ spec.arguments_words (view.arguments_of arguments.now) i) }
+fn put_arguments<'a>(
+    out: &mut Vec<Positioned<'a>>,
+    arguments: &Arguments<'a>,
+) -> Result<(), AllocError>
+    ensures { OnOk result ((i : spec.Words) → out.new.items ++ i ≡ out.old.items
+        ++ spec.arguments_words (view.arguments_of arguments.now) i) }
 {
     match arguments {
         Arguments::Empty => Ok(()),
@@ -232,8 +254,12 @@ fn put_arguments<'a>(out: &mut Vec<Positioned<'a>>, arguments: &Arguments<'a>) -
 
 /// Puts the words of a type name or parameter (C99 6.7.5, 6.7.6).
 #[cycle(words)]
-fn put_typed<'a>(out: &mut Vec<Positioned<'a>>, typed: &TypedDeclarator<'a>) -> Result<(), AllocError>
-    ensures { OnOk result ((i : spec.Words) → out.new.items ++ i ≡ out.old.items ++ spec.typed_words (view.typed_of typed.now) i) }
+fn put_typed<'a>(
+    out: &mut Vec<Positioned<'a>>,
+    typed: &TypedDeclarator<'a>,
+) -> Result<(), AllocError>
+    ensures { OnOk result ((i : spec.Words) → out.new.items ++ i ≡ out.old.items
+        ++ spec.typed_words (view.typed_of typed.now) i) }
 {
     put_specifiers(out, typed.specifiers.as_slice())?;
     put_declarator(out, &typed.declarator)
@@ -245,7 +271,8 @@ pub(crate) fn put_declarator<'a>(
     out: &mut Vec<Positioned<'a>>,
     declarator: &Declarator<'a>,
 ) -> Result<(), AllocError>
-    ensures { OnOk result ((i : spec.Words) → out.new.items ++ i ≡ out.old.items ++ spec.declarator_words (view.declarator_of declarator.now) i) }
+    ensures { OnOk result ((i : spec.Words) → out.new.items ++ i ≡ out.old.items
+        ++ spec.declarator_words (view.declarator_of declarator.now) i) }
 {
     match declarator {
         Declarator::Named(name) => put_identifier(out, name),
@@ -286,7 +313,8 @@ fn put_parameters<'a>(
     out: &mut Vec<Positioned<'a>>,
     parameters: &Parameters<'a>,
 ) -> Result<(), AllocError>
-    ensures { OnOk result ((i : spec.Words) → out.new.items ++ i ≡ out.old.items ++ spec.parameters_words (view.parameters_of parameters.now) i) }
+    ensures { OnOk result ((i : spec.Words) → out.new.items ++ i ≡ out.old.items
+        ++ spec.parameters_words (view.parameters_of parameters.now) i) }
 {
     match parameters {
         Parameters::Empty => Ok(()),
@@ -308,7 +336,8 @@ pub(crate) fn put_specifiers<'a>(
     out: &mut Vec<Positioned<'a>>,
     specifiers: &[Specifier<'a>],
 ) -> Result<(), AllocError>
-    ensures { OnOk result ((i : spec.Words) → out.new.items ++ i ≡ out.old.items ++ spec.specifiers_words (view.specifiers_in specifiers.now) i) }
+    ensures { OnOk result ((i : spec.Words) → out.new.items ++ i ≡ out.old.items
+        ++ spec.specifiers_words (view.specifiers_in specifiers.now) i) }
 {
     for specifier in specifiers {
         put_specifier(out, specifier)?;
@@ -318,8 +347,12 @@ pub(crate) fn put_specifiers<'a>(
 
 /// Puts the words of a specifier (C99 6.7.1 to 6.7.4).
 #[cycle(words)]
-fn put_specifier<'a>(out: &mut Vec<Positioned<'a>>, specifier: &Specifier<'a>) -> Result<(), AllocError>
-    ensures { OnOk result ((i : spec.Words) → out.new.items ++ i ≡ out.old.items ++ spec.specifier_words (view.specifier_of specifier.now) i) }
+fn put_specifier<'a>(
+    out: &mut Vec<Positioned<'a>>,
+    specifier: &Specifier<'a>,
+) -> Result<(), AllocError>
+    ensures { OnOk result ((i : spec.Words) → out.new.items ++ i ≡ out.old.items
+        ++ spec.specifier_words (view.specifier_of specifier.now) i) }
 {
     match specifier {
         Specifier::Keyword(keyword, position) => put_keyword(out, *keyword, *position),
@@ -350,7 +383,8 @@ fn put_specifier<'a>(out: &mut Vec<Positioned<'a>>, specifier: &Specifier<'a>) -
 /// Puts the words of declarations of members (C99 6.7.2.1).
 #[cycle(words)]
 fn put_members<'a>(out: &mut Vec<Positioned<'a>>, members: &[Member<'a>]) -> Result<(), AllocError>
-    ensures { OnOk result ((i : spec.Words) → out.new.items ++ i ≡ out.old.items ++ spec.members_words (view.members_in members.now) i) }
+    ensures { OnOk result ((i : spec.Words) → out.new.items ++ i ≡ out.old.items
+        ++ spec.members_words (view.members_in members.now) i) }
 {
     for member in members {
         put_member(out, member)?;
@@ -361,7 +395,8 @@ fn put_members<'a>(out: &mut Vec<Positioned<'a>>, members: &[Member<'a>]) -> Res
 /// Puts the words of a declaration of members.
 #[cycle(words)]
 fn put_member<'a>(out: &mut Vec<Positioned<'a>>, member: &Member<'a>) -> Result<(), AllocError>
-    ensures { OnOk result ((i : spec.Words) → out.new.items ++ i ≡ out.old.items ++ spec.member_words (view.member_of member.now) i) }
+    ensures { OnOk result ((i : spec.Words) → out.new.items ++ i ≡ out.old.items
+        ++ spec.member_words (view.member_of member.now) i) }
 {
     put_specifiers(out, member.specifiers.as_slice())?;
     put_declarator(out, &member.first)?;
@@ -376,7 +411,8 @@ fn put_more_declarators<'a>(
     out: &mut Vec<Positioned<'a>>,
     others: &[(Position, Declarator<'a>)],
 ) -> Result<(), AllocError>
-    ensures { OnOk result ((i : spec.Words) → out.new.items ++ i ≡ out.old.items ++ spec.more_declarators_words (view.more_declarators_in others.now) i) }
+    ensures { OnOk result ((i : spec.Words) → out.new.items ++ i ≡ out.old.items
+        ++ spec.more_declarators_words (view.more_declarators_in others.now) i) }
 {
     for (comma, declarator) in others {
         put_punctuator(out, Punctuator::Comma, *comma)?;
@@ -391,7 +427,8 @@ fn put_more_enumerators<'a>(
     out: &mut Vec<Positioned<'a>>,
     others: &[(Position, Enumerator<'a>)],
 ) -> Result<(), AllocError>
-    ensures { OnOk result ((i : spec.Words) → out.new.items ++ i ≡ out.old.items ++ spec.more_enumerators_words (view.more_enumerators_in others.now) i) }
+    ensures { OnOk result ((i : spec.Words) → out.new.items ++ i ≡ out.old.items
+        ++ spec.more_enumerators_words (view.more_enumerators_in others.now) i) }
 {
     for (comma, enumerator) in others {
         put_punctuator(out, Punctuator::Comma, *comma)?;
@@ -406,7 +443,8 @@ fn put_enumerator<'a>(
     out: &mut Vec<Positioned<'a>>,
     enumerator: &Enumerator<'a>,
 ) -> Result<(), AllocError>
-    ensures { OnOk result ((i : spec.Words) → out.new.items ++ i ≡ out.old.items ++ spec.enumerator_words (view.enumerator_of enumerator.now) i) }
+    ensures { OnOk result ((i : spec.Words) → out.new.items ++ i ≡ out.old.items
+        ++ spec.enumerator_words (view.enumerator_of enumerator.now) i) }
 {
     match enumerator {
         Enumerator::Plain(name) => put_identifier(out, name),

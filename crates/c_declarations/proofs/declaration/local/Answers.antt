@@ -11,5 +11,7 @@ returns c =
     let e : c.args.levels + 1 ≡ suc c.args.levels = omega arith in
     let named = read declarator_of _ _ _ _ c.named_declarator-declarator.ensures c.in_ok-specifiers-2.ensures.ok.1 in
     subst (λ o. Reads declaration_of o c.plain_declaration_behind.result c.plain_declaration_behind.new.tokens.rest.now)
-    (local_is c.args.levels (c.args.levels + 1) c.args.names.now c.args.tokens.now.rest.now c.specifiers.new.tokens.rest.now c.named_declarator-declarator.new.tokens.rest.now _ _ e (rw c.in_ok-specifiers-2.ensures.ok.0 c.in_ok-specifiers.ensures.0)
+    (local_is c.args.levels (c.args.levels + 1) c.args.names.now c.args.tokens.now.rest.now
+    c.specifiers.new.tokens.rest.now c.named_declarator-declarator.new.tokens.rest.now _ _ e
+    (rw c.in_ok-specifiers-2.ensures.ok.0 c.in_ok-specifiers.ensures.0)
     (sym c.next_is.ensures ∙ c.if-next_is.false) named) c.plain_declaration_behind.ensures.read

@@ -75,7 +75,6 @@ pub fn named_declarator<'a>(
         levels as usize + 1,
         DeclaratorKind::Named,
     )?;
-    let declarator = declarator.boxed(alloc)?;
     Ok(declarator.tree)
 }
 

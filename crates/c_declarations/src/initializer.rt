@@ -15,7 +15,8 @@ use c_expressions::nested::expression;
 use c_grammar::cursor::{Cursor, Fault, next_is};
 use c_lexer::{Punctuator, Spelling};
 use c_syntax::{
-    Boxed, Designation, Designator, Initializer, InitializerItem, Items, Position, Positioned,
+    Boxed, Designation, Designator, InitialValue, Initializer, InitializerItem, Items, Position,
+    Positioned,
 };
 use std::alloc::Global;
 
@@ -38,7 +39,7 @@ fn element<'a>(
         tokens.new.rest.now }
 {
     let left = tokens.expect(Punctuator::LeftBracket)?;
-    let size = expression(alloc, names, tokens, levels, None, 3)?.boxed(alloc)?;
+    let size = expression(alloc, names, tokens, levels, None, 3)?;
     let (size, right) = beside(size, tokens.expect(Punctuator::RightBracket))?;
     Ok(Designator::Element(left, size.tree, right))
 }
@@ -131,7 +132,9 @@ pub fn value<'a>(
         tokens.new.rest.now }
 {
     let value = expression(alloc, names, tokens, levels, None, 2)?;
-    Ok(Initializer::Value(value.tree))
+    Ok(Initializer::Value(InitialValue {
+        expression: value.tree,
+    }))
 }
 
 /// The rules for initializers whose parts have fewer levels than a number, with the function that reads these parts.

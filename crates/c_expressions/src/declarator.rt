@@ -13,13 +13,13 @@ ghost use Rattle.c_syntax.specs.View.{declarator_of};
 ghost use Rattle.c_syntax.specs.Levels.{declarator_levels};
 
 use crate::grammar::Grammar;
-use crate::leveled::{Leveled, beside, beside_boxed, joined, leaf};
+use crate::leveled::{Leveled, beside, leaf};
 use crate::specifier::begins_specifiers;
 use c_grammar::cursor::{Cursor, Fault, is_punctuator, is_same, next_is, spelled};
 use c_grammar::declarator_kind::DeclaratorKind;
 use c_lexer::{Punctuator, Spelling, TokenKind};
 use c_syntax::names::is_among;
-use c_syntax::{Declarator, Expression, Items, Position, Positioned, Specifier, Spelled};
+use c_syntax::{Boxed, Declarator, Expression, Items, Position, Positioned, Specifier, Spelled};
 use std::alloc::Global;
 
 /// Whether a declarator of this kind may have a name.
@@ -38,15 +38,16 @@ fn must_have_name(kind: DeclaratorKind) -> bool
 
 /// No word of a declarator.
 fn unnamed<'a>(
+    alloc: Global,
     kind: DeclaratorKind,
     rest: &[Positioned<'a>],
-) -> Result<Leveled<Declarator<'a>>, Fault>
+) -> Result<Leveled<Boxed<Declarator<'a>>>, Fault>
     ensures { ReadsLeveled declarator_of declarator_levels 1 (spec.unnamed_at kind rest.now) result rest.now }
 {
     if must_have_name(kind) {
         return Err(Fault::Refused);
     }
-    Ok(leaf(Declarator::Unnamed))
+    Ok(leaf(Declarator::Unnamed).boxed(alloc)?)
 }
 
 /// A name as a declarator.
@@ -83,7 +84,7 @@ impl<
         usize,
         Option<Position>,
         u8,
-    ) -> Result<Leveled<Expression<'a>>, Fault>,
+    ) -> Result<Leveled<Boxed<Expression<'a>>>, Fault>,
     S: Fn(
         Global,
         &[Spelling<'a>],
@@ -97,15 +98,15 @@ impl<
         &mut Cursor<'_, 'a>,
         usize,
         DeclaratorKind,
-    ) -> Result<Leveled<Declarator<'a>>, Fault>,
+    ) -> Result<Leveled<Boxed<Declarator<'a>>>, Fault>,
 > Grammar<'t, 'a, E, S, D> {
     /// Reads what follows the `(` of parameters (C99 6.7.5.3).
     fn function(
         &self,
         tokens: &mut Cursor<'_, 'a>,
-        left: Leveled<Declarator<'a>>,
+        left: Leveled<Boxed<Declarator<'a>>>,
         position: Position,
-    ) -> Result<Leveled<Declarator<'a>>, Fault>
+    ) -> Result<Leveled<Boxed<Declarator<'a>>>, Fault>
         requires deeper { Deeper self.now.levels (E.pre self.now.expression) (E.post self.now.expression)
             (S.pre self.now.specifiers) (S.post self.now.specifiers) (D.pre self.now.declarator)
             (D.post self.now.declarator) }
@@ -114,13 +115,14 @@ impl<
             (spec.function_from self.now.names.now (readers self.now.names.now self.now.levels) self.now.levels
             (declarator_of left.entry.tree) position tokens.old.rest.now) result tokens.new.rest.now }
     {
-        let called = beside(left.boxed(self.alloc)?, self.parameters(tokens))?;
+        let called = beside(left, self.parameters(tokens))?;
         let (called, right) = beside(called, tokens.expect(Punctuator::RightParenthesis))?;
         let (left, parameters) = called;
-        Ok(Leveled {
+        let tree = Leveled {
             levels: left.levels.max(parameters.levels) + 1,
             tree: Declarator::Function(left.tree, position, parameters.tree, right),
-        })
+        };
+        Ok(tree.boxed(self.alloc)?)
     }
 
     /// Reads what follows a first `(`: the parameters of a function without a name, or a declarator in parentheses (C99
@@ -131,7 +133,7 @@ impl<
         tokens: &mut Cursor<'_, 'a>,
         kind: DeclaratorKind,
         position: Position,
-    ) -> Result<Leveled<Declarator<'a>>, Fault>
+    ) -> Result<Leveled<Boxed<Declarator<'a>>>, Fault>
         requires deeper { Deeper self.now.levels (E.pre self.now.expression) (E.post self.now.expression)
             (S.pre self.now.specifiers) (S.post self.now.specifiers) (D.pre self.now.declarator)
             (D.post self.now.declarator) }
@@ -141,15 +143,16 @@ impl<
             position tokens.old.rest.now) result tokens.new.rest.now }
     {
         if !must_have_name(kind) && begins_parameters(self.names, tokens.rest) {
-            let nameless = unnamed(kind, tokens.rest)?;
+            let nameless = unnamed(self.alloc, kind, tokens.rest)?;
             return self.function(tokens, nameless, position);
         }
-        let inner = self.declarator(tokens, kind)?.boxed(self.alloc)?;
+        let inner = self.declarator(tokens, kind)?;
         let (inner, right) = beside(inner, tokens.expect(Punctuator::RightParenthesis))?;
-        Ok(Leveled {
+        let tree = Leveled {
             tree: Declarator::Parenthesized(position, inner.tree, right),
             levels: inner.levels + 1,
-        })
+        };
+        Ok(tree.boxed(self.alloc)?)
     }
 
     /// Reads what is no pointer, without its suffixes.
@@ -158,7 +161,7 @@ impl<
         &self,
         tokens: &mut Cursor<'_, 'a>,
         kind: DeclaratorKind,
-    ) -> Result<Leveled<Declarator<'a>>, Fault>
+    ) -> Result<Leveled<Boxed<Declarator<'a>>>, Fault>
         requires deeper { Deeper self.now.levels (E.pre self.now.expression) (E.post self.now.expression)
             (S.pre self.now.specifiers) (S.post self.now.specifiers) (D.pre self.now.declarator)
             (D.post self.now.declarator) }
@@ -167,24 +170,24 @@ impl<
             tokens.old.rest.now) result tokens.new.rest.now }
     {
         let [first, rest @ ..] = tokens.rest else {
-            return unnamed(kind, tokens.rest);
+            return unnamed(self.alloc, kind, tokens.rest);
         };
         match &first.kind {
             TokenKind::Identifier(spelling) => {
                 if !may_have_name(kind) || is_among(self.names, spelling) {
-                    return unnamed(kind, tokens.rest);
+                    return unnamed(self.alloc, kind, tokens.rest);
                 }
                 tokens.rest = rest;
-                Ok(named(spelled(spelling, first.position)))
+                Ok(named(spelled(spelling, first.position)).boxed(self.alloc)?)
             }
             TokenKind::Punctuator(punctuator) => {
                 if !is_same(Punctuator::LeftParenthesis, *punctuator) || self.levels < 1 {
-                    return unnamed(kind, tokens.rest);
+                    return unnamed(self.alloc, kind, tokens.rest);
                 }
                 tokens.rest = rest;
                 self.declarator_parenthesis(tokens, kind, first.position)
             }
-            _ => unnamed(kind, tokens.rest),
+            _ => unnamed(self.alloc, kind, tokens.rest),
         }
     }
 
@@ -193,9 +196,9 @@ impl<
     fn array(
         &self,
         tokens: &mut Cursor<'_, 'a>,
-        left: Leveled<Declarator<'a>>,
+        left: Leveled<Boxed<Declarator<'a>>>,
         position: Position,
-    ) -> Result<Leveled<Declarator<'a>>, Fault>
+    ) -> Result<Leveled<Boxed<Declarator<'a>>>, Fault>
         requires deeper { Deeper self.now.levels (E.pre self.now.expression) (E.post self.now.expression)
             (S.pre self.now.specifiers) (S.post self.now.specifiers) (D.pre self.now.declarator)
             (D.post self.now.declarator) }
@@ -204,30 +207,30 @@ impl<
             (spec.array_from self.now.names.now (readers self.now.names.now self.now.levels) self.now.levels
             (declarator_of left.entry.tree) position tokens.old.rest.now) result tokens.new.rest.now }
     {
-        let left = left.boxed(self.alloc)?;
         if next_is(tokens.rest, Punctuator::RightBracket) {
             let (left, right) = beside(left, tokens.expect(Punctuator::RightBracket))?;
-            return Ok(Leveled {
+            let tree = Leveled {
                 levels: left.levels + 1,
                 tree: Declarator::OpenArray(left.tree, position, right),
-            });
+            };
+            return Ok(tree.boxed(self.alloc)?);
         }
         let array = beside(left, self.expression(tokens, None, 3))?;
-        let array = joined(self.alloc, array)?;
         let (array, right) = beside(array, tokens.expect(Punctuator::RightBracket))?;
-        let (left, size) = array.tree;
-        Ok(Leveled {
-            levels: array.levels + 1,
-            tree: Declarator::Array(left, position, size, right),
-        })
+        let (left, size) = array;
+        let tree = Leveled {
+            levels: left.levels.max(size.levels) + 1,
+            tree: Declarator::Array(left.tree, position, size.tree, right),
+        };
+        Ok(tree.boxed(self.alloc)?)
     }
 
     /// Reads a suffix by its first word, which is `[` or `(`.
     fn suffix(
         &self,
         tokens: &mut Cursor<'_, 'a>,
-        left: Leveled<Declarator<'a>>,
-    ) -> Result<Leveled<Declarator<'a>>, Fault>
+        left: Leveled<Boxed<Declarator<'a>>>,
+    ) -> Result<Leveled<Boxed<Declarator<'a>>>, Fault>
         requires deeper { Deeper self.now.levels (E.pre self.now.expression) (E.post self.now.expression)
             (S.pre self.now.specifiers) (S.post self.now.specifiers) (D.pre self.now.declarator)
             (D.post self.now.declarator) }
@@ -251,8 +254,8 @@ impl<
     fn suffixes(
         &self,
         tokens: &mut Cursor<'_, 'a>,
-        first: Leveled<Declarator<'a>>,
-    ) -> Result<Leveled<Declarator<'a>>, Fault>
+        first: Leveled<Boxed<Declarator<'a>>>,
+    ) -> Result<Leveled<Boxed<Declarator<'a>>>, Fault>
         requires deeper { Deeper self.now.levels (E.pre self.now.expression) (E.post self.now.expression)
             (S.pre self.now.specifiers) (S.post self.now.specifiers) (D.pre self.now.declarator)
             (D.post self.now.declarator) }
@@ -277,7 +280,7 @@ impl<
         &self,
         tokens: &mut Cursor<'_, 'a>,
         kind: DeclaratorKind,
-    ) -> Result<Leveled<Declarator<'a>>, Fault>
+    ) -> Result<Leveled<Boxed<Declarator<'a>>>, Fault>
         requires deeper { Deeper self.now.levels (E.pre self.now.expression) (E.post self.now.expression)
             (S.pre self.now.specifiers) (S.post self.now.specifiers) (D.pre self.now.declarator)
             (D.post self.now.declarator) }
@@ -296,7 +299,7 @@ impl<
         tokens: &mut Cursor<'_, 'a>,
         kind: DeclaratorKind,
         position: Position,
-    ) -> Result<Leveled<Declarator<'a>>, Fault>
+    ) -> Result<Leveled<Boxed<Declarator<'a>>>, Fault>
         requires deeper { Deeper self.now.levels (E.pre self.now.expression) (E.post self.now.expression)
             (S.pre self.now.specifiers) (S.post self.now.specifiers) (D.pre self.now.declarator)
             (D.post self.now.declarator) }
@@ -306,11 +309,11 @@ impl<
     {
         let consts = tokens.consts(self.alloc)?;
         let (consts, inner) = beside(consts, self.declarator(tokens, kind))?;
-        let (consts, inner) = beside_boxed(self.alloc, consts, inner)?;
-        Ok(Leveled {
+        let tree = Leveled {
             tree: Declarator::Pointer(position, consts, inner.tree),
             levels: inner.levels + 1,
-        })
+        };
+        Ok(tree.boxed(self.alloc)?)
     }
 
     /// Reads a declarator with at most the rules' number of levels (C99 6.7.5, 6.7.6).
@@ -319,7 +322,7 @@ impl<
         &self,
         tokens: &mut Cursor<'_, 'a>,
         kind: DeclaratorKind,
-    ) -> Result<Leveled<Declarator<'a>>, Fault>
+    ) -> Result<Leveled<Boxed<Declarator<'a>>>, Fault>
         requires deeper { Deeper self.now.levels (E.pre self.now.expression) (E.post self.now.expression)
             (S.pre self.now.specifiers) (S.post self.now.specifiers) (D.pre self.now.declarator)
             (D.post self.now.declarator) }

@@ -10,12 +10,12 @@ ghost use Rattle.c_syntax.specs.View.{specifier_of, enumerator_of};
 ghost use Rattle.c_syntax.specs.Levels.{specifier_levels, enumerator_levels};
 
 use crate::grammar::Grammar;
-use crate::leveled::{Leveled, before_comma, beside, beside_boxed, leaf, no_trees, with_next};
+use crate::leveled::{Leveled, before_comma, beside, leaf, no_trees, with_next};
 use crate::structure::begins_body;
 use c_grammar::cursor::{Cursor, Fault, next_is};
 use c_grammar::declarator_kind::DeclaratorKind;
 use c_lexer::{Punctuator, Spelling};
-use c_syntax::{Declarator, Enumerator, Expression, Items, Position, Specifier, Spelled};
+use c_syntax::{Boxed, Declarator, Enumerator, Expression, Items, Position, Specifier, Spelled};
 use std::alloc::Global;
 
 impl<
@@ -28,7 +28,7 @@ impl<
         usize,
         Option<Position>,
         u8,
-    ) -> Result<Leveled<Expression<'a>>, Fault>,
+    ) -> Result<Leveled<Boxed<Expression<'a>>>, Fault>,
     S: Fn(
         Global,
         &[Spelling<'a>],
@@ -42,7 +42,7 @@ impl<
         &mut Cursor<'_, 'a>,
         usize,
         DeclaratorKind,
-    ) -> Result<Leveled<Declarator<'a>>, Fault>,
+    ) -> Result<Leveled<Boxed<Declarator<'a>>>, Fault>,
 > Grammar<'t, 'a, E, S, D> {
     /// Reads an enumerator (C99 6.7.2.2).
     #[tactic(auto, unfolding(c_grammar::specs::SpecifierReader::enumerator_from))]
@@ -61,7 +61,6 @@ impl<
         }
         let position = tokens.expect(Punctuator::Assign)?;
         let (name, value) = beside(name, self.expression(tokens, None, 3))?;
-        let (name, value) = beside_boxed(self.alloc, name, value)?;
         Ok(Leveled {
             levels: value.levels,
             tree: Enumerator::Valued(name, position, value.tree),

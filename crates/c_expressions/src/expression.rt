@@ -14,15 +14,13 @@ ghost use Rattle.c_syntax.specs.View.{expression_of, arguments_of};
 ghost use Rattle.c_syntax.specs.Levels.{expression_levels, arguments_levels};
 
 use crate::grammar::Grammar;
-use crate::leveled::{
-    Leveled, as_items, beside, boxed_pair, boxed_three, joined, leaf, no_trees, with_next,
-};
+use crate::leveled::{Leveled, as_items, beside, leaf, no_trees, with_next};
 use c_grammar::cursor::{Cursor, Fault, next_is};
 use c_grammar::declarator_kind::DeclaratorKind;
 use c_grammar::operation::{Operation, binds, needs, operation_of};
 use c_lexer::{Punctuator, Spelling, TokenKind};
 use c_syntax::operators::{binary_precedence, precedence};
-use c_syntax::{Arguments, Declarator, Expression, Items, Position, Positioned, Specifier};
+use c_syntax::{Arguments, Boxed, Declarator, Expression, Items, Position, Positioned, Specifier};
 use std::alloc::Global;
 
 impl<
@@ -35,7 +33,7 @@ impl<
         usize,
         Option<Position>,
         u8,
-    ) -> Result<Leveled<Expression<'a>>, Fault>,
+    ) -> Result<Leveled<Boxed<Expression<'a>>>, Fault>,
     S: Fn(
         Global,
         &[Spelling<'a>],
@@ -49,14 +47,14 @@ impl<
         &mut Cursor<'_, 'a>,
         usize,
         DeclaratorKind,
-    ) -> Result<Leveled<Declarator<'a>>, Fault>,
+    ) -> Result<Leveled<Boxed<Declarator<'a>>>, Fault>,
 > Grammar<'t, 'a, E, S, D> {
     /// Reads arguments behind the first, each behind its comma.
     #[tactic(auto, unfolding(c_grammar::specs::Reader::behind_commas))]
     fn more_arguments(
         &self,
         tokens: &mut Cursor<'_, 'a>,
-    ) -> Result<Leveled<Items<(Position, Expression<'a>)>>, Fault>
+    ) -> Result<Leveled<Items<(Position, Boxed<Expression<'a>>)>>, Fault>
         requires deeper { Deeper self.now.levels (E.pre self.now.expression) (E.post self.now.expression)
             (S.pre self.now.specifiers) (S.post self.now.specifiers) (D.pre self.now.declarator)
             (D.post self.now.declarator) }
@@ -90,7 +88,7 @@ impl<
         if next_is(tokens.rest, Punctuator::RightParenthesis) {
             return Ok(leaf(Arguments::Empty));
         }
-        let first = self.expression(tokens, None, 2)?.boxed(self.alloc)?;
+        let first = self.expression(tokens, None, 2)?;
         let (first, others) = beside(first, self.more_arguments(tokens))?;
         Ok(Leveled {
             tree: Arguments::Given(first.tree, others.tree),
@@ -103,10 +101,10 @@ impl<
     fn binary(
         &self,
         tokens: &mut Cursor<'_, 'a>,
-        left: Leveled<Expression<'a>>,
+        left: Leveled<Boxed<Expression<'a>>>,
         position: Position,
         punctuator: Punctuator,
-    ) -> Result<Leveled<Expression<'a>>, Fault>
+    ) -> Result<Leveled<Boxed<Expression<'a>>>, Fault>
         requires deeper { Deeper self.now.levels (E.pre self.now.expression) (E.post self.now.expression)
             (S.pre self.now.specifiers) (S.post self.now.specifiers) (D.pre self.now.declarator)
             (D.post self.now.declarator) }
@@ -117,11 +115,12 @@ impl<
             tokens.new.rest.now }
     {
         let right = self.expression(tokens, None, binary_precedence(punctuator) + 1);
-        let (left, right) = boxed_pair(self.alloc, beside(left, right)?)?;
-        Ok(Leveled {
+        let (left, right) = beside(left, right)?;
+        let tree = Leveled {
             levels: left.levels.max(right.levels) + 1,
             tree: Expression::Binary(left.tree, punctuator, position, right.tree),
-        })
+        };
+        Ok(tree.boxed(self.alloc)?)
     }
 
     /// Reads what follows an assignment operator (C99 6.5.16).
@@ -129,10 +128,10 @@ impl<
     fn assignment(
         &self,
         tokens: &mut Cursor<'_, 'a>,
-        left: Leveled<Expression<'a>>,
+        left: Leveled<Boxed<Expression<'a>>>,
         position: Position,
         punctuator: Punctuator,
-    ) -> Result<Leveled<Expression<'a>>, Fault>
+    ) -> Result<Leveled<Boxed<Expression<'a>>>, Fault>
         requires deeper { Deeper self.now.levels (E.pre self.now.expression) (E.post self.now.expression)
             (S.pre self.now.specifiers) (S.post self.now.specifiers) (D.pre self.now.declarator)
             (D.post self.now.declarator) }
@@ -143,21 +142,25 @@ impl<
             tokens.new.rest.now }
     {
         let right = self.expression(tokens, None, 2);
-        let (left, right) = boxed_pair(self.alloc, beside(left, right)?)?;
-        Ok(Leveled {
+        let (left, right) = beside(left, right)?;
+        let tree = Leveled {
             levels: left.levels.max(right.levels) + 1,
             tree: Expression::Assignment(left.tree, punctuator, position, right.tree),
-        })
+        };
+        Ok(tree.boxed(self.alloc)?)
     }
 
     /// The conditional expression of the condition and the second operand, and the third (C99 6.5.15).
     fn conditional_of(
         &self,
-        operands: (Leveled<Expression<'a>>, Leveled<Expression<'a>>),
+        operands: (
+            Leveled<Boxed<Expression<'a>>>,
+            Leveled<Boxed<Expression<'a>>>,
+        ),
         position: Position,
         colon: Position,
-        third: Leveled<Expression<'a>>,
-    ) -> Result<Leveled<Expression<'a>>, Fault>
+        third: Leveled<Boxed<Expression<'a>>>,
+    ) -> Result<Leveled<Boxed<Expression<'a>>>, Fault>
         requires known { Below self.now.levels operands.0.levels (expression_levels (expression_of operands.0.tree)) }
         requires known_second { Below self.now.levels operands.1.levels
             (expression_levels (expression_of operands.1.tree)) }
@@ -166,12 +169,12 @@ impl<
             (conditional_at (expression_of operands.entry.0.tree) position (expression_of operands.entry.1.tree) colon
             (expression_of third.entry.tree) i) result i }
     {
-        let operands = boxed_three(self.alloc, operands, third)?;
-        let (condition, second, third) = operands.tree;
-        Ok(Leveled {
-            levels: operands.levels + 1,
-            tree: Expression::Conditional(condition, position, second, colon, third),
-        })
+        let (condition, second) = operands;
+        let tree = Leveled {
+            levels: condition.levels.max(second.levels.max(third.levels)) + 1,
+            tree: Expression::Conditional(condition.tree, position, second.tree, colon, third.tree),
+        };
+        Ok(tree.boxed(self.alloc)?)
     }
 
     /// Reads what follows `?` (C99 6.5.15).
@@ -179,9 +182,9 @@ impl<
     fn conditional(
         &self,
         tokens: &mut Cursor<'_, 'a>,
-        left: Leveled<Expression<'a>>,
+        left: Leveled<Boxed<Expression<'a>>>,
         position: Position,
-    ) -> Result<Leveled<Expression<'a>>, Fault>
+    ) -> Result<Leveled<Boxed<Expression<'a>>>, Fault>
         requires deeper { Deeper self.now.levels (E.pre self.now.expression) (E.post self.now.expression)
             (S.pre self.now.specifiers) (S.post self.now.specifiers) (D.pre self.now.declarator)
             (D.post self.now.declarator) }
@@ -202,9 +205,9 @@ impl<
     fn subscript(
         &self,
         tokens: &mut Cursor<'_, 'a>,
-        left: Leveled<Expression<'a>>,
+        left: Leveled<Boxed<Expression<'a>>>,
         position: Position,
-    ) -> Result<Leveled<Expression<'a>>, Fault>
+    ) -> Result<Leveled<Boxed<Expression<'a>>>, Fault>
         requires deeper { Deeper self.now.levels (E.pre self.now.expression) (E.post self.now.expression)
             (S.pre self.now.specifiers) (S.post self.now.specifiers) (D.pre self.now.declarator)
             (D.post self.now.declarator) }
@@ -214,15 +217,14 @@ impl<
             (expression_of left.entry.tree) punctuators.Question position (Some op.Subscript) tokens.old.rest.now)
             result tokens.new.rest.now }
     {
-        let left = left.boxed(self.alloc)?;
         let operands = beside(left, self.expression(tokens, None, 1))?;
-        let operands = joined(self.alloc, operands)?;
         let (operands, right) = beside(operands, tokens.expect(Punctuator::RightBracket))?;
-        let (left, index) = operands.tree;
-        Ok(Leveled {
-            levels: operands.levels + 1,
-            tree: Expression::Subscript(left, position, index, right),
-        })
+        let (left, index) = operands;
+        let tree = Leveled {
+            levels: left.levels.max(index.levels) + 1,
+            tree: Expression::Subscript(left.tree, position, index.tree, right),
+        };
+        Ok(tree.boxed(self.alloc)?)
     }
 
     /// Reads what follows the `(` of a call (C99 6.5.2.2).
@@ -230,9 +232,9 @@ impl<
     fn call(
         &self,
         tokens: &mut Cursor<'_, 'a>,
-        left: Leveled<Expression<'a>>,
+        left: Leveled<Boxed<Expression<'a>>>,
         position: Position,
-    ) -> Result<Leveled<Expression<'a>>, Fault>
+    ) -> Result<Leveled<Boxed<Expression<'a>>>, Fault>
         requires deeper { Deeper self.now.levels (E.pre self.now.expression) (E.post self.now.expression)
             (S.pre self.now.specifiers) (S.post self.now.specifiers) (D.pre self.now.declarator)
             (D.post self.now.declarator) }
@@ -242,13 +244,14 @@ impl<
             (expression_of left.entry.tree) punctuators.Question position (Some op.Call) tokens.old.rest.now) result
             tokens.new.rest.now }
     {
-        let called = beside(left.boxed(self.alloc)?, self.arguments(tokens))?;
+        let called = beside(left, self.arguments(tokens))?;
         let (called, right) = beside(called, tokens.expect(Punctuator::RightParenthesis))?;
         let (left, arguments) = called;
-        Ok(Leveled {
+        let tree = Leveled {
             levels: left.levels.max(arguments.levels) + 1,
             tree: Expression::Call(left.tree, position, arguments.tree, right),
-        })
+        };
+        Ok(tree.boxed(self.alloc)?)
     }
 
     /// Reads what follows `.` or `->` (C99 6.5.2.3).
@@ -256,10 +259,10 @@ impl<
     fn member(
         &self,
         tokens: &mut Cursor<'_, 'a>,
-        left: Leveled<Expression<'a>>,
+        left: Leveled<Boxed<Expression<'a>>>,
         position: Position,
         punctuator: Punctuator,
-    ) -> Result<Leveled<Expression<'a>>, Fault>
+    ) -> Result<Leveled<Boxed<Expression<'a>>>, Fault>
         requires deeper { Deeper self.now.levels (E.pre self.now.expression) (E.post self.now.expression)
             (S.pre self.now.specifiers) (S.post self.now.specifiers) (D.pre self.now.declarator)
             (D.post self.now.declarator) }
@@ -269,30 +272,31 @@ impl<
             (expression_of left.entry.tree) punctuator position (Some op.Member) tokens.old.rest.now) result
             tokens.new.rest.now }
     {
-        let (left, name) = beside(left.boxed(self.alloc)?, tokens.identifier())?;
-        Ok(Leveled {
+        let (left, name) = beside(left, tokens.identifier())?;
+        let tree = Leveled {
             levels: left.levels + 1,
             tree: Expression::Member(left.tree, punctuator, position, name),
-        })
+        };
+        Ok(tree.boxed(self.alloc)?)
     }
 
     /// A postfix operator on this operand (C99 6.5.2.4).
     #[tactic(auto, unfolding(c_grammar::specs::ExpressionReader::operation_from))]
     fn postfix(
         &self,
-        left: Leveled<Expression<'a>>,
+        left: Leveled<Boxed<Expression<'a>>>,
         position: Position,
         punctuator: Punctuator,
-    ) -> Result<Leveled<Expression<'a>>, Fault>
+    ) -> Result<Leveled<Boxed<Expression<'a>>>, Fault>
         requires known { Below self.now.levels left.levels (expression_levels (expression_of left.tree)) }
         ensures { (i : Words) → ReadsLeveled expression_of expression_levels (suc self.now.levels)
             (postfix_at (expression_of left.entry.tree) punctuator position i) result i }
     {
-        let left = left.boxed(self.alloc)?;
-        Ok(Leveled {
+        let tree = Leveled {
             levels: left.levels + 1,
             tree: Expression::Postfix(left.tree, punctuator, position),
-        })
+        };
+        Ok(tree.boxed(self.alloc)?)
     }
 
     /// Reads an operation on this operand, behind its punctuator.
@@ -300,11 +304,11 @@ impl<
     fn operation_by(
         &self,
         tokens: &mut Cursor<'_, 'a>,
-        left: Leveled<Expression<'a>>,
+        left: Leveled<Boxed<Expression<'a>>>,
         position: Position,
         punctuator: Punctuator,
         operation: Operation,
-    ) -> Result<Leveled<Expression<'a>>, Fault>
+    ) -> Result<Leveled<Boxed<Expression<'a>>>, Fault>
         requires deeper { Deeper self.now.levels (E.pre self.now.expression) (E.post self.now.expression)
             (S.pre self.now.specifiers) (S.post self.now.specifiers) (D.pre self.now.declarator)
             (D.post self.now.declarator) }
@@ -330,10 +334,10 @@ impl<
     fn operation_of(
         &self,
         tokens: &mut Cursor<'_, 'a>,
-        left: Leveled<Expression<'a>>,
+        left: Leveled<Boxed<Expression<'a>>>,
         position: Position,
         punctuator: Punctuator,
-    ) -> Result<Leveled<Expression<'a>>, Fault>
+    ) -> Result<Leveled<Boxed<Expression<'a>>>, Fault>
         requires deeper { Deeper self.now.levels (E.pre self.now.expression) (E.post self.now.expression)
             (S.pre self.now.specifiers) (S.post self.now.specifiers) (D.pre self.now.declarator)
             (D.post self.now.declarator) }
@@ -353,8 +357,8 @@ impl<
     fn operation(
         &self,
         tokens: &mut Cursor<'_, 'a>,
-        left: Leveled<Expression<'a>>,
-    ) -> Result<Leveled<Expression<'a>>, Fault>
+        left: Leveled<Boxed<Expression<'a>>>,
+    ) -> Result<Leveled<Boxed<Expression<'a>>>, Fault>
         requires deeper { Deeper self.now.levels (E.pre self.now.expression) (E.post self.now.expression)
             (S.pre self.now.specifiers) (S.post self.now.specifiers) (D.pre self.now.declarator)
             (D.post self.now.declarator) }
@@ -379,14 +383,15 @@ impl<
     }
 
     /// Whether the next word goes on with this operand as an expression of at least this precedence.
-    fn goes_on(&self, rest: &[Positioned], least: u8, left: &Leveled<Expression<'a>>) -> bool
+    fn goes_on(&self, rest: &[Positioned], least: u8, left: &Leveled<Boxed<Expression<'a>>>) -> bool
         ensures { result ≡ operation_is_next self.now.levels least (expression_of left.now.tree) left.now.levels
             rest.now }
     {
         match rest.first() {
             Some(first) => {
                 least <= binds(&first.kind)
-                    && (needs(&first.kind) <= precedence(&left.tree) && left.levels < self.levels)
+                    && (needs(&first.kind) <= precedence(left.tree.get())
+                        && left.levels < self.levels)
             }
             None => false,
         }
@@ -397,8 +402,8 @@ impl<
         &self,
         tokens: &mut Cursor<'_, 'a>,
         least: u8,
-        first: Leveled<Expression<'a>>,
-    ) -> Result<Leveled<Expression<'a>>, Fault>
+        first: Leveled<Boxed<Expression<'a>>>,
+    ) -> Result<Leveled<Boxed<Expression<'a>>>, Fault>
         requires deeper { Deeper self.now.levels (E.pre self.now.expression) (E.post self.now.expression)
             (S.pre self.now.specifiers) (S.post self.now.specifiers) (D.pre self.now.declarator)
             (D.post self.now.declarator) }
@@ -423,7 +428,7 @@ impl<
         tokens: &mut Cursor<'_, 'a>,
         opened: Option<Position>,
         least: u8,
-    ) -> Result<Leveled<Expression<'a>>, Fault>
+    ) -> Result<Leveled<Boxed<Expression<'a>>>, Fault>
         requires deeper { Deeper self.now.levels (E.pre self.now.expression) (E.post self.now.expression)
             (S.pre self.now.specifiers) (S.post self.now.specifiers) (D.pre self.now.declarator)
             (D.post self.now.declarator) }
@@ -445,7 +450,7 @@ impl<
         tokens: &mut Cursor<'_, 'a>,
         opened: Option<Position>,
         least: u8,
-    ) -> Result<Leveled<Expression<'a>>, Fault>
+    ) -> Result<Leveled<Boxed<Expression<'a>>>, Fault>
         requires deeper { Deeper self.now.levels (E.pre self.now.expression) (E.post self.now.expression)
             (S.pre self.now.specifiers) (S.post self.now.specifiers) (D.pre self.now.declarator)
             (D.post self.now.declarator) }

@@ -11,7 +11,7 @@ use crate::leveled::Leveled;
 use c_grammar::cursor::{Cursor, Fault};
 use c_grammar::declarator_kind::DeclaratorKind;
 use c_lexer::Spelling;
-use c_syntax::{Declarator, Expression, Items, Position, Specifier};
+use c_syntax::{Boxed, Declarator, Expression, Items, Position, Specifier};
 use std::alloc::Global;
 
 /// The rules for what has at most some number of levels, with the functions that read what has fewer.
@@ -41,7 +41,7 @@ impl<
         usize,
         Option<Position>,
         u8,
-    ) -> Result<Leveled<Expression<'a>>, Fault>,
+    ) -> Result<Leveled<Boxed<Expression<'a>>>, Fault>,
     S: Fn(
         Global,
         &[Spelling<'a>],
@@ -55,7 +55,7 @@ impl<
         &mut Cursor<'_, 'a>,
         usize,
         DeclaratorKind,
-    ) -> Result<Leveled<Declarator<'a>>, Fault>,
+    ) -> Result<Leveled<Boxed<Declarator<'a>>>, Fault>,
 > Grammar<'t, 'a, E, S, D> {
     /// Reads an expression of at least this precedence with fewer levels; a position is that of the `(` that was taken.
     pub fn expression(
@@ -63,7 +63,7 @@ impl<
         tokens: &mut Cursor<'_, 'a>,
         opened: Option<Position>,
         least: u8,
-    ) -> Result<Leveled<Expression<'a>>, Fault>
+    ) -> Result<Leveled<Boxed<Expression<'a>>>, Fault>
         requires { Deeper self.now.levels (E.pre self.now.expression) (E.post self.now.expression)
             (S.pre self.now.specifiers) (S.post self.now.specifiers) (D.pre self.now.declarator)
             (D.post self.now.declarator) }
@@ -95,7 +95,7 @@ impl<
         &self,
         tokens: &mut Cursor<'_, 'a>,
         kind: DeclaratorKind,
-    ) -> Result<Leveled<Declarator<'a>>, Fault>
+    ) -> Result<Leveled<Boxed<Declarator<'a>>>, Fault>
         requires { Deeper self.now.levels (E.pre self.now.expression) (E.post self.now.expression)
             (S.pre self.now.specifiers) (S.post self.now.specifiers) (D.pre self.now.declarator)
             (D.post self.now.declarator) }

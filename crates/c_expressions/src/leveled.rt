@@ -62,69 +62,6 @@ impl<T: Drop> Leveled<T> {
     }
 }
 
-/// A value, and a tree in a block of its own, or the answer that there is no memory for it.
-pub fn beside_boxed<T: Drop, U: Drop>(
-    alloc: Global,
-    first: T,
-    second: Leveled<U>,
-) -> Result<(T, Leveled<Boxed<U>>), AllocError>
-    ensures { IfOk result (λ both. (both.0 ≡ first) × (both.1 ≡ second)) }
-{
-    let second = second.boxed(alloc)?;
-    Ok((first, second))
-}
-
-/// Two trees, each in a block of its own, or the answer that there is no memory for them.
-pub fn boxed_pair<T: Drop, U: Drop>(
-    alloc: Global,
-    pair: (Leveled<T>, Leveled<U>),
-) -> Result<(Leveled<Boxed<T>>, Leveled<Boxed<U>>), AllocError>
-    ensures { IfOk result (λ boxed. (boxed.0 ≡ pair.0) × (boxed.1 ≡ pair.1)) }
-{
-    let (first, second) = pair;
-    let (second, first) = beside_boxed(alloc, second, first)?;
-    beside_boxed(alloc, first, second)
-}
-
-/// Two trees as one, the second in a block of its own, with the levels of the deeper, or the answer that there is no
-/// memory for it.
-pub fn joined<T: Drop, U: Drop>(
-    alloc: Global,
-    pair: (Leveled<T>, Leveled<U>),
-) -> Result<Leveled<(T, Boxed<U>)>, AllocError>
-    ensures { IfOk result (λ both. (both.tree.0 ≡ pair.0.tree)
-        × ((both.tree.1 ≡ pair.1.tree) × (both.levels ≡ max pair.0.levels pair.1.levels))) }
-{
-    let (first, second) = pair;
-    let (first, second) = beside_boxed(alloc, first, second)?;
-    Ok(Leveled {
-        levels: first.levels.max(second.levels),
-        tree: (first.tree, second.tree),
-    })
-}
-
-/// Three trees as one, each in a block of its own, with the levels of the deepest, or the answer that there is no
-/// memory for them.
-pub fn boxed_three<T: Drop>(
-    alloc: Global,
-    pair: (Leveled<T>, Leveled<T>),
-    third: Leveled<T>,
-) -> Result<Leveled<(Boxed<T>, Boxed<T>, Boxed<T>)>, AllocError>
-    ensures trees { IfOk result (λ all. (all.tree.0 ≡ pair.0.tree)
-        × ((all.tree.1 ≡ pair.1.tree) × (all.tree.2 ≡ third.tree))) }
-    ensures levels { IfOk result (λ all. all.levels ≡ max pair.0.levels (max pair.1.levels third.levels)) }
-{
-    let (first, second) = pair;
-    let levels = first.levels.max(second.levels.max(third.levels));
-    let first = Boxed::new(alloc, first.tree)?;
-    let second = Boxed::new(alloc, second.tree)?;
-    let third = Boxed::new(alloc, third.tree)?;
-    Ok(Leveled {
-        tree: (first, second, third),
-        levels,
-    })
-}
-
 /// No trees.
 pub fn no_trees<T>(alloc: Global) -> Leveled<Vec<T>>
     ensures trees { result.tree.items ≡ [] }

@@ -11,7 +11,7 @@ use crate::leveled::Leveled;
 use c_grammar::cursor::{Cursor, Fault};
 use c_grammar::declarator_kind::DeclaratorKind;
 use c_lexer::Spelling;
-use c_syntax::{Declarator, Expression, Items, Position, Specifier};
+use c_syntax::{Boxed, Declarator, Expression, Items, Position, Specifier};
 use std::alloc::Global;
 
 /// Reads an expression of at least this precedence with fewer than this number of levels; a position is that of the `(`
@@ -24,7 +24,7 @@ pub fn expression<'a>(
     levels: usize,
     opened: Option<Position>,
     least: u8,
-) -> Result<Leveled<Expression<'a>>, Fault>
+) -> Result<Leveled<Boxed<Expression<'a>>>, Fault>
     ensures { ReadsLeveled expression_of expression_levels levels
         ((readers names.now levels).expression opened least tokens.old.rest.now) result tokens.new.rest.now }
 {
@@ -77,7 +77,7 @@ pub fn declarator<'a>(
     tokens: &mut Cursor<'_, 'a>,
     levels: usize,
     kind: DeclaratorKind,
-) -> Result<Leveled<Declarator<'a>>, Fault>
+) -> Result<Leveled<Boxed<Declarator<'a>>>, Fault>
     ensures { ReadsLeveled declarator_of declarator_levels levels
         ((readers names.now levels).declarator kind tokens.old.rest.now) result tokens.new.rest.now }
 {

@@ -12,14 +12,14 @@ ghost use Rattle.c_syntax.specs.View.{expression_of};
 ghost use Rattle.c_syntax.specs.Levels.{expression_levels};
 
 use crate::grammar::Grammar;
-use crate::leveled::{Leveled, beside, beside_boxed, leaf};
+use crate::leveled::{Leveled, beside, leaf};
 use crate::specifier::begins_specifiers;
 use c_grammar::cursor::{Cursor, Fault, is_punctuator, is_same, spelled};
 use c_grammar::declarator_kind::DeclaratorKind;
 use c_lexer::{Keyword, Punctuator, Spelling, TokenKind};
 use c_syntax::names::is_among;
 use c_syntax::operators::operand_precedence;
-use c_syntax::{Declarator, Expression, Items, Position, Positioned, Specifier, Spelled};
+use c_syntax::{Boxed, Declarator, Expression, Items, Position, Positioned, Specifier, Spelled};
 use std::alloc::Global;
 
 /// An identifier as an expression.
@@ -69,7 +69,7 @@ impl<
         usize,
         Option<Position>,
         u8,
-    ) -> Result<Leveled<Expression<'a>>, Fault>,
+    ) -> Result<Leveled<Boxed<Expression<'a>>>, Fault>,
     S: Fn(
         Global,
         &[Spelling<'a>],
@@ -83,7 +83,7 @@ impl<
         &mut Cursor<'_, 'a>,
         usize,
         DeclaratorKind,
-    ) -> Result<Leveled<Declarator<'a>>, Fault>,
+    ) -> Result<Leveled<Boxed<Declarator<'a>>>, Fault>,
 > Grammar<'t, 'a, E, S, D> {
     /// Reads what follows the `(` of an expression in parentheses (C99 6.5.1).
     #[tactic(auto, unfolding(c_grammar::specs::ExpressionReader::parenthesized_from))]
@@ -91,7 +91,7 @@ impl<
         &self,
         tokens: &mut Cursor<'_, 'a>,
         position: Position,
-    ) -> Result<Leveled<Expression<'a>>, Fault>
+    ) -> Result<Leveled<Boxed<Expression<'a>>>, Fault>
         requires deeper { Deeper self.now.levels (E.pre self.now.expression) (E.post self.now.expression)
             (S.pre self.now.specifiers) (S.post self.now.specifiers) (D.pre self.now.declarator)
             (D.post self.now.declarator) }
@@ -99,12 +99,13 @@ impl<
             (spec.parenthesized_from self.now.names.now (readers self.now.names.now self.now.levels) self.now.levels
             position tokens.old.rest.now) result tokens.new.rest.now }
     {
-        let inner = self.expression(tokens, None, 1)?.boxed(self.alloc)?;
+        let inner = self.expression(tokens, None, 1)?;
         let (inner, right) = beside(inner, tokens.expect(Punctuator::RightParenthesis))?;
-        Ok(Leveled {
+        let tree = Leveled {
             tree: Expression::Parenthesized(position, inner.tree, right),
             levels: inner.levels + 1,
-        })
+        };
+        Ok(tree.boxed(self.alloc)?)
     }
 
     /// Reads what follows the `(` of a cast (C99 6.5.4).
@@ -113,7 +114,7 @@ impl<
         &self,
         tokens: &mut Cursor<'_, 'a>,
         position: Position,
-    ) -> Result<Leveled<Expression<'a>>, Fault>
+    ) -> Result<Leveled<Boxed<Expression<'a>>>, Fault>
         requires deeper { Deeper self.now.levels (E.pre self.now.expression) (E.post self.now.expression)
             (S.pre self.now.specifiers) (S.post self.now.specifiers) (D.pre self.now.declarator)
             (D.post self.now.declarator) }
@@ -126,11 +127,11 @@ impl<
             .boxed(self.alloc)?;
         let (name, right) = beside(name, tokens.expect(Punctuator::RightParenthesis))?;
         let (name, operand) = beside(name, self.expression(tokens, None, 14))?;
-        let (name, operand) = beside_boxed(self.alloc, name, operand)?;
-        Ok(Leveled {
+        let tree = Leveled {
             tree: Expression::Cast(position, name.tree, right, operand.tree),
             levels: name.levels.max(operand.levels) + 1,
-        })
+        };
+        Ok(tree.boxed(self.alloc)?)
     }
 
     /// Reads what follows a `(` that begins a cast or an expression in parentheses.
@@ -140,7 +141,7 @@ impl<
         tokens: &mut Cursor<'_, 'a>,
         least: u8,
         position: Position,
-    ) -> Result<Leveled<Expression<'a>>, Fault>
+    ) -> Result<Leveled<Boxed<Expression<'a>>>, Fault>
         requires deeper { Deeper self.now.levels (E.pre self.now.expression) (E.post self.now.expression)
             (S.pre self.now.specifiers) (S.post self.now.specifiers) (D.pre self.now.declarator)
             (D.post self.now.declarator) }
@@ -165,7 +166,7 @@ impl<
         tokens: &mut Cursor<'_, 'a>,
         position: Position,
         left: Position,
-    ) -> Result<Leveled<Expression<'a>>, Fault>
+    ) -> Result<Leveled<Boxed<Expression<'a>>>, Fault>
         requires deeper { Deeper self.now.levels (E.pre self.now.expression) (E.post self.now.expression)
             (S.pre self.now.specifiers) (S.post self.now.specifiers) (D.pre self.now.declarator)
             (D.post self.now.declarator) }
@@ -178,16 +179,18 @@ impl<
                 .typed(tokens, DeclaratorKind::Abstract)?
                 .boxed(self.alloc)?;
             let (name, right) = beside(name, tokens.expect(Punctuator::RightParenthesis))?;
-            return Ok(Leveled {
+            let tree = Leveled {
                 tree: Expression::SizeofType(position, left, name.tree, right),
                 levels: name.levels + 1,
-            });
+            };
+            return Ok(tree.boxed(self.alloc)?);
         }
-        let operand = self.expression(tokens, Some(left), 15)?.boxed(self.alloc)?;
-        Ok(Leveled {
+        let operand = self.expression(tokens, Some(left), 15)?;
+        let tree = Leveled {
             tree: Expression::SizeofExpression(position, operand.tree),
             levels: operand.levels + 1,
-        })
+        };
+        Ok(tree.boxed(self.alloc)?)
     }
 
     /// Reads what follows `sizeof` (C99 6.5.3.4).
@@ -196,7 +199,7 @@ impl<
         &self,
         tokens: &mut Cursor<'_, 'a>,
         position: Position,
-    ) -> Result<Leveled<Expression<'a>>, Fault>
+    ) -> Result<Leveled<Boxed<Expression<'a>>>, Fault>
         requires deeper { Deeper self.now.levels (E.pre self.now.expression) (E.post self.now.expression)
             (S.pre self.now.specifiers) (S.post self.now.specifiers) (D.pre self.now.declarator)
             (D.post self.now.declarator) }
@@ -211,11 +214,12 @@ impl<
             tokens.rest = rest;
             return self.sizeof_parenthesis(tokens, position, first.position);
         }
-        let operand = self.expression(tokens, None, 15)?.boxed(self.alloc)?;
-        Ok(Leveled {
+        let operand = self.expression(tokens, None, 15)?;
+        let tree = Leveled {
             tree: Expression::SizeofExpression(position, operand.tree),
             levels: operand.levels + 1,
-        })
+        };
+        Ok(tree.boxed(self.alloc)?)
     }
 
     /// Reads what follows a unary operator (C99 6.5.3).
@@ -224,7 +228,7 @@ impl<
         tokens: &mut Cursor<'_, 'a>,
         operator: Punctuator,
         position: Position,
-    ) -> Result<Leveled<Expression<'a>>, Fault>
+    ) -> Result<Leveled<Boxed<Expression<'a>>>, Fault>
         requires deeper { Deeper self.now.levels (E.pre self.now.expression) (E.post self.now.expression)
             (S.pre self.now.specifiers) (S.post self.now.specifiers) (D.pre self.now.declarator)
             (D.post self.now.declarator) }
@@ -233,11 +237,11 @@ impl<
             tokens.new.rest.now }
     {
         let operand = self.expression(tokens, None, operand_precedence(operator))?;
-        let operand = operand.boxed(self.alloc)?;
-        Ok(Leveled {
+        let tree = Leveled {
             tree: Expression::Unary(operator, position, operand.tree),
             levels: operand.levels + 1,
-        })
+        };
+        Ok(tree.boxed(self.alloc)?)
     }
 
     /// Reads an operand that begins with a punctuator, which is next, before the rest.
@@ -249,7 +253,7 @@ impl<
         punctuator: Punctuator,
         position: Position,
         rest: &'r [Positioned<'a>],
-    ) -> Result<Leveled<Expression<'a>>, Fault>
+    ) -> Result<Leveled<Boxed<Expression<'a>>>, Fault>
         requires deeper { Deeper self.now.levels (E.pre self.now.expression) (E.post self.now.expression)
             (S.pre self.now.specifiers) (S.post self.now.specifiers) (D.pre self.now.declarator)
             (D.post self.now.declarator) }
@@ -275,7 +279,7 @@ impl<
         &self,
         tokens: &mut Cursor<'_, 'a>,
         least: u8,
-    ) -> Result<Leveled<Expression<'a>>, Fault>
+    ) -> Result<Leveled<Boxed<Expression<'a>>>, Fault>
         requires deeper { Deeper self.now.levels (E.pre self.now.expression) (E.post self.now.expression)
             (S.pre self.now.specifiers) (S.post self.now.specifiers) (D.pre self.now.declarator)
             (D.post self.now.declarator) }
@@ -293,20 +297,20 @@ impl<
                     return Err(Fault::Refused);
                 }
                 tokens.rest = rest;
-                Ok(identifier(spelling, position))
+                Ok(identifier(spelling, position).boxed(self.alloc)?)
             }
             TokenKind::Integer(spelling) => {
                 tokens.rest = rest;
-                Ok(integer(spelling, position))
+                Ok(integer(spelling, position).boxed(self.alloc)?)
             }
             TokenKind::Character(spelling) => {
                 tokens.rest = rest;
-                Ok(character(spelling, position))
+                Ok(character(spelling, position).boxed(self.alloc)?)
             }
             TokenKind::StringLiteral(spelling) => {
                 tokens.rest = rest;
                 let others = tokens.strings(self.alloc)?;
-                Ok(strings(spelling, position, others))
+                Ok(strings(spelling, position, others).boxed(self.alloc)?)
             }
             TokenKind::Punctuator(punctuator) => {
                 self.operand_by_punctuator(tokens, least, *punctuator, position, rest)

@@ -18,7 +18,7 @@ use c_grammar::declarator_kind::DeclaratorKind;
 use c_lexer::{Keyword, Spelling, TokenKind};
 use c_syntax::names::is_among;
 use c_syntax::{
-    Declarator, Expression, Items, Position, Positioned, Specifier, Spelled, TypeWords,
+    Boxed, Declarator, Expression, Items, Position, Positioned, Specifier, Spelled, TypeWords,
 };
 use std::alloc::Global;
 
@@ -82,7 +82,7 @@ impl<
         usize,
         Option<Position>,
         u8,
-    ) -> Result<Leveled<Expression<'a>>, Fault>,
+    ) -> Result<Leveled<Boxed<Expression<'a>>>, Fault>,
     S: Fn(
         Global,
         &[Spelling<'a>],
@@ -96,7 +96,7 @@ impl<
         &mut Cursor<'_, 'a>,
         usize,
         DeclaratorKind,
-    ) -> Result<Leveled<Declarator<'a>>, Fault>,
+    ) -> Result<Leveled<Boxed<Declarator<'a>>>, Fault>,
 > Grammar<'t, 'a, E, S, D> {
     /// Reads what follows a keyword that goes on with specifiers.
     fn specifier_by_keyword(

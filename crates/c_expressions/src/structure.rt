@@ -18,7 +18,9 @@ use crate::leveled::{Leveled, as_items, beside, leaf, no_trees, with_next, with_
 use c_grammar::cursor::{Cursor, Fault, next_is};
 use c_grammar::declarator_kind::DeclaratorKind;
 use c_lexer::{Keyword, Punctuator, Spelling};
-use c_syntax::{Declarator, Expression, Items, Member, Position, Positioned, Specifier, Spelled};
+use c_syntax::{
+    Boxed, Declarator, Expression, Items, Member, Position, Positioned, Specifier, Spelled,
+};
 use std::alloc::Global;
 
 /// Whether `{` is next, and there is a level for what it begins.
@@ -31,8 +33,8 @@ pub(crate) fn begins_body(levels: usize, rest: &[Positioned]) -> bool
 /// A declaration of members with its levels.
 fn member_with<'a>(
     specifiers: Leveled<Items<Specifier<'a>>>,
-    first: Leveled<Declarator<'a>>,
-    others: Leveled<Items<(Position, Declarator<'a>)>>,
+    first: Leveled<Boxed<Declarator<'a>>>,
+    others: Leveled<Items<(Position, Boxed<Declarator<'a>>)>>,
     semicolon: Position,
 ) -> Leveled<Member<'a>>
     ensures tree { member_of result.tree ≡ t.member_declaration (specifiers_in specifiers.entry.tree)
@@ -72,7 +74,7 @@ impl<
         usize,
         Option<Position>,
         u8,
-    ) -> Result<Leveled<Expression<'a>>, Fault>,
+    ) -> Result<Leveled<Boxed<Expression<'a>>>, Fault>,
     S: Fn(
         Global,
         &[Spelling<'a>],
@@ -86,13 +88,13 @@ impl<
         &mut Cursor<'_, 'a>,
         usize,
         DeclaratorKind,
-    ) -> Result<Leveled<Declarator<'a>>, Fault>,
+    ) -> Result<Leveled<Boxed<Declarator<'a>>>, Fault>,
 > Grammar<'t, 'a, E, S, D> {
     /// Reads declarators behind the first, each behind its comma.
     fn more_declarators(
         &self,
         tokens: &mut Cursor<'_, 'a>,
-    ) -> Result<Leveled<Items<(Position, Declarator<'a>)>>, Fault>
+    ) -> Result<Leveled<Items<(Position, Boxed<Declarator<'a>>)>>, Fault>
         requires deeper { Deeper self.now.levels (E.pre self.now.expression) (E.post self.now.expression)
             (S.pre self.now.specifiers) (S.post self.now.specifiers) (D.pre self.now.declarator)
             (D.post self.now.declarator) }

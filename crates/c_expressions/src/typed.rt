@@ -51,7 +51,7 @@ fn void_alone(specifiers: &[Specifier]) -> Option<Position>
 fn void_parameter(parameter: &TypedDeclarator) -> Option<Position>
     ensures { result ≡ void_parameter (typed_of parameter.now) }
 {
-    match &parameter.declarator {
+    match parameter.declarator.get() {
         Declarator::Unnamed => void_alone(parameter.specifiers.as_slice()),
         _ => None,
     }
@@ -86,7 +86,7 @@ fn parameters_of<'a>(
 /// Specifiers and a declarator with their levels.
 fn typed_with<'a>(
     specifiers: Leveled<Items<Specifier<'a>>>,
-    declarator: Leveled<Declarator<'a>>,
+    declarator: Leveled<Boxed<Declarator<'a>>>,
 ) -> Leveled<TypedDeclarator<'a>>
     ensures tree { typed_of result.tree ≡ t.typed (specifiers_in specifiers.entry.tree)
         (declarator_of declarator.entry.tree) }
@@ -119,7 +119,7 @@ impl<
         usize,
         Option<Position>,
         u8,
-    ) -> Result<Leveled<Expression<'a>>, Fault>,
+    ) -> Result<Leveled<Boxed<Expression<'a>>>, Fault>,
     S: Fn(
         Global,
         &[Spelling<'a>],
@@ -133,7 +133,7 @@ impl<
         &mut Cursor<'_, 'a>,
         usize,
         DeclaratorKind,
-    ) -> Result<Leveled<Declarator<'a>>, Fault>,
+    ) -> Result<Leveled<Boxed<Declarator<'a>>>, Fault>,
 > Grammar<'t, 'a, E, S, D> {
     /// Reads specifiers and a declarator: a type name (C99 6.7.6) or a parameter (6.7.5).
     #[tactic(auto, unfolding(c_grammar::specs::Readers::typed_from))]

@@ -106,7 +106,6 @@ fn whole<'a>(
     ensures { Reads expression_of (spec.whole_from levels names.now tokens.old.rest.now) result tokens.new.rest.now }
 {
     let whole = expression(alloc, names, tokens, levels as usize + 1, None, 1)?;
-    let whole = whole.boxed(alloc)?;
     Ok(whole.tree)
 }
 
@@ -251,7 +250,6 @@ fn case_label<'a>(
         result tokens.new.rest.now }
 {
     let value = expression(alloc, names, tokens, levels as usize + 1, None, 3)?;
-    let value = value.boxed(alloc)?;
     let colon = tokens.expect(Punctuator::Colon)?;
     Ok(CaseLabel {
         position,

@@ -37,7 +37,7 @@ more_items_of [] = t.end_of_items
 more_items_of (x ∷ z) = t.more_items x.0 x.1 (more_items_of z)
 
 abbrev pub initializer_step : Initializer-F t.Initializer t.InitializerItem → t.Initializer
-initializer_step (Initializer-F.Value e) = t.value (expression_of e)
+initializer_step (Initializer-F.Value v) = t.value (expression_of v.expression)
 initializer_step (Initializer-F.Braced l x z c r) = t.braced l x (more_items_of z) c r
 
 abbrev pub item_step : InitializerItem-F t.Initializer t.InitializerItem → t.InitializerItem

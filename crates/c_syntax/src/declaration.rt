@@ -22,12 +22,19 @@ pub struct Designation<'a> {
     pub equals: Position,
 }
 
+/// An expression as an initializer (C99 6.7.8).
+#[derive(Drop)]
+pub struct InitialValue<'a> {
+    /// The expression.
+    pub expression: Boxed<Expression<'a>>,
+}
+
 /// An initializer (C99 6.7.8).
 #[cycle(initializers)]
 #[derive(Drop)]
 pub enum Initializer<'a> {
     /// An expression.
-    Value(Expression<'a>),
+    Value(InitialValue<'a>),
     /// `{`, the first item, the others, each behind its comma, a last comma or none, and `}`.
     Braced(
         Position,

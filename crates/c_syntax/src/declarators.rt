@@ -77,7 +77,7 @@ fn are_void(specifiers: &[Specifier]) -> bool
 fn is_void(parameter: &TypedDeclarator) -> bool
     ensures { result ≡ formed.is_void (view.typed_of parameter.now) }
 {
-    are_void(parameter.specifiers.as_slice()) && is_unnamed(&parameter.declarator)
+    are_void(parameter.specifiers.as_slice()) && is_unnamed(parameter.declarator.get())
 }
 
 /// Whether a first parameter is the word `void` and no others follow: this is the empty list, and no parameter (C99
@@ -97,7 +97,7 @@ pub fn is_lone_void(first: &TypedDeclarator, others: &[(Position, TypedDeclarato
 fn is_named_parameter(parameter: &TypedDeclarator) -> bool
     ensures { result ≡ formed.is_named_parameter (view.typed_of parameter.now) }
 {
-    has_name(&parameter.declarator)
+    has_name(parameter.declarator.get())
 }
 
 /// Whether the parameters behind the first have names.

@@ -12,8 +12,8 @@ pub mod statement;
 pub mod tree;
 
 pub use crate::declaration::{
-    Declaration, Designation, Designator, InitDeclarator, InitDeclarators, Initializer,
-    InitializerItem,
+    Declaration, Designation, Designator, InitDeclarator, InitDeclarators, InitialValue,
+    Initializer, InitializerItem,
 };
 pub use crate::position::{Position, Positioned, Spelled, with_positions};
 pub use crate::specifiers::{TypeSize, TypeWords};

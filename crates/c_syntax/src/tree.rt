@@ -56,7 +56,7 @@ pub enum Arguments<'a> {
     /// None.
     Empty,
     /// The first, and the others, each behind its comma.
-    Given(Boxed<Expression<'a>>, Items<(Position, Expression<'a>)>),
+    Given(Boxed<Expression<'a>>, Items<(Position, Boxed<Expression<'a>>)>),
 }
 
 /// Specifiers and one declarator: a type name (C99 6.7.6), whose declarator has no name, or a parameter (6.7.5).
@@ -66,7 +66,7 @@ pub struct TypedDeclarator<'a> {
     /// The specifiers.
     pub specifiers: Items<Specifier<'a>>,
     /// The declarator.
-    pub declarator: Declarator<'a>,
+    pub declarator: Boxed<Declarator<'a>>,
 }
 
 /// A declarator (C99 6.7.5), or an abstract one (6.7.6), which has no name.
@@ -135,9 +135,9 @@ pub struct Member<'a> {
     /// The specifiers.
     pub specifiers: Items<Specifier<'a>>,
     /// The first declarator.
-    pub first: Declarator<'a>,
+    pub first: Boxed<Declarator<'a>>,
     /// The others, each behind its comma.
-    pub others: Items<(Position, Declarator<'a>)>,
+    pub others: Items<(Position, Boxed<Declarator<'a>>)>,
     /// The semicolon.
     pub semicolon: Position,
 }

@@ -9,6 +9,7 @@ use c_syntax::position::Position;
 use c_syntax::tree::{
     Arguments, Declarator, Enumerator, Expression, Member, Parameters, Specifier, TypedDeclarator,
 };
+use tree_containers::Boxed;
 
 /// Whether an expression has no more levels (C99 6.5).
 #[cycle(levels)]
@@ -70,11 +71,11 @@ fn arguments_fit(arguments: &Arguments, levels: usize) -> bool
 
 /// Whether the arguments behind the first have no more levels.
 #[cycle(levels)]
-fn more_arguments_fit(others: &[(Position, Expression)], levels: usize) -> bool
+fn more_arguments_fit(others: &[(Position, Boxed<Expression>)], levels: usize) -> bool
     ensures { IsTrue result ↔ (spec.more_arguments_levels (view.more_arguments_in others.now) ≤ levels) }
 {
     for (_, argument) in others {
-        if !expression_fits(argument, levels) {
+        if !expression_fits(argument.get(), levels) {
             return false;
         }
     }
@@ -88,7 +89,7 @@ fn typed_fits(typed: &TypedDeclarator, levels: usize) -> bool
     ensures { IsTrue result ↔ (spec.typed_levels (view.typed_of typed.now) ≤ levels) }
 {
     specifiers_fit(typed.specifiers.as_slice(), levels)
-        && declarator_fits(&typed.declarator, levels)
+        && declarator_fits(typed.declarator.get(), levels)
 }
 
 /// Whether a declarator has no more levels (C99 6.7.5).
@@ -198,17 +199,17 @@ fn member_fits(member: &Member, levels: usize) -> bool
     ensures { IsTrue result ↔ (spec.member_levels (view.member_of member.now) ≤ levels) }
 {
     specifiers_fit(member.specifiers.as_slice(), levels)
-        && declarator_fits(&member.first, levels)
+        && declarator_fits(member.first.get(), levels)
         && more_declarators_fit(member.others.as_slice(), levels)
 }
 
 /// Whether declarators behind commas have no more levels.
 #[cycle(levels)]
-fn more_declarators_fit(others: &[(Position, Declarator)], levels: usize) -> bool
+fn more_declarators_fit(others: &[(Position, Boxed<Declarator>)], levels: usize) -> bool
     ensures { IsTrue result ↔ (spec.more_declarators_levels (view.more_declarators_in others.now) ≤ levels) }
 {
     for (_, declarator) in others {
-        if !declarator_fits(declarator, levels) {
+        if !declarator_fits(declarator.get(), levels) {
             return false;
         }
     }

@@ -87,7 +87,7 @@ fn is_initializer<'r, 'a>(names: &'r [Spelling<'a>], initializer: &'r Initialize
     ensures { IsTrue result ↔ formed.IsInitializer names.now (views.initializer_of initializer.now) }
 {
     match initializer {
-        Initializer::Value(expression) => is_argument(names, expression),
+        Initializer::Value(value) => is_argument(names, value.expression.get()),
         Initializer::Braced(_, first, others, _, _) => {
             is_item(names, first.get()) && are_more_items(names, others.as_slice())
         }

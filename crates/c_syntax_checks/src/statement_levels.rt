@@ -48,7 +48,7 @@ pub(crate) fn initializer_fits(initializer: &Initializer, levels: usize) -> bool
     ensures { IsTrue result ↔ (spec.initializer_levels (views.initializer_of initializer.now) ≤ levels) }
 {
     match initializer {
-        Initializer::Value(expression) => expression_fits(expression, levels),
+        Initializer::Value(value) => expression_fits(value.expression.get(), levels),
         Initializer::Braced(_, first, others, _, _) => {
             levels > 0
                 && item_fits(first.get(), levels - 1)

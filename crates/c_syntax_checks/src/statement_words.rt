@@ -83,7 +83,7 @@ fn put_initializer<'a>(
         ++ spec.initializer_words (views.initializer_of initializer.now) i) }
 {
     match initializer {
-        Initializer::Value(expression) => put_expression(out, expression),
+        Initializer::Value(value) => put_expression(out, value.expression.get()),
         Initializer::Braced(left, first, others, comma, right) => {
             put_punctuator(out, Punctuator::LeftBrace, *left)?;
             put_item(out, first.get())?;

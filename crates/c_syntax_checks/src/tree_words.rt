@@ -12,6 +12,7 @@ use c_syntax::tree::{
     Arguments, Declarator, Enumerator, Expression, Member, Parameters, Specifier, TypedDeclarator,
 };
 use std::alloc::AllocError;
+use tree_containers::Boxed;
 
 /// Puts a word behind the others.
 fn put<'a>(
@@ -245,7 +246,7 @@ fn put_arguments<'a>(
             put_expression(out, first.get())?;
             for (comma, argument) in others.as_slice() {
                 put_punctuator(out, Punctuator::Comma, *comma)?;
-                put_expression(out, argument)?;
+                put_expression(out, argument.get())?;
             }
             Ok(())
         }
@@ -262,7 +263,7 @@ fn put_typed<'a>(
         ++ spec.typed_words (view.typed_of typed.now) i) }
 {
     put_specifiers(out, typed.specifiers.as_slice())?;
-    put_declarator(out, &typed.declarator)
+    put_declarator(out, typed.declarator.get())
 }
 
 /// Puts the words of a declarator (C99 6.7.5).
@@ -399,7 +400,7 @@ fn put_member<'a>(out: &mut Vec<Positioned<'a>>, member: &Member<'a>) -> Result<
         ++ spec.member_words (view.member_of member.now) i) }
 {
     put_specifiers(out, member.specifiers.as_slice())?;
-    put_declarator(out, &member.first)?;
+    put_declarator(out, member.first.get())?;
     put_more_declarators(out, member.others.as_slice())?;
     put_punctuator(out, Punctuator::Semicolon, member.semicolon)?;
     Ok(())
@@ -409,14 +410,14 @@ fn put_member<'a>(out: &mut Vec<Positioned<'a>>, member: &Member<'a>) -> Result<
 #[cycle(words)]
 fn put_more_declarators<'a>(
     out: &mut Vec<Positioned<'a>>,
-    others: &[(Position, Declarator<'a>)],
+    others: &[(Position, Boxed<Declarator<'a>>)],
 ) -> Result<(), AllocError>
     ensures { OnOk result ((i : spec.Words) → out.new.items ++ i ≡ out.old.items
         ++ spec.more_declarators_words (view.more_declarators_in others.now) i) }
 {
     for (comma, declarator) in others {
         put_punctuator(out, Punctuator::Comma, *comma)?;
-        put_declarator(out, declarator)?;
+        put_declarator(out, declarator.get())?;
     }
     Ok(())
 }

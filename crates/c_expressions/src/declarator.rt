@@ -65,13 +65,13 @@ fn begins_parameters(names: &[Spelling], rest: &[Positioned]) -> bool
     next_is(rest, Punctuator::RightParenthesis) || begins_specifiers(names, rest)
 }
 
-/// Whether the next word is `(` or `[`, and a declarator with these levels has fewer than a number.
-fn begins_suffix(rest: &[Positioned], levels: usize, limit: usize) -> bool
-    ensures { result ≡ next_is spec.begins_suffix rest.now && nat_lt levels limit }
+/// Whether the next word is `(` or `[`, and the declarator before it has fewer levels than a number.
+fn begins_suffix(rest: &[Positioned], left: &Leveled<Boxed<Declarator>>, limit: usize) -> bool
+    ensures { result ≡ next_is spec.begins_suffix rest.now && nat_lt left.now.levels limit }
 {
     let begins = next_is(rest, Punctuator::LeftParenthesis)
         || next_is(rest, Punctuator::LeftBracket);
-    begins && levels < limit
+    begins && left.levels < limit
 }
 
 impl<
@@ -266,7 +266,7 @@ impl<
     {
         let mut left = first;
         for _ in 0..self.levels {
-            if !begins_suffix(tokens.rest, left.levels, self.levels) {
+            if !begins_suffix(tokens.rest, &left, self.levels) {
                 return Ok(left);
             }
             left = self.suffix(tokens, left)?;

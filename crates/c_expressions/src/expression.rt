@@ -90,9 +90,17 @@ impl<
         }
         let first = self.expression(tokens, None, 2)?;
         let (first, others) = beside(first, self.more_arguments(tokens))?;
+        let Leveled {
+            tree: first,
+            levels,
+        } = first;
+        let Leveled {
+            tree: others,
+            levels: of_others,
+        } = others;
         Ok(Leveled {
-            tree: Arguments::Given(first.tree, others.tree),
-            levels: first.levels.max(others.levels),
+            levels: levels.max(of_others),
+            tree: Arguments::Given(first, others),
         })
     }
 

@@ -7,7 +7,7 @@ ghost use Rattle.sbcets_core.specs.Refused.{refused_bytes};
 use crate::part::{PartError, program_of};
 use crate::program::Program;
 use crate::refusal::{RefusedWord, SourceRefusal};
-use c_lexer::{Tokens, TokenKind};
+use c_lexer::{TokenKind, Tokens};
 use std::alloc::Global;
 
 /// The program of the expanded tokens, where they are a text of the part. Unsupported is the first token with which the

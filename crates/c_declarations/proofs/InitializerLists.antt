@@ -1,6 +1,6 @@
 -- Lists of designators and items that grow at their end, and the two forms of an initializer.
-use Rattle.std.proofs.Common.{◌≡◌, ℕ, zero, suc, ◌<◌, ◌-◌, nat_le, Bool, true, false, ◌&&◌, if◌then◌else◌, List, []}
-use Rattle.std.proofs.Common.{◌∷◌, ◌++◌, map, length, Ok, Err, refl, sym, ap, ◌∙◌, Option, Some, None, arith}
+use Rattle.std.proofs.Common.{◌≡◌, ℕ, zero, suc, nat_le, true, false, ◌&&◌, if◌then◌else◌, List, []}
+use Rattle.std.proofs.Common.{◌∷◌, ◌++◌, map, length, Ok, Err, refl, sym, ap, ◌∙◌, Option, Some, None}
 use Rattle.c_lexer.specs.declared.punctuator.Punctuator.TheVariants as p
 use Rattle.c_syntax.specs.declared.position.Position.{Position}
 use Rattle.c_syntax.specs.declared.declaration.Designator as rg
@@ -9,8 +9,8 @@ use Rattle.c_syntax.specs.Tree as t
 use Rattle.c_syntax.specs.View.{behind_comma}
 use Rattle.c_syntax.specs.Words.{Words, punctuator}
 use Rattle.c_syntax.specs.StatementsView.{designator_of, designators_in, more_items_of}
-use Rattle.c_grammar.specs.Reader.{Outcome, Reader, expect, ◌>>=◌, is_punctuator, next_is, next_is_punctuator}
-use Rattle.c_grammar.specs.Reader.{behind_commas_to_brace, up_to_brace}
+use Rattle.c_grammar.specs.Reader.{Outcome, Reader, expect, ◌>>=◌, next_is, next_is_punctuator}
+use Rattle.c_grammar.specs.Reader.{behind_commas_to_brace}
 use Rattle.c_grammar.specs.Readers.{Readers}
 use Rattle.c_grammar.specs.Nested.{readers}
 use Rattle.c_grammar.specs.InitializerReader.{begins_designator, designator_from, designators_from, item_from}

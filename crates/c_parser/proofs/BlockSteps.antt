@@ -1,6 +1,6 @@
 -- The view of a block by its parts, and a statement by its first word.
-use Rattle.std.proofs.Common.{rules, arith, ◌≡◌, ℕ, suc, ◌-◌, ◌≤◌, Bool, true, false, Ok, Err, refl, List, length}
-use Rattle.std.proofs.Common.{get_or, take, drop, sym, ap, ◌∙◌}
+use Rattle.std.proofs.Common.{rules, arith, ◌≡◌, ℕ, ◌-◌, ◌≤◌, List, length}
+use Rattle.std.proofs.Common.{get_or, take, drop, sym, ap}
 use Rattle.c_syntax.specs.declared.position.Positioned.{Positioned}
 use Rattle.c_syntax.specs.declared.statement.Block as rb
 use Rattle.c_syntax.specs.declared.statement.BlockItem as rk

@@ -6,5 +6,7 @@ use Rattle.c_syntax_checks.proofs.tree_words.+words.Goals as goal
 
 pub put_member-returns : goal.put_member-returns
 put_member-returns t c = λ i.
-    (c.in_ok-put_punctuator.ensures i ∙ (c.in_ok-put_more_declarators.ensures _ ∙ (c.in_ok-put_declarator.ensures _ ∙ c.in_ok-put_specifiers.ensures _)))
-    ∙ ap (λ m. c.args.out.now.items ++ member_words m i) (member_parts c.args.member.now _ _ c.as_slice.ensures c.as_slice-2.ensures)
+    (c.in_ok-put_punctuator.ensures i ∙ (c.in_ok-put_more_declarators.ensures _
+    ∙ (c.in_ok-put_declarator.ensures _ ∙ c.in_ok-put_specifiers.ensures _)))
+    ∙ ap (λ m. c.args.out.now.items ++ member_words m i) (member_parts c.args.member.now _ _ c.as_slice.ensures
+    c.as_slice-2.ensures)

@@ -379,11 +379,10 @@ fn is_init_declarator<'a>(
     ensures names { IfOk result (λ b. IsTrue b → names.new.items
         ≡ formed.names_after is_typedef (view.declarator_of declared.now.declarator) names.old.items) }
 {
-    let declarator = declared.declarator.get();
-    if !is_declared(names.as_slice(), declarator, levels) {
+    if !is_declared(names.as_slice(), declared.declarator.get(), levels) {
         return Ok(false);
     }
-    add_name(names, is_typedef, declarator)?;
+    add_name(names, is_typedef, declared.declarator.get())?;
     Ok(is_initialized(names.as_slice(), &declared.initializer, levels))
 }
 
@@ -424,11 +423,15 @@ fn are_init_declarators<'a>(
     match declarators {
         None => Ok(true),
         Some(declarators) => {
-            let declarators = declarators.get();
-            if !is_init_declarator(names, is_typedef, &declarators.first, levels)? {
+            if !is_init_declarator(names, is_typedef, &declarators.get().first, levels)? {
                 return Ok(false);
             }
-            are_more_init_declarators(names, is_typedef, declarators.others.as_slice(), levels)
+            are_more_init_declarators(
+                names,
+                is_typedef,
+                declarators.get().others.as_slice(),
+                levels,
+            )
         }
     }
 }
@@ -482,11 +485,15 @@ fn is_external<'a>(
 {
     match external {
         External::Function(specifiers, declarator, block) => {
-            let declarator = declarator.get();
-            if !begin_definition(names.as_slice(), specifiers.as_slice(), declarator, levels) {
+            if !begin_definition(
+                names.as_slice(),
+                specifiers.as_slice(),
+                declarator.get(),
+                levels,
+            ) {
                 return Ok(false);
             }
-            add_name(names, has_typedef(specifiers.as_slice()), declarator)?;
+            add_name(names, has_typedef(specifiers.as_slice()), declarator.get())?;
             Ok(block_fits(block, levels) && is_block(names.as_slice(), block, levels))
         }
         External::Declaration(declaration) => is_declaration(names, declaration, levels),

@@ -2,7 +2,7 @@
 use Rattle.std.specs.Prelude.{ℕ, List, map, Result, Option}
 use Rattle.std.specs.declared.alloc.Global.{Global}
 use denote.Ref.{MutBor, Bor}
-use Rattle.c_syntax.specs.declared.place.Place.{Place}
+use Rattle.c_syntax.specs.declared.position.Position.{Position}
 use Rattle.c_syntax.specs.declared.declaration.Initializer.{Initializer}
 use Rattle.c_syntax.specs.declared.declaration.InitializerItem as rj
 use Rattle.c_syntax.specs.Tree as t
@@ -16,11 +16,14 @@ use Rattle.c_grammar.specs.declared.cursor.Fault.{Fault}
 -- a function value that reads initializers with fewer levels than n
 pub record DeeperInitializers (n : ℕ)
     (pre : Global → Bor (List (List ℕ)) → MutBor Cursor → ℕ → Type 0)
-    (post : Global → Bor (List (List ℕ)) → MutBor Cursor → ℕ → Result Initializer Fault → MutBor Cursor → Type 0) : Type 0 where
+    (post : Global → Bor (List (List ℕ)) → MutBor Cursor → ℕ → Result Initializer Fault → MutBor Cursor → Type 0) : Type
+    0 where
   pub callable : (alloc : Global) (names : Bor (List (List ℕ))) (old : MutBor Cursor) → pre alloc names old n
-  pub reads : (alloc : Global) (names : Bor (List (List ℕ))) (old new : MutBor Cursor) (r : Result Initializer Fault) → post alloc names old n r new
+  pub reads : (alloc : Global) (names : Bor (List (List ℕ))) (old new : MutBor Cursor) (r : Result Initializer Fault)
+      → post alloc names old n r new
       → Reads initializer_of (initializers names.now n old.now.rest.now) r new.now.rest.now
 
 -- items behind commas, and the last comma (C99 6.7.8)
-abbrev pub items_to_brace : List (Place × rj.InitializerItem) × Option Place → List (Place × t.InitializerItem) × Option Place
+abbrev pub items_to_brace : List (Position × rj.InitializerItem) × Option Position
+    → List (Position × t.InitializerItem) × Option Position
 items_to_brace x = (map (behind_comma item_of) x.0, x.1)

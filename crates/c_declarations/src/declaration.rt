@@ -1,12 +1,16 @@
-//! Reading declarations (C99 6.7). Expressions, declarators, specifiers and initializers have at most some number of levels.
+//! Reading declarations (C99 6.7). Expressions, declarators, specifiers and initializers have at most some number of
+//! levels.
 
-ghost use Rattle.std.specs.Prelude.{◌≡◌, true, false, None, length, IfOk, IfErr};
+ghost use Rattle.std.specs.Prelude.{◌≡◌, true, false, None, length, suc, IfOk, IfErr};
 ghost use Rattle.c_grammar.specs.DeclarationReader as spec;
+ghost use Rattle.c_grammar.specs.Nested.{readers};
 ghost use Rattle.c_grammar.specs.Reads.{Reads};
+ghost use Rattle.c_grammar.specs.declared.declarator_kind.DeclaratorKind.TheVariants as declarator_kinds;
 ghost use Rattle.c_grammar.specs.declared.cursor.Fault.TheVariants.{Refused};
 ghost use Rattle.c_syntax.specs.Formed as formed;
 ghost use Rattle.c_syntax.specs.View.{declarator_of, specifiers_in};
-ghost use Rattle.c_syntax.specs.StatementsView.{initialized_of, init_declarator_of, more_init_declarators_in, declaration_of};
+ghost use Rattle.c_syntax.specs.StatementsView.{initialized_of, init_declarator_of, more_init_declarators_in};
+ghost use Rattle.c_syntax.specs.StatementsView.{declaration_of};
 
 use crate::initializer::initializer;
 use c_expressions::leveled::{beside, with_item};
@@ -17,16 +21,19 @@ use c_lexer::{Punctuator, Spelling};
 use c_syntax::names::declared_name;
 use c_syntax::specifiers::has_typedef;
 use c_syntax::{
-    Declaration, Declarator, InitDeclarator, InitDeclarators, Initializer, Items, Place, Specifier,
+    Boxed, Declaration, Declarator, InitDeclarator, InitDeclarators, Initializer, Items, Position,
+    Specifier,
 };
 use std::alloc::{AllocError, Global};
 
-/// Puts the name of a declarator, if it has one, behind the typedef names, or answers that there is no memory (C99 6.7.7).
+/// Puts the name of a declarator, if it has one, behind the typedef names, or answers that there is no memory (C99
+/// 6.7.7).
 fn add_typedef_name<'a>(
     names: &mut Vec<Spelling<'a>>,
     declarator: &Declarator<'a>,
 ) -> Result<(), AllocError>
-    ensures { IfOk result (λ _. names.new.items ≡ formed.names_after true (declarator_of declarator.now) names.old.items) }
+    ensures { IfOk result (λ _. names.new.items ≡ formed.names_after true (declarator_of declarator.now)
+        names.old.items) }
 {
     if let Some(name) = declared_name(declarator) {
         names.push(name)?;
@@ -41,12 +48,34 @@ pub fn add_defined_name<'a>(
     specifiers: &[Specifier<'a>],
     declarator: &Declarator<'a>,
 ) -> Result<(), AllocError>
-    ensures { IfOk result (λ _. names.new.items ≡ formed.names_after (formed.has_typedef (specifiers_in specifiers.now)) (declarator_of declarator.now) names.old.items) }
+    ensures { IfOk result (λ _. names.new.items ≡ formed.names_after (formed.has_typedef (specifiers_in specifiers.now))
+        (declarator_of declarator.now) names.old.items) }
 {
     if has_typedef(specifiers) {
         add_typedef_name(names, declarator)?;
     }
     Ok(())
+}
+
+/// Reads a declarator with a name (C99 6.7.5).
+pub fn named_declarator<'a>(
+    alloc: Global,
+    names: &[Spelling<'a>],
+    tokens: &mut Cursor<'_, 'a>,
+    levels: u8,
+) -> Result<Boxed<Declarator<'a>>, Fault>
+    ensures { Reads declarator_of ((readers names.now (suc levels)).declarator declarator_kinds.Named
+        tokens.old.rest.now)
+        result tokens.new.rest.now }
+{
+    let declarator = declarator(
+        alloc,
+        names,
+        tokens,
+        levels as usize + 1,
+        DeclaratorKind::Named,
+    )?;
+    Ok(declarator.tree)
 }
 
 /// Reads `=` and an initializer, or nothing where no `=` stands next (C99 6.7).
@@ -56,15 +85,17 @@ fn initialized<'a>(
     names: &[Spelling<'a>],
     tokens: &mut Cursor<'_, 'a>,
     levels: u8,
-) -> Result<Option<(Place, Initializer<'a>)>, Fault>
-    ensures { Reads initialized_of (spec.initialized_from levels names.now tokens.old.rest.now) result tokens.new.rest.now }
+) -> Result<Option<(Position, Boxed<Initializer<'a>>)>, Fault>
+    ensures { Reads initialized_of (spec.initialized_from levels names.now tokens.old.rest.now) result
+        tokens.new.rest.now }
 {
     if !next_is(tokens.rest, Punctuator::Assign) {
         return Ok(None);
     }
-    let place = tokens.expect(Punctuator::Assign)?;
+    let position = tokens.expect(Punctuator::Assign)?;
     let value = initializer(alloc, names, tokens, levels as usize + 1)?;
-    Ok(Some((place, value)))
+    let value = Boxed::new(alloc, value)?;
+    Ok(Some((position, value)))
 }
 
 /// Reads what stands behind a declarator that is no typedef's (C99 6.7).
@@ -74,9 +105,10 @@ fn init_declarator_behind<'a>(
     names: &[Spelling<'a>],
     tokens: &mut Cursor<'_, 'a>,
     levels: u8,
-    declarator: Declarator<'a>,
+    declarator: Boxed<Declarator<'a>>,
 ) -> Result<InitDeclarator<'a>, Fault>
-    ensures { Reads init_declarator_of (spec.init_declarator_behind levels false names.now (declarator_of declarator.entry) tokens.old.rest.now) result tokens.new.rest.now }
+    ensures { Reads init_declarator_of (spec.init_declarator_behind levels false names.now
+        (declarator_of declarator.entry) tokens.old.rest.now) result tokens.new.rest.now }
 {
     let initializer = initialized(alloc, names, tokens, levels);
     let (declarator, initializer) = beside(declarator, initializer)?;
@@ -94,16 +126,11 @@ fn init_declarator<'a>(
     tokens: &mut Cursor<'_, 'a>,
     levels: u8,
 ) -> Result<InitDeclarator<'a>, Fault>
-    ensures { Reads init_declarator_of (spec.init_declarator_from levels false names.now tokens.old.rest.now) result tokens.new.rest.now }
+    ensures { Reads init_declarator_of (spec.init_declarator_from levels false names.now tokens.old.rest.now) result
+        tokens.new.rest.now }
 {
-    let declarator = declarator(
-        alloc,
-        names,
-        tokens,
-        levels as usize + 1,
-        DeclaratorKind::Named,
-    )?;
-    init_declarator_behind(alloc, names, tokens, levels, declarator.tree)
+    let declarator = named_declarator(alloc, names, tokens, levels)?;
+    init_declarator_behind(alloc, names, tokens, levels, declarator)
 }
 
 /// Reads the declarators behind the first of a declaration that is no typedef, each behind its comma (C99 6.7).
@@ -113,16 +140,17 @@ fn more_init_declarators<'a>(
     names: &[Spelling<'a>],
     tokens: &mut Cursor<'_, 'a>,
     levels: u8,
-) -> Result<Items<(Place, InitDeclarator<'a>)>, Fault>
-    ensures { Reads more_init_declarators_in (spec.more_init_declarators_from levels false (length tokens.old.rest.now) names.now tokens.old.rest.now) result tokens.new.rest.now }
+) -> Result<Items<(Position, InitDeclarator<'a>)>, Fault>
+    ensures { Reads more_init_declarators_in (spec.more_init_declarators_from levels false (length tokens.old.rest.now)
+        names.now tokens.old.rest.now) result tokens.new.rest.now }
 {
     let mut others = Vec::new(alloc);
     for _ in 0..tokens.rest.len() {
-        let Some(place) = tokens.take(Punctuator::Comma) else {
+        let Some(position) = tokens.take(Punctuator::Comma) else {
             return Ok(Items::from_vec(others));
         };
         let (before, other) = beside(others, init_declarator(alloc, names, tokens, levels))?;
-        others = with_item(before, (place, other))?;
+        others = with_item(before, (position, other))?;
     }
     Ok(Items::from_vec(others))
 }
@@ -134,13 +162,15 @@ fn typedef_behind<'a>(
     names: &mut Vec<Spelling<'a>>,
     tokens: &mut Cursor<'_, 'a>,
     levels: u8,
-    declarator: Declarator<'a>,
+    declarator: Boxed<Declarator<'a>>,
 ) -> Result<InitDeclarator<'a>, Fault>
-    ensures read { Reads init_declarator_of (spec.init_declarator_behind levels true names.old.items (declarator_of declarator.entry) tokens.old.rest.now) result tokens.new.rest.now }
+    ensures read { Reads init_declarator_of (spec.init_declarator_behind levels true names.old.items
+        (declarator_of declarator.entry) tokens.old.rest.now) result tokens.new.rest.now }
     ensures declarator { IfOk result (λ x. x.declarator ≡ declarator.entry) }
-    ensures names { IfOk result (λ _. names.new.items ≡ formed.names_after true (declarator_of declarator.entry) names.old.items) }
+    ensures names { IfOk result (λ _. names.new.items ≡ formed.names_after true (declarator_of declarator.entry)
+        names.old.items) }
 {
-    let added = add_typedef_name(names, &declarator);
+    let added = add_typedef_name(names, declarator.get());
     let (declarator, ()) = beside(declarator, added)?;
     let initializer = initialized(alloc, names.as_slice(), tokens, levels);
     let (declarator, initializer) = beside(declarator, initializer)?;
@@ -158,17 +188,13 @@ fn typedef_declarator<'a>(
     tokens: &mut Cursor<'_, 'a>,
     levels: u8,
 ) -> Result<InitDeclarator<'a>, Fault>
-    ensures read { Reads init_declarator_of (spec.init_declarator_from levels true names.old.items tokens.old.rest.now) result tokens.new.rest.now }
-    ensures names { IfOk result (λ x. names.new.items ≡ formed.names_after true (declarator_of x.declarator) names.old.items) }
+    ensures read { Reads init_declarator_of (spec.init_declarator_from levels true names.old.items tokens.old.rest.now)
+        result tokens.new.rest.now }
+    ensures names { IfOk result (λ x. names.new.items ≡ formed.names_after true (declarator_of x.declarator)
+        names.old.items) }
 {
-    let declarator = declarator(
-        alloc,
-        names.as_slice(),
-        tokens,
-        levels as usize + 1,
-        DeclaratorKind::Named,
-    )?;
-    typedef_behind(alloc, names, tokens, levels, declarator.tree)
+    let declarator = named_declarator(alloc, names.as_slice(), tokens, levels)?;
+    typedef_behind(alloc, names, tokens, levels, declarator)
 }
 
 /// Reads the declarators behind the first of a typedef, each behind its comma (C99 6.7, 6.7.7).
@@ -178,17 +204,19 @@ fn more_typedef_declarators<'a>(
     names: &mut Vec<Spelling<'a>>,
     tokens: &mut Cursor<'_, 'a>,
     levels: u8,
-) -> Result<Items<(Place, InitDeclarator<'a>)>, Fault>
-    ensures read { Reads more_init_declarators_in (spec.more_init_declarators_from levels true (length tokens.old.rest.now) names.old.items tokens.old.rest.now) result tokens.new.rest.now }
-    ensures names { IfOk result (λ z. names.new.items ≡ formed.names_after_more true (more_init_declarators_in z) names.old.items) }
+) -> Result<Items<(Position, InitDeclarator<'a>)>, Fault>
+    ensures read { Reads more_init_declarators_in (spec.more_init_declarators_from levels true
+        (length tokens.old.rest.now) names.old.items tokens.old.rest.now) result tokens.new.rest.now }
+    ensures names { IfOk result (λ z. names.new.items ≡ formed.names_after_more true (more_init_declarators_in z)
+        names.old.items) }
 {
     let mut others = Vec::new(alloc);
     for _ in 0..tokens.rest.len() {
-        let Some(place) = tokens.take(Punctuator::Comma) else {
+        let Some(position) = tokens.take(Punctuator::Comma) else {
             return Ok(Items::from_vec(others));
         };
         let (before, other) = beside(others, typedef_declarator(alloc, names, tokens, levels))?;
-        others = with_item(before, (place, other))?;
+        others = with_item(before, (position, other))?;
     }
     Ok(Items::from_vec(others))
 }
@@ -201,10 +229,11 @@ fn plain_declaration_behind<'a>(
     tokens: &mut Cursor<'_, 'a>,
     levels: u8,
     specifiers: Items<Specifier<'a>>,
-    declarator: Declarator<'a>,
+    declarator: Boxed<Declarator<'a>>,
 ) -> Result<Declaration<'a>, Fault>
     requires { formed.has_typedef (specifiers_in specifiers) ≡ false }
-    ensures read { Reads declaration_of (spec.declaration_behind levels names.now (specifiers_in specifiers.entry) (declarator_of declarator.entry) tokens.old.rest.now) result tokens.new.rest.now }
+    ensures read { Reads declaration_of (spec.declaration_behind levels names.now (specifiers_in specifiers.entry)
+        (declarator_of declarator.entry) tokens.old.rest.now) result tokens.new.rest.now }
     ensures plain { IfOk result (λ x. formed.has_typedef (specifiers_in x.specifiers) ≡ false) }
 {
     let first = init_declarator_behind(alloc, names, tokens, levels, declarator);
@@ -212,9 +241,11 @@ fn plain_declaration_behind<'a>(
     let parts = beside(parts, more_init_declarators(alloc, names, tokens, levels))?;
     let (parts, semicolon) = beside(parts, tokens.expect(Punctuator::Semicolon))?;
     let ((specifiers, first), others) = parts;
+    let declarators = Boxed::new(alloc, InitDeclarators { first, others });
+    let (specifiers, declarators) = beside(specifiers, declarators)?;
     Ok(Declaration {
         specifiers,
-        declarators: Some(InitDeclarators { first, others }),
+        declarators: Some(declarators),
         semicolon,
     })
 }
@@ -227,11 +258,13 @@ fn typedef_declaration_behind<'a>(
     tokens: &mut Cursor<'_, 'a>,
     levels: u8,
     specifiers: Items<Specifier<'a>>,
-    declarator: Declarator<'a>,
+    declarator: Boxed<Declarator<'a>>,
 ) -> Result<Declaration<'a>, Fault>
     requires { formed.has_typedef (specifiers_in specifiers) ≡ true }
-    ensures read { Reads declaration_of (spec.declaration_behind levels names.old.items (specifiers_in specifiers.entry) (declarator_of declarator.entry) tokens.old.rest.now) result tokens.new.rest.now }
-    ensures names { IfOk result (λ x. names.new.items ≡ formed.names_after_declaration (declaration_of x) names.old.items) }
+    ensures read { Reads declaration_of (spec.declaration_behind levels names.old.items (specifiers_in specifiers.entry)
+        (declarator_of declarator.entry) tokens.old.rest.now) result tokens.new.rest.now }
+    ensures names { IfOk result (λ x. names.new.items ≡ formed.names_after_declaration (declaration_of x)
+        names.old.items) }
 {
     let first = typedef_behind(alloc, names, tokens, levels, declarator);
     let parts = beside(specifiers, first)?;
@@ -241,25 +274,29 @@ fn typedef_declaration_behind<'a>(
     )?;
     let (parts, semicolon) = beside(parts, tokens.expect(Punctuator::Semicolon))?;
     let ((specifiers, first), others) = parts;
+    let declarators = Boxed::new(alloc, InitDeclarators { first, others });
+    let (specifiers, declarators) = beside(specifiers, declarators)?;
     Ok(Declaration {
         specifiers,
-        declarators: Some(InitDeclarators { first, others }),
+        declarators: Some(declarators),
         semicolon,
     })
 }
 
-/// Reads the rest of a declaration behind its first declarator, and puts the names of a typedef behind the typedef names
-/// (C99 6.7, 6.7.7).
+/// Reads the rest of a declaration behind its first declarator, and puts the names of a typedef behind the typedef
+/// names (C99 6.7, 6.7.7).
 pub fn declaration_behind<'a>(
     alloc: Global,
     names: &mut Vec<Spelling<'a>>,
     tokens: &mut Cursor<'_, 'a>,
     levels: u8,
     specifiers: Items<Specifier<'a>>,
-    declarator: Declarator<'a>,
+    declarator: Boxed<Declarator<'a>>,
 ) -> Result<Declaration<'a>, Fault>
-    ensures read { Reads declaration_of (spec.declaration_behind levels names.old.items (specifiers_in specifiers.entry) (declarator_of declarator.entry) tokens.old.rest.now) result tokens.new.rest.now }
-    ensures names { IfOk result (λ x. names.new.items ≡ formed.names_after_declaration (declaration_of x) names.old.items) }
+    ensures read { Reads declaration_of (spec.declaration_behind levels names.old.items (specifiers_in specifiers.entry)
+        (declarator_of declarator.entry) tokens.old.rest.now) result tokens.new.rest.now }
+    ensures names { IfOk result (λ x. names.new.items ≡ formed.names_after_declaration (declaration_of x)
+        names.old.items) }
 {
     if has_typedef(specifiers.as_slice()) {
         return typedef_declaration_behind(alloc, names, tokens, levels, specifiers, declarator);
@@ -282,7 +319,8 @@ pub fn bare_declaration<'a>(
     levels: u8,
     specifiers: Items<Specifier<'a>>,
 ) -> Result<Declaration<'a>, Fault>
-    ensures read { Reads declaration_of (spec.bare_declaration_from levels (specifiers_in specifiers.entry) tokens.old.rest.now) result tokens.new.rest.now }
+    ensures read { Reads declaration_of (spec.bare_declaration_from levels (specifiers_in specifiers.entry)
+        tokens.old.rest.now) result tokens.new.rest.now }
     ensures bare { IfOk result (λ x. x.declarators ≡ None) }
     ensures no_memory { IfErr result (λ f. f ≡ Refused) }
 {
@@ -308,20 +346,7 @@ pub fn local<'a>(
     if next_is(tokens.rest, Punctuator::Semicolon) {
         return bare_declaration(tokens, levels, specifiers.tree);
     }
-    let declarator = declarator(
-        alloc,
-        names,
-        tokens,
-        levels as usize + 1,
-        DeclaratorKind::Named,
-    );
+    let declarator = named_declarator(alloc, names, tokens, levels);
     let (specifiers, declarator) = beside(specifiers, declarator)?;
-    plain_declaration_behind(
-        alloc,
-        names,
-        tokens,
-        levels,
-        specifiers.tree,
-        declarator.tree,
-    )
+    plain_declaration_behind(alloc, names, tokens, levels, specifiers.tree, declarator)
 }

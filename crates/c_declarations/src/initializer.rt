@@ -15,12 +15,13 @@ use c_expressions::nested::expression;
 use c_grammar::cursor::{Cursor, Fault, next_is};
 use c_lexer::{Punctuator, Spelling};
 use c_syntax::{
-    Boxed, Designation, Designator, Initializer, InitializerItem, Items, Place, Placed,
+    Boxed, Designation, Designator, InitialValue, Initializer, InitializerItem, Items, Position,
+    Positioned,
 };
 use std::alloc::Global;
 
 /// Whether a designator begins with the next word.
-fn begins_designator(rest: &[Placed]) -> bool
+fn begins_designator(rest: &[Positioned]) -> bool
     ensures { result ≡ reader.next_is spec.begins_designator rest.now }
 {
     next_is(rest, Punctuator::LeftBracket) || next_is(rest, Punctuator::Dot)
@@ -34,7 +35,8 @@ fn element<'a>(
     tokens: &mut Cursor<'_, 'a>,
     levels: usize,
 ) -> Result<Designator<'a>, Fault>
-    ensures { Reads designator_of (spec.element_from (readers names.now levels) tokens.old.rest.now) result tokens.new.rest.now }
+    ensures { Reads designator_of (spec.element_from (readers names.now levels) tokens.old.rest.now) result
+        tokens.new.rest.now }
 {
     let left = tokens.expect(Punctuator::LeftBracket)?;
     let size = expression(alloc, names, tokens, levels, None, 3)?;
@@ -49,11 +51,12 @@ fn member_named<'a>(
     tokens: &mut Cursor<'_, 'a>,
     levels: usize,
 ) -> Result<Designator<'a>, Fault>
-    ensures { Reads designator_of (spec.member_named_from (readers names.now levels) tokens.old.rest.now) result tokens.new.rest.now }
+    ensures { Reads designator_of (spec.member_named_from (readers names.now levels) tokens.old.rest.now) result
+        tokens.new.rest.now }
 {
-    let place = tokens.expect(Punctuator::Dot)?;
+    let position = tokens.expect(Punctuator::Dot)?;
     let name = tokens.identifier()?;
-    Ok(Designator::Member(place, name))
+    Ok(Designator::Member(position, name))
 }
 
 /// Reads a designator (C99 6.7.8).
@@ -63,7 +66,8 @@ fn designator<'a>(
     tokens: &mut Cursor<'_, 'a>,
     levels: usize,
 ) -> Result<Designator<'a>, Fault>
-    ensures { Reads designator_of (spec.designator_from (readers names.now levels) tokens.old.rest.now) result tokens.new.rest.now }
+    ensures { Reads designator_of (spec.designator_from (readers names.now levels) tokens.old.rest.now) result
+        tokens.new.rest.now }
 {
     if next_is(tokens.rest, Punctuator::LeftBracket) {
         element(alloc, names, tokens, levels)
@@ -80,7 +84,8 @@ fn designators<'a>(
     tokens: &mut Cursor<'_, 'a>,
     levels: usize,
 ) -> Result<Items<Designator<'a>>, Fault>
-    ensures { Reads designators_in (spec.designators_from (readers names.now levels) (length tokens.old.rest.now) tokens.old.rest.now) result tokens.new.rest.now }
+    ensures { Reads designators_in (spec.designators_from (readers names.now levels) (length tokens.old.rest.now)
+        tokens.old.rest.now) result tokens.new.rest.now }
 {
     let mut designators = Vec::new(alloc);
     for _ in 0..tokens.rest.len() {
@@ -101,7 +106,8 @@ fn designation<'a>(
     tokens: &mut Cursor<'_, 'a>,
     levels: usize,
 ) -> Result<Option<Designation<'a>>, Fault>
-    ensures { Reads designation_of (spec.designation_from (readers names.now levels) tokens.old.rest.now) result tokens.new.rest.now }
+    ensures { Reads designation_of (spec.designation_from (readers names.now levels) tokens.old.rest.now) result
+        tokens.new.rest.now }
 {
     if !begins_designator(tokens.rest) {
         return Ok(None);
@@ -122,10 +128,13 @@ pub fn value<'a>(
     tokens: &mut Cursor<'_, 'a>,
     levels: usize,
 ) -> Result<Initializer<'a>, Fault>
-    ensures { Reads initializer_of (spec.value_from (readers names.now levels) tokens.old.rest.now) result tokens.new.rest.now }
+    ensures { Reads initializer_of (spec.value_from (readers names.now levels) tokens.old.rest.now) result
+        tokens.new.rest.now }
 {
     let value = expression(alloc, names, tokens, levels, None, 2)?;
-    Ok(Initializer::Value(value.tree))
+    Ok(Initializer::Value(InitialValue {
+        expression: value.tree,
+    }))
 }
 
 /// The rules for initializers whose parts have fewer levels than a number, with the function that reads these parts.
@@ -149,7 +158,8 @@ impl<
     /// Reads an initializer with fewer levels.
     fn deeper(&self, tokens: &mut Cursor<'_, 'a>) -> Result<Initializer<'a>, Fault>
         requires { DeeperInitializers self.now.levels (I.pre self.now.initializer) (I.post self.now.initializer) }
-        ensures { Reads initializer_of (spec.initializers self.now.names.now self.now.levels tokens.old.rest.now) result tokens.new.rest.now }
+        ensures { Reads initializer_of (spec.initializers self.now.names.now self.now.levels tokens.old.rest.now) result
+            tokens.new.rest.now }
     {
         (self.initializer)(self.alloc, self.names, tokens, self.levels)
     }
@@ -158,7 +168,8 @@ impl<
     #[tactic(auto, unfolding(c_grammar::specs::InitializerReader::item_from))]
     fn item(&self, tokens: &mut Cursor<'_, 'a>) -> Result<InitializerItem<'a>, Fault>
         requires { DeeperInitializers self.now.levels (I.pre self.now.initializer) (I.post self.now.initializer) }
-        ensures { Reads item_of (spec.item_from (readers self.now.names.now self.now.levels) (spec.initializers self.now.names.now self.now.levels) tokens.old.rest.now) result tokens.new.rest.now }
+        ensures { Reads item_of (spec.item_from (readers self.now.names.now self.now.levels)
+            (spec.initializers self.now.names.now self.now.levels) tokens.old.rest.now) result tokens.new.rest.now }
     {
         let designation = designation(self.alloc, self.names, tokens, self.levels)?;
         let (designation, initializer) = beside(designation, self.deeper(tokens))?;
@@ -173,20 +184,22 @@ impl<
     fn more_items(
         &self,
         tokens: &mut Cursor<'_, 'a>,
-    ) -> Result<(Items<(Place, InitializerItem<'a>)>, Option<Place>), Fault>
+    ) -> Result<(Items<(Position, InitializerItem<'a>)>, Option<Position>), Fault>
         requires { DeeperInitializers self.now.levels (I.pre self.now.initializer) (I.post self.now.initializer) }
-        ensures { Reads items_to_brace (behind_commas_to_brace (spec.item_from (readers self.now.names.now self.now.levels) (spec.initializers self.now.names.now self.now.levels)) (length tokens.old.rest.now) tokens.old.rest.now) result tokens.new.rest.now }
+        ensures { Reads items_to_brace (behind_commas_to_brace (spec.item_from
+            (readers self.now.names.now self.now.levels) (spec.initializers self.now.names.now self.now.levels))
+            (length tokens.old.rest.now) tokens.old.rest.now) result tokens.new.rest.now }
     {
         let mut others = Vec::new(self.alloc);
         for _ in 0..tokens.rest.len() {
-            let Some(place) = tokens.take(Punctuator::Comma) else {
+            let Some(position) = tokens.take(Punctuator::Comma) else {
                 return Ok((Items::from_vec(others), None));
             };
             if next_is(tokens.rest, Punctuator::RightBrace) {
-                return Ok((Items::from_vec(others), Some(place)));
+                return Ok((Items::from_vec(others), Some(position)));
             }
             let (before, item) = beside(others, self.item(tokens))?;
-            others = with_item(before, (place, item))?;
+            others = with_item(before, (position, item))?;
         }
         Ok((Items::from_vec(others), None))
     }
@@ -195,7 +208,8 @@ impl<
     #[tactic(auto, unfolding(c_grammar::specs::InitializerReader::braced_from))]
     pub fn braced(&self, tokens: &mut Cursor<'_, 'a>) -> Result<Initializer<'a>, Fault>
         requires { DeeperInitializers self.now.levels (I.pre self.now.initializer) (I.post self.now.initializer) }
-        ensures { Reads initializer_of (spec.braced_from (spec.item_from (readers self.now.names.now self.now.levels) (spec.initializers self.now.names.now self.now.levels)) tokens.old.rest.now) result tokens.new.rest.now }
+        ensures { Reads initializer_of (spec.braced_from (spec.item_from (readers self.now.names.now self.now.levels)
+            (spec.initializers self.now.names.now self.now.levels)) tokens.old.rest.now) result tokens.new.rest.now }
     {
         let left = tokens.expect(Punctuator::LeftBrace)?;
         let first = Boxed::new(self.alloc, self.item(tokens)?)?;
@@ -207,7 +221,7 @@ impl<
 }
 
 /// Whether an initializer in braces begins with the next word, where there may be this number of levels.
-pub fn begins_braced(rest: &[Placed], levels: usize) -> bool
+pub fn begins_braced(rest: &[Positioned], levels: usize) -> bool
     ensures { result ≡ reader.next_is_punctuator p.LeftBrace rest.now && nat_le 1 levels }
 {
     next_is(rest, Punctuator::LeftBrace) && 1 <= levels

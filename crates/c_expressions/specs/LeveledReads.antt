@@ -1,4 +1,5 @@
--- What a function that reads with levels ensures: what the reader gives, and how many levels that has, or that memory failed.
+-- What a function that reads with levels ensures: what the reader gives, and how many levels that has, or that memory
+-- failed.
 use Rattle.std.specs.Prelude.{◌≡◌, ℕ, ◌<◌, Bool, Result, Ok, Err, List, Option}
 use Rattle.std.specs.declared.alloc.Global.{Global}
 use denote.Ref.{MutBor, Bor}
@@ -10,7 +11,7 @@ use Rattle.c_grammar.specs.Reader.{Outcome}
 use Rattle.c_grammar.specs.Reads.{Fails}
 use Rattle.c_grammar.specs.Nested.{readers}
 use Rattle.c_expressions.specs.declared.leveled.Leveled.{Leveled}
-use Rattle.c_syntax.specs.declared.place.Place.{Place}
+use Rattle.c_syntax.specs.declared.position.Position.{Position}
 use Rattle.c_syntax.specs.declared.tree.Expression.{Expression}
 use Rattle.c_syntax.specs.declared.tree.Specifier.{Specifier}
 use Rattle.c_syntax.specs.declared.tree.Declarator.{Declarator}
@@ -29,21 +30,33 @@ ReadsLeveled view levels n o (Err e) new = Fails o e new
 
 -- function values that read what has fewer levels than n
 pub record Deeper (n : ℕ)
-    (expression_pre : Global → Bor (List (List ℕ)) → MutBor Cursor → ℕ → Option Place → ℕ → Type 0)
-    (expression_post : Global → Bor (List (List ℕ)) → MutBor Cursor → ℕ → Option Place → ℕ → Result (Leveled Expression) Fault → MutBor Cursor → Type 0)
+    (expression_pre : Global → Bor (List (List ℕ)) → MutBor Cursor → ℕ → Option Position → ℕ → Type 0)
+    (expression_post : Global → Bor (List (List ℕ)) → MutBor Cursor → ℕ → Option Position → ℕ
+    → Result (Leveled Expression) Fault → MutBor Cursor → Type 0)
     (specifiers_pre : Global → Bor (List (List ℕ)) → MutBor Cursor → ℕ → Bool → Type 0)
-    (specifiers_post : Global → Bor (List (List ℕ)) → MutBor Cursor → ℕ → Bool → Result (Leveled (List Specifier)) Fault → MutBor Cursor → Type 0)
+    (specifiers_post : Global → Bor (List (List ℕ)) → MutBor Cursor → ℕ → Bool → Result (Leveled (List Specifier)) Fault
+    → MutBor Cursor → Type 0)
     (declarator_pre : Global → Bor (List (List ℕ)) → MutBor Cursor → ℕ → DeclaratorKind → Type 0)
-    (declarator_post : Global → Bor (List (List ℕ)) → MutBor Cursor → ℕ → DeclaratorKind → Result (Leveled Declarator) Fault → MutBor Cursor → Type 0) : Type 0 where
-  pub reads_expression : (alloc : Global) (names : Bor (List (List ℕ))) (old : MutBor Cursor) (opened : Option Place) (m : ℕ) → expression_pre alloc names old n opened m
-  pub expressions : (alloc : Global) (names : Bor (List (List ℕ))) (old new : MutBor Cursor) (opened : Option Place) (m : ℕ) (r : Result (Leveled Expression) Fault)
+    (declarator_post : Global → Bor (List (List ℕ)) → MutBor Cursor → ℕ → DeclaratorKind
+    → Result (Leveled Declarator) Fault → MutBor Cursor → Type 0) : Type 0 where
+  pub reads_expression : (alloc : Global) (names : Bor (List (List ℕ))) (old : MutBor Cursor) (opened : Option Position)
+      (m : ℕ) → expression_pre alloc names old n opened m
+  pub expressions : (alloc : Global) (names : Bor (List (List ℕ))) (old new : MutBor Cursor) (opened : Option Position)
+      (m : ℕ) (r : Result (Leveled Expression) Fault)
       → expression_post alloc names old n opened m r new
-      → ReadsLeveled expression_of expression_levels n ((readers names.now n).expression opened m old.now.rest.now) r new.now.rest.now
-  pub reads_specifiers : (alloc : Global) (names : Bor (List (List ℕ))) (old : MutBor Cursor) (allowed : Bool) → specifiers_pre alloc names old n allowed
-  pub specifiers : (alloc : Global) (names : Bor (List (List ℕ))) (old new : MutBor Cursor) (allowed : Bool) (r : Result (Leveled (List Specifier)) Fault)
+      → ReadsLeveled expression_of expression_levels n ((readers names.now n).expression opened m old.now.rest.now) r
+      new.now.rest.now
+  pub reads_specifiers : (alloc : Global) (names : Bor (List (List ℕ))) (old : MutBor Cursor) (allowed : Bool)
+      → specifiers_pre alloc names old n allowed
+  pub specifiers : (alloc : Global) (names : Bor (List (List ℕ))) (old new : MutBor Cursor) (allowed : Bool)
+      (r : Result (Leveled (List Specifier)) Fault)
       → specifiers_post alloc names old n allowed r new
-      → ReadsLeveled specifiers_in specifiers_levels n ((readers names.now n).specifiers allowed old.now.rest.now) r new.now.rest.now
-  pub reads_declarator : (alloc : Global) (names : Bor (List (List ℕ))) (old : MutBor Cursor) (d : DeclaratorKind) → declarator_pre alloc names old n d
-  pub declarators : (alloc : Global) (names : Bor (List (List ℕ))) (old new : MutBor Cursor) (d : DeclaratorKind) (r : Result (Leveled Declarator) Fault)
+      → ReadsLeveled specifiers_in specifiers_levels n ((readers names.now n).specifiers allowed old.now.rest.now) r
+      new.now.rest.now
+  pub reads_declarator : (alloc : Global) (names : Bor (List (List ℕ))) (old : MutBor Cursor) (d : DeclaratorKind)
+      → declarator_pre alloc names old n d
+  pub declarators : (alloc : Global) (names : Bor (List (List ℕ))) (old new : MutBor Cursor) (d : DeclaratorKind)
+      (r : Result (Leveled Declarator) Fault)
       → declarator_post alloc names old n d r new
-      → ReadsLeveled declarator_of declarator_levels n ((readers names.now n).declarator d old.now.rest.now) r new.now.rest.now
+      → ReadsLeveled declarator_of declarator_levels n ((readers names.now n).declarator d old.now.rest.now) r
+      new.now.rest.now

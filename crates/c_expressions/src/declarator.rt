@@ -13,13 +13,13 @@ ghost use Rattle.c_syntax.specs.View.{declarator_of};
 ghost use Rattle.c_syntax.specs.Levels.{declarator_levels};
 
 use crate::grammar::Grammar;
-use crate::leveled::{Leveled, beside, beside_boxed, joined, leaf};
+use crate::leveled::{Leveled, beside, leaf};
 use crate::specifier::begins_specifiers;
 use c_grammar::cursor::{Cursor, Fault, is_punctuator, is_same, next_is, spelled};
 use c_grammar::declarator_kind::DeclaratorKind;
-use c_lexer::{Punctuator, Spelling, Word};
+use c_lexer::{Punctuator, Spelling, TokenKind};
 use c_syntax::names::is_among;
-use c_syntax::{Declarator, Expression, Items, Place, Placed, Specifier, Spelled};
+use c_syntax::{Boxed, Declarator, Expression, Items, Position, Positioned, Specifier, Spelled};
 use std::alloc::Global;
 
 /// Whether a declarator of this kind may have a name.
@@ -37,13 +37,17 @@ fn must_have_name(kind: DeclaratorKind) -> bool
 }
 
 /// No word of a declarator.
-fn unnamed<'a>(kind: DeclaratorKind, rest: &[Placed<'a>]) -> Result<Leveled<Declarator<'a>>, Fault>
+fn unnamed<'a>(
+    alloc: Global,
+    kind: DeclaratorKind,
+    rest: &[Positioned<'a>],
+) -> Result<Leveled<Boxed<Declarator<'a>>>, Fault>
     ensures { ReadsLeveled declarator_of declarator_levels 1 (spec.unnamed_at kind rest.now) result rest.now }
 {
     if must_have_name(kind) {
         return Err(Fault::Refused);
     }
-    Ok(leaf(Declarator::Unnamed))
+    Ok(leaf(Declarator::Unnamed).boxed(alloc)?)
 }
 
 /// A name as a declarator.
@@ -55,19 +59,19 @@ fn named<'a>(name: Spelled<'a>) -> Leveled<Declarator<'a>>
 }
 
 /// Whether the next word begins or ends parameters.
-fn begins_parameters(names: &[Spelling], rest: &[Placed]) -> bool
+fn begins_parameters(names: &[Spelling], rest: &[Positioned]) -> bool
     ensures { result ≡ next_is_punctuator p.RightParenthesis rest.now || common.begins_specifiers names.now rest.now }
 {
     next_is(rest, Punctuator::RightParenthesis) || begins_specifiers(names, rest)
 }
 
-/// Whether the next word is `(` or `[`, and a declarator with these levels has fewer than a number.
-fn begins_suffix(rest: &[Placed], levels: usize, limit: usize) -> bool
-    ensures { result ≡ next_is spec.begins_suffix rest.now && nat_lt levels limit }
+/// Whether the next word is `(` or `[`, and the declarator before it has fewer levels than a number.
+fn begins_suffix(rest: &[Positioned], left: &Leveled<Boxed<Declarator>>, limit: usize) -> bool
+    ensures { result ≡ next_is spec.begins_suffix rest.now && nat_lt left.now.levels limit }
 {
     let begins = next_is(rest, Punctuator::LeftParenthesis)
         || next_is(rest, Punctuator::LeftBracket);
-    begins && levels < limit
+    begins && left.levels < limit
 }
 
 impl<
@@ -78,9 +82,9 @@ impl<
         &[Spelling<'a>],
         &mut Cursor<'_, 'a>,
         usize,
-        Option<Place>,
+        Option<Position>,
         u8,
-    ) -> Result<Leveled<Expression<'a>>, Fault>,
+    ) -> Result<Leveled<Boxed<Expression<'a>>>, Fault>,
     S: Fn(
         Global,
         &[Spelling<'a>],
@@ -94,50 +98,61 @@ impl<
         &mut Cursor<'_, 'a>,
         usize,
         DeclaratorKind,
-    ) -> Result<Leveled<Declarator<'a>>, Fault>,
+    ) -> Result<Leveled<Boxed<Declarator<'a>>>, Fault>,
 > Grammar<'t, 'a, E, S, D> {
     /// Reads what follows the `(` of parameters (C99 6.7.5.3).
     fn function(
         &self,
         tokens: &mut Cursor<'_, 'a>,
-        left: Leveled<Declarator<'a>>,
-        place: Place,
-    ) -> Result<Leveled<Declarator<'a>>, Fault>
-        requires deeper { Deeper self.now.levels (E.pre self.now.expression) (E.post self.now.expression) (S.pre self.now.specifiers) (S.post self.now.specifiers) (D.pre self.now.declarator) (D.post self.now.declarator) }
+        left: Leveled<Boxed<Declarator<'a>>>,
+        position: Position,
+    ) -> Result<Leveled<Boxed<Declarator<'a>>>, Fault>
+        requires deeper { Deeper self.now.levels (E.pre self.now.expression) (E.post self.now.expression)
+            (S.pre self.now.specifiers) (S.post self.now.specifiers) (D.pre self.now.declarator)
+            (D.post self.now.declarator) }
         requires known { Below self.now.levels left.levels (declarator_levels (declarator_of left.tree)) }
-        ensures { ReadsLeveled declarator_of declarator_levels (suc self.now.levels) (spec.function_from self.now.names.now (readers self.now.names.now self.now.levels) self.now.levels (declarator_of left.entry.tree) place tokens.old.rest.now) result tokens.new.rest.now }
+        ensures { ReadsLeveled declarator_of declarator_levels (suc self.now.levels)
+            (spec.function_from self.now.names.now (readers self.now.names.now self.now.levels) self.now.levels
+            (declarator_of left.entry.tree) position tokens.old.rest.now) result tokens.new.rest.now }
     {
-        let called = beside(left.boxed(self.alloc)?, self.parameters(tokens))?;
+        let called = beside(left, self.parameters(tokens))?;
         let (called, right) = beside(called, tokens.expect(Punctuator::RightParenthesis))?;
         let (left, parameters) = called;
-        Ok(Leveled {
+        let tree = Leveled {
             levels: left.levels.max(parameters.levels) + 1,
-            tree: Declarator::Function(left.tree, place, parameters.tree, right),
-        })
+            tree: Declarator::Function(left.tree, position, parameters.tree, right),
+        };
+        Ok(tree.boxed(self.alloc)?)
     }
 
-    /// Reads what follows a first `(`: the parameters of a function without a name, or a declarator in parentheses (C99 6.7.6).
+    /// Reads what follows a first `(`: the parameters of a function without a name, or a declarator in parentheses (C99
+    /// 6.7.6).
     #[tactic(auto, unfolding(c_grammar::specs::DeclaratorReader::parenthesis_from))]
     fn declarator_parenthesis(
         &self,
         tokens: &mut Cursor<'_, 'a>,
         kind: DeclaratorKind,
-        place: Place,
-    ) -> Result<Leveled<Declarator<'a>>, Fault>
-        requires deeper { Deeper self.now.levels (E.pre self.now.expression) (E.post self.now.expression) (S.pre self.now.specifiers) (S.post self.now.specifiers) (D.pre self.now.declarator) (D.post self.now.declarator) }
+        position: Position,
+    ) -> Result<Leveled<Boxed<Declarator<'a>>>, Fault>
+        requires deeper { Deeper self.now.levels (E.pre self.now.expression) (E.post self.now.expression)
+            (S.pre self.now.specifiers) (S.post self.now.specifiers) (D.pre self.now.declarator)
+            (D.post self.now.declarator) }
         requires some { 0 < self.now.levels }
-        ensures { ReadsLeveled declarator_of declarator_levels (suc self.now.levels) (spec.parenthesis_from self.now.names.now (readers self.now.names.now self.now.levels) self.now.levels kind place tokens.old.rest.now) result tokens.new.rest.now }
+        ensures { ReadsLeveled declarator_of declarator_levels (suc self.now.levels)
+            (spec.parenthesis_from self.now.names.now (readers self.now.names.now self.now.levels) self.now.levels kind
+            position tokens.old.rest.now) result tokens.new.rest.now }
     {
         if !must_have_name(kind) && begins_parameters(self.names, tokens.rest) {
-            let nameless = unnamed(kind, tokens.rest)?;
-            return self.function(tokens, nameless, place);
+            let nameless = unnamed(self.alloc, kind, tokens.rest)?;
+            return self.function(tokens, nameless, position);
         }
-        let inner = self.declarator(tokens, kind)?.boxed(self.alloc)?;
+        let inner = self.declarator(tokens, kind)?;
         let (inner, right) = beside(inner, tokens.expect(Punctuator::RightParenthesis))?;
-        Ok(Leveled {
-            tree: Declarator::Parenthesized(place, inner.tree, right),
+        let tree = Leveled {
+            tree: Declarator::Parenthesized(position, inner.tree, right),
             levels: inner.levels + 1,
-        })
+        };
+        Ok(tree.boxed(self.alloc)?)
     }
 
     /// Reads what is no pointer, without its suffixes.
@@ -146,29 +161,33 @@ impl<
         &self,
         tokens: &mut Cursor<'_, 'a>,
         kind: DeclaratorKind,
-    ) -> Result<Leveled<Declarator<'a>>, Fault>
-        requires deeper { Deeper self.now.levels (E.pre self.now.expression) (E.post self.now.expression) (S.pre self.now.specifiers) (S.post self.now.specifiers) (D.pre self.now.declarator) (D.post self.now.declarator) }
-        ensures { ReadsLeveled declarator_of declarator_levels (suc self.now.levels) (spec.direct_from self.now.names.now (readers self.now.names.now self.now.levels) self.now.levels kind tokens.old.rest.now) result tokens.new.rest.now }
+    ) -> Result<Leveled<Boxed<Declarator<'a>>>, Fault>
+        requires deeper { Deeper self.now.levels (E.pre self.now.expression) (E.post self.now.expression)
+            (S.pre self.now.specifiers) (S.post self.now.specifiers) (D.pre self.now.declarator)
+            (D.post self.now.declarator) }
+        ensures { ReadsLeveled declarator_of declarator_levels (suc self.now.levels)
+            (spec.direct_from self.now.names.now (readers self.now.names.now self.now.levels) self.now.levels kind
+            tokens.old.rest.now) result tokens.new.rest.now }
     {
         let [first, rest @ ..] = tokens.rest else {
-            return unnamed(kind, tokens.rest);
+            return unnamed(self.alloc, kind, tokens.rest);
         };
-        match &first.word {
-            Word::Identifier(spelling) => {
+        match &first.kind {
+            TokenKind::Identifier(spelling) => {
                 if !may_have_name(kind) || is_among(self.names, spelling) {
-                    return unnamed(kind, tokens.rest);
+                    return unnamed(self.alloc, kind, tokens.rest);
                 }
                 tokens.rest = rest;
-                Ok(named(spelled(spelling, first.place)))
+                Ok(named(spelled(spelling, first.position)).boxed(self.alloc)?)
             }
-            Word::Punctuator(punctuator) => {
+            TokenKind::Punctuator(punctuator) => {
                 if !is_same(Punctuator::LeftParenthesis, *punctuator) || self.levels < 1 {
-                    return unnamed(kind, tokens.rest);
+                    return unnamed(self.alloc, kind, tokens.rest);
                 }
                 tokens.rest = rest;
-                self.declarator_parenthesis(tokens, kind, first.place)
+                self.declarator_parenthesis(tokens, kind, first.position)
             }
-            _ => unnamed(kind, tokens.rest),
+            _ => unnamed(self.alloc, kind, tokens.rest),
         }
     }
 
@@ -177,49 +196,57 @@ impl<
     fn array(
         &self,
         tokens: &mut Cursor<'_, 'a>,
-        left: Leveled<Declarator<'a>>,
-        place: Place,
-    ) -> Result<Leveled<Declarator<'a>>, Fault>
-        requires deeper { Deeper self.now.levels (E.pre self.now.expression) (E.post self.now.expression) (S.pre self.now.specifiers) (S.post self.now.specifiers) (D.pre self.now.declarator) (D.post self.now.declarator) }
+        left: Leveled<Boxed<Declarator<'a>>>,
+        position: Position,
+    ) -> Result<Leveled<Boxed<Declarator<'a>>>, Fault>
+        requires deeper { Deeper self.now.levels (E.pre self.now.expression) (E.post self.now.expression)
+            (S.pre self.now.specifiers) (S.post self.now.specifiers) (D.pre self.now.declarator)
+            (D.post self.now.declarator) }
         requires known { Below self.now.levels left.levels (declarator_levels (declarator_of left.tree)) }
-        ensures { ReadsLeveled declarator_of declarator_levels (suc self.now.levels) (spec.array_from self.now.names.now (readers self.now.names.now self.now.levels) self.now.levels (declarator_of left.entry.tree) place tokens.old.rest.now) result tokens.new.rest.now }
+        ensures { ReadsLeveled declarator_of declarator_levels (suc self.now.levels)
+            (spec.array_from self.now.names.now (readers self.now.names.now self.now.levels) self.now.levels
+            (declarator_of left.entry.tree) position tokens.old.rest.now) result tokens.new.rest.now }
     {
-        let left = left.boxed(self.alloc)?;
         if next_is(tokens.rest, Punctuator::RightBracket) {
             let (left, right) = beside(left, tokens.expect(Punctuator::RightBracket))?;
-            return Ok(Leveled {
+            let tree = Leveled {
                 levels: left.levels + 1,
-                tree: Declarator::OpenArray(left.tree, place, right),
-            });
+                tree: Declarator::OpenArray(left.tree, position, right),
+            };
+            return Ok(tree.boxed(self.alloc)?);
         }
         let array = beside(left, self.expression(tokens, None, 3))?;
-        let array = joined(self.alloc, array)?;
         let (array, right) = beside(array, tokens.expect(Punctuator::RightBracket))?;
-        let (left, size) = array.tree;
-        Ok(Leveled {
-            levels: array.levels + 1,
-            tree: Declarator::Array(left, place, size, right),
-        })
+        let (left, size) = array;
+        let tree = Leveled {
+            levels: left.levels.max(size.levels) + 1,
+            tree: Declarator::Array(left.tree, position, size.tree, right),
+        };
+        Ok(tree.boxed(self.alloc)?)
     }
 
     /// Reads a suffix by its first word, which is `[` or `(`.
     fn suffix(
         &self,
         tokens: &mut Cursor<'_, 'a>,
-        left: Leveled<Declarator<'a>>,
-    ) -> Result<Leveled<Declarator<'a>>, Fault>
-        requires deeper { Deeper self.now.levels (E.pre self.now.expression) (E.post self.now.expression) (S.pre self.now.specifiers) (S.post self.now.specifiers) (D.pre self.now.declarator) (D.post self.now.declarator) }
+        left: Leveled<Boxed<Declarator<'a>>>,
+    ) -> Result<Leveled<Boxed<Declarator<'a>>>, Fault>
+        requires deeper { Deeper self.now.levels (E.pre self.now.expression) (E.post self.now.expression)
+            (S.pre self.now.specifiers) (S.post self.now.specifiers) (D.pre self.now.declarator)
+            (D.post self.now.declarator) }
         requires known { Below self.now.levels left.levels (declarator_levels (declarator_of left.tree)) }
-        ensures { ReadsLeveled declarator_of declarator_levels (suc self.now.levels) (suffix_next self.now.names.now (readers self.now.names.now self.now.levels) self.now.levels (declarator_of left.entry.tree) tokens.old.rest.now) result tokens.new.rest.now }
+        ensures { ReadsLeveled declarator_of declarator_levels (suc self.now.levels)
+            (suffix_next self.now.names.now (readers self.now.names.now self.now.levels) self.now.levels
+            (declarator_of left.entry.tree) tokens.old.rest.now) result tokens.new.rest.now }
     {
         let [first, rest @ ..] = tokens.rest else {
             return Err(Fault::Refused);
         };
         tokens.rest = rest;
-        if is_punctuator(&first.word, Punctuator::LeftBracket) {
-            self.array(tokens, left, first.place)
+        if is_punctuator(&first.kind, Punctuator::LeftBracket) {
+            self.array(tokens, left, first.position)
         } else {
-            self.function(tokens, left, first.place)
+            self.function(tokens, left, first.position)
         }
     }
 
@@ -227,15 +254,19 @@ impl<
     fn suffixes(
         &self,
         tokens: &mut Cursor<'_, 'a>,
-        first: Leveled<Declarator<'a>>,
-    ) -> Result<Leveled<Declarator<'a>>, Fault>
-        requires deeper { Deeper self.now.levels (E.pre self.now.expression) (E.post self.now.expression) (S.pre self.now.specifiers) (S.post self.now.specifiers) (D.pre self.now.declarator) (D.post self.now.declarator) }
+        first: Leveled<Boxed<Declarator<'a>>>,
+    ) -> Result<Leveled<Boxed<Declarator<'a>>>, Fault>
+        requires deeper { Deeper self.now.levels (E.pre self.now.expression) (E.post self.now.expression)
+            (S.pre self.now.specifiers) (S.post self.now.specifiers) (D.pre self.now.declarator)
+            (D.post self.now.declarator) }
         requires known { Below (suc self.now.levels) first.levels (declarator_levels (declarator_of first.tree)) }
-        ensures { ReadsLeveled declarator_of declarator_levels (suc self.now.levels) (spec.suffixes_from self.now.names.now (readers self.now.names.now self.now.levels) self.now.levels self.now.levels (declarator_of first.entry.tree) tokens.old.rest.now) result tokens.new.rest.now }
+        ensures { ReadsLeveled declarator_of declarator_levels (suc self.now.levels)
+            (spec.suffixes_from self.now.names.now (readers self.now.names.now self.now.levels) self.now.levels
+            self.now.levels (declarator_of first.entry.tree) tokens.old.rest.now) result tokens.new.rest.now }
     {
         let mut left = first;
         for _ in 0..self.levels {
-            if !begins_suffix(tokens.rest, left.levels, self.levels) {
+            if !begins_suffix(tokens.rest, &left, self.levels) {
                 return Ok(left);
             }
             left = self.suffix(tokens, left)?;
@@ -249,9 +280,13 @@ impl<
         &self,
         tokens: &mut Cursor<'_, 'a>,
         kind: DeclaratorKind,
-    ) -> Result<Leveled<Declarator<'a>>, Fault>
-        requires deeper { Deeper self.now.levels (E.pre self.now.expression) (E.post self.now.expression) (S.pre self.now.specifiers) (S.post self.now.specifiers) (D.pre self.now.declarator) (D.post self.now.declarator) }
-        ensures { ReadsLeveled declarator_of declarator_levels (suc self.now.levels) (spec.suffixed_from self.now.names.now (readers self.now.names.now self.now.levels) self.now.levels kind tokens.old.rest.now) result tokens.new.rest.now }
+    ) -> Result<Leveled<Boxed<Declarator<'a>>>, Fault>
+        requires deeper { Deeper self.now.levels (E.pre self.now.expression) (E.post self.now.expression)
+            (S.pre self.now.specifiers) (S.post self.now.specifiers) (D.pre self.now.declarator)
+            (D.post self.now.declarator) }
+        ensures { ReadsLeveled declarator_of declarator_levels (suc self.now.levels)
+            (spec.suffixed_from self.now.names.now (readers self.now.names.now self.now.levels) self.now.levels kind
+            tokens.old.rest.now) result tokens.new.rest.now }
     {
         let first = self.direct(tokens, kind)?;
         self.suffixes(tokens, first)
@@ -263,18 +298,22 @@ impl<
         &self,
         tokens: &mut Cursor<'_, 'a>,
         kind: DeclaratorKind,
-        place: Place,
-    ) -> Result<Leveled<Declarator<'a>>, Fault>
-        requires deeper { Deeper self.now.levels (E.pre self.now.expression) (E.post self.now.expression) (S.pre self.now.specifiers) (S.post self.now.specifiers) (D.pre self.now.declarator) (D.post self.now.declarator) }
-        ensures { ReadsLeveled declarator_of declarator_levels (suc self.now.levels) (spec.pointer_from self.now.names.now (readers self.now.names.now self.now.levels) self.now.levels kind place tokens.old.rest.now) result tokens.new.rest.now }
+        position: Position,
+    ) -> Result<Leveled<Boxed<Declarator<'a>>>, Fault>
+        requires deeper { Deeper self.now.levels (E.pre self.now.expression) (E.post self.now.expression)
+            (S.pre self.now.specifiers) (S.post self.now.specifiers) (D.pre self.now.declarator)
+            (D.post self.now.declarator) }
+        ensures { ReadsLeveled declarator_of declarator_levels (suc self.now.levels)
+            (spec.pointer_from self.now.names.now (readers self.now.names.now self.now.levels) self.now.levels kind
+            position tokens.old.rest.now) result tokens.new.rest.now }
     {
         let consts = tokens.consts(self.alloc)?;
         let (consts, inner) = beside(consts, self.declarator(tokens, kind))?;
-        let (consts, inner) = beside_boxed(self.alloc, consts, inner)?;
-        Ok(Leveled {
-            tree: Declarator::Pointer(place, consts, inner.tree),
+        let tree = Leveled {
+            tree: Declarator::Pointer(position, consts, inner.tree),
             levels: inner.levels + 1,
-        })
+        };
+        Ok(tree.boxed(self.alloc)?)
     }
 
     /// Reads a declarator with at most the rules' number of levels (C99 6.7.5, 6.7.6).
@@ -283,17 +322,21 @@ impl<
         &self,
         tokens: &mut Cursor<'_, 'a>,
         kind: DeclaratorKind,
-    ) -> Result<Leveled<Declarator<'a>>, Fault>
-        requires deeper { Deeper self.now.levels (E.pre self.now.expression) (E.post self.now.expression) (S.pre self.now.specifiers) (S.post self.now.specifiers) (D.pre self.now.declarator) (D.post self.now.declarator) }
-        ensures { ReadsLeveled declarator_of declarator_levels (suc self.now.levels) (spec.declarator_at self.now.names.now (readers self.now.names.now self.now.levels) self.now.levels kind tokens.old.rest.now) result tokens.new.rest.now }
+    ) -> Result<Leveled<Boxed<Declarator<'a>>>, Fault>
+        requires deeper { Deeper self.now.levels (E.pre self.now.expression) (E.post self.now.expression)
+            (S.pre self.now.specifiers) (S.post self.now.specifiers) (D.pre self.now.declarator)
+            (D.post self.now.declarator) }
+        ensures { ReadsLeveled declarator_of declarator_levels (suc self.now.levels)
+            (spec.declarator_at self.now.names.now (readers self.now.names.now self.now.levels) self.now.levels kind
+            tokens.old.rest.now) result tokens.new.rest.now }
     {
         let [first, rest @ ..] = tokens.rest else {
             return self.suffixed(tokens, kind);
         };
-        if !is_punctuator(&first.word, Punctuator::Star) || self.levels < 1 {
+        if !is_punctuator(&first.kind, Punctuator::Star) || self.levels < 1 {
             return self.suffixed(tokens, kind);
         }
         tokens.rest = rest;
-        self.pointer(tokens, kind, first.place)
+        self.pointer(tokens, kind, first.position)
     }
 }

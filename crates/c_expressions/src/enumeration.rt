@@ -10,12 +10,12 @@ ghost use Rattle.c_syntax.specs.View.{specifier_of, enumerator_of};
 ghost use Rattle.c_syntax.specs.Levels.{specifier_levels, enumerator_levels};
 
 use crate::grammar::Grammar;
-use crate::leveled::{Leveled, before_comma, beside, beside_boxed, leaf, no_trees, with_next};
+use crate::leveled::{Leveled, before_comma, beside, leaf, no_trees, with_next};
 use crate::structure::begins_body;
 use c_grammar::cursor::{Cursor, Fault, next_is};
 use c_grammar::declarator_kind::DeclaratorKind;
 use c_lexer::{Punctuator, Spelling};
-use c_syntax::{Declarator, Enumerator, Expression, Items, Place, Specifier, Spelled};
+use c_syntax::{Boxed, Declarator, Enumerator, Expression, Items, Position, Specifier, Spelled};
 use std::alloc::Global;
 
 impl<
@@ -26,9 +26,9 @@ impl<
         &[Spelling<'a>],
         &mut Cursor<'_, 'a>,
         usize,
-        Option<Place>,
+        Option<Position>,
         u8,
-    ) -> Result<Leveled<Expression<'a>>, Fault>,
+    ) -> Result<Leveled<Boxed<Expression<'a>>>, Fault>,
     S: Fn(
         Global,
         &[Spelling<'a>],
@@ -42,25 +42,28 @@ impl<
         &mut Cursor<'_, 'a>,
         usize,
         DeclaratorKind,
-    ) -> Result<Leveled<Declarator<'a>>, Fault>,
+    ) -> Result<Leveled<Boxed<Declarator<'a>>>, Fault>,
 > Grammar<'t, 'a, E, S, D> {
     /// Reads an enumerator (C99 6.7.2.2).
     #[tactic(auto, unfolding(c_grammar::specs::SpecifierReader::enumerator_from))]
     fn enumerator(&self, tokens: &mut Cursor<'_, 'a>) -> Result<Leveled<Enumerator<'a>>, Fault>
-        requires deeper { Deeper self.now.levels (E.pre self.now.expression) (E.post self.now.expression) (S.pre self.now.specifiers) (S.post self.now.specifiers) (D.pre self.now.declarator) (D.post self.now.declarator) }
+        requires deeper { Deeper self.now.levels (E.pre self.now.expression) (E.post self.now.expression)
+            (S.pre self.now.specifiers) (S.post self.now.specifiers) (D.pre self.now.declarator)
+            (D.post self.now.declarator) }
         requires some { 0 < self.now.levels }
-        ensures { ReadsLeveled enumerator_of enumerator_levels self.now.levels (spec.enumerator_from self.now.names.now (readers self.now.names.now self.now.levels) self.now.levels tokens.old.rest.now) result tokens.new.rest.now }
+        ensures { ReadsLeveled enumerator_of enumerator_levels self.now.levels
+            (spec.enumerator_from self.now.names.now (readers self.now.names.now self.now.levels) self.now.levels
+            tokens.old.rest.now) result tokens.new.rest.now }
     {
         let name = tokens.ordinary(self.names)?;
         if !next_is(tokens.rest, Punctuator::Assign) {
             return Ok(leaf(Enumerator::Plain(name)));
         }
-        let place = tokens.expect(Punctuator::Assign)?;
+        let position = tokens.expect(Punctuator::Assign)?;
         let (name, value) = beside(name, self.expression(tokens, None, 3))?;
-        let (name, value) = beside_boxed(self.alloc, name, value)?;
         Ok(Leveled {
             levels: value.levels,
-            tree: Enumerator::Valued(name, place, value.tree),
+            tree: Enumerator::Valued(name, position, value.tree),
         })
     }
 
@@ -68,21 +71,26 @@ impl<
     fn more_enumerators(
         &self,
         tokens: &mut Cursor<'_, 'a>,
-    ) -> Result<Leveled<(Items<(Place, Enumerator<'a>)>, Option<Place>)>, Fault>
-        requires deeper { Deeper self.now.levels (E.pre self.now.expression) (E.post self.now.expression) (S.pre self.now.specifiers) (S.post self.now.specifiers) (D.pre self.now.declarator) (D.post self.now.declarator) }
+    ) -> Result<Leveled<(Items<(Position, Enumerator<'a>)>, Option<Position>)>, Fault>
+        requires deeper { Deeper self.now.levels (E.pre self.now.expression) (E.post self.now.expression)
+            (S.pre self.now.specifiers) (S.post self.now.specifiers) (D.pre self.now.declarator)
+            (D.post self.now.declarator) }
         requires some { 0 < self.now.levels }
-        ensures { ReadsLeveled enumerators_behind enumerators_behind_levels self.now.levels (behind_commas_to_brace (spec.enumerator_from self.now.names.now (readers self.now.names.now self.now.levels) self.now.levels) (length tokens.old.rest.now) tokens.old.rest.now) result tokens.new.rest.now }
+        ensures { ReadsLeveled enumerators_behind enumerators_behind_levels self.now.levels
+            (behind_commas_to_brace (spec.enumerator_from self.now.names.now
+            (readers self.now.names.now self.now.levels) self.now.levels) (length tokens.old.rest.now)
+            tokens.old.rest.now) result tokens.new.rest.now }
     {
         let mut others = no_trees(self.alloc);
         for _ in 0..tokens.rest.len() {
-            let Some(place) = tokens.take(Punctuator::Comma) else {
+            let Some(position) = tokens.take(Punctuator::Comma) else {
                 return Ok(before_comma(others, None));
             };
             if next_is(tokens.rest, Punctuator::RightBrace) {
-                return Ok(before_comma(others, Some(place)));
+                return Ok(before_comma(others, Some(position)));
             }
             let (before, enumerator) = beside(others, self.enumerator(tokens))?;
-            others = with_next(before, place, enumerator)?;
+            others = with_next(before, position, enumerator)?;
         }
         Ok(before_comma(others, None))
     }
@@ -92,12 +100,16 @@ impl<
     fn enumeration_body(
         &self,
         tokens: &mut Cursor<'_, 'a>,
-        place: Place,
+        position: Position,
         tag: Option<Spelled<'a>>,
     ) -> Result<Leveled<Specifier<'a>>, Fault>
-        requires deeper { Deeper self.now.levels (E.pre self.now.expression) (E.post self.now.expression) (S.pre self.now.specifiers) (S.post self.now.specifiers) (D.pre self.now.declarator) (D.post self.now.declarator) }
+        requires deeper { Deeper self.now.levels (E.pre self.now.expression) (E.post self.now.expression)
+            (S.pre self.now.specifiers) (S.post self.now.specifiers) (D.pre self.now.declarator)
+            (D.post self.now.declarator) }
         requires some { 0 < self.now.levels }
-        ensures { ReadsLeveled specifier_of specifier_levels (suc self.now.levels) (spec.enumeration_body_from self.now.names.now (readers self.now.names.now self.now.levels) self.now.levels place tag.entry tokens.old.rest.now) result tokens.new.rest.now }
+        ensures { ReadsLeveled specifier_of specifier_levels (suc self.now.levels)
+            (spec.enumeration_body_from self.now.names.now (readers self.now.names.now self.now.levels) self.now.levels
+            position tag.entry tokens.old.rest.now) result tokens.new.rest.now }
     {
         let left = tokens.expect(Punctuator::LeftBrace)?;
         let first = self.enumerator(tokens)?.boxed(self.alloc)?;
@@ -110,7 +122,7 @@ impl<
         } = others;
         Ok(Leveled {
             levels: first.levels.max(levels) + 1,
-            tree: Specifier::EnumerationBody(place, tag, left, first.tree, others, comma, right),
+            tree: Specifier::EnumerationBody(position, tag, left, first.tree, others, comma, right),
         })
     }
 
@@ -119,18 +131,22 @@ impl<
     pub(crate) fn enumeration(
         &self,
         tokens: &mut Cursor<'_, 'a>,
-        place: Place,
+        position: Position,
     ) -> Result<Leveled<Specifier<'a>>, Fault>
-        requires deeper { Deeper self.now.levels (E.pre self.now.expression) (E.post self.now.expression) (S.pre self.now.specifiers) (S.post self.now.specifiers) (D.pre self.now.declarator) (D.post self.now.declarator) }
-        ensures { ReadsLeveled specifier_of specifier_levels (suc self.now.levels) (spec.enumeration_from self.now.names.now (readers self.now.names.now self.now.levels) self.now.levels place tokens.old.rest.now) result tokens.new.rest.now }
+        requires deeper { Deeper self.now.levels (E.pre self.now.expression) (E.post self.now.expression)
+            (S.pre self.now.specifiers) (S.post self.now.specifiers) (D.pre self.now.declarator)
+            (D.post self.now.declarator) }
+        ensures { ReadsLeveled specifier_of specifier_levels (suc self.now.levels)
+            (spec.enumeration_from self.now.names.now (readers self.now.names.now self.now.levels) self.now.levels
+            position tokens.old.rest.now) result tokens.new.rest.now }
     {
         if begins_body(self.levels, tokens.rest) {
-            return self.enumeration_body(tokens, place, None);
+            return self.enumeration_body(tokens, position, None);
         }
         let tag = tokens.identifier()?;
         if begins_body(self.levels, tokens.rest) {
-            return self.enumeration_body(tokens, place, Some(tag));
+            return self.enumeration_body(tokens, position, Some(tag));
         }
-        Ok(leaf(Specifier::Enumeration(place, tag)))
+        Ok(leaf(Specifier::Enumeration(position, tag)))
     }
 }

@@ -4,7 +4,8 @@ ghost use Rattle.std.specs.Prelude.{◌≡◌, suc, ◌<◌, length, Option, Non
 ghost use Rattle.c_grammar.specs.ExpressionReader as spec;
 ghost use Rattle.c_grammar.specs.Reader.{behind_commas};
 ghost use Rattle.c_grammar.specs.Nested.{readers};
-ghost use Rattle.c_expressions.specs.Steps.{arguments_behind, arguments_behind_levels, operation_next, operation_is_next, postfix_at, conditional_at};
+ghost use Rattle.c_expressions.specs.Steps.{arguments_behind, arguments_behind_levels, operation_next};
+ghost use Rattle.c_expressions.specs.Steps.{operation_is_next, postfix_at, conditional_at};
 ghost use Rattle.c_expressions.specs.LeveledReads.{ReadsLeveled, Below, Deeper};
 ghost use Rattle.c_grammar.specs.declared.operation.Operation.TheVariants as op;
 ghost use Rattle.c_lexer.specs.declared.punctuator.Punctuator.TheVariants as punctuators;
@@ -13,15 +14,13 @@ ghost use Rattle.c_syntax.specs.View.{expression_of, arguments_of};
 ghost use Rattle.c_syntax.specs.Levels.{expression_levels, arguments_levels};
 
 use crate::grammar::Grammar;
-use crate::leveled::{
-    Leveled, as_items, beside, boxed_pair, boxed_three, joined, leaf, no_trees, with_next,
-};
+use crate::leveled::{Leveled, as_items, beside, leaf, no_trees, with_next};
 use c_grammar::cursor::{Cursor, Fault, next_is};
 use c_grammar::declarator_kind::DeclaratorKind;
 use c_grammar::operation::{Operation, binds, needs, operation_of};
-use c_lexer::{Punctuator, Spelling, Word};
+use c_lexer::{Punctuator, Spelling, TokenKind};
 use c_syntax::operators::{binary_precedence, precedence};
-use c_syntax::{Arguments, Declarator, Expression, Items, Place, Placed, Specifier};
+use c_syntax::{Arguments, Boxed, Declarator, Expression, Items, Position, Positioned, Specifier};
 use std::alloc::Global;
 
 impl<
@@ -32,9 +31,9 @@ impl<
         &[Spelling<'a>],
         &mut Cursor<'_, 'a>,
         usize,
-        Option<Place>,
+        Option<Position>,
         u8,
-    ) -> Result<Leveled<Expression<'a>>, Fault>,
+    ) -> Result<Leveled<Boxed<Expression<'a>>>, Fault>,
     S: Fn(
         Global,
         &[Spelling<'a>],
@@ -48,25 +47,29 @@ impl<
         &mut Cursor<'_, 'a>,
         usize,
         DeclaratorKind,
-    ) -> Result<Leveled<Declarator<'a>>, Fault>,
+    ) -> Result<Leveled<Boxed<Declarator<'a>>>, Fault>,
 > Grammar<'t, 'a, E, S, D> {
     /// Reads arguments behind the first, each behind its comma.
     #[tactic(auto, unfolding(c_grammar::specs::Reader::behind_commas))]
     fn more_arguments(
         &self,
         tokens: &mut Cursor<'_, 'a>,
-    ) -> Result<Leveled<Items<(Place, Expression<'a>)>>, Fault>
-        requires deeper { Deeper self.now.levels (E.pre self.now.expression) (E.post self.now.expression) (S.pre self.now.specifiers) (S.post self.now.specifiers) (D.pre self.now.declarator) (D.post self.now.declarator) }
+    ) -> Result<Leveled<Items<(Position, Boxed<Expression<'a>>)>>, Fault>
+        requires deeper { Deeper self.now.levels (E.pre self.now.expression) (E.post self.now.expression)
+            (S.pre self.now.specifiers) (S.post self.now.specifiers) (D.pre self.now.declarator)
+            (D.post self.now.declarator) }
         requires some { 0 < self.now.levels }
-        ensures { ReadsLeveled arguments_behind arguments_behind_levels self.now.levels (behind_commas ((readers self.now.names.now self.now.levels).expression None 2) (length tokens.old.rest.now) tokens.old.rest.now) result tokens.new.rest.now }
+        ensures { ReadsLeveled arguments_behind arguments_behind_levels self.now.levels
+            (behind_commas ((readers self.now.names.now self.now.levels).expression None 2) (length tokens.old.rest.now)
+            tokens.old.rest.now) result tokens.new.rest.now }
     {
         let mut others = no_trees(self.alloc);
         for _ in 0..tokens.rest.len() {
-            let Some(place) = tokens.take(Punctuator::Comma) else {
+            let Some(position) = tokens.take(Punctuator::Comma) else {
                 return Ok(as_items(others));
             };
             let (before, argument) = beside(others, self.expression(tokens, None, 2))?;
-            others = with_next(before, place, argument)?;
+            others = with_next(before, position, argument)?;
         }
         Ok(as_items(others))
     }
@@ -74,18 +77,30 @@ impl<
     /// Reads what stands between the parentheses of a call (C99 6.5.2.2).
     #[tactic(auto, unfolding(c_grammar::specs::ExpressionReader::arguments_from))]
     fn arguments(&self, tokens: &mut Cursor<'_, 'a>) -> Result<Leveled<Arguments<'a>>, Fault>
-        requires deeper { Deeper self.now.levels (E.pre self.now.expression) (E.post self.now.expression) (S.pre self.now.specifiers) (S.post self.now.specifiers) (D.pre self.now.declarator) (D.post self.now.declarator) }
+        requires deeper { Deeper self.now.levels (E.pre self.now.expression) (E.post self.now.expression)
+            (S.pre self.now.specifiers) (S.post self.now.specifiers) (D.pre self.now.declarator)
+            (D.post self.now.declarator) }
         requires some { 0 < self.now.levels }
-        ensures { ReadsLeveled arguments_of arguments_levels self.now.levels (spec.arguments_from self.now.names.now (readers self.now.names.now self.now.levels) self.now.levels tokens.old.rest.now) result tokens.new.rest.now }
+        ensures { ReadsLeveled arguments_of arguments_levels self.now.levels
+            (spec.arguments_from self.now.names.now (readers self.now.names.now self.now.levels) self.now.levels
+            tokens.old.rest.now) result tokens.new.rest.now }
     {
         if next_is(tokens.rest, Punctuator::RightParenthesis) {
             return Ok(leaf(Arguments::Empty));
         }
-        let first = self.expression(tokens, None, 2)?.boxed(self.alloc)?;
+        let first = self.expression(tokens, None, 2)?;
         let (first, others) = beside(first, self.more_arguments(tokens))?;
+        let Leveled {
+            tree: first,
+            levels,
+        } = first;
+        let Leveled {
+            tree: others,
+            levels: of_others,
+        } = others;
         Ok(Leveled {
-            tree: Arguments::Given(first.tree, others.tree),
-            levels: first.levels.max(others.levels),
+            levels: levels.max(of_others),
+            tree: Arguments::Given(first, others),
         })
     }
 
@@ -94,20 +109,26 @@ impl<
     fn binary(
         &self,
         tokens: &mut Cursor<'_, 'a>,
-        left: Leveled<Expression<'a>>,
-        place: Place,
+        left: Leveled<Boxed<Expression<'a>>>,
+        position: Position,
         punctuator: Punctuator,
-    ) -> Result<Leveled<Expression<'a>>, Fault>
-        requires deeper { Deeper self.now.levels (E.pre self.now.expression) (E.post self.now.expression) (S.pre self.now.specifiers) (S.post self.now.specifiers) (D.pre self.now.declarator) (D.post self.now.declarator) }
+    ) -> Result<Leveled<Boxed<Expression<'a>>>, Fault>
+        requires deeper { Deeper self.now.levels (E.pre self.now.expression) (E.post self.now.expression)
+            (S.pre self.now.specifiers) (S.post self.now.specifiers) (D.pre self.now.declarator)
+            (D.post self.now.declarator) }
         requires known { Below self.now.levels left.levels (expression_levels (expression_of left.tree)) }
-        ensures { ReadsLeveled expression_of expression_levels (suc self.now.levels) (spec.operation_from self.now.names.now (readers self.now.names.now self.now.levels) self.now.levels (expression_of left.entry.tree) punctuator place (Some op.Binary) tokens.old.rest.now) result tokens.new.rest.now }
+        ensures { ReadsLeveled expression_of expression_levels (suc self.now.levels)
+            (spec.operation_from self.now.names.now (readers self.now.names.now self.now.levels) self.now.levels
+            (expression_of left.entry.tree) punctuator position (Some op.Binary) tokens.old.rest.now) result
+            tokens.new.rest.now }
     {
         let right = self.expression(tokens, None, binary_precedence(punctuator) + 1);
-        let (left, right) = boxed_pair(self.alloc, beside(left, right)?)?;
-        Ok(Leveled {
+        let (left, right) = beside(left, right)?;
+        let tree = Leveled {
             levels: left.levels.max(right.levels) + 1,
-            tree: Expression::Binary(left.tree, punctuator, place, right.tree),
-        })
+            tree: Expression::Binary(left.tree, punctuator, position, right.tree),
+        };
+        Ok(tree.boxed(self.alloc)?)
     }
 
     /// Reads what follows an assignment operator (C99 6.5.16).
@@ -115,41 +136,53 @@ impl<
     fn assignment(
         &self,
         tokens: &mut Cursor<'_, 'a>,
-        left: Leveled<Expression<'a>>,
-        place: Place,
+        left: Leveled<Boxed<Expression<'a>>>,
+        position: Position,
         punctuator: Punctuator,
-    ) -> Result<Leveled<Expression<'a>>, Fault>
-        requires deeper { Deeper self.now.levels (E.pre self.now.expression) (E.post self.now.expression) (S.pre self.now.specifiers) (S.post self.now.specifiers) (D.pre self.now.declarator) (D.post self.now.declarator) }
+    ) -> Result<Leveled<Boxed<Expression<'a>>>, Fault>
+        requires deeper { Deeper self.now.levels (E.pre self.now.expression) (E.post self.now.expression)
+            (S.pre self.now.specifiers) (S.post self.now.specifiers) (D.pre self.now.declarator)
+            (D.post self.now.declarator) }
         requires known { Below self.now.levels left.levels (expression_levels (expression_of left.tree)) }
-        ensures { ReadsLeveled expression_of expression_levels (suc self.now.levels) (spec.operation_from self.now.names.now (readers self.now.names.now self.now.levels) self.now.levels (expression_of left.entry.tree) punctuator place (Some op.Assignment) tokens.old.rest.now) result tokens.new.rest.now }
+        ensures { ReadsLeveled expression_of expression_levels (suc self.now.levels)
+            (spec.operation_from self.now.names.now (readers self.now.names.now self.now.levels) self.now.levels
+            (expression_of left.entry.tree) punctuator position (Some op.Assignment) tokens.old.rest.now) result
+            tokens.new.rest.now }
     {
         let right = self.expression(tokens, None, 2);
-        let (left, right) = boxed_pair(self.alloc, beside(left, right)?)?;
-        Ok(Leveled {
+        let (left, right) = beside(left, right)?;
+        let tree = Leveled {
             levels: left.levels.max(right.levels) + 1,
-            tree: Expression::Assignment(left.tree, punctuator, place, right.tree),
-        })
+            tree: Expression::Assignment(left.tree, punctuator, position, right.tree),
+        };
+        Ok(tree.boxed(self.alloc)?)
     }
 
     /// The conditional expression of the condition and the second operand, and the third (C99 6.5.15).
     fn conditional_of(
         &self,
-        operands: (Leveled<Expression<'a>>, Leveled<Expression<'a>>),
-        place: Place,
-        colon: Place,
-        third: Leveled<Expression<'a>>,
-    ) -> Result<Leveled<Expression<'a>>, Fault>
+        operands: (
+            Leveled<Boxed<Expression<'a>>>,
+            Leveled<Boxed<Expression<'a>>>,
+        ),
+        position: Position,
+        colon: Position,
+        third: Leveled<Boxed<Expression<'a>>>,
+    ) -> Result<Leveled<Boxed<Expression<'a>>>, Fault>
         requires known { Below self.now.levels operands.0.levels (expression_levels (expression_of operands.0.tree)) }
-        requires known_second { Below self.now.levels operands.1.levels (expression_levels (expression_of operands.1.tree)) }
+        requires known_second { Below self.now.levels operands.1.levels
+            (expression_levels (expression_of operands.1.tree)) }
         requires known_third { Below self.now.levels third.levels (expression_levels (expression_of third.tree)) }
-        ensures { (i : Words) → ReadsLeveled expression_of expression_levels (suc self.now.levels) (conditional_at (expression_of operands.entry.0.tree) place (expression_of operands.entry.1.tree) colon (expression_of third.entry.tree) i) result i }
+        ensures { (i : Words) → ReadsLeveled expression_of expression_levels (suc self.now.levels)
+            (conditional_at (expression_of operands.entry.0.tree) position (expression_of operands.entry.1.tree) colon
+            (expression_of third.entry.tree) i) result i }
     {
-        let operands = boxed_three(self.alloc, operands, third)?;
-        let (condition, second, third) = operands.tree;
-        Ok(Leveled {
-            levels: operands.levels + 1,
-            tree: Expression::Conditional(condition, place, second, colon, third),
-        })
+        let (condition, second) = operands;
+        let tree = Leveled {
+            levels: condition.levels.max(second.levels.max(third.levels)) + 1,
+            tree: Expression::Conditional(condition.tree, position, second.tree, colon, third.tree),
+        };
+        Ok(tree.boxed(self.alloc)?)
     }
 
     /// Reads what follows `?` (C99 6.5.15).
@@ -157,17 +190,22 @@ impl<
     fn conditional(
         &self,
         tokens: &mut Cursor<'_, 'a>,
-        left: Leveled<Expression<'a>>,
-        place: Place,
-    ) -> Result<Leveled<Expression<'a>>, Fault>
-        requires deeper { Deeper self.now.levels (E.pre self.now.expression) (E.post self.now.expression) (S.pre self.now.specifiers) (S.post self.now.specifiers) (D.pre self.now.declarator) (D.post self.now.declarator) }
+        left: Leveled<Boxed<Expression<'a>>>,
+        position: Position,
+    ) -> Result<Leveled<Boxed<Expression<'a>>>, Fault>
+        requires deeper { Deeper self.now.levels (E.pre self.now.expression) (E.post self.now.expression)
+            (S.pre self.now.specifiers) (S.post self.now.specifiers) (D.pre self.now.declarator)
+            (D.post self.now.declarator) }
         requires known { Below self.now.levels left.levels (expression_levels (expression_of left.tree)) }
-        ensures { ReadsLeveled expression_of expression_levels (suc self.now.levels) (spec.operation_from self.now.names.now (readers self.now.names.now self.now.levels) self.now.levels (expression_of left.entry.tree) punctuators.Question place (Some op.Conditional) tokens.old.rest.now) result tokens.new.rest.now }
+        ensures { ReadsLeveled expression_of expression_levels (suc self.now.levels)
+            (spec.operation_from self.now.names.now (readers self.now.names.now self.now.levels) self.now.levels
+            (expression_of left.entry.tree) punctuators.Question position (Some op.Conditional) tokens.old.rest.now)
+            result tokens.new.rest.now }
     {
         let operands = beside(left, self.expression(tokens, None, 1))?;
         let (operands, colon) = beside(operands, tokens.expect(Punctuator::Colon))?;
         let (operands, second) = beside(operands, self.expression(tokens, None, 3))?;
-        self.conditional_of(operands, place, colon, second)
+        self.conditional_of(operands, position, colon, second)
     }
 
     /// Reads what follows `[` (C99 6.5.2.1).
@@ -175,22 +213,26 @@ impl<
     fn subscript(
         &self,
         tokens: &mut Cursor<'_, 'a>,
-        left: Leveled<Expression<'a>>,
-        place: Place,
-    ) -> Result<Leveled<Expression<'a>>, Fault>
-        requires deeper { Deeper self.now.levels (E.pre self.now.expression) (E.post self.now.expression) (S.pre self.now.specifiers) (S.post self.now.specifiers) (D.pre self.now.declarator) (D.post self.now.declarator) }
+        left: Leveled<Boxed<Expression<'a>>>,
+        position: Position,
+    ) -> Result<Leveled<Boxed<Expression<'a>>>, Fault>
+        requires deeper { Deeper self.now.levels (E.pre self.now.expression) (E.post self.now.expression)
+            (S.pre self.now.specifiers) (S.post self.now.specifiers) (D.pre self.now.declarator)
+            (D.post self.now.declarator) }
         requires known { Below self.now.levels left.levels (expression_levels (expression_of left.tree)) }
-        ensures { ReadsLeveled expression_of expression_levels (suc self.now.levels) (spec.operation_from self.now.names.now (readers self.now.names.now self.now.levels) self.now.levels (expression_of left.entry.tree) punctuators.Question place (Some op.Subscript) tokens.old.rest.now) result tokens.new.rest.now }
+        ensures { ReadsLeveled expression_of expression_levels (suc self.now.levels)
+            (spec.operation_from self.now.names.now (readers self.now.names.now self.now.levels) self.now.levels
+            (expression_of left.entry.tree) punctuators.Question position (Some op.Subscript) tokens.old.rest.now)
+            result tokens.new.rest.now }
     {
-        let left = left.boxed(self.alloc)?;
         let operands = beside(left, self.expression(tokens, None, 1))?;
-        let operands = joined(self.alloc, operands)?;
         let (operands, right) = beside(operands, tokens.expect(Punctuator::RightBracket))?;
-        let (left, index) = operands.tree;
-        Ok(Leveled {
-            levels: operands.levels + 1,
-            tree: Expression::Subscript(left, place, index, right),
-        })
+        let (left, index) = operands;
+        let tree = Leveled {
+            levels: left.levels.max(index.levels) + 1,
+            tree: Expression::Subscript(left.tree, position, index.tree, right),
+        };
+        Ok(tree.boxed(self.alloc)?)
     }
 
     /// Reads what follows the `(` of a call (C99 6.5.2.2).
@@ -198,20 +240,26 @@ impl<
     fn call(
         &self,
         tokens: &mut Cursor<'_, 'a>,
-        left: Leveled<Expression<'a>>,
-        place: Place,
-    ) -> Result<Leveled<Expression<'a>>, Fault>
-        requires deeper { Deeper self.now.levels (E.pre self.now.expression) (E.post self.now.expression) (S.pre self.now.specifiers) (S.post self.now.specifiers) (D.pre self.now.declarator) (D.post self.now.declarator) }
+        left: Leveled<Boxed<Expression<'a>>>,
+        position: Position,
+    ) -> Result<Leveled<Boxed<Expression<'a>>>, Fault>
+        requires deeper { Deeper self.now.levels (E.pre self.now.expression) (E.post self.now.expression)
+            (S.pre self.now.specifiers) (S.post self.now.specifiers) (D.pre self.now.declarator)
+            (D.post self.now.declarator) }
         requires known { Below self.now.levels left.levels (expression_levels (expression_of left.tree)) }
-        ensures { ReadsLeveled expression_of expression_levels (suc self.now.levels) (spec.operation_from self.now.names.now (readers self.now.names.now self.now.levels) self.now.levels (expression_of left.entry.tree) punctuators.Question place (Some op.Call) tokens.old.rest.now) result tokens.new.rest.now }
+        ensures { ReadsLeveled expression_of expression_levels (suc self.now.levels)
+            (spec.operation_from self.now.names.now (readers self.now.names.now self.now.levels) self.now.levels
+            (expression_of left.entry.tree) punctuators.Question position (Some op.Call) tokens.old.rest.now) result
+            tokens.new.rest.now }
     {
-        let called = beside(left.boxed(self.alloc)?, self.arguments(tokens))?;
+        let called = beside(left, self.arguments(tokens))?;
         let (called, right) = beside(called, tokens.expect(Punctuator::RightParenthesis))?;
         let (left, arguments) = called;
-        Ok(Leveled {
+        let tree = Leveled {
             levels: left.levels.max(arguments.levels) + 1,
-            tree: Expression::Call(left.tree, place, arguments.tree, right),
-        })
+            tree: Expression::Call(left.tree, position, arguments.tree, right),
+        };
+        Ok(tree.boxed(self.alloc)?)
     }
 
     /// Reads what follows `.` or `->` (C99 6.5.2.3).
@@ -219,37 +267,44 @@ impl<
     fn member(
         &self,
         tokens: &mut Cursor<'_, 'a>,
-        left: Leveled<Expression<'a>>,
-        place: Place,
+        left: Leveled<Boxed<Expression<'a>>>,
+        position: Position,
         punctuator: Punctuator,
-    ) -> Result<Leveled<Expression<'a>>, Fault>
-        requires deeper { Deeper self.now.levels (E.pre self.now.expression) (E.post self.now.expression) (S.pre self.now.specifiers) (S.post self.now.specifiers) (D.pre self.now.declarator) (D.post self.now.declarator) }
+    ) -> Result<Leveled<Boxed<Expression<'a>>>, Fault>
+        requires deeper { Deeper self.now.levels (E.pre self.now.expression) (E.post self.now.expression)
+            (S.pre self.now.specifiers) (S.post self.now.specifiers) (D.pre self.now.declarator)
+            (D.post self.now.declarator) }
         requires known { Below self.now.levels left.levels (expression_levels (expression_of left.tree)) }
-        ensures { ReadsLeveled expression_of expression_levels (suc self.now.levels) (spec.operation_from self.now.names.now (readers self.now.names.now self.now.levels) self.now.levels (expression_of left.entry.tree) punctuator place (Some op.Member) tokens.old.rest.now) result tokens.new.rest.now }
+        ensures { ReadsLeveled expression_of expression_levels (suc self.now.levels)
+            (spec.operation_from self.now.names.now (readers self.now.names.now self.now.levels) self.now.levels
+            (expression_of left.entry.tree) punctuator position (Some op.Member) tokens.old.rest.now) result
+            tokens.new.rest.now }
     {
-        let (left, name) = beside(left.boxed(self.alloc)?, tokens.identifier())?;
-        Ok(Leveled {
+        let (left, name) = beside(left, tokens.identifier())?;
+        let tree = Leveled {
             levels: left.levels + 1,
-            tree: Expression::Member(left.tree, punctuator, place, name),
-        })
+            tree: Expression::Member(left.tree, punctuator, position, name),
+        };
+        Ok(tree.boxed(self.alloc)?)
     }
 
     /// A postfix operator on this operand (C99 6.5.2.4).
     #[tactic(auto, unfolding(c_grammar::specs::ExpressionReader::operation_from))]
     fn postfix(
         &self,
-        left: Leveled<Expression<'a>>,
-        place: Place,
+        left: Leveled<Boxed<Expression<'a>>>,
+        position: Position,
         punctuator: Punctuator,
-    ) -> Result<Leveled<Expression<'a>>, Fault>
+    ) -> Result<Leveled<Boxed<Expression<'a>>>, Fault>
         requires known { Below self.now.levels left.levels (expression_levels (expression_of left.tree)) }
-        ensures { (i : Words) → ReadsLeveled expression_of expression_levels (suc self.now.levels) (postfix_at (expression_of left.entry.tree) punctuator place i) result i }
+        ensures { (i : Words) → ReadsLeveled expression_of expression_levels (suc self.now.levels)
+            (postfix_at (expression_of left.entry.tree) punctuator position i) result i }
     {
-        let left = left.boxed(self.alloc)?;
-        Ok(Leveled {
+        let tree = Leveled {
             levels: left.levels + 1,
-            tree: Expression::Postfix(left.tree, punctuator, place),
-        })
+            tree: Expression::Postfix(left.tree, punctuator, position),
+        };
+        Ok(tree.boxed(self.alloc)?)
     }
 
     /// Reads an operation on this operand, behind its punctuator.
@@ -257,23 +312,28 @@ impl<
     fn operation_by(
         &self,
         tokens: &mut Cursor<'_, 'a>,
-        left: Leveled<Expression<'a>>,
-        place: Place,
+        left: Leveled<Boxed<Expression<'a>>>,
+        position: Position,
         punctuator: Punctuator,
         operation: Operation,
-    ) -> Result<Leveled<Expression<'a>>, Fault>
-        requires deeper { Deeper self.now.levels (E.pre self.now.expression) (E.post self.now.expression) (S.pre self.now.specifiers) (S.post self.now.specifiers) (D.pre self.now.declarator) (D.post self.now.declarator) }
+    ) -> Result<Leveled<Boxed<Expression<'a>>>, Fault>
+        requires deeper { Deeper self.now.levels (E.pre self.now.expression) (E.post self.now.expression)
+            (S.pre self.now.specifiers) (S.post self.now.specifiers) (D.pre self.now.declarator)
+            (D.post self.now.declarator) }
         requires known { Below self.now.levels left.levels (expression_levels (expression_of left.tree)) }
-        ensures { ReadsLeveled expression_of expression_levels (suc self.now.levels) (spec.operation_from self.now.names.now (readers self.now.names.now self.now.levels) self.now.levels (expression_of left.entry.tree) punctuator place (Some operation) tokens.old.rest.now) result tokens.new.rest.now }
+        ensures { ReadsLeveled expression_of expression_levels (suc self.now.levels)
+            (spec.operation_from self.now.names.now (readers self.now.names.now self.now.levels) self.now.levels
+            (expression_of left.entry.tree) punctuator position (Some operation) tokens.old.rest.now) result
+            tokens.new.rest.now }
     {
         match operation {
-            Operation::Binary => self.binary(tokens, left, place, punctuator),
-            Operation::Assignment => self.assignment(tokens, left, place, punctuator),
-            Operation::Conditional => self.conditional(tokens, left, place),
-            Operation::Subscript => self.subscript(tokens, left, place),
-            Operation::Call => self.call(tokens, left, place),
-            Operation::Member => self.member(tokens, left, place, punctuator),
-            Operation::Postfix => self.postfix(left, place, punctuator),
+            Operation::Binary => self.binary(tokens, left, position, punctuator),
+            Operation::Assignment => self.assignment(tokens, left, position, punctuator),
+            Operation::Conditional => self.conditional(tokens, left, position),
+            Operation::Subscript => self.subscript(tokens, left, position),
+            Operation::Call => self.call(tokens, left, position),
+            Operation::Member => self.member(tokens, left, position, punctuator),
+            Operation::Postfix => self.postfix(left, position, punctuator),
         }
     }
 
@@ -282,16 +342,21 @@ impl<
     fn operation_of(
         &self,
         tokens: &mut Cursor<'_, 'a>,
-        left: Leveled<Expression<'a>>,
-        place: Place,
+        left: Leveled<Boxed<Expression<'a>>>,
+        position: Position,
         punctuator: Punctuator,
-    ) -> Result<Leveled<Expression<'a>>, Fault>
-        requires deeper { Deeper self.now.levels (E.pre self.now.expression) (E.post self.now.expression) (S.pre self.now.specifiers) (S.post self.now.specifiers) (D.pre self.now.declarator) (D.post self.now.declarator) }
+    ) -> Result<Leveled<Boxed<Expression<'a>>>, Fault>
+        requires deeper { Deeper self.now.levels (E.pre self.now.expression) (E.post self.now.expression)
+            (S.pre self.now.specifiers) (S.post self.now.specifiers) (D.pre self.now.declarator)
+            (D.post self.now.declarator) }
         requires known { Below self.now.levels left.levels (expression_levels (expression_of left.tree)) }
-        ensures { ReadsLeveled expression_of expression_levels (suc self.now.levels) (spec.operation_from self.now.names.now (readers self.now.names.now self.now.levels) self.now.levels (expression_of left.entry.tree) punctuator place (spec.operation punctuator) tokens.old.rest.now) result tokens.new.rest.now }
+        ensures { ReadsLeveled expression_of expression_levels (suc self.now.levels)
+            (spec.operation_from self.now.names.now (readers self.now.names.now self.now.levels) self.now.levels
+            (expression_of left.entry.tree) punctuator position (spec.operation punctuator) tokens.old.rest.now) result
+            tokens.new.rest.now }
     {
         match operation_of(punctuator) {
-            Some(operation) => self.operation_by(tokens, left, place, punctuator, operation),
+            Some(operation) => self.operation_by(tokens, left, position, punctuator, operation),
             None => Err(Fault::Refused),
         }
     }
@@ -300,21 +365,25 @@ impl<
     fn operation(
         &self,
         tokens: &mut Cursor<'_, 'a>,
-        left: Leveled<Expression<'a>>,
-    ) -> Result<Leveled<Expression<'a>>, Fault>
-        requires deeper { Deeper self.now.levels (E.pre self.now.expression) (E.post self.now.expression) (S.pre self.now.specifiers) (S.post self.now.specifiers) (D.pre self.now.declarator) (D.post self.now.declarator) }
+        left: Leveled<Boxed<Expression<'a>>>,
+    ) -> Result<Leveled<Boxed<Expression<'a>>>, Fault>
+        requires deeper { Deeper self.now.levels (E.pre self.now.expression) (E.post self.now.expression)
+            (S.pre self.now.specifiers) (S.post self.now.specifiers) (D.pre self.now.declarator)
+            (D.post self.now.declarator) }
         requires known { Below self.now.levels left.levels (expression_levels (expression_of left.tree)) }
-        ensures { ReadsLeveled expression_of expression_levels (suc self.now.levels) (operation_next self.now.names.now (readers self.now.names.now self.now.levels) self.now.levels (expression_of left.entry.tree) tokens.old.rest.now) result tokens.new.rest.now }
+        ensures { ReadsLeveled expression_of expression_levels (suc self.now.levels)
+            (operation_next self.now.names.now (readers self.now.names.now self.now.levels) self.now.levels
+            (expression_of left.entry.tree) tokens.old.rest.now) result tokens.new.rest.now }
     {
         let [first, rest @ ..] = tokens.rest else {
             return Err(Fault::Refused);
         };
         tokens.rest = rest;
-        match &first.word {
-            Word::Punctuator(punctuator) => self.operation_of(
+        match &first.kind {
+            TokenKind::Punctuator(punctuator) => self.operation_of(
                 tokens,
                 left,
-                first.place,
+                first.position,
                 *punctuator,
             ),
             _ => Err(Fault::Refused),
@@ -322,13 +391,15 @@ impl<
     }
 
     /// Whether the next word goes on with this operand as an expression of at least this precedence.
-    fn goes_on(&self, rest: &[Placed], least: u8, left: &Leveled<Expression<'a>>) -> bool
-        ensures { result ≡ operation_is_next self.now.levels least (expression_of left.now.tree) left.now.levels rest.now }
+    fn goes_on(&self, rest: &[Positioned], least: u8, left: &Leveled<Boxed<Expression<'a>>>) -> bool
+        ensures { result ≡ operation_is_next self.now.levels least (expression_of left.now.tree) left.now.levels
+            rest.now }
     {
         match rest.first() {
             Some(first) => {
-                least <= binds(&first.word)
-                    && (needs(&first.word) <= precedence(&left.tree) && left.levels < self.levels)
+                least <= binds(&first.kind)
+                    && (needs(&first.kind) <= precedence(left.tree.get())
+                        && left.levels < self.levels)
             }
             None => false,
         }
@@ -339,11 +410,15 @@ impl<
         &self,
         tokens: &mut Cursor<'_, 'a>,
         least: u8,
-        first: Leveled<Expression<'a>>,
-    ) -> Result<Leveled<Expression<'a>>, Fault>
-        requires deeper { Deeper self.now.levels (E.pre self.now.expression) (E.post self.now.expression) (S.pre self.now.specifiers) (S.post self.now.specifiers) (D.pre self.now.declarator) (D.post self.now.declarator) }
+        first: Leveled<Boxed<Expression<'a>>>,
+    ) -> Result<Leveled<Boxed<Expression<'a>>>, Fault>
+        requires deeper { Deeper self.now.levels (E.pre self.now.expression) (E.post self.now.expression)
+            (S.pre self.now.specifiers) (S.post self.now.specifiers) (D.pre self.now.declarator)
+            (D.post self.now.declarator) }
         requires known { Below (suc self.now.levels) first.levels (expression_levels (expression_of first.tree)) }
-        ensures { ReadsLeveled expression_of expression_levels (suc self.now.levels) (spec.operations_from self.now.names.now (readers self.now.names.now self.now.levels) self.now.levels self.now.levels least (expression_of first.entry.tree) tokens.old.rest.now) result tokens.new.rest.now }
+        ensures { ReadsLeveled expression_of expression_levels (suc self.now.levels)
+            (spec.operations_from self.now.names.now (readers self.now.names.now self.now.levels) self.now.levels
+            self.now.levels least (expression_of first.entry.tree) tokens.old.rest.now) result tokens.new.rest.now }
     {
         let mut left = first;
         for _ in 0..self.levels {
@@ -359,29 +434,37 @@ impl<
     fn first_operand(
         &self,
         tokens: &mut Cursor<'_, 'a>,
-        opened: Option<Place>,
+        opened: Option<Position>,
         least: u8,
-    ) -> Result<Leveled<Expression<'a>>, Fault>
-        requires deeper { Deeper self.now.levels (E.pre self.now.expression) (E.post self.now.expression) (S.pre self.now.specifiers) (S.post self.now.specifiers) (D.pre self.now.declarator) (D.post self.now.declarator) }
-        ensures { ReadsLeveled expression_of expression_levels (suc self.now.levels) (spec.first_operand self.now.names.now (readers self.now.names.now self.now.levels) self.now.levels opened least tokens.old.rest.now) result tokens.new.rest.now }
+    ) -> Result<Leveled<Boxed<Expression<'a>>>, Fault>
+        requires deeper { Deeper self.now.levels (E.pre self.now.expression) (E.post self.now.expression)
+            (S.pre self.now.specifiers) (S.post self.now.specifiers) (D.pre self.now.declarator)
+            (D.post self.now.declarator) }
+        ensures { ReadsLeveled expression_of expression_levels (suc self.now.levels)
+            (spec.first_operand self.now.names.now (readers self.now.names.now self.now.levels) self.now.levels opened
+            least tokens.old.rest.now) result tokens.new.rest.now }
     {
         match opened {
             None => self.operand(tokens, least),
-            Some(place) if self.levels >= 1 => self.parenthesized(tokens, place),
+            Some(position) if self.levels >= 1 => self.parenthesized(tokens, position),
             Some(_) => Err(Fault::Refused),
         }
     }
 
-    /// Reads an expression of at least this precedence; a place is that of the `(` that was taken.
+    /// Reads an expression of at least this precedence; a position is that of the `(` that was taken.
     #[tactic(auto, unfolding(c_grammar::specs::ExpressionReader::expression_at))]
     pub fn expression_at(
         &self,
         tokens: &mut Cursor<'_, 'a>,
-        opened: Option<Place>,
+        opened: Option<Position>,
         least: u8,
-    ) -> Result<Leveled<Expression<'a>>, Fault>
-        requires deeper { Deeper self.now.levels (E.pre self.now.expression) (E.post self.now.expression) (S.pre self.now.specifiers) (S.post self.now.specifiers) (D.pre self.now.declarator) (D.post self.now.declarator) }
-        ensures { ReadsLeveled expression_of expression_levels (suc self.now.levels) (spec.expression_at self.now.names.now (readers self.now.names.now self.now.levels) self.now.levels opened least tokens.old.rest.now) result tokens.new.rest.now }
+    ) -> Result<Leveled<Boxed<Expression<'a>>>, Fault>
+        requires deeper { Deeper self.now.levels (E.pre self.now.expression) (E.post self.now.expression)
+            (S.pre self.now.specifiers) (S.post self.now.specifiers) (D.pre self.now.declarator)
+            (D.post self.now.declarator) }
+        ensures { ReadsLeveled expression_of expression_levels (suc self.now.levels)
+            (spec.expression_at self.now.names.now (readers self.now.names.now self.now.levels) self.now.levels opened
+            least tokens.old.rest.now) result tokens.new.rest.now }
     {
         let left = self.first_operand(tokens, opened, least)?;
         self.operations(tokens, least, left)

@@ -1,4 +1,5 @@
-//! The rules of the grammar take the functions that read what has fewer levels as values, so that each is proved by itself.
+//! The rules of the grammar take the functions that read what has fewer levels as values, so that each is proved by
+//! itself.
 
 ghost use Rattle.std.specs.Prelude.{◌≡◌};
 ghost use Rattle.c_grammar.specs.Nested.{readers};
@@ -10,7 +11,7 @@ use crate::leveled::Leveled;
 use c_grammar::cursor::{Cursor, Fault};
 use c_grammar::declarator_kind::DeclaratorKind;
 use c_lexer::Spelling;
-use c_syntax::{Declarator, Expression, Items, Place, Specifier};
+use c_syntax::{Boxed, Declarator, Expression, Items, Position, Specifier};
 use std::alloc::Global;
 
 /// The rules for what has at most some number of levels, with the functions that read what has fewer.
@@ -38,9 +39,9 @@ impl<
         &[Spelling<'a>],
         &mut Cursor<'_, 'a>,
         usize,
-        Option<Place>,
+        Option<Position>,
         u8,
-    ) -> Result<Leveled<Expression<'a>>, Fault>,
+    ) -> Result<Leveled<Boxed<Expression<'a>>>, Fault>,
     S: Fn(
         Global,
         &[Spelling<'a>],
@@ -54,17 +55,21 @@ impl<
         &mut Cursor<'_, 'a>,
         usize,
         DeclaratorKind,
-    ) -> Result<Leveled<Declarator<'a>>, Fault>,
+    ) -> Result<Leveled<Boxed<Declarator<'a>>>, Fault>,
 > Grammar<'t, 'a, E, S, D> {
-    /// Reads an expression of at least this precedence with fewer levels; a place is that of the `(` that was taken.
+    /// Reads an expression of at least this precedence with fewer levels; a position is that of the `(` that was taken.
     pub fn expression(
         &self,
         tokens: &mut Cursor<'_, 'a>,
-        opened: Option<Place>,
+        opened: Option<Position>,
         least: u8,
-    ) -> Result<Leveled<Expression<'a>>, Fault>
-        requires { Deeper self.now.levels (E.pre self.now.expression) (E.post self.now.expression) (S.pre self.now.specifiers) (S.post self.now.specifiers) (D.pre self.now.declarator) (D.post self.now.declarator) }
-        ensures { ReadsLeveled expression_of expression_levels self.now.levels ((readers self.now.names.now self.now.levels).expression opened least tokens.old.rest.now) result tokens.new.rest.now }
+    ) -> Result<Leveled<Boxed<Expression<'a>>>, Fault>
+        requires { Deeper self.now.levels (E.pre self.now.expression) (E.post self.now.expression)
+            (S.pre self.now.specifiers) (S.post self.now.specifiers) (D.pre self.now.declarator)
+            (D.post self.now.declarator) }
+        ensures { ReadsLeveled expression_of expression_levels self.now.levels
+            ((readers self.now.names.now self.now.levels).expression opened least tokens.old.rest.now) result
+            tokens.new.rest.now }
     {
         (self.expression)(self.alloc, self.names, tokens, self.levels, opened, least)
     }
@@ -75,8 +80,12 @@ impl<
         tokens: &mut Cursor<'_, 'a>,
         allowed: bool,
     ) -> Result<Leveled<Items<Specifier<'a>>>, Fault>
-        requires { Deeper self.now.levels (E.pre self.now.expression) (E.post self.now.expression) (S.pre self.now.specifiers) (S.post self.now.specifiers) (D.pre self.now.declarator) (D.post self.now.declarator) }
-        ensures { ReadsLeveled specifiers_in specifiers_levels self.now.levels ((readers self.now.names.now self.now.levels).specifiers allowed tokens.old.rest.now) result tokens.new.rest.now }
+        requires { Deeper self.now.levels (E.pre self.now.expression) (E.post self.now.expression)
+            (S.pre self.now.specifiers) (S.post self.now.specifiers) (D.pre self.now.declarator)
+            (D.post self.now.declarator) }
+        ensures { ReadsLeveled specifiers_in specifiers_levels self.now.levels
+            ((readers self.now.names.now self.now.levels).specifiers allowed tokens.old.rest.now) result
+            tokens.new.rest.now }
     {
         (self.specifiers)(self.alloc, self.names, tokens, self.levels, allowed)
     }
@@ -86,9 +95,13 @@ impl<
         &self,
         tokens: &mut Cursor<'_, 'a>,
         kind: DeclaratorKind,
-    ) -> Result<Leveled<Declarator<'a>>, Fault>
-        requires { Deeper self.now.levels (E.pre self.now.expression) (E.post self.now.expression) (S.pre self.now.specifiers) (S.post self.now.specifiers) (D.pre self.now.declarator) (D.post self.now.declarator) }
-        ensures { ReadsLeveled declarator_of declarator_levels self.now.levels ((readers self.now.names.now self.now.levels).declarator kind tokens.old.rest.now) result tokens.new.rest.now }
+    ) -> Result<Leveled<Boxed<Declarator<'a>>>, Fault>
+        requires { Deeper self.now.levels (E.pre self.now.expression) (E.post self.now.expression)
+            (S.pre self.now.specifiers) (S.post self.now.specifiers) (D.pre self.now.declarator)
+            (D.post self.now.declarator) }
+        ensures { ReadsLeveled declarator_of declarator_levels self.now.levels
+            ((readers self.now.names.now self.now.levels).declarator kind tokens.old.rest.now) result
+            tokens.new.rest.now }
     {
         (self.declarator)(self.alloc, self.names, tokens, self.levels, kind)
     }

@@ -1,12 +1,12 @@
-//! Trees with their levels. What is built of large trees goes through these functions, which are generic: a `?` beside an
-//! owned tree drops it, and the proof of a drop writes out the whole type unless the type is a parameter.
+//! Trees with their levels. What is built of large trees goes through these functions, which are generic: a `?` beside
+//! an owned tree drops it, and the proof of a drop writes out the whole type unless the type is a parameter.
 
 ghost use Rattle.std.specs.Prelude.{◌≡◌, ◌++◌, ◌∷◌, [], max, IfOk, Ok, Err, true, false};
 ghost use Rattle.c_grammar.specs.declared.cursor.Fault.TheVariants.{Refused};
 ghost use Rattle.c_grammar.specs.declared.cursor.Fault.{Fault};
 
 use c_grammar::cursor::Fault;
-use c_syntax::{Boxed, Items, Place};
+use c_syntax::{Boxed, Items, Position};
 use std::alloc::{AllocError, Global};
 
 /// A tree and how many levels it has, so that they need no counting.
@@ -62,67 +62,6 @@ impl<T: Drop> Leveled<T> {
     }
 }
 
-/// A value, and a tree in a block of its own, or the answer that there is no memory for it.
-pub fn beside_boxed<T: Drop, U: Drop>(
-    alloc: Global,
-    first: T,
-    second: Leveled<U>,
-) -> Result<(T, Leveled<Boxed<U>>), AllocError>
-    ensures { IfOk result (λ both. (both.0 ≡ first) × (both.1 ≡ second)) }
-{
-    let second = second.boxed(alloc)?;
-    Ok((first, second))
-}
-
-/// Two trees, each in a block of its own, or the answer that there is no memory for them.
-pub fn boxed_pair<T: Drop, U: Drop>(
-    alloc: Global,
-    pair: (Leveled<T>, Leveled<U>),
-) -> Result<(Leveled<Boxed<T>>, Leveled<Boxed<U>>), AllocError>
-    ensures { IfOk result (λ boxed. (boxed.0 ≡ pair.0) × (boxed.1 ≡ pair.1)) }
-{
-    let (first, second) = pair;
-    let (second, first) = beside_boxed(alloc, second, first)?;
-    beside_boxed(alloc, first, second)
-}
-
-/// Two trees as one, the second in a block of its own, with the levels of the deeper, or the answer that there is no memory
-/// for it.
-pub fn joined<T: Drop, U: Drop>(
-    alloc: Global,
-    pair: (Leveled<T>, Leveled<U>),
-) -> Result<Leveled<(T, Boxed<U>)>, AllocError>
-    ensures { IfOk result (λ both. (both.tree.0 ≡ pair.0.tree) × ((both.tree.1 ≡ pair.1.tree) × (both.levels ≡ max pair.0.levels pair.1.levels))) }
-{
-    let (first, second) = pair;
-    let (first, second) = beside_boxed(alloc, first, second)?;
-    Ok(Leveled {
-        levels: first.levels.max(second.levels),
-        tree: (first.tree, second.tree),
-    })
-}
-
-/// Three trees as one, each in a block of its own, with the levels of the deepest, or the answer that there is no memory for
-/// them.
-pub fn boxed_three<T: Drop>(
-    alloc: Global,
-    pair: (Leveled<T>, Leveled<T>),
-    third: Leveled<T>,
-) -> Result<Leveled<(Boxed<T>, Boxed<T>, Boxed<T>)>, AllocError>
-    ensures trees { IfOk result (λ all. (all.tree.0 ≡ pair.0.tree) × ((all.tree.1 ≡ pair.1.tree) × (all.tree.2 ≡ third.tree))) }
-    ensures levels { IfOk result (λ all. all.levels ≡ max pair.0.levels (max pair.1.levels third.levels)) }
-{
-    let (first, second) = pair;
-    let levels = first.levels.max(second.levels.max(third.levels));
-    let first = Boxed::new(alloc, first.tree)?;
-    let second = Boxed::new(alloc, second.tree)?;
-    let third = Boxed::new(alloc, third.tree)?;
-    Ok(Leveled {
-        tree: (first, second, third),
-        levels,
-    })
-}
-
 /// No trees.
 pub fn no_trees<T>(alloc: Global) -> Leveled<Vec<T>>
     ensures trees { result.tree.items ≡ [] }
@@ -145,7 +84,8 @@ pub fn with_tree<T: Drop>(
     trees: Leveled<Vec<T>>,
     tree: Leveled<T>,
 ) -> Result<Leveled<Vec<T>>, AllocError>
-    ensures { IfOk result (λ more. (more.tree.items ≡ trees.tree.items ++ (tree.tree ∷ [])) × (more.levels ≡ max tree.levels trees.levels)) }
+    ensures { IfOk result (λ more. (more.tree.items ≡ trees.tree.items ++ (tree.tree ∷ []))
+        × (more.levels ≡ max tree.levels trees.levels)) }
 {
     let levels = tree.levels.max(trees.levels);
     let tree = with_item(trees.tree, tree.tree)?;
@@ -154,11 +94,12 @@ pub fn with_tree<T: Drop>(
 
 /// The trees and one more behind a comma, or the answer that there is no memory for it.
 pub fn with_next<T: Drop>(
-    trees: Leveled<Vec<(Place, T)>>,
-    comma: Place,
+    trees: Leveled<Vec<(Position, T)>>,
+    comma: Position,
     tree: Leveled<T>,
-) -> Result<Leveled<Vec<(Place, T)>>, AllocError>
-    ensures { IfOk result (λ more. (more.tree.items ≡ trees.tree.items ++ ((comma, tree.tree) ∷ [])) × (more.levels ≡ max tree.levels trees.levels)) }
+) -> Result<Leveled<Vec<(Position, T)>>, AllocError>
+    ensures { IfOk result (λ more. (more.tree.items ≡ trees.tree.items ++ ((comma, tree.tree) ∷ []))
+        × (more.levels ≡ max tree.levels trees.levels)) }
 {
     let Leveled { tree, levels } = tree;
     with_tree(
@@ -184,8 +125,8 @@ pub fn as_items<T>(trees: Leveled<Vec<T>>) -> Leveled<Items<T>>
 /// The trees as a list, and the comma behind the last of them, where one stands there.
 pub fn before_comma<T>(
     trees: Leveled<Vec<T>>,
-    comma: Option<Place>,
-) -> Leveled<(Items<T>, Option<Place>)>
+    comma: Option<Position>,
+) -> Leveled<(Items<T>, Option<Position>)>
     ensures trees { result.tree.0 ≡ trees.tree.items }
     ensures comma { result.tree.1 ≡ comma }
     ensures levels { result.levels ≡ trees.levels }

@@ -11,21 +11,22 @@ use crate::leveled::Leveled;
 use c_grammar::cursor::{Cursor, Fault};
 use c_grammar::declarator_kind::DeclaratorKind;
 use c_lexer::Spelling;
-use c_syntax::{Declarator, Expression, Items, Place, Specifier};
+use c_syntax::{Boxed, Declarator, Expression, Items, Position, Specifier};
 use std::alloc::Global;
 
-/// Reads an expression of at least this precedence with fewer than this number of levels; a place is that of the `(` that
-/// was taken (C99 6.5).
+/// Reads an expression of at least this precedence with fewer than this number of levels; a position is that of the `(`
+/// that was taken (C99 6.5).
 #[cycle(reader)]
 pub fn expression<'a>(
     alloc: Global,
     names: &[Spelling<'a>],
     tokens: &mut Cursor<'_, 'a>,
     levels: usize,
-    opened: Option<Place>,
+    opened: Option<Position>,
     least: u8,
-) -> Result<Leveled<Expression<'a>>, Fault>
-    ensures { ReadsLeveled expression_of expression_levels levels ((readers names.now levels).expression opened least tokens.old.rest.now) result tokens.new.rest.now }
+) -> Result<Leveled<Boxed<Expression<'a>>>, Fault>
+    ensures { ReadsLeveled expression_of expression_levels levels
+        ((readers names.now levels).expression opened least tokens.old.rest.now) result tokens.new.rest.now }
 {
     if levels == 0 {
         return Err(Fault::Refused);
@@ -41,7 +42,8 @@ pub fn expression<'a>(
     .expression_at(tokens, opened, least)
 }
 
-/// Reads specifiers with fewer than this number of levels, `typedef` among them where it is allowed (C99 6.7.1 to 6.7.4).
+/// Reads specifiers with fewer than this number of levels, `typedef` among them where it is allowed (C99 6.7.1 to
+/// 6.7.4).
 #[cycle(reader)]
 pub fn specifiers<'a>(
     alloc: Global,
@@ -50,7 +52,8 @@ pub fn specifiers<'a>(
     levels: usize,
     allowed: bool,
 ) -> Result<Leveled<Items<Specifier<'a>>>, Fault>
-    ensures { ReadsLeveled specifiers_in specifiers_levels levels ((readers names.now levels).specifiers allowed tokens.old.rest.now) result tokens.new.rest.now }
+    ensures { ReadsLeveled specifiers_in specifiers_levels levels
+        ((readers names.now levels).specifiers allowed tokens.old.rest.now) result tokens.new.rest.now }
 {
     if levels == 0 {
         return Err(Fault::Refused);
@@ -74,8 +77,9 @@ pub fn declarator<'a>(
     tokens: &mut Cursor<'_, 'a>,
     levels: usize,
     kind: DeclaratorKind,
-) -> Result<Leveled<Declarator<'a>>, Fault>
-    ensures { ReadsLeveled declarator_of declarator_levels levels ((readers names.now levels).declarator kind tokens.old.rest.now) result tokens.new.rest.now }
+) -> Result<Leveled<Boxed<Declarator<'a>>>, Fault>
+    ensures { ReadsLeveled declarator_of declarator_levels levels
+        ((readers names.now levels).declarator kind tokens.old.rest.now) result tokens.new.rest.now }
 {
     if levels == 0 {
         return Err(Fault::Refused);

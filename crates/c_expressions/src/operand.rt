@@ -1,7 +1,7 @@
 //! Reading operands: names, constants, parentheses, unary operators, casts and `sizeof` (C99 6.5.1, 6.5.3, 6.5.4).
 
 ghost use Rattle.std.specs.Prelude.{◌≡◌, suc, ◌∷◌};
-ghost use Rattle.c_lexer.specs.declared.token.Word.TheVariants as word;
+ghost use Rattle.c_lexer.specs.declared.token.TokenKind.TheVariants as kinds;
 ghost use Rattle.c_grammar.specs.ExpressionReader as spec;
 ghost use Rattle.c_grammar.specs.Nested.{readers};
 ghost use Rattle.c_expressions.specs.Steps.{unary_from};
@@ -12,50 +12,51 @@ ghost use Rattle.c_syntax.specs.View.{expression_of};
 ghost use Rattle.c_syntax.specs.Levels.{expression_levels};
 
 use crate::grammar::Grammar;
-use crate::leveled::{Leveled, beside, beside_boxed, leaf};
+use crate::leveled::{Leveled, beside, leaf};
 use crate::specifier::begins_specifiers;
 use c_grammar::cursor::{Cursor, Fault, is_punctuator, is_same, spelled};
 use c_grammar::declarator_kind::DeclaratorKind;
-use c_lexer::{Keyword, Punctuator, Spelling, Word};
+use c_lexer::{Keyword, Punctuator, Spelling, TokenKind};
 use c_syntax::names::is_among;
 use c_syntax::operators::operand_precedence;
-use c_syntax::{Declarator, Expression, Items, Place, Placed, Specifier, Spelled};
+use c_syntax::{Boxed, Declarator, Expression, Items, Position, Positioned, Specifier, Spelled};
 use std::alloc::Global;
 
 /// An identifier as an expression.
-fn identifier<'a>(spelling: &Spelling<'a>, place: Place) -> Leveled<Expression<'a>>
-    ensures tree { expression_of result.tree ≡ t.identifier (record { spelling = spelling.now; place = place }) }
+fn identifier<'a>(spelling: &Spelling<'a>, position: Position) -> Leveled<Expression<'a>>
+    ensures tree { expression_of result.tree ≡ t.identifier (record { spelling = spelling.now; position = position }) }
     ensures levels { result.levels ≡ 0 }
 {
-    leaf(Expression::Identifier(spelled(spelling, place)))
+    leaf(Expression::Identifier(spelled(spelling, position)))
 }
 
 /// An integer constant as an expression.
-fn integer<'a>(spelling: &Spelling<'a>, place: Place) -> Leveled<Expression<'a>>
-    ensures tree { expression_of result.tree ≡ t.integer (record { spelling = spelling.now; place = place }) }
+fn integer<'a>(spelling: &Spelling<'a>, position: Position) -> Leveled<Expression<'a>>
+    ensures tree { expression_of result.tree ≡ t.integer (record { spelling = spelling.now; position = position }) }
     ensures levels { result.levels ≡ 0 }
 {
-    leaf(Expression::Integer(spelled(spelling, place)))
+    leaf(Expression::Integer(spelled(spelling, position)))
 }
 
 /// A character constant as an expression.
-fn character<'a>(spelling: &Spelling<'a>, place: Place) -> Leveled<Expression<'a>>
-    ensures tree { expression_of result.tree ≡ t.character (record { spelling = spelling.now; place = place }) }
+fn character<'a>(spelling: &Spelling<'a>, position: Position) -> Leveled<Expression<'a>>
+    ensures tree { expression_of result.tree ≡ t.character (record { spelling = spelling.now; position = position }) }
     ensures levels { result.levels ≡ 0 }
 {
-    leaf(Expression::Character(spelled(spelling, place)))
+    leaf(Expression::Character(spelled(spelling, position)))
 }
 
 /// String literals that stand side by side as an expression.
 fn strings<'a>(
     spelling: &Spelling<'a>,
-    place: Place,
+    position: Position,
     others: Items<Spelled<'a>>,
 ) -> Leveled<Expression<'a>>
-    ensures tree { expression_of result.tree ≡ t.strings (record { spelling = spelling.now; place = place }) others.entry }
+    ensures tree { expression_of result.tree ≡ t.strings (record { spelling = spelling.now; position = position })
+        others.entry }
     ensures levels { result.levels ≡ 0 }
 {
-    leaf(Expression::Strings(spelled(spelling, place), others))
+    leaf(Expression::Strings(spelled(spelling, position), others))
 }
 
 impl<
@@ -66,9 +67,9 @@ impl<
         &[Spelling<'a>],
         &mut Cursor<'_, 'a>,
         usize,
-        Option<Place>,
+        Option<Position>,
         u8,
-    ) -> Result<Leveled<Expression<'a>>, Fault>,
+    ) -> Result<Leveled<Boxed<Expression<'a>>>, Fault>,
     S: Fn(
         Global,
         &[Spelling<'a>],
@@ -82,24 +83,29 @@ impl<
         &mut Cursor<'_, 'a>,
         usize,
         DeclaratorKind,
-    ) -> Result<Leveled<Declarator<'a>>, Fault>,
+    ) -> Result<Leveled<Boxed<Declarator<'a>>>, Fault>,
 > Grammar<'t, 'a, E, S, D> {
     /// Reads what follows the `(` of an expression in parentheses (C99 6.5.1).
     #[tactic(auto, unfolding(c_grammar::specs::ExpressionReader::parenthesized_from))]
     pub(crate) fn parenthesized(
         &self,
         tokens: &mut Cursor<'_, 'a>,
-        place: Place,
-    ) -> Result<Leveled<Expression<'a>>, Fault>
-        requires deeper { Deeper self.now.levels (E.pre self.now.expression) (E.post self.now.expression) (S.pre self.now.specifiers) (S.post self.now.specifiers) (D.pre self.now.declarator) (D.post self.now.declarator) }
-        ensures { ReadsLeveled expression_of expression_levels (suc self.now.levels) (spec.parenthesized_from self.now.names.now (readers self.now.names.now self.now.levels) self.now.levels place tokens.old.rest.now) result tokens.new.rest.now }
+        position: Position,
+    ) -> Result<Leveled<Boxed<Expression<'a>>>, Fault>
+        requires deeper { Deeper self.now.levels (E.pre self.now.expression) (E.post self.now.expression)
+            (S.pre self.now.specifiers) (S.post self.now.specifiers) (D.pre self.now.declarator)
+            (D.post self.now.declarator) }
+        ensures { ReadsLeveled expression_of expression_levels (suc self.now.levels)
+            (spec.parenthesized_from self.now.names.now (readers self.now.names.now self.now.levels) self.now.levels
+            position tokens.old.rest.now) result tokens.new.rest.now }
     {
-        let inner = self.expression(tokens, None, 1)?.boxed(self.alloc)?;
+        let inner = self.expression(tokens, None, 1)?;
         let (inner, right) = beside(inner, tokens.expect(Punctuator::RightParenthesis))?;
-        Ok(Leveled {
-            tree: Expression::Parenthesized(place, inner.tree, right),
+        let tree = Leveled {
+            tree: Expression::Parenthesized(position, inner.tree, right),
             levels: inner.levels + 1,
-        })
+        };
+        Ok(tree.boxed(self.alloc)?)
     }
 
     /// Reads what follows the `(` of a cast (C99 6.5.4).
@@ -107,21 +113,25 @@ impl<
     fn cast(
         &self,
         tokens: &mut Cursor<'_, 'a>,
-        place: Place,
-    ) -> Result<Leveled<Expression<'a>>, Fault>
-        requires deeper { Deeper self.now.levels (E.pre self.now.expression) (E.post self.now.expression) (S.pre self.now.specifiers) (S.post self.now.specifiers) (D.pre self.now.declarator) (D.post self.now.declarator) }
-        ensures { ReadsLeveled expression_of expression_levels (suc self.now.levels) (spec.cast_from self.now.names.now (readers self.now.names.now self.now.levels) self.now.levels place tokens.old.rest.now) result tokens.new.rest.now }
+        position: Position,
+    ) -> Result<Leveled<Boxed<Expression<'a>>>, Fault>
+        requires deeper { Deeper self.now.levels (E.pre self.now.expression) (E.post self.now.expression)
+            (S.pre self.now.specifiers) (S.post self.now.specifiers) (D.pre self.now.declarator)
+            (D.post self.now.declarator) }
+        ensures { ReadsLeveled expression_of expression_levels (suc self.now.levels)
+            (spec.cast_from self.now.names.now (readers self.now.names.now self.now.levels) self.now.levels position
+            tokens.old.rest.now) result tokens.new.rest.now }
     {
         let name = self
             .typed(tokens, DeclaratorKind::Abstract)?
             .boxed(self.alloc)?;
         let (name, right) = beside(name, tokens.expect(Punctuator::RightParenthesis))?;
         let (name, operand) = beside(name, self.expression(tokens, None, 14))?;
-        let (name, operand) = beside_boxed(self.alloc, name, operand)?;
-        Ok(Leveled {
-            tree: Expression::Cast(place, name.tree, right, operand.tree),
+        let tree = Leveled {
+            tree: Expression::Cast(position, name.tree, right, operand.tree),
             levels: name.levels.max(operand.levels) + 1,
-        })
+        };
+        Ok(tree.boxed(self.alloc)?)
     }
 
     /// Reads what follows a `(` that begins a cast or an expression in parentheses.
@@ -130,16 +140,20 @@ impl<
         &self,
         tokens: &mut Cursor<'_, 'a>,
         least: u8,
-        place: Place,
-    ) -> Result<Leveled<Expression<'a>>, Fault>
-        requires deeper { Deeper self.now.levels (E.pre self.now.expression) (E.post self.now.expression) (S.pre self.now.specifiers) (S.post self.now.specifiers) (D.pre self.now.declarator) (D.post self.now.declarator) }
-        ensures { ReadsLeveled expression_of expression_levels (suc self.now.levels) (spec.parenthesis_from self.now.names.now (readers self.now.names.now self.now.levels) self.now.levels least place tokens.old.rest.now) result tokens.new.rest.now }
+        position: Position,
+    ) -> Result<Leveled<Boxed<Expression<'a>>>, Fault>
+        requires deeper { Deeper self.now.levels (E.pre self.now.expression) (E.post self.now.expression)
+            (S.pre self.now.specifiers) (S.post self.now.specifiers) (D.pre self.now.declarator)
+            (D.post self.now.declarator) }
+        ensures { ReadsLeveled expression_of expression_levels (suc self.now.levels)
+            (spec.parenthesis_from self.now.names.now (readers self.now.names.now self.now.levels) self.now.levels least
+            position tokens.old.rest.now) result tokens.new.rest.now }
     {
         if !begins_specifiers(self.names, tokens.rest) {
-            return self.parenthesized(tokens, place);
+            return self.parenthesized(tokens, position);
         }
         if least <= 14 {
-            self.cast(tokens, place)
+            self.cast(tokens, position)
         } else {
             Err(Fault::Refused)
         }
@@ -150,27 +164,33 @@ impl<
     fn sizeof_parenthesis(
         &self,
         tokens: &mut Cursor<'_, 'a>,
-        place: Place,
-        left: Place,
-    ) -> Result<Leveled<Expression<'a>>, Fault>
-        requires deeper { Deeper self.now.levels (E.pre self.now.expression) (E.post self.now.expression) (S.pre self.now.specifiers) (S.post self.now.specifiers) (D.pre self.now.declarator) (D.post self.now.declarator) }
-        ensures { ReadsLeveled expression_of expression_levels (suc self.now.levels) (spec.sizeof_parenthesis_from self.now.names.now (readers self.now.names.now self.now.levels) self.now.levels place left tokens.old.rest.now) result tokens.new.rest.now }
+        position: Position,
+        left: Position,
+    ) -> Result<Leveled<Boxed<Expression<'a>>>, Fault>
+        requires deeper { Deeper self.now.levels (E.pre self.now.expression) (E.post self.now.expression)
+            (S.pre self.now.specifiers) (S.post self.now.specifiers) (D.pre self.now.declarator)
+            (D.post self.now.declarator) }
+        ensures { ReadsLeveled expression_of expression_levels (suc self.now.levels)
+            (spec.sizeof_parenthesis_from self.now.names.now (readers self.now.names.now self.now.levels)
+            self.now.levels position left tokens.old.rest.now) result tokens.new.rest.now }
     {
         if begins_specifiers(self.names, tokens.rest) {
             let name = self
                 .typed(tokens, DeclaratorKind::Abstract)?
                 .boxed(self.alloc)?;
             let (name, right) = beside(name, tokens.expect(Punctuator::RightParenthesis))?;
-            return Ok(Leveled {
-                tree: Expression::SizeofType(place, left, name.tree, right),
+            let tree = Leveled {
+                tree: Expression::SizeofType(position, left, name.tree, right),
                 levels: name.levels + 1,
-            });
+            };
+            return Ok(tree.boxed(self.alloc)?);
         }
-        let operand = self.expression(tokens, Some(left), 15)?.boxed(self.alloc)?;
-        Ok(Leveled {
-            tree: Expression::SizeofExpression(place, operand.tree),
+        let operand = self.expression(tokens, Some(left), 15)?;
+        let tree = Leveled {
+            tree: Expression::SizeofExpression(position, operand.tree),
             levels: operand.levels + 1,
-        })
+        };
+        Ok(tree.boxed(self.alloc)?)
     }
 
     /// Reads what follows `sizeof` (C99 6.5.3.4).
@@ -178,23 +198,28 @@ impl<
     fn sizeof_operand(
         &self,
         tokens: &mut Cursor<'_, 'a>,
-        place: Place,
-    ) -> Result<Leveled<Expression<'a>>, Fault>
-        requires deeper { Deeper self.now.levels (E.pre self.now.expression) (E.post self.now.expression) (S.pre self.now.specifiers) (S.post self.now.specifiers) (D.pre self.now.declarator) (D.post self.now.declarator) }
-        ensures { ReadsLeveled expression_of expression_levels (suc self.now.levels) (spec.sizeof_from self.now.names.now (readers self.now.names.now self.now.levels) self.now.levels place tokens.old.rest.now) result tokens.new.rest.now }
+        position: Position,
+    ) -> Result<Leveled<Boxed<Expression<'a>>>, Fault>
+        requires deeper { Deeper self.now.levels (E.pre self.now.expression) (E.post self.now.expression)
+            (S.pre self.now.specifiers) (S.post self.now.specifiers) (D.pre self.now.declarator)
+            (D.post self.now.declarator) }
+        ensures { ReadsLeveled expression_of expression_levels (suc self.now.levels)
+            (spec.sizeof_from self.now.names.now (readers self.now.names.now self.now.levels) self.now.levels position
+            tokens.old.rest.now) result tokens.new.rest.now }
     {
         let [first, rest @ ..] = tokens.rest else {
             return Err(Fault::Refused);
         };
-        if is_punctuator(&first.word, Punctuator::LeftParenthesis) {
+        if is_punctuator(&first.kind, Punctuator::LeftParenthesis) {
             tokens.rest = rest;
-            return self.sizeof_parenthesis(tokens, place, first.place);
+            return self.sizeof_parenthesis(tokens, position, first.position);
         }
-        let operand = self.expression(tokens, None, 15)?.boxed(self.alloc)?;
-        Ok(Leveled {
-            tree: Expression::SizeofExpression(place, operand.tree),
+        let operand = self.expression(tokens, None, 15)?;
+        let tree = Leveled {
+            tree: Expression::SizeofExpression(position, operand.tree),
             levels: operand.levels + 1,
-        })
+        };
+        Ok(tree.boxed(self.alloc)?)
     }
 
     /// Reads what follows a unary operator (C99 6.5.3).
@@ -202,17 +227,21 @@ impl<
         &self,
         tokens: &mut Cursor<'_, 'a>,
         operator: Punctuator,
-        place: Place,
-    ) -> Result<Leveled<Expression<'a>>, Fault>
-        requires deeper { Deeper self.now.levels (E.pre self.now.expression) (E.post self.now.expression) (S.pre self.now.specifiers) (S.post self.now.specifiers) (D.pre self.now.declarator) (D.post self.now.declarator) }
-        ensures { ReadsLeveled expression_of expression_levels (suc self.now.levels) (unary_from (readers self.now.names.now self.now.levels) operator place tokens.old.rest.now) result tokens.new.rest.now }
+        position: Position,
+    ) -> Result<Leveled<Boxed<Expression<'a>>>, Fault>
+        requires deeper { Deeper self.now.levels (E.pre self.now.expression) (E.post self.now.expression)
+            (S.pre self.now.specifiers) (S.post self.now.specifiers) (D.pre self.now.declarator)
+            (D.post self.now.declarator) }
+        ensures { ReadsLeveled expression_of expression_levels (suc self.now.levels)
+            (unary_from (readers self.now.names.now self.now.levels) operator position tokens.old.rest.now) result
+            tokens.new.rest.now }
     {
         let operand = self.expression(tokens, None, operand_precedence(operator))?;
-        let operand = operand.boxed(self.alloc)?;
-        Ok(Leveled {
-            tree: Expression::Unary(operator, place, operand.tree),
+        let tree = Leveled {
+            tree: Expression::Unary(operator, position, operand.tree),
             levels: operand.levels + 1,
-        })
+        };
+        Ok(tree.boxed(self.alloc)?)
     }
 
     /// Reads an operand that begins with a punctuator, which is next, before the rest.
@@ -222,20 +251,24 @@ impl<
         tokens: &mut Cursor<'r, 'a>,
         least: u8,
         punctuator: Punctuator,
-        place: Place,
-        rest: &'r [Placed<'a>],
-    ) -> Result<Leveled<Expression<'a>>, Fault>
-        requires deeper { Deeper self.now.levels (E.pre self.now.expression) (E.post self.now.expression) (S.pre self.now.specifiers) (S.post self.now.specifiers) (D.pre self.now.declarator) (D.post self.now.declarator) }
-        requires next { tokens.old.rest.now ≡ word_at (word.Punctuator punctuator) place ∷ rest.now }
-        ensures { ReadsLeveled expression_of expression_levels (suc self.now.levels) (spec.operand_by_punctuator self.now.names.now (readers self.now.names.now self.now.levels) self.now.levels least punctuator place rest.now) result tokens.new.rest.now }
+        position: Position,
+        rest: &'r [Positioned<'a>],
+    ) -> Result<Leveled<Boxed<Expression<'a>>>, Fault>
+        requires deeper { Deeper self.now.levels (E.pre self.now.expression) (E.post self.now.expression)
+            (S.pre self.now.specifiers) (S.post self.now.specifiers) (D.pre self.now.declarator)
+            (D.post self.now.declarator) }
+        requires next { tokens.old.rest.now ≡ word_at (kinds.Punctuator punctuator) position ∷ rest.now }
+        ensures { ReadsLeveled expression_of expression_levels (suc self.now.levels)
+            (spec.operand_by_punctuator self.now.names.now (readers self.now.names.now self.now.levels) self.now.levels
+            least punctuator position rest.now) result tokens.new.rest.now }
     {
         if operand_precedence(punctuator) >= 1 && self.levels >= 1 {
             tokens.rest = rest;
-            return self.unary(tokens, punctuator, place);
+            return self.unary(tokens, punctuator, position);
         }
         if is_same(Punctuator::LeftParenthesis, punctuator) && self.levels >= 1 {
             tokens.rest = rest;
-            return self.parenthesis(tokens, least, place);
+            return self.parenthesis(tokens, least, position);
         }
         Err(Fault::Refused)
     }
@@ -246,41 +279,45 @@ impl<
         &self,
         tokens: &mut Cursor<'_, 'a>,
         least: u8,
-    ) -> Result<Leveled<Expression<'a>>, Fault>
-        requires deeper { Deeper self.now.levels (E.pre self.now.expression) (E.post self.now.expression) (S.pre self.now.specifiers) (S.post self.now.specifiers) (D.pre self.now.declarator) (D.post self.now.declarator) }
-        ensures { ReadsLeveled expression_of expression_levels (suc self.now.levels) (spec.operand_from self.now.names.now (readers self.now.names.now self.now.levels) self.now.levels least tokens.old.rest.now) result tokens.new.rest.now }
+    ) -> Result<Leveled<Boxed<Expression<'a>>>, Fault>
+        requires deeper { Deeper self.now.levels (E.pre self.now.expression) (E.post self.now.expression)
+            (S.pre self.now.specifiers) (S.post self.now.specifiers) (D.pre self.now.declarator)
+            (D.post self.now.declarator) }
+        ensures { ReadsLeveled expression_of expression_levels (suc self.now.levels)
+            (spec.operand_from self.now.names.now (readers self.now.names.now self.now.levels) self.now.levels least
+            tokens.old.rest.now) result tokens.new.rest.now }
     {
         let [first, rest @ ..] = tokens.rest else {
             return Err(Fault::Refused);
         };
-        let place = first.place;
-        match &first.word {
-            Word::Identifier(spelling) => {
+        let position = first.position;
+        match &first.kind {
+            TokenKind::Identifier(spelling) => {
                 if is_among(self.names, spelling) {
                     return Err(Fault::Refused);
                 }
                 tokens.rest = rest;
-                Ok(identifier(spelling, place))
+                Ok(identifier(spelling, position).boxed(self.alloc)?)
             }
-            Word::Integer(spelling) => {
+            TokenKind::Integer(spelling) => {
                 tokens.rest = rest;
-                Ok(integer(spelling, place))
+                Ok(integer(spelling, position).boxed(self.alloc)?)
             }
-            Word::Character(spelling) => {
+            TokenKind::Character(spelling) => {
                 tokens.rest = rest;
-                Ok(character(spelling, place))
+                Ok(character(spelling, position).boxed(self.alloc)?)
             }
-            Word::StringLiteral(spelling) => {
+            TokenKind::StringLiteral(spelling) => {
                 tokens.rest = rest;
                 let others = tokens.strings(self.alloc)?;
-                Ok(strings(spelling, place, others))
+                Ok(strings(spelling, position, others).boxed(self.alloc)?)
             }
-            Word::Punctuator(punctuator) => {
-                self.operand_by_punctuator(tokens, least, *punctuator, place, rest)
+            TokenKind::Punctuator(punctuator) => {
+                self.operand_by_punctuator(tokens, least, *punctuator, position, rest)
             }
-            Word::Keyword(Keyword::Sizeof) if self.levels >= 1 => {
+            TokenKind::Keyword(Keyword::Sizeof) if self.levels >= 1 => {
                 tokens.rest = rest;
-                self.sizeof_operand(tokens, place)
+                self.sizeof_operand(tokens, position)
             }
             _ => Err(Fault::Refused),
         }

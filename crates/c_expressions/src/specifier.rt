@@ -15,9 +15,11 @@ use crate::grammar::Grammar;
 use crate::leveled::{Leveled, as_items, beside, leaf, no_trees, where_true, with_tree};
 use c_grammar::cursor::{Cursor, Fault, spelled};
 use c_grammar::declarator_kind::DeclaratorKind;
-use c_lexer::{Keyword, Spelling, Word};
+use c_lexer::{Keyword, Spelling, TokenKind};
 use c_syntax::names::is_among;
-use c_syntax::{Declarator, Expression, Items, Place, Placed, Specifier, Spelled, TypeWords};
+use c_syntax::{
+    Boxed, Declarator, Expression, Items, Position, Positioned, Specifier, Spelled, TypeWords,
+};
 use std::alloc::Global;
 
 /// Whether the keyword may begin specifiers.
@@ -31,13 +33,13 @@ fn is_specifier_keyword(keyword: Keyword) -> bool
 }
 
 /// Whether the next word may begin specifiers.
-pub fn begins_specifiers(names: &[Spelling], rest: &[Placed]) -> bool
+pub fn begins_specifiers(names: &[Spelling], rest: &[Positioned]) -> bool
     ensures { result ≡ common.begins_specifiers names.now rest.now }
 {
     match rest.first() {
-        Some(first) => match &first.word {
-            Word::Keyword(keyword) => is_specifier_keyword(*keyword),
-            Word::Identifier(spelling) => is_among(names, spelling),
+        Some(first) => match &first.kind {
+            TokenKind::Keyword(keyword) => is_specifier_keyword(*keyword),
+            TokenKind::Identifier(spelling) => is_among(names, spelling),
             _ => false,
         },
         None => false,
@@ -78,9 +80,9 @@ impl<
         &[Spelling<'a>],
         &mut Cursor<'_, 'a>,
         usize,
-        Option<Place>,
+        Option<Position>,
         u8,
-    ) -> Result<Leveled<Expression<'a>>, Fault>,
+    ) -> Result<Leveled<Boxed<Expression<'a>>>, Fault>,
     S: Fn(
         Global,
         &[Spelling<'a>],
@@ -94,64 +96,74 @@ impl<
         &mut Cursor<'_, 'a>,
         usize,
         DeclaratorKind,
-    ) -> Result<Leveled<Declarator<'a>>, Fault>,
+    ) -> Result<Leveled<Boxed<Declarator<'a>>>, Fault>,
 > Grammar<'t, 'a, E, S, D> {
     /// Reads what follows a keyword that goes on with specifiers.
     fn specifier_by_keyword(
         &self,
         tokens: &mut Cursor<'_, 'a>,
         keyword: Keyword,
-        place: Place,
+        position: Position,
     ) -> Result<Leveled<Specifier<'a>>, Fault>
-        requires deeper { Deeper self.now.levels (E.pre self.now.expression) (E.post self.now.expression) (S.pre self.now.specifiers) (S.post self.now.specifiers) (D.pre self.now.declarator) (D.post self.now.declarator) }
-        ensures { ReadsLeveled specifier_of specifier_levels (suc self.now.levels) (spec.specifier_by_keyword self.now.names.now (readers self.now.names.now self.now.levels) self.now.levels keyword place tokens.old.rest.now) result tokens.new.rest.now }
+        requires deeper { Deeper self.now.levels (E.pre self.now.expression) (E.post self.now.expression)
+            (S.pre self.now.specifiers) (S.post self.now.specifiers) (D.pre self.now.declarator)
+            (D.post self.now.declarator) }
+        ensures { ReadsLeveled specifier_of specifier_levels (suc self.now.levels)
+            (spec.specifier_by_keyword self.now.names.now (readers self.now.names.now self.now.levels) self.now.levels
+            keyword position tokens.old.rest.now) result tokens.new.rest.now }
     {
         match keyword {
-            Keyword::Struct | Keyword::Union => self.structure(tokens, keyword, place),
-            Keyword::Enum => self.enumeration(tokens, place),
-            _ => Ok(leaf(Specifier::Keyword(keyword, place))),
+            Keyword::Struct | Keyword::Union => self.structure(tokens, keyword, position),
+            Keyword::Enum => self.enumeration(tokens, position),
+            _ => Ok(leaf(Specifier::Keyword(keyword, position))),
         }
     }
 
     /// Reads a specifier by its first word.
     fn specifier(&self, tokens: &mut Cursor<'_, 'a>) -> Result<Leveled<Specifier<'a>>, Fault>
-        requires deeper { Deeper self.now.levels (E.pre self.now.expression) (E.post self.now.expression) (S.pre self.now.specifiers) (S.post self.now.specifiers) (D.pre self.now.declarator) (D.post self.now.declarator) }
-        ensures { ReadsLeveled specifier_of specifier_levels (suc self.now.levels) (specifier_next self.now.names.now (readers self.now.names.now self.now.levels) self.now.levels tokens.old.rest.now) result tokens.new.rest.now }
+        requires deeper { Deeper self.now.levels (E.pre self.now.expression) (E.post self.now.expression)
+            (S.pre self.now.specifiers) (S.post self.now.specifiers) (D.pre self.now.declarator)
+            (D.post self.now.declarator) }
+        ensures { ReadsLeveled specifier_of specifier_levels (suc self.now.levels)
+            (specifier_next self.now.names.now (readers self.now.names.now self.now.levels) self.now.levels
+            tokens.old.rest.now) result tokens.new.rest.now }
     {
         let [first, rest @ ..] = tokens.rest else {
             return Err(Fault::Refused);
         };
-        match &first.word {
-            Word::Keyword(keyword) => {
+        match &first.kind {
+            TokenKind::Keyword(keyword) => {
                 tokens.rest = rest;
-                self.specifier_by_keyword(tokens, *keyword, first.place)
+                self.specifier_by_keyword(tokens, *keyword, first.position)
             }
-            Word::Identifier(spelling) => {
+            TokenKind::Identifier(spelling) => {
                 tokens.rest = rest;
-                Ok(typedef_name(spelled(spelling, first.place)))
+                Ok(typedef_name(spelled(spelling, first.position)))
             }
             _ => Err(Fault::Refused),
         }
     }
 
     /// Whether a word goes on with specifiers behind these words of a type, where `typedef` is allowed or not.
-    fn goes_on_with(&self, allowed: bool, words: TypeWords, word: &Word) -> bool
-        ensures { result ≡ spec.goes_on_with self.now.names.now (readers self.now.names.now self.now.levels) self.now.levels allowed words word.now }
+    fn goes_on_with(&self, allowed: bool, words: TypeWords, word: &TokenKind) -> bool
+        ensures { result ≡ spec.goes_on_with self.now.names.now (readers self.now.names.now self.now.levels)
+            self.now.levels allowed words word.now }
     {
         match word {
-            Word::Keyword(keyword) => goes_on_with_keyword(allowed, words, *keyword),
-            Word::Identifier(spelling) => is_among(self.names, spelling)
+            TokenKind::Keyword(keyword) => goes_on_with_keyword(allowed, words, *keyword),
+            TokenKind::Identifier(spelling) => is_among(self.names, spelling)
                 && words.with_other().is_some(),
             _ => false,
         }
     }
 
     /// Whether the next word goes on with specifiers.
-    fn has_specifier(&self, allowed: bool, words: TypeWords, rest: &[Placed<'a>]) -> bool
-        ensures { result ≡ next_is (spec.goes_on_with self.now.names.now (readers self.now.names.now self.now.levels) self.now.levels allowed words) rest.now }
+    fn has_specifier(&self, allowed: bool, words: TypeWords, rest: &[Positioned<'a>]) -> bool
+        ensures { result ≡ next_is (spec.goes_on_with self.now.names.now (readers self.now.names.now self.now.levels)
+            self.now.levels allowed words) rest.now }
     {
         match rest.first() {
-            Some(first) => self.goes_on_with(allowed, words, &first.word),
+            Some(first) => self.goes_on_with(allowed, words, &first.kind),
             None => false,
         }
     }
@@ -162,10 +174,13 @@ impl<
         &self,
         words: TypeWords,
         specifiers: Leveled<Vec<Specifier<'a>>>,
-        rest: &[Placed<'a>],
+        rest: &[Positioned<'a>],
     ) -> Result<Leveled<Items<Specifier<'a>>>, Fault>
-        requires known { Below (suc self.now.levels) specifiers.levels (specifiers_levels (specifiers_in specifiers.tree.items)) }
-        ensures { ReadsLeveled specifiers_in specifiers_levels (suc self.now.levels) (specifiers_extending specifiers.entry.tree.items (spec.ended self.now.names.now (readers self.now.names.now self.now.levels) self.now.levels words rest.now)) result rest.now }
+        requires known { Below (suc self.now.levels) specifiers.levels
+            (specifiers_levels (specifiers_in specifiers.tree.items)) }
+        ensures { ReadsLeveled specifiers_in specifiers_levels (suc self.now.levels)
+            (specifiers_extending specifiers.entry.tree.items (spec.ended self.now.names.now
+            (readers self.now.names.now self.now.levels) self.now.levels words rest.now)) result rest.now }
     {
         Ok(as_items(where_true(words.is_type(), specifiers)?))
     }
@@ -177,8 +192,12 @@ impl<
         tokens: &mut Cursor<'_, 'a>,
         allowed: bool,
     ) -> Result<Leveled<Items<Specifier<'a>>>, Fault>
-        requires deeper { Deeper self.now.levels (E.pre self.now.expression) (E.post self.now.expression) (S.pre self.now.specifiers) (S.post self.now.specifiers) (D.pre self.now.declarator) (D.post self.now.declarator) }
-        ensures { ReadsLeveled specifiers_in specifiers_levels (suc self.now.levels) (spec.specifiers_at self.now.names.now (readers self.now.names.now self.now.levels) self.now.levels allowed tokens.old.rest.now) result tokens.new.rest.now }
+        requires deeper { Deeper self.now.levels (E.pre self.now.expression) (E.post self.now.expression)
+            (S.pre self.now.specifiers) (S.post self.now.specifiers) (D.pre self.now.declarator)
+            (D.post self.now.declarator) }
+        ensures { ReadsLeveled specifiers_in specifiers_levels (suc self.now.levels)
+            (spec.specifiers_at self.now.names.now (readers self.now.names.now self.now.levels) self.now.levels allowed
+            tokens.old.rest.now) result tokens.new.rest.now }
     {
         let mut words = TypeWords::none();
         let mut specifiers = no_trees(self.alloc);

@@ -8,7 +8,8 @@ ghost use Rattle.c_grammar.specs.Nested.{readers};
 ghost use Rattle.c_expressions.specs.Steps.{declarators_behind, declarators_behind_levels};
 ghost use Rattle.c_expressions.specs.LeveledReads.{ReadsLeveled, Deeper};
 ghost use Rattle.c_grammar.specs.declared.declarator_kind.DeclaratorKind.TheVariants as kind;
-ghost use Rattle.c_syntax.specs.View.{specifiers_in, specifier_of, declarator_of, more_declarators_in, member_of, members_in};
+ghost use Rattle.c_syntax.specs.View.{specifiers_in, specifier_of, declarator_of, more_declarators_in, member_of};
+ghost use Rattle.c_syntax.specs.View.{members_in};
 ghost use Rattle.c_syntax.specs.Levels.{specifier_levels, member_levels, members_levels};
 ghost use Rattle.c_syntax.specs.Tree as t;
 
@@ -17,11 +18,13 @@ use crate::leveled::{Leveled, as_items, beside, leaf, no_trees, with_next, with_
 use c_grammar::cursor::{Cursor, Fault, next_is};
 use c_grammar::declarator_kind::DeclaratorKind;
 use c_lexer::{Keyword, Punctuator, Spelling};
-use c_syntax::{Declarator, Expression, Items, Member, Place, Placed, Specifier, Spelled};
+use c_syntax::{
+    Boxed, Declarator, Expression, Items, Member, Position, Positioned, Specifier, Spelled,
+};
 use std::alloc::Global;
 
 /// Whether `{` is next, and there is a level for what it begins.
-pub(crate) fn begins_body(levels: usize, rest: &[Placed]) -> bool
+pub(crate) fn begins_body(levels: usize, rest: &[Positioned]) -> bool
     ensures { result ≡ nat_le 1 levels && next_is_punctuator p.LeftBrace rest.now }
 {
     levels >= 1 && next_is(rest, Punctuator::LeftBrace)
@@ -30,11 +33,12 @@ pub(crate) fn begins_body(levels: usize, rest: &[Placed]) -> bool
 /// A declaration of members with its levels.
 fn member_with<'a>(
     specifiers: Leveled<Items<Specifier<'a>>>,
-    first: Leveled<Declarator<'a>>,
-    others: Leveled<Items<(Place, Declarator<'a>)>>,
-    semicolon: Place,
+    first: Leveled<Boxed<Declarator<'a>>>,
+    others: Leveled<Items<(Position, Boxed<Declarator<'a>>)>>,
+    semicolon: Position,
 ) -> Leveled<Member<'a>>
-    ensures tree { member_of result.tree ≡ t.member_declaration (specifiers_in specifiers.entry.tree) (declarator_of first.entry.tree) (more_declarators_in others.entry.tree) semicolon }
+    ensures tree { member_of result.tree ≡ t.member_declaration (specifiers_in specifiers.entry.tree)
+        (declarator_of first.entry.tree) (more_declarators_in others.entry.tree) semicolon }
     ensures levels { result.levels ≡ max specifiers.entry.levels (max first.entry.levels others.entry.levels) }
 {
     let Leveled {
@@ -68,9 +72,9 @@ impl<
         &[Spelling<'a>],
         &mut Cursor<'_, 'a>,
         usize,
-        Option<Place>,
+        Option<Position>,
         u8,
-    ) -> Result<Leveled<Expression<'a>>, Fault>,
+    ) -> Result<Leveled<Boxed<Expression<'a>>>, Fault>,
     S: Fn(
         Global,
         &[Spelling<'a>],
@@ -84,27 +88,31 @@ impl<
         &mut Cursor<'_, 'a>,
         usize,
         DeclaratorKind,
-    ) -> Result<Leveled<Declarator<'a>>, Fault>,
+    ) -> Result<Leveled<Boxed<Declarator<'a>>>, Fault>,
 > Grammar<'t, 'a, E, S, D> {
     /// Reads declarators behind the first, each behind its comma.
     fn more_declarators(
         &self,
         tokens: &mut Cursor<'_, 'a>,
-    ) -> Result<Leveled<Items<(Place, Declarator<'a>)>>, Fault>
-        requires deeper { Deeper self.now.levels (E.pre self.now.expression) (E.post self.now.expression) (S.pre self.now.specifiers) (S.post self.now.specifiers) (D.pre self.now.declarator) (D.post self.now.declarator) }
+    ) -> Result<Leveled<Items<(Position, Boxed<Declarator<'a>>)>>, Fault>
+        requires deeper { Deeper self.now.levels (E.pre self.now.expression) (E.post self.now.expression)
+            (S.pre self.now.specifiers) (S.post self.now.specifiers) (D.pre self.now.declarator)
+            (D.post self.now.declarator) }
         requires some { 0 < self.now.levels }
-        ensures { ReadsLeveled declarators_behind declarators_behind_levels self.now.levels (behind_commas ((readers self.now.names.now self.now.levels).declarator kind.Named) (length tokens.old.rest.now) tokens.old.rest.now) result tokens.new.rest.now }
+        ensures { ReadsLeveled declarators_behind declarators_behind_levels self.now.levels
+            (behind_commas ((readers self.now.names.now self.now.levels).declarator kind.Named)
+            (length tokens.old.rest.now) tokens.old.rest.now) result tokens.new.rest.now }
     {
         let mut others = no_trees(self.alloc);
         for _ in 0..tokens.rest.len() {
-            let Some(place) = tokens.take(Punctuator::Comma) else {
+            let Some(position) = tokens.take(Punctuator::Comma) else {
                 return Ok(as_items(others));
             };
             let (before, declarator) = beside(
                 others,
                 self.declarator(tokens, DeclaratorKind::Named),
             )?;
-            others = with_next(before, place, declarator)?;
+            others = with_next(before, position, declarator)?;
         }
         Ok(as_items(others))
     }
@@ -112,9 +120,13 @@ impl<
     /// Reads a declaration of members (C99 6.7.2.1).
     #[tactic(auto, unfolding(c_grammar::specs::SpecifierReader::member_from))]
     fn member_declaration(&self, tokens: &mut Cursor<'_, 'a>) -> Result<Leveled<Member<'a>>, Fault>
-        requires deeper { Deeper self.now.levels (E.pre self.now.expression) (E.post self.now.expression) (S.pre self.now.specifiers) (S.post self.now.specifiers) (D.pre self.now.declarator) (D.post self.now.declarator) }
+        requires deeper { Deeper self.now.levels (E.pre self.now.expression) (E.post self.now.expression)
+            (S.pre self.now.specifiers) (S.post self.now.specifiers) (D.pre self.now.declarator)
+            (D.post self.now.declarator) }
         requires some { 0 < self.now.levels }
-        ensures { ReadsLeveled member_of member_levels self.now.levels (spec.member_from self.now.names.now (readers self.now.names.now self.now.levels) self.now.levels tokens.old.rest.now) result tokens.new.rest.now }
+        ensures { ReadsLeveled member_of member_levels self.now.levels
+            (spec.member_from self.now.names.now (readers self.now.names.now self.now.levels) self.now.levels
+            tokens.old.rest.now) result tokens.new.rest.now }
     {
         let specifiers = self.specifiers(tokens, false)?;
         let member = beside(specifiers, self.declarator(tokens, DeclaratorKind::Named))?;
@@ -126,9 +138,13 @@ impl<
 
     /// Reads declarations of members up to `}`, at least one (C99 6.7.2.1).
     fn members(&self, tokens: &mut Cursor<'_, 'a>) -> Result<Leveled<Items<Member<'a>>>, Fault>
-        requires deeper { Deeper self.now.levels (E.pre self.now.expression) (E.post self.now.expression) (S.pre self.now.specifiers) (S.post self.now.specifiers) (D.pre self.now.declarator) (D.post self.now.declarator) }
+        requires deeper { Deeper self.now.levels (E.pre self.now.expression) (E.post self.now.expression)
+            (S.pre self.now.specifiers) (S.post self.now.specifiers) (D.pre self.now.declarator)
+            (D.post self.now.declarator) }
         requires some { 0 < self.now.levels }
-        ensures { ReadsLeveled members_in members_levels self.now.levels (spec.members_from self.now.names.now (readers self.now.names.now self.now.levels) self.now.levels tokens.old.rest.now) result tokens.new.rest.now }
+        ensures { ReadsLeveled members_in members_levels self.now.levels
+            (spec.members_from self.now.names.now (readers self.now.names.now self.now.levels) self.now.levels
+            tokens.old.rest.now) result tokens.new.rest.now }
     {
         let first = self.member_declaration(tokens)?;
         let none: Leveled<Vec<Member<'a>>> = no_trees(self.alloc);
@@ -149,18 +165,22 @@ impl<
         &self,
         tokens: &mut Cursor<'_, 'a>,
         keyword: Keyword,
-        place: Place,
+        position: Position,
         tag: Option<Spelled<'a>>,
     ) -> Result<Leveled<Specifier<'a>>, Fault>
-        requires deeper { Deeper self.now.levels (E.pre self.now.expression) (E.post self.now.expression) (S.pre self.now.specifiers) (S.post self.now.specifiers) (D.pre self.now.declarator) (D.post self.now.declarator) }
+        requires deeper { Deeper self.now.levels (E.pre self.now.expression) (E.post self.now.expression)
+            (S.pre self.now.specifiers) (S.post self.now.specifiers) (D.pre self.now.declarator)
+            (D.post self.now.declarator) }
         requires some { 0 < self.now.levels }
-        ensures { ReadsLeveled specifier_of specifier_levels (suc self.now.levels) (spec.structure_body_from self.now.names.now (readers self.now.names.now self.now.levels) self.now.levels keyword place tag.entry tokens.old.rest.now) result tokens.new.rest.now }
+        ensures { ReadsLeveled specifier_of specifier_levels (suc self.now.levels)
+            (spec.structure_body_from self.now.names.now (readers self.now.names.now self.now.levels) self.now.levels
+            keyword position tag.entry tokens.old.rest.now) result tokens.new.rest.now }
     {
         let left = tokens.expect(Punctuator::LeftBrace)?;
         let members = self.members(tokens)?;
         let (members, right) = beside(members, tokens.expect(Punctuator::RightBrace))?;
         Ok(Leveled {
-            tree: Specifier::StructureBody(keyword, place, tag, left, members.tree, right),
+            tree: Specifier::StructureBody(keyword, position, tag, left, members.tree, right),
             levels: members.levels + 1,
         })
     }
@@ -171,18 +191,22 @@ impl<
         &self,
         tokens: &mut Cursor<'_, 'a>,
         keyword: Keyword,
-        place: Place,
+        position: Position,
     ) -> Result<Leveled<Specifier<'a>>, Fault>
-        requires deeper { Deeper self.now.levels (E.pre self.now.expression) (E.post self.now.expression) (S.pre self.now.specifiers) (S.post self.now.specifiers) (D.pre self.now.declarator) (D.post self.now.declarator) }
-        ensures { ReadsLeveled specifier_of specifier_levels (suc self.now.levels) (spec.structure_from self.now.names.now (readers self.now.names.now self.now.levels) self.now.levels keyword place tokens.old.rest.now) result tokens.new.rest.now }
+        requires deeper { Deeper self.now.levels (E.pre self.now.expression) (E.post self.now.expression)
+            (S.pre self.now.specifiers) (S.post self.now.specifiers) (D.pre self.now.declarator)
+            (D.post self.now.declarator) }
+        ensures { ReadsLeveled specifier_of specifier_levels (suc self.now.levels)
+            (spec.structure_from self.now.names.now (readers self.now.names.now self.now.levels) self.now.levels keyword
+            position tokens.old.rest.now) result tokens.new.rest.now }
     {
         if begins_body(self.levels, tokens.rest) {
-            return self.structure_body(tokens, keyword, place, None);
+            return self.structure_body(tokens, keyword, position, None);
         }
         let tag = tokens.identifier()?;
         if begins_body(self.levels, tokens.rest) {
-            return self.structure_body(tokens, keyword, place, Some(tag));
+            return self.structure_body(tokens, keyword, position, Some(tag));
         }
-        Ok(leaf(Specifier::Structure(keyword, place, tag)))
+        Ok(leaf(Specifier::Structure(keyword, position, tag)))
     }
 }

@@ -4,10 +4,12 @@ ghost use Rattle.std.specs.Prelude.{◌≡◌, ◌<◌, length, max, IfOk};
 ghost use Rattle.c_grammar.specs.Reader.{behind_commas};
 ghost use Rattle.c_grammar.specs.Readers as spec;
 ghost use Rattle.c_grammar.specs.Nested.{readers};
-ghost use Rattle.c_expressions.specs.Steps.{void_word, void_alone, void_parameter, lone_void, parameters_behind, parameters_behind_levels};
+ghost use Rattle.c_expressions.specs.Steps.{void_word, void_alone, void_parameter, lone_void, parameters_behind};
+ghost use Rattle.c_expressions.specs.Steps.{parameters_behind_levels};
 ghost use Rattle.c_expressions.specs.LeveledReads.{ReadsLeveled, Deeper};
 ghost use Rattle.c_grammar.specs.declared.declarator_kind.DeclaratorKind.TheVariants as kind;
-ghost use Rattle.c_syntax.specs.View.{typed_of, parameters_of, more_parameters_in, specifier_of, specifiers_in, declarator_of};
+ghost use Rattle.c_syntax.specs.View.{typed_of, parameters_of, more_parameters_in, specifier_of, specifiers_in};
+ghost use Rattle.c_syntax.specs.View.{declarator_of};
 ghost use Rattle.c_syntax.specs.Tree as t;
 ghost use Rattle.c_syntax.specs.Levels.{typed_levels, parameters_levels};
 
@@ -17,22 +19,22 @@ use c_grammar::cursor::{Cursor, Fault, next_is};
 use c_grammar::declarator_kind::DeclaratorKind;
 use c_lexer::{Keyword, Punctuator, Spelling};
 use c_syntax::{
-    Boxed, Declarator, Expression, Items, Parameters, Place, Specifier, TypedDeclarator,
+    Boxed, Declarator, Expression, Items, Parameters, Position, Specifier, TypedDeclarator,
 };
 use std::alloc::{AllocError, Global};
 
-/// The place of the word `void`.
-fn void_word(specifier: &Specifier) -> Option<Place>
+/// The position of the word `void`.
+fn void_word(specifier: &Specifier) -> Option<Position>
     ensures { result ≡ void_word (specifier_of specifier.now) }
 {
     match specifier {
-        Specifier::Keyword(Keyword::Void, place) => Some(*place),
+        Specifier::Keyword(Keyword::Void, position) => Some(*position),
         _ => None,
     }
 }
 
-/// The place of the word `void` where it is the only specifier.
-fn void_alone(specifiers: &[Specifier]) -> Option<Place>
+/// The position of the word `void` where it is the only specifier.
+fn void_alone(specifiers: &[Specifier]) -> Option<Position>
     ensures { result ≡ void_alone (specifiers_in specifiers.now) }
 {
     let Some((first, others)) = specifiers.split_first() else {
@@ -44,19 +46,19 @@ fn void_alone(specifiers: &[Specifier]) -> Option<Place>
     }
 }
 
-/// The place of the word `void` where it is the whole parameter.
+/// The position of the word `void` where it is the whole parameter.
 #[tactic(auto, using(c_syntax::proofs::TypedView::typed_view))]
-fn void_parameter(parameter: &TypedDeclarator) -> Option<Place>
+fn void_parameter(parameter: &TypedDeclarator) -> Option<Position>
     ensures { result ≡ void_parameter (typed_of parameter.now) }
 {
-    match &parameter.declarator {
+    match parameter.declarator.get() {
         Declarator::Unnamed => void_alone(parameter.specifiers.as_slice()),
         _ => None,
     }
 }
 
-/// The place of the word `void` where it is all that stands between the parentheses (C99 6.7.5.3).
-fn lone_void(first: &TypedDeclarator, others: &[(Place, TypedDeclarator)]) -> Option<Place>
+/// The position of the word `void` where it is all that stands between the parentheses (C99 6.7.5.3).
+fn lone_void(first: &TypedDeclarator, others: &[(Position, TypedDeclarator)]) -> Option<Position>
     ensures { result ≡ lone_void (typed_of first.now) (more_parameters_in others.now) }
 {
     match others.first() {
@@ -70,12 +72,13 @@ fn lone_void(first: &TypedDeclarator, others: &[(Place, TypedDeclarator)]) -> Op
 fn parameters_of<'a>(
     alloc: Global,
     first: TypedDeclarator<'a>,
-    others: Items<(Place, TypedDeclarator<'a>)>,
+    others: Items<(Position, TypedDeclarator<'a>)>,
 ) -> Result<Parameters<'a>, AllocError>
-    ensures { IfOk result (λ x. parameters_of x ≡ spec.parameters_of (typed_of first.entry) (more_parameters_in others.entry)) }
+    ensures { IfOk result (λ x. parameters_of x ≡ spec.parameters_of (typed_of first.entry)
+        (more_parameters_in others.entry)) }
 {
     match lone_void(&first, others.as_slice()) {
-        Some(place) => Ok(Parameters::Void(place)),
+        Some(position) => Ok(Parameters::Void(position)),
         None => Ok(Parameters::Given(Boxed::new(alloc, first)?, others)),
     }
 }
@@ -83,9 +86,10 @@ fn parameters_of<'a>(
 /// Specifiers and a declarator with their levels.
 fn typed_with<'a>(
     specifiers: Leveled<Items<Specifier<'a>>>,
-    declarator: Leveled<Declarator<'a>>,
+    declarator: Leveled<Boxed<Declarator<'a>>>,
 ) -> Leveled<TypedDeclarator<'a>>
-    ensures tree { typed_of result.tree ≡ t.typed (specifiers_in specifiers.entry.tree) (declarator_of declarator.entry.tree) }
+    ensures tree { typed_of result.tree ≡ t.typed (specifiers_in specifiers.entry.tree)
+        (declarator_of declarator.entry.tree) }
     ensures levels { result.levels ≡ max specifiers.entry.levels declarator.entry.levels }
 {
     let Leveled {
@@ -113,9 +117,9 @@ impl<
         &[Spelling<'a>],
         &mut Cursor<'_, 'a>,
         usize,
-        Option<Place>,
+        Option<Position>,
         u8,
-    ) -> Result<Leveled<Expression<'a>>, Fault>,
+    ) -> Result<Leveled<Boxed<Expression<'a>>>, Fault>,
     S: Fn(
         Global,
         &[Spelling<'a>],
@@ -129,7 +133,7 @@ impl<
         &mut Cursor<'_, 'a>,
         usize,
         DeclaratorKind,
-    ) -> Result<Leveled<Declarator<'a>>, Fault>,
+    ) -> Result<Leveled<Boxed<Declarator<'a>>>, Fault>,
 > Grammar<'t, 'a, E, S, D> {
     /// Reads specifiers and a declarator: a type name (C99 6.7.6) or a parameter (6.7.5).
     #[tactic(auto, unfolding(c_grammar::specs::Readers::typed_from))]
@@ -138,8 +142,12 @@ impl<
         tokens: &mut Cursor<'_, 'a>,
         kind: DeclaratorKind,
     ) -> Result<Leveled<TypedDeclarator<'a>>, Fault>
-        requires deeper { Deeper self.now.levels (E.pre self.now.expression) (E.post self.now.expression) (S.pre self.now.specifiers) (S.post self.now.specifiers) (D.pre self.now.declarator) (D.post self.now.declarator) }
-        ensures { ReadsLeveled typed_of typed_levels self.now.levels (spec.typed_from (readers self.now.names.now self.now.levels) kind tokens.old.rest.now) result tokens.new.rest.now }
+        requires deeper { Deeper self.now.levels (E.pre self.now.expression) (E.post self.now.expression)
+            (S.pre self.now.specifiers) (S.post self.now.specifiers) (D.pre self.now.declarator)
+            (D.post self.now.declarator) }
+        ensures { ReadsLeveled typed_of typed_levels self.now.levels
+            (spec.typed_from (readers self.now.names.now self.now.levels) kind tokens.old.rest.now) result
+            tokens.new.rest.now }
     {
         let specifiers = self.specifiers(tokens, false)?;
         let (specifiers, declarator) = beside(specifiers, self.declarator(tokens, kind))?;
@@ -150,18 +158,22 @@ impl<
     fn more_parameters(
         &self,
         tokens: &mut Cursor<'_, 'a>,
-    ) -> Result<Leveled<Items<(Place, TypedDeclarator<'a>)>>, Fault>
-        requires deeper { Deeper self.now.levels (E.pre self.now.expression) (E.post self.now.expression) (S.pre self.now.specifiers) (S.post self.now.specifiers) (D.pre self.now.declarator) (D.post self.now.declarator) }
+    ) -> Result<Leveled<Items<(Position, TypedDeclarator<'a>)>>, Fault>
+        requires deeper { Deeper self.now.levels (E.pre self.now.expression) (E.post self.now.expression)
+            (S.pre self.now.specifiers) (S.post self.now.specifiers) (D.pre self.now.declarator)
+            (D.post self.now.declarator) }
         requires some { 0 < self.now.levels }
-        ensures { ReadsLeveled parameters_behind parameters_behind_levels self.now.levels (behind_commas (spec.typed_from (readers self.now.names.now self.now.levels) kind.Either) (length tokens.old.rest.now) tokens.old.rest.now) result tokens.new.rest.now }
+        ensures { ReadsLeveled parameters_behind parameters_behind_levels self.now.levels
+            (behind_commas (spec.typed_from (readers self.now.names.now self.now.levels) kind.Either)
+            (length tokens.old.rest.now) tokens.old.rest.now) result tokens.new.rest.now }
     {
         let mut others = no_trees(self.alloc);
         for _ in 0..tokens.rest.len() {
-            let Some(place) = tokens.take(Punctuator::Comma) else {
+            let Some(position) = tokens.take(Punctuator::Comma) else {
                 return Ok(as_items(others));
             };
             let (before, parameter) = beside(others, self.typed(tokens, DeclaratorKind::Either))?;
-            others = with_next(before, place, parameter)?;
+            others = with_next(before, position, parameter)?;
         }
         Ok(as_items(others))
     }
@@ -169,9 +181,13 @@ impl<
     /// Reads what stands between the parentheses of a function declarator (C99 6.7.5.3).
     #[tactic(auto, unfolding(c_grammar::specs::Readers::parameters_from))]
     pub fn parameters(&self, tokens: &mut Cursor<'_, 'a>) -> Result<Leveled<Parameters<'a>>, Fault>
-        requires deeper { Deeper self.now.levels (E.pre self.now.expression) (E.post self.now.expression) (S.pre self.now.specifiers) (S.post self.now.specifiers) (D.pre self.now.declarator) (D.post self.now.declarator) }
+        requires deeper { Deeper self.now.levels (E.pre self.now.expression) (E.post self.now.expression)
+            (S.pre self.now.specifiers) (S.post self.now.specifiers) (D.pre self.now.declarator)
+            (D.post self.now.declarator) }
         requires some { 0 < self.now.levels }
-        ensures { ReadsLeveled parameters_of parameters_levels self.now.levels (spec.parameters_from (readers self.now.names.now self.now.levels) tokens.old.rest.now) result tokens.new.rest.now }
+        ensures { ReadsLeveled parameters_of parameters_levels self.now.levels
+            (spec.parameters_from (readers self.now.names.now self.now.levels) tokens.old.rest.now) result
+            tokens.new.rest.now }
     {
         if next_is(tokens.rest, Punctuator::RightParenthesis) {
             return Ok(leaf(Parameters::Empty));

@@ -8,11 +8,13 @@ use Rattle.c_grammar.proofs.CompleteSpecifiers.{specifiers_again}
 use Rattle.c_grammar.proofs.CompleteDeclarators.{declarator_again}
 
 -- one level more
-pub complete_step : (names : List (List ℕ)) (n : ℕ) (deeper : Readers) → CompleteReaders names n deeper → CompleteReaders names (suc n) (step names deeper n)
+pub complete_step : (names : List (List ℕ)) (n : ℕ) (deeper : Readers) → CompleteReaders names n deeper
+    → CompleteReaders names (suc n) (step names deeper n)
 complete_step names n deeper known = record {
   expressions = λ m e r h low small at f. expression_again names n deeper known m e r h (omega arith) small at f;
   opened = λ l m x e r h read. opened_again names n deeper known l m x e r h read;
-  specifiers = λ allowed z r is h fits low ends brace. specifiers_again names n deeper known allowed z r is h fits (omega arith) ends brace;
+  specifiers = λ allowed z r is h fits low ends brace. specifiers_again names n deeper known allowed z r is h fits
+      (omega arith) ends brace;
   declarators = λ d e r h low fits quiet. declarator_again names n deeper known d e r h (omega arith) fits quiet;
 }
 

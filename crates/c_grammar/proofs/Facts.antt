@@ -5,11 +5,12 @@ use Rattle.std.proofs.lemmas.Slice.Eq.{bytes_eq-Decides}
 use Rattle.c_lexer.specs.Spellings.{punctuator_spelling}
 use Rattle.c_lexer.specs.declared.punctuator.Punctuator.{Punctuator}
 use Rattle.c_lexer.specs.declared.punctuator.Punctuator.TheVariants as p
-use Rattle.c_lexer.specs.declared.token.Word.{Word}
-use Rattle.c_lexer.specs.declared.token.Word.TheVariants as word
-use Rattle.c_syntax.specs.declared.place.Place.{Place}
+use Rattle.c_lexer.specs.declared.token.TokenKind.{TokenKind}
+use Rattle.c_lexer.specs.declared.token.TokenKind.TheVariants as kinds
+use Rattle.c_syntax.specs.declared.position.Position.{Position}
 use Rattle.c_syntax.specs.Words.{Words, punctuator}
-use Rattle.c_syntax.specs.Formed.{binary_precedence, operand_precedence, is_assignment, is_member_operator, is_postfix_operator}
+use Rattle.c_syntax.specs.Formed.{binary_precedence, operand_precedence, is_assignment, is_member_operator}
+use Rattle.c_syntax.specs.Formed.{is_postfix_operator}
 use Rattle.c_grammar.specs.declared.operation.Operation.{Operation}
 use Rattle.c_grammar.specs.declared.operation.Operation.TheVariants as op
 use Rattle.c_grammar.specs.Reader.{is_same, expect}
@@ -22,7 +23,7 @@ pub same : (a : Punctuator) → is_same a a ≡ true
 unfolding is_same
 same a = (bytes_eq-Decides (punctuator_spelling a) (punctuator_spelling a)).1 refl
 
-pub expected : (a : Punctuator) (at : Place) (i : Words) → expect a (punctuator a at ∷ i) ≡ Ok (at, i)
+pub expected : (a : Punctuator) (at : Position) (i : Words) → expect a (punctuator a at ∷ i) ≡ Ok (at, i)
 unfolding expect
 expected a at i = rw (same a)
 
@@ -156,47 +157,47 @@ operation_apart x (Some op.Member) h = absurd (omega arith)
 operation_apart x (Some op.Postfix) h = absurd (omega arith)
 
 -- no word binds at 14 or 15
-word_apart : (w : Word) → word_binds w < 16 → word_binds w < 14
-word_apart (word.Punctuator x) h = operation_apart x (operation x) h
-word_apart (word.StringLiteral s) h = absurd (omega arith)
+word_apart : (w : TokenKind) → word_binds w < 16 → word_binds w < 14
+word_apart (kinds.Punctuator x) h = operation_apart x (operation x) h
+word_apart (kinds.StringLiteral s) h = absurd (omega arith)
 word_apart _ h = omega arith
 
 pub next_apart : (i : Words) → next_binds i < 16 → next_binds i < 14
 next_apart [] h = omega arith
-next_apart (first ∷ i) h = word_apart first.word h
+next_apart (first ∷ i) h = word_apart first.kind h
 
 -- a word that ends an expression ends its operations
-pub binds_below : (w : Word) (m : ℕ) → word_binds w < m → binds w < m
-binds_below (word.StringLiteral s) m h = omega arith
-binds_below (word.Punctuator x) m h = h
-binds_below (word.Keyword x) m h = h
-binds_below (word.Identifier s) m h = h
-binds_below (word.Integer s) m h = h
-binds_below (word.Character s) m h = h
-binds_below (word.Wide s) m h = h
+pub binds_below : (w : TokenKind) (m : ℕ) → word_binds w < m → binds w < m
+binds_below (kinds.StringLiteral s) m h = omega arith
+binds_below (kinds.Punctuator x) m h = h
+binds_below (kinds.Keyword x) m h = h
+binds_below (kinds.Identifier s) m h = h
+binds_below (kinds.Integer s) m h = h
+binds_below (kinds.Character s) m h = h
+binds_below (kinds.Wide s) m h = h
 
 -- ---- punctuators that end an expression
 
-pub parenthesis_binds : (at : Place) (i : Words) → next_binds (punctuator p.RightParenthesis at ∷ i) ≡ 0
+pub parenthesis_binds : (at : Position) (i : Words) → next_binds (punctuator p.RightParenthesis at ∷ i) ≡ 0
 unfolding operation binary_precedence is_assignment is_member_operator is_postfix_operator
 parenthesis_binds at i = refl
 
-pub bracket_binds : (at : Place) (i : Words) → next_binds (punctuator p.RightBracket at ∷ i) ≡ 0
+pub bracket_binds : (at : Position) (i : Words) → next_binds (punctuator p.RightBracket at ∷ i) ≡ 0
 unfolding operation binary_precedence is_assignment is_member_operator is_postfix_operator
 bracket_binds at i = refl
 
-pub brace_binds : (at : Place) (i : Words) → next_binds (punctuator p.RightBrace at ∷ i) ≡ 0
+pub brace_binds : (at : Position) (i : Words) → next_binds (punctuator p.RightBrace at ∷ i) ≡ 0
 unfolding operation binary_precedence is_assignment is_member_operator is_postfix_operator
 brace_binds at i = refl
 
-pub colon_binds : (at : Place) (i : Words) → next_binds (punctuator p.Colon at ∷ i) ≡ 0
+pub colon_binds : (at : Position) (i : Words) → next_binds (punctuator p.Colon at ∷ i) ≡ 0
 unfolding operation binary_precedence is_assignment is_member_operator is_postfix_operator
 colon_binds at i = refl
 
-pub semicolon_binds : (at : Place) (i : Words) → next_binds (punctuator p.Semicolon at ∷ i) ≡ 0
+pub semicolon_binds : (at : Position) (i : Words) → next_binds (punctuator p.Semicolon at ∷ i) ≡ 0
 unfolding operation binary_precedence is_assignment is_member_operator is_postfix_operator
 semicolon_binds at i = refl
 
-pub comma_binds : (at : Place) (i : Words) → next_binds (punctuator p.Comma at ∷ i) ≡ 1
+pub comma_binds : (at : Position) (i : Words) → next_binds (punctuator p.Comma at ∷ i) ≡ 1
 unfolding operation binary_precedence
 comma_binds at i = refl

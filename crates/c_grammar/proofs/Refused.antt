@@ -12,4 +12,5 @@ refused_unread : (o : Outcome Unit) (r : Words) (u : Unit) → o ≡ Err r → o
 refused_unread o r u refused read = cc
 
 pub none_where_refused : (i r : Words) → unit_from i ≡ Err r → (u : Unit) → IsWellFormed u → unit_words u ≡ i → ⊥
-none_where_refused i r refused u h e = refused_unread (unit_from i) r u refused (ap unit_from (sym e) ∙ unit_complete u h)
+none_where_refused i r refused u h e = refused_unread (unit_from i) r u refused
+    (ap unit_from (sym e) ∙ unit_complete u h)

@@ -9,7 +9,8 @@ use Rattle.c_grammar.proofs.SoundSpecifiers.{specifiers_gives}
 use Rattle.c_grammar.proofs.SoundDeclarators.{declarator_gives}
 
 -- from the readers of fewer levels to those of one more
-step_sound : (names : List (List ℕ)) (levels : ℕ) (deeper : Readers) → SoundReaders names levels deeper → SoundReaders names (suc levels) (step names deeper levels)
+step_sound : (names : List (List ℕ)) (levels : ℕ) (deeper : Readers) → SoundReaders names levels deeper
+    → SoundReaders names (suc levels) (step names deeper levels)
 step_sound names levels deeper known = record {
   expressions = λ opened m i e r low h. (expression_gives names levels deeper known opened m i low).given e r h;
   specifiers = λ allowed i z r h. (specifiers_gives names levels deeper known allowed i).given z r h;

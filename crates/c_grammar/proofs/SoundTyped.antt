@@ -1,6 +1,6 @@
 -- What the readers of fewer levels give, and with them a type name or a parameter.
 use Rattle.std.proofs.Common.{◌≡◌, ℕ, ◌<◌, Bool, false, List, Option, None, refl, arith}
-use Rattle.c_syntax.specs.declared.place.Place.{Place}
+use Rattle.c_syntax.specs.declared.position.Position.{Position}
 use Rattle.c_syntax.specs.Tree.{TypedDeclarator}
 use Rattle.c_syntax.specs.Tree as t
 use Rattle.c_syntax.specs.Levels.{typed_levels}
@@ -12,20 +12,23 @@ use Rattle.c_grammar.proofs.Known.{SoundReaders, FoundExpression, FoundSpecifier
 use Rattle.c_grammar.proofs.Inversion.{Gives, gives_ok, gives_bind}
 
 -- the words i are those of a parameter, or of a type name where no name may stand, and then r
-pub record FoundTyped (names : List (List ℕ)) (n : ℕ) (d : DeclaratorKind) (i : Words) (x : TypedDeclarator) (r : Words) : Type 0 where
+pub record FoundTyped (names : List (List ℕ)) (n : ℕ) (d : DeclaratorKind) (i : Words) (x : TypedDeclarator)
+    (r : Words) : Type 0 where
   pub parameter : IsParameter names x
   pub type_name : may_have_name d ≡ false → IsTypeName names x
   pub low : typed_levels x < n
   pub same : i ≡ typed_words x r
 
 module _ (names : List (List ℕ)) (n : ℕ) (deeper : Readers) (known : SoundReaders names n deeper) where
-  pub opened_part : (opened : Option Place) (m : ℕ) (i : Words) → m < 16 → Gives (deeper.expression opened m i) (FoundExpression names n m (with_opened opened i))
+  pub opened_part : (opened : Option Position) (m : ℕ) (i : Words) → m < 16
+      → Gives (deeper.expression opened m i) (FoundExpression names n m (with_opened opened i))
   opened_part opened m i low = record { given = λ e r h. known.expressions opened m i e r low h }
 
   pub expression_part : (m : ℕ) (i : Words) → m < 16 → Gives (deeper.expression None m i) (FoundExpression names n m i)
   expression_part m i low = opened_part None m i low
 
-  pub specifiers_part : (allowed : Bool) (i : Words) → Gives (deeper.specifiers allowed i) (FoundSpecifiers names n allowed i)
+  pub specifiers_part : (allowed : Bool) (i : Words) → Gives (deeper.specifiers allowed i)
+      (FoundSpecifiers names n allowed i)
   specifiers_part allowed i = record { given = λ z r h. known.specifiers allowed i z r h }
 
   pub declarator_part : (d : DeclaratorKind) (i : Words) → Gives (deeper.declarator d i) (FoundDeclarator names n d i)

@@ -16,4 +16,5 @@ same_given x y e = cc
 
 -- words have one well-formed file at most
 pub one_tree : (a b : Unit) → IsWellFormed a → IsWellFormed b → unit_words a ≡ unit_words b → a ≡ b
-one_tree a b h f e = ap (λ x. x.0) (same_given (a, []) (b, []) (sym (unit_complete a h) ∙ ap unit_from e ∙ unit_complete b f))
+one_tree a b h f e = ap (λ x. x.0) (same_given (a, []) (b, [])
+    (sym (unit_complete a h) ∙ ap unit_from e ∙ unit_complete b f))

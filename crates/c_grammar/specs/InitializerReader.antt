@@ -1,23 +1,26 @@
 -- Reading initializers (C99 6.7.8).
-use Rattle.std.specs.Prelude.{ℕ, zero, suc, nat_le, Bool, ◌&&◌, ◌||◌, if◌then◌else◌, List, [], ◌∷◌, Ok, Err, Option, Some, None, length}
+use Rattle.std.specs.Prelude.{ℕ, zero, suc, nat_le, Bool, ◌&&◌, ◌||◌, if◌then◌else◌, List, [], ◌∷◌, Ok, Err, Option}
+use Rattle.std.specs.Prelude.{Some, None, length}
 use Rattle.c_lexer.specs.declared.punctuator.Punctuator.TheVariants as p
-use Rattle.c_lexer.specs.declared.token.Word.{Word}
+use Rattle.c_lexer.specs.declared.token.TokenKind.{TokenKind}
 use Rattle.c_syntax.specs.Tree.{Initializer, InitializerItem, Designator, Designation}
 use Rattle.c_syntax.specs.Tree as t
 use Rattle.c_syntax.specs.StatementsView.{more_items_of}
 use Rattle.c_syntax.specs.Words.{Words}
-use Rattle.c_grammar.specs.Reader.{Outcome, Reader, ◌>>=◌, is_punctuator, next_is, next_is_punctuator, expect, identifier_from, behind_commas_to_brace}
+use Rattle.c_grammar.specs.Reader.{Outcome, Reader, ◌>>=◌, is_punctuator, next_is, next_is_punctuator, expect}
+use Rattle.c_grammar.specs.Reader.{identifier_from, behind_commas_to_brace}
 use Rattle.c_grammar.specs.Readers.{Readers}
 use Rattle.c_grammar.specs.Nested.{readers}
 
 -- `[` or `.`
-abbrev pub begins_designator : Word → Bool
+abbrev pub begins_designator : TokenKind → Bool
 begins_designator w = is_punctuator p.LeftBracket w || is_punctuator p.Dot w
 
 module _ (deeper : Readers) where
   -- `[ expression ]`
   unfoldable pub element_from : Words → Outcome Designator
-  element_from i = expect p.LeftBracket i >>= λ l i. deeper.expression None 3 i >>= λ e i. expect p.RightBracket i >>= λ r i. Ok (t.element l e r, i)
+  element_from i = expect p.LeftBracket i >>= λ l i. deeper.expression None 3 i >>= λ e i. expect p.RightBracket i
+      >>= λ r i. Ok (t.element l e r, i)
 
   -- `.` and the name of a member
   unfoldable pub member_named_from : Words → Outcome Designator
@@ -39,7 +42,8 @@ module _ (deeper : Readers) where
   unfoldable pub designation_from : Words → Outcome (Option Designation)
   designation_from i =
       if next_is begins_designator i
-      then (designators_from (length i) i >>= λ z i. expect p.Assign i >>= λ at i. Ok (Some (record { designators = z; equals = at }), i))
+      then (designators_from (length i) i >>= λ z i. expect p.Assign i
+      >>= λ at i. Ok (Some (record { designators = z; equals = at }), i))
       else Ok (None, i)
 
 -- an item, of whose parts each has fewer levels than a number

@@ -3,9 +3,9 @@ use Rattle.std.specs.Prelude.{ℕ, Bool, true, false, ◌||◌, if◌then◌else
 use Rattle.c_lexer.specs.declared.keyword.Keyword.{Keyword}
 use Rattle.c_lexer.specs.declared.keyword.Keyword.TheVariants as k
 use Rattle.c_lexer.specs.declared.punctuator.Punctuator.TheVariants as p
-use Rattle.c_lexer.specs.declared.token.Word.{Word}
-use Rattle.c_lexer.specs.declared.token.Word.TheVariants as word
-use Rattle.c_syntax.specs.declared.place.Place.{Place}
+use Rattle.c_lexer.specs.declared.token.TokenKind.{TokenKind}
+use Rattle.c_lexer.specs.declared.token.TokenKind.TheVariants as kinds
+use Rattle.c_syntax.specs.declared.position.Position.{Position}
 use Rattle.c_syntax.specs.Tree.{Expression, Specifiers, Declarator, TypedDeclarator, Parameters, MoreParameters}
 use Rattle.c_syntax.specs.Tree as t
 use Rattle.c_syntax.specs.View.{more_parameters_of}
@@ -27,8 +27,9 @@ must_have_name _ = false
 
 -- the readers of what has fewer levels than a number
 pub record Readers : Type 0 where
-  -- an expression of at least this precedence; a place is that of the `(` before, which is its first word and was taken
-  pub expression : Option Place → ℕ → Words → Outcome Expression
+  -- an expression of at least this precedence; a position is that of the `(` before, which is its first word and was
+  -- taken
+  pub expression : Option Position → ℕ → Words → Outcome Expression
   -- specifiers, `typedef` among them or not
   pub specifiers : Bool → Words → Outcome Specifiers
   pub declarator : DeclaratorKind → Words → Outcome Declarator
@@ -44,9 +45,9 @@ is_specifier_keyword x = is_structure_keyword x || is_some (with_keyword x no_ty
 
 module _ (names : List (List ℕ)) where
   -- the word may begin specifiers (C99 6.7.1 to 6.7.4)
-  abbrev pub is_specifier_word : Word → Bool
-  is_specifier_word (word.Keyword x) = is_specifier_keyword x
-  is_specifier_word (word.Identifier s) = is_among s names
+  abbrev pub is_specifier_word : TokenKind → Bool
+  is_specifier_word (kinds.Keyword x) = is_specifier_keyword x
+  is_specifier_word (kinds.Identifier s) = is_among s names
   is_specifier_word _ = false
 
   -- the next word may begin specifiers
@@ -55,7 +56,8 @@ module _ (names : List (List ℕ)) where
 
 -- the word `void` alone is the empty list
 abbrev pub parameters_of : TypedDeclarator → MoreParameters → Parameters
-parameters_of (t.typed (t.specifiers (t.keyword k.Void at) t.no_specifiers) t.unnamed) t.end_of_parameters = t.void_parameters at
+parameters_of (t.typed (t.specifiers (t.keyword k.Void at) t.no_specifiers) t.unnamed) t.end_of_parameters =
+    t.void_parameters at
 parameters_of x m = t.parameters x m
 
 module _ (deeper : Readers) where
@@ -68,4 +70,5 @@ module _ (deeper : Readers) where
   parameters_from i =
       if next_is_punctuator p.RightParenthesis i
       then Ok (t.no_parameters, i)
-      else (typed_from kind.Either i >>= λ x i. behind_commas (typed_from kind.Either) (length i) i >>= λ z i. Ok (parameters_of x (more_parameters_of z), i))
+      else (typed_from kind.Either i >>= λ x i. behind_commas (typed_from kind.Either) (length i) i
+      >>= λ z i. Ok (parameters_of x (more_parameters_of z), i))

@@ -1,19 +1,22 @@
 -- Reading specifiers (C99 6.7.1 to 6.7.4).
-use Rattle.std.specs.Prelude.{ℕ, zero, suc, nat_le, Bool, true, false, ◌&&◌, if◌then◌else◌, List, [], ◌∷◌, Ok, Err, Option, Some, None, is_some, length}
+use Rattle.std.specs.Prelude.{ℕ, zero, suc, nat_le, Bool, true, false, ◌&&◌, if◌then◌else◌, List, [], ◌∷◌, Ok, Err}
+use Rattle.std.specs.Prelude.{Option, Some, None, is_some, length}
 use Rattle.c_lexer.specs.declared.keyword.Keyword.{Keyword}
 use Rattle.c_lexer.specs.declared.keyword.Keyword.TheVariants as k
 use Rattle.c_lexer.specs.declared.punctuator.Punctuator.TheVariants as p
-use Rattle.c_lexer.specs.declared.token.Word.{Word}
-use Rattle.c_lexer.specs.declared.token.Word.TheVariants as word
-use Rattle.c_syntax.specs.declared.place.Place.{Place}
-use Rattle.c_syntax.specs.declared.place.Spelled.{Spelled}
+use Rattle.c_lexer.specs.declared.token.TokenKind.{TokenKind}
+use Rattle.c_lexer.specs.declared.token.TokenKind.TheVariants as kinds
+use Rattle.c_syntax.specs.declared.position.Position.{Position}
+use Rattle.c_syntax.specs.declared.position.Spelled.{Spelled}
 use Rattle.c_syntax.specs.declared.specifiers.TypeWords.{TypeWords}
 use Rattle.c_syntax.specs.Tree.{Specifiers, Specifier, Members, Member, Enumerator}
 use Rattle.c_syntax.specs.Tree as t
 use Rattle.c_syntax.specs.View.{members_of, more_declarators_of, more_enumerators_of}
 use Rattle.c_syntax.specs.Words.{Words, word_at}
-use Rattle.c_syntax.specs.Formed.{is_among, with_keyword, with_other, with_specifier, is_structure_keyword, no_type, is_type}
-use Rattle.c_grammar.specs.Reader.{Outcome, ◌>>=◌, next_is_punctuator, expect, identifier_from, ordinary_from, behind_commas, behind_commas_to_brace, up_to_brace}
+use Rattle.c_syntax.specs.Formed.{is_among, with_keyword, with_other, with_specifier, is_structure_keyword, no_type}
+use Rattle.c_syntax.specs.Formed.{is_type}
+use Rattle.c_grammar.specs.Reader.{Outcome, ◌>>=◌, next_is_punctuator, expect, identifier_from, ordinary_from}
+use Rattle.c_grammar.specs.Reader.{behind_commas, behind_commas_to_brace, up_to_brace}
 use Rattle.c_grammar.specs.Readers.{Readers}
 use Rattle.c_grammar.specs.declared.declarator_kind.DeclaratorKind.TheVariants as kind
 
@@ -44,9 +47,9 @@ words_with x w = words_or w (with_specifier x w)
 -- the typedef names, the readers of what has fewer levels than a number, and that number
 module _ (names : List (List ℕ)) (deeper : Readers) (levels : ℕ) where
   -- the word goes on with specifiers
-  abbrev pub goes_on_with : Bool → TypeWords → Word → Bool
-  goes_on_with allowed w (word.Keyword x) = goes_on_with_keyword allowed w x
-  goes_on_with allowed w (word.Identifier s) = is_among s names && is_some (with_other w)
+  abbrev pub goes_on_with : Bool → TypeWords → TokenKind → Bool
+  goes_on_with allowed w (kinds.Keyword x) = goes_on_with_keyword allowed w x
+  goes_on_with allowed w (kinds.Identifier s) = is_among s names && is_some (with_other w)
   goes_on_with allowed w _ = false
 
   -- a declaration of members (C99 6.7.2.1)
@@ -58,23 +61,26 @@ module _ (names : List (List ℕ)) (deeper : Readers) (levels : ℕ) where
 
   -- at least one (C99 6.7.2.1)
   unfoldable pub members_from : Words → Outcome Members
-  members_from i = member_from i >>= λ x i. up_to_brace member_from (length i) i >>= λ z i. Ok (t.members x (members_of z), i)
+  members_from i = member_from i >>= λ x i. up_to_brace member_from (length i) i
+      >>= λ z i. Ok (t.members x (members_of z), i)
 
   -- `{ members }`
-  unfoldable pub structure_body_from : Keyword → Place → Option Spelled → Words → Outcome Specifier
+  unfoldable pub structure_body_from : Keyword → Position → Option Spelled → Words → Outcome Specifier
   structure_body_from x at tag i =
-      expect p.LeftBrace i >>= λ l i. members_from i >>= λ m i. expect p.RightBrace i >>= λ r i. Ok (t.structure_body x at tag l m r, i)
+      expect p.LeftBrace i >>= λ l i. members_from i >>= λ m i. expect p.RightBrace i
+      >>= λ r i. Ok (t.structure_body x at tag l m r, i)
 
   -- `{` is next, and there is a level for what it begins
   abbrev pub begins_body : Words → Bool
   begins_body i = nat_le 1 levels && next_is_punctuator p.LeftBrace i
 
   -- behind `struct` or `union` (C99 6.7.2.1)
-  unfoldable pub structure_from : Keyword → Place → Words → Outcome Specifier
+  unfoldable pub structure_from : Keyword → Position → Words → Outcome Specifier
   structure_from x at i =
       if begins_body i
       then structure_body_from x at None i
-      else (identifier_from i >>= λ tag i. if begins_body i then structure_body_from x at (Some tag) i else Ok (t.structure x at tag, i))
+      else (identifier_from i >>= λ tag i. if begins_body i then structure_body_from x at (Some tag) i else Ok
+      (t.structure x at tag, i))
 
   -- a value that follows an enumerator's name, or none
   abbrev pub enumerator_behind : Spelled → Words → Outcome Enumerator
@@ -88,28 +94,30 @@ module _ (names : List (List ℕ)) (deeper : Readers) (levels : ℕ) where
   enumerator_from i = ordinary_from names i >>= λ x i. enumerator_behind x i
 
   -- `{ enumerators }`
-  unfoldable pub enumeration_body_from : Place → Option Spelled → Words → Outcome Specifier
+  unfoldable pub enumeration_body_from : Position → Option Spelled → Words → Outcome Specifier
   enumeration_body_from at tag i =
-      expect p.LeftBrace i >>= λ l i. enumerator_from i >>= λ e i. behind_commas_to_brace enumerator_from (length i) i >>= λ m i.
+      expect p.LeftBrace i >>= λ l i. enumerator_from i >>= λ e i. behind_commas_to_brace enumerator_from (length i) i
+      >>= λ m i.
       expect p.RightBrace i >>= λ r i. Ok (t.enumeration_body at tag l e (more_enumerators_of m.0) m.1 r, i)
 
   -- behind `enum` (C99 6.7.2.2)
-  unfoldable pub enumeration_from : Place → Words → Outcome Specifier
+  unfoldable pub enumeration_from : Position → Words → Outcome Specifier
   enumeration_from at i =
       if begins_body i
       then enumeration_body_from at None i
-      else (identifier_from i >>= λ tag i. if begins_body i then enumeration_body_from at (Some tag) i else Ok (t.enumeration at tag, i))
+      else (identifier_from i >>= λ tag i. if begins_body i then enumeration_body_from at (Some tag) i else Ok
+      (t.enumeration at tag, i))
 
   -- a specifier that begins with a keyword
-  abbrev pub specifier_by_keyword : Keyword → Place → Words → Outcome Specifier
+  abbrev pub specifier_by_keyword : Keyword → Position → Words → Outcome Specifier
   specifier_by_keyword x at i =
       if is_structure_keyword x then structure_from x at i
       else (if is_tagged_keyword x then enumeration_from at i else Ok (t.keyword x at, i))
 
   -- a specifier by its first word
-  abbrev pub specifier_by : Word → Place → Words → Outcome Specifier
-  specifier_by (word.Keyword x) at i = specifier_by_keyword x at i
-  specifier_by (word.Identifier s) at i = Ok (t.typedef_name (record { spelling = s; place = at }), i)
+  abbrev pub specifier_by : TokenKind → Position → Words → Outcome Specifier
+  specifier_by (kinds.Keyword x) at i = specifier_by_keyword x at i
+  specifier_by (kinds.Identifier s) at i = Ok (t.typedef_name (record { spelling = s; position = at }), i)
   specifier_by w at i = Err (word_at w at ∷ i)
 
   -- where no more specifiers come, the words of one type have come
@@ -121,8 +129,9 @@ module _ (names : List (List ℕ)) (deeper : Readers) (levels : ℕ) where
   specifiers_behind allowed zero w i = ended w i
   specifiers_behind allowed (suc n) w [] = ended w []
   specifiers_behind allowed (suc n) w (first ∷ i) =
-      if goes_on_with allowed w first.word
-      then (specifier_by first.word first.place i >>= λ x i. specifiers_behind allowed n (words_with x w) i >>= λ z i. Ok (t.specifiers x z, i))
+      if goes_on_with allowed w first.kind
+      then (specifier_by first.kind first.position i >>= λ x i. specifiers_behind allowed n (words_with x w) i
+      >>= λ z i. Ok (t.specifiers x z, i))
       else ended w (first ∷ i)
 
   -- C99 6.7.1 to 6.7.4

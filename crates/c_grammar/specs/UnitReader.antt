@@ -18,7 +18,8 @@ module _ (levels : ℕ) where
   unfoldable pub definition_from : List (List ℕ) → Specifiers → Declarator → Words → Outcome External
   definition_from names z d i =
       if defines_function d
-      then ((statements levels (names_after (has_typedef z) d names) (suc levels)).block i >>= λ b i. Ok (s.definition z d b, i))
+      then ((statements levels (names_after (has_typedef z) d names) (suc levels)).block i
+      >>= λ b i. Ok (s.definition z d b, i))
       else Err i
 
   -- what stands behind specifiers and a declarator
@@ -41,7 +42,8 @@ module _ (levels : ℕ) where
   externals_from n names [] = Ok ([], [])
   externals_from zero names (first ∷ i) = Err (first ∷ i)
   externals_from (suc n) names (first ∷ i) =
-      external_from names (first ∷ i) >>= λ x i. externals_from n (names_after_external x names) i >>= λ z i. Ok (x ∷ z, i)
+      external_from names (first ∷ i) >>= λ x i. externals_from n (names_after_external x names) i
+      >>= λ z i. Ok (x ∷ z, i)
 
 -- at least one (C99 6.9)
 abbrev pub externals_at : Words → Outcome (List External)

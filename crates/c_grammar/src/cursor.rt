@@ -1,13 +1,13 @@
-//! A place in the words of a text, and the readers that take one word.
+//! A position in the words of a text, and the readers that take one word.
 
 ghost use Rattle.std.specs.Prelude.{◌≡◌, IfErr};
 ghost use Rattle.c_grammar.specs.Reader as spec;
 ghost use Rattle.c_grammar.specs.declared.cursor.Fault.TheVariants.{Refused};
 ghost use Rattle.c_grammar.specs.Reads.{Reads, Takes, TakesConst};
 
-use c_lexer::{Keyword, Punctuator, Spelling, Word};
+use c_lexer::{Keyword, Punctuator, Spelling, TokenKind};
 use c_syntax::names::is_among;
-use c_syntax::{Items, Place, Placed, Spelled};
+use c_syntax::{Items, Position, Positioned, Spelled};
 use std::alloc::{AllocError, AllocFailed, Global};
 
 /// Why nothing was read.
@@ -43,7 +43,7 @@ impl<T: Drop> From<AllocFailed<T>> for Fault {
 #[derive(Drop)]
 pub struct Cursor<'t, 'a> {
     /// The words in order.
-    pub rest: &'t [Placed<'a>],
+    pub rest: &'t [Positioned<'a>],
 }
 
 /// Whether both are the same punctuator.
@@ -55,32 +55,32 @@ pub fn is_same(punctuator: Punctuator, other: Punctuator) -> bool
 }
 
 /// Whether the word is this punctuator.
-pub fn is_punctuator(word: &Word, punctuator: Punctuator) -> bool
+pub fn is_punctuator(word: &TokenKind, punctuator: Punctuator) -> bool
     ensures { result ≡ spec.is_punctuator punctuator word.now }
 {
     match word {
-        Word::Punctuator(other) => is_same(punctuator, *other),
+        TokenKind::Punctuator(other) => is_same(punctuator, *other),
         _ => false,
     }
 }
 
-/// The spelling at a place.
-pub fn spelled<'a>(spelling: &Spelling<'a>, place: Place) -> Spelled<'a>
+/// The spelling at a position.
+pub fn spelled<'a>(spelling: &Spelling<'a>, position: Position) -> Spelled<'a>
     ensures spelling { result.spelling ≡ spelling.now }
-    ensures place { result.place ≡ place }
+    ensures position { result.position ≡ position }
 {
     Spelled {
         spelling: spelling.again(),
-        place,
+        position,
     }
 }
 
 /// Whether the next word is this punctuator.
-pub fn next_is(rest: &[Placed], punctuator: Punctuator) -> bool
+pub fn next_is(rest: &[Positioned], punctuator: Punctuator) -> bool
     ensures { result ≡ spec.next_is_punctuator punctuator rest.now }
 {
     match rest.first() {
-        Some(first) => is_punctuator(&first.word, punctuator),
+        Some(first) => is_punctuator(&first.kind, punctuator),
         None => false,
     }
 }
@@ -88,18 +88,18 @@ pub fn next_is(rest: &[Placed], punctuator: Punctuator) -> bool
 impl<'t, 'a> Cursor<'t, 'a> {
     /// Takes this punctuator.
     #[tactic(auto, unfolding(crate::specs::Reader::expect))]
-    pub fn expect(&mut self, punctuator: Punctuator) -> Result<Place, Fault>
+    pub fn expect(&mut self, punctuator: Punctuator) -> Result<Position, Fault>
         ensures read { Reads (λ p. p) (spec.expect punctuator self.old.rest.now) result self.new.rest.now }
         ensures no_memory { IfErr result (λ f. f ≡ Refused) }
     {
         let [first, rest @ ..] = self.rest else {
             return Err(Fault::Refused);
         };
-        if !is_punctuator(&first.word, punctuator) {
+        if !is_punctuator(&first.kind, punctuator) {
             return Err(Fault::Refused);
         }
         self.rest = rest;
-        Ok(first.place)
+        Ok(first.position)
     }
 
     /// Takes an identifier, which may be a typedef name.
@@ -111,11 +111,11 @@ impl<'t, 'a> Cursor<'t, 'a> {
         let [first, rest @ ..] = self.rest else {
             return Err(Fault::Refused);
         };
-        let Word::Identifier(spelling) = &first.word else {
+        let TokenKind::Identifier(spelling) = &first.kind else {
             return Err(Fault::Refused);
         };
         self.rest = rest;
-        Ok(spelled(spelling, first.place))
+        Ok(spelled(spelling, first.position))
     }
 
     /// Takes an identifier that is no typedef name.
@@ -127,14 +127,14 @@ impl<'t, 'a> Cursor<'t, 'a> {
         let [first, rest @ ..] = self.rest else {
             return Err(Fault::Refused);
         };
-        let Word::Identifier(spelling) = &first.word else {
+        let TokenKind::Identifier(spelling) = &first.kind else {
             return Err(Fault::Refused);
         };
         if is_among(names, spelling) {
             return Err(Fault::Refused);
         }
         self.rest = rest;
-        Ok(spelled(spelling, first.place))
+        Ok(spelled(spelling, first.position))
     }
 
     /// Takes the string literals that stand next.
@@ -144,51 +144,51 @@ impl<'t, 'a> Cursor<'t, 'a> {
     {
         let mut strings = Vec::new(alloc);
         while let [first, rest @ ..] = self.rest {
-            let Word::StringLiteral(spelling) = &first.word else {
+            let TokenKind::StringLiteral(spelling) = &first.kind else {
                 break;
             };
-            strings.push(spelled(spelling, first.place))?;
+            strings.push(spelled(spelling, first.position))?;
             self.rest = rest;
         }
         Ok(Items::from_vec(strings))
     }
 
     /// Takes this punctuator, or nothing and gives `None` where another word is next.
-    pub fn take(&mut self, punctuator: Punctuator) -> Option<Place>
+    pub fn take(&mut self, punctuator: Punctuator) -> Option<Position>
         ensures { Takes punctuator self.old.rest.now result self.new.rest.now }
     {
         let [first, rest @ ..] = self.rest else {
             return None;
         };
-        if !is_punctuator(&first.word, punctuator) {
+        if !is_punctuator(&first.kind, punctuator) {
             return None;
         }
         self.rest = rest;
-        Some(first.place)
+        Some(first.position)
     }
 
     /// Takes the word `const`, or nothing and gives `None` where another word is next.
     #[tactic(auto, unfolding(crate::specs::Reader::consts_from))]
-    fn take_const(&mut self) -> Option<Place>
+    fn take_const(&mut self) -> Option<Position>
         ensures { TakesConst self.old.rest.now result self.new.rest.now }
     {
         let [first, rest @ ..] = self.rest else {
             return None;
         };
-        let Word::Keyword(Keyword::Const) = &first.word else {
+        let TokenKind::Keyword(Keyword::Const) = &first.kind else {
             return None;
         };
         self.rest = rest;
-        Some(first.place)
+        Some(first.position)
     }
 
     /// Takes the words `const` that stand next.
-    pub fn consts(&mut self, alloc: Global) -> Result<Items<Place>, Fault>
+    pub fn consts(&mut self, alloc: Global) -> Result<Items<Position>, Fault>
         ensures { Reads (λ z. z) (spec.consts_from self.old.rest.now) result self.new.rest.now }
     {
         let mut consts = Vec::new(alloc);
-        while let Some(place) = self.take_const() {
-            consts.push(place)?;
+        while let Some(position) = self.take_const() {
+            consts.push(position)?;
         }
         Ok(Items::from_vec(consts))
     }

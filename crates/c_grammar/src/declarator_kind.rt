@@ -1,4 +1,4 @@
-//! Which declarators are read in a place.
+//! Which declarators are read, by what stands around them.
 
 /// Which declarators are read.
 #[derive(Clone, Copy, Debug, PartialEq, Eq)]

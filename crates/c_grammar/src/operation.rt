@@ -3,7 +3,7 @@
 ghost use Rattle.std.specs.Prelude.{◌≡◌};
 ghost use Rattle.c_grammar.specs.ExpressionReader as spec;
 
-use c_lexer::{Punctuator, Word};
+use c_lexer::{Punctuator, TokenKind};
 use c_syntax::operators::{
     binary_precedence, is_assignment, is_member_operator, is_postfix_operator,
 };
@@ -60,10 +60,10 @@ pub fn operation_of(punctuator: Punctuator) -> Option<Operation>
 }
 
 /// How tightly a word binds what stands before it, from 1 for the comma to 16; 0 where no operation goes on with it.
-pub fn binds(word: &Word) -> u8
+pub fn binds(word: &TokenKind) -> u8
     ensures { result ≡ spec.binds word.now }
 {
-    let Word::Punctuator(punctuator) = word else {
+    let TokenKind::Punctuator(punctuator) = word else {
         return 0;
     };
     match operation_of(*punctuator) {
@@ -76,10 +76,10 @@ pub fn binds(word: &Word) -> u8
 }
 
 /// The least precedence of what stands before a word that goes on with it; 0 where no operation does.
-pub fn needs(word: &Word) -> u8
+pub fn needs(word: &TokenKind) -> u8
     ensures { result ≡ spec.needs word.now }
 {
-    let Word::Punctuator(punctuator) = word else {
+    let TokenKind::Punctuator(punctuator) = word else {
         return 0;
     };
     match operation_of(*punctuator) {

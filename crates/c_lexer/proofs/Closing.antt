@@ -1,12 +1,14 @@
 -- A literal closes at one place alone.
-use Rattle.std.proofs.Common.{◌≡◌, ℕ, zero, suc, ◌≤◌, Bool, true, false, ◌||◌, ◌==◌, List, [], ◌∷◌, take, length, Option, Some, None, refl, sym, ap, subst, ◌∙◌, arith}
+use Rattle.std.proofs.Common.{◌≡◌, ℕ, zero, suc, ◌≤◌, Bool, true, false, ◌||◌, ◌==◌, List, [], ◌∷◌, take, length}
+use Rattle.std.proofs.Common.{Option, Some, None, refl, sym, ap, subst, ◌∙◌, arith}
 use Rattle.std.specs.Prelude.{is_some}
 use Rattle.std.proofs.lemmas.Bool.{false≢true, eqb-true}
 use Rattle.c_lexer.specs.declared.literal.LiteralState.{LiteralState}
 use Rattle.c_lexer.specs.declared.literal.LiteralState.TheVariants.{Start}
 use Rattle.c_lexer.specs.declared.literal.LiteralStep.{LiteralStep}
 use Rattle.c_lexer.specs.declared.literal.LiteralStep.TheVariants.{Refused, Closes, Begins, Continues}
-use Rattle.c_lexer.specs.Literals.{literal_step, characters_by, characters_from, characters_of, character_value, bytes_of_literal, behind, ended, at_end, only_one}
+use Rattle.c_lexer.specs.Literals.{literal_step, characters_by, characters_from, characters_of, character_value}
+use Rattle.c_lexer.specs.Literals.{bytes_of_literal, behind, ended, at_end, only_one}
 use Rattle.c_lexer.specs.Scan.{closing_by, closing_length, longer, literal_length, if_character}
 use Rattle.c_lexer.specs.Words.{is_character, is_literal}
 use Rattle.c_lexer.proofs.LongestWord.{split}
@@ -21,7 +23,8 @@ end_alone last (suc m) [] r h = absurd (omega arith)
 end_alone last (suc m) (b ∷ z) r h = absurd (false≢true h)
 
 -- a front that is the rest of a literal ends where the quote closes
-pub closes_only : (q : ℕ) (s : LiteralState) (z : List ℕ) (m : ℕ) → m ≤ length z → is_some (characters_from q s (take m z)) ≡ true → closing_length q s z ≡ Some m
+pub closes_only : (q : ℕ) (s : LiteralState) (z : List ℕ) (m : ℕ) → m ≤ length z
+    → is_some (characters_from q s (take m z)) ≡ true → closing_length q s z ≡ Some m
 closes_only q s z zero r h = absurd (false≢true h)
 closes_only q s [] (suc m) r h = absurd (omega arith)
 closes_only q s (b ∷ z) (suc m) r h = by (literal_step q s b) h (λ t. closes_only q t z m (omega arith))
@@ -60,8 +63,10 @@ closes_at q s (b ∷ z) (suc m) h =
     let e = by (literal_step q s b) h (λ t. closes_at q t z m) in
     record { is = e.0; room = e.1 }
   where
-    by : (n : LiteralStep) → closing_by n (λ t. closing_length q t z) ≡ Some (suc m) → ((t : LiteralState) → closing_length q t z ≡ Some m → IsRest q t m z)
-        → (is_some (characters_by n s (λ t. characters_from q t (take m z)) (take m z)) ≡ true) × (suc m ≤ suc (length z))
+    by : (n : LiteralStep) → closing_by n (λ t. closing_length q t z) ≡ Some (suc m)
+        → ((t : LiteralState) → closing_length q t z ≡ Some m → IsRest q t m z)
+        → (is_some (characters_by n s (λ t. characters_from q t (take m z)) (take m z)) ≡ true)
+        × (suc m ≤ suc (length z))
     by Refused h more = absurd cc
     by Closes h more = let e : m ≡ 0 = cc in (ap (λ m. is_some (at_end (ended s) (take m z))) e, omega arith)
     by (Begins t) h more =
@@ -97,13 +102,15 @@ pub record IsLiteral (n : ℕ) (z : List ℕ) : Type 0 where
   pub some : 1 ≤ n
   pub room : n ≤ length z
 
-character_here : (b m : ℕ) (z : List ℕ) → (b == 39) ≡ true → is_some (only_one (characters_from 39 Start (take m z))) ≡ true → if_character (b ∷ z) (Some (suc m)) ≡ Some (suc m)
+character_here : (b m : ℕ) (z : List ℕ) → (b == 39) ≡ true → is_some (only_one (characters_from 39 Start (take m z)))
+    ≡ true → if_character (b ∷ z) (Some (suc m)) ≡ Some (suc m)
 unfolding character_value characters_of
 character_here b m z s g = rw (s, g)
 
 pub literal_only : (z : List ℕ) (m : ℕ) → m ≤ length z → is_literal (take m z) ≡ true → literal_length z ≡ Some m
 unfolding literal_length
-literal_only z zero r h = unfold character_value in unfold bytes_of_literal in unfold characters_of in absurd (false≢true h)
+literal_only z zero r h = unfold character_value in unfold bytes_of_literal in unfold characters_of in
+    absurd (false≢true h)
 literal_only [] (suc m) r h = absurd (omega arith)
 literal_only (b ∷ z) (suc m) r h =
     split (b == 34)
@@ -113,14 +120,17 @@ literal_only (b ∷ z) (suc m) r h =
     (λ d. split (b == 39)
     (λ s. let q : b ≡ 39 = eqb-true b 39 s in
     let g = sym (character_of_quote (take m z)) ∙ ap (λ b. is_literal (b ∷ take m z)) (sym q) ∙ h in
-    rw (d, s, closes_only 39 Start z m (omega arith) (one_some (characters_from 39 Start (take m z)) g)) (character_here b m z s g))
+    rw (d, s, closes_only 39 Start z m (omega arith) (one_some (characters_from 39 Start (take m z)) g))
+    (character_here b m z s g))
     (λ s. absurd (false≢true (sym (no_literal b (take m z) d s) ∙ h))))
 
-found_character : (z : List ℕ) (o : Option ℕ) (n : ℕ) → if_character z o ≡ Some n → (o ≡ Some n) × (is_character (take n z) ≡ true)
+found_character : (z : List ℕ) (o : Option ℕ) (n : ℕ) → if_character z o ≡ Some n
+    → (o ≡ Some n) × (is_character (take n z) ≡ true)
 found_character z None n h = absurd cc
 found_character z (Some m) n h =
     split (is_character (take m z))
-    (λ e. let g : Some m ≡ Some n = rw e at h in let k : m ≡ n = cc in (g, subst (λ n. is_character (take n z) ≡ true) k e))
+    (λ e. let g : Some m ≡ Some n = rw e at h in let k : m ≡ n = cc in
+    (g, subst (λ n. is_character (take n z) ≡ true) k e))
     (λ e. let g : None ≡ Some n = rw e at h in absurd cc)
 
 pub literal_at : (z : List ℕ) (n : ℕ) → literal_length z ≡ Some n → IsLiteral n z
@@ -130,13 +140,19 @@ literal_at (b ∷ z) zero h =
     absurd (split (b == 34)
     (λ d. longer_zero (closing_length 34 Start z) (rw d at h))
     (λ d. split (b == 39)
-    (λ s. let g : if_character (b ∷ z) (longer (closing_length 39 Start z)) ≡ Some 0 = rw (d, s) at h in longer_zero (closing_length 39 Start z) (found_character (b ∷ z) (longer (closing_length 39 Start z)) 0 g).0)
+    (λ s. let g : if_character (b ∷ z) (longer (closing_length 39 Start z)) ≡ Some 0 = rw (d, s) at h in
+    longer_zero (closing_length 39 Start z) (found_character (b ∷ z) (longer (closing_length 39 Start z)) 0 g).0)
     (λ s. let g : None ≡ Some 0 = rw (d, s) at h in cc)))
 literal_at (b ∷ z) (suc n) h =
     split (b == 34)
     (λ d. let q : b ≡ 34 = eqb-true b 34 d in
     let r = closes_at 34 Start z n (longer_some (closing_length 34 Start z) n (rw d at h)) in
-    record { is = ap (λ b. is_literal (b ∷ take n z)) q ∙ string_of_quote (take n z) ∙ r.is; some = omega arith; room = omega (arith, r.room) })
+    record {
+      is = ap (λ b. is_literal (b ∷ take n z)) q ∙ string_of_quote (take n z) ∙ r.is;
+      some = omega arith;
+      room =
+          omega (arith, r.room);
+    })
     (λ d. split (b == 39)
     (λ s. let q : b ≡ 39 = eqb-true b 39 s in
     let g : if_character (b ∷ z) (longer (closing_length 39 Start z)) ≡ Some (suc n) = rw (d, s) at h in

@@ -1,5 +1,6 @@
 -- What is left of a text.
-use Rattle.std.proofs.Common.{◌≡◌, ℕ, zero, suc, ◌+◌, ◌-◌, ◌≤◌, cond, ◌==◌, List, [], ◌∷◌, take, drop, length, sym, ap, ◌∙◌, arith}
+use Rattle.std.proofs.Common.{◌≡◌, ℕ, zero, suc, ◌+◌, ◌-◌, ◌≤◌, cond, ◌==◌, List, [], ◌∷◌, take, drop, length, sym, ap}
+use Rattle.std.proofs.Common.{◌∙◌, arith}
 use Rattle.std.proofs.lemmas.List.Sums.{count_by-le-length, sum_by-take-drop}
 use Rattle.c_lexer.specs.Text.{newlines}
 
@@ -35,4 +36,5 @@ ends_at r _ (there b z e) =
 
 -- the newlines that were passed, and those that are left
 pub newlines_passed : (r z : List ℕ) → Ends r z → newlines z ≡ newlines (take (length z - length r) z) + newlines r
-newlines_passed r z e = newlines_cut (length z - length r) z ∙ ap (λ s. newlines (take (length z - length r) z) + newlines s) (sym (ends_at r z e))
+newlines_passed r z e = newlines_cut (length z - length r) z
+    ∙ ap (λ s. newlines (take (length z - length r) z) + newlines s) (sym (ends_at r z e))

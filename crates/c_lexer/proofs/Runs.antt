@@ -1,5 +1,6 @@
 -- Runs of bytes: each shorter front passes, each longer one does not.
-use Rattle.std.proofs.Common.{◌≡◌, ℕ, zero, suc, ◌+◌, ◌<◌, ◌≤◌, Bool, true, false, cond, List, [], ◌∷◌, take, length, refl, arith}
+use Rattle.std.proofs.Common.{◌≡◌, ℕ, zero, suc, ◌+◌, ◌<◌, ◌≤◌, Bool, true, false, cond, List, [], ◌∷◌, take, length}
+use Rattle.std.proofs.Common.{refl, arith}
 use Rattle.std.specs.List.{prefix_len, list_all}
 use Rattle.c_lexer.specs.Words.{continues_number, all_continue_number}
 use Rattle.c_lexer.specs.Scan.{number_length}
@@ -37,12 +38,14 @@ number_within a (b ∷ z) (suc m) h =
     (λ e. let g : suc m ≤ suc (number_length b z) = rw e at h in rw (e, number_within b z m (omega arith)))
     (λ e. let g : suc m ≤ 0 = rw e at h in absurd (omega arith))
 
-pub number_beyond : (a : ℕ) (z : List ℕ) (m : ℕ) → number_length a z < m → m ≤ length z → all_continue_number a (take m z) ≡ false
+pub number_beyond : (a : ℕ) (z : List ℕ) (m : ℕ) → number_length a z < m → m ≤ length z
+    → all_continue_number a (take m z) ≡ false
 number_beyond a z zero h r = absurd (omega arith)
 number_beyond a [] (suc m) h r = absurd (omega arith)
 number_beyond a (b ∷ z) (suc m) h r =
     split (continues_number a b)
-    (λ e. let g : suc (number_length b z) < suc m = rw e at h in rw (e, number_beyond b z m (omega arith) (omega arith)))
+    (λ e. let g : suc (number_length b z) < suc m = rw e at h in
+    rw (e, number_beyond b z m (omega arith) (omega arith)))
     (λ e. rw e)
 
 pub number_fits : (a : ℕ) (z : List ℕ) → number_length a z ≤ length z

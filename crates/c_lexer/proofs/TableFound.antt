@@ -1,5 +1,6 @@
 -- The table of punctuators, whose bytes begin no other word, and in which the longer ones stand first.
-use Rattle.std.proofs.Common.{◌≡◌, ℕ, zero, suc, ◌<◌, ◌≤◌, Bool, true, false, not, ◌&&◌, ◌||◌, ◌==◌, leb, List, [], ◌∷◌, take, length, Option, Some, None, refl, sym, ap, subst, ◌∙◌, arith}
+use Rattle.std.proofs.Common.{◌≡◌, ℕ, zero, suc, ◌<◌, ◌≤◌, Bool, true, false, not, ◌&&◌, ◌||◌, ◌==◌, leb, List, [], ◌∷◌}
+use Rattle.std.proofs.Common.{take, length, Option, Some, None, refl, sym, ap, subst, ◌∙◌, arith}
 use Rattle.std.specs.Prelude.{nat_eq}
 use Rattle.std.specs.List.{find, list_all, starts_with}
 use Rattle.std.specs.Str.{bytes_eq}
@@ -16,7 +17,8 @@ use Rattle.c_lexer.proofs.LongestWord.{split}
 abbrev pub is_apart : ℕ → Bool
 is_apart b = not (continues_identifier b || (b == 34 || b == 39))
 
-none_spelled : (table : List Punctuator) (z : List ℕ) → list_all (λ p. list_all is_apart (punctuator_spelling p)) table ≡ true → list_all is_apart z ≡ false
+none_spelled : (table : List Punctuator) (z : List ℕ) → list_all (λ p. list_all is_apart (punctuator_spelling p)) table
+    ≡ true → list_all is_apart z ≡ false
     → find (λ p. bytes_eq (punctuator_spelling p) z) table ≡ None
 none_spelled [] z a h = refl
 none_spelled (p ∷ table) z a h =
@@ -62,7 +64,8 @@ other_length s z m r l =
     let same : s ≡ take m z = (bytes_decides s (take m z)).0 e in
     let n : length s ≡ m = ap length same ∙ take_length m z r in omega arith)
 
-pub none_found : (table : List Punctuator) (z : List ℕ) (m : ℕ) → m ≤ length z → found_in table z ≡ None → spelled_in table (take m z) ≡ None
+pub none_found : (table : List Punctuator) (z : List ℕ) (m : ℕ) → m ≤ length z → found_in table z ≡ None
+    → spelled_in table (take m z) ≡ None
 none_found [] z m r h = refl
 none_found (p ∷ table) z m r h =
     split (starts_with nat_eq z (punctuator_spelling p))
@@ -86,17 +89,20 @@ pub found_front : (table : List Punctuator) (z : List ℕ) (p : Punctuator) → 
 found_front [] z p h = absurd cc
 found_front (q ∷ table) z p h =
     split (starts_with nat_eq z (punctuator_spelling q))
-    (λ e. let g : Some q ≡ Some p = rw e at h in let same : q ≡ p = cc in subst (λ p. IsFront p z) same (front_of q z e))
+    (λ e. let g : Some q ≡ Some p = rw e at h in let same : q ≡ p = cc in
+    subst (λ p. IsFront p z) same (front_of q z e))
     (λ e. found_front table z p (rw e at h))
 
-pub found_at : (table : List Punctuator) (z : List ℕ) (p : Punctuator) → found_in table z ≡ Some p → spelled_in table (take (length (punctuator_spelling p)) z) ≡ Some p
+pub found_at : (table : List Punctuator) (z : List ℕ) (p : Punctuator) → found_in table z ≡ Some p
+    → spelled_in table (take (length (punctuator_spelling p)) z) ≡ Some p
 found_at [] z p h = absurd cc
 found_at (q ∷ table) z p h =
     split (starts_with nat_eq z (punctuator_spelling q))
     (λ e. let g : Some q ≡ Some p = rw e at h in let same : q ≡ p = cc in
     subst (λ p. spelled_in (q ∷ table) (take (length (punctuator_spelling p)) z) ≡ Some p) same (rw e))
     (λ e. let g : found_in table z ≡ Some p = rw e at h in
-    rw (not_spelled (punctuator_spelling q) z (length (punctuator_spelling p)) (found_front table z p g).room e) (found_at table z p g))
+    rw (not_spelled (punctuator_spelling q) z (length (punctuator_spelling p)) (found_front table z p g).room e)
+    (found_at table z p g))
 
 abbrev none_longer : ℕ → List Punctuator → Bool
 none_longer n table = list_all (λ q. leb (length (punctuator_spelling q)) n) table
@@ -105,14 +111,16 @@ abbrev falls : List Punctuator → Bool
 falls [] = true
 falls (p ∷ table) = none_longer (length (punctuator_spelling p)) table && falls table
 
-beyond_all : (table : List Punctuator) (z : List ℕ) (n m : ℕ) → none_longer n table ≡ true → n < m → m ≤ length z → spelled_in table (take m z) ≡ None
+beyond_all : (table : List Punctuator) (z : List ℕ) (n m : ℕ) → none_longer n table ≡ true → n < m → m ≤ length z
+    → spelled_in table (take m z) ≡ None
 beyond_all [] z n m f l r = refl
 beyond_all (q ∷ table) z n m f l r =
     let parts = and_parts (leb (length (punctuator_spelling q)) n) (none_longer n table) f in
     let k : length (punctuator_spelling q) ≤ n = leb-true (length (punctuator_spelling q)) n parts.0 in
     rw (other_length (punctuator_spelling q) z m r (omega arith)) (beyond_all table z n m parts.1 l r)
 
-pub none_beyond : (table : List Punctuator) (z : List ℕ) (p : Punctuator) (m : ℕ) → falls table ≡ true → found_in table z ≡ Some p → length (punctuator_spelling p) < m → m ≤ length z
+pub none_beyond : (table : List Punctuator) (z : List ℕ) (p : Punctuator) (m : ℕ) → falls table ≡ true
+    → found_in table z ≡ Some p → length (punctuator_spelling p) < m → m ≤ length z
     → spelled_in table (take m z) ≡ None
 none_beyond [] z p m f h l r = refl
 none_beyond (q ∷ table) z p m f h l r =
@@ -121,7 +129,8 @@ none_beyond (q ∷ table) z p m f h l r =
     (λ e. let g : Some q ≡ Some p = rw e at h in
     let same : q ≡ p = cc in
     let k : length (punctuator_spelling q) < m = subst (λ p. length (punctuator_spelling p) < m) (sym same) l in
-    rw (other_length (punctuator_spelling q) z m r k) (beyond_all table z (length (punctuator_spelling q)) m parts.0 k r))
+    rw (other_length (punctuator_spelling q) z m r k) (beyond_all table z (length (punctuator_spelling q)) m parts.0 k
+    r))
     (λ e. let g : found_in table z ≡ Some p = rw e at h in
     rw (not_spelled (punctuator_spelling q) z m r e) (none_beyond table z p m parts.1 g l r))
 
@@ -136,7 +145,8 @@ table_some : some_bytes PUNCTUATORS ≡ true
 unfolding punctuator_spelling
 table_some = refl
 
-found_passes : (test : Punctuator → Bool) (table : List Punctuator) (z : List ℕ) (p : Punctuator) → list_all test table ≡ true → found_in table z ≡ Some p → test p ≡ true
+found_passes : (test : Punctuator → Bool) (table : List Punctuator) (z : List ℕ) (p : Punctuator)
+    → list_all test table ≡ true → found_in table z ≡ Some p → test p ≡ true
 found_passes test [] z p a h = absurd cc
 found_passes test (q ∷ table) z p a h =
     let parts = and_parts (test q) (list_all test table) a in
@@ -145,4 +155,5 @@ found_passes test (q ∷ table) z p a h =
     (λ e. found_passes test table z p parts.1 (rw e at h))
 
 pub found_some : (z : List ℕ) (p : Punctuator) → found_in PUNCTUATORS z ≡ Some p → 1 ≤ length (punctuator_spelling p)
-found_some z p h = leb-true 1 (length (punctuator_spelling p)) (found_passes (λ p. leb 1 (length (punctuator_spelling p))) PUNCTUATORS z p table_some h)
+found_some z p h = leb-true 1 (length (punctuator_spelling p))
+    (found_passes (λ p. leb 1 (length (punctuator_spelling p))) PUNCTUATORS z p table_some h)

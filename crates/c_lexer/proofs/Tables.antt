@@ -21,11 +21,13 @@ found_true p (y ∷ table) x h =
 
 pub keyword_spelled : (z : List ℕ) (k : Keyword) → keyword_of z ≡ Some k → keyword_spelling k ≡ z
 unfolding keyword_of
-keyword_spelled z k h = (bytes_decides (keyword_spelling k) z).0 (found_true (λ k. bytes_eq (keyword_spelling k) z) KEYWORDS k h)
+keyword_spelled z k h = (bytes_decides (keyword_spelling k) z).0
+    (found_true (λ k. bytes_eq (keyword_spelling k) z) KEYWORDS k h)
 
 pub punctuator_spelled : (z : List ℕ) (p : Punctuator) → punctuator_of z ≡ Some p → punctuator_spelling p ≡ z
 unfolding punctuator_of
-punctuator_spelled z p h = (bytes_decides (punctuator_spelling p) z).0 (found_true (λ p. bytes_eq (punctuator_spelling p) z) PUNCTUATORS p h)
+punctuator_spelled z p h = (bytes_decides (punctuator_spelling p) z).0
+    (found_true (λ p. bytes_eq (punctuator_spelling p) z) PUNCTUATORS p h)
 
 pub keyword_read : (k : Keyword) → keyword_of (keyword_spelling k) ≡ Some k
 unfolding keyword_of keyword_spelling

@@ -1,5 +1,6 @@
 -- Integer constants: digits, suffix, type and value (C99 6.4.4.1).
-use Rattle.std.specs.Prelude.{ℕ, ◌+◌, ◌-◌, ◌*◌, ◌^◌, Bool, ◌&&◌, ◌||◌, if◌then◌else◌, ◌==◌, nat_le, List, [], ◌∷◌, take, drop, Option, Some, None}
+use Rattle.std.specs.Prelude.{ℕ, ◌+◌, ◌-◌, ◌*◌, ◌^◌, Bool, ◌&&◌, ◌||◌, if◌then◌else◌, ◌==◌, nat_le, List, [], ◌∷◌, take}
+use Rattle.std.specs.Prelude.{drop, Option, Some, None}
 use Rattle.std.specs.List.{prefix_len, find}
 use Rattle.c_lexer.specs.declared.integer.IntegerType.{IntegerType}
 use Rattle.c_lexer.specs.declared.integer.IntegerType.TheVariants as type
@@ -63,7 +64,8 @@ decimal_types suffix.Ll = type.LongLong ∷ []
 decimal_types suffix.Ull = type.UnsignedLongLong ∷ []
 
 abbrev pub other_types : Suffix → List IntegerType
-other_types suffix.Absent = type.Int ∷ type.UnsignedInt ∷ type.Long ∷ type.UnsignedLong ∷ type.LongLong ∷ type.UnsignedLongLong ∷ []
+other_types suffix.Absent = type.Int ∷ type.UnsignedInt ∷ type.Long ∷ type.UnsignedLong ∷ type.LongLong
+    ∷ type.UnsignedLongLong ∷ []
 other_types suffix.U = type.UnsignedInt ∷ type.UnsignedLong ∷ type.UnsignedLongLong ∷ []
 other_types suffix.L = type.Long ∷ type.UnsignedLong ∷ type.LongLong ∷ type.UnsignedLongLong ∷ []
 other_types suffix.Ul = type.UnsignedLong ∷ type.UnsignedLongLong ∷ []

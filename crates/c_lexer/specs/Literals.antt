@@ -1,8 +1,10 @@
 -- Character constants and string literals, read byte by byte (C99 6.4.4.4, 6.4.5). Any byte but a newline, the closing
 -- quote and a backslash stands for itself.
-use Rattle.std.specs.Prelude.{ℕ, ◌+◌, ◌*◌, ◌&&◌, if◌then◌else◌, ◌==◌, nat_le, nat_lt, List, [], ◌∷◌, ◌++◌, Option, Some, None}
+use Rattle.std.specs.Prelude.{ℕ, ◌+◌, ◌*◌, ◌&&◌, if◌then◌else◌, ◌==◌, nat_le, nat_lt, List, [], ◌∷◌, ◌++◌, Option, Some}
+use Rattle.std.specs.Prelude.{None}
 use Rattle.c_lexer.specs.declared.literal.LiteralState.{LiteralState}
-use Rattle.c_lexer.specs.declared.literal.LiteralState.TheVariants.{Start, Character, Escape, Octal, HexadecimalStart, Hexadecimal}
+use Rattle.c_lexer.specs.declared.literal.LiteralState.TheVariants.{Start, Character, Escape, Octal, HexadecimalStart}
+use Rattle.c_lexer.specs.declared.literal.LiteralState.TheVariants.{Hexadecimal}
 use Rattle.c_lexer.specs.declared.literal.LiteralStep.{LiteralStep}
 use Rattle.c_lexer.specs.declared.literal.LiteralStep.TheVariants.{Refused, Closes, Begins, Continues}
 use Rattle.c_lexer.specs.Characters.{is_octal_digit, is_hexadecimal_digit, digit_value}
@@ -45,7 +47,8 @@ within_byte v state = if nat_le v 255 then Continues state else Refused
 
 unfoldable pub octal : ℕ → ℕ → ℕ → ℕ → LiteralStep
 octal quote digits v b =
-    if nat_lt digits 3 && is_octal_digit b then within_byte (8 * v + digit_value b) (Octal (digits + 1) (8 * v + digit_value b))
+    if nat_lt digits 3 && is_octal_digit b then within_byte (8 * v + digit_value b)
+    (Octal (digits + 1) (8 * v + digit_value b))
     else next_character quote b
 
 unfoldable pub hexadecimal : ℕ → ℕ → ℕ → LiteralStep
@@ -59,7 +62,8 @@ literal_step quote Start b = next_character quote b
 literal_step quote (Character v) b = next_character quote b
 literal_step quote Escape b = escaped b
 literal_step quote (Octal digits v) b = octal quote digits v b
-literal_step quote HexadecimalStart b = if is_hexadecimal_digit b then Continues (Hexadecimal (digit_value b)) else Refused
+literal_step quote HexadecimalStart b = if is_hexadecimal_digit b then Continues (Hexadecimal (digit_value b)) else
+    Refused
 literal_step quote (Hexadecimal v) b = hexadecimal quote v b
 
 -- the character that ends where the next one begins, or the literal closes

@@ -2,8 +2,8 @@
 use Rattle.std.specs.Prelude.{ℕ, suc, ◌+◌, if◌then◌else◌, ◌==◌, List, [], ◌∷◌, take, length, Option, Some, None}
 use Rattle.std.specs.List.{prefix_len, find, starts_with}
 use Rattle.std.specs.Prelude.{nat_eq}
-use Rattle.c_lexer.specs.declared.token.Word.{Word}
-use Rattle.c_lexer.specs.declared.token.Word.TheVariants as word
+use Rattle.c_lexer.specs.declared.token.TokenKind.{TokenKind}
+use Rattle.c_lexer.specs.declared.token.TokenKind.TheVariants as kinds
 use Rattle.c_lexer.specs.declared.punctuator.Punctuator.{Punctuator}
 use Rattle.c_lexer.specs.declared.punctuator.TheConstants.{PUNCTUATORS}
 use Rattle.c_lexer.specs.declared.literal.LiteralState.{LiteralState}
@@ -51,43 +51,43 @@ literal_length (b ∷ z) =
     if b == 34 then longer (closing_length 34 Start z)
     else (if b == 39 then if_character (b ∷ z) (longer (closing_length 39 Start z)) else None)
 
-abbrev pub cut : (List ℕ → Word) → List ℕ → Option ℕ → Option (Word × ℕ)
+abbrev pub cut : (List ℕ → TokenKind) → List ℕ → Option ℕ → Option (TokenKind × ℕ)
 cut make z None = None
 cut make z (Some n) = Some (make (take n z), n)
 
 -- the first punctuator of the table, in which the longer ones stand first, that the text begins with
-abbrev pub punctuator_found : Option Punctuator → Option (Word × ℕ)
+abbrev pub punctuator_found : Option Punctuator → Option (TokenKind × ℕ)
 punctuator_found None = None
-punctuator_found (Some p) = Some (word.Punctuator p, length (punctuator_spelling p))
+punctuator_found (Some p) = Some (kinds.Punctuator p, length (punctuator_spelling p))
 
-unfoldable pub scan_punctuator : List ℕ → Option (Word × ℕ)
+unfoldable pub scan_punctuator : List ℕ → Option (TokenKind × ℕ)
 scan_punctuator z = punctuator_found (find (λ p. starts_with nat_eq z (punctuator_spelling p)) PUNCTUATORS)
 
 -- of a text that begins with a nondigit
-unfoldable pub scan_identifier : List ℕ → Word × ℕ
+unfoldable pub scan_identifier : List ℕ → TokenKind × ℕ
 scan_identifier z =
     let n = prefix_len continues_identifier z in
     (named (take n z) (keyword_of (take n z)), n)
 
-abbrev pub wide_or_identifier : List ℕ → Option ℕ → Word × ℕ
+abbrev pub wide_or_identifier : List ℕ → Option ℕ → TokenKind × ℕ
 wide_or_identifier z None = scan_identifier z
-wide_or_identifier z (Some n) = (word.Wide (take (suc n) z), suc n)
+wide_or_identifier z (Some n) = (kinds.Wide (take (suc n) z), suc n)
 
-unfoldable pub scan_name : List ℕ → Word × ℕ
+unfoldable pub scan_name : List ℕ → TokenKind × ℕ
 scan_name [] = scan_identifier []
 scan_name (b ∷ z) = if b == 76 then wide_or_identifier (b ∷ z) (literal_length z) else scan_identifier (b ∷ z)
 
 -- of a text that begins with a number
-unfoldable pub scan_number : ℕ → List ℕ → Word × ℕ
+unfoldable pub scan_number : ℕ → List ℕ → TokenKind × ℕ
 scan_number b z =
     let n = suc (number_length b z) in
-    (word.Integer (take n (b ∷ z)), n)
+    (kinds.Integer (take n (b ∷ z)), n)
 
-unfoldable pub scan : List ℕ → Option (Word × ℕ)
+unfoldable pub scan : List ℕ → Option (TokenKind × ℕ)
 scan [] = None
 scan (b ∷ z) =
     if is_nondigit b then Some (scan_name (b ∷ z))
     else (if begins_number b z then Some (scan_number b z)
-    else (if b == 34 then cut word.StringLiteral (b ∷ z) (literal_length (b ∷ z))
-    else (if b == 39 then cut word.Character (b ∷ z) (literal_length (b ∷ z))
+    else (if b == 34 then cut kinds.StringLiteral (b ∷ z) (literal_length (b ∷ z))
+    else (if b == 39 then cut kinds.Character (b ∷ z) (literal_length (b ∷ z))
     else scan_punctuator (b ∷ z))))

@@ -1,9 +1,10 @@
 -- White space and comments between tokens (C99 5.1.1.2, 6.4.9).
-use Rattle.std.specs.Prelude.{ℕ, zero, suc, Bool, false, not, ◌&&◌, ◌||◌, if◌then◌else◌, ◌==◌, List, [], ◌∷◌, drop, length, Option, Some, None}
+use Rattle.std.specs.Prelude.{ℕ, zero, suc, Bool, false, not, ◌&&◌, ◌||◌, if◌then◌else◌, ◌==◌, List, [], ◌∷◌, drop}
+use Rattle.std.specs.Prelude.{length, Option, Some, None}
 use Rattle.c_lexer.specs.Characters.{is_between, begins}
 
--- White space or a comment at the front of a text: what stands behind it, and whether it is a newline. Newlines inside a
--- comment, or behind a backslash, are passed with it and are no such newline.
+-- White space or a comment at the front of a text: what stands behind it, and whether it is a newline. Newlines inside
+-- a comment, or behind a backslash, are passed with it and are no such newline.
 pub record Separator : Type 0 where
   pub rest : List ℕ
   pub is_newline : Bool

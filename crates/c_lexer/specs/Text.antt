@@ -1,7 +1,8 @@
 -- The tokens of a text, or the first place where none stands.
-use Rattle.std.specs.Prelude.{◌≡◌, ℕ, zero, suc, ◌-◌, Bool, true, false, ◌==◌, nat_lt, count_by, List, [], ◌∷◌, ◌++◌, drop, length, Option, Some, None, Result, Ok, Err}
+use Rattle.std.specs.Prelude.{◌≡◌, ℕ, zero, suc, ◌-◌, Bool, true, false, ◌==◌, nat_lt, count_by, List, [], ◌∷◌, ◌++◌}
+use Rattle.std.specs.Prelude.{drop, length, Option, Some, None, Result, Ok, Err}
 use Rattle.c_lexer.specs.declared.token.Token.{Token}
-use Rattle.c_lexer.specs.declared.token.Word.{Word}
+use Rattle.c_lexer.specs.declared.token.TokenKind.{TokenKind}
 use Rattle.c_lexer.specs.declared.lexer.LexFault.{LexFault}
 use Rattle.c_lexer.specs.declared.lexer.LexError.{LexError}
 use Rattle.c_lexer.specs.declared.lexer.LexError.TheVariants.{Fault, Memory}
@@ -28,11 +29,17 @@ abbrev pub at_end : List ℕ → Lexed
 at_end text = Ok (record { tokens = []; end = line_of text [] })
 
 -- the token behind a gap, z being what was left before the gap
-abbrev pub token_behind : List ℕ → List ℕ → Gap → Word → Token
+abbrev pub token_behind : List ℕ → List ℕ → Gap → TokenKind → Token
 token_behind text z g w =
-    record { word = w; line = line_of text g.rest; begins_line = g.has_newline; is_spaced = nat_lt (length g.rest) (length z) }
+    record {
+      kind = w;
+      line = line_of text g.rest;
+      begins_line = g.has_newline;
+      is_spaced =
+          nat_lt (length g.rest) (length z);
+    }
 
-abbrev pub tokens_by : List ℕ → List ℕ → Gap → Option (Word × ℕ) → (List ℕ → Lexed) → Lexed
+abbrev pub tokens_by : List ℕ → List ℕ → Gap → Option (TokenKind × ℕ) → (List ℕ → Lexed) → Lexed
 tokens_by text z g None more = Err (record { at = length text - length g.rest; line = line_of text g.rest })
 tokens_by text z g (Some t) more = behind_tokens (token_behind text z g t.0 ∷ []) (more (drop t.1 g.rest))
 

@@ -1,13 +1,14 @@
 -- The token that is all of some bytes (C99 6.4).
--- Left out: a backslash and a newline inside a token other than a comment, so that the backslash ends the token, and begins
--- none; `##`, which is two `#`; digraphs, trigraphs, universal character names, and letters outside ASCII.
+-- Left out: a backslash and a newline inside a token other than a comment, so that the backslash ends the token, and
+-- begins none; `##`, which is two `#`; digraphs, trigraphs, universal character names, and letters outside ASCII.
 -- A wide literal that is no token leaves its `L`, an identifier, and its quote, which begins none.
-use Rattle.std.specs.Prelude.{ℕ, Bool, true, false, ◌&&◌, ◌||◌, if◌then◌else◌, ◌==◌, List, [], ◌∷◌, Option, Some, None, is_some}
+use Rattle.std.specs.Prelude.{ℕ, Bool, true, false, ◌&&◌, ◌||◌, if◌then◌else◌, ◌==◌, List, [], ◌∷◌, Option, Some, None}
+use Rattle.std.specs.Prelude.{is_some}
 use Rattle.std.specs.List.{list_all}
 use Rattle.c_lexer.specs.declared.keyword.Keyword.{Keyword}
 use Rattle.c_lexer.specs.declared.punctuator.Punctuator.{Punctuator}
-use Rattle.c_lexer.specs.declared.token.Word.{Word}
-use Rattle.c_lexer.specs.declared.token.Word.TheVariants as word
+use Rattle.c_lexer.specs.declared.token.TokenKind.{TokenKind}
+use Rattle.c_lexer.specs.declared.token.TokenKind.TheVariants as kinds
 use Rattle.c_lexer.specs.Characters.{is_digit, is_nondigit, continues_identifier}
 use Rattle.c_lexer.specs.Literals.{character_value, bytes_of_literal}
 use Rattle.c_lexer.specs.Spellings.{keyword_spelling, keyword_of, punctuator_spelling, punctuator_of}
@@ -56,30 +57,30 @@ abbrev pub is_wide : List ℕ → Bool
 is_wide [] = false
 is_wide (b ∷ z) = b == 76 && is_literal z
 
-abbrev pub named : List ℕ → Option Keyword → Word
-named z None = word.Identifier z
-named z (Some k) = word.Keyword k
+abbrev pub named : List ℕ → Option Keyword → TokenKind
+named z None = kinds.Identifier z
+named z (Some k) = kinds.Keyword k
 
-abbrev pub punctuated : Option Punctuator → Option Word
+abbrev pub punctuated : Option Punctuator → Option TokenKind
 punctuated None = None
-punctuated (Some p) = Some (word.Punctuator p)
+punctuated (Some p) = Some (kinds.Punctuator p)
 
 -- the word that all of these bytes spell; a number is judged later
-unfoldable pub word_of : List ℕ → Option Word
+unfoldable pub word_of : List ℕ → Option TokenKind
 word_of z =
     if is_identifier z then Some (named z (keyword_of z))
-    else (if is_number z then Some (word.Integer z)
-    else (if is_character z then Some (word.Character z)
-    else (if is_string z then Some (word.StringLiteral z)
-    else (if is_wide z then Some (word.Wide z)
+    else (if is_number z then Some (kinds.Integer z)
+    else (if is_character z then Some (kinds.Character z)
+    else (if is_string z then Some (kinds.StringLiteral z)
+    else (if is_wide z then Some (kinds.Wide z)
     else punctuated (punctuator_of z)))))
 
 -- the bytes of a word
-abbrev pub spelling_of : Word → List ℕ
-spelling_of (word.Identifier z) = z
-spelling_of (word.Keyword k) = keyword_spelling k
-spelling_of (word.Integer z) = z
-spelling_of (word.Character z) = z
-spelling_of (word.StringLiteral z) = z
-spelling_of (word.Wide z) = z
-spelling_of (word.Punctuator p) = punctuator_spelling p
+abbrev pub spelling_of : TokenKind → List ℕ
+spelling_of (kinds.Identifier z) = z
+spelling_of (kinds.Keyword k) = keyword_spelling k
+spelling_of (kinds.Integer z) = z
+spelling_of (kinds.Character z) = z
+spelling_of (kinds.StringLiteral z) = z
+spelling_of (kinds.Wide z) = z
+spelling_of (kinds.Punctuator p) = punctuator_spelling p

@@ -197,7 +197,8 @@ fn suffix_of(text: &[u8]) -> Option<Suffix>
 #[tactic(auto, using(crate::proofs::Digits::number_grows, crate::proofs::Digits::number_at))]
 fn number(base: u64, digits: &[u8]) -> Option<u64>
     requires { 1 ≤ base }
-    ensures { MatchOption result (2 ^ 64 ≤ spec.number_from base 0 digits.now) (λ v. v ≡ spec.number_from base 0 digits.now) }
+    ensures { MatchOption result (2 ^ 64 ≤ spec.number_from base 0 digits.now)
+        (λ v. v ≡ spec.number_from base 0 digits.now) }
 {
     let mut number: u64 = 0;
     for b in digits {
@@ -232,8 +233,9 @@ fn constant_in(radix: Radix, text: &[u8]) -> Option<IntegerConstant>
     typed(radix.types(suffix), value)
 }
 
-/// The type and the value of an integer constant that is all of these bytes: of the types that paragraph 5 lists for its
-/// radix and suffix the first that holds the value. `None` where the bytes are no integer constant, or no type holds it.
+/// The type and the value of an integer constant that is all of these bytes: of the types that paragraph 5 lists for
+/// its radix and suffix the first that holds the value. `None` where the bytes are no integer constant, or no type
+/// holds it.
 #[tactic(auto, unfolding(crate::specs::Constants::constant_of))]
 pub fn constant_of(spelling: &[u8]) -> Option<IntegerConstant>
     ensures { result ≡ spec.constant_of spelling.now }

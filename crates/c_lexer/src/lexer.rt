@@ -57,14 +57,14 @@ pub fn lex(alloc: Global, text: &[u8]) -> Result<Tokens<'_>, LexError>
         if gap.rest.is_empty() {
             return Ok(Tokens::new(items, here));
         }
-        let Some((word, length)) = front_token(gap.rest) else {
+        let Some((kind, length)) = front_token(gap.rest) else {
             return Err(LexError::Fault(LexFault {
                 at: (text.len() - gap.rest.len()) as u64,
                 line: here,
             }));
         };
         let token = Token {
-            word,
+            kind,
             line: here,
             begins_line: gap.has_newline,
             is_spaced: gap.rest.len() < rest.len(),

@@ -17,4 +17,4 @@ pub use crate::keyword::Keyword;
 pub use crate::lexer::{LexError, LexFault, lex};
 pub use crate::literal::{bytes_of_literal, character_value};
 pub use crate::punctuator::Punctuator;
-pub use crate::token::{Spelling, Token, Tokens, Word};
+pub use crate::token::{Spelling, Token, TokenKind, Tokens};

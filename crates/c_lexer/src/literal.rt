@@ -238,7 +238,8 @@ pub fn bytes_of_literal(alloc: Global, spelling: &[u8]) -> Result<Option<Vec<u8>
 
 // The same, the opening quote apart.
 fn string_bytes(alloc: Global, text: &[u8]) -> Result<Option<Vec<u8>>, AllocError>
-    ensures { IfOk result (λ bytes. option_map (λ b. b.items) bytes ≡ spec.characters_from 34 LiteralState.Start text.now) }
+    ensures { IfOk result (λ bytes. option_map (λ b. b.items) bytes
+        ≡ spec.characters_from 34 LiteralState.Start text.now) }
 {
     let mut bytes = Vec::new(alloc);
     let mut state = LiteralState::Start;

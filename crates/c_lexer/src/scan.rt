@@ -7,14 +7,14 @@ ghost use Rattle.c_lexer.specs.Longest.{front_token, longest, valid, begins_comm
 ghost use Rattle.c_lexer.specs.Scan as spec;
 ghost use Rattle.c_lexer.specs.Spellings.{keyword_of, keyword_spelling, punctuator_spelling};
 ghost use Rattle.c_lexer.specs.Words as words;
-ghost use Rattle.c_lexer.specs.declared.token.Word.TheVariants as word;
+ghost use Rattle.c_lexer.specs.declared.token.TokenKind.TheVariants as kinds;
 
 use crate::character::{continues_identifier, is_digit, is_nondigit};
 use crate::integer::constant_of;
 use crate::keyword::{KEYWORDS, Keyword};
 use crate::literal::{character_value, closing_length};
 use crate::punctuator::{PUNCTUATORS, Punctuator};
-use crate::token::{Spelling, Word};
+use crate::token::{Spelling, TokenKind};
 
 fn is_exponent(b: u8) -> bool
     ensures { result ≡ words.is_exponent b }
@@ -113,29 +113,32 @@ fn punctuator_among(table: &[Punctuator], text: &[u8]) -> Option<Punctuator>
 }
 
 #[tactic(auto, unfolding(crate::specs::Scan::scan_punctuator))]
-fn scan_punctuator(text: &[u8]) -> Option<(Word<'_>, usize)>
+fn scan_punctuator(text: &[u8]) -> Option<(TokenKind<'_>, usize)>
     ensures { result ≡ spec.scan_punctuator text.now }
 {
     let punctuator = punctuator_among(&PUNCTUATORS, text)?;
-    Some((Word::Punctuator(punctuator), punctuator.spelling().len()))
+    Some((
+        TokenKind::Punctuator(punctuator),
+        punctuator.spelling().len(),
+    ))
 }
 
 // Of a text that begins with a nondigit.
 #[tactic(auto, unfolding(crate::specs::Scan::scan_identifier))]
-fn scan_identifier(text: &[u8]) -> (Word<'_>, usize)
+fn scan_identifier(text: &[u8]) -> (TokenKind<'_>, usize)
     ensures { result ≡ spec.scan_identifier text.now }
 {
     let length = identifier_length(text);
     let spelling = &text[..length];
     match keyword_of(spelling) {
-        None => (Word::Identifier(Spelling::new(spelling)), length),
-        Some(keyword) => (Word::Keyword(keyword), length),
+        None => (TokenKind::Identifier(Spelling::new(spelling)), length),
+        Some(keyword) => (TokenKind::Keyword(keyword), length),
     }
 }
 
 // The same, where a wide literal may stand too.
 #[tactic(auto, unfolding(crate::specs::Scan::scan_name))]
-fn scan_name(text: &[u8]) -> (Word<'_>, usize)
+fn scan_name(text: &[u8]) -> (TokenKind<'_>, usize)
     requires { length text.now < 2 ^ 63 }
     ensures { result ≡ spec.scan_name text.now }
 {
@@ -146,7 +149,7 @@ fn scan_name(text: &[u8]) -> (Word<'_>, usize)
         None => scan_identifier(text),
         Some(count) => {
             let length = count + 1;
-            (Word::Wide(Spelling::new(&text[..length])), length)
+            (TokenKind::Wide(Spelling::new(&text[..length])), length)
         }
     }
 }
@@ -168,18 +171,18 @@ fn begins_number(first: u8, rest: &[u8]) -> bool
 
 // Of a text that begins with a number.
 #[tactic(auto, unfolding(crate::specs::Scan::scan_number))]
-fn scan_number<'a>(first: u8, text: &'a [u8], rest: &[u8]) -> (Word<'a>, usize)
+fn scan_number<'a>(first: u8, text: &'a [u8], rest: &[u8]) -> (TokenKind<'a>, usize)
     requires small { length text.now < 2 ^ 63 }
     requires front { text.now ≡ first ∷ rest.now }
     ensures { result ≡ spec.scan_number first rest.now }
 {
     let length = number_length(first, rest) + 1;
-    (Word::Integer(Spelling::new(&text[..length])), length)
+    (TokenKind::Integer(Spelling::new(&text[..length])), length)
 }
 
 // The token at the front, from left to right.
 #[tactic(auto, unfolding(crate::specs::Scan::scan))]
-fn scan(text: &[u8]) -> Option<(Word<'_>, usize)>
+fn scan(text: &[u8]) -> Option<(TokenKind<'_>, usize)>
     requires { length text.now < 2 ^ 63 }
     ensures { result ≡ spec.scan text.now }
 {
@@ -194,17 +197,20 @@ fn scan(text: &[u8]) -> Option<(Word<'_>, usize)>
     }
     if *first == b'"' {
         let length = literal_length(text)?;
-        return Some((Word::StringLiteral(Spelling::new(&text[..length])), length));
+        return Some((
+            TokenKind::StringLiteral(Spelling::new(&text[..length])),
+            length,
+        ));
     }
     if *first == b'\'' {
         let length = literal_length(text)?;
-        return Some((Word::Character(Spelling::new(&text[..length])), length));
+        return Some((TokenKind::Character(Spelling::new(&text[..length])), length));
     }
     scan_punctuator(text)
 }
 
 #[tactic(auto, using(crate::proofs::Scanned::scan_longest), unfolding(crate::specs::Longest::front_token))]
-fn scan_valid(text: &[u8]) -> Option<(Word<'_>, usize)>
+fn scan_valid(text: &[u8]) -> Option<(TokenKind<'_>, usize)>
     requires { length text.now < 2 ^ 63 }
     ensures { result ≡ front_token text.now }
 {
@@ -212,7 +218,7 @@ fn scan_valid(text: &[u8]) -> Option<(Word<'_>, usize)>
         return None;
     }
     let (word, length) = scan(text)?;
-    if let Word::Integer(spelling) = &word
+    if let TokenKind::Integer(spelling) = &word
         && constant_of(spelling.bytes()).is_none()
     {
         return None;
@@ -220,10 +226,10 @@ fn scan_valid(text: &[u8]) -> Option<(Word<'_>, usize)>
     Some((word, length))
 }
 
-/// The longest token at the front of a text that begins with no white space and no whole comment, and its length. `None`
-/// where none stands: at the end, at a comment that is never closed, and at a number that is no integer constant with a
-/// type.
-pub fn front_token(text: &[u8]) -> Option<(Word<'_>, usize)>
+/// The longest token at the front of a text that begins with no white space and no whole comment, and its length.
+/// `None` where none stands: at the end, at a comment that is never closed, and at a number that is no integer constant
+/// with a type.
+pub fn front_token(text: &[u8]) -> Option<(TokenKind<'_>, usize)>
     requires { length text.now < 2 ^ 63 }
     ensures value { result ≡ front_token text.now }
     ensures within { IfSome result (λ t. (1 ≤ t.1) × (t.1 ≤ length text.now)) }

@@ -48,7 +48,8 @@ fn line_comment_rest(before: (u8, u8), text: &[u8]) -> &[u8]
 
 // Behind the first `*/`.
 fn block_comment_rest(text: &[u8]) -> Option<&[u8]>
-    ensures value { MatchOption result (spec.block_comment_rest text.now ≡ None) (λ z. spec.block_comment_rest text.now ≡ Some z.now) }
+    ensures value { MatchOption result (spec.block_comment_rest text.now ≡ None)
+        (λ z. spec.block_comment_rest text.now ≡ Some z.now) }
     ensures within { IfSome result (λ z. length z.now < length text.now) }
 {
     let mut rest = text;

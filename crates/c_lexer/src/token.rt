@@ -57,7 +57,7 @@ impl<'a> Spelling<'a> {
 
 /// What a token is (C99 6.4), and how it is spelled where that is not fixed.
 #[derive(Drop)]
-pub enum Word<'a> {
+pub enum TokenKind<'a> {
     /// An identifier (6.4.2).
     Identifier(Spelling<'a>),
     /// A keyword (6.4.1).
@@ -74,19 +74,19 @@ pub enum Word<'a> {
     Punctuator(Punctuator),
 }
 
-impl<'a> Word<'a> {
+impl<'a> TokenKind<'a> {
     /// The same word once more.
     pub fn again(&self) -> Self
         ensures { result ≡ self.now }
     {
         match self {
-            Word::Identifier(s) => Word::Identifier(s.again()),
-            Word::Keyword(k) => Word::Keyword(*k),
-            Word::Integer(s) => Word::Integer(s.again()),
-            Word::Character(s) => Word::Character(s.again()),
-            Word::StringLiteral(s) => Word::StringLiteral(s.again()),
-            Word::Wide(s) => Word::Wide(s.again()),
-            Word::Punctuator(p) => Word::Punctuator(*p),
+            TokenKind::Identifier(s) => TokenKind::Identifier(s.again()),
+            TokenKind::Keyword(k) => TokenKind::Keyword(*k),
+            TokenKind::Integer(s) => TokenKind::Integer(s.again()),
+            TokenKind::Character(s) => TokenKind::Character(s.again()),
+            TokenKind::StringLiteral(s) => TokenKind::StringLiteral(s.again()),
+            TokenKind::Wide(s) => TokenKind::Wide(s.again()),
+            TokenKind::Punctuator(p) => TokenKind::Punctuator(*p),
         }
     }
 
@@ -95,28 +95,28 @@ impl<'a> Word<'a> {
         ensures { result.now ≡ spelling_of self.now }
     {
         match self {
-            Word::Identifier(s)
-            | Word::Integer(s)
-            | Word::Character(s)
-            | Word::StringLiteral(s)
-            | Word::Wide(s) => s.bytes(),
-            Word::Keyword(k) => k.spelling(),
-            Word::Punctuator(p) => p.spelling(),
+            TokenKind::Identifier(s)
+            | TokenKind::Integer(s)
+            | TokenKind::Character(s)
+            | TokenKind::StringLiteral(s)
+            | TokenKind::Wide(s) => s.bytes(),
+            TokenKind::Keyword(k) => k.spelling(),
+            TokenKind::Punctuator(p) => p.spelling(),
         }
     }
 
     /// Whether both are the same word, spelled alike.
-    pub fn is(&self, other: &Word) -> bool
+    pub fn is(&self, other: &TokenKind) -> bool
         ensures { IsTrue result ↔ (self.now ≡ other.now) }
     {
         match (self, other) {
-            (Word::Identifier(a), Word::Identifier(b)) => a.is(b),
-            (Word::Keyword(a), Word::Keyword(b)) => *a == *b,
-            (Word::Integer(a), Word::Integer(b)) => a.is(b),
-            (Word::Character(a), Word::Character(b)) => a.is(b),
-            (Word::StringLiteral(a), Word::StringLiteral(b)) => a.is(b),
-            (Word::Wide(a), Word::Wide(b)) => a.is(b),
-            (Word::Punctuator(a), Word::Punctuator(b)) => *a == *b,
+            (TokenKind::Identifier(a), TokenKind::Identifier(b)) => a.is(b),
+            (TokenKind::Keyword(a), TokenKind::Keyword(b)) => *a == *b,
+            (TokenKind::Integer(a), TokenKind::Integer(b)) => a.is(b),
+            (TokenKind::Character(a), TokenKind::Character(b)) => a.is(b),
+            (TokenKind::StringLiteral(a), TokenKind::StringLiteral(b)) => a.is(b),
+            (TokenKind::Wide(a), TokenKind::Wide(b)) => a.is(b),
+            (TokenKind::Punctuator(a), TokenKind::Punctuator(b)) => *a == *b,
             _ => false,
         }
     }
@@ -126,7 +126,7 @@ impl<'a> Word<'a> {
 #[derive(Drop)]
 pub struct Token<'a> {
     /// What it is.
-    pub word: Word<'a>,
+    pub kind: TokenKind<'a>,
     /// The line on which it begins.
     pub line: Line,
     /// Whether it is the first token on its line: a newline that is outside comments and that no backslash precedes,
@@ -142,7 +142,7 @@ impl<'a> Token<'a> {
         ensures { result ≡ on_line line self.now }
     {
         Token {
-            word: self.word.again(),
+            kind: self.kind.again(),
             line,
             begins_line: self.begins_line,
             is_spaced: self.is_spaced,

@@ -189,7 +189,7 @@ fn tells_lines(rt: HostRuntime) -> Result<(), Fail> {
     assert_eq!(rt; found.len(), 5);
     for (i, row) in LINES.iter().enumerate() {
         let token = &found[i];
-        assert_eq!(rt; token.word.spelling(), row.0);
+        assert_eq!(rt; token.kind.spelling(), row.0);
         assert_eq!(rt; token.line.number(), row.1);
         assert_eq!(rt; token.begins_line, row.2);
         assert_eq!(rt; token.is_spaced, row.3);

@@ -21,7 +21,7 @@ mod constant_tests;
 
 use anyhow::{Result, bail};
 use c_lexer::{
-    IntegerType, LexError, Token, Word, bytes_of_literal, character_value, constant_of, lex,
+    IntegerType, LexError, Token, TokenKind, bytes_of_literal, character_value, constant_of, lex,
 };
 use std::io;
 
@@ -61,29 +61,29 @@ fn put_token(rt: &HostRuntime, token: &Token) -> Result<()> {
     } else {
         "-"
     };
-    let kind = kind_of(&token.word);
-    let spelling = str::from_utf8(token.word.spelling())?;
+    let kind = kind_of(&token.kind);
+    let spelling = str::from_utf8(token.kind.spelling())?;
     print!(rt; "{} {flag} {kind} {spelling}", token.line.number())?;
-    put_meaning(rt, &token.word)?;
+    put_meaning(rt, &token.kind)?;
     println!(rt; "")?;
     Ok(())
 }
 
-fn kind_of(word: &Word) -> &'static str {
+fn kind_of(word: &TokenKind) -> &'static str {
     match word {
-        Word::Identifier(_) => "identifier",
-        Word::Keyword(_) => "keyword",
-        Word::Integer(_) => "integer",
-        Word::Character(_) => "character",
-        Word::StringLiteral(_) => "string",
-        Word::Wide(_) => "wide",
-        Word::Punctuator(_) => "punctuator",
+        TokenKind::Identifier(_) => "identifier",
+        TokenKind::Keyword(_) => "keyword",
+        TokenKind::Integer(_) => "integer",
+        TokenKind::Character(_) => "character",
+        TokenKind::StringLiteral(_) => "string",
+        TokenKind::Wide(_) => "wide",
+        TokenKind::Punctuator(_) => "punctuator",
     }
 }
 
-fn put_meaning(rt: &HostRuntime, word: &Word) -> Result<()> {
+fn put_meaning(rt: &HostRuntime, word: &TokenKind) -> Result<()> {
     match word {
-        Word::Integer(spelling) => {
+        TokenKind::Integer(spelling) => {
             if let Some(constant) = constant_of(spelling.bytes()) {
                 print!(rt;
                     " = {} {}",
@@ -92,12 +92,12 @@ fn put_meaning(rt: &HostRuntime, word: &Word) -> Result<()> {
                 )?;
             }
         }
-        Word::Character(spelling) => {
+        TokenKind::Character(spelling) => {
             if let Some(value) = character_value(spelling.bytes()) {
                 print!(rt; " = {value}")?;
             }
         }
-        Word::StringLiteral(spelling) => {
+        TokenKind::StringLiteral(spelling) => {
             if let Some(bytes) = bytes_of_literal(rt.alloc(), spelling.bytes())? {
                 print!(rt; " = {}", hex::encode(rt.alloc(), bytes.as_slice())?)?;
             }

@@ -1,4 +1,3 @@
 mod Answered
 mod UnitLists
-mod StatementParts
 mod BlockSteps

@@ -1,14 +1,15 @@
 -- What the parser answers for the tokens of a text.
-use Rattle.std.specs.Prelude.{◌≡◌, Option, Some, None, ℕ, suc, ◌+◌, ◌-◌, ◌≤◌, nat_lt, Bool, true, false, if◌then◌else◌, List, [], ◌∷◌, take, drop, length, Result, Ok, Err, ⊤}
+use Rattle.std.specs.Prelude.{◌≡◌, Some, None, ℕ, suc, ◌+◌, ◌-◌, ◌≤◌, nat_lt, Bool, true, false, if◌then◌else◌}
+use Rattle.std.specs.Prelude.{List, [], ◌∷◌, take, drop, length, Result, Ok, Err, ⊤}
 use Rattle.c_lexer.specs.Spelled.{TokenList}
 use Rattle.c_lexer.specs.declared.punctuator.Punctuator.TheVariants as p
 use Rattle.c_lexer.specs.declared.token.Token.{Token}
-use Rattle.c_lexer.specs.declared.token.Word.{Word}
-use Rattle.c_lexer.specs.declared.token.Word.TheVariants as word
+use Rattle.c_lexer.specs.declared.token.TokenKind.{TokenKind}
+use Rattle.c_lexer.specs.declared.token.TokenKind.TheVariants as kinds
 use Rattle.c_syntax.specs.declared.statement.Unit as rust
 use Rattle.c_syntax.specs.Statements.{Unit}
 use Rattle.c_syntax.specs.StatementsView.{unit_of}
-use Rattle.c_syntax.specs.Words.{Words, placed, unit_words}
+use Rattle.c_syntax.specs.Words.{Words, positioned, unit_words}
 use Rattle.c_syntax.specs.Formed.{IsWellFormed}
 use Rattle.c_grammar.specs.UnitReader.{unit_from}
 use Rattle.c_parser.specs.declared.fault.ParseFault.{ParseFault}
@@ -18,30 +19,30 @@ use Rattle.c_parser.specs.Unsupported.{first_unsupported}
 -- a well-formed file that is written with these tokens (C99 6.9)
 pub record IsTreeOf (tokens : List Token) (u : Unit) : Type 0 where
   pub formed : IsWellFormed u
-  pub same : unit_words u ≡ placed tokens
+  pub same : unit_words u ≡ positioned tokens
 
 -- no well-formed file is
 abbrev pub HasNoTree : List Token → Type 0
 HasNoTree tokens = (u : Unit) → IsTreeOf tokens u → ⊥
 
 -- `(`, `[` and `{`
-abbrev pub is_left_bracket : Word → Bool
-is_left_bracket (word.Punctuator p.LeftParenthesis) = true
-is_left_bracket (word.Punctuator p.LeftBracket) = true
-is_left_bracket (word.Punctuator p.LeftBrace) = true
+abbrev pub is_left_bracket : TokenKind → Bool
+is_left_bracket (kinds.Punctuator p.LeftParenthesis) = true
+is_left_bracket (kinds.Punctuator p.LeftBracket) = true
+is_left_bracket (kinds.Punctuator p.LeftBrace) = true
 is_left_bracket _ = false
 
 -- `)`, `]` and `}`
-abbrev pub is_right_bracket : Word → Bool
-is_right_bracket (word.Punctuator p.RightParenthesis) = true
-is_right_bracket (word.Punctuator p.RightBracket) = true
-is_right_bracket (word.Punctuator p.RightBrace) = true
+abbrev pub is_right_bracket : TokenKind → Bool
+is_right_bracket (kinds.Punctuator p.RightParenthesis) = true
+is_right_bracket (kinds.Punctuator p.RightBracket) = true
+is_right_bracket (kinds.Punctuator p.RightBrace) = true
 is_right_bracket _ = false
 
 -- how many of the tokens have a word of these
-unfoldable pub count_words : (Word → Bool) → List Token → ℕ
+unfoldable pub count_words : (TokenKind → Bool) → List Token → ℕ
 count_words is [] = 0
-count_words is (first ∷ i) = (if is first.word then 1 else 0) + count_words is i
+count_words is (first ∷ i) = (if is first.kind then 1 else 0) + count_words is i
 
 -- over 200 more brackets are open than closed
 abbrev pub is_nested_too_deep : List Token → Bool
@@ -56,14 +57,14 @@ first_line (first ∷ i) end = first.line
 abbrev pub line_at : TokenList → ℕ → ℕ
 line_at list at = first_line (drop at list.tokens) list.end
 
--- what a fault tells at the token of this number, or at the end: its line, and whether the tokens up to and with it nest too
--- deep
+-- what a fault tells at the token of this number, or at the end: its line, and whether the tokens up to and with it
+-- nest too deep
 pub record Told (list : TokenList) (number at line : ℕ) (is_nesting : Bool) : Type 0 where
   pub token : at ≡ number
   pub on_line : line ≡ line_at list number
   pub kind : is_nested_too_deep (take (suc number) list.tokens) ≡ is_nesting
 
--- the fault tells this place
+-- the fault tells this position
 abbrev pub IsFaultAt : TokenList → ℕ → ParseFault → Type 0
 IsFaultAt list number (Syntax at line) = Told list number at line false
 IsFaultAt list number (Nesting at line) = Told list number at line true
@@ -73,7 +74,7 @@ IsFaultAt list number Memory = ⊥
 -- the reader of files refuses these tokens, and what it has not read begins at the token of this number
 pub record IsWhereRefused (tokens : List Token) (at : ℕ) : Type 0 where
   pub rest : Words
-  pub refused : unit_from (placed tokens) ≡ Err rest
+  pub refused : unit_from (positioned tokens) ≡ Err rest
   pub here : at ≡ length tokens - length rest
 
 -- the token of this number, or the end, where the parser stood; the tokens up to and with it nest too deep or not

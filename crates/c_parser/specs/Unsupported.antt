@@ -3,23 +3,23 @@ use Rattle.std.specs.Prelude.{ℕ, List, [], ◌∷◌, Option, Some, None, code
 use Rattle.c_lexer.specs.declared.keyword.Keyword.TheVariants as keyword
 use Rattle.c_lexer.specs.declared.punctuator.Punctuator.TheVariants.{Ellipsis}
 use Rattle.c_lexer.specs.declared.token.Token.{Token}
-use Rattle.c_lexer.specs.declared.token.Word.{Word}
-use Rattle.c_lexer.specs.declared.token.Word.TheVariants as word
+use Rattle.c_lexer.specs.declared.token.TokenKind.{TokenKind}
+use Rattle.c_lexer.specs.declared.token.TokenKind.TheVariants as kinds
 use Rattle.c_parser.specs.declared.unsupported.UnsupportedWord.{UnsupportedWord}
 use Rattle.c_parser.specs.declared.unsupported.UnsupportedWord.TheVariants as u
 
 -- `float`, `double`, `_Bool`, `_Complex`, `_Imaginary`, `volatile`, `restrict`, `goto`, `...` and wide literals
-unfoldable pub unsupported : Word → Option UnsupportedWord
-unsupported (word.Keyword keyword.Float) = Some u.Float
-unsupported (word.Keyword keyword.Double) = Some u.Double
-unsupported (word.Keyword keyword.Bool) = Some u.Bool
-unsupported (word.Keyword keyword.Complex) = Some u.Complex
-unsupported (word.Keyword keyword.Imaginary) = Some u.Imaginary
-unsupported (word.Keyword keyword.Volatile) = Some u.Volatile
-unsupported (word.Keyword keyword.Restrict) = Some u.Restrict
-unsupported (word.Keyword keyword.Goto) = Some u.Goto
-unsupported (word.Punctuator Ellipsis) = Some u.Ellipsis
-unsupported (word.Wide spelling) = Some u.Wide
+unfoldable pub unsupported : TokenKind → Option UnsupportedWord
+unsupported (kinds.Keyword keyword.Float) = Some u.Float
+unsupported (kinds.Keyword keyword.Double) = Some u.Double
+unsupported (kinds.Keyword keyword.Bool) = Some u.Bool
+unsupported (kinds.Keyword keyword.Complex) = Some u.Complex
+unsupported (kinds.Keyword keyword.Imaginary) = Some u.Imaginary
+unsupported (kinds.Keyword keyword.Volatile) = Some u.Volatile
+unsupported (kinds.Keyword keyword.Restrict) = Some u.Restrict
+unsupported (kinds.Keyword keyword.Goto) = Some u.Goto
+unsupported (kinds.Punctuator Ellipsis) = Some u.Ellipsis
+unsupported (kinds.Wide spelling) = Some u.Wide
 unsupported _ = None
 
 -- each as it is spelled, a wide literal by its `L`
@@ -43,4 +43,4 @@ on_line_or line None behind = behind
 -- the first unsupported word of the tokens and its line, wherever it stands
 unfoldable pub first_unsupported : List Token → Option (UnsupportedWord × ℕ)
 first_unsupported [] = None
-first_unsupported (first ∷ i) = on_line_or first.line (unsupported first.word) (first_unsupported i)
+first_unsupported (first ∷ i) = on_line_or first.line (unsupported first.kind) (first_unsupported i)

@@ -1,5 +1,5 @@
-//! The parser: the one well-formed tree that has the words of a text, or the token at which the parser stood where there is none
-//! (C99 6.8, 6.9).
+//! The parser: the one well-formed tree that has the words of a text, or the token at which the parser stood where
+//! there is none (C99 6.8, 6.9).
 #![tactic(auto)]
 
 pub mod fault;

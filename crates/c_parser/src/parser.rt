@@ -7,8 +7,8 @@ use crate::fault::ParseFault;
 use crate::unit::unit;
 use crate::unsupported::first_unsupported;
 use c_grammar::cursor::{Cursor, Fault};
-use c_lexer::{Punctuator, Token, Tokens, Word};
-use c_syntax::{Unit, with_places};
+use c_lexer::{Punctuator, Token, TokenKind, Tokens};
+use c_syntax::{Unit, with_positions};
 use sb_base::Line;
 use std::alloc::Global;
 
@@ -16,11 +16,11 @@ use std::alloc::Global;
 const MAX_OPEN_BRACKETS: usize = 200;
 
 /// Whether it is `(`, `[` or `{`.
-fn is_left_bracket(word: &Word) -> bool
+fn is_left_bracket(word: &TokenKind) -> bool
     ensures { result ≡ spec.is_left_bracket word.now }
 {
     match word {
-        Word::Punctuator(
+        TokenKind::Punctuator(
             Punctuator::LeftParenthesis | Punctuator::LeftBracket | Punctuator::LeftBrace,
         ) => true,
         _ => false,
@@ -28,11 +28,11 @@ fn is_left_bracket(word: &Word) -> bool
 }
 
 /// Whether it is `)`, `]` or `}`.
-fn is_right_bracket(word: &Word) -> bool
+fn is_right_bracket(word: &TokenKind) -> bool
     ensures { result ≡ spec.is_right_bracket word.now }
 {
     match word {
-        Word::Punctuator(
+        TokenKind::Punctuator(
             Punctuator::RightParenthesis | Punctuator::RightBracket | Punctuator::RightBrace,
         ) => true,
         _ => false,
@@ -47,8 +47,8 @@ fn is_nested_too_deep(tokens: &[Token]) -> bool
     let mut left = 0;
     let mut right = 0;
     for token in tokens {
-        left += usize::from(is_left_bracket(&token.word));
-        right += usize::from(is_right_bracket(&token.word));
+        left += usize::from(is_left_bracket(&token.kind));
+        right += usize::from(is_right_bracket(&token.kind));
     }
     left > right && left - right > MAX_OPEN_BRACKETS
 }
@@ -84,7 +84,7 @@ fn fault_at(tokens: &Tokens, at: usize) -> ParseFault
 fn tree_of<'a>(alloc: Global, tokens: &Tokens<'a>) -> Result<Unit<'a>, ParseFault>
     ensures { spec.Parses tokens.now result }
 {
-    let words = match with_places(alloc, tokens.as_slice()) {
+    let words = match with_positions(alloc, tokens.as_slice()) {
         Ok(words) => words,
         Err(_) => return Err(ParseFault::Memory),
     };
@@ -102,9 +102,9 @@ fn tree_of<'a>(alloc: Global, tokens: &Tokens<'a>) -> Result<Unit<'a>, ParseFaul
     }
 }
 
-/// The tree of a text: the well-formed one of at most 200 levels that has its words (C99 6.9), of which there is at most
-/// one. Or the first word that is in no part of the subset, wherever it stands; or, in a text without such a word that has
-/// no tree, the token at which the parser stood.
+/// The tree of a text: the well-formed one of at most 200 levels that has its words (C99 6.9), of which there is at
+/// most one. Or the first word that is in no part of the subset, wherever it stands; or, in a text without such a word
+/// that has no tree, the token at which the parser stood.
 #[tactic(auto, using(crate::proofs::Answered::supported))]
 pub fn parse<'a>(alloc: Global, tokens: &Tokens<'a>) -> Result<Unit<'a>, ParseFault>
     ensures judged { spec.Parses tokens.now result }

@@ -1,196 +1,179 @@
-//! Statements and blocks from their parts (C99 6.8).
+//! Statements and blocks from their parts, each in a block of memory of its own (C99 6.8).
 
-ghost use Rattle.std.specs.Prelude.{◌≡◌};
+ghost use Rattle.std.specs.Prelude.{◌≡◌, IfOk};
 ghost use Rattle.c_syntax.specs.Statements as s;
-ghost use Rattle.c_syntax.specs.StatementsView.{optional_of, for_init_of, statement_of, block_of, block_item_of, items_in, declaration_of};
-ghost use Rattle.c_syntax.specs.View.{expression_of};
+ghost use Rattle.c_syntax.specs.StatementsView.{optional_of, statement_of, block_of, block_item_of, items_in};
+ghost use Rattle.c_syntax.specs.StatementsView.{declaration_of};
+ghost use Rattle.c_parser.specs.StatementParts as parts;
 
 use c_syntax::{
-    Block, BlockItem, Boxed, Declaration, Expression, ForInit, Items, Place, Statement,
+    Block, BlockItem, Boxed, CaseLabel, Declaration, DoEnd, Expression, ForHead, Items,
+    Parenthesized, Position, Statement,
 };
+use std::alloc::{AllocError, Global};
 
-/// An expression in parentheses.
-#[derive(Drop)]
-pub struct Parenthesized<'a> {
-    /// The `(`.
-    pub left: Place,
-    /// The expression.
-    pub inner: Expression<'a>,
-    /// The `)`.
-    pub right: Place,
-}
-
-/// What stands behind the body of a `do` (C99 6.8.5.2).
-#[derive(Drop)]
-pub struct DoEnd<'a> {
-    /// The `while`.
-    pub again: Place,
-    /// The condition.
-    pub condition: Parenthesized<'a>,
-    /// The `;`.
-    pub semicolon: Place,
-}
-
-/// What stands behind the second semicolon of a `for` (C99 6.8.5.3).
-#[derive(Drop)]
-pub struct ForEnd<'a> {
-    /// What each turn ends with.
-    pub step: Option<Expression<'a>>,
-    /// The `)`.
-    pub right: Place,
-    /// The body.
-    pub body: Boxed<Statement<'a>>,
-}
-
-/// What stands behind the first part of the head of a `for` (C99 6.8.5.3).
-#[derive(Drop)]
-pub struct ForRest<'a> {
-    /// The condition.
-    pub condition: Option<Expression<'a>>,
-    /// The second semicolon.
-    pub semicolon: Place,
-    /// What stands behind it.
-    pub end: ForEnd<'a>,
-}
-
-/// A statement of an expression, or none, and `;` (C99 6.8.3).
-pub fn expression_with<'a>(value: Option<Expression<'a>>, semicolon: Place) -> Statement<'a>
-    ensures { statement_of result ≡ s.expression (optional_of value.entry) semicolon }
+/// A statement of an expression, or none, and `;`, or the answer that there is no memory for it (C99 6.8.3).
+pub fn expression_with<'a>(
+    alloc: Global,
+    value: Option<Boxed<Expression<'a>>>,
+    semicolon: Position,
+) -> Result<Boxed<Statement<'a>>, AllocError>
+    ensures { IfOk result (λ x. statement_of x ≡ s.expression (optional_of value.entry) semicolon) }
 {
-    Statement::Expression(value, semicolon)
+    Boxed::new(alloc, Statement::Expression(value, semicolon))
 }
 
-/// A `return` (C99 6.8.6.4).
+/// A `return`, or the answer that there is no memory for it (C99 6.8.6.4).
 pub fn return_with<'a>(
-    place: Place,
-    value: Option<Expression<'a>>,
-    semicolon: Place,
-) -> Statement<'a>
-    ensures { statement_of result ≡ s.return place (optional_of value.entry) semicolon }
+    alloc: Global,
+    position: Position,
+    value: Option<Boxed<Expression<'a>>>,
+    semicolon: Position,
+) -> Result<Boxed<Statement<'a>>, AllocError>
+    ensures { IfOk result (λ x. statement_of x ≡ s.return position (optional_of value.entry) semicolon) }
 {
-    Statement::Return(place, value, semicolon)
+    Boxed::new(alloc, Statement::Return(position, value, semicolon))
 }
 
-/// A `break` (C99 6.8.6.3).
-pub fn break_with<'a>(place: Place, semicolon: Place) -> Statement<'a>
-    ensures { statement_of result ≡ s.break place semicolon }
+/// A `break`, or the answer that there is no memory for it (C99 6.8.6.3).
+pub fn break_with<'a>(
+    alloc: Global,
+    position: Position,
+    semicolon: Position,
+) -> Result<Boxed<Statement<'a>>, AllocError>
+    ensures { IfOk result (λ x. statement_of x ≡ s.break position semicolon) }
 {
-    Statement::Break(place, semicolon)
+    Boxed::new(alloc, Statement::Break(position, semicolon))
 }
 
-/// A `continue` (C99 6.8.6.2).
-pub fn continue_with<'a>(place: Place, semicolon: Place) -> Statement<'a>
-    ensures { statement_of result ≡ s.continue place semicolon }
+/// A `continue`, or the answer that there is no memory for it (C99 6.8.6.2).
+pub fn continue_with<'a>(
+    alloc: Global,
+    position: Position,
+    semicolon: Position,
+) -> Result<Boxed<Statement<'a>>, AllocError>
+    ensures { IfOk result (λ x. statement_of x ≡ s.continue position semicolon) }
 {
-    Statement::Continue(place, semicolon)
+    Boxed::new(alloc, Statement::Continue(position, semicolon))
 }
 
-/// An `if` without `else` (C99 6.8.4.1).
+/// An `if` without `else`, or the answer that there is no memory for it (C99 6.8.4.1).
 pub fn if_with<'a>(
-    place: Place,
+    alloc: Global,
+    position: Position,
     condition: Parenthesized<'a>,
     first: Boxed<Statement<'a>>,
-) -> Statement<'a>
-    ensures { statement_of result ≡ s.if_then place condition.entry.left (expression_of condition.entry.inner) condition.entry.right (statement_of first.entry) }
+) -> Result<Boxed<Statement<'a>>, AllocError>
+    ensures { IfOk result (λ x. statement_of x ≡ parts.if_then_of position (parts.parenthesized_of condition.entry)
+        (statement_of first.entry)) }
 {
-    let Parenthesized { left, inner, right } = condition;
-    Statement::If(place, left, inner, right, first)
+    Boxed::new(alloc, Statement::If(position, condition, first))
 }
 
-/// An `if` with `else` (C99 6.8.4.1).
+/// An `if` with `else`, or the answer that there is no memory for it (C99 6.8.4.1).
 pub fn if_else_with<'a>(
-    place: Place,
+    alloc: Global,
+    position: Position,
     condition: Parenthesized<'a>,
     first: Boxed<Statement<'a>>,
-    otherwise: Place,
-    second: Boxed<Statement<'a>>,
-) -> Statement<'a>
-    ensures { statement_of result ≡ s.if_else place condition.entry.left (expression_of condition.entry.inner) condition.entry.right (statement_of first.entry) otherwise (statement_of second.entry) }
+    otherwise: (Position, Boxed<Statement<'a>>),
+) -> Result<Boxed<Statement<'a>>, AllocError>
+    ensures { IfOk result (λ x. statement_of x ≡ parts.if_else_of position (parts.parenthesized_of condition.entry)
+        (statement_of first.entry) (parts.behind_word_of otherwise.entry)) }
 {
-    let Parenthesized { left, inner, right } = condition;
-    Statement::IfElse(place, left, inner, right, first, otherwise, second)
+    let (otherwise, second) = otherwise;
+    Boxed::new(
+        alloc,
+        Statement::IfElse(position, condition, first, otherwise, second),
+    )
 }
 
-/// A `switch` (C99 6.8.4.2).
-pub fn switch_with<'a>(place: Place, value: Parenthesized<'a>, block: Block<'a>) -> Statement<'a>
-    ensures { statement_of result ≡ s.switch place value.entry.left (expression_of value.entry.inner) value.entry.right (block_of block.entry) }
+/// A `switch`, or the answer that there is no memory for it (C99 6.8.4.2).
+pub fn switch_with<'a>(
+    alloc: Global,
+    position: Position,
+    value: Parenthesized<'a>,
+    block: Block<'a>,
+) -> Result<Boxed<Statement<'a>>, AllocError>
+    ensures { IfOk result (λ x. statement_of x ≡ parts.switch_of position (parts.parenthesized_of value.entry)
+        (block_of block.entry)) }
 {
-    let Parenthesized { left, inner, right } = value;
-    Statement::Switch(place, left, inner, right, block)
+    Boxed::new(alloc, Statement::Switch(position, value, block))
 }
 
-/// A `while` (C99 6.8.5.1).
+/// A `while`, or the answer that there is no memory for it (C99 6.8.5.1).
 pub fn while_with<'a>(
-    place: Place,
+    alloc: Global,
+    position: Position,
     condition: Parenthesized<'a>,
     body: Boxed<Statement<'a>>,
-) -> Statement<'a>
-    ensures { statement_of result ≡ s.while_do place condition.entry.left (expression_of condition.entry.inner) condition.entry.right (statement_of body.entry) }
+) -> Result<Boxed<Statement<'a>>, AllocError>
+    ensures { IfOk result (λ x. statement_of x ≡ parts.while_of position (parts.parenthesized_of condition.entry)
+        (statement_of body.entry)) }
 {
-    let Parenthesized { left, inner, right } = condition;
-    Statement::While(place, left, inner, right, body)
+    Boxed::new(alloc, Statement::While(position, condition, body))
 }
 
-/// A `do` (C99 6.8.5.2).
-pub fn do_with<'a>(place: Place, body: Boxed<Statement<'a>>, end: DoEnd<'a>) -> Statement<'a>
-    ensures { statement_of result ≡ s.do_while place (statement_of body.entry) end.entry.again end.entry.condition.left (expression_of end.entry.condition.inner) end.entry.condition.right end.entry.semicolon }
+/// A `do`, or the answer that there is no memory for it (C99 6.8.5.2).
+pub fn do_with<'a>(
+    alloc: Global,
+    position: Position,
+    body: Boxed<Statement<'a>>,
+    end: DoEnd<'a>,
+) -> Result<Boxed<Statement<'a>>, AllocError>
+    ensures { IfOk result (λ x. statement_of x ≡ parts.do_of position (statement_of body.entry)
+        (parts.do_end_of end.entry)) }
 {
-    let DoEnd {
-        again,
-        condition,
-        semicolon,
-    } = end;
-    let Parenthesized { left, inner, right } = condition;
-    Statement::Do(place, body, again, left, inner, right, semicolon)
+    Boxed::new(alloc, Statement::Do(position, body, end))
 }
 
-/// A `for` (C99 6.8.5.3).
+/// A `for`, or the answer that there is no memory for it (C99 6.8.5.3).
 pub fn for_with<'a>(
-    place: Place,
-    left: Place,
-    first: ForInit<'a>,
-    rest: ForRest<'a>,
-) -> Statement<'a>
-    ensures { statement_of result ≡ s.for place left (for_init_of first.entry) (optional_of rest.entry.condition) rest.entry.semicolon (optional_of rest.entry.end.step) rest.entry.end.right (statement_of rest.entry.end.body) }
+    alloc: Global,
+    position: Position,
+    head: ForHead<'a>,
+    body: Boxed<Statement<'a>>,
+) -> Result<Boxed<Statement<'a>>, AllocError>
+    ensures { IfOk result (λ x. statement_of x ≡ parts.for_of position (parts.for_head_of head.entry)
+        (statement_of body.entry)) }
 {
-    let ForRest {
-        condition,
-        semicolon,
-        end,
-    } = rest;
-    let ForEnd { step, right, body } = end;
-    Statement::For(place, left, first, condition, semicolon, step, right, body)
+    Boxed::new(alloc, Statement::For(position, head, body))
 }
 
-/// A `case` (C99 6.8.1).
+/// A `case`, or the answer that there is no memory for it (C99 6.8.1).
 pub fn case_with<'a>(
-    place: Place,
-    value: Expression<'a>,
-    colon: Place,
+    alloc: Global,
+    label: CaseLabel<'a>,
     labelled: Boxed<Statement<'a>>,
-) -> Statement<'a>
-    ensures { statement_of result ≡ s.case place (expression_of value.entry) colon (statement_of labelled.entry) }
+) -> Result<Boxed<Statement<'a>>, AllocError>
+    ensures { IfOk result (λ x. statement_of x ≡ parts.case_of (parts.case_label_of label.entry)
+        (statement_of labelled.entry)) }
 {
-    Statement::Case(place, value, colon, labelled)
+    Boxed::new(alloc, Statement::Case(label, labelled))
 }
 
-/// A `default` (C99 6.8.1).
-pub fn default_with<'a>(place: Place, colon: Place, labelled: Boxed<Statement<'a>>) -> Statement<'a>
-    ensures { statement_of result ≡ s.default place colon (statement_of labelled.entry) }
+/// A `default`, or the answer that there is no memory for it (C99 6.8.1).
+pub fn default_with<'a>(
+    alloc: Global,
+    position: Position,
+    colon: Position,
+    labelled: Boxed<Statement<'a>>,
+) -> Result<Boxed<Statement<'a>>, AllocError>
+    ensures { IfOk result (λ x. statement_of x ≡ s.default position colon (statement_of labelled.entry)) }
 {
-    Statement::Default(place, colon, labelled)
+    Boxed::new(alloc, Statement::Default(position, colon, labelled))
 }
 
-/// A block as a statement (C99 6.8.2).
-pub fn compound<'a>(block: Block<'a>) -> Statement<'a>
-    ensures { statement_of result ≡ s.compound (block_of block.entry) }
+/// A block as a statement, or the answer that there is no memory for it (C99 6.8.2).
+pub fn compound<'a>(alloc: Global, block: Block<'a>) -> Result<Boxed<Statement<'a>>, AllocError>
+    ensures { IfOk result (λ x. statement_of x ≡ s.compound (block_of block.entry)) }
 {
-    Statement::Block(block)
+    Boxed::new(alloc, Statement::Block(block))
 }
 
 /// A block of its parts (C99 6.8.2).
 #[tactic(auto, using(crate::proofs::BlockSteps::block_view))]
-pub fn block_with<'a>(left: Place, items: Items<BlockItem<'a>>, right: Place) -> Block<'a>
+pub fn block_with<'a>(left: Position, items: Items<BlockItem<'a>>, right: Position) -> Block<'a>
     ensures { block_of result ≡ s.block left (items_in items.entry) right }
 {
     Block { left, items, right }
@@ -204,7 +187,7 @@ pub fn declaration_item<'a>(declaration: Declaration<'a>) -> BlockItem<'a>
 }
 
 /// A statement in a block (C99 6.8.2).
-pub fn statement_item<'a>(inner: Statement<'a>) -> BlockItem<'a>
+pub fn statement_item<'a>(inner: Boxed<Statement<'a>>) -> BlockItem<'a>
     ensures { block_item_of result ≡ s.inner (statement_of inner.entry) }
 {
     BlockItem::Statement(inner)

@@ -8,14 +8,15 @@ ghost use Rattle.c_syntax.specs.View.{declarator_of, specifiers_in};
 ghost use Rattle.c_syntax.specs.StatementsView.{external_of, externals_in, unit_of};
 
 use crate::statement::block;
-use c_declarations::declaration::{add_defined_name, bare_declaration, declaration_behind};
-use c_expressions::nested::{declarator, specifiers};
+use c_declarations::declaration::{
+    add_defined_name, bare_declaration, declaration_behind, named_declarator,
+};
+use c_expressions::nested::specifiers;
 use c_grammar::cursor::{Cursor, Fault, next_is};
-use c_grammar::declarator_kind::DeclaratorKind;
 use c_lexer::{Punctuator, Spelling};
 use c_syntax::declarators::defines_function;
 use c_syntax::specifiers::has_typedef;
-use c_syntax::{Declarator, External, Items, Specifier, Unit};
+use c_syntax::{Boxed, Declarator, External, Items, Specifier, Unit};
 use std::alloc::{AllocError, Global};
 
 /// How many levels there may be in each part of a file (C99 5.2.4.1 lets an implementation set such a limit).
@@ -32,15 +33,16 @@ fn definition<'a>(
     tokens: &mut Cursor<'_, 'a>,
     levels: u8,
     specifiers: Items<Specifier<'a>>,
-    declarator: Declarator<'a>,
+    declarator: Boxed<Declarator<'a>>,
 ) -> Result<External<'a>, Fault>
-    ensures read { Reads external_of (spec.definition_from levels names.old.items (specifiers_in specifiers.entry) (declarator_of declarator.entry) tokens.old.rest.now) result tokens.new.rest.now }
+    ensures read { Reads external_of (spec.definition_from levels names.old.items (specifiers_in specifiers.entry)
+        (declarator_of declarator.entry) tokens.old.rest.now) result tokens.new.rest.now }
     ensures names { IfOk result (λ x. names.new.items ≡ formed.names_after_external (external_of x) names.old.items) }
 {
-    if !defines_function(&declarator) {
+    if !defines_function(declarator.get()) {
         return Err(Fault::Refused);
     }
-    add_defined_name(names, specifiers.as_slice(), &declarator)?;
+    add_defined_name(names, specifiers.as_slice(), declarator.get())?;
     let block = block(alloc, names.as_slice(), tokens, levels, levels as usize + 1)?;
     Ok(External::Function(specifiers, declarator, block))
 }
@@ -53,9 +55,10 @@ fn external_behind<'a>(
     tokens: &mut Cursor<'_, 'a>,
     levels: u8,
     specifiers: Items<Specifier<'a>>,
-    declarator: Declarator<'a>,
+    declarator: Boxed<Declarator<'a>>,
 ) -> Result<External<'a>, Fault>
-    ensures read { Reads external_of (spec.external_behind levels names.old.items (specifiers_in specifiers.entry) (declarator_of declarator.entry) tokens.old.rest.now) result tokens.new.rest.now }
+    ensures read { Reads external_of (spec.external_behind levels names.old.items (specifiers_in specifiers.entry)
+        (declarator_of declarator.entry) tokens.old.rest.now) result tokens.new.rest.now }
     ensures names { IfOk result (λ x. names.new.items ≡ formed.names_after_external (external_of x) names.old.items) }
 {
     if next_is(tokens.rest, Punctuator::LeftBrace) {
@@ -73,7 +76,8 @@ fn external<'a>(
     tokens: &mut Cursor<'_, 'a>,
     levels: u8,
 ) -> Result<External<'a>, Fault>
-    ensures read { Reads external_of (spec.external_from levels names.old.items tokens.old.rest.now) result tokens.new.rest.now }
+    ensures read { Reads external_of (spec.external_from levels names.old.items tokens.old.rest.now) result
+        tokens.new.rest.now }
     ensures names { IfOk result (λ x. names.new.items ≡ formed.names_after_external (external_of x) names.old.items) }
 {
     let specifiers = specifiers(alloc, names.as_slice(), tokens, levels as usize + 1, true)?;
@@ -81,21 +85,8 @@ fn external<'a>(
         let declaration = bare_declaration(tokens, levels, specifiers.tree)?;
         return Ok(External::Declaration(declaration));
     }
-    let declarator = declarator(
-        alloc,
-        names.as_slice(),
-        tokens,
-        levels as usize + 1,
-        DeclaratorKind::Named,
-    )?;
-    external_behind(
-        alloc,
-        names,
-        tokens,
-        levels,
-        specifiers.tree,
-        declarator.tree,
-    )
+    let declarator = named_declarator(alloc, names.as_slice(), tokens, levels)?;
+    external_behind(alloc, names, tokens, levels, specifiers.tree, declarator)
 }
 
 /// Reads function definitions and declarations to the end (C99 6.9).
@@ -106,7 +97,8 @@ fn externals<'a>(
     tokens: &mut Cursor<'_, 'a>,
     levels: u8,
 ) -> Result<Items<External<'a>>, Fault>
-    ensures { Reads externals_in (spec.externals_from levels (length tokens.old.rest.now) names.old.items tokens.old.rest.now) result tokens.new.rest.now }
+    ensures { Reads externals_in (spec.externals_from levels (length tokens.old.rest.now) names.old.items
+        tokens.old.rest.now) result tokens.new.rest.now }
 {
     let mut externals = Vec::new(alloc);
     for _ in 0..tokens.rest.len() {

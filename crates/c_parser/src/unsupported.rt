@@ -1,10 +1,10 @@
 //! Words of C99 that are in no part of the subset.
 
 ghost use Rattle.std.specs.Prelude.{◌≡◌};
-ghost use Rattle.c_lexer.specs.declared.token.Word.TheVariants as word;
+ghost use Rattle.c_lexer.specs.declared.token.TokenKind.TheVariants as kinds;
 ghost use Rattle.c_parser.specs.Unsupported as spec;
 
-use c_lexer::{Keyword, Punctuator, Token, Word};
+use c_lexer::{Keyword, Punctuator, Token, TokenKind};
 use sb_base::Line;
 
 /// A word of C99 that is in no part of the subset (C99 6.4.1, 6.4.4.4, 6.4.5, 6.4.6).
@@ -56,7 +56,7 @@ impl UnsupportedWord {
 /// Which unsupported word a keyword is, if it is one.
 #[tactic(auto, unfolding(crate::specs::Unsupported::unsupported))]
 fn unsupported_keyword(keyword: Keyword) -> Option<UnsupportedWord>
-    ensures { result ≡ spec.unsupported (word.Keyword keyword) }
+    ensures { result ≡ spec.unsupported (kinds.Keyword keyword) }
 {
     match keyword {
         Keyword::Float => Some(UnsupportedWord::Float),
@@ -73,13 +73,13 @@ fn unsupported_keyword(keyword: Keyword) -> Option<UnsupportedWord>
 
 /// Which unsupported word it is, if it is one.
 #[tactic(auto, unfolding(crate::specs::Unsupported::unsupported))]
-fn unsupported(word: &Word) -> Option<UnsupportedWord>
+fn unsupported(word: &TokenKind) -> Option<UnsupportedWord>
     ensures { result ≡ spec.unsupported word.now }
 {
     match word {
-        Word::Keyword(keyword) => unsupported_keyword(*keyword),
-        Word::Punctuator(Punctuator::Ellipsis) => Some(UnsupportedWord::Ellipsis),
-        Word::Wide(_) => Some(UnsupportedWord::Wide),
+        TokenKind::Keyword(keyword) => unsupported_keyword(*keyword),
+        TokenKind::Punctuator(Punctuator::Ellipsis) => Some(UnsupportedWord::Ellipsis),
+        TokenKind::Wide(_) => Some(UnsupportedWord::Wide),
         _ => None,
     }
 }
@@ -90,7 +90,7 @@ pub(crate) fn first_unsupported(tokens: &[Token]) -> Option<(UnsupportedWord, Li
     ensures { result ≡ spec.first_unsupported tokens.now }
 {
     for token in tokens {
-        if let Some(word) = unsupported(&token.word) {
+        if let Some(word) = unsupported(&token.kind) {
             return Some((word, token.line));
         }
     }

@@ -4,8 +4,8 @@ use crate::verdict::{Verdict, verdict_of};
 use std::alloc::{AllocError, Global};
 use std::test::Fail;
 
-/// A text with repeated parts: what stands before them, the part before the middle, the middle, the part behind it, what stands
-/// behind them, and the greatest number of times that leaves at most 200 levels.
+/// A text with repeated parts: what stands before them, the part before the middle, the middle, the part behind it,
+/// what stands behind them, and the greatest number of times that leaves at most 200 levels.
 type Nest = (
     &'static str,
     &'static str,
@@ -15,8 +15,8 @@ type Nest = (
     u32,
 );
 
-/// The expression of a statement is measured by itself: a constant or a name has no level, each operator and pair of parentheses
-/// adds one, and so does each of the operators from left to right.
+/// The expression of a statement is measured by itself: a constant or a name has no level, each operator and pair of
+/// parentheses adds one, and so does each of the operators from left to right.
 const EXPRESSIONS: [Nest; 18] = [
     ("int main(void){return ", "(", "0", ")", ";}", 200),
     ("int main(void){if(", "(", "0", ")", ");}", 200),
@@ -39,8 +39,8 @@ const EXPRESSIONS: [Nest; 18] = [
     ("int main(void){return sizeof(int", "*", "", "", ");}", 199),
 ];
 
-/// In a declarator each pointer, array, function and pair of parentheses adds one level to what it holds, be it the rest of the
-/// declarator, a size or parameters; the name has none.
+/// In a declarator each pointer, array, function and pair of parentheses adds one level to what it holds, be it the
+/// rest of the declarator, a size or parameters; the name has none.
 const DECLARATORS: [Nest; 7] = [
     ("int ", "*", "x", "", ";", 200),
     ("int ", "(", "x", ")", ";", 200),
@@ -64,8 +64,8 @@ const LISTS: [Nest; 7] = [
     ("int x[]={[", "(", "0", ")", "]=0};", 199),
 ];
 
-/// An empty block and a statement without a statement inside have no level. A statement adds one to that inside it, and standing
-/// in a block adds one.
+/// An empty block and a statement without a statement inside have no level. A statement adds one to that inside it, and
+/// standing in a block adds one.
 const STATEMENTS: [Nest; 9] = [
     // Each of the blocks stands in another one; the innermost is empty.
     ("int main(void){", "{", "", "}", "}", 200),

@@ -1,5 +1,5 @@
-//! The line of a fault: that of the first token with which the tokens so far begin no file, and where a file ends too early
-//! that of the end, which stands on the line behind all newlines.
+//! The line of a fault: that of the first token with which the tokens so far begin no file, and where a file ends too
+//! early that of the end, which stands on the line behind all newlines.
 
 use crate::verdict::{Verdict, verdict_of};
 use sb_base::Line;
@@ -47,8 +47,8 @@ fn refuses_an_empty_file(rt: HostRuntime) -> Result<(), Fail> {
     Ok(())
 }
 
-/// Words of C99 that the subset leaves out, each first told in a text whose grammar fails before it, or behind another of them:
-/// the text, the word and its line.
+/// Words of C99 that the subset leaves out, each first told in a text whose grammar fails before it, or behind another
+/// of them: the text, the word and its line.
 const UNSUPPORTED: [(&str, &[u8], u32); 11] = [
     ("float x;", b"float", 1),
     ("int y;\n)\ndouble x;", b"double", 3),

@@ -1,10 +1,12 @@
-// Compares the parser with other ones. Standard input has texts, with a line `%%` between each two. For each the program prints
-// `accepted` or `refused`, or `nested` where only its levels are too many. Of an accepted text the words of the tree must be
-// those of the text, each at its place, and a second tree must have them too.
+// Compares the parser with other ones. Standard input has texts, with a line `%%` between each two. For each the
+// program prints
+// `accepted` or `refused`, or `nested` where only its levels are too many. Of an accepted text the words of the tree
+// must be those of the text, each at its position, and a second tree must have them too.
 //
-// `stdin` and `stdout` are made by gcc 12.2.0 and clang 14.0.6 (Debian 12), which agree, as `vectors.py` beside them says.
-// Behind these rows come 196 texts of which the grammar of the subset has another verdict than they, or the same for another
-// reason, each with its reason in `vectors.py`: what the subset leaves out, and what is no matter of the grammar, as types.
+// `stdin` and `stdout` are made by gcc 12.2.0 and clang 14.0.6 (Debian 12), which agree, as `vectors.py` beside them
+// says. Behind these rows come 196 texts of which the grammar of the subset has another verdict than they, or the same
+// for another reason, each with its reason in `vectors.py`: what the subset leaves out, and what is no matter of the
+// grammar, as types.
 #![tactic(auto)]
 
 #[cfg(test)]

@@ -74,9 +74,9 @@ fn form_of(expression: &Expression) -> Form {
 
 fn statement_item(statement: &Statement) -> Item {
     match statement {
-        Statement::Expression(Some(expression), _) => Item::Expression(form_of(expression)),
-        Statement::If(_, _, _, _, _) => Item::If,
-        Statement::IfElse(_, _, _, _, _, _, _) => Item::IfElse,
+        Statement::Expression(Some(expression), _) => Item::Expression(form_of(expression.get())),
+        Statement::If(_, _, _) => Item::If,
+        Statement::IfElse(_, _, _, _, _) => Item::IfElse,
         _ => Item::Other,
     }
 }
@@ -87,7 +87,7 @@ fn first_item(unit: &Unit) -> Option<Item> {
         External::Declaration(_) => None,
         External::Function(_, _, block) => match block.items.as_slice().first()? {
             BlockItem::Declaration(_) => Some(Item::Declaration),
-            BlockItem::Statement(statement) => Some(statement_item(statement)),
+            BlockItem::Statement(statement) => Some(statement_item(statement.get())),
         },
     }
 }
@@ -147,8 +147,8 @@ const OPERATORS: [(&str, Form); 42] = [
     ("a[0].x;", Form::Member),
 ];
 
-/// Operators that bind less tightly hold those that bind more tightly; those of one precedence go from left to right, but
-/// assignments from right to left (C99 6.5.3 to 6.5.17).
+/// Operators that bind less tightly hold those that bind more tightly; those of one precedence go from left to right,
+/// but assignments from right to left (C99 6.5.3 to 6.5.17).
 #[test]
 fn operators_bind(rt: HostRuntime) -> Result<(), Fail> {
     for (text, form) in OPERATORS {
@@ -177,7 +177,8 @@ const CASTS: [(&str, Form); 16] = [
     ("sizeof a*b;", Form::Binary(Punctuator::Star)),
 ];
 
-/// Parentheses around a type name begin a cast or belong to `sizeof`; around an expression they do not (C99 6.5.3.4, 6.5.4).
+/// Parentheses around a type name begin a cast or belong to `sizeof`; around an expression they do not (C99 6.5.3.4,
+/// 6.5.4).
 #[test]
 fn types_begin_casts(rt: HostRuntime) -> Result<(), Fail> {
     for (text, form) in CASTS {
@@ -206,8 +207,8 @@ const ITEMS: [(&str, Item); 16] = [
     ("if (a) ; else if (b) ;", Item::IfElse),
 ];
 
-/// What begins with a typedef name is a declaration (C99 6.7.7, 6.8.2); an `else` belongs to the nearest `if` that may have it
-/// (6.8.4.1).
+/// What begins with a typedef name is a declaration (C99 6.7.7, 6.8.2); an `else` belongs to the nearest `if` that may
+/// have it (6.8.4.1).
 #[test]
 fn items_of_blocks(rt: HostRuntime) -> Result<(), Fail> {
     for (text, item) in ITEMS {

@@ -4,7 +4,7 @@ use anyhow::{Result, bail};
 use c_lexer::{LexError, Tokens, lex};
 use c_parser::{ParseFault, UnsupportedWord, parse};
 use c_pre::{PreError, expand};
-use c_syntax::{Placed, Unit, with_places};
+use c_syntax::{Positioned, Unit, with_positions};
 use c_syntax_checks::words;
 use sb_base::Line;
 use std::alloc::Global;
@@ -63,12 +63,12 @@ pub fn tokens_of(alloc: Global, text: &[u8]) -> Result<Tokens<'_>> {
     }
 }
 
-fn are_same(words: &[Placed], others: &[Placed]) -> bool {
+fn are_same(words: &[Positioned], others: &[Positioned]) -> bool {
     if words.len() != others.len() {
         return false;
     }
     for (word, other) in words.iter().zip(others.iter()) {
-        if !word.word.is(&other.word) || word.place != other.place {
+        if !word.kind.is(&other.kind) || word.position != other.position {
             return false;
         }
     }
@@ -77,7 +77,7 @@ fn are_same(words: &[Placed], others: &[Placed]) -> bool {
 
 fn test_words(alloc: Global, tokens: &Tokens, unit: &Unit) -> Result<()> {
     let found = words(alloc, unit)?;
-    let given = with_places(alloc, tokens.as_slice())?;
+    let given = with_positions(alloc, tokens.as_slice())?;
     if !are_same(found.as_slice(), given.as_slice()) {
         bail!("the tree has other words than the text");
     }
@@ -93,8 +93,8 @@ fn refusal(fault: ParseFault) -> Result<Verdict> {
     }
 }
 
-/// What the parser says of a text. An error: there is no memory, the text has no tokens or faulty directives, its tree has
-/// other words, or it is read otherwise the second time.
+/// What the parser says of a text. An error: there is no memory, the text has no tokens or faulty directives, its tree
+/// has other words, or it is read otherwise the second time.
 pub fn verdict_of(alloc: Global, text: &[u8]) -> Result<Verdict> {
     let tokens = tokens_of(alloc, text)?;
     let unit = match parse(alloc, &tokens) {

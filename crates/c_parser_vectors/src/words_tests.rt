@@ -2,29 +2,34 @@
 
 use c_lexer::{Keyword, Spelling, lex};
 use c_syntax::{
-    Declaration, Declarator, External, InitDeclarator, InitDeclarators, Items, Place, Specifier,
-    Spelled, Unit, with_places,
+    Boxed, Declaration, Declarator, External, InitDeclarator, InitDeclarators, Items, Position,
+    Specifier, Spelled, Unit, with_positions,
 };
 use c_syntax_checks::{well_formed, words};
 use sb_base::Line;
 use std::alloc::{AllocError, Global};
 use std::test::Fail;
 
-fn place(at: u64) -> Place {
-    Place {
+fn position(at: u64) -> Position {
+    Position {
         at,
         line: Line::first(),
     }
 }
 
-fn named(name: &'static [u8], at: u64) -> InitDeclarator<'static> {
-    InitDeclarator {
-        declarator: Declarator::Named(Spelled {
-            spelling: Spelling::new(name),
-            place: place(at),
-        }),
+fn named(
+    alloc: Global,
+    name: &'static [u8],
+    at: u64,
+) -> Result<InitDeclarator<'static>, AllocError> {
+    let declarator = Declarator::Named(Spelled {
+        spelling: Spelling::new(name),
+        position: position(at),
+    });
+    Ok(InitDeclarator {
+        declarator: Boxed::new(alloc, declarator)?,
         initializer: None,
-    }
+    })
 }
 
 fn only<T: Drop>(alloc: Global, item: T) -> Result<Items<T>, AllocError> {
@@ -35,13 +40,14 @@ fn only<T: Drop>(alloc: Global, item: T) -> Result<Items<T>, AllocError> {
 
 // `int x, y;`
 fn two_objects(alloc: Global) -> Result<Unit<'static>, AllocError> {
+    let specifiers = only(alloc, Specifier::Keyword(Keyword::Int, position(0)))?;
+    let first = named(alloc, b"x", 1)?;
+    let others = only(alloc, (position(2), named(alloc, b"y", 3)?))?;
+    let declarators = Boxed::new(alloc, InitDeclarators { first, others })?;
     let declaration = Declaration {
-        specifiers: only(alloc, Specifier::Keyword(Keyword::Int, place(0)))?,
-        declarators: Some(InitDeclarators {
-            first: named(b"x", 1),
-            others: only(alloc, (place(2), named(b"y", 3)))?,
-        }),
-        semicolon: place(4),
+        specifiers,
+        declarators: Some(declarators),
+        semicolon: position(4),
     };
     Ok(Unit {
         externals: only(alloc, External::Declaration(declaration))?,
@@ -54,13 +60,13 @@ fn puts_the_tokens_of_the_text(rt: HostRuntime) -> Result<(), Fail> {
     let unit = two_objects(rt.alloc())?;
     let found = words(rt.alloc(), &unit)?;
     let tokens = lex(rt.alloc(), b"int x, y;").map_err(|_| "no tokens")?;
-    let expected = with_places(rt.alloc(), tokens.as_slice())?;
+    let expected = with_positions(rt.alloc(), tokens.as_slice())?;
     assert_eq!(rt; found.len(), 5);
     assert_eq!(rt; expected.len(), 5);
     for (i, word) in found.iter().enumerate() {
         let other = &expected[i];
-        assert!(rt; word.word.is(&other.word));
-        assert!(rt; word.place == other.place);
+        assert!(rt; word.kind.is(&other.kind));
+        assert!(rt; word.position == other.position);
     }
     Ok(())
 }

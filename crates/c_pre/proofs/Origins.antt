@@ -7,8 +7,8 @@ use Rattle.c_lexer.specs.Words.{spelling_of}
 use Rattle.std.specs.List.{AllByRecursion}
 use Rattle.std.proofs.lemmas.List.Elements.{All-from_recursion, recursion_from_All}
 use Rattle.std.proofs.lemmas.List.{get_or_default}
-use Rattle.c_lexer.specs.declared.token.Word.{Word}
-use Rattle.c_lexer.specs.declared.token.Word.TheVariants.{Punctuator}
+use Rattle.c_lexer.specs.declared.token.TokenKind.{TokenKind}
+use Rattle.c_lexer.specs.declared.token.TokenKind.TheVariants.{Punctuator}
 use Rattle.c_lexer.specs.declared.token.Token.{Token}
 use Rattle.c_lexer.specs.declared.punctuator.Punctuator.TheVariants.{Hash}
 use Rattle.c_lexer.specs.Spelled.{on_line}
@@ -122,7 +122,7 @@ module _ (P : Token → Type 0) (moves : (line : ℕ) (t : Token) → P t → P 
   expanding (suc turns) macros room [] m a = is_quiet room _ tt
   expanding (suc turns) macros room (x ∷ follow) m a =
       turning x (replacement macros x) room follow (expand_by turns macros)
-      (λ r e. by_name macros x.hidden (name_of x.token.word) r m e) a.0 a.1
+      (λ r e. by_name macros x.hidden (name_of x.token.kind) r m e) a.0 a.1
       (λ left ys all. expanding turns macros left ys m all)
 
   -- states
@@ -174,7 +174,7 @@ module _ (P : Token → Type 0) (moves : (line : ℕ) (t : Token) → P t → P 
 
   definition_is : (tokens : Tokens) → AllByRecursion P tokens → LineIs (definition tokens)
   definition_is [] a = tt
-  definition_is (t ∷ list) a = by_option (name_of t.word)
+  definition_is (t ∷ list) a = by_option (name_of t.kind)
     where
       by_option : (o : Option Name) → LineIs (define_named o list)
       by_option None = tt
@@ -198,16 +198,16 @@ module _ (P : Token → Type 0) (moves : (line : ℕ) (t : Token) → P t → P 
 
   behind_hash : (more : Tokens) → AllByRecursion P more → LineIs (directive more)
   behind_hash [] a = tt
-  behind_hash (t ∷ more) a = directive_is (directive_named (spelling_of t.word)) more a.1
+  behind_hash (t ∷ more) a = directive_is (directive_named (spelling_of t.kind)) more a.1
 
-  by_word : (w : Word) (more : Tokens) → AllByRecursion P more → LineIs (line_by w more)
+  by_word : (w : TokenKind) (more : Tokens) → AllByRecursion P more → LineIs (line_by w more)
   by_word (Punctuator Hash) more a = behind_hash more a
   by_word _ more a = tt
 
   kind_is : (line : Tokens) → AllByRecursion P line → LineIs (line_kind line)
   unfolding line_kind
   kind_is [] a = tt
-  kind_is (t ∷ more) a = by_word t.word more a.1
+  kind_is (t ∷ more) a = by_word t.kind more a.1
 
   -- lines
   abbrev LinesAre : List Tokens → Type 0

@@ -1,8 +1,8 @@
 -- What a line of a text is (C99 6.10 paragraph 1).
 use Rattle.std.specs.Prelude.{ℕ, Bool, true, false, ◌&&◌, not, List, [], ◌∷◌, Option, Some, None, if◌then◌else◌, codes}
 use Rattle.std.specs.Prelude.{bytes_eq}
-use Rattle.c_lexer.specs.declared.token.Word.{Word}
-use Rattle.c_lexer.specs.declared.token.Word.TheVariants.{Punctuator}
+use Rattle.c_lexer.specs.declared.token.TokenKind.{TokenKind}
+use Rattle.c_lexer.specs.declared.token.TokenKind.TheVariants.{Punctuator}
 use Rattle.c_lexer.specs.declared.token.Token.{Token}
 use Rattle.c_lexer.specs.declared.punctuator.Punctuator.TheVariants.{Hash, LeftParenthesis}
 use Rattle.c_lexer.specs.Words.{spelling_of}
@@ -38,20 +38,20 @@ is_empty (token ∷ more) = false
 -- one name and nothing else
 abbrev pub only_name : Tokens → Option Name
 only_name [] = None
-only_name (token ∷ more) = if is_empty more then name_of token.word else None
+only_name (token ∷ more) = if is_empty more then name_of token.kind else None
 
 abbrev pub named_or : (Name → Line) → Line → Option Name → Line
 named_or found other None = other
 named_or found other (Some name) = found name
 
-abbrev pub is_open : Word → Bool
+abbrev pub is_open : TokenKind → Bool
 is_open (Punctuator LeftParenthesis) = true
 is_open _ = false
 
 -- whether a `(` stands directly behind a macro's name, which begins a parameter list (6.10.3 paragraph 10)
 abbrev pub begins_parameters : Tokens → Bool
 begins_parameters [] = false
-begins_parameters (token ∷ more) = is_open token.word && not token.is_spaced
+begins_parameters (token ∷ more) = is_open token.kind && not token.is_spaced
 
 abbrev pub define_named : Option Name → Tokens → Line
 define_named None list = unknown_directive
@@ -60,7 +60,7 @@ define_named (Some name) list = if begins_parameters list then unknown_directive
 -- behind `#define`: a name and its replacement list (6.10.3 paragraph 9)
 abbrev pub definition : Tokens → Line
 definition [] = unknown_directive
-definition (token ∷ list) = define_named (name_of token.word) list
+definition (token ∷ list) = define_named (name_of token.kind) list
 
 -- the header `<NAME.h>`, by its name
 abbrev pub header_named : Name → Option Header
@@ -74,14 +74,14 @@ header_named name =
 
 -- a token that is spelled so, with no white space before it
 abbrev pub is_touching : Token → List ℕ → Bool
-is_touching token bytes = bytes_eq (spelling_of token.word) bytes && not token.is_spaced
+is_touching token bytes = bytes_eq (spelling_of token.kind) bytes && not token.is_spaced
 
 -- behind `#include`: `<`, the name, `.`, `h` and `>`, which touch (6.4.7, 6.10.2 paragraph 2)
 abbrev pub header_of : Tokens → Option Header
 header_of (less ∷ name ∷ dot ∷ h ∷ greater ∷ []) =
-    if bytes_eq (spelling_of less.word) (codes "<") && not name.is_spaced && is_touching dot (codes ".")
+    if bytes_eq (spelling_of less.kind) (codes "<") && not name.is_spaced && is_touching dot (codes ".")
     && is_touching h (codes "h") && is_touching greater (codes ">")
-    then header_named (spelling_of name.word)
+    then header_named (spelling_of name.kind)
     else None
 header_of _ = None
 
@@ -118,13 +118,13 @@ directive_or_unknown (Some directive) more = directive_by directive more
 -- behind the `#`
 abbrev pub directive : Tokens → Line
 directive [] = null_directive
-directive (token ∷ more) = directive_or_unknown (directive_named (spelling_of token.word)) more
+directive (token ∷ more) = directive_or_unknown (directive_named (spelling_of token.kind)) more
 
-abbrev pub line_by : Word → Tokens → Line
+abbrev pub line_by : TokenKind → Tokens → Line
 line_by (Punctuator Hash) more = directive more
 line_by _ more = text_line
 
 -- a line whose first token is `#` is a directive (6.10 paragraph 2)
 unfoldable pub line_kind : Tokens → Line
 line_kind [] = text_line
-line_kind (token ∷ more) = line_by token.word more
+line_kind (token ∷ more) = line_by token.kind more

@@ -33,7 +33,7 @@ macro_named macros hidden (Some name) = if member name hidden then None else wit
 
 -- the name and the list by which a token is replaced: that of a macro which is not hidden from it
 abbrev pub replacement : Macros → HidingToken → Option (Name × Tokens)
-replacement macros x = macro_named macros x.hidden (name_of x.token.word)
+replacement macros x = macro_named macros x.hidden (name_of x.token.kind)
 
 -- a token is given; or the list that replaces it is read in its place, hidden from the name too, together with what
 -- follows (6.10.3.4). `room` is how many tokens replacement lists may still put in.

@@ -2,8 +2,8 @@
 -- paragraph 2).
 use Rattle.std.specs.Prelude.{ℕ, Bool, false, true, ◌&&◌, List, [], ◌∷◌, Option, Some, None, bytes_eq}
 use Rattle.std.specs.List.{list_any}
-use Rattle.c_lexer.specs.declared.token.Word.{Word}
-use Rattle.c_lexer.specs.declared.token.Word.TheVariants.{Identifier, Keyword}
+use Rattle.c_lexer.specs.declared.token.TokenKind.{TokenKind}
+use Rattle.c_lexer.specs.declared.token.TokenKind.TheVariants.{Identifier, Keyword}
 use Rattle.c_lexer.specs.Spellings.{keyword_spelling}
 use Rattle.c_lexer.specs.Words.{spelling_of}
 use Rattle.c_pre.specs.Lines.{Tokens}
@@ -15,7 +15,7 @@ Name = List ℕ
 abbrev pub Names : Type 0
 Names = List Name
 
-abbrev pub name_of : Word → Option Name
+abbrev pub name_of : TokenKind → Option Name
 name_of (Identifier bytes) = Some bytes
 name_of (Keyword keyword) = Some (keyword_spelling keyword)
 name_of _ = None
@@ -31,5 +31,5 @@ Macros = Name → Option Tokens
 -- count
 abbrev pub same_list : Tokens → Tokens → Bool
 same_list [] [] = true
-same_list (a ∷ as_) (b ∷ bs) = bytes_eq (spelling_of a.word) (spelling_of b.word) && same_list as_ bs
+same_list (a ∷ as_) (b ∷ bs) = bytes_eq (spelling_of a.kind) (spelling_of b.kind) && same_list as_ bs
 same_list a b = false

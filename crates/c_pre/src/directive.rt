@@ -8,7 +8,7 @@ ghost use Rattle.c_pre.specs.Outcomes.{line_of_kind};
 use crate::definition::Definition;
 use crate::header::Header;
 use crate::name::MacroName;
-use c_lexer::{Punctuator, Token, Word};
+use c_lexer::{Punctuator, Token, TokenKind};
 
 /// The name of a directive.
 #[derive(Clone, Copy, Debug, PartialEq, Eq)]
@@ -66,7 +66,7 @@ fn only_name<'a>(tokens: &[Token<'a>]) -> Option<MacroName<'a>>
     if !more.is_empty() {
         return None;
     }
-    MacroName::of(&token.word)
+    MacroName::of(&token.kind)
 }
 
 /// Whether a `(` stands directly behind a macro's name.
@@ -76,8 +76,8 @@ fn begins_parameters(tokens: &[Token<'_>]) -> bool
     let Some((token, _)) = tokens.split_first() else {
         return false;
     };
-    match token.word {
-        Word::Punctuator(Punctuator::LeftParenthesis) => !token.is_spaced,
+    match token.kind {
+        TokenKind::Punctuator(Punctuator::LeftParenthesis) => !token.is_spaced,
         _ => false,
     }
 }
@@ -89,7 +89,7 @@ fn definition_of<'t, 'a>(tokens: &'t [Token<'a>]) -> LineKind<'t, 'a>
     let Some((token, list)) = tokens.split_first() else {
         return LineKind::UnknownDirective;
     };
-    let Some(name) = MacroName::of(&token.word) else {
+    let Some(name) = MacroName::of(&token.kind) else {
         return LineKind::UnknownDirective;
     };
     if begins_parameters(list) {
@@ -126,13 +126,13 @@ fn header_of(tokens: &[Token<'_>]) -> Option<Header>
     let [less, name, dot, h, greater] = tokens else {
         return None;
     };
-    let touches = less.word.spelling() == b"<".as_slice()
+    let touches = less.kind.spelling() == b"<".as_slice()
         && !name.is_spaced
         && is_touching(dot, b".")
         && is_touching(h, b"h")
         && is_touching(greater, b">");
     if touches {
-        Header::named(name.word.spelling())
+        Header::named(name.kind.spelling())
     } else {
         None
     }
@@ -142,7 +142,7 @@ fn header_of(tokens: &[Token<'_>]) -> Option<Header>
 fn is_touching(token: &Token<'_>, bytes: &[u8]) -> bool
     ensures { result ≡ spec.is_touching token.now bytes.now }
 {
-    token.word.spelling() == bytes && !token.is_spaced
+    token.kind.spelling() == bytes && !token.is_spaced
 }
 
 /// What `#include` with these tokens behind it is.
@@ -205,7 +205,7 @@ fn directive<'t, 'a>(tokens: &'t [Token<'a>]) -> LineKind<'t, 'a>
     let Some((token, more)) = tokens.split_first() else {
         return LineKind::Null;
     };
-    match DirectiveName::named(token.word.spelling()) {
+    match DirectiveName::named(token.kind.spelling()) {
         Some(name) => name.with(more),
         None => LineKind::UnknownDirective,
     }
@@ -220,8 +220,8 @@ impl<'t, 'a> LineKind<'t, 'a> {
         let Some((token, more)) = line.split_first() else {
             return LineKind::Text;
         };
-        match token.word {
-            Word::Punctuator(Punctuator::Hash) => directive(more),
+        match token.kind {
+            TokenKind::Punctuator(Punctuator::Hash) => directive(more),
             _ => LineKind::Text,
         }
     }

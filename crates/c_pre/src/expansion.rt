@@ -45,7 +45,7 @@ fn macro_for<'t, 'a>(
     ensures value { option_map (λ m. (m.name, m.list.now)) result ≡ expansion.replacement (macros_of macros.now)
         (record { token = token.now; hidden = spec.names_of (spec.inner_first reader.now.lists.items) }) }
 {
-    let name = MacroName::of(&token.word)?;
+    let name = MacroName::of(&token.kind)?;
     if reader.is_hidden(&name) {
         return None;
     }

@@ -6,7 +6,7 @@ ghost use Rattle.std.specs.Cmp.{partial_equiv_from_equiv};
 ghost use Rattle.std.specs.Cmp.Lexicographic.{bytes_decides, nat_list_eq_equiv};
 ghost use Rattle.std.proofs.Common.{ap};
 
-use c_lexer::Word;
+use c_lexer::TokenKind;
 use std::hash::{Hash, Hasher};
 use std::marker::Model;
 
@@ -29,11 +29,11 @@ impl<'a> MacroName<'a> {
 
     /// The name that a word is, if it is one: an identifier, or a keyword, since while directives are obeyed there are
     /// no keywords (6.4.1 paragraph 2).
-    pub fn of(word: &Word<'a>) -> Option<Self>
+    pub fn of(word: &TokenKind<'a>) -> Option<Self>
         ensures { result ≡ name_of word.now }
     {
         match word {
-            Word::Identifier(_) | Word::Keyword(_) => Some(MacroName {
+            TokenKind::Identifier(_) | TokenKind::Keyword(_) => Some(MacroName {
                 bytes: word.spelling(),
             }),
             _ => None,

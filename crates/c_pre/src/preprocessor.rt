@@ -59,7 +59,7 @@ fn same_list(a: &[Token<'_>], b: &[Token<'_>]) -> bool
         let [other, others @ ..] = b else {
             return false;
         };
-        if first.word.spelling() != other.word.spelling() {
+        if first.kind.spelling() != other.kind.spelling() {
             return false;
         }
         a = more;

@@ -19,7 +19,7 @@ fn expansion_of(alloc: Global, text: &[u8]) -> Result<String, Fail> {
         Ok(tokens) => {
             let mut shown = String::new(alloc);
             for token in tokens.as_slice() {
-                shown.push_str(str::from_utf8(token.word.spelling()).map_err(
+                shown.push_str(str::from_utf8(token.kind.spelling()).map_err(
                     |_| "a spelling is no text",
                 )?)?;
                 shown.push_str(" ")?;

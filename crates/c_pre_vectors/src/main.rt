@@ -66,7 +66,7 @@ fn put_tokens(rt: &HostRuntime, tokens: &[Token<'_>]) -> Result<()> {
             print!(rt; "{here}:")?;
             line = here;
         }
-        let spelling = str::from_utf8(token.word.spelling())?;
+        let spelling = str::from_utf8(token.kind.spelling())?;
         print!(rt; " {spelling}")?;
     }
     if line != 0 {

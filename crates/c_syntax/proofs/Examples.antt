@@ -4,21 +4,22 @@ use mathlib.Core.Path.{refl}
 use Rattle.c_lexer.specs.declared.keyword.Keyword.{Keyword}
 use Rattle.c_lexer.specs.declared.keyword.Keyword.TheVariants as k
 use Rattle.c_lexer.specs.declared.punctuator.Punctuator.TheVariants as p
-use Rattle.c_syntax.specs.declared.place.Place.{Place}
-use Rattle.c_syntax.specs.declared.place.Spelled.{Spelled}
+use Rattle.c_syntax.specs.declared.position.Position.{Position}
+use Rattle.c_syntax.specs.declared.position.Spelled.{Spelled}
 use Rattle.c_syntax.specs.Tree.{Expression, Declarator, Parameters, Specifiers}
 use Rattle.c_syntax.specs.Tree as t
 use Rattle.c_syntax.specs.Statements.{Statement, Block, Declaration, Unit}
 use Rattle.c_syntax.specs.Statements as s
 use Rattle.c_syntax.specs.Words as w
 use Rattle.c_syntax.specs.Levels.{expression_levels, statement_levels}
-use Rattle.c_syntax.specs.Formed.{SIZE_T, is_among, with_specifier, with_keyword, names_one_type, names_after_declaration, defines_function, ends_open, precedence}
+use Rattle.c_syntax.specs.Formed.{SIZE_T, is_among, with_specifier, with_keyword, names_one_type}
+use Rattle.c_syntax.specs.Formed.{names_after_declaration, defines_function, ends_open, precedence}
 
-abbrev at : Place
+abbrev at : Position
 at = record { at = 0; line = 1 }
 
 abbrev spelled : List ℕ → Spelled
-spelled x = record { spelling = x; place = at }
+spelled x = record { spelling = x; position = at }
 
 -- `T`, `f`, `0`
 abbrev T : Spelled
@@ -101,7 +102,8 @@ no_type_6 : names_one_type (words_of (k.Float ∷ [])) ≡ false
 unfolding with_specifier with_keyword
 no_type_6 = refl
 
-no_type_7 : names_one_type (t.specifiers (t.keyword k.Unsigned at) (t.specifiers (t.typedef_name T) t.no_specifiers)) ≡ false
+no_type_7 : names_one_type (t.specifiers (t.keyword k.Unsigned at) (t.specifiers (t.typedef_name T) t.no_specifiers))
+    ≡ false
 unfolding with_specifier with_keyword
 no_type_7 = refl
 
@@ -157,7 +159,8 @@ defines_no_2 : defines_function (called (t.grouped at (t.pointer at [] (t.named 
 defines_no_2 = refl
 
 -- the words of `typedef int T;`
-words_1 : w.unit_words (record { externals = s.declaration typedef_T ∷ [] }) ≡ w.keyword k.Typedef at ∷ w.keyword k.Int at ∷ w.identifier T ∷ w.punctuator p.Semicolon at ∷ []
+words_1 : w.unit_words (record { externals = s.declaration typedef_T ∷ [] }) ≡ w.keyword k.Typedef at
+    ∷ w.keyword k.Int at ∷ w.identifier T ∷ w.punctuator p.Semicolon at ∷ []
 words_1 = refl
 
 -- `sizeof (T) * 0` multiplies (C99 6.5.3.4): a cast is no operand of sizeof

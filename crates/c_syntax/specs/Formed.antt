@@ -1,21 +1,32 @@
--- Which trees are well formed: the shapes of the grammar (C99 6.5 to 6.9), precedence, the nearest else, and typedef names.
--- Left out: floating types, `_Bool`, `_Complex`, `volatile`, `restrict`, bit-fields, `[static 3]`, `[*]` and `...` in
--- declarators, identifier lists (6.9.1), `goto` and its labels, compound literals, typedefs inside blocks.
-use Rattle.std.specs.Prelude.{◌≡◌, ℕ, ◌≤◌, ◌<◌, Bool, true, false, ◌&&◌, ◌||◌, not, if◌then◌else◌, List, [], ◌∷◌, ◌++◌, Option, Some, None, is_some, bytes_eq, ⊤}
+-- Which trees are well formed: the shapes of the grammar (C99 6.5 to 6.9), precedence, the nearest else, and typedef
+-- names. Left out: floating types, `_Bool`, `_Complex`, `volatile`, `restrict`, bit-fields, `[static 3]`, `[*]` and
+-- `...` in declarators, identifier lists (6.9.1), `goto` and its labels, compound literals, typedefs inside blocks.
+use Rattle.std.specs.Prelude.{◌≡◌, ℕ, ◌≤◌, ◌<◌, Bool, true, false, ◌&&◌, ◌||◌, not, if◌then◌else◌, List, [], ◌∷◌, ◌++◌}
+use Rattle.std.specs.Prelude.{Option, Some, None, is_some, bytes_eq, ⊤}
 use Rattle.std.specs.List.{list_any}
 use Rattle.c_lexer.specs.declared.keyword.Keyword.{Keyword}
 use Rattle.c_lexer.specs.declared.keyword.Keyword.TheVariants as k
 use Rattle.c_lexer.specs.declared.punctuator.Punctuator.{Punctuator}
 use Rattle.c_lexer.specs.declared.punctuator.Punctuator.TheVariants as p
-use Rattle.c_syntax.specs.declared.place.Place.{Place}
+use Rattle.c_syntax.specs.declared.position.Position.{Position}
 use Rattle.c_syntax.specs.declared.specifiers.TypeSize.{TypeSize}
 use Rattle.c_syntax.specs.declared.specifiers.TypeSize.TheVariants as size
 use Rattle.c_syntax.specs.declared.specifiers.TypeWords.{TypeWords}
-use Rattle.c_syntax.specs.Tree.{Expression, Arguments, MoreArguments, TypedDeclarator, Declarator, Parameters, MoreParameters, Specifiers, Specifier, Members, Member, MoreDeclarators, Enumerator, MoreEnumerators, Designator, Designation, Initializer, InitializerItem, MoreItems}
+use Rattle.c_syntax.specs.Tree.{Expression, Arguments, MoreArguments, TypedDeclarator, Declarator, Parameters}
+use Rattle.c_syntax.specs.Tree.{MoreParameters, Specifiers, Specifier, Members, Member, MoreDeclarators, Enumerator}
+use Rattle.c_syntax.specs.Tree.{MoreEnumerators, Designator, Designation, Initializer, InitializerItem, MoreItems}
 use Rattle.c_syntax.specs.Tree as t
-use Rattle.c_syntax.specs.Statements.{InitDeclarator, InitDeclarators, Declaration, ForInit, Statement, Block, BlockItems, BlockItem, External, Unit}
+use Rattle.c_syntax.specs.Statements.{InitDeclarator, InitDeclarators, Declaration, ForInit, Statement, Block}
+use Rattle.c_syntax.specs.Statements.{BlockItems, BlockItem, External, Unit}
 use Rattle.c_syntax.specs.Statements as s
-use Rattle.c_syntax.specs.Levels.{expression_levels, declarator_levels, specifiers_levels, initializer_levels, block_levels}
+use Rattle.c_syntax.specs.Levels.{expression_levels, declarator_levels, specifiers_levels, initializer_levels}
+use Rattle.c_syntax.specs.Levels.{block_levels}
+
+-- Binding powers, by the section of C99 that has the operators: 1 the comma (6.5.17), 2 assignment (6.5.16), 3 the
+-- conditional operator (6.5.15), 4 `||` (6.5.14), 5 `&&` (6.5.13), 6 `|` (6.5.12), 7 `^` (6.5.11), 8 `&` (6.5.10), 9
+-- `==` and `!=` (6.5.9), 10 `<`, `>`, `<=` and `>=` (6.5.8), 11 shifts (6.5.7), 12 `+` and `-` (6.5.6), 13 `*`, `/` and
+-- `%` (6.5.5), 14 casts (6.5.4), 15 unary operators (6.5.3), 16 postfix operators (6.5.2), 17 primary expressions
+-- (6.5.1). An operand's least binding power in a rule is the number of the grammar's symbol that stands there.
 
 -- how tightly an operator between two operands binds; 0: it is none (C99 6.5.5 to 6.5.14, 6.5.17)
 unfoldable pub binary_precedence : Punctuator → ℕ
@@ -79,8 +90,7 @@ is_postfix_operator p.Increment = true
 is_postfix_operator p.Decrement = true
 is_postfix_operator _ = false
 
--- how tightly the outermost operator of an expression binds: 1 comma, 2 assignment, 3 conditional, 4 to 13 binary, 14 cast,
--- 15 unary, 16 postfix, 17 primary (C99 6.5.1 to 6.5.17)
+-- the binding power of the outermost operator of an expression (C99 6.5.1 to 6.5.17)
 abbrev pub precedence : Expression → ℕ
 precedence (t.binary a w at b) = binary_precedence w
 precedence (t.assignment a w at b) = 2
@@ -152,7 +162,8 @@ of_size w (Some s) = Some (record w { size = s })
 
 -- with a word that is a type by itself
 abbrev pub with_other : TypeWords → Option TypeWords
-with_other w = if not w.has_sign && (not w.has_int && is_absent w.size) then Some (record w { size = size.Other }) else None
+with_other w = if not w.has_sign && (not w.has_int && is_absent w.size) then Some (record w { size = size.Other }) else
+    None
 
 -- a storage class, function specifier or qualifier (6.7.1, 6.7.3, 6.7.4) is no word of the type
 unfoldable pub with_keyword : Keyword → TypeWords → Option TypeWords
@@ -286,9 +297,12 @@ module _ (names : List (List ℕ)) where
     IsExpression (t.sizeof_expression at e) = (15 ≤ precedence e) × IsExpression e
     IsExpression (t.sizeof_type at l x r) = IsTypeName x
     IsExpression (t.cast l x r e) = (14 ≤ precedence e) × IsTypeName x × IsExpression e
-    IsExpression (t.binary a w at b) = (1 ≤ binary_precedence w) × (binary_precedence w ≤ precedence a) × (binary_precedence w < precedence b) × IsExpression a × IsExpression b
-    IsExpression (t.conditional c q a colon b) = (4 ≤ precedence c) × (3 ≤ precedence b) × IsExpression c × IsExpression a × IsExpression b
-    IsExpression (t.assignment a w at b) = (is_assignment w ≡ true) × (15 ≤ precedence a) × (2 ≤ precedence b) × IsExpression a × IsExpression b
+    IsExpression (t.binary a w at b) = (1 ≤ binary_precedence w) × (binary_precedence w ≤ precedence a)
+        × (binary_precedence w < precedence b) × IsExpression a × IsExpression b
+    IsExpression (t.conditional c q a colon b) = (4 ≤ precedence c) × (3 ≤ precedence b) × IsExpression c
+        × IsExpression a × IsExpression b
+    IsExpression (t.assignment a w at b) = (is_assignment w ≡ true) × (15 ≤ precedence a) × (2 ≤ precedence b)
+        × IsExpression a × IsExpression b
 
     -- assignment expressions (C99 6.5.2.2)
     pub AreArguments : Arguments → Type 0
@@ -302,7 +316,8 @@ module _ (names : List (List ℕ)) where
 
     -- C99 6.7.6
     pub IsTypeName : TypedDeclarator → Type 0
-    IsTypeName (t.typed z d) = (names_one_type z ≡ true) × EachSpecifier z × (has_typedef z ≡ false) × IsDeclarator d × (has_name d ≡ false)
+    IsTypeName (t.typed z d) = (names_one_type z ≡ true) × EachSpecifier z × (has_typedef z ≡ false) × IsDeclarator d
+        × (has_name d ≡ false)
 
     -- C99 6.7.5.3
     pub IsParameter : TypedDeclarator → Type 0
@@ -350,7 +365,8 @@ module _ (names : List (List ℕ)) where
 
     -- C99 6.7.2.1, without bit-fields
     pub IsMember : Member → Type 0
-    IsMember (t.member_declaration z d m at) = (names_one_type z ≡ true) × EachSpecifier z × (has_typedef z ≡ false) × (has_name d ≡ true) × IsDeclarator d × AreMoreDeclarators m
+    IsMember (t.member_declaration z d m at) = (names_one_type z ≡ true) × EachSpecifier z × (has_typedef z ≡ false)
+        × (has_name d ≡ true) × IsDeclarator d × AreMoreDeclarators m
 
     -- the declarators behind the first
     pub AreMoreDeclarators : MoreDeclarators → Type 0
@@ -409,14 +425,15 @@ abbrev pub names_after : Bool → Declarator → List (List ℕ) → List (List 
 names_after is_typedef d names = if is_typedef then with_declared (declared d) names else names
 
 -- the typedef names behind the declarators after the first
-abbrev pub names_after_more : Bool → List (Place × InitDeclarator) → List (List ℕ) → List (List ℕ)
+abbrev pub names_after_more : Bool → List (Position × InitDeclarator) → List (List ℕ) → List (List ℕ)
 names_after_more is_typedef [] names = names
 names_after_more is_typedef (x ∷ z) names = names_after_more is_typedef z (names_after is_typedef x.1.declarator names)
 
 -- the typedef names behind all declarators of a declaration
 abbrev pub names_after_all : Bool → Option InitDeclarators → List (List ℕ) → List (List ℕ)
 names_after_all is_typedef None names = names
-names_after_all is_typedef (Some x) names = names_after_more is_typedef x.others (names_after is_typedef x.first.declarator names)
+names_after_all is_typedef (Some x) names = names_after_more is_typedef x.others
+    (names_after is_typedef x.first.declarator names)
 
 -- the typedef names behind a declaration
 abbrev pub names_after_declaration : Declaration → List (List ℕ) → List (List ℕ)
@@ -489,27 +506,31 @@ module _ (levels : ℕ) where
   IsDeclared names d = (declarator_levels d ≤ levels) × IsNamed names d
 
   -- its initializer, if there is one (C99 6.7.8)
-  abbrev pub IsInitialized : List (List ℕ) → Option (Place × Initializer) → Type 0
+  abbrev pub IsInitialized : List (List ℕ) → Option (Position × Initializer) → Type 0
   IsInitialized names None = ⊤
   IsInitialized names (Some x) = (initializer_levels x.1 ≤ levels) × IsInitializer names x.1
 
   -- its own name is in force in its initializer
   abbrev pub IsInitDeclarator : Bool → List (List ℕ) → InitDeclarator → Type 0
-  IsInitDeclarator is_typedef names x = IsDeclared names x.declarator × IsInitialized (names_after is_typedef x.declarator names) x.initializer
+  IsInitDeclarator is_typedef names x = IsDeclared names x.declarator
+      × IsInitialized (names_after is_typedef x.declarator names) x.initializer
 
   -- the declarators behind the first
-  abbrev pub AreMoreInitDeclarators : Bool → List (List ℕ) → List (Place × InitDeclarator) → Type 0
+  abbrev pub AreMoreInitDeclarators : Bool → List (List ℕ) → List (Position × InitDeclarator) → Type 0
   AreMoreInitDeclarators is_typedef names [] = ⊤
-  AreMoreInitDeclarators is_typedef names (x ∷ z) = IsInitDeclarator is_typedef names x.1 × AreMoreInitDeclarators is_typedef (names_after is_typedef x.1.declarator names) z
+  AreMoreInitDeclarators is_typedef names (x ∷ z) = IsInitDeclarator is_typedef names x.1
+      × AreMoreInitDeclarators is_typedef (names_after is_typedef x.1.declarator names) z
 
   -- the declarators of a declaration (C99 6.7)
   abbrev pub AreInitDeclarators : Bool → List (List ℕ) → Option InitDeclarators → Type 0
   AreInitDeclarators is_typedef names None = ⊤
-  AreInitDeclarators is_typedef names (Some x) = IsInitDeclarator is_typedef names x.first × AreMoreInitDeclarators is_typedef (names_after is_typedef x.first.declarator names) x.others
+  AreInitDeclarators is_typedef names (Some x) = IsInitDeclarator is_typedef names x.first
+      × AreMoreInitDeclarators is_typedef (names_after is_typedef x.first.declarator names) x.others
 
   -- C99 6.7
   abbrev pub IsDeclaration : List (List ℕ) → Declaration → Type 0
-  IsDeclaration names x = BeginDeclaration names x.specifiers × AreInitDeclarators (has_typedef x.specifiers) names x.declarators
+  IsDeclaration names x = BeginDeclaration names x.specifiers
+      × AreInitDeclarators (has_typedef x.specifiers) names x.declarators
 
   -- a declaration in a function is no typedef
   abbrev pub IsLocal : List (List ℕ) → Declaration → Type 0
@@ -532,7 +553,8 @@ module _ (levels : ℕ) where
       IsStatement (s.switch at l e r b) = IsWhole names e × IsBlock b
       IsStatement (s.while_do at l e r x) = IsWhole names e × IsStatement x
       IsStatement (s.do_while at x q l e r semi) = IsStatement x × IsWhole names e
-      IsStatement (s.for at l f c semi e r x) = IsForInit names f × IsOptional names c × IsOptional names e × IsStatement x
+      IsStatement (s.for at l f c semi e r x) = IsForInit names f × IsOptional names c × IsOptional names e
+          × IsStatement x
       IsStatement (s.case at e colon x) = (3 ≤ precedence e) × IsWhole names e × IsStatement x
       IsStatement (s.default at colon x) = IsStatement x
       IsStatement (s.break at semi) = ⊤

@@ -1,10 +1,12 @@
 -- Levels of nesting. An expression that is a name, a constant or a string has 0, each other 1 more than the greatest of
--- its parts. A declarator has 0 for its name and 1 more for each pointer, array, function or pair of parentheses. A list of
--- initializers, members or enumerators in braces has 1 more than the greatest of its parts, and a mention of a tag, which
--- has no parts, 0. A statement without a statement inside has 0, so an empty block too; each other has 1 more than the
--- greatest statement inside, and its expressions and declarations are measured by themselves.
+-- its parts. A declarator has 0 for its name and 1 more for each pointer, array, function or pair of parentheses. A
+-- list of initializers, members or enumerators in braces has 1 more than the greatest of its parts, and a mention of a
+-- tag, which has no parts, 0. A statement without a statement inside has 0, so an empty block too; each other has 1
+-- more than the greatest statement inside, and its expressions and declarations are measured by themselves.
 use Rattle.std.specs.Prelude.{ℕ, suc, max, List, [], ◌∷◌, Option, Some, None}
-use Rattle.c_syntax.specs.Tree.{Expression, Arguments, MoreArguments, TypedDeclarator, Declarator, Parameters, MoreParameters, Specifiers, Specifier, Members, Member, MoreDeclarators, Enumerator, MoreEnumerators, Designator, Designation, Initializer, InitializerItem, MoreItems}
+use Rattle.c_syntax.specs.Tree.{Expression, Arguments, MoreArguments, TypedDeclarator, Declarator, Parameters}
+use Rattle.c_syntax.specs.Tree.{MoreParameters, Specifiers, Specifier, Members, Member, MoreDeclarators, Enumerator}
+use Rattle.c_syntax.specs.Tree.{MoreEnumerators, Designator, Designation, Initializer, InitializerItem, MoreItems}
 use Rattle.c_syntax.specs.Tree as t
 use Rattle.c_syntax.specs.Statements.{Statement, Block, BlockItems, BlockItem}
 use Rattle.c_syntax.specs.Statements as s
@@ -25,7 +27,8 @@ abbrev mutual
   expression_levels (t.sizeof_type at l x r) = suc (typed_levels x)
   expression_levels (t.cast l x r e) = suc (max (typed_levels x) (expression_levels e))
   expression_levels (t.binary a w at b) = suc (max (expression_levels a) (expression_levels b))
-  expression_levels (t.conditional c q a colon b) = suc (max (expression_levels c) (max (expression_levels a) (expression_levels b)))
+  expression_levels (t.conditional c q a colon b) =
+      suc (max (expression_levels c) (max (expression_levels a) (expression_levels b)))
   expression_levels (t.assignment a w at b) = suc (max (expression_levels a) (expression_levels b))
 
   pub arguments_levels : Arguments → ℕ
@@ -74,7 +77,8 @@ abbrev mutual
   members_levels (t.members x m) = max (member_levels x) (members_levels m)
 
   pub member_levels : Member → ℕ
-  member_levels (t.member_declaration z d m at) = max (specifiers_levels z) (max (declarator_levels d) (more_declarators_levels m))
+  member_levels (t.member_declaration z d m at) = max (specifiers_levels z)
+      (max (declarator_levels d) (more_declarators_levels m))
 
   pub more_declarators_levels : MoreDeclarators → ℕ
   more_declarators_levels t.end_of_declarators = 0

@@ -1,49 +1,50 @@
 -- The syntax trees of declarations, statements and files (C99 6.7 to 6.9).
 use Rattle.std.specs.Prelude.{List, Option}
-use Rattle.c_syntax.specs.declared.place.Place.{Place}
+use Rattle.c_syntax.specs.declared.position.Position.{Position}
 use Rattle.c_syntax.specs.Tree.{Expression, Specifiers, Declarator, Initializer}
 
 -- a declarator, and its `=` and initializer or none (C99 6.7)
 pub record InitDeclarator : Type 0 where
   pub declarator : Declarator
-  pub initializer : Option (Place × Initializer)
+  pub initializer : Option (Position × Initializer)
 
 -- the first, and the others, each behind its comma
 pub record InitDeclarators : Type 0 where
   pub first : InitDeclarator
-  pub others : List (Place × InitDeclarator)
+  pub others : List (Position × InitDeclarator)
 
 -- C99 6.7
 pub record Declaration : Type 0 where
   pub specifiers : Specifiers
   pub declarators : Option InitDeclarators
-  pub semicolon : Place
+  pub semicolon : Position
 
 -- the first part of the head of a `for`, with its semicolon (C99 6.8.5.3)
 pub data ForInit : Type 0 where
   declares : Declaration → ForInit
-  evaluates : Option Expression → Place → ForInit
+  evaluates : Option Expression → Position → ForInit
 
 mutual
   -- C99 6.8
   pub data Statement : Type 0 where
     compound : Block → Statement
-    expression : Option Expression → Place → Statement
-    if_then : Place → Place → Expression → Place → Statement → Statement
-    if_else : Place → Place → Expression → Place → Statement → Place → Statement → Statement
-    switch : Place → Place → Expression → Place → Block → Statement
-    while_do : Place → Place → Expression → Place → Statement → Statement
-    do_while : Place → Statement → Place → Place → Expression → Place → Place → Statement
-    for : Place → Place → ForInit → Option Expression → Place → Option Expression → Place → Statement → Statement
-    case : Place → Expression → Place → Statement → Statement
-    default : Place → Place → Statement → Statement
-    break : Place → Place → Statement
-    continue : Place → Place → Statement
-    return : Place → Option Expression → Place → Statement
+    expression : Option Expression → Position → Statement
+    if_then : Position → Position → Expression → Position → Statement → Statement
+    if_else : Position → Position → Expression → Position → Statement → Position → Statement → Statement
+    switch : Position → Position → Expression → Position → Block → Statement
+    while_do : Position → Position → Expression → Position → Statement → Statement
+    do_while : Position → Statement → Position → Position → Expression → Position → Position → Statement
+    for : Position → Position → ForInit → Option Expression → Position → Option Expression → Position → Statement
+        → Statement
+    case : Position → Expression → Position → Statement → Statement
+    default : Position → Position → Statement → Statement
+    break : Position → Position → Statement
+    continue : Position → Position → Statement
+    return : Position → Option Expression → Position → Statement
 
   -- C99 6.8.2
   pub data Block : Type 0 where
-    block : Place → BlockItems → Place → Block
+    block : Position → BlockItems → Position → Block
 
   pub data BlockItems : Type 0 where
     no_items : BlockItems

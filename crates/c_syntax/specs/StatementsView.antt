@@ -1,6 +1,6 @@
 -- Initializers, declarations, statements and files without where they lie in memory.
 use Rattle.std.specs.Prelude.{List, [], ◌∷◌, map, Option, Some, None}
-use Rattle.c_syntax.specs.declared.place.Place.{Place}
+use Rattle.c_syntax.specs.declared.position.Position.{Position}
 use Rattle.c_syntax.specs.declared.declaration.Initializer.TheOpen.{Initializer-F, InitializerItem-F}
 use Rattle.c_syntax.specs.declared.declaration.Initializer as ri
 use Rattle.c_syntax.specs.declared.declaration.InitializerItem as rj
@@ -32,12 +32,12 @@ abbrev pub designation_of : Option Designation → Option t.Designation
 designation_of None = None
 designation_of (Some x) = Some (record { designators = designators_in x.designators; equals = x.equals })
 
-abbrev pub more_items_of : List (Place × t.InitializerItem) → t.MoreItems
+abbrev pub more_items_of : List (Position × t.InitializerItem) → t.MoreItems
 more_items_of [] = t.end_of_items
 more_items_of (x ∷ z) = t.more_items x.0 x.1 (more_items_of z)
 
 abbrev pub initializer_step : Initializer-F t.Initializer t.InitializerItem → t.Initializer
-initializer_step (Initializer-F.Value e) = t.value (expression_of e)
+initializer_step (Initializer-F.Value v) = t.value (expression_of v.expression)
 initializer_step (Initializer-F.Braced l x z c r) = t.braced l x (more_items_of z) c r
 
 abbrev pub item_step : InitializerItem-F t.Initializer t.InitializerItem → t.InitializerItem
@@ -49,25 +49,34 @@ initializer_of = ri.fold-Initializer t.Initializer t.InitializerItem initializer
 abbrev pub item_of : rj.InitializerItem → t.InitializerItem
 item_of = rj.fold-InitializerItem t.Initializer t.InitializerItem initializer_step item_step
 
-abbrev pub more_items_in : List (Place × rj.InitializerItem) → t.MoreItems
+abbrev pub more_items_in : List (Position × rj.InitializerItem) → t.MoreItems
 more_items_in z = more_items_of (map (behind_comma item_of) z)
 
-abbrev pub initialized_of : Option (Place × ri.Initializer) → Option (Place × t.Initializer)
+abbrev pub initialized_of : Option (Position × ri.Initializer) → Option (Position × t.Initializer)
 initialized_of None = None
 initialized_of (Some x) = Some (behind_comma initializer_of x)
 
 abbrev pub init_declarator_of : InitDeclarator → s.InitDeclarator
 init_declarator_of x = record { declarator = declarator_of x.declarator; initializer = initialized_of x.initializer }
 
-abbrev pub more_init_declarators_in : List (Place × InitDeclarator) → List (Place × s.InitDeclarator)
+abbrev pub more_init_declarators_in : List (Position × InitDeclarator) → List (Position × s.InitDeclarator)
 more_init_declarators_in z = map (behind_comma init_declarator_of) z
 
 abbrev pub init_declarators_of : Option InitDeclarators → Option s.InitDeclarators
 init_declarators_of None = None
-init_declarators_of (Some x) = Some (record { first = init_declarator_of x.first; others = more_init_declarators_in x.others })
+init_declarators_of (Some x) = Some (record {
+  first = init_declarator_of x.first;
+  others =
+      more_init_declarators_in x.others;
+})
 
 abbrev pub declaration_of : Declaration → s.Declaration
-declaration_of x = record { specifiers = specifiers_in x.specifiers; declarators = init_declarators_of x.declarators; semicolon = x.semicolon }
+declaration_of x = record {
+  specifiers = specifiers_in x.specifiers;
+  declarators =
+      init_declarators_of x.declarators;
+  semicolon = x.semicolon;
+}
 
 abbrev pub optional_of : Option rx.Expression → Option t.Expression
 optional_of None = None
@@ -88,13 +97,15 @@ block_item_step (BlockItem-F.Statement x) = s.inner x
 abbrev pub statement_step : Statement-F s.BlockItem s.Statement s.Block → s.Statement
 statement_step (Statement-F.Block b) = s.compound b
 statement_step (Statement-F.Expression e at) = s.expression (optional_of e) at
-statement_step (Statement-F.If at l e r x) = s.if_then at l (expression_of e) r x
-statement_step (Statement-F.IfElse at l e r x q y) = s.if_else at l (expression_of e) r x q y
-statement_step (Statement-F.Switch at l e r b) = s.switch at l (expression_of e) r b
-statement_step (Statement-F.While at l e r x) = s.while_do at l (expression_of e) r x
-statement_step (Statement-F.Do at x q l e r semi) = s.do_while at x q l (expression_of e) r semi
-statement_step (Statement-F.For at l f c semi e r x) = s.for at l (for_init_of f) (optional_of c) semi (optional_of e) r x
-statement_step (Statement-F.Case at e colon x) = s.case at (expression_of e) colon x
+statement_step (Statement-F.If at c x) = s.if_then at c.left (expression_of c.inner) c.right x
+statement_step (Statement-F.IfElse at c x q y) = s.if_else at c.left (expression_of c.inner) c.right x q y
+statement_step (Statement-F.Switch at c b) = s.switch at c.left (expression_of c.inner) c.right b
+statement_step (Statement-F.While at c x) = s.while_do at c.left (expression_of c.inner) c.right x
+statement_step (Statement-F.Do at x z) =
+    s.do_while at x z.again z.condition.left (expression_of z.condition.inner) z.condition.right z.semicolon
+statement_step (Statement-F.For at z x) =
+    s.for at z.left (for_init_of z.init) (optional_of z.condition) z.semicolon (optional_of z.step) z.right x
+statement_step (Statement-F.Case z x) = s.case z.position (expression_of z.value) z.colon x
 statement_step (Statement-F.Default at colon x) = s.default at colon x
 statement_step (Statement-F.Break at semi) = s.break at semi
 statement_step (Statement-F.Continue at semi) = s.continue at semi

@@ -1,10 +1,10 @@
--- The syntax trees of expressions, declarators, specifiers and initializers (C99 6.5, 6.7). A node has the places of its
--- own tokens in the order of the text; its constructor says which they are.
+-- The syntax trees of expressions, declarators, specifiers and initializers (C99 6.5, 6.7). A node has the positions of
+-- its own tokens in the order of the text; its constructor says which they are.
 use Rattle.std.specs.Prelude.{List, Option}
 use Rattle.c_lexer.specs.declared.keyword.Keyword.{Keyword}
 use Rattle.c_lexer.specs.declared.punctuator.Punctuator.{Punctuator}
-use Rattle.c_syntax.specs.declared.place.Place.{Place}
-use Rattle.c_syntax.specs.declared.place.Spelled.{Spelled}
+use Rattle.c_syntax.specs.declared.position.Position.{Position}
+use Rattle.c_syntax.specs.declared.position.Spelled.{Spelled}
 
 mutual
   -- C99 6.5
@@ -14,22 +14,22 @@ mutual
     character : Spelled → Expression
     -- adjacent string literals
     strings : Spelled → List Spelled → Expression
-    parenthesized : Place → Expression → Place → Expression
-    subscript : Expression → Place → Expression → Place → Expression
-    call : Expression → Place → Arguments → Place → Expression
+    parenthesized : Position → Expression → Position → Expression
+    subscript : Expression → Position → Expression → Position → Expression
+    call : Expression → Position → Arguments → Position → Expression
     -- by `.` or `->`
-    member : Expression → Punctuator → Place → Spelled → Expression
+    member : Expression → Punctuator → Position → Spelled → Expression
     -- `++` or `--` behind its operand
-    postfix : Expression → Punctuator → Place → Expression
+    postfix : Expression → Punctuator → Position → Expression
     -- `++`, `--` or a unary operator
-    unary : Punctuator → Place → Expression → Expression
-    sizeof_expression : Place → Expression → Expression
-    sizeof_type : Place → Place → TypedDeclarator → Place → Expression
-    cast : Place → TypedDeclarator → Place → Expression → Expression
+    unary : Punctuator → Position → Expression → Expression
+    sizeof_expression : Position → Expression → Expression
+    sizeof_type : Position → Position → TypedDeclarator → Position → Expression
+    cast : Position → TypedDeclarator → Position → Expression → Expression
     -- by an operator from `*` to `||`, or by the comma
-    binary : Expression → Punctuator → Place → Expression → Expression
-    conditional : Expression → Place → Expression → Place → Expression → Expression
-    assignment : Expression → Punctuator → Place → Expression → Expression
+    binary : Expression → Punctuator → Position → Expression → Expression
+    conditional : Expression → Position → Expression → Position → Expression → Expression
+    assignment : Expression → Punctuator → Position → Expression → Expression
 
   -- C99 6.5.2.2
   pub data Arguments : Type 0 where
@@ -38,7 +38,7 @@ mutual
 
   pub data MoreArguments : Type 0 where
     end_of_arguments : MoreArguments
-    more_arguments : Place → Expression → MoreArguments → MoreArguments
+    more_arguments : Position → Expression → MoreArguments → MoreArguments
 
   -- a type name (C99 6.7.6) or a parameter (6.7.5)
   pub data TypedDeclarator : Type 0 where
@@ -49,22 +49,22 @@ mutual
     named : Spelled → Declarator
     unnamed : Declarator
     -- `*` and the words `const` behind it
-    pointer : Place → List Place → Declarator → Declarator
-    grouped : Place → Declarator → Place → Declarator
-    open_array : Declarator → Place → Place → Declarator
-    array : Declarator → Place → Expression → Place → Declarator
-    function : Declarator → Place → Parameters → Place → Declarator
+    pointer : Position → List Position → Declarator → Declarator
+    grouped : Position → Declarator → Position → Declarator
+    open_array : Declarator → Position → Position → Declarator
+    array : Declarator → Position → Expression → Position → Declarator
+    function : Declarator → Position → Parameters → Position → Declarator
 
   -- C99 6.7.5.3
   pub data Parameters : Type 0 where
     no_parameters : Parameters
     -- the word `void` alone
-    void_parameters : Place → Parameters
+    void_parameters : Position → Parameters
     parameters : TypedDeclarator → MoreParameters → Parameters
 
   pub data MoreParameters : Type 0 where
     end_of_parameters : MoreParameters
-    more_parameters : Place → TypedDeclarator → MoreParameters → MoreParameters
+    more_parameters : Position → TypedDeclarator → MoreParameters → MoreParameters
 
   -- C99 6.7.1 to 6.7.4, in the order of the text
   pub data Specifiers : Type 0 where
@@ -72,14 +72,15 @@ mutual
     specifiers : Specifier → Specifiers → Specifiers
 
   pub data Specifier : Type 0 where
-    keyword : Keyword → Place → Specifier
+    keyword : Keyword → Position → Specifier
     typedef_name : Spelled → Specifier
     -- `struct` or `union` and a tag (6.7.2.1)
-    structure : Keyword → Place → Spelled → Specifier
-    structure_body : Keyword → Place → Option Spelled → Place → Members → Place → Specifier
+    structure : Keyword → Position → Spelled → Specifier
+    structure_body : Keyword → Position → Option Spelled → Position → Members → Position → Specifier
     -- 6.7.2.2
-    enumeration : Place → Spelled → Specifier
-    enumeration_body : Place → Option Spelled → Place → Enumerator → MoreEnumerators → Option Place → Place → Specifier
+    enumeration : Position → Spelled → Specifier
+    enumeration_body : Position → Option Spelled → Position → Enumerator → MoreEnumerators → Option Position → Position
+        → Specifier
 
   -- C99 6.7.2.1
   pub data Members : Type 0 where
@@ -87,40 +88,40 @@ mutual
     members : Member → Members → Members
 
   pub data Member : Type 0 where
-    member_declaration : Specifiers → Declarator → MoreDeclarators → Place → Member
+    member_declaration : Specifiers → Declarator → MoreDeclarators → Position → Member
 
   pub data MoreDeclarators : Type 0 where
     end_of_declarators : MoreDeclarators
-    more_declarators : Place → Declarator → MoreDeclarators → MoreDeclarators
+    more_declarators : Position → Declarator → MoreDeclarators → MoreDeclarators
 
   -- C99 6.7.2.2
   pub data Enumerator : Type 0 where
     plain : Spelled → Enumerator
-    valued : Spelled → Place → Expression → Enumerator
+    valued : Spelled → Position → Expression → Enumerator
 
   pub data MoreEnumerators : Type 0 where
     end_of_enumerators : MoreEnumerators
-    more_enumerators : Place → Enumerator → MoreEnumerators → MoreEnumerators
+    more_enumerators : Position → Enumerator → MoreEnumerators → MoreEnumerators
 
 -- C99 6.7.8
 pub data Designator : Type 0 where
-  element : Place → Expression → Place → Designator
-  member_named : Place → Spelled → Designator
+  element : Position → Expression → Position → Designator
+  member_named : Position → Spelled → Designator
 
 -- designators and `=`
 pub record Designation : Type 0 where
   pub designators : List Designator
-  pub equals : Place
+  pub equals : Position
 
 mutual
   -- C99 6.7.8
   pub data Initializer : Type 0 where
     value : Expression → Initializer
-    braced : Place → InitializerItem → MoreItems → Option Place → Place → Initializer
+    braced : Position → InitializerItem → MoreItems → Option Position → Position → Initializer
 
   pub data InitializerItem : Type 0 where
     item : Option Designation → Initializer → InitializerItem
 
   pub data MoreItems : Type 0 where
     end_of_items : MoreItems
-    more_items : Place → InitializerItem → MoreItems → MoreItems
+    more_items : Position → InitializerItem → MoreItems → MoreItems

@@ -1,6 +1,6 @@
 //! Trees of declarations and initializers (C99 6.7, 6.7.8).
 
-use crate::place::{Place, Spelled};
+use crate::position::{Position, Spelled};
 use crate::tree::{Declarator, Expression, Specifier};
 use tree_containers::{Boxed, Items};
 
@@ -8,9 +8,9 @@ use tree_containers::{Boxed, Items};
 #[derive(Drop)]
 pub enum Designator<'a> {
     /// `[ expression ]`.
-    Element(Place, Expression<'a>, Place),
+    Element(Position, Boxed<Expression<'a>>, Position),
     /// `.` and the name of a member.
-    Member(Place, Spelled<'a>),
+    Member(Position, Spelled<'a>),
 }
 
 /// Designators and the `=` behind them (C99 6.7.8).
@@ -19,7 +19,14 @@ pub struct Designation<'a> {
     /// The designators.
     pub designators: Items<Designator<'a>>,
     /// The `=`.
-    pub equals: Place,
+    pub equals: Position,
+}
+
+/// An expression as an initializer (C99 6.7.8).
+#[derive(Drop)]
+pub struct InitialValue<'a> {
+    /// The expression.
+    pub expression: Boxed<Expression<'a>>,
 }
 
 /// An initializer (C99 6.7.8).
@@ -27,14 +34,14 @@ pub struct Designation<'a> {
 #[derive(Drop)]
 pub enum Initializer<'a> {
     /// An expression.
-    Value(Expression<'a>),
+    Value(InitialValue<'a>),
     /// `{`, the first item, the others, each behind its comma, a last comma or none, and `}`.
     Braced(
-        Place,
+        Position,
         Boxed<InitializerItem<'a>>,
-        Items<(Place, InitializerItem<'a>)>,
-        Option<Place>,
-        Place,
+        Items<(Position, InitializerItem<'a>)>,
+        Option<Position>,
+        Position,
     ),
 }
 
@@ -52,9 +59,9 @@ pub struct InitializerItem<'a> {
 #[derive(Drop)]
 pub struct InitDeclarator<'a> {
     /// The declarator.
-    pub declarator: Declarator<'a>,
+    pub declarator: Boxed<Declarator<'a>>,
     /// The `=` and the initializer.
-    pub initializer: Option<(Place, Initializer<'a>)>,
+    pub initializer: Option<(Position, Boxed<Initializer<'a>>)>,
 }
 
 /// The declarators of a declaration (C99 6.7).
@@ -63,7 +70,7 @@ pub struct InitDeclarators<'a> {
     /// The first.
     pub first: InitDeclarator<'a>,
     /// The others, each behind its comma.
-    pub others: Items<(Place, InitDeclarator<'a>)>,
+    pub others: Items<(Position, InitDeclarator<'a>)>,
 }
 
 /// A declaration (C99 6.7).
@@ -72,7 +79,7 @@ pub struct Declaration<'a> {
     /// The specifiers.
     pub specifiers: Items<Specifier<'a>>,
     /// The declarators, if there are any.
-    pub declarators: Option<InitDeclarators<'a>>,
+    pub declarators: Option<Boxed<InitDeclarators<'a>>>,
     /// The semicolon.
-    pub semicolon: Place,
+    pub semicolon: Position,
 }

@@ -5,7 +5,7 @@ ghost use Rattle.c_syntax.specs.Formed as formed;
 ghost use Rattle.c_syntax.specs.Tree as tree;
 ghost use Rattle.c_syntax.specs.View as view;
 
-use crate::place::Place;
+use crate::position::Position;
 use crate::tree::{Declarator, Parameters, Specifier, TypedDeclarator};
 use c_lexer::Keyword;
 
@@ -55,7 +55,8 @@ pub fn is_plain_name(declarator: &Declarator) -> bool
 
 /// Whether a specifier is the word `void`.
 fn is_void_word(specifier: &Specifier) -> bool
-    ensures { result ≡ formed.is_void (tree.typed (tree.specifiers (view.specifier_of specifier.now) tree.no_specifiers) tree.unnamed) }
+    ensures { result ≡ formed.is_void (tree.typed (tree.specifiers (view.specifier_of specifier.now) tree.no_specifiers)
+        tree.unnamed) }
 {
     matches!(specifier, Specifier::Keyword(Keyword::Void, _))
 }
@@ -76,13 +77,13 @@ fn are_void(specifiers: &[Specifier]) -> bool
 fn is_void(parameter: &TypedDeclarator) -> bool
     ensures { result ≡ formed.is_void (view.typed_of parameter.now) }
 {
-    are_void(parameter.specifiers.as_slice()) && is_unnamed(&parameter.declarator)
+    are_void(parameter.specifiers.as_slice()) && is_unnamed(parameter.declarator.get())
 }
 
 /// Whether a first parameter is the word `void` and no others follow: this is the empty list, and no parameter (C99
 /// 6.7.5.3).
 #[tactic(auto, using(crate::proofs::TypedView::others_are_not_lone))]
-pub fn is_lone_void(first: &TypedDeclarator, others: &[(Place, TypedDeclarator)]) -> bool
+pub fn is_lone_void(first: &TypedDeclarator, others: &[(Position, TypedDeclarator)]) -> bool
     ensures { result ≡ formed.is_lone_void (view.typed_of first.now) (view.more_parameters_in others.now) }
 {
     match others {
@@ -96,11 +97,11 @@ pub fn is_lone_void(first: &TypedDeclarator, others: &[(Place, TypedDeclarator)]
 fn is_named_parameter(parameter: &TypedDeclarator) -> bool
     ensures { result ≡ formed.is_named_parameter (view.typed_of parameter.now) }
 {
-    has_name(&parameter.declarator)
+    has_name(parameter.declarator.get())
 }
 
 /// Whether the parameters behind the first have names.
-fn are_named_parameters(others: &[(Place, TypedDeclarator)]) -> bool
+fn are_named_parameters(others: &[(Position, TypedDeclarator)]) -> bool
     ensures { result ≡ formed.are_named_parameters (view.more_parameters_in others.now) }
 {
     for (_, parameter) in others {

@@ -131,7 +131,8 @@ impl TypeWords {
         }
     }
 
-    /// These words and a keyword, which is no word of the type where it is a storage class (C99 6.7.1), `const` (6.7.3) or
+    /// These words and a keyword, which is no word of the type where it is a storage class (C99 6.7.1), `const` (6.7.3)
+    /// or
     /// `inline` (6.7.4); `None`: no specifiers have them.
     #[tactic(auto, unfolding(crate::specs::Formed::with_keyword))]
     pub fn with_keyword(self, keyword: Keyword) -> Option<Self>

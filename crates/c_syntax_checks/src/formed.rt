@@ -11,11 +11,12 @@ use c_syntax::operators::{
     binary_precedence, is_assignment, is_member_operator, is_postfix_operator, operand_precedence,
     precedence,
 };
-use c_syntax::place::Place;
+use c_syntax::position::Position;
 use c_syntax::specifiers::{has_typedef, names_one_type};
 use c_syntax::tree::{
     Arguments, Declarator, Enumerator, Expression, Member, Parameters, Specifier, TypedDeclarator,
 };
+use tree_containers::Boxed;
 
 /// Whether it is a well-formed expression (C99 6.5.1 to 6.5.17).
 #[cycle(shapes)]
@@ -104,7 +105,8 @@ fn are_arguments<'r, 'a>(names: &'r [Spelling<'a>], arguments: &'r Arguments<'a>
 /// Whether it is a well-formed assignment expression (C99 6.5.16).
 #[cycle(shapes)]
 pub(crate) fn is_argument<'r, 'a>(names: &'r [Spelling<'a>], argument: &'r Expression<'a>) -> bool
-    ensures { IsTrue result ↔ ((2 ≤ formed.precedence (view.expression_of argument.now)) × formed.IsExpression names.now (view.expression_of argument.now)) }
+    ensures { IsTrue result ↔ ((2 ≤ formed.precedence (view.expression_of argument.now))
+        × formed.IsExpression names.now (view.expression_of argument.now)) }
 {
     2 <= precedence(argument) && is_expression(names, argument)
 }
@@ -113,12 +115,12 @@ pub(crate) fn is_argument<'r, 'a>(names: &'r [Spelling<'a>], argument: &'r Expre
 #[cycle(shapes)]
 fn are_more_arguments<'r, 'a>(
     names: &'r [Spelling<'a>],
-    others: &'r [(Place, Expression<'a>)],
+    others: &'r [(Position, Boxed<Expression<'a>>)],
 ) -> bool
     ensures { IsTrue result ↔ formed.AreMoreArguments names.now (view.more_arguments_in others.now) }
 {
     for (_, argument) in others {
-        if !is_argument(names, argument) {
+        if !is_argument(names, argument.get()) {
             return false;
         }
     }
@@ -134,8 +136,8 @@ fn is_type_name<'r, 'a>(names: &'r [Spelling<'a>], typed: &'r TypedDeclarator<'a
     names_one_type(typed.specifiers.as_slice())
         && is_each_specifier(names, typed.specifiers.as_slice())
         && !has_typedef(typed.specifiers.as_slice())
-        && is_declarator(names, &typed.declarator)
-        && !has_name(&typed.declarator)
+        && is_declarator(names, typed.declarator.get())
+        && !has_name(typed.declarator.get())
 }
 
 /// Whether it is a well-formed parameter (C99 6.7.5.3).
@@ -147,7 +149,7 @@ fn is_parameter<'r, 'a>(names: &'r [Spelling<'a>], typed: &'r TypedDeclarator<'a
     names_one_type(typed.specifiers.as_slice())
         && is_each_specifier(names, typed.specifiers.as_slice())
         && !has_typedef(typed.specifiers.as_slice())
-        && is_declarator(names, &typed.declarator)
+        && is_declarator(names, typed.declarator.get())
 }
 
 /// Whether it is a well-formed declarator, abstract or not (C99 6.7.5, 6.7.6).
@@ -210,7 +212,7 @@ fn are_parameters<'r, 'a>(names: &'r [Spelling<'a>], parameters: &'r Parameters<
 #[cycle(shapes)]
 fn are_more_parameters<'r, 'a>(
     names: &'r [Spelling<'a>],
-    others: &'r [(Place, TypedDeclarator<'a>)],
+    others: &'r [(Position, TypedDeclarator<'a>)],
 ) -> bool
     ensures { IsTrue result ↔ formed.AreMoreParameters names.now (view.more_parameters_in others.now) }
 {
@@ -287,8 +289,8 @@ fn is_member<'r, 'a>(names: &'r [Spelling<'a>], member: &'r Member<'a>) -> bool
     names_one_type(member.specifiers.as_slice())
         && is_each_specifier(names, member.specifiers.as_slice())
         && !has_typedef(member.specifiers.as_slice())
-        && has_name(&member.first)
-        && is_declarator(names, &member.first)
+        && has_name(member.first.get())
+        && is_declarator(names, member.first.get())
         && are_more_declarators(names, member.others.as_slice())
 }
 
@@ -296,12 +298,12 @@ fn is_member<'r, 'a>(names: &'r [Spelling<'a>], member: &'r Member<'a>) -> bool
 #[cycle(shapes)]
 fn are_more_declarators<'r, 'a>(
     names: &'r [Spelling<'a>],
-    others: &'r [(Place, Declarator<'a>)],
+    others: &'r [(Position, Boxed<Declarator<'a>>)],
 ) -> bool
     ensures { IsTrue result ↔ formed.AreMoreDeclarators names.now (view.more_declarators_in others.now) }
 {
     for (_, declarator) in others {
-        if !is_named(names, declarator) {
+        if !is_named(names, declarator.get()) {
             return false;
         }
     }
@@ -327,7 +329,7 @@ fn is_enumerator<'r, 'a>(names: &'r [Spelling<'a>], enumerator: &'r Enumerator<'
 #[cycle(shapes)]
 fn are_more_enumerators<'r, 'a>(
     names: &'r [Spelling<'a>],
-    others: &'r [(Place, Enumerator<'a>)],
+    others: &'r [(Position, Enumerator<'a>)],
 ) -> bool
     ensures { IsTrue result ↔ formed.AreMoreEnumerators names.now (view.more_enumerators_in others.now) }
 {

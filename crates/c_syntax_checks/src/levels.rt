@@ -1,14 +1,15 @@
-//! Whether a tree has no more than some levels of nesting. No function here calls itself more deeply than the levels that
-//! it is given.
+//! Whether a tree has no more than some levels of nesting. No function here calls itself more deeply than the levels
+//! that it is given.
 
 ghost use Rattle.std.specs.Prelude.{IsTrue, ◌↔◌, ◌≤◌};
 ghost use Rattle.c_syntax.specs.Levels as spec;
 ghost use Rattle.c_syntax.specs.View as view;
 
-use c_syntax::place::Place;
+use c_syntax::position::Position;
 use c_syntax::tree::{
     Arguments, Declarator, Enumerator, Expression, Member, Parameters, Specifier, TypedDeclarator,
 };
+use tree_containers::Boxed;
 
 /// Whether an expression has no more levels (C99 6.5).
 #[cycle(levels)]
@@ -70,11 +71,11 @@ fn arguments_fit(arguments: &Arguments, levels: usize) -> bool
 
 /// Whether the arguments behind the first have no more levels.
 #[cycle(levels)]
-fn more_arguments_fit(others: &[(Place, Expression)], levels: usize) -> bool
+fn more_arguments_fit(others: &[(Position, Boxed<Expression>)], levels: usize) -> bool
     ensures { IsTrue result ↔ (spec.more_arguments_levels (view.more_arguments_in others.now) ≤ levels) }
 {
     for (_, argument) in others {
-        if !expression_fits(argument, levels) {
+        if !expression_fits(argument.get(), levels) {
             return false;
         }
     }
@@ -88,7 +89,7 @@ fn typed_fits(typed: &TypedDeclarator, levels: usize) -> bool
     ensures { IsTrue result ↔ (spec.typed_levels (view.typed_of typed.now) ≤ levels) }
 {
     specifiers_fit(typed.specifiers.as_slice(), levels)
-        && declarator_fits(&typed.declarator, levels)
+        && declarator_fits(typed.declarator.get(), levels)
 }
 
 /// Whether a declarator has no more levels (C99 6.7.5).
@@ -132,7 +133,7 @@ fn parameters_fit(parameters: &Parameters, levels: usize) -> bool
 
 /// Whether the parameters behind the first have no more levels.
 #[cycle(levels)]
-fn more_parameters_fit(others: &[(Place, TypedDeclarator)], levels: usize) -> bool
+fn more_parameters_fit(others: &[(Position, TypedDeclarator)], levels: usize) -> bool
     ensures { IsTrue result ↔ (spec.more_parameters_levels (view.more_parameters_in others.now) ≤ levels) }
 {
     for (_, parameter) in others {
@@ -198,17 +199,17 @@ fn member_fits(member: &Member, levels: usize) -> bool
     ensures { IsTrue result ↔ (spec.member_levels (view.member_of member.now) ≤ levels) }
 {
     specifiers_fit(member.specifiers.as_slice(), levels)
-        && declarator_fits(&member.first, levels)
+        && declarator_fits(member.first.get(), levels)
         && more_declarators_fit(member.others.as_slice(), levels)
 }
 
 /// Whether declarators behind commas have no more levels.
 #[cycle(levels)]
-fn more_declarators_fit(others: &[(Place, Declarator)], levels: usize) -> bool
+fn more_declarators_fit(others: &[(Position, Boxed<Declarator>)], levels: usize) -> bool
     ensures { IsTrue result ↔ (spec.more_declarators_levels (view.more_declarators_in others.now) ≤ levels) }
 {
     for (_, declarator) in others {
-        if !declarator_fits(declarator, levels) {
+        if !declarator_fits(declarator.get(), levels) {
             return false;
         }
     }
@@ -228,7 +229,7 @@ fn enumerator_fits(enumerator: &Enumerator, levels: usize) -> bool
 
 /// Whether enumerators behind commas have no more levels.
 #[cycle(levels)]
-fn more_enumerators_fit(others: &[(Place, Enumerator)], levels: usize) -> bool
+fn more_enumerators_fit(others: &[(Position, Enumerator)], levels: usize) -> bool
     ensures { IsTrue result ↔ (spec.more_enumerators_levels (view.more_enumerators_in others.now) ≤ levels) }
 {
     for (_, enumerator) in others {

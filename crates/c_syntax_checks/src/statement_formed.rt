@@ -16,11 +16,12 @@ use c_syntax::declaration::{
 use c_syntax::declarators::defines_function;
 use c_syntax::names::declared_name;
 use c_syntax::operators::precedence;
-use c_syntax::place::Place;
+use c_syntax::position::Position;
 use c_syntax::specifiers::has_typedef;
 use c_syntax::statement::{Block, BlockItem, External, ForInit, Statement, Unit, ends_open};
 use c_syntax::tree::{Declarator, Expression, Specifier};
 use std::alloc::{AllocError, Global};
+use tree_containers::Boxed;
 
 /// How many levels of nesting each part of a file may have.
 const LEVELS: usize = 200;
@@ -56,7 +57,9 @@ fn is_designator<'r, 'a>(names: &'r [Spelling<'a>], designator: &'r Designator<'
     ensures { IsTrue result ↔ formed.AreDesignators names.now (views.designator_of designator.now ∷ []) }
 {
     match designator {
-        Designator::Element(_, index, _) => 3 <= precedence(index) && is_expression(names, index),
+        Designator::Element(_, index, _) => {
+            3 <= precedence(index.get()) && is_expression(names, index.get())
+        }
         Designator::Member(_, _) => true,
     }
 }
@@ -84,7 +87,7 @@ fn is_initializer<'r, 'a>(names: &'r [Spelling<'a>], initializer: &'r Initialize
     ensures { IsTrue result ↔ formed.IsInitializer names.now (views.initializer_of initializer.now) }
 {
     match initializer {
-        Initializer::Value(expression) => is_argument(names, expression),
+        Initializer::Value(value) => is_argument(names, value.expression.get()),
         Initializer::Braced(_, first, others, _, _) => {
             is_item(names, first.get()) && are_more_items(names, others.as_slice())
         }
@@ -104,7 +107,7 @@ fn is_item<'r, 'a>(names: &'r [Spelling<'a>], item: &'r InitializerItem<'a>) -> 
 #[cycle(initializers)]
 fn are_more_items<'r, 'a>(
     names: &'r [Spelling<'a>],
-    others: &'r [(Place, InitializerItem<'a>)],
+    others: &'r [(Position, InitializerItem<'a>)],
 ) -> bool
     ensures { IsTrue result ↔ formed.AreMoreItems names.now (views.more_items_in others.now) }
 {
@@ -130,14 +133,14 @@ fn is_whole<'r, 'a>(
 /// Whether an expression, if there is one, is well formed and has no more levels.
 fn is_optional<'r, 'a>(
     names: &'r [Spelling<'a>],
-    expression: &'r Option<Expression<'a>>,
+    expression: &'r Option<Boxed<Expression<'a>>>,
     levels: usize,
 ) -> bool
     ensures { IsTrue result ↔ formed.IsOptional levels names.now (views.optional_of expression.now) }
 {
     match expression {
         None => true,
-        Some(expression) => is_whole(names, expression, levels),
+        Some(expression) => is_whole(names, expression.get(), levels),
     }
 }
 
@@ -166,7 +169,7 @@ fn is_declared<'r, 'a>(
 /// Whether an initializer behind a declarator, if there is one, is well formed and has no more levels (C99 6.7.8).
 fn is_initialized<'r, 'a>(
     names: &'r [Spelling<'a>],
-    initializer: &'r Option<(Place, Initializer<'a>)>,
+    initializer: &'r Option<(Position, Boxed<Initializer<'a>>)>,
     levels: usize,
 ) -> bool
     ensures { IsTrue result ↔ formed.IsInitialized levels names.now (views.initialized_of initializer.now) }
@@ -174,7 +177,7 @@ fn is_initialized<'r, 'a>(
     match initializer {
         None => true,
         Some((_, initializer)) => {
-            initializer_fits(initializer, levels) && is_initializer(names, initializer)
+            initializer_fits(initializer.get(), levels) && is_initializer(names, initializer.get())
         }
     }
 }
@@ -187,17 +190,18 @@ fn is_local_declarator<'r, 'a>(
 ) -> bool
     ensures { IsTrue result ↔ formed.IsInitDeclarator levels false names.now (views.init_declarator_of declared.now) }
 {
-    is_declared(names, &declared.declarator, levels)
+    is_declared(names, declared.declarator.get(), levels)
         && is_initialized(names, &declared.initializer, levels)
 }
 
 /// Whether the declarators behind the first are well formed in a function.
 fn are_more_local_declarators<'r, 'a>(
     names: &'r [Spelling<'a>],
-    others: &'r [(Place, InitDeclarator<'a>)],
+    others: &'r [(Position, InitDeclarator<'a>)],
     levels: usize,
 ) -> bool
-    ensures { IsTrue result ↔ formed.AreMoreInitDeclarators levels false names.now (views.more_init_declarators_in others.now) }
+    ensures { IsTrue result ↔ formed.AreMoreInitDeclarators levels false names.now
+        (views.more_init_declarators_in others.now) }
 {
     for (_, declared) in others {
         if !is_local_declarator(names, declared, levels) {
@@ -210,14 +214,16 @@ fn are_more_local_declarators<'r, 'a>(
 /// Whether the declarators of a declaration in a function are well formed.
 fn are_local_declarators<'r, 'a>(
     names: &'r [Spelling<'a>],
-    declarators: &'r Option<InitDeclarators<'a>>,
+    declarators: &'r Option<Boxed<InitDeclarators<'a>>>,
     levels: usize,
 ) -> bool
-    ensures { IsTrue result ↔ formed.AreInitDeclarators levels false names.now (views.init_declarators_of declarators.now) }
+    ensures { IsTrue result ↔ formed.AreInitDeclarators levels false names.now
+        (views.init_declarators_of declarators.now) }
 {
     match declarators {
         None => true,
         Some(declarators) => {
+            let declarators = declarators.get();
             is_local_declarator(names, &declarators.first, levels)
                 && are_more_local_declarators(names, declarators.others.as_slice(), levels)
         }
@@ -262,30 +268,32 @@ fn is_statement<'r, 'a>(
         Statement::Expression(expression, _) | Statement::Return(_, expression, _) => {
             is_optional(names, expression, levels)
         }
-        Statement::If(_, _, condition, _, inner) | Statement::While(_, _, condition, _, inner) => {
-            is_whole(names, condition, levels) && is_statement(names, inner.get(), levels)
+        Statement::If(_, condition, inner) | Statement::While(_, condition, inner) => {
+            is_whole(names, condition.inner.get(), levels)
+                && is_statement(names, inner.get(), levels)
         }
-        Statement::IfElse(_, _, condition, _, first, _, second) => {
+        Statement::IfElse(_, condition, first, _, second) => {
             !ends_open(first.get())
-                && is_whole(names, condition, levels)
+                && is_whole(names, condition.inner.get(), levels)
                 && is_statement(names, first.get(), levels)
                 && is_statement(names, second.get(), levels)
         }
-        Statement::Switch(_, _, value, _, block) => {
-            is_whole(names, value, levels) && is_block(names, block, levels)
+        Statement::Switch(_, value, block) => {
+            is_whole(names, value.inner.get(), levels) && is_block(names, block, levels)
         }
-        Statement::Do(_, inner, _, _, condition, _, _) => {
-            is_statement(names, inner.get(), levels) && is_whole(names, condition, levels)
+        Statement::Do(_, inner, end) => {
+            is_statement(names, inner.get(), levels)
+                && is_whole(names, end.condition.inner.get(), levels)
         }
-        Statement::For(_, _, init, condition, _, step, _, inner) => {
-            is_for_init(names, init, levels)
-                && is_optional(names, condition, levels)
-                && is_optional(names, step, levels)
+        Statement::For(_, head, inner) => {
+            is_for_init(names, &head.init, levels)
+                && is_optional(names, &head.condition, levels)
+                && is_optional(names, &head.step, levels)
                 && is_statement(names, inner.get(), levels)
         }
-        Statement::Case(_, value, _, inner) => {
-            3 <= precedence(value)
-                && is_whole(names, value, levels)
+        Statement::Case(label, inner) => {
+            3 <= precedence(label.value.get())
+                && is_whole(names, label.value.get(), levels)
                 && is_statement(names, inner.get(), levels)
         }
         Statement::Default(_, _, inner) => is_statement(names, inner.get(), levels),
@@ -321,7 +329,7 @@ fn is_block_item<'r, 'a>(names: &'r [Spelling<'a>], item: &'r BlockItem<'a>, lev
 {
     match item {
         BlockItem::Declaration(declaration) => is_local(names, declaration, levels),
-        BlockItem::Statement(statement) => is_statement(names, statement, levels),
+        BlockItem::Statement(statement) => is_statement(names, statement.get(), levels),
     }
 }
 
@@ -330,7 +338,8 @@ fn add_declared<'a>(
     names: &mut Vec<Spelling<'a>>,
     declarator: &Declarator<'a>,
 ) -> Result<(), AllocError>
-    ensures { OnOk result (names.new.items ≡ formed.with_declared (formed.declared (view.declarator_of declarator.now)) names.old.items) }
+    ensures { OnOk result (names.new.items ≡ formed.with_declared (formed.declared (view.declarator_of declarator.now))
+        names.old.items) }
 {
     match declared_name(declarator) {
         None => Ok(()),
@@ -347,7 +356,8 @@ fn add_name<'a>(
     is_typedef: bool,
     declarator: &Declarator<'a>,
 ) -> Result<(), AllocError>
-    ensures { OnOk result (names.new.items ≡ formed.names_after is_typedef (view.declarator_of declarator.now) names.old.items) }
+    ensures { OnOk result (names.new.items ≡ formed.names_after is_typedef (view.declarator_of declarator.now)
+        names.old.items) }
 {
     if is_typedef {
         add_declared(names, declarator)
@@ -364,26 +374,30 @@ fn is_init_declarator<'a>(
     declared: &InitDeclarator<'a>,
     levels: usize,
 ) -> Result<bool, AllocError>
-    ensures answer { IfOk result (λ b. IsTrue b ↔ formed.IsInitDeclarator levels is_typedef names.old.items (views.init_declarator_of declared.now)) }
-    ensures names { IfOk result (λ b. IsTrue b → names.new.items ≡ formed.names_after is_typedef (view.declarator_of declared.now.declarator) names.old.items) }
+    ensures answer { IfOk result (λ b. IsTrue b ↔ formed.IsInitDeclarator levels is_typedef names.old.items
+        (views.init_declarator_of declared.now)) }
+    ensures names { IfOk result (λ b. IsTrue b → names.new.items
+        ≡ formed.names_after is_typedef (view.declarator_of declared.now.declarator) names.old.items) }
 {
-    if !is_declared(names.as_slice(), &declared.declarator, levels) {
+    if !is_declared(names.as_slice(), declared.declarator.get(), levels) {
         return Ok(false);
     }
-    add_name(names, is_typedef, &declared.declarator)?;
+    add_name(names, is_typedef, declared.declarator.get())?;
     Ok(is_initialized(names.as_slice(), &declared.initializer, levels))
 }
 
-/// Whether the declarators behind the first are well formed at file scope. Where they are, their names have been added to
-/// the typedef names, if they are a typedef's. An error: no memory for them.
+/// Whether the declarators behind the first are well formed at file scope. Where they are, their names have been added
+/// to the typedef names, if they are a typedef's. An error: no memory for them.
 fn are_more_init_declarators<'a>(
     names: &mut Vec<Spelling<'a>>,
     is_typedef: bool,
-    others: &[(Place, InitDeclarator<'a>)],
+    others: &[(Position, InitDeclarator<'a>)],
     levels: usize,
 ) -> Result<bool, AllocError>
-    ensures answer { IfOk result (λ b. IsTrue b ↔ formed.AreMoreInitDeclarators levels is_typedef names.old.items (views.more_init_declarators_in others.now)) }
-    ensures names { IfOk result (λ b. IsTrue b → names.new.items ≡ formed.names_after_more is_typedef (views.more_init_declarators_in others.now) names.old.items) }
+    ensures answer { IfOk result (λ b. IsTrue b ↔ formed.AreMoreInitDeclarators levels is_typedef names.old.items
+        (views.more_init_declarators_in others.now)) }
+    ensures names { IfOk result (λ b. IsTrue b → names.new.items
+        ≡ formed.names_after_more is_typedef (views.more_init_declarators_in others.now) names.old.items) }
 {
     for (_, declared) in others {
         if !is_init_declarator(names, is_typedef, declared, levels)? {
@@ -393,37 +407,46 @@ fn are_more_init_declarators<'a>(
     Ok(true)
 }
 
-/// Whether the declarators of a declaration at file scope are well formed. Where they are, their names have been added to
-/// the typedef names, if they are a typedef's. An error: no memory for them.
+/// Whether the declarators of a declaration at file scope are well formed. Where they are, their names have been added
+/// to the typedef names, if they are a typedef's. An error: no memory for them.
 fn are_init_declarators<'a>(
     names: &mut Vec<Spelling<'a>>,
     is_typedef: bool,
-    declarators: &Option<InitDeclarators<'a>>,
+    declarators: &Option<Boxed<InitDeclarators<'a>>>,
     levels: usize,
 ) -> Result<bool, AllocError>
-    ensures answer { IfOk result (λ b. IsTrue b ↔ formed.AreInitDeclarators levels is_typedef names.old.items (views.init_declarators_of declarators.now)) }
-    ensures names { IfOk result (λ b. IsTrue b → names.new.items ≡ formed.names_after_all is_typedef (views.init_declarators_of declarators.now) names.old.items) }
+    ensures answer { IfOk result (λ b. IsTrue b ↔ formed.AreInitDeclarators levels is_typedef names.old.items
+        (views.init_declarators_of declarators.now)) }
+    ensures names { IfOk result (λ b. IsTrue b → names.new.items
+        ≡ formed.names_after_all is_typedef (views.init_declarators_of declarators.now) names.old.items) }
 {
     match declarators {
         None => Ok(true),
         Some(declarators) => {
-            if !is_init_declarator(names, is_typedef, &declarators.first, levels)? {
+            if !is_init_declarator(names, is_typedef, &declarators.get().first, levels)? {
                 return Ok(false);
             }
-            are_more_init_declarators(names, is_typedef, declarators.others.as_slice(), levels)
+            are_more_init_declarators(
+                names,
+                is_typedef,
+                declarators.get().others.as_slice(),
+                levels,
+            )
         }
     }
 }
 
-/// Whether a declaration at file scope is well formed. Where it is, its names have been added to the typedef names, if it
-/// is a typedef. An error: no memory for them.
+/// Whether a declaration at file scope is well formed. Where it is, its names have been added to the typedef names, if
+/// it is a typedef. An error: no memory for them.
 fn is_declaration<'a>(
     names: &mut Vec<Spelling<'a>>,
     declaration: &Declaration<'a>,
     levels: usize,
 ) -> Result<bool, AllocError>
-    ensures answer { IfOk result (λ b. IsTrue b ↔ formed.IsDeclaration levels names.old.items (views.declaration_of declaration.now)) }
-    ensures names { IfOk result (λ b. IsTrue b → names.new.items ≡ formed.names_after_declaration (views.declaration_of declaration.now) names.old.items) }
+    ensures answer { IfOk result (λ b. IsTrue b ↔ formed.IsDeclaration levels names.old.items
+        (views.declaration_of declaration.now)) }
+    ensures names { IfOk result (λ b. IsTrue b → names.new.items
+        ≡ formed.names_after_declaration (views.declaration_of declaration.now) names.old.items) }
 {
     if !begin_declaration(names.as_slice(), declaration.specifiers.as_slice(), levels) {
         return Ok(false);
@@ -439,7 +462,9 @@ fn begin_definition<'r, 'a>(
     declarator: &'r Declarator<'a>,
     levels: usize,
 ) -> bool
-    ensures { IsTrue result ↔ (formed.BeginDeclaration levels names.now (view.specifiers_in specifiers.now) × formed.IsDeclared levels names.now (view.declarator_of declarator.now) × (formed.defines_function (view.declarator_of declarator.now) ≡ true)) }
+    ensures { IsTrue result ↔ (formed.BeginDeclaration levels names.now (view.specifiers_in specifiers.now)
+        × formed.IsDeclared levels names.now (view.declarator_of declarator.now)
+        × (formed.defines_function (view.declarator_of declarator.now) ≡ true)) }
 {
     begin_declaration(names, specifiers, levels)
         && is_declared(names, declarator, levels)
@@ -453,29 +478,37 @@ fn is_external<'a>(
     external: &External<'a>,
     levels: usize,
 ) -> Result<bool, AllocError>
-    ensures answer { IfOk result (λ b. IsTrue b ↔ formed.IsExternal levels names.old.items (views.external_of external.now)) }
-    ensures names { IfOk result (λ b. IsTrue b → names.new.items ≡ formed.names_after_external (views.external_of external.now) names.old.items) }
+    ensures answer { IfOk result (λ b. IsTrue b ↔ formed.IsExternal levels names.old.items
+        (views.external_of external.now)) }
+    ensures names { IfOk result (λ b. IsTrue b → names.new.items
+        ≡ formed.names_after_external (views.external_of external.now) names.old.items) }
 {
     match external {
         External::Function(specifiers, declarator, block) => {
-            if !begin_definition(names.as_slice(), specifiers.as_slice(), declarator, levels) {
+            if !begin_definition(
+                names.as_slice(),
+                specifiers.as_slice(),
+                declarator.get(),
+                levels,
+            ) {
                 return Ok(false);
             }
-            add_name(names, has_typedef(specifiers.as_slice()), declarator)?;
+            add_name(names, has_typedef(specifiers.as_slice()), declarator.get())?;
             Ok(block_fits(block, levels) && is_block(names.as_slice(), block, levels))
         }
         External::Declaration(declaration) => is_declaration(names, declaration, levels),
     }
 }
 
-/// Whether function definitions and declarations are well formed, each with the typedef names that those before it leave
-/// (C99 6.9). An error: no memory for the names.
+/// Whether function definitions and declarations are well formed, each with the typedef names that those before it
+/// leave (C99 6.9). An error: no memory for the names.
 fn are_externals<'a>(
     names: &mut Vec<Spelling<'a>>,
     externals: &[External<'a>],
     levels: usize,
 ) -> Result<bool, AllocError>
-    ensures { IfOk result (λ b. IsTrue b ↔ formed.AreExternals levels names.old.items (views.externals_in externals.now)) }
+    ensures { IfOk result (λ b. IsTrue b ↔ formed.AreExternals levels names.old.items
+        (views.externals_in externals.now)) }
 {
     for external in externals {
         if !is_external(names, external, levels)? {
@@ -485,8 +518,8 @@ fn are_externals<'a>(
     Ok(true)
 }
 
-/// Whether a file is well formed, with at most 200 levels of nesting in each of its parts (C99 6.5 to 6.9), or the answer
-/// that there is no memory for its typedef names.
+/// Whether a file is well formed, with at most 200 levels of nesting in each of its parts (C99 6.5 to 6.9), or the
+/// answer that there is no memory for its typedef names.
 pub fn well_formed(alloc: Global, unit: &Unit) -> Result<bool, AllocError>
     ensures { IfOk result (λ b. IsTrue b ↔ formed.IsWellFormed (views.unit_of unit.now)) }
 {

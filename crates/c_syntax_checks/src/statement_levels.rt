@@ -6,7 +6,7 @@ ghost use Rattle.c_syntax.specs.StatementsView as views;
 
 use crate::levels::expression_fits;
 use c_syntax::declaration::{Designation, Designator, Initializer, InitializerItem};
-use c_syntax::place::Place;
+use c_syntax::position::Position;
 use c_syntax::statement::{Block, BlockItem, Statement};
 
 /// Whether the sizes in designators have no more levels (C99 6.7.8).
@@ -26,7 +26,7 @@ fn designator_fits(designator: &Designator, levels: usize) -> bool
     ensures { IsTrue result ↔ (spec.designators_levels (views.designator_of designator.now ∷ []) ≤ levels) }
 {
     match designator {
-        Designator::Element(_, index, _) => expression_fits(index, levels),
+        Designator::Element(_, index, _) => expression_fits(index.get(), levels),
         Designator::Member(_, _) => true,
     }
 }
@@ -48,7 +48,7 @@ pub(crate) fn initializer_fits(initializer: &Initializer, levels: usize) -> bool
     ensures { IsTrue result ↔ (spec.initializer_levels (views.initializer_of initializer.now) ≤ levels) }
 {
     match initializer {
-        Initializer::Value(expression) => expression_fits(expression, levels),
+        Initializer::Value(value) => expression_fits(value.expression.get(), levels),
         Initializer::Braced(_, first, others, _, _) => {
             levels > 0
                 && item_fits(first.get(), levels - 1)
@@ -68,7 +68,7 @@ fn item_fits(item: &InitializerItem, levels: usize) -> bool
 
 /// Whether initializers behind commas have no more levels.
 #[cycle(initializers)]
-fn more_items_fit(others: &[(Place, InitializerItem)], levels: usize) -> bool
+fn more_items_fit(others: &[(Position, InitializerItem)], levels: usize) -> bool
     ensures { IsTrue result ↔ (spec.more_items_levels (views.more_items_in others.now) ≤ levels) }
 {
     for (_, item) in others {
@@ -90,20 +90,20 @@ fn statement_fits(statement: &Statement, levels: usize) -> bool
         | Statement::Break(_, _)
         | Statement::Continue(_, _)
         | Statement::Return(_, _, _) => true,
-        Statement::If(_, _, _, _, inner)
-        | Statement::While(_, _, _, _, inner)
-        | Statement::Do(_, inner, _, _, _, _, _)
-        | Statement::For(_, _, _, _, _, _, _, inner)
-        | Statement::Case(_, _, _, inner)
+        Statement::If(_, _, inner)
+        | Statement::While(_, _, inner)
+        | Statement::Do(_, inner, _)
+        | Statement::For(_, _, inner)
+        | Statement::Case(_, inner)
         | Statement::Default(_, _, inner) => {
             levels > 0 && statement_fits(inner.get(), levels - 1)
         }
-        Statement::IfElse(_, _, _, _, first, _, second) => {
+        Statement::IfElse(_, _, first, _, second) => {
             levels > 0
                 && statement_fits(first.get(), levels - 1)
                 && statement_fits(second.get(), levels - 1)
         }
-        Statement::Switch(_, _, _, _, block) => levels > 0 && block_fits(block, levels - 1),
+        Statement::Switch(_, _, block) => levels > 0 && block_fits(block, levels - 1),
     }
 }
 
@@ -136,6 +136,8 @@ fn block_item_fits(item: &BlockItem, levels: usize) -> bool
 {
     match item {
         BlockItem::Declaration(_) => true,
-        BlockItem::Statement(statement) => levels > 0 && statement_fits(statement, levels - 1),
+        BlockItem::Statement(statement) => {
+            levels > 0 && statement_fits(statement.get(), levels - 1)
+        },
     }
 }

@@ -15,17 +15,21 @@ use c_lexer::{Keyword, Punctuator};
 use c_syntax::declaration::{
     Declaration, Designation, Designator, InitDeclarator, Initializer, InitializerItem,
 };
-use c_syntax::place::{Place, Placed};
-use c_syntax::statement::{Block, BlockItem, External, ForInit, Statement, Unit};
+use c_syntax::position::{Position, Positioned};
+use c_syntax::statement::{
+    Block, BlockItem, External, ForHead, ForInit, Parenthesized, Statement, Unit,
+};
 use c_syntax::tree::Expression;
 use std::alloc::{AllocError, Global};
+use tree_containers::Boxed;
 
 /// Puts the words of designators (C99 6.7.8).
 fn put_designators<'a>(
-    out: &mut Vec<Placed<'a>>,
+    out: &mut Vec<Positioned<'a>>,
     designators: &[Designator<'a>],
 ) -> Result<(), AllocError>
-    ensures { OnOk result ((i : spec.Words) → out.new.items ++ i ≡ out.old.items ++ spec.designators_words (views.designators_in designators.now) i) }
+    ensures { OnOk result ((i : spec.Words) → out.new.items ++ i ≡ out.old.items
+        ++ spec.designators_words (views.designators_in designators.now) i) }
 {
     for designator in designators {
         put_designator(out, designator)?;
@@ -35,19 +39,20 @@ fn put_designators<'a>(
 
 /// Puts the words of a designator.
 fn put_designator<'a>(
-    out: &mut Vec<Placed<'a>>,
+    out: &mut Vec<Positioned<'a>>,
     designator: &Designator<'a>,
 ) -> Result<(), AllocError>
-    ensures { OnOk result ((i : spec.Words) → out.new.items ++ i ≡ out.old.items ++ spec.designator_words (views.designator_of designator.now) i) }
+    ensures { OnOk result ((i : spec.Words) → out.new.items ++ i ≡ out.old.items
+        ++ spec.designator_words (views.designator_of designator.now) i) }
 {
     match designator {
         Designator::Element(left, index, right) => {
             put_punctuator(out, Punctuator::LeftBracket, *left)?;
-            put_expression(out, index)?;
+            put_expression(out, index.get())?;
             put_punctuator(out, Punctuator::RightBracket, *right)
         }
-        Designator::Member(place, name) => {
-            put_punctuator(out, Punctuator::Dot, *place)?;
+        Designator::Member(position, name) => {
+            put_punctuator(out, Punctuator::Dot, *position)?;
             put_identifier(out, name)
         }
     }
@@ -55,10 +60,11 @@ fn put_designator<'a>(
 
 /// Puts designators and their `=`, if there are any.
 fn put_designation<'a>(
-    out: &mut Vec<Placed<'a>>,
+    out: &mut Vec<Positioned<'a>>,
     designation: &Option<Designation<'a>>,
 ) -> Result<(), AllocError>
-    ensures { OnOk result ((i : spec.Words) → out.new.items ++ i ≡ out.old.items ++ spec.designation_words (views.designation_of designation.now) i) }
+    ensures { OnOk result ((i : spec.Words) → out.new.items ++ i ≡ out.old.items
+        ++ spec.designation_words (views.designation_of designation.now) i) }
 {
     let Some(designation) = designation else {
         return Ok(());
@@ -70,13 +76,14 @@ fn put_designation<'a>(
 /// Puts the words of an initializer (C99 6.7.8).
 #[cycle(initializers)]
 fn put_initializer<'a>(
-    out: &mut Vec<Placed<'a>>,
+    out: &mut Vec<Positioned<'a>>,
     initializer: &Initializer<'a>,
 ) -> Result<(), AllocError>
-    ensures { OnOk result ((i : spec.Words) → out.new.items ++ i ≡ out.old.items ++ spec.initializer_words (views.initializer_of initializer.now) i) }
+    ensures { OnOk result ((i : spec.Words) → out.new.items ++ i ≡ out.old.items
+        ++ spec.initializer_words (views.initializer_of initializer.now) i) }
 {
     match initializer {
-        Initializer::Value(expression) => put_expression(out, expression),
+        Initializer::Value(value) => put_expression(out, value.expression.get()),
         Initializer::Braced(left, first, others, comma, right) => {
             put_punctuator(out, Punctuator::LeftBrace, *left)?;
             put_item(out, first.get())?;
@@ -89,8 +96,9 @@ fn put_initializer<'a>(
 
 /// Puts the words of an initializer in a list.
 #[cycle(initializers)]
-fn put_item<'a>(out: &mut Vec<Placed<'a>>, item: &InitializerItem<'a>) -> Result<(), AllocError>
-    ensures { OnOk result ((i : spec.Words) → out.new.items ++ i ≡ out.old.items ++ spec.item_words (views.item_of item.now) i) }
+fn put_item<'a>(out: &mut Vec<Positioned<'a>>, item: &InitializerItem<'a>) -> Result<(), AllocError>
+    ensures { OnOk result ((i : spec.Words) → out.new.items ++ i ≡ out.old.items
+        ++ spec.item_words (views.item_of item.now) i) }
 {
     put_designation(out, &item.designation)?;
     put_initializer(out, &item.initializer)
@@ -99,10 +107,11 @@ fn put_item<'a>(out: &mut Vec<Placed<'a>>, item: &InitializerItem<'a>) -> Result
 /// Puts the words of initializers behind commas.
 #[cycle(initializers)]
 fn put_more_items<'a>(
-    out: &mut Vec<Placed<'a>>,
-    others: &[(Place, InitializerItem<'a>)],
+    out: &mut Vec<Positioned<'a>>,
+    others: &[(Position, InitializerItem<'a>)],
 ) -> Result<(), AllocError>
-    ensures { OnOk result ((i : spec.Words) → out.new.items ++ i ≡ out.old.items ++ spec.more_items_words (views.more_items_in others.now) i) }
+    ensures { OnOk result ((i : spec.Words) → out.new.items ++ i ≡ out.old.items
+        ++ spec.more_items_words (views.more_items_in others.now) i) }
 {
     for (comma, item) in others {
         put_punctuator(out, Punctuator::Comma, *comma)?;
@@ -113,27 +122,29 @@ fn put_more_items<'a>(
 
 /// Puts the words of a declarator and its initializer (C99 6.7).
 fn put_init_declarator<'a>(
-    out: &mut Vec<Placed<'a>>,
+    out: &mut Vec<Positioned<'a>>,
     declared: &InitDeclarator<'a>,
 ) -> Result<(), AllocError>
-    ensures { OnOk result ((i : spec.Words) → out.new.items ++ i ≡ out.old.items ++ spec.init_declarator_words (views.init_declarator_of declared.now) i) }
+    ensures { OnOk result ((i : spec.Words) → out.new.items ++ i ≡ out.old.items
+        ++ spec.init_declarator_words (views.init_declarator_of declared.now) i) }
 {
-    put_declarator(out, &declared.declarator)?;
+    put_declarator(out, declared.declarator.get())?;
     match &declared.initializer {
         None => Ok(()),
         Some((equals, initializer)) => {
             put_punctuator(out, Punctuator::Assign, *equals)?;
-            put_initializer(out, initializer)
+            put_initializer(out, initializer.get())
         }
     }
 }
 
 /// Puts the words of declarators with initializers behind commas.
 fn put_more_init_declarators<'a>(
-    out: &mut Vec<Placed<'a>>,
-    others: &[(Place, InitDeclarator<'a>)],
+    out: &mut Vec<Positioned<'a>>,
+    others: &[(Position, InitDeclarator<'a>)],
 ) -> Result<(), AllocError>
-    ensures { OnOk result ((i : spec.Words) → out.new.items ++ i ≡ out.old.items ++ spec.more_init_declarators_words (views.more_init_declarators_in others.now) i) }
+    ensures { OnOk result ((i : spec.Words) → out.new.items ++ i ≡ out.old.items
+        ++ spec.more_init_declarators_words (views.more_init_declarators_in others.now) i) }
 {
     for (comma, declared) in others {
         put_punctuator(out, Punctuator::Comma, *comma)?;
@@ -144,13 +155,15 @@ fn put_more_init_declarators<'a>(
 
 /// Puts the words of a declaration (C99 6.7).
 fn put_declaration<'a>(
-    out: &mut Vec<Placed<'a>>,
+    out: &mut Vec<Positioned<'a>>,
     declaration: &Declaration<'a>,
 ) -> Result<(), AllocError>
-    ensures { OnOk result ((i : spec.Words) → out.new.items ++ i ≡ out.old.items ++ spec.declaration_words (views.declaration_of declaration.now) i) }
+    ensures { OnOk result ((i : spec.Words) → out.new.items ++ i ≡ out.old.items
+        ++ spec.declaration_words (views.declaration_of declaration.now) i) }
 {
     put_specifiers(out, declaration.specifiers.as_slice())?;
     if let Some(declarators) = &declaration.declarators {
+        let declarators = declarators.get();
         put_init_declarator(out, &declarators.first)?;
         put_more_init_declarators(out, declarators.others.as_slice())?;
     }
@@ -159,37 +172,40 @@ fn put_declaration<'a>(
 
 /// Puts the words of an expression, if there is one.
 fn put_optional<'a>(
-    out: &mut Vec<Placed<'a>>,
-    expression: &Option<Expression<'a>>,
+    out: &mut Vec<Positioned<'a>>,
+    expression: &Option<Boxed<Expression<'a>>>,
 ) -> Result<(), AllocError>
-    ensures { OnOk result ((i : spec.Words) → out.new.items ++ i ≡ out.old.items ++ spec.optional_words (views.optional_of expression.now) i) }
+    ensures { OnOk result ((i : spec.Words) → out.new.items ++ i ≡ out.old.items
+        ++ spec.optional_words (views.optional_of expression.now) i) }
 {
     match expression {
         None => Ok(()),
-        Some(expression) => put_expression(out, expression),
+        Some(expression) => put_expression(out, expression.get()),
     }
 }
 
 /// Puts a keyword and an expression in parentheses.
 fn put_condition<'a>(
-    out: &mut Vec<Placed<'a>>,
+    out: &mut Vec<Positioned<'a>>,
     keyword: Keyword,
-    place: Place,
-    left: Place,
-    condition: &Expression<'a>,
-    right: Place,
+    position: Position,
+    condition: &Parenthesized<'a>,
 ) -> Result<(), AllocError>
-    ensures { OnOk result ((i : spec.Words) → out.new.items ++ i ≡ out.old.items ++ (spec.keyword keyword place ∷ spec.punctuator punctuators.LeftParenthesis left ∷ spec.expression_words (view.expression_of condition.now) (spec.punctuator punctuators.RightParenthesis right ∷ i))) }
+    ensures { OnOk result ((i : spec.Words) → out.new.items ++ i ≡ out.old.items
+        ++ (spec.keyword keyword position ∷ spec.punctuator punctuators.LeftParenthesis condition.now.left
+        ∷ spec.expression_words (view.expression_of condition.now.inner)
+        (spec.punctuator punctuators.RightParenthesis condition.now.right ∷ i))) }
 {
-    put_keyword(out, keyword, place)?;
-    put_punctuator(out, Punctuator::LeftParenthesis, left)?;
-    put_expression(out, condition)?;
-    put_punctuator(out, Punctuator::RightParenthesis, right)
+    put_keyword(out, keyword, position)?;
+    put_punctuator(out, Punctuator::LeftParenthesis, condition.left)?;
+    put_expression(out, condition.inner.get())?;
+    put_punctuator(out, Punctuator::RightParenthesis, condition.right)
 }
 
 /// Puts the first part of the head of a `for`, with its semicolon (C99 6.8.5.3).
-fn put_for_init<'a>(out: &mut Vec<Placed<'a>>, init: &ForInit<'a>) -> Result<(), AllocError>
-    ensures { OnOk result ((i : spec.Words) → out.new.items ++ i ≡ out.old.items ++ spec.for_init_words (views.for_init_of init.now) i) }
+fn put_for_init<'a>(out: &mut Vec<Positioned<'a>>, init: &ForInit<'a>) -> Result<(), AllocError>
+    ensures { OnOk result ((i : spec.Words) → out.new.items ++ i ≡ out.old.items
+        ++ spec.for_init_words (views.for_init_of init.now) i) }
 {
     match init {
         ForInit::Declaration(declaration) => put_declaration(out, declaration),
@@ -201,25 +217,27 @@ fn put_for_init<'a>(out: &mut Vec<Placed<'a>>, init: &ForInit<'a>) -> Result<(),
 }
 
 /// Puts the condition and the step of a `for`, with the semicolon and the parenthesis behind them.
-fn put_for_rest<'a>(
-    out: &mut Vec<Placed<'a>>,
-    condition: &Option<Expression<'a>>,
-    semicolon: Place,
-    step: &Option<Expression<'a>>,
-    right: Place,
-) -> Result<(), AllocError>
-    ensures { OnOk result ((i : spec.Words) → out.new.items ++ i ≡ out.old.items ++ spec.optional_words (views.optional_of condition.now) (spec.punctuator punctuators.Semicolon semicolon ∷ spec.optional_words (views.optional_of step.now) (spec.punctuator punctuators.RightParenthesis right ∷ i))) }
+fn put_for_rest<'a>(out: &mut Vec<Positioned<'a>>, head: &ForHead<'a>) -> Result<(), AllocError>
+    ensures { OnOk result ((i : spec.Words) → out.new.items ++ i ≡ out.old.items
+        ++ spec.optional_words (views.optional_of head.now.condition)
+        (spec.punctuator punctuators.Semicolon head.now.semicolon
+        ∷ spec.optional_words (views.optional_of head.now.step) (spec.punctuator punctuators.RightParenthesis
+        head.now.right ∷ i))) }
 {
-    put_optional(out, condition)?;
-    put_punctuator(out, Punctuator::Semicolon, semicolon)?;
-    put_optional(out, step)?;
-    put_punctuator(out, Punctuator::RightParenthesis, right)
+    put_optional(out, &head.condition)?;
+    put_punctuator(out, Punctuator::Semicolon, head.semicolon)?;
+    put_optional(out, &head.step)?;
+    put_punctuator(out, Punctuator::RightParenthesis, head.right)
 }
 
 /// Puts the words of a statement (C99 6.8).
 #[cycle(statements)]
-fn put_statement<'a>(out: &mut Vec<Placed<'a>>, statement: &Statement<'a>) -> Result<(), AllocError>
-    ensures { OnOk result ((i : spec.Words) → out.new.items ++ i ≡ out.old.items ++ spec.statement_words (views.statement_of statement.now) i) }
+fn put_statement<'a>(
+    out: &mut Vec<Positioned<'a>>,
+    statement: &Statement<'a>,
+) -> Result<(), AllocError>
+    ensures { OnOk result ((i : spec.Words) → out.new.items ++ i ≡ out.old.items
+        ++ spec.statement_words (views.statement_of statement.now) i) }
 {
     match statement {
         Statement::Block(block) => put_block(out, block),
@@ -227,58 +245,58 @@ fn put_statement<'a>(out: &mut Vec<Placed<'a>>, statement: &Statement<'a>) -> Re
             put_optional(out, expression)?;
             put_punctuator(out, Punctuator::Semicolon, *semicolon)
         }
-        Statement::If(place, left, condition, right, inner) => {
-            put_condition(out, Keyword::If, *place, *left, condition, *right)?;
+        Statement::If(position, condition, inner) => {
+            put_condition(out, Keyword::If, *position, condition)?;
             put_statement(out, inner.get())
         }
-        Statement::IfElse(place, left, condition, right, first, middle, second) => {
-            put_condition(out, Keyword::If, *place, *left, condition, *right)?;
+        Statement::IfElse(position, condition, first, middle, second) => {
+            put_condition(out, Keyword::If, *position, condition)?;
             put_statement(out, first.get())?;
             put_keyword(out, Keyword::Else, *middle)?;
             put_statement(out, second.get())
         }
-        Statement::Switch(place, left, value, right, block) => {
-            put_condition(out, Keyword::Switch, *place, *left, value, *right)?;
+        Statement::Switch(position, value, block) => {
+            put_condition(out, Keyword::Switch, *position, value)?;
             put_block(out, block)
         }
-        Statement::While(place, left, condition, right, inner) => {
-            put_condition(out, Keyword::While, *place, *left, condition, *right)?;
+        Statement::While(position, condition, inner) => {
+            put_condition(out, Keyword::While, *position, condition)?;
             put_statement(out, inner.get())
         }
-        Statement::Do(place, inner, last, left, condition, right, semicolon) => {
-            put_keyword(out, Keyword::Do, *place)?;
+        Statement::Do(position, inner, end) => {
+            put_keyword(out, Keyword::Do, *position)?;
             put_statement(out, inner.get())?;
-            put_condition(out, Keyword::While, *last, *left, condition, *right)?;
-            put_punctuator(out, Punctuator::Semicolon, *semicolon)
+            put_condition(out, Keyword::While, end.again, &end.condition)?;
+            put_punctuator(out, Punctuator::Semicolon, end.semicolon)
         }
-        Statement::For(place, left, init, condition, semicolon, step, right, inner) => {
-            put_keyword(out, Keyword::For, *place)?;
-            put_punctuator(out, Punctuator::LeftParenthesis, *left)?;
-            put_for_init(out, init)?;
-            put_for_rest(out, condition, *semicolon, step, *right)?;
+        Statement::For(position, head, inner) => {
+            put_keyword(out, Keyword::For, *position)?;
+            put_punctuator(out, Punctuator::LeftParenthesis, head.left)?;
+            put_for_init(out, &head.init)?;
+            put_for_rest(out, head)?;
             put_statement(out, inner.get())
         }
-        Statement::Case(place, value, colon, inner) => {
-            put_keyword(out, Keyword::Case, *place)?;
-            put_expression(out, value)?;
+        Statement::Case(label, inner) => {
+            put_keyword(out, Keyword::Case, label.position)?;
+            put_expression(out, label.value.get())?;
+            put_punctuator(out, Punctuator::Colon, label.colon)?;
+            put_statement(out, inner.get())
+        }
+        Statement::Default(position, colon, inner) => {
+            put_keyword(out, Keyword::Default, *position)?;
             put_punctuator(out, Punctuator::Colon, *colon)?;
             put_statement(out, inner.get())
         }
-        Statement::Default(place, colon, inner) => {
-            put_keyword(out, Keyword::Default, *place)?;
-            put_punctuator(out, Punctuator::Colon, *colon)?;
-            put_statement(out, inner.get())
-        }
-        Statement::Break(place, semicolon) => {
-            put_keyword(out, Keyword::Break, *place)?;
+        Statement::Break(position, semicolon) => {
+            put_keyword(out, Keyword::Break, *position)?;
             put_punctuator(out, Punctuator::Semicolon, *semicolon)
         }
-        Statement::Continue(place, semicolon) => {
-            put_keyword(out, Keyword::Continue, *place)?;
+        Statement::Continue(position, semicolon) => {
+            put_keyword(out, Keyword::Continue, *position)?;
             put_punctuator(out, Punctuator::Semicolon, *semicolon)
         }
-        Statement::Return(place, value, semicolon) => {
-            put_keyword(out, Keyword::Return, *place)?;
+        Statement::Return(position, value, semicolon) => {
+            put_keyword(out, Keyword::Return, *position)?;
             put_optional(out, value)?;
             put_punctuator(out, Punctuator::Semicolon, *semicolon)
         }
@@ -287,8 +305,9 @@ fn put_statement<'a>(out: &mut Vec<Placed<'a>>, statement: &Statement<'a>) -> Re
 
 /// Puts the words of a block (C99 6.8.2).
 #[cycle(statements)]
-fn put_block<'a>(out: &mut Vec<Placed<'a>>, block: &Block<'a>) -> Result<(), AllocError>
-    ensures { OnOk result ((i : spec.Words) → out.new.items ++ i ≡ out.old.items ++ spec.block_words (views.block_of block.now) i) }
+fn put_block<'a>(out: &mut Vec<Positioned<'a>>, block: &Block<'a>) -> Result<(), AllocError>
+    ensures { OnOk result ((i : spec.Words) → out.new.items ++ i ≡ out.old.items
+        ++ spec.block_words (views.block_of block.now) i) }
 {
     put_punctuator(out, Punctuator::LeftBrace, block.left)?;
     put_block_items(out, block.items.as_slice())?;
@@ -297,8 +316,12 @@ fn put_block<'a>(out: &mut Vec<Placed<'a>>, block: &Block<'a>) -> Result<(), All
 
 /// Puts the words of what stands in a block.
 #[cycle(statements)]
-fn put_block_items<'a>(out: &mut Vec<Placed<'a>>, items: &[BlockItem<'a>]) -> Result<(), AllocError>
-    ensures { OnOk result ((i : spec.Words) → out.new.items ++ i ≡ out.old.items ++ spec.items_words (views.items_in items.now) i) }
+fn put_block_items<'a>(
+    out: &mut Vec<Positioned<'a>>,
+    items: &[BlockItem<'a>],
+) -> Result<(), AllocError>
+    ensures { OnOk result ((i : spec.Words) → out.new.items ++ i ≡ out.old.items
+        ++ spec.items_words (views.items_in items.now) i) }
 {
     for item in items {
         put_block_item(out, item)?;
@@ -308,31 +331,36 @@ fn put_block_items<'a>(out: &mut Vec<Placed<'a>>, items: &[BlockItem<'a>]) -> Re
 
 /// Puts the words of a declaration or statement of a block.
 #[cycle(statements)]
-fn put_block_item<'a>(out: &mut Vec<Placed<'a>>, item: &BlockItem<'a>) -> Result<(), AllocError>
-    ensures { OnOk result ((i : spec.Words) → out.new.items ++ i ≡ out.old.items ++ spec.block_item_words (views.block_item_of item.now) i) }
+fn put_block_item<'a>(out: &mut Vec<Positioned<'a>>, item: &BlockItem<'a>) -> Result<(), AllocError>
+    ensures { OnOk result ((i : spec.Words) → out.new.items ++ i ≡ out.old.items
+        ++ spec.block_item_words (views.block_item_of item.now) i) }
 {
     match item {
         BlockItem::Declaration(declaration) => put_declaration(out, declaration),
-        BlockItem::Statement(statement) => put_statement(out, statement),
+        BlockItem::Statement(statement) => put_statement(out, statement.get()),
     }
 }
 
 /// Puts the words of a function definition or a declaration (C99 6.9).
-fn put_external<'a>(out: &mut Vec<Placed<'a>>, external: &External<'a>) -> Result<(), AllocError>
-    ensures { OnOk result ((i : spec.Words) → out.new.items ++ i ≡ out.old.items ++ spec.external_words (views.external_of external.now) i) }
+fn put_external<'a>(
+    out: &mut Vec<Positioned<'a>>,
+    external: &External<'a>,
+) -> Result<(), AllocError>
+    ensures { OnOk result ((i : spec.Words) → out.new.items ++ i ≡ out.old.items
+        ++ spec.external_words (views.external_of external.now) i) }
 {
     match external {
         External::Function(specifiers, declarator, block) => {
             put_specifiers(out, specifiers.as_slice())?;
-            put_declarator(out, declarator)?;
+            put_declarator(out, declarator.get())?;
             put_block(out, block)
         }
         External::Declaration(declaration) => put_declaration(out, declaration),
     }
 }
 
-/// The words of a file with their places, or the answer that there is no memory for them.
-pub fn words<'a>(alloc: Global, unit: &Unit<'a>) -> Result<Vec<Placed<'a>>, AllocError>
+/// The words of a file with their positions, or the answer that there is no memory for them.
+pub fn words<'a>(alloc: Global, unit: &Unit<'a>) -> Result<Vec<Positioned<'a>>, AllocError>
     ensures { IfOk result (λ words. words.items ≡ spec.unit_words (views.unit_of unit.now)) }
 {
     let mut out = Vec::new(alloc);

@@ -6,88 +6,104 @@ ghost use Rattle.c_lexer.specs.declared.punctuator.Punctuator.TheVariants as pun
 ghost use Rattle.c_syntax.specs.Words as spec;
 ghost use Rattle.c_syntax.specs.View as view;
 
-use c_lexer::{Keyword, Punctuator, Word};
-use c_syntax::place::{Place, Placed, Spelled};
+use c_lexer::{Keyword, Punctuator, TokenKind};
+use c_syntax::position::{Position, Positioned, Spelled};
 use c_syntax::tree::{
     Arguments, Declarator, Enumerator, Expression, Member, Parameters, Specifier, TypedDeclarator,
 };
 use std::alloc::AllocError;
+use tree_containers::Boxed;
 
 /// Puts a word behind the others.
-fn put<'a>(out: &mut Vec<Placed<'a>>, word: Word<'a>, place: Place) -> Result<(), AllocError>
-    ensures { OnOk result ((i : spec.Words) → out.new.items ++ i ≡ out.old.items ++ (spec.word_at word.entry place ∷ i)) }
+fn put<'a>(
+    out: &mut Vec<Positioned<'a>>,
+    word: TokenKind<'a>,
+    position: Position,
+) -> Result<(), AllocError>
+    ensures { OnOk result ((i : spec.Words) → out.new.items ++ i ≡ out.old.items
+        ++ (spec.word_at word.entry position ∷ i)) }
 {
-    out.push(Placed { word, place })?;
+    out.push(Positioned {
+        kind: word,
+        position,
+    })?;
     Ok(())
 }
 
 /// Puts a keyword.
 pub(crate) fn put_keyword<'a>(
-    out: &mut Vec<Placed<'a>>,
+    out: &mut Vec<Positioned<'a>>,
     keyword: Keyword,
-    place: Place,
+    position: Position,
 ) -> Result<(), AllocError>
-    ensures { OnOk result ((i : spec.Words) → out.new.items ++ i ≡ out.old.items ++ (spec.keyword keyword place ∷ i)) }
+    ensures { OnOk result ((i : spec.Words) → out.new.items ++ i ≡ out.old.items
+        ++ (spec.keyword keyword position ∷ i)) }
 {
-    put(out, Word::Keyword(keyword), place)
+    put(out, TokenKind::Keyword(keyword), position)
 }
 
 /// Puts a punctuator.
 pub(crate) fn put_punctuator<'a>(
-    out: &mut Vec<Placed<'a>>,
+    out: &mut Vec<Positioned<'a>>,
     punctuator: Punctuator,
-    place: Place,
+    position: Position,
 ) -> Result<(), AllocError>
-    ensures { OnOk result ((i : spec.Words) → out.new.items ++ i ≡ out.old.items ++ (spec.punctuator punctuator place ∷ i)) }
+    ensures { OnOk result ((i : spec.Words) → out.new.items ++ i ≡ out.old.items
+        ++ (spec.punctuator punctuator position ∷ i)) }
 {
-    put(out, Word::Punctuator(punctuator), place)
+    put(out, TokenKind::Punctuator(punctuator), position)
 }
 
 /// Puts an identifier.
 pub(crate) fn put_identifier<'a>(
-    out: &mut Vec<Placed<'a>>,
+    out: &mut Vec<Positioned<'a>>,
     name: &Spelled<'a>,
 ) -> Result<(), AllocError>
     ensures { OnOk result ((i : spec.Words) → out.new.items ++ i ≡ out.old.items ++ (spec.identifier name.now ∷ i)) }
 {
-    put(out, Word::Identifier(name.spelling.again()), name.place)
+    put(
+        out,
+        TokenKind::Identifier(name.spelling.again()),
+        name.position,
+    )
 }
 
 /// Puts string literals that stand side by side.
 fn put_strings<'a>(
-    out: &mut Vec<Placed<'a>>,
+    out: &mut Vec<Positioned<'a>>,
     first: &Spelled<'a>,
     others: &[Spelled<'a>],
 ) -> Result<(), AllocError>
-    ensures { OnOk result ((i : spec.Words) → out.new.items ++ i ≡ out.old.items ++ (spec.string first.now ∷ spec.strings_words others.now i)) }
+    ensures { OnOk result ((i : spec.Words) → out.new.items ++ i ≡ out.old.items
+        ++ (spec.string first.now ∷ spec.strings_words others.now i)) }
 {
     put(
         out,
-        Word::StringLiteral(first.spelling.again()),
-        first.place,
+        TokenKind::StringLiteral(first.spelling.again()),
+        first.position,
     )?;
     for string in others {
         put(
             out,
-            Word::StringLiteral(string.spelling.again()),
-            string.place,
+            TokenKind::StringLiteral(string.spelling.again()),
+            string.position,
         )?;
     }
     Ok(())
 }
 
 /// Puts the words `const` behind a `*`.
-fn put_consts<'a>(out: &mut Vec<Placed<'a>>, places: &[Place]) -> Result<(), AllocError>
-    ensures { OnOk result ((i : spec.Words) → out.new.items ++ i ≡ out.old.items ++ spec.const_words places.now i) }
+fn put_consts<'a>(out: &mut Vec<Positioned<'a>>, positions: &[Position]) -> Result<(), AllocError>
+    ensures { OnOk result ((i : spec.Words) → out.new.items ++ i ≡ out.old.items ++ spec.const_words positions.now i) }
 {
-    for place in places {
-        put_keyword(out, Keyword::Const, *place)?;
+    for position in positions {
+        put_keyword(out, Keyword::Const, *position)?;
     }
     Ok(())
 }
 
 /// Puts a tag, if there is one.
-fn put_tag<'a>(out: &mut Vec<Placed<'a>>, tag: &Option<Spelled<'a>>) -> Result<(), AllocError>
+fn put_tag<'a>(out: &mut Vec<Positioned<'a>>, tag: &Option<Spelled<'a>>) -> Result<(), AllocError>
     ensures { OnOk result ((i : spec.Words) → out.new.items ++ i ≡ out.old.items ++ spec.tag_words tag.now i) }
 {
     match tag {
@@ -98,29 +114,31 @@ fn put_tag<'a>(out: &mut Vec<Placed<'a>>, tag: &Option<Spelled<'a>>) -> Result<(
 
 /// Puts a keyword, a tag, if there is one, and `{`.
 fn put_head<'a>(
-    out: &mut Vec<Placed<'a>>,
+    out: &mut Vec<Positioned<'a>>,
     keyword: Keyword,
-    place: Place,
+    position: Position,
     tag: &Option<Spelled<'a>>,
-    left: Place,
+    left: Position,
 ) -> Result<(), AllocError>
-    ensures { OnOk result ((i : spec.Words) → out.new.items ++ i ≡ out.old.items ++ (spec.keyword keyword place ∷ spec.tag_words tag.now (spec.punctuator punctuators.LeftBrace left ∷ i))) }
+    ensures { OnOk result ((i : spec.Words) → out.new.items ++ i ≡ out.old.items
+        ++ (spec.keyword keyword position ∷ spec.tag_words tag.now (spec.punctuator punctuators.LeftBrace left ∷ i))) }
 {
-    put_keyword(out, keyword, place)?;
+    put_keyword(out, keyword, position)?;
     put_tag(out, tag)?;
     put_punctuator(out, Punctuator::LeftBrace, left)
 }
 
 /// Puts a last comma, if there is one, and `}`.
 pub(crate) fn put_tail<'a>(
-    out: &mut Vec<Placed<'a>>,
-    comma: Option<Place>,
-    right: Place,
+    out: &mut Vec<Positioned<'a>>,
+    comma: Option<Position>,
+    right: Position,
 ) -> Result<(), AllocError>
-    ensures { OnOk result ((i : spec.Words) → out.new.items ++ i ≡ out.old.items ++ (spec.comma_words comma (spec.punctuator punctuators.RightBrace right ∷ i))) }
+    ensures { OnOk result ((i : spec.Words) → out.new.items ++ i ≡ out.old.items
+        ++ (spec.comma_words comma (spec.punctuator punctuators.RightBrace right ∷ i))) }
 {
-    if let Some(place) = comma {
-        put_punctuator(out, Punctuator::Comma, place)?;
+    if let Some(position) = comma {
+        put_punctuator(out, Punctuator::Comma, position)?;
     }
     put_punctuator(out, Punctuator::RightBrace, right)
 }
@@ -128,22 +146,23 @@ pub(crate) fn put_tail<'a>(
 /// Puts the words of an expression (C99 6.5).
 #[cycle(words)]
 pub(crate) fn put_expression<'a>(
-    out: &mut Vec<Placed<'a>>,
+    out: &mut Vec<Positioned<'a>>,
     expression: &Expression<'a>,
 ) -> Result<(), AllocError>
-    ensures { OnOk result ((i : spec.Words) → out.new.items ++ i ≡ out.old.items ++ spec.expression_words (view.expression_of expression.now) i) }
+    ensures { OnOk result ((i : spec.Words) → out.new.items ++ i ≡ out.old.items
+        ++ spec.expression_words (view.expression_of expression.now) i) }
 {
     match expression {
         Expression::Identifier(name) => put_identifier(out, name),
         Expression::Integer(constant) => put(
             out,
-            Word::Integer(constant.spelling.again()),
-            constant.place,
+            TokenKind::Integer(constant.spelling.again()),
+            constant.position,
         ),
         Expression::Character(constant) => put(
             out,
-            Word::Character(constant.spelling.again()),
-            constant.place,
+            TokenKind::Character(constant.spelling.again()),
+            constant.position,
         ),
         Expression::Strings(first, others) => put_strings(out, first, others.as_slice()),
         Expression::Parenthesized(left, inner, right) => {
@@ -163,25 +182,25 @@ pub(crate) fn put_expression<'a>(
             put_arguments(out, arguments)?;
             put_punctuator(out, Punctuator::RightParenthesis, *right)
         }
-        Expression::Member(whole, operator, place, name) => {
+        Expression::Member(whole, operator, position, name) => {
             put_expression(out, whole.get())?;
-            put_punctuator(out, *operator, *place)?;
+            put_punctuator(out, *operator, *position)?;
             put_identifier(out, name)
         }
-        Expression::Postfix(operand, operator, place) => {
+        Expression::Postfix(operand, operator, position) => {
             put_expression(out, operand.get())?;
-            put_punctuator(out, *operator, *place)
+            put_punctuator(out, *operator, *position)
         }
-        Expression::Unary(operator, place, operand) => {
-            put_punctuator(out, *operator, *place)?;
+        Expression::Unary(operator, position, operand) => {
+            put_punctuator(out, *operator, *position)?;
             put_expression(out, operand.get())
         }
-        Expression::SizeofExpression(place, operand) => {
-            put_keyword(out, Keyword::Sizeof, *place)?;
+        Expression::SizeofExpression(position, operand) => {
+            put_keyword(out, Keyword::Sizeof, *position)?;
             put_expression(out, operand.get())
         }
-        Expression::SizeofType(place, left, name, right) => {
-            put_keyword(out, Keyword::Sizeof, *place)?;
+        Expression::SizeofType(position, left, name, right) => {
+            put_keyword(out, Keyword::Sizeof, *position)?;
             put_punctuator(out, Punctuator::LeftParenthesis, *left)?;
             put_typed(out, name.get())?;
             put_punctuator(out, Punctuator::RightParenthesis, *right)
@@ -192,9 +211,9 @@ pub(crate) fn put_expression<'a>(
             put_punctuator(out, Punctuator::RightParenthesis, *right)?;
             put_expression(out, operand.get())
         }
-        Expression::Binary(first, operator, place, second) => {
+        Expression::Binary(first, operator, position, second) => {
             put_expression(out, first.get())?;
-            put_punctuator(out, *operator, *place)?;
+            put_punctuator(out, *operator, *position)?;
             put_expression(out, second.get())
         }
         Expression::Conditional(condition, question, first, colon, second) => {
@@ -204,9 +223,9 @@ pub(crate) fn put_expression<'a>(
             put_punctuator(out, Punctuator::Colon, *colon)?;
             put_expression(out, second.get())
         }
-        Expression::Assignment(first, operator, place, second) => {
+        Expression::Assignment(first, operator, position, second) => {
             put_expression(out, first.get())?;
-            put_punctuator(out, *operator, *place)?;
+            put_punctuator(out, *operator, *position)?;
             put_expression(out, second.get())
         }
     }
@@ -214,8 +233,12 @@ pub(crate) fn put_expression<'a>(
 
 /// Puts the words of arguments (C99 6.5.2.2).
 #[cycle(words)]
-fn put_arguments<'a>(out: &mut Vec<Placed<'a>>, arguments: &Arguments<'a>) -> Result<(), AllocError>
-    ensures { OnOk result ((i : spec.Words) → out.new.items ++ i ≡ out.old.items ++ spec.arguments_words (view.arguments_of arguments.now) i) }
+fn put_arguments<'a>(
+    out: &mut Vec<Positioned<'a>>,
+    arguments: &Arguments<'a>,
+) -> Result<(), AllocError>
+    ensures { OnOk result ((i : spec.Words) → out.new.items ++ i ≡ out.old.items
+        ++ spec.arguments_words (view.arguments_of arguments.now) i) }
 {
     match arguments {
         Arguments::Empty => Ok(()),
@@ -223,7 +246,7 @@ fn put_arguments<'a>(out: &mut Vec<Placed<'a>>, arguments: &Arguments<'a>) -> Re
             put_expression(out, first.get())?;
             for (comma, argument) in others.as_slice() {
                 put_punctuator(out, Punctuator::Comma, *comma)?;
-                put_expression(out, argument)?;
+                put_expression(out, argument.get())?;
             }
             Ok(())
         }
@@ -232,26 +255,31 @@ fn put_arguments<'a>(out: &mut Vec<Placed<'a>>, arguments: &Arguments<'a>) -> Re
 
 /// Puts the words of a type name or parameter (C99 6.7.5, 6.7.6).
 #[cycle(words)]
-fn put_typed<'a>(out: &mut Vec<Placed<'a>>, typed: &TypedDeclarator<'a>) -> Result<(), AllocError>
-    ensures { OnOk result ((i : spec.Words) → out.new.items ++ i ≡ out.old.items ++ spec.typed_words (view.typed_of typed.now) i) }
+fn put_typed<'a>(
+    out: &mut Vec<Positioned<'a>>,
+    typed: &TypedDeclarator<'a>,
+) -> Result<(), AllocError>
+    ensures { OnOk result ((i : spec.Words) → out.new.items ++ i ≡ out.old.items
+        ++ spec.typed_words (view.typed_of typed.now) i) }
 {
     put_specifiers(out, typed.specifiers.as_slice())?;
-    put_declarator(out, &typed.declarator)
+    put_declarator(out, typed.declarator.get())
 }
 
 /// Puts the words of a declarator (C99 6.7.5).
 #[cycle(words)]
 pub(crate) fn put_declarator<'a>(
-    out: &mut Vec<Placed<'a>>,
+    out: &mut Vec<Positioned<'a>>,
     declarator: &Declarator<'a>,
 ) -> Result<(), AllocError>
-    ensures { OnOk result ((i : spec.Words) → out.new.items ++ i ≡ out.old.items ++ spec.declarator_words (view.declarator_of declarator.now) i) }
+    ensures { OnOk result ((i : spec.Words) → out.new.items ++ i ≡ out.old.items
+        ++ spec.declarator_words (view.declarator_of declarator.now) i) }
 {
     match declarator {
         Declarator::Named(name) => put_identifier(out, name),
         Declarator::Unnamed => Ok(()),
-        Declarator::Pointer(place, consts, inner) => {
-            put_punctuator(out, Punctuator::Star, *place)?;
+        Declarator::Pointer(position, consts, inner) => {
+            put_punctuator(out, Punctuator::Star, *position)?;
             put_consts(out, consts.as_slice())?;
             put_declarator(out, inner.get())
         }
@@ -283,14 +311,15 @@ pub(crate) fn put_declarator<'a>(
 /// Puts the words of parameters (C99 6.7.5.3).
 #[cycle(words)]
 fn put_parameters<'a>(
-    out: &mut Vec<Placed<'a>>,
+    out: &mut Vec<Positioned<'a>>,
     parameters: &Parameters<'a>,
 ) -> Result<(), AllocError>
-    ensures { OnOk result ((i : spec.Words) → out.new.items ++ i ≡ out.old.items ++ spec.parameters_words (view.parameters_of parameters.now) i) }
+    ensures { OnOk result ((i : spec.Words) → out.new.items ++ i ≡ out.old.items
+        ++ spec.parameters_words (view.parameters_of parameters.now) i) }
 {
     match parameters {
         Parameters::Empty => Ok(()),
-        Parameters::Void(place) => put_keyword(out, Keyword::Void, *place),
+        Parameters::Void(position) => put_keyword(out, Keyword::Void, *position),
         Parameters::Given(first, others) => {
             put_typed(out, first.get())?;
             for (comma, parameter) in others.as_slice() {
@@ -305,10 +334,11 @@ fn put_parameters<'a>(
 /// Puts the words of specifiers (C99 6.7).
 #[cycle(words)]
 pub(crate) fn put_specifiers<'a>(
-    out: &mut Vec<Placed<'a>>,
+    out: &mut Vec<Positioned<'a>>,
     specifiers: &[Specifier<'a>],
 ) -> Result<(), AllocError>
-    ensures { OnOk result ((i : spec.Words) → out.new.items ++ i ≡ out.old.items ++ spec.specifiers_words (view.specifiers_in specifiers.now) i) }
+    ensures { OnOk result ((i : spec.Words) → out.new.items ++ i ≡ out.old.items
+        ++ spec.specifiers_words (view.specifiers_in specifiers.now) i) }
 {
     for specifier in specifiers {
         put_specifier(out, specifier)?;
@@ -318,27 +348,31 @@ pub(crate) fn put_specifiers<'a>(
 
 /// Puts the words of a specifier (C99 6.7.1 to 6.7.4).
 #[cycle(words)]
-fn put_specifier<'a>(out: &mut Vec<Placed<'a>>, specifier: &Specifier<'a>) -> Result<(), AllocError>
-    ensures { OnOk result ((i : spec.Words) → out.new.items ++ i ≡ out.old.items ++ spec.specifier_words (view.specifier_of specifier.now) i) }
+fn put_specifier<'a>(
+    out: &mut Vec<Positioned<'a>>,
+    specifier: &Specifier<'a>,
+) -> Result<(), AllocError>
+    ensures { OnOk result ((i : spec.Words) → out.new.items ++ i ≡ out.old.items
+        ++ spec.specifier_words (view.specifier_of specifier.now) i) }
 {
     match specifier {
-        Specifier::Keyword(keyword, place) => put_keyword(out, *keyword, *place),
+        Specifier::Keyword(keyword, position) => put_keyword(out, *keyword, *position),
         Specifier::TypedefName(name) => put_identifier(out, name),
-        Specifier::Structure(keyword, place, tag) => {
-            put_keyword(out, *keyword, *place)?;
+        Specifier::Structure(keyword, position, tag) => {
+            put_keyword(out, *keyword, *position)?;
             put_identifier(out, tag)
         }
-        Specifier::StructureBody(keyword, place, tag, left, members, right) => {
-            put_head(out, *keyword, *place, tag, *left)?;
+        Specifier::StructureBody(keyword, position, tag, left, members, right) => {
+            put_head(out, *keyword, *position, tag, *left)?;
             put_members(out, members.as_slice())?;
             put_punctuator(out, Punctuator::RightBrace, *right)
         }
-        Specifier::Enumeration(place, tag) => {
-            put_keyword(out, Keyword::Enum, *place)?;
+        Specifier::Enumeration(position, tag) => {
+            put_keyword(out, Keyword::Enum, *position)?;
             put_identifier(out, tag)
         }
-        Specifier::EnumerationBody(place, tag, left, first, others, comma, right) => {
-            put_head(out, Keyword::Enum, *place, tag, *left)?;
+        Specifier::EnumerationBody(position, tag, left, first, others, comma, right) => {
+            put_head(out, Keyword::Enum, *position, tag, *left)?;
             put_enumerator(out, first.get())?;
             put_more_enumerators(out, others.as_slice())?;
             put_tail(out, *comma, *right)?;
@@ -349,8 +383,9 @@ fn put_specifier<'a>(out: &mut Vec<Placed<'a>>, specifier: &Specifier<'a>) -> Re
 
 /// Puts the words of declarations of members (C99 6.7.2.1).
 #[cycle(words)]
-fn put_members<'a>(out: &mut Vec<Placed<'a>>, members: &[Member<'a>]) -> Result<(), AllocError>
-    ensures { OnOk result ((i : spec.Words) → out.new.items ++ i ≡ out.old.items ++ spec.members_words (view.members_in members.now) i) }
+fn put_members<'a>(out: &mut Vec<Positioned<'a>>, members: &[Member<'a>]) -> Result<(), AllocError>
+    ensures { OnOk result ((i : spec.Words) → out.new.items ++ i ≡ out.old.items
+        ++ spec.members_words (view.members_in members.now) i) }
 {
     for member in members {
         put_member(out, member)?;
@@ -360,11 +395,12 @@ fn put_members<'a>(out: &mut Vec<Placed<'a>>, members: &[Member<'a>]) -> Result<
 
 /// Puts the words of a declaration of members.
 #[cycle(words)]
-fn put_member<'a>(out: &mut Vec<Placed<'a>>, member: &Member<'a>) -> Result<(), AllocError>
-    ensures { OnOk result ((i : spec.Words) → out.new.items ++ i ≡ out.old.items ++ spec.member_words (view.member_of member.now) i) }
+fn put_member<'a>(out: &mut Vec<Positioned<'a>>, member: &Member<'a>) -> Result<(), AllocError>
+    ensures { OnOk result ((i : spec.Words) → out.new.items ++ i ≡ out.old.items
+        ++ spec.member_words (view.member_of member.now) i) }
 {
     put_specifiers(out, member.specifiers.as_slice())?;
-    put_declarator(out, &member.first)?;
+    put_declarator(out, member.first.get())?;
     put_more_declarators(out, member.others.as_slice())?;
     put_punctuator(out, Punctuator::Semicolon, member.semicolon)?;
     Ok(())
@@ -373,14 +409,15 @@ fn put_member<'a>(out: &mut Vec<Placed<'a>>, member: &Member<'a>) -> Result<(), 
 /// Puts the words of declarators behind commas.
 #[cycle(words)]
 fn put_more_declarators<'a>(
-    out: &mut Vec<Placed<'a>>,
-    others: &[(Place, Declarator<'a>)],
+    out: &mut Vec<Positioned<'a>>,
+    others: &[(Position, Boxed<Declarator<'a>>)],
 ) -> Result<(), AllocError>
-    ensures { OnOk result ((i : spec.Words) → out.new.items ++ i ≡ out.old.items ++ spec.more_declarators_words (view.more_declarators_in others.now) i) }
+    ensures { OnOk result ((i : spec.Words) → out.new.items ++ i ≡ out.old.items
+        ++ spec.more_declarators_words (view.more_declarators_in others.now) i) }
 {
     for (comma, declarator) in others {
         put_punctuator(out, Punctuator::Comma, *comma)?;
-        put_declarator(out, declarator)?;
+        put_declarator(out, declarator.get())?;
     }
     Ok(())
 }
@@ -388,10 +425,11 @@ fn put_more_declarators<'a>(
 /// Puts the words of enumerators behind commas.
 #[cycle(words)]
 fn put_more_enumerators<'a>(
-    out: &mut Vec<Placed<'a>>,
-    others: &[(Place, Enumerator<'a>)],
+    out: &mut Vec<Positioned<'a>>,
+    others: &[(Position, Enumerator<'a>)],
 ) -> Result<(), AllocError>
-    ensures { OnOk result ((i : spec.Words) → out.new.items ++ i ≡ out.old.items ++ spec.more_enumerators_words (view.more_enumerators_in others.now) i) }
+    ensures { OnOk result ((i : spec.Words) → out.new.items ++ i ≡ out.old.items
+        ++ spec.more_enumerators_words (view.more_enumerators_in others.now) i) }
 {
     for (comma, enumerator) in others {
         put_punctuator(out, Punctuator::Comma, *comma)?;
@@ -403,10 +441,11 @@ fn put_more_enumerators<'a>(
 /// Puts the words of an enumerator (C99 6.7.2.2).
 #[cycle(words)]
 fn put_enumerator<'a>(
-    out: &mut Vec<Placed<'a>>,
+    out: &mut Vec<Positioned<'a>>,
     enumerator: &Enumerator<'a>,
 ) -> Result<(), AllocError>
-    ensures { OnOk result ((i : spec.Words) → out.new.items ++ i ≡ out.old.items ++ spec.enumerator_words (view.enumerator_of enumerator.now) i) }
+    ensures { OnOk result ((i : spec.Words) → out.new.items ++ i ≡ out.old.items
+        ++ spec.enumerator_words (view.enumerator_of enumerator.now) i) }
 {
     match enumerator {
         Enumerator::Plain(name) => put_identifier(out, name),

@@ -3,8 +3,8 @@ use Rattle.std.proofs.Common.{◌≡◌, ℕ, List, [], ◌∷◌, ◌++◌, Opt
 use Rattle.std.proofs.Common.{◌∙◌, subst}
 use Rattle.c_lexer.specs.declared.keyword.Keyword.TheVariants as keyword
 use Rattle.c_lexer.specs.declared.punctuator.Punctuator.TheVariants as punctuator
-use Rattle.c_lexer.specs.declared.token.Word.{Word}
-use Rattle.c_lexer.specs.declared.token.Word.TheVariants.{Identifier, Keyword, Integer, Punctuator}
+use Rattle.c_lexer.specs.declared.token.TokenKind.{TokenKind}
+use Rattle.c_lexer.specs.declared.token.TokenKind.TheVariants.{Identifier, Keyword, Integer, Punctuator}
 use Rattle.c_lexer.specs.declared.token.Token.{Token}
 use Rattle.c_lexer.specs.Constants.{constant_of, constant_in, suffix_of, types_of, typed, greatest_of}
 use Rattle.sbcets_core.specs.declared.part.Expected.{Expected}
@@ -22,8 +22,8 @@ record BeginsFrom (p : Expected) (front : List Token) : Type 0 where
   program : SourceProgram
   whole : program_from p (front ++ rest) ≡ Ok program
 
-abbrev some_token : Word → Token
-some_token w = record { word = w; line = 1; begins_line = false; is_spaced = false }
+abbrev some_token : TokenKind → Token
+some_token w = record { kind = w; line = 1; begins_line = false; is_spaced = false }
 
 puts_ok : (ns : List ℕ) (program : SourceProgram)
     → puts_before ns (Ok program) ≡ Ok
@@ -31,7 +31,7 @@ puts_ok : (ns : List ℕ) (program : SourceProgram)
 puts_ok ns program = refl
 
 -- a token that goes on, before tokens that go on from there
-behind : (p : Expected) (s : Step) (t : Token) (front : List Token) → after_word p t.word ≡ Some s
+behind : (p : Expected) (s : Step) (t : Token) (front : List Token) → after_word p t.kind ≡ Some s
     → BeginsFrom (place_after s) front → BeginsFrom p (t ∷ front)
 behind p s t front step b = record {
   rest = b.rest;
@@ -44,7 +44,7 @@ behind p s t front step b = record {
 opened : (p : Expected) (t : Token) → BeginsFrom p (t ∷ []) → BeginsFrom p []
 opened p t b = record { rest = t ∷ b.rest; program = b.program; whole = b.whole }
 
-by_word : (p : Expected) (s : Step) (w : Word) → after_word p w ≡ Some s → BeginsFrom (place_after s) []
+by_word : (p : Expected) (s : Step) (w : TokenKind) → after_word p w ≡ Some s → BeginsFrom (place_after s) []
     → BeginsFrom p []
 by_word p s w step b = opened p (some_token w) (behind p s (some_token w) [] step b)
 
@@ -146,7 +146,7 @@ put_was ns (Ok p) program e = record { program = p; is = refl }
 put_was ns (Err u) program e = absurd (cc)
 
 -- the first token goes on, so what begins behind it begins at the next place
-from_next : (p : Expected) (s : Step) (t : Token) (front : List Token) → after_word p t.word ≡ Some s
+from_next : (p : Expected) (s : Step) (t : Token) (front : List Token) → after_word p t.kind ≡ Some s
     → BeginsFrom p (t ∷ front) → BeginsFrom (place_after s) front
 from_next p s t front step b =
     let here : puts_before (put_by s) (program_from (place_after s) (front ++ b.rest)) ≡ Ok b.program =
@@ -154,7 +154,7 @@ from_next p s t front step b =
     let ok = put_was (put_by s) (program_from (place_after s) (front ++ b.rest)) b.program here in
     record { rest = b.rest; program = ok.program; whole = ok.is }
 
-none_from : (p : Expected) (t : Token) (front : List Token) → after_word p t.word ≡ None → BeginsFrom p (t ∷ front) → ⊥
+none_from : (p : Expected) (t : Token) (front : List Token) → after_word p t.kind ≡ None → BeginsFrom p (t ∷ front) → ⊥
 none_from p t front step b =
     let here : Err (t ∷ front ++ b.rest) ≡ Ok b.program =
     ap (λ o. stepped o (t ∷ front ++ b.rest) (λ q. program_from q (front ++ b.rest))) (sym step) ∙ b.whole in
@@ -181,7 +181,7 @@ ended_unfit : (p : Expected) (unfit : List Token) → ended p ≡ Err unfit → 
 ended_unfit p [] e = record { front = []; split = refl; begins = goes_to_an_end p; ends = λ t more none b. absurd (cc) }
 ended_unfit p (t ∷ ts) e = absurd (no_end p t ts e)
 
-stopped : (p : Expected) (t : Token) (ts unfit : List Token) → after_word p t.word ≡ None → t ∷ ts ≡ unfit
+stopped : (p : Expected) (t : Token) (ts unfit : List Token) → after_word p t.kind ≡ None → t ∷ ts ≡ unfit
     → UnfitFrom p (t ∷ ts) unfit
 stopped p t ts unfit step same = record {
   front = [];
@@ -192,7 +192,7 @@ stopped p t ts unfit step same = record {
       none_from p t [] step (subst (λ v. BeginsFrom p (v ∷ [])) first b);
 }
 
-later : (p : Expected) (s : Step) (t : Token) (ts unfit : List Token) → after_word p t.word ≡ Some s
+later : (p : Expected) (s : Step) (t : Token) (ts unfit : List Token) → after_word p t.kind ≡ Some s
     → UnfitFrom (place_after s) ts unfit → UnfitFrom p (t ∷ ts) unfit
 later p s t ts unfit step u = record {
   front = t ∷ u.front;
@@ -201,7 +201,7 @@ later p s t ts unfit step u = record {
   ends = λ v more is b. u.ends v more is (from_next p s t (u.front ++ (v ∷ [])) step b);
 }
 
-by_step : (p : Expected) (t : Token) (ts unfit : List Token) (o : Option Step) → after_word p t.word ≡ o
+by_step : (p : Expected) (t : Token) (ts unfit : List Token) (o : Option Step) → after_word p t.kind ≡ o
     → stepped o (t ∷ ts) (λ q. program_from q ts) ≡ Err unfit
     → ((q : Expected) → program_from q ts ≡ Err unfit → UnfitFrom q ts unfit) → UnfitFrom p (t ∷ ts) unfit
 by_step p t ts unfit None step e others = let same : t ∷ ts ≡ unfit = cc in stopped p t ts unfit step same
@@ -210,7 +210,7 @@ by_step p t ts unfit (Some s) step e others = later p s t ts unfit step
 
 unfit_from : (p : Expected) (ts unfit : List Token) → program_from p ts ≡ Err unfit → UnfitFrom p ts unfit
 unfit_from p [] unfit e = ended_unfit p unfit e
-unfit_from p (t ∷ ts) unfit e = by_step p t ts unfit (after_word p t.word) refl e (λ q. unfit_from q ts unfit)
+unfit_from p (t ∷ ts) unfit e = by_step p t ts unfit (after_word p t.kind) refl e (λ q. unfit_from q ts unfit)
 
 begins_text : (front : List Token) → BeginsFrom place.Int front → Begins front
 unfolding program_of

@@ -4,7 +4,7 @@ use Rattle.std.proofs.Common.{false, if◌then◌else◌, option_map, length, dr
 use Rattle.std.proofs.Common.{append_assoc, length-append}
 use Rattle.std.proofs.lemmas.List.{drop_more}
 use Rattle.c_lexer.specs.declared.token.Token.{Token}
-use Rattle.c_lexer.specs.declared.token.Word.{Word}
+use Rattle.c_lexer.specs.declared.token.TokenKind.{TokenKind}
 use Rattle.sbcets_core.specs.declared.part.Expected.{Expected}
 use Rattle.sbcets_core.specs.declared.part.Expected.TheVariants as place
 use Rattle.sbcets_core.specs.declared.part.Step.{Step}
@@ -54,7 +54,7 @@ here : (tokens : List Token) (at : ℕ) (t : Token) → at < length tokens → t
 here tokens at t h e = drop_more tokens at t h ∙ ap (λ u. u ∷ drop (at + 1) tokens) (sym e)
 
 read_here : (tokens : List Token) (p : Expected) (at : ℕ) (t : Token) (o : Option Step) → at < length tokens
-    → t ≡ get_or tokens at t → o ≡ after_word p t.word
+    → t ≡ get_or tokens at t → o ≡ after_word p t.kind
     → program_from p (drop at tokens)
     ≡ stepped o (t ∷ drop (at + 1) tokens) (λ q. program_from q (drop (at + 1) tokens))
 read_here tokens p at t o h e s =
@@ -93,7 +93,7 @@ number_within : (o : Option ℕ) (q : Expected) (p : ℕ → Expected) (n : ℕ)
 number_within None q p n e h = absurd (cc)
 number_within (Some k) q p n e h = let same : q ≡ p k = cc in omega (arith, ap progress same, h k)
 
-goes_progress : (p q : Expected) (w : Word) → Some (Goes q) ≡ after_word p w → progress q ≤ progress p + 1
+goes_progress : (p q : Expected) (w : TokenKind) → Some (Goes q) ≡ after_word p w → progress q ≤ progress p + 1
 unfolding after_word
 goes_progress place.Int q w e = goes_within _ q place.Main 1 e (omega arith)
 goes_progress place.Main q w e = goes_within _ q place.Open 1 e (omega arith)
@@ -111,7 +111,7 @@ goes_progress (place.ReturnSemicolon n) q w e = goes_within _ q (place.BodyEnd n
 goes_progress (place.BodyEnd n) q w e = goes_within _ q (place.End n) 1 e (omega arith)
 goes_progress (place.End n) q w e = absurd (cc)
 
-puts_progress : (p : Expected) (n : ℕ) (w : Word) → Some (Puts n) ≡ after_word p w → progress p ≡ 4
+puts_progress : (p : Expected) (n : ℕ) (w : TokenKind) → Some (Puts n) ≡ after_word p w → progress p ≡ 4
 unfolding after_word
 puts_progress place.Int n w e = absurd (if_puts _ n place.Main e)
 puts_progress place.Main n w e = absurd (if_puts _ n place.Open e)
@@ -129,18 +129,18 @@ puts_progress (place.ReturnSemicolon k) n w e = absurd (if_puts _ n (place.BodyE
 puts_progress (place.BodyEnd k) n w e = absurd (if_puts _ n (place.End k) e)
 puts_progress (place.End k) n w e = absurd (cc)
 
-step_progress : (p : Expected) (s : Step) (w : Word) → Some s ≡ after_word p w
+step_progress : (p : Expected) (s : Step) (w : TokenKind) → Some s ≡ after_word p w
     → 5 * length (put_by s) + progress (place_after s) ≤ progress p + 1
 step_progress p (Goes q) w e = omega (arith, goes_progress p q w e)
 step_progress p (Puts n) w e = omega (arith, puts_progress p n w e)
 
 -- one token more is read, and it goes on
 pub step_on : (tokens : List Token) (ns : List ℕ) (p : Expected) (s : Step) (at : ℕ) (t : Token) → at < length tokens
-    → t ≡ get_or tokens at t → Some s ≡ after_word p t.word → IsAt tokens ns p at
+    → t ≡ get_or tokens at t → Some s ≡ after_word p t.kind → IsAt tokens ns p at
     → IsAt tokens (ns ++ put_by s) (place_after s) (at + 1)
 step_on tokens ns p s at t h e step i = record {
   within = omega arith;
-  few = omega (arith, i.few, step_progress p s t.word step, length-append ns (put_by s));
+  few = omega (arith, i.few, step_progress p s t.kind step, length-append ns (put_by s));
   same =
       more_before ns (put_by s) (program_from (place_after s) (drop (at + 1) tokens))
       ∙ ap (puts_before ns) (sym (read_here tokens p at t (Some s) h e step)) ∙ i.same;

@@ -32,7 +32,7 @@ Readable = Result TokenList SourceRefusal
 -- the refusal at the first of these tokens, or at the end of the text, on this line
 abbrev pub unsupported : (end : ℕ) → List Token → SourceRefusal
 unsupported end [] = Unsupported [] end
-unsupported end (t ∷ ts) = Unsupported (refused_bytes t.word) t.line
+unsupported end (t ∷ ts) = Unsupported (refused_bytes t.kind) t.line
 
 abbrev pub of_expanded : Result TokenList PreFault → Readable
 of_expanded (Err fault) = Err (Pre fault)

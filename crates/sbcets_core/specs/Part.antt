@@ -5,8 +5,8 @@ use Rattle.std.specs.Prelude.{ℕ, Bool, true, false, List, [], ◌∷◌, ◌++
 use Rattle.std.specs.Prelude.{if◌then◌else◌, bytes_eq, codes, option_map}
 use Rattle.c_lexer.specs.declared.keyword.Keyword.TheVariants as keyword
 use Rattle.c_lexer.specs.declared.punctuator.Punctuator.TheVariants as punctuator
-use Rattle.c_lexer.specs.declared.token.Word.{Word}
-use Rattle.c_lexer.specs.declared.token.Word.TheVariants.{Identifier, Keyword, Integer, Punctuator}
+use Rattle.c_lexer.specs.declared.token.TokenKind.{TokenKind}
+use Rattle.c_lexer.specs.declared.token.TokenKind.TheVariants.{Identifier, Keyword, Integer, Punctuator}
 use Rattle.c_lexer.specs.declared.token.Token.{Token}
 use Rattle.c_lexer.specs.Constants.{constant_of}
 use Rattle.sbcets_core.specs.declared.part.Expected.{Expected}
@@ -16,39 +16,39 @@ use Rattle.sbcets_core.specs.declared.part.Step.TheVariants.{Goes, Puts}
 use Rattle.sbcets_core.specs.Source.{SourceProgram}
 
 -- the keywords and punctuators of the part
-abbrev pub is_int : Word → Bool
+abbrev pub is_int : TokenKind → Bool
 is_int (Keyword keyword.Int) = true
 is_int _ = false
 
-abbrev pub is_void : Word → Bool
+abbrev pub is_void : TokenKind → Bool
 is_void (Keyword keyword.Void) = true
 is_void _ = false
 
-abbrev pub is_return : Word → Bool
+abbrev pub is_return : TokenKind → Bool
 is_return (Keyword keyword.Return) = true
 is_return _ = false
 
-abbrev pub is_open : Word → Bool
+abbrev pub is_open : TokenKind → Bool
 is_open (Punctuator punctuator.LeftParenthesis) = true
 is_open _ = false
 
-abbrev pub is_close : Word → Bool
+abbrev pub is_close : TokenKind → Bool
 is_close (Punctuator punctuator.RightParenthesis) = true
 is_close _ = false
 
-abbrev pub is_begin : Word → Bool
+abbrev pub is_begin : TokenKind → Bool
 is_begin (Punctuator punctuator.LeftBrace) = true
 is_begin _ = false
 
-abbrev pub is_end : Word → Bool
+abbrev pub is_end : TokenKind → Bool
 is_end (Punctuator punctuator.RightBrace) = true
 is_end _ = false
 
-abbrev pub is_semicolon : Word → Bool
+abbrev pub is_semicolon : TokenKind → Bool
 is_semicolon (Punctuator punctuator.Semicolon) = true
 is_semicolon _ = false
 
-abbrev pub is_name : List ℕ → Word → Bool
+abbrev pub is_name : List ℕ → TokenKind → Bool
 is_name name (Identifier spelling) = bytes_eq spelling name
 is_name name _ = false
 
@@ -56,20 +56,20 @@ abbrev pub step_if : Bool → Step → Option Step
 step_if test s = if test then Some s else None
 
 -- the number that an integer constant stands for
-abbrev pub number_of : Word → Option ℕ
+abbrev pub number_of : TokenKind → Option ℕ
 number_of (Integer spelling) = option_map (λ k. k.value) (constant_of spelling)
 number_of _ = None
 
-abbrev pub number_step : (ℕ → Expected) → Word → Option Step
+abbrev pub number_step : (ℕ → Expected) → TokenKind → Option Step
 number_step p w = option_map (λ n. Goes (p n)) (number_of w)
 
 -- where a statement begins
-abbrev pub statement_step : Word → Option Step
+abbrev pub statement_step : TokenKind → Option Step
 statement_step w =
     if is_return w then Some (Goes place.ReturnNumber) else step_if (is_name (codes "putchar") w) (Goes place.PutOpen)
 
 -- where a word leads to from a place, if the part goes on with it there
-unfoldable pub after_word : Expected → Word → Option Step
+unfoldable pub after_word : Expected → TokenKind → Option Step
 after_word place.Int w = step_if (is_int w) (Goes place.Main)
 after_word place.Main w = step_if (is_name (codes "main") w) (Goes place.Open)
 after_word place.Open w = step_if (is_open w) (Goes place.Void)
@@ -120,7 +120,7 @@ stepped (Some s) tokens others = puts_before (put_by s) (others (place_after s))
 -- the tokens from a place on
 abbrev pub program_from : Expected → List Token → Parted
 program_from p [] = ended p
-program_from p (t ∷ ts) = stepped (after_word p t.word) (t ∷ ts) (λ q. program_from q ts)
+program_from p (t ∷ ts) = stepped (after_word p t.kind) (t ∷ ts) (λ q. program_from q ts)
 
 unfoldable pub program_of : List Token → Parted
 program_of tokens = program_from place.Int tokens

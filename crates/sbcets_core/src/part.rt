@@ -5,7 +5,7 @@ ghost use Rattle.sbcets_core.specs.Part.{is_open, is_close, is_begin, is_end, is
 ghost use Rattle.sbcets_core.specs.Parting.{Parts};
 
 use crate::program::Program;
-use c_lexer::{Keyword, Punctuator, Token, Word, constant_of};
+use c_lexer::{Keyword, Punctuator, Token, TokenKind, constant_of};
 use std::alloc::{AllocFailed, Global};
 
 /// A place in a text of the part: what is wanted there.
@@ -73,7 +73,7 @@ pub fn program_of(alloc: Global, tokens: &[Token]) -> Result<Program, PartError>
     let mut place = Expected::Int;
     let mut at = 0;
     while at < tokens.len() {
-        let Some(step) = after_word(place, &tokens[at].word) else {
+        let Some(step) = after_word(place, &tokens[at].kind) else {
             return Err(PartError::Unfit(at));
         };
         let Ok(next) = take_step(step, &mut numbers) else {
@@ -104,7 +104,7 @@ fn take_step(step: Step, numbers: &mut Vec<u64>) -> Result<Expected, AllocFailed
 
 // Where a word leads to from a place, if the part goes on with it there.
 #[tactic(auto, unfolding(crate::specs::Part::after_word))]
-fn after_word(place: Expected, word: &Word) -> Option<Step>
+fn after_word(place: Expected, word: &TokenKind) -> Option<Step>
     ensures { result ≡ after_word place word.now }
 {
     let (fits, next) = match place {
@@ -127,7 +127,7 @@ fn after_word(place: Expected, word: &Word) -> Option<Step>
     if fits { Some(next) } else { None }
 }
 
-fn statement_step(word: &Word) -> Option<Step>
+fn statement_step(word: &TokenKind) -> Option<Step>
     ensures { result ≡ statement_step word.now }
 {
     if is_return(word) {
@@ -139,69 +139,69 @@ fn statement_step(word: &Word) -> Option<Step>
     }
 }
 
-fn is_name(name: &[u8], word: &Word) -> bool
+fn is_name(name: &[u8], word: &TokenKind) -> bool
     ensures { result ≡ is_name name.now word.now }
 {
     match word {
-        Word::Identifier(spelling) => spelling.bytes() == name,
+        TokenKind::Identifier(spelling) => spelling.bytes() == name,
         _ => false,
     }
 }
 
 // The number that an integer constant stands for.
-fn number(word: &Word) -> Option<u64>
+fn number(word: &TokenKind) -> Option<u64>
     ensures { result ≡ number_of word.now }
 {
     match word {
-        Word::Integer(spelling) => Some(constant_of(spelling.bytes())?.value),
+        TokenKind::Integer(spelling) => Some(constant_of(spelling.bytes())?.value),
         _ => None,
     }
 }
 
-fn is_int(word: &Word) -> bool
+fn is_int(word: &TokenKind) -> bool
     ensures { result ≡ is_int word.now }
 {
-    matches!(word, Word::Keyword(Keyword::Int))
+    matches!(word, TokenKind::Keyword(Keyword::Int))
 }
 
-fn is_void(word: &Word) -> bool
+fn is_void(word: &TokenKind) -> bool
     ensures { result ≡ is_void word.now }
 {
-    matches!(word, Word::Keyword(Keyword::Void))
+    matches!(word, TokenKind::Keyword(Keyword::Void))
 }
 
-fn is_return(word: &Word) -> bool
+fn is_return(word: &TokenKind) -> bool
     ensures { result ≡ is_return word.now }
 {
-    matches!(word, Word::Keyword(Keyword::Return))
+    matches!(word, TokenKind::Keyword(Keyword::Return))
 }
 
-fn is_open(word: &Word) -> bool
+fn is_open(word: &TokenKind) -> bool
     ensures { result ≡ is_open word.now }
 {
-    matches!(word, Word::Punctuator(Punctuator::LeftParenthesis))
+    matches!(word, TokenKind::Punctuator(Punctuator::LeftParenthesis))
 }
 
-fn is_close(word: &Word) -> bool
+fn is_close(word: &TokenKind) -> bool
     ensures { result ≡ is_close word.now }
 {
-    matches!(word, Word::Punctuator(Punctuator::RightParenthesis))
+    matches!(word, TokenKind::Punctuator(Punctuator::RightParenthesis))
 }
 
-fn is_begin(word: &Word) -> bool
+fn is_begin(word: &TokenKind) -> bool
     ensures { result ≡ is_begin word.now }
 {
-    matches!(word, Word::Punctuator(Punctuator::LeftBrace))
+    matches!(word, TokenKind::Punctuator(Punctuator::LeftBrace))
 }
 
-fn is_end(word: &Word) -> bool
+fn is_end(word: &TokenKind) -> bool
     ensures { result ≡ is_end word.now }
 {
-    matches!(word, Word::Punctuator(Punctuator::RightBrace))
+    matches!(word, TokenKind::Punctuator(Punctuator::RightBrace))
 }
 
-fn is_semicolon(word: &Word) -> bool
+fn is_semicolon(word: &TokenKind) -> bool
     ensures { result ≡ is_semicolon word.now }
 {
-    matches!(word, Word::Punctuator(Punctuator::Semicolon))
+    matches!(word, TokenKind::Punctuator(Punctuator::Semicolon))
 }

@@ -7,7 +7,7 @@ ghost use Rattle.sbcets_core.specs.Refused.{refused_bytes};
 use crate::part::{PartError, program_of};
 use crate::program::Program;
 use crate::refusal::{RefusedWord, SourceRefusal};
-use c_lexer::{Tokens, Word};
+use c_lexer::{TokenKind, Tokens};
 use std::alloc::Global;
 
 /// The program of the expanded tokens, where they are a text of the part. Unsupported is the first token with which the
@@ -32,7 +32,7 @@ fn unsupported(alloc: Global, tokens: &Tokens, at: usize) -> SourceRefusal
     ensures { UnlessMemory result (result ≡ unsupported tokens.now.end (drop at tokens.now.tokens)) }
 {
     let (bytes, line) = match tokens.as_slice().get(at) {
-        Some(token) => (refused_bytes(&token.word), token.line),
+        Some(token) => (refused_bytes(&token.kind), token.line),
         None => (b"".as_slice(), tokens.end()),
     };
     match RefusedWord::copy(alloc, bytes) {
@@ -43,11 +43,11 @@ fn unsupported(alloc: Global, tokens: &Tokens, at: usize) -> SourceRefusal
 
 // How a word is told in a refusal.
 #[tactic(auto, unfolding(crate::specs::Refused::refused_bytes))]
-fn refused_bytes<'a>(word: &Word<'a>) -> &'a [u8]
+fn refused_bytes<'a>(word: &TokenKind<'a>) -> &'a [u8]
     ensures { result.now ≡ refused_bytes word.now }
 {
     match word {
-        Word::Wide(_) => b"L",
+        TokenKind::Wide(_) => b"L",
         _ => word.spelling(),
     }
 }

@@ -36,4 +36,11 @@ impl<T> Items<T> {
     {
         self.items.as_slice()
     }
+    /// The vector of the values.
+    pub fn into_vec(self) -> Vec<T>
+        ensures { result.items ≡ self }
+    {
+        let Items { items } = self;
+        items
+    }
 }

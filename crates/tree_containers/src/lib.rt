@@ -1,5 +1,5 @@
-//! The containers of trees: a `Box` and a `Vec` that contracts see as what they hold, without where it lies in memory, so
-//! that equal trees are equal values.
+//! The containers of trees: a `Box` and a `Vec` that contracts see as what they hold, without where it lies in memory,
+//! so that equal trees are equal values.
 #![tactic(auto)]
 
 pub mod boxed;

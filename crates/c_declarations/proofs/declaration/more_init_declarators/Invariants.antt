@@ -7,4 +7,5 @@ use Rattle.c_declarations.proofs.declaration.more_init_declarators.Given as goal
 abbrev pub invariant-loop : goal.invariant-loop
 invariant-loop l =
     more_init_declarators_from l.levels false (length l.fn.tokens.rest.now) l.names l.fn.tokens.rest.now
-    ≡ extending (more_init_declarators_in l.others.items) (more_init_declarators_from l.levels false (l.end - l.counter) l.names l.tokens.rest.now)
+    ≡ extending (more_init_declarators_in l.others.items) (more_init_declarators_from l.levels false (l.end - l.counter)
+    l.names l.tokens.rest.now)

@@ -14,9 +14,13 @@ returns-then-levels-eq0 t c =
 pub returns-then-not-begins_braced : goal.returns-then-not-begins_braced
 returns-then-not-begins_braced t c =
     let e : suc (c.args.levels - 1) ≡ c.args.levels = omega arith in
-    subst (λ o. Reads initializer_of o c.value.result c.value.new.tokens.rest.now) (value_is c.args.names.now c.args.levels (c.args.levels - 1) c.args.tokens.now.rest.now e (sym c.begins_braced.ensures ∙ c.if-not-begins_braced.true)) c.value.ensures
+    subst (λ o. Reads initializer_of o c.value.result c.value.new.tokens.rest.now)
+    (value_is c.args.names.now c.args.levels (c.args.levels - 1) c.args.tokens.now.rest.now e
+    (sym c.begins_braced.ensures ∙ c.if-not-begins_braced.true)) c.value.ensures
 
 pub returns : goal.returns
 returns t c =
     let e : suc (c.args.levels - 1) ≡ c.args.levels = omega arith in
-    subst (λ o. Reads initializer_of o c.braced.result c.braced.new.tokens.rest.now) (braced_is c.args.names.now c.args.levels (c.args.levels - 1) c.args.tokens.now.rest.now e (sym c.begins_braced.ensures ∙ c.if-not-begins_braced.false)) c.braced.ensures
+    subst (λ o. Reads initializer_of o c.braced.result c.braced.new.tokens.rest.now)
+    (braced_is c.args.names.now c.args.levels (c.args.levels - 1) c.args.tokens.now.rest.now e
+    (sym c.begins_braced.ensures ∙ c.if-not-begins_braced.false)) c.braced.ensures

@@ -8,4 +8,5 @@ use Rattle.c_declarations.proofs.initializer.designators.Given as goal
 abbrev pub invariant-loop : goal.invariant-loop
 invariant-loop l =
     designators_from (readers l.names l.levels) (length l.fn.tokens.rest.now) l.fn.tokens.rest.now
-    ≡ extending (designators_in l.designators.items) (designators_from (readers l.names l.levels) (l.end - l.counter) l.tokens.rest.now)
+    ≡ extending (designators_in l.designators.items) (designators_from (readers l.names l.levels) (l.end - l.counter)
+    l.tokens.rest.now)

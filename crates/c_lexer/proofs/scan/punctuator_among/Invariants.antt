@@ -6,4 +6,5 @@ use Rattle.c_lexer.proofs.scan.punctuator_among.Given as goal
 
 abbrev pub invariant-loop-punctuator : goal.invariant-loop-punctuator
 invariant-loop-punctuator l =
-    find (λ p. starts_with nat_eq l.text (punctuator_spelling p)) (drop l.punctuator-index l.table) ≡ find (λ p. starts_with nat_eq l.text (punctuator_spelling p)) l.table
+    find (λ p. starts_with nat_eq l.text (punctuator_spelling p)) (drop l.punctuator-index l.table)
+    ≡ find (λ p. starts_with nat_eq l.text (punctuator_spelling p)) l.table

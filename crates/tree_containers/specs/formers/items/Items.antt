@@ -32,19 +32,23 @@ the_empty = []
 abbrev pub the_items : (X : Type 0) → List X → List X
 the_items X values = values
 
-pub the_items_listed : (X : Type 0) (values : List X) → listed _ (children (the_former this) X values) ≡ the_items X values
+pub the_items_listed : (X : Type 0) (values : List X) → listed _ (children (the_former this) X values)
+    ≡ the_items X values
 the_items_listed X values = list-listed X values
 
 -- the field: a vector
 abbrev field : Former {0}
-field = via (vec.the_former this Global) Inside (λ X a. a.items) (λ X v. record { items = v }) (λ X a. refl) (λ X v. refl)
+field = via (vec.the_former this Global) Inside (λ X a. a.items) (λ X v. record { items = v }) (λ X a. refl)
+    (λ X v. refl)
 
 module _ (R S : RattleType) (h : R.Denot → S.Denot) where
   pub the_places : Alike R S h → Alike (C.the_row R) (C.the_row S) ((the_former this).map R.Denot S.Denot h)
-  the_places a = view_places field (list this) view (λ X Y k u. refl) (λ X u. refl) R.Denot S.Denot h (C.the_row R).coded (C.the_row S).coded
+  the_places a = view_places field (list this) view (λ X Y k u. refl) (λ X u. refl) R.Denot S.Denot h
+      (C.the_row R).coded (C.the_row S).coded
       (invariant R.Denot) (invariant S.Denot) (λ u p q. refl) (λ u p q. refl) (λ u e. tt) (λ u e. tt)
       (over (I.the_row R)) (over (I.the_row S))
-      (struct_places (I.the_type R) (I.the_type S) (vec.mapped h, tt) _ (λ d. refl) refl (laid _ _ _ (vec.the_places global.the_row ghosts R S h a), tt))
+      (struct_places (I.the_type R) (I.the_type S) (vec.mapped h, tt) _ (λ d. refl) refl
+      (laid _ _ _ (vec.the_places global.the_row ghosts R S h a), tt))
 
   pub the_codes_placed : Recodes R S h → Recodes (C.the_row R) (C.the_row S) ((the_former this).map R.Denot S.Denot h)
   the_codes_placed e values = sym (code_map R.coded.code S.coded.code h (λ x. sym (e x)) values)

@@ -9,6 +9,8 @@ use Rattle.c_declarations.proofs.initializer.Initializers.more_items.Given as go
 
 abbrev pub invariant-loop : goal.invariant-loop
 invariant-loop g l =
-    behind_commas_to_brace (item_from (readers l.self.names.now l.self.levels) (initializers l.self.names.now l.self.levels)) (length l.fn.tokens.rest.now) l.fn.tokens.rest.now
+    behind_commas_to_brace (item_from (readers l.self.names.now l.self.levels)
+    (initializers l.self.names.now l.self.levels)) (length l.fn.tokens.rest.now) l.fn.tokens.rest.now
     ≡ extending_to_brace (map (behind_comma item_of) l.others.items)
-    (behind_commas_to_brace (item_from (readers l.self.names.now l.self.levels) (initializers l.self.names.now l.self.levels)) (l.end - l.counter) l.tokens.rest.now)
+    (behind_commas_to_brace (item_from (readers l.self.names.now l.self.levels)
+    (initializers l.self.names.now l.self.levels)) (l.end - l.counter) l.tokens.rest.now)

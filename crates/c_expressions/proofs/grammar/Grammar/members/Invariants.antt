@@ -11,7 +11,9 @@ use Rattle.c_expressions.proofs.grammar.Grammar.members.Given as goal
 abbrev pub invariant-loop : goal.invariant-loop
 invariant-loop g l = record {
   read : members_from l.self.names.now (readers l.self.names.now l.self.levels) l.self.levels l.fn.tokens.rest.now
-      ≡ members_read (extending (map member_of l.members.tree.items) (up_to_brace (member_from l.self.names.now (readers l.self.names.now l.self.levels) l.self.levels) (l.end - l.counter) l.tokens.rest.now));
+      ≡ members_read (extending (map member_of l.members.tree.items)
+      (up_to_brace (member_from l.self.names.now (readers l.self.names.now l.self.levels) l.self.levels)
+      (l.end - l.counter) l.tokens.rest.now));
   known : l.members.levels ≡ members_levels (members_in l.members.tree.items);
   low : l.members.levels < l.self.levels;
 }

@@ -7,8 +7,10 @@ use Rattle.c_expressions.proofs.grammar.Grammar.more_arguments.Given as goal
 
 abbrev pub invariant-loop : goal.invariant-loop
 invariant-loop g l = record {
-  read : behind_commas ((readers l.self.names.now l.self.levels).expression None 2) (length l.fn.tokens.rest.now) l.fn.tokens.rest.now
-      ≡ extending (arguments_behind l.others.tree.items) (behind_commas ((readers l.self.names.now l.self.levels).expression None 2) (l.end - l.counter) l.tokens.rest.now);
+  read : behind_commas ((readers l.self.names.now l.self.levels).expression None 2) (length l.fn.tokens.rest.now)
+      l.fn.tokens.rest.now
+      ≡ extending (arguments_behind l.others.tree.items) (behind_commas
+      ((readers l.self.names.now l.self.levels).expression None 2) (l.end - l.counter) l.tokens.rest.now);
   known : l.others.levels ≡ arguments_behind_levels (arguments_behind l.others.tree.items);
   low : l.others.levels < l.self.levels;
 }

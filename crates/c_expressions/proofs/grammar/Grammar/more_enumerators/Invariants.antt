@@ -9,8 +9,11 @@ use Rattle.c_expressions.proofs.grammar.Grammar.more_enumerators.Given as goal
 
 abbrev pub invariant-loop : goal.invariant-loop
 invariant-loop g l = record {
-  read : behind_commas_to_brace (enumerator_from l.self.names.now (readers l.self.names.now l.self.levels) l.self.levels) (length l.fn.tokens.rest.now) l.fn.tokens.rest.now
-      ≡ extending_last (map (behind_comma enumerator_of) l.others.tree.items) (behind_commas_to_brace (enumerator_from l.self.names.now (readers l.self.names.now l.self.levels) l.self.levels) (l.end - l.counter) l.tokens.rest.now);
+  read : behind_commas_to_brace (enumerator_from l.self.names.now (readers l.self.names.now l.self.levels)
+      l.self.levels) (length l.fn.tokens.rest.now) l.fn.tokens.rest.now
+      ≡ extending_last (map (behind_comma enumerator_of) l.others.tree.items)
+      (behind_commas_to_brace (enumerator_from l.self.names.now (readers l.self.names.now l.self.levels) l.self.levels)
+      (l.end - l.counter) l.tokens.rest.now);
   known : l.others.levels ≡ more_enumerators_levels (more_enumerators_in l.others.tree.items);
   low : l.others.levels < l.self.levels;
 }

@@ -14,28 +14,58 @@ use Rattle.c_expressions.proofs.grammar.Grammar.more_parameters.Goals as goal
 
 pub returns-in_err-before : goal.returns-in_err-before
 returns-in_err-before g c =
-    let e = one_more (λ n. extending (parameters_behind c.loop.others.tree.items) (behind_commas (typed_from (readers c.args.self.now.names.now c.args.self.now.levels) kind.Either) n c.loop.tokens.rest.now)) (length c.args.tokens.now.rest.now) c.loop.counter c.loop-test.true c.loop.invariant.read in
-    let f = comma_fails (typed_from (readers c.args.self.now.names.now c.args.self.now.levels) kind.Either) (length c.args.tokens.now.rest.now - (c.loop.counter + 1)) (parameters_behind c.loop.others.tree.items) c.loop.tokens.rest.now c.in-Some.place c.take.new.self.rest.now c.typed.new.tokens.rest.now _ c.in_err-before.field-0.0 e c.in-Some.ensures (failed typed_of typed_levels _ _ _ _ _ c.typed.ensures (c.in_err-before.ensures.err _ refl)) in
+    let e = one_more (λ n. extending (parameters_behind c.loop.others.tree.items)
+    (behind_commas (typed_from (readers c.args.self.now.names.now c.args.self.now.levels) kind.Either) n
+    c.loop.tokens.rest.now)) (length c.args.tokens.now.rest.now) c.loop.counter c.loop-test.true
+    c.loop.invariant.read in
+    let f = comma_fails (typed_from (readers c.args.self.now.names.now c.args.self.now.levels) kind.Either)
+    (length c.args.tokens.now.rest.now - (c.loop.counter + 1)) (parameters_behind c.loop.others.tree.items)
+    c.loop.tokens.rest.now c.in-Some.position c.take.new.self.rest.now c.typed.new.tokens.rest.now _
+    c.in_err-before.field-0.0 e c.in-Some.ensures (failed typed_of typed_levels _ _ _ _ _ c.typed.ensures
+    (c.in_err-before.ensures.err _ refl)) in
     first_of (search rules, grind (arith, common_steps))
 
 pub loop-preserved : goal.loop-preserved
 loop-preserved g c =
     let r = given typed_of typed_levels _ _ _ _ _ c.typed.ensures c.in_ok-before.ensures.ok.1 in
-    let e = one_more (λ n. extending (parameters_behind c.loop.others.tree.items) (behind_commas (typed_from (readers c.args.self.now.names.now c.args.self.now.levels) kind.Either) n c.loop.tokens.rest.now)) (length c.args.tokens.now.rest.now) c.loop.counter c.loop-test.true c.loop.invariant.read in
+    let e = one_more (λ n. extending (parameters_behind c.loop.others.tree.items)
+    (behind_commas (typed_from (readers c.args.self.now.names.now c.args.self.now.levels) kind.Either) n
+    c.loop.tokens.rest.now)) (length c.args.tokens.now.rest.now) c.loop.counter c.loop-test.true
+    c.loop.invariant.read in
     record {
-      read = rw (c.in_ok-others.ensures.0, c.in_ok-before.ensures.ok.0) (e ∙ comma_turn typed_of (typed_from (readers c.args.self.now.names.now c.args.self.now.levels) kind.Either) (length c.args.tokens.now.rest.now - (c.loop.counter + 1)) c.loop.others.tree.items c.in_ok-before.parameter.tree
-          c.loop.tokens.rest.now c.in-Some.place c.take.new.self.rest.now c.typed.new.tokens.rest.now c.in-Some.ensures r.0);
-      known = c.in_ok-others.ensures.1 ∙ rw (c.in_ok-others.ensures.0, c.in_ok-before.ensures.ok.0, levels_turn (λ x. typed_levels x.1) parameters_behind_levels refl (λ x z. refl) (λ x. (x.0, typed_of x.1)) c.loop.others.tree.items (c.in-Some.place, c.in_ok-before.parameter.tree))
+      read = rw (c.in_ok-others.ensures.0, c.in_ok-before.ensures.ok.0)
+          (e ∙ comma_turn typed_of (typed_from (readers c.args.self.now.names.now c.args.self.now.levels) kind.Either)
+          (length c.args.tokens.now.rest.now - (c.loop.counter + 1)) c.loop.others.tree.items
+          c.in_ok-before.parameter.tree
+          c.loop.tokens.rest.now c.in-Some.position c.take.new.self.rest.now c.typed.new.tokens.rest.now
+          c.in-Some.ensures r.0);
+      known = c.in_ok-others.ensures.1 ∙ rw (
+        c.in_ok-others.ensures.0,
+        c.in_ok-before.ensures.ok.0,
+        levels_turn (λ x. typed_levels x.1) parameters_behind_levels refl (λ x z. refl) (λ x. (x.0, typed_of x.1))
+            c.loop.others.tree.items (c.in-Some.position, c.in_ok-before.parameter.tree),
+      )
           (cc (c.loop.invariant.known, r.1.said_levels));
-      low = omega (arith, c.in_ok-others.ensures.1, ap (λ x. x.levels) c.in_ok-before.ensures.ok.0, c.loop.invariant.low, r.1.low);
+      low = omega (
+        arith,
+        c.in_ok-others.ensures.1,
+        ap (λ x. x.levels) c.in_ok-before.ensures.ok.0,
+        c.loop.invariant.low,
+        r.1.low,
+      );
     }
 
 pub returns-in_default : goal.returns-in_default
 returns-in_default g c =
-    let e = c.loop.invariant.read ∙ comma_end (typed_from (readers c.args.self.now.names.now c.args.self.now.levels) kind.Either) _ (parameters_behind c.loop.others.tree.items) c.loop.tokens.rest.now c.in_default.ensures.0 in
+    let e = c.loop.invariant.read ∙ comma_end (typed_from (readers c.args.self.now.names.now c.args.self.now.levels)
+    kind.Either) _ (parameters_behind c.loop.others.tree.items) c.loop.tokens.rest.now c.in_default.ensures.0 in
     first_of (search rules, grind (arith, common_steps))
 
 pub returns : goal.returns
 returns g c =
-    let e = no_more (λ n. extending (parameters_behind c.loop.others.tree.items) (behind_commas (typed_from (readers c.args.self.now.names.now c.args.self.now.levels) kind.Either) n c.loop.tokens.rest.now)) (length c.args.tokens.now.rest.now) c.loop.counter c.loop-test.false c.loop.invariant.read ∙ comma_done (typed_from (readers c.args.self.now.names.now c.args.self.now.levels) kind.Either) (parameters_behind c.loop.others.tree.items) c.loop.tokens.rest.now in
+    let e = no_more (λ n. extending (parameters_behind c.loop.others.tree.items)
+    (behind_commas (typed_from (readers c.args.self.now.names.now c.args.self.now.levels) kind.Either) n
+    c.loop.tokens.rest.now)) (length c.args.tokens.now.rest.now) c.loop.counter c.loop-test.false c.loop.invariant.read
+    ∙ comma_done (typed_from (readers c.args.self.now.names.now c.args.self.now.levels) kind.Either)
+    (parameters_behind c.loop.others.tree.items) c.loop.tokens.rest.now in
     first_of (search rules, grind (arith, common_steps))

@@ -9,8 +9,10 @@ use Rattle.c_expressions.proofs.grammar.Grammar.more_parameters.Given as goal
 
 abbrev pub invariant-loop : goal.invariant-loop
 invariant-loop g l = record {
-  read : behind_commas (typed_from (readers l.self.names.now l.self.levels) kind.Either) (length l.fn.tokens.rest.now) l.fn.tokens.rest.now
-      ≡ extending (parameters_behind l.others.tree.items) (behind_commas (typed_from (readers l.self.names.now l.self.levels) kind.Either) (l.end - l.counter) l.tokens.rest.now);
+  read : behind_commas (typed_from (readers l.self.names.now l.self.levels) kind.Either) (length l.fn.tokens.rest.now)
+      l.fn.tokens.rest.now
+      ≡ extending (parameters_behind l.others.tree.items) (behind_commas
+      (typed_from (readers l.self.names.now l.self.levels) kind.Either) (l.end - l.counter) l.tokens.rest.now);
   known : l.others.levels ≡ parameters_behind_levels (parameters_behind l.others.tree.items);
   low : l.others.levels < l.self.levels;
 }

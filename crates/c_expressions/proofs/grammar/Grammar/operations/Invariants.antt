@@ -8,7 +8,9 @@ use Rattle.c_expressions.proofs.grammar.Grammar.operations.Given as goal
 
 abbrev pub invariant-loop : goal.invariant-loop
 invariant-loop g l = record {
-  read : operations_from l.self.names.now (readers l.self.names.now l.self.levels) l.self.levels l.self.levels l.least (expression_of l.fn.first.tree) l.fn.tokens.rest.now
-      ≡ operations_from l.self.names.now (readers l.self.names.now l.self.levels) l.self.levels (l.end - l.counter) l.least (expression_of l.left.tree) l.tokens.rest.now;
+  read : operations_from l.self.names.now (readers l.self.names.now l.self.levels) l.self.levels l.self.levels l.least
+      (expression_of l.fn.first.tree) l.fn.tokens.rest.now
+      ≡ operations_from l.self.names.now (readers l.self.names.now l.self.levels) l.self.levels (l.end - l.counter)
+      l.least (expression_of l.left.tree) l.tokens.rest.now;
   known : Below (suc l.self.levels) l.left.levels (expression_levels (expression_of l.left.tree));
 }

@@ -8,7 +8,9 @@ use Rattle.c_expressions.proofs.grammar.Grammar.suffixes.Given as goal
 
 abbrev pub invariant-loop : goal.invariant-loop
 invariant-loop g l = record {
-  read : suffixes_from l.self.names.now (readers l.self.names.now l.self.levels) l.self.levels l.self.levels (declarator_of l.fn.first.tree) l.fn.tokens.rest.now
-      ≡ suffixes_from l.self.names.now (readers l.self.names.now l.self.levels) l.self.levels (l.end - l.counter) (declarator_of l.left.tree) l.tokens.rest.now;
+  read : suffixes_from l.self.names.now (readers l.self.names.now l.self.levels) l.self.levels l.self.levels
+      (declarator_of l.fn.first.tree) l.fn.tokens.rest.now
+      ≡ suffixes_from l.self.names.now (readers l.self.names.now l.self.levels) l.self.levels (l.end - l.counter)
+      (declarator_of l.left.tree) l.tokens.rest.now;
   known : Below (suc l.self.levels) l.left.levels (declarator_levels (declarator_of l.left.tree));
 }

@@ -29,29 +29,17 @@ decreases-by_word l = 10 * l.depth + 8
 abbrev pub decreases-case_statement : goal.decreases-case_statement
 decreases-case_statement l = 10 * l.depth + 5
 
-abbrev pub decreases-deeper : goal.decreases-deeper
-decreases-deeper l = 10 * l.depth + 2
-
 abbrev pub decreases-default_statement : goal.decreases-default_statement
 decreases-default_statement l = 10 * l.depth + 5
 
 abbrev pub decreases-do_statement : goal.decreases-do_statement
 decreases-do_statement l = 10 * l.depth + 5
 
-abbrev pub decreases-for_end : goal.decreases-for_end
-decreases-for_end l = 10 * l.depth + 3
-
-abbrev pub decreases-for_rest : goal.decreases-for_rest
-decreases-for_rest l = 10 * l.depth + 4
-
 abbrev pub decreases-for_statement : goal.decreases-for_statement
 decreases-for_statement l = 10 * l.depth + 5
 
 abbrev pub decreases-if_statement : goal.decreases-if_statement
 decreases-if_statement l = 10 * l.depth + 5
-
-abbrev pub decreases-labelled : goal.decreases-labelled
-decreases-labelled l = 10 * l.depth + 3
 
 abbrev pub decreases-otherwise : goal.decreases-otherwise
 decreases-otherwise l = 10 * l.depth + 3
@@ -73,5 +61,8 @@ decreases-while_statement l = 10 * l.depth + 5
 
 abbrev pub invariant-block_items-loop : goal.invariant-block_items-loop
 invariant-block_items-loop l =
-    up_to_brace (block_item_from l.self.levels l.self.names.now (statements l.self.levels l.self.names.now l.depth)) (length l.fn.tokens.rest.now) l.fn.tokens.rest.now
-    ≡ extending (block_items_in l.items.items) (up_to_brace (block_item_from l.self.levels l.self.names.now (statements l.self.levels l.self.names.now l.depth)) (l.end - l.counter) l.tokens.rest.now)
+    up_to_brace (block_item_from l.self.levels l.self.names.now (statements l.self.levels l.self.names.now l.depth))
+    (length l.fn.tokens.rest.now) l.fn.tokens.rest.now
+    ≡ extending (block_items_in l.items.items)
+    (up_to_brace (block_item_from l.self.levels l.self.names.now (statements l.self.levels l.self.names.now l.depth))
+    (l.end - l.counter) l.tokens.rest.now)

@@ -1,15 +1,15 @@
-//! Where a token stands in the text, and tokens with their places.
+//! Where a token stands in the text, and tokens with their positions.
 
 ghost use Rattle.std.specs.Prelude.{◌≡◌, IfOk};
-ghost use Rattle.c_syntax.specs.Words.{placed};
+ghost use Rattle.c_syntax.specs.Words.{positioned};
 
-use c_lexer::{Spelling, Token, Word};
+use c_lexer::{Spelling, Token, TokenKind};
 use sb_base::Line;
 use std::alloc::{AllocError, Global};
 
 /// Where a token stands.
 #[derive(Clone, Copy, Debug, PartialEq, Eq)]
-pub struct Place {
+pub struct Position {
     /// Its number among the tokens, from 0.
     pub at: u64,
     /// The line on which it begins.
@@ -18,11 +18,11 @@ pub struct Place {
 
 /// A word and where it stands.
 #[derive(Drop)]
-pub struct Placed<'a> {
+pub struct Positioned<'a> {
     /// What it is.
-    pub word: Word<'a>,
+    pub kind: TokenKind<'a>,
     /// Where it stands.
-    pub place: Place,
+    pub position: Position,
 }
 
 /// A token whose kind does not fix its spelling, as an identifier, a constant or a string literal: its spelling and
@@ -32,22 +32,25 @@ pub struct Spelled<'a> {
     /// How it is spelled.
     pub spelling: Spelling<'a>,
     /// Where it stands.
-    pub place: Place,
+    pub position: Position,
 }
 
-/// The words of tokens with their places, numbered from 0, or the answer that there is no memory for them.
-pub fn with_places<'a>(alloc: Global, tokens: &[Token<'a>]) -> Result<Vec<Placed<'a>>, AllocError>
-    ensures { IfOk result (λ words. words.items ≡ placed tokens.now) }
+/// The words of tokens with their positions, numbered from 0, or the answer that there is no memory for them.
+pub fn with_positions<'a>(
+    alloc: Global,
+    tokens: &[Token<'a>],
+) -> Result<Vec<Positioned<'a>>, AllocError>
+    ensures { IfOk result (λ words. words.items ≡ positioned tokens.now) }
 {
     let mut words = Vec::new(alloc);
     for token in tokens {
-        let place = Place {
+        let position = Position {
             at: words.len() as u64,
             line: token.line,
         };
-        words.push(Placed {
-            word: token.word.again(),
-            place,
+        words.push(Positioned {
+            kind: token.kind.again(),
+            position,
         })?;
     }
     Ok(words)

@@ -4,7 +4,7 @@ use Rattle.std.proofs.Common.{Some, None, Ok, Err, refl, sym, ap, ◌∙◌, sub
 use Rattle.c_lexer.specs.declared.token.Token.{Token}
 use Rattle.c_lexer.specs.Spelled.{TokenList}
 use Rattle.c_syntax.specs.Statements as statements
-use Rattle.c_syntax.specs.Words.{Words, placed}
+use Rattle.c_syntax.specs.Words.{Words, positioned}
 use Rattle.c_grammar.specs.Reader.{Outcome}
 use Rattle.c_grammar.specs.UnitReader.{unit_from}
 use Rattle.c_grammar.proofs.Exact.{what_is_read}
@@ -196,18 +196,18 @@ parted list (Ok program) t e = (t, e)
 parted list (Err refusal) t e = by_part list refusal t (sym e)
 
 -- tokens that the reader of files refuses are judged by where it does
-refused_there : (list : TokenList) (r : Words) (is_nesting : Bool) → unit_from (placed list.tokens) ≡ Err r
+refused_there : (list : TokenList) (r : Words) (is_nesting : Bool) → unit_from (positioned list.tokens) ≡ Err r
     → is_nested_too_deep (take (suc (length list.tokens - length r)) list.tokens) ≡ is_nesting
     → IsRefusedAt list (length list.tokens - length r) (line_at list (length list.tokens - length r)) is_nesting
 refused_there list r is_nesting e kind = record {
-  no_tree = λ u t. none_where_refused (placed list.tokens) r e u t.formed t.same;
+  no_tree = λ u t. none_where_refused (positioned list.tokens) r e u t.formed t.same;
   stood = record { rest = r; refused = e; here = refl };
   within = omega arith;
   on_line = refl;
   kind = kind;
 }
 
-by_kind : (list : TokenList) (r : Words) (is_nesting : Bool) → unit_from (placed list.tokens) ≡ Err r
+by_kind : (list : TokenList) (r : Words) (is_nesting : Bool) → unit_from (positioned list.tokens) ≡ Err r
     → is_nested_too_deep (take (suc (length list.tokens - length r)) list.tokens) ≡ is_nesting
     → (answer : Judged) × JudgesTokens list answer
 by_kind list r false e kind = (
@@ -221,10 +221,10 @@ by_kind list r true e kind = (
       true e kind,
 )
 
-by_reader : (list : TokenList) (o : Outcome statements.Unit) → unit_from (placed list.tokens) ≡ o
+by_reader : (list : TokenList) (o : Outcome statements.Unit) → unit_from (positioned list.tokens) ≡ o
     → (answer : Judged) × JudgesTokens list answer
 by_reader list (Ok (u, r)) e =
-    let tree = what_is_read (placed list.tokens) u r e in (
+    let tree = what_is_read (positioned list.tokens) u r e in (
       of_part list.end (program_of list.tokens),
       parted list (of_part list.end (program_of list.tokens))
           (u, record { formed = tree.1; same = tree.2 }) refl,
@@ -234,7 +234,7 @@ by_reader list (Err r) e = by_kind list r (is_nested_too_deep (take (suc (length
 
 some_readable : (readable : Readable) → (answer : Judged) × JudgesReadable readable answer
 some_readable (Err early) = (Err early, refl)
-some_readable (Ok list) = by_reader list (unit_from (placed list.tokens)) refl
+some_readable (Ok list) = by_reader list (unit_from (positioned list.tokens)) refl
 
 -- a source is judged
 pub some_judgement : (source : List ℕ) → (answer : Judged) × Judges source answer

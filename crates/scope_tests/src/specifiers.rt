@@ -1,12 +1,14 @@
 //! The keywords of specifiers, and the types that C99 6.7.2 paragraph 2 gives them.
 
+use Keyword::{
+    Char, Const, Extern, Inline, Int, Long, Register, Short, Signed, Static, Typedef, Unsigned,
+    Void,
+};
 use c_lexer::Keyword;
 use c_scope::meaning::Storage;
 use c_specifiers::Specified;
 use c_tree::TypeWord;
 use obj_memory::IntType;
-
-use Keyword::{Char, Const, Extern, Inline, Int, Long, Register, Short, Signed, Static, Typedef, Unsigned, Void};
 
 const ROWS: [(&[Keyword], TypeWord); 14] = [
     (&[Void], TypeWord::Void),
@@ -14,14 +16,23 @@ const ROWS: [(&[Keyword], TypeWord); 14] = [
     (&[Char, Signed], TypeWord::Integer(IntType::SignedChar)),
     (&[Unsigned, Char], TypeWord::Integer(IntType::UnsignedChar)),
     (&[Int, Short, Signed], TypeWord::Integer(IntType::Short)),
-    (&[Short, Unsigned], TypeWord::Integer(IntType::UnsignedShort)),
+    (
+        &[Short, Unsigned],
+        TypeWord::Integer(IntType::UnsignedShort),
+    ),
     (&[Signed], TypeWord::Integer(IntType::Int)),
     (&[Const, Int, Extern], TypeWord::Integer(IntType::Int)),
     (&[Int, Unsigned], TypeWord::Integer(IntType::UnsignedInt)),
     (&[Long, Int], TypeWord::Integer(IntType::Long)),
-    (&[Unsigned, Static, Long], TypeWord::Integer(IntType::UnsignedLong)),
+    (
+        &[Unsigned, Static, Long],
+        TypeWord::Integer(IntType::UnsignedLong),
+    ),
     (&[Long, Signed, Long], TypeWord::Integer(IntType::LongLong)),
-    (&[Long, Unsigned, Int, Long], TypeWord::Integer(IntType::UnsignedLongLong)),
+    (
+        &[Long, Unsigned, Int, Long],
+        TypeWord::Integer(IntType::UnsignedLongLong),
+    ),
     (&[Unsigned], TypeWord::Integer(IntType::UnsignedInt)),
 ];
 

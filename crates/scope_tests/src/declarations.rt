@@ -176,6 +176,7 @@ const ROWS: [Row; 31] = [
 // The line of a place in a step.
 fn line(step: usize, place: u32) -> Line {
     let step = u32::try_from(step).unwrap_or(0).min(100);
+    let place = place.min(3);
     Line::new(step * 3 + place + 1)
 }
 

@@ -1,0 +1,107 @@
+-- Elements of lists of statements and of items of a switch.
+use Rattle.std.proofs.Common.{◌≡◌, ℕ, zero, suc, ◌+◌, ◌-◌, ◌≤◌, ◌<◌, Bool, true, false, List, [], ◌∷◌, length, map, drop, refl, sym}
+use Rattle.std.proofs.Common.{ap, ◌∙◌, subst, arith}
+use Rattle.std.specs.Prelude.{get_or, slice_set, ◌&&◌}
+use Rattle.c_tree.specs.declared.statement.CaseLabel.{CaseLabel}
+use Rattle.c_tree.specs.declared.statement.Statement.{Statement as CodeStatement}
+use Rattle.c_tree.specs.declared.statement.SwitchItem.{SwitchItem as CodeItem}
+use Rattle.c_tree.specs.declared.statement.Statement.TheFolds.{fold_out-SwitchItem}
+use Rattle.c_tree.specs.Statements.{Statement, statements_in, items_in}
+use Rattle.c_tree.specs.View.{statement_of, statement_step, item_step}
+use Rattle.statement_parts.specs.Items.{item_of}
+use Rattle.statement_lowering.specs.Sizes.{statement_height, each_height, items_height, statement_nodes, each_nodes}
+use Rattle.statement_lowering.specs.Sizes.{items_nodes}
+use Rattle.statement_lowering.specs.Switches.{are_decided, each_decided, items_decided}
+
+pub of_item : (x : CodeItem) → item_of x ≡ (x.labels, statement_of x.statement)
+of_item x = fold_out-SwitchItem Statement (List CaseLabel × Statement) statement_step item_step x
+
+pub drop_from : {A : Type 0} (xs : List A) (k : ℕ) (x : A) → k < length xs → x ≡ get_or xs k x → drop k xs ≡ x ∷ drop (k + 1) xs
+drop_from [] k x lt e = absurd (omega (arith, lt))
+drop_from (y ∷ xs) zero x lt e = ap (λ z. z ∷ xs) (sym e)
+drop_from (y ∷ xs) (suc k) x lt e =
+    let at : suc (k + 1) ≡ suc k + 1 = omega arith in
+    drop_from xs k x (omega (arith, lt)) e ∙ ap (λ n. x ∷ drop n (y ∷ xs)) at
+
+-- within a list the value behind it says nothing
+pub get_any : {A : Type 0} (xs : List A) (k : ℕ) (x y : A) → k < length xs → get_or xs k x ≡ get_or xs k y
+get_any [] k x y lt = absurd (omega (arith, lt))
+get_any (z ∷ xs) zero x y lt = refl
+get_any (z ∷ xs) (suc k) x y lt = get_any xs k x y (omega (arith, lt))
+
+-- the element before those from a place on
+pub drop_number : {A : Type 0} (xs : List A) (i : ℕ) (x : A) → 1 ≤ i → i ≤ length xs → x ≡ get_or xs (i - 1) x
+    → x ∷ drop i xs ≡ drop (i - 1) xs
+drop_number xs i x ge le is =
+    let at : i - 1 + 1 ≡ i = omega (arith, ge) in
+    ap (λ p. x ∷ drop p xs) (sym at) ∙ sym (drop_from xs (i - 1) x (omega (arith, ge, le)) is)
+
+-- and where it is set
+set_from : (xs : List ℕ) (k x : ℕ) → k < length xs → drop k (slice_set xs k x) ≡ x ∷ drop (k + 1) xs
+set_from [] k x lt = absurd (omega (arith, lt))
+set_from (y ∷ xs) zero x lt = refl
+set_from (y ∷ xs) (suc k) x lt =
+    let at : suc (k + 1) ≡ suc k + 1 = omega arith in
+    set_from xs k x (omega (arith, lt)) ∙ ap (λ n. x ∷ drop n (y ∷ xs)) at
+
+pub drop_set : (xs : List ℕ) (i x : ℕ) → 1 ≤ i → i ≤ length xs → x ∷ drop i xs ≡ drop (i - 1) (slice_set xs (i - 1) x)
+drop_set xs i x ge le =
+    let at : i - 1 + 1 ≡ i = omega (arith, ge) in
+    ap (λ p. x ∷ drop p xs) (sym at) ∙ sym (set_from xs (i - 1) x (omega (arith, ge, le)))
+
+left_true : (a b : Bool) → a && b ≡ true → a ≡ true
+left_true true b e = refl
+left_true false b e = cc
+
+right_true : (a b : Bool) → a && b ≡ true → b ≡ true
+right_true true b e = e
+right_true false b e = cc
+
+-- statements
+
+pub height_at : (xs : List CodeStatement) (k : ℕ) (x : CodeStatement) → k < length xs → x ≡ get_or xs k x
+    → statement_height (statement_of x) ≤ each_height (statements_in (map statement_of xs))
+height_at [] k x lt e = absurd (omega (arith, lt))
+height_at (y ∷ xs) zero x lt e = omega (arith, ap (λ z. statement_height (statement_of z)) e)
+height_at (y ∷ xs) (suc k) x lt e = omega (arith, height_at xs k x (omega (arith, lt)) e)
+
+pub nodes_at : (xs : List CodeStatement) (k : ℕ) (x : CodeStatement) → k < length xs → x ≡ get_or xs k x
+    → statement_nodes (statement_of x) + 1 ≤ each_nodes (statements_in (map statement_of xs))
+nodes_at [] k x lt e = absurd (omega (arith, lt))
+nodes_at (y ∷ xs) zero x lt e = omega (arith, ap (λ z. statement_nodes (statement_of z)) e)
+nodes_at (y ∷ xs) (suc k) x lt e = omega (arith, nodes_at xs k x (omega (arith, lt)) e)
+
+pub decided_at : (xs : List CodeStatement) (k : ℕ) (x : CodeStatement) → k < length xs → x ≡ get_or xs k x
+    → each_decided (statements_in (map statement_of xs)) ≡ true → are_decided (statement_of x) ≡ true
+decided_at [] k x lt e h = absurd (omega (arith, lt))
+decided_at (y ∷ xs) zero x lt e h =
+    ap (λ z. are_decided (statement_of z)) e ∙ left_true (are_decided (statement_of y)) (each_decided (statements_in (map statement_of xs))) h
+decided_at (y ∷ xs) (suc k) x lt e h =
+    decided_at xs k x (omega (arith, lt)) e
+    (right_true (are_decided (statement_of y)) (each_decided (statements_in (map statement_of xs))) h)
+
+-- items
+
+pub item_height_at : (xs : List CodeItem) (k : ℕ) (x : CodeItem) → k < length xs → x ≡ get_or xs k x
+    → statement_height (statement_of x.statement) ≤ items_height (items_in (map item_of xs))
+item_height_at [] k x lt e = absurd (omega (arith, lt))
+item_height_at (y ∷ xs) zero x lt e =
+    omega (arith, ap (λ z. statement_height (statement_of z.statement)) e, ap (λ i. statement_height i.1) (of_item y))
+item_height_at (y ∷ xs) (suc k) x lt e = omega (arith, item_height_at xs k x (omega (arith, lt)) e)
+
+pub item_nodes_at : (xs : List CodeItem) (k : ℕ) (x : CodeItem) → k < length xs → x ≡ get_or xs k x
+    → statement_nodes (statement_of x.statement) + 1 ≤ items_nodes (items_in (map item_of xs))
+item_nodes_at [] k x lt e = absurd (omega (arith, lt))
+item_nodes_at (y ∷ xs) zero x lt e =
+    omega (arith, ap (λ z. statement_nodes (statement_of z.statement)) e, ap (λ i. statement_nodes i.1) (of_item y))
+item_nodes_at (y ∷ xs) (suc k) x lt e = omega (arith, item_nodes_at xs k x (omega (arith, lt)) e)
+
+pub item_decided_at : (xs : List CodeItem) (k : ℕ) (x : CodeItem) → k < length xs → x ≡ get_or xs k x
+    → items_decided (items_in (map item_of xs)) ≡ true → are_decided (statement_of x.statement) ≡ true
+item_decided_at [] k x lt e h = absurd (omega (arith, lt))
+item_decided_at (y ∷ xs) zero x lt e h =
+    ap (λ z. are_decided (statement_of z.statement)) e ∙ sym (ap (λ i. are_decided i.1) (of_item y))
+    ∙ left_true (are_decided (item_of y).1) (items_decided (items_in (map item_of xs))) h
+item_decided_at (y ∷ xs) (suc k) x lt e h =
+    item_decided_at xs k x (omega (arith, lt)) e
+    (right_true (are_decided (item_of y).1) (items_decided (items_in (map item_of xs))) h)

@@ -1,0 +1,116 @@
+-- Loops from their parts.
+use Rattle.std.proofs.Common.{◌≡◌, ℕ, ◌+◌, ◌≤◌, List, length, Option, Some, None, refl, sym, ap, subst, arith}
+use Rattle.std.specs.Prelude.{max}
+use Rattle.c_tree.specs.declared.program.Variable.{Variable}
+use Rattle.c_tree.specs.Blocks.{first_variables, first_contents, if_any}
+use Rattle.c_tree.specs.Room.{height}
+use Rattle.c_tree.specs.Tree.{Expression}
+use Rattle.c_tree.specs.Statements.{First, Statement, while_do, do_while, for}
+use Rattle.tac_ir.specs.declared.instruction.Instruction.{Instruction}
+use Rattle.tac_ir.specs.declared.instruction.Instruction.TheVariants as tac
+use Rattle.tac_ir.specs.Temporaries.{temporaries}
+use Rattle.c_lower.specs.Counted.{CountedParts, counted_parts}
+use Rattle.c_lower.specs.Statements.{in_loop, LowersStatement, LowersEntry, LowersLeaving, has_objects_of, CountedIs}
+use Rattle.expression_lowering.specs.declared.emitter.Emitter.{Emitter}
+use Rattle.expression_lowering.specs.Emitted.{Has, Emits, nodes}
+use Rattle.expression_lowering.proofs.Growing.{emits_then, fills_before, keeps_on}
+use Rattle.statement_parts.specs.declared.exits.Exits.{Exits}
+use Rattle.statement_parts.specs.declared.loops.ForHead.{ForHead}
+use Rattle.statement_parts.specs.Leaving.{exits_of}
+use Rattle.statement_parts.specs.Code.{most, first_nodes, condition_nodes, part_nodes}
+use Rattle.statement_parts.specs.Loops.{Waits, Filled, HeadCode, ForHeadCode, ForTailCode}
+use Rattle.statement_parts.proofs.LoopParts.{filled_fills, filled_keeps, filled_fits, filled_length, filled_holds}
+use Rattle.statement_lowering.specs.Code.{StatementCode}
+use Rattle.statement_lowering.specs.Sizes.{statement_height, statement_nodes}
+use Rattle.statement_lowering.proofs.Heights.{needs_one}
+
+-- a reserved node still waits behind a statement
+pub waits_on : {vs : List Variable} {a b : Emitter} {s : Statement} {x : Exits} {t n : ℕ} → Waits a t
+    → StatementCode vs a b s n x → Waits b t
+waits_on w h = record { by = h.emits.kept.code _ _ w.by }
+
+-- code that grew, of which a node is filled that was reserved since
+filled_emits : {a b c d : Emitter} {m k n j turn : ℕ} {i : Instruction} (most count : ℕ) → Emits a b m k
+    → length a.code.items ≤ turn → Emits b c n j → Filled c d turn i → Has c turn tac.Reserved → temporaries i ≤ most
+    → m ≤ most → n ≤ most → k + j ≤ count → Emits a d most count
+filled_emits most count e fresh g f still li lm ln lk = record {
+  kept = filled_keeps f (keeps_on e.kept g.kept) fresh;
+  fits = λ limit le h.
+      filled_fits limit f still (omega (arith, li, le))
+          (g.fits limit (omega (arith, ln, le)) (e.fits limit (omega (arith, lm, le)) h));
+  grown = omega (arith, filled_length f, e.grown, g.grown, lk);
+}
+
+pub while_code : {vs : List Variable} {a b c d : Emitter} {e : Expression} {s : Statement} {turn start n : ℕ} {x y : Exits}
+    → HeadCode a b e turn start x.next → exits_of y ≡ in_loop (exits_of x) start → StatementCode vs b c s n y
+    → Filled c d turn (tac.Turn None n) → StatementCode vs a d (while_do e s) start x
+while_code {e = e} {s = s} {turn = turn} {n = n} h q g f =
+    let still = g.emits.kept.code turn tac.Reserved h.waits.by in
+    record {
+      emits = filled_emits (max (height e) (statement_height s)) (2 + nodes e + statement_nodes s) h.emits h.fresh g.emits f
+          still (omega arith) (omega (arith, needs_one s)) (omega arith) (omega arith);
+      stands = λ p v k.
+          let fg = filled_fills f still k in (
+            turn,
+            n,
+            h.stands p (fills_before g.emits fg),
+            filled_holds f still tt k,
+            subst (LowersStatement p s n) q (g.stands p v fg),
+          );
+    }
+
+pub do_code : {vs : List Variable} {a b c d : Emitter} {e : Expression} {s : Statement} {turn start n : ℕ} {x y : Exits}
+    → HeadCode a b e turn start x.next → exits_of y ≡ in_loop (exits_of x) start → StatementCode vs b c s n y
+    → Filled c d turn (tac.Turn None n) → StatementCode vs a d (do_while s e) turn x
+do_code {e = e} {s = s} {turn = turn} {start = start} {n = n} h q g f =
+    let still = g.emits.kept.code turn tac.Reserved h.waits.by in
+    record {
+      emits = filled_emits (max (height e) (statement_height s)) (2 + nodes e + statement_nodes s) h.emits h.fresh g.emits f
+          still (omega arith) (omega (arith, needs_one s)) (omega arith) (omega arith);
+      stands = λ p v k.
+          let fg = filled_fills f still k in (
+            n,
+            start,
+            filled_holds f still tt k,
+            subst (LowersStatement p s n) q (g.stands p v fg),
+            h.stands p (fills_before g.emits fg),
+          );
+    }
+
+pub for_code : {vs : List Variable} {a b c d : Emitter} {numbers : List ℕ} {line : ℕ} {first : First}
+    {test step : Option Expression} {s : Statement} {h : ForHead} {parts : Option CountedParts} {n body : ℕ} {x y : Exits}
+    → numbers ≡ first_variables first → ForHeadCode vs a b numbers test step h x
+    → exits_of y ≡ in_loop (exits_of h.inside) h.step → StatementCode vs b c s body y
+    → parts ≡ counted_parts first test step s → ForTailCode vs c d numbers line first parts h body n
+    → StatementCode vs a d (for line first test step s) n x
+for_code {line = line} {first = first} {test = test} {step = step} {s = s} {h = h} {n = n} {body = body} {x = x} same k q g
+    ranged t = record {
+      emits = record {
+        kept = t.grows.keeps _ (keeps_on k.emits.kept g.emits.kept) k.fresh;
+        fits = λ limit le f.
+            t.grows.fits limit (omega (arith, le))
+                (g.emits.fits limit (omega (arith, le)) (k.emits.fits limit (omega (arith, le)) f));
+        grown = omega (arith, t.grows.grown, g.emits.grown, k.emits.grown);
+      };
+      stands = λ p v f.
+          let fg = t.grows.fills p f in
+          let fk = fills_before g.emits fg in (
+            t.setting,
+            h.condition,
+            h.turn,
+            body,
+            h.step,
+            exits_of h.inside,
+            t.counted,
+            (
+              subst (λ ns. LowersEntry p (has_objects_of p ns) ns line n t.setting) same (t.enters p v f),
+              subst (λ ns. LowersLeaving p (has_objects_of p ns) (exits_of h.inside) (exits_of x)) same (k.leaves p v fk),
+            ),
+            t.sets p f,
+            k.tests p fk,
+            t.turns p f,
+            subst (λ r. CountedIs p.loops t.counted r t.setting h.condition h.turn h.step) ranged (t.counts p f),
+            k.goes_on p fk,
+            subst (LowersStatement p s body) q (g.stands p v fg),
+          );
+    }

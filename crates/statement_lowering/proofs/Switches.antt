@@ -1,0 +1,165 @@
+-- Switches from their parts.
+use Rattle.std.proofs.Common.{◌≡◌, ℕ, zero, suc, ◌+◌, ◌-◌, ◌≤◌, ◌<◌, Bool, true, false, List, [], ◌∷◌, length, map, drop, refl, sym}
+use Rattle.std.proofs.Common.{ap, ◌∙◌, subst, arith}
+use Rattle.std.specs.Prelude.{get_or, slice_set, max, not, ◌&&◌, ◌||◌, if◌then◌else◌}
+use Rattle.c_tree.specs.declared.program.Variable.{Variable}
+use Rattle.c_tree.specs.declared.statement.SwitchItem.{SwitchItem as CodeItem}
+use Rattle.c_tree.specs.Blocks.{switch_variables}
+use Rattle.c_tree.specs.Room.{height}
+use Rattle.c_tree.specs.Tree.{Expression}
+use Rattle.c_tree.specs.Statements.{SwitchItems, no_items, items, items_in, switch}
+use Rattle.c_tree.specs.View.{statement_of}
+use Rattle.c_lower.specs.Placed.{Placed}
+use Rattle.c_lower.specs.Statements.{Exits as Left, LowersStatement, LowersItems, LowersEntry, LowersLeaving, has_objects_of}
+use Rattle.c_lower.specs.Statements.{LowersLabels, in_switch, any_default, has_default}
+use Rattle.expression_lowering.specs.declared.emitter.Emitter.{Emitter}
+use Rattle.expression_lowering.specs.Emitted.{ExpressionCode, nodes}
+use Rattle.expression_lowering.proofs.Growing.{emits_none, emits_then, fills_before}
+use Rattle.statement_parts.specs.declared.exits.Exits.{Exits}
+use Rattle.statement_parts.specs.Items.{item_of}
+use Rattle.statement_parts.specs.Leaving.{exits_of, before}
+use Rattle.statement_parts.specs.Code.{EntryCode, LeavingCode}
+use Rattle.statement_parts.proofs.InitializerParts.{drop_before, evaluated_emits}
+use Rattle.statement_lowering.specs.Code.{StatementCode, ItemsFrom, ItemsCode, TestsCode, bodies_nodes, tests_nodes}
+use Rattle.statement_lowering.specs.Sizes.{statement_height, items_height, statement_nodes, items_nodes}
+use Rattle.statement_lowering.specs.Switches.{has_one_default, default_start, LowersBodies, LowersTests, DefaultsBegin}
+use Rattle.statement_lowering.proofs.Elements.{of_item, drop_set}
+use Rattle.statement_lowering.proofs.Heights.{items_need_one}
+
+-- items
+
+pub no_items_code : {vs : List Variable} {a : Emitter} {x : Exits} (starts : List ℕ)
+    → ItemsFrom vs a a no_items starts x.next x
+no_items_code starts = record { emits = emits_none 1 0; stands = λ c v f. refl }
+
+more_items : {vs : List Variable} {a b c : Emitter} {n k : ℕ} {x y : Exits} (i : CodeItem) (is : SwitchItems)
+    (starts : List ℕ) → exits_of y ≡ before (exits_of x) k → ItemsFrom vs a b is starts k x
+    → StatementCode vs b c (statement_of i.statement) n y
+    → ItemsFrom vs a c (items (item_of i).0 (item_of i).1 is) (n ∷ starts) n x
+more_items {vs = vs} {a = a} {c = c} {n = n} {k = k} {x = x} i is starts e hs h =
+    let s = statement_of i.statement in
+    let code : ItemsFrom vs a c (items (item_of i).0 s is) (n ∷ starts) n x = record {
+      emits = emits_then (max (statement_height s) (items_height is)) (statement_nodes s + bodies_nodes is) hs.emits h.emits
+          (omega arith) (omega arith) (omega arith);
+      stands = λ p v f.
+          (refl, k, subst (LowersStatement p s n) e (h.stands p v f), hs.stands p v (fills_before h.emits f));
+    } in
+    subst (λ t. ItemsFrom vs a c (items (item_of i).0 t is) (n ∷ starts) n x) (sym (ap (λ j. j.1) (of_item i))) code
+
+pub next_item : {vs : List Variable} {a b c : Emitter} {n k : ℕ} {x y : Exits} (xs : List CodeItem) (starts : List ℕ) (i : ℕ)
+    (s : CodeItem) → 1 ≤ i → i ≤ length xs → s ≡ get_or xs (i - 1) s → length starts ≡ length xs
+    → exits_of y ≡ before (exits_of x) k
+    → ItemsFrom vs a b (items_in (map item_of (drop i xs))) (drop i starts) k x
+    → StatementCode vs b c (statement_of s.statement) n y
+    → ItemsFrom vs a c (items_in (map item_of (drop (i - 1) xs))) (drop (i - 1) (slice_set starts (i - 1) n)) n x
+next_item {vs = vs} {a = a} {c = c} {n = n} {x = x} xs starts i s ge le is same e hs h =
+    let le' : i ≤ length starts = omega (arith, same, le) in
+    subst (λ l. ItemsFrom vs a c l (drop (i - 1) (slice_set starts (i - 1) n)) n x)
+    (ap items_in (drop_before item_of xs i s ge le is))
+    (subst (λ r. ItemsFrom vs a c (items_in (item_of s ∷ map item_of (drop i xs))) r n x) (drop_set starts i n ge le')
+    (more_items s _ _ e hs h))
+
+pub items_whole : {vs : List Variable} {a b : Emitter} {is : SwitchItems} {starts : List ℕ} {n : ℕ} {x : Exits}
+    → ItemsFrom vs a b is starts n x → ItemsCode vs a b is starts x
+items_whole {n = n} h = record { first = n; from = h }
+
+-- where a switch goes on without a label
+
+same_false : (b : Bool) → not b ≡ true → b ≡ false
+same_false true e = cc
+same_false false e = refl
+
+no_default : (is : SwitchItems) (starts : List ℕ) (end : ℕ) → has_default is ≡ false → default_start is starts end ≡ end
+no_default no_items starts end e = refl
+no_default (items labels s is) [] end e = refl
+no_default (items labels s is) (b ∷ bs) end e = by (any_default labels) e (no_default is bs end)
+  where
+    by : (d : Bool) → d || has_default is ≡ false → (has_default is ≡ false → default_start is bs end ≡ end)
+        → (if d then b else default_start is bs end) ≡ end
+    by true e rest = cc
+    by false e rest = rest e
+
+-- where there is none, each begins wherever
+none_begin : (is : SwitchItems) (starts : List ℕ) (other : ℕ) → has_default is ≡ false → DefaultsBegin is starts other
+none_begin no_items starts other e = tt
+none_begin (items labels s is) [] other e = tt
+none_begin (items labels s is) (b ∷ bs) other e = by (any_default labels) e (none_begin is bs other)
+  where
+    by : (d : Bool) → d || has_default is ≡ false → (has_default is ≡ false → DefaultsBegin is bs other)
+        → (d ≡ true → b ≡ other) × DefaultsBegin is bs other
+    by true e rest = cc
+    by false e rest = (λ q. cc, rest e)
+
+defaults_begin : (is : SwitchItems) (starts : List ℕ) (end : ℕ) → has_one_default is ≡ true
+    → DefaultsBegin is starts (default_start is starts end)
+defaults_begin no_items starts end e = tt
+defaults_begin (items labels s is) [] end e = tt
+defaults_begin (items labels s is) (b ∷ bs) end e = by (any_default labels) (has_default is) refl e (defaults_begin is bs end)
+  where
+    by : (d h : Bool) → has_default is ≡ h → (not d || not h) && has_one_default is ≡ true
+        → (has_one_default is ≡ true → DefaultsBegin is bs (default_start is bs end))
+        → (d ≡ true → b ≡ (if d then b else default_start is bs end))
+        × DefaultsBegin is bs (if d then b else default_start is bs end)
+    by true true q e rest = cc
+    by true false q e rest = (λ r. refl, none_begin is bs b q)
+    by false h q e rest = (λ r. cc, rest e)
+
+-- items with the tests of their labels
+
+both_stand : (c : Placed) (is : SwitchItems) (starts : List ℕ) (t0 n0 other : ℕ) (x : Left)
+    → LowersBodies c is starts n0 x → LowersTests c is starts other t0 → LowersItems c is t0 n0 other x
+both_stand c no_items starts t0 n0 other x h t = (t, h)
+both_stand c (items labels s is) [] t0 n0 other x h t = absurd h
+both_stand c (items labels s is) (b ∷ bs) t0 n0 other x h t =
+    (
+      t.0,
+      h.1,
+      subst (λ n. LowersLabels c labels n other t0 t.0) h.0 t.1,
+      h.2,
+      both_stand c is bs t.0 h.1 other x h.3 t.2,
+    )
+
+nodes_of_both : (is : SwitchItems) → bodies_nodes is + tests_nodes is ≤ items_nodes is
+nodes_of_both no_items = omega arith
+nodes_of_both (items labels s is) = omega (arith, nodes_of_both is)
+
+pub switch_code : {vs : List Variable} {a b c d e' g : Emitter} {numbers starts : List ℕ} {line t k n other : ℕ}
+    {y z x : Exits} {is : SwitchItems} {e : Expression} → numbers ≡ switch_variables is → has_one_default is ≡ true
+    → LeavingCode vs a b numbers y x → exits_of z ≡ in_switch (exits_of y) → ItemsCode vs b c is starts z
+    → other ≡ default_start is starts y.next → TestsCode c d is starts t other → EntryCode vs d e' numbers line k t
+    → ExpressionCode e' g e 0 n k → StatementCode vs a g (switch e line is) n x
+switch_code {numbers = numbers} {starts = starts} {line = line} {t = t} {k = k} {other = other} {y = y} {z = z} {x = x} {is = is}
+    {e = e} same once l q h goes r entry value =
+    let top = max (height e) (items_height is) in
+    let inner = emits_then top (4 + bodies_nodes is) l.emits h.from.emits (omega arith) (omega arith) (omega arith) in
+    let tested = emits_then top (4 + (bodies_nodes is + tests_nodes is)) inner r.emits (omega arith)
+    (omega (arith, items_need_one is)) (omega arith) in
+    let entered = emits_then top (5 + (bodies_nodes is + tests_nodes is)) tested entry.emits (omega arith) (omega arith)
+    (omega arith) in
+    let evaluated = evaluated_emits e top (nodes e) value (omega arith) (omega arith) in
+    record {
+      emits = emits_then top (5 + nodes e + items_nodes is) entered evaluated (omega arith) (omega arith)
+          (omega (arith, nodes_of_both is));
+      stands = λ p v f.
+          let fe = fills_before value.emits f in
+          let fr = fills_before entry.emits fe in
+          let fh = fills_before r.emits fr in
+          let fl = fills_before h.from.emits fh in
+          let begin = subst (DefaultsBegin is starts) (sym goes) (defaults_begin is starts y.next once) in (
+            k,
+            t,
+            h.first,
+            other,
+            exits_of y,
+            value.stands p f,
+            (
+              subst (λ ns. LowersEntry p (has_objects_of p ns) ns line k t) same (entry.stands p v fe),
+              subst (λ ns. LowersLeaving p (has_objects_of p ns) (exits_of y) (exits_of x)) same (l.stands p v fl),
+            ),
+            λ none. goes ∙ no_default is starts y.next none,
+            subst (LowersItems p is t h.first other) q
+                (both_stand p is starts t h.first other (exits_of z) (h.from.stands p v fh) (r.stands p fr begin)),
+          );
+    }
+
+pub ruleset no_items_yet = (no_items_code)

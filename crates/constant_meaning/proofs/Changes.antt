@@ -11,12 +11,10 @@ use Rattle.obj_memory.specs.Integers.{size_of}
 use Rattle.obj_memory.specs.Objects.{ObjectState, Objects, object_at, no_object, pointer_to}
 use Rattle.obj_memory.specs.Access.{is_aligned, write_value, write_bytes, write_tag}
 use Rattle.c_const.specs.Contents.{Contents, with_bytes, with_tag, with_scalar}
+use Rattle.constant_meaning.specs.Leaving.{filled}
 
 abbrev pub contents_of : ObjectState → Contents
 contents_of o = record { bytes = o.bytes; tags = o.tags }
-
-abbrev pub filled : Contents → ObjectState → ObjectState
-filled c o = record o { bytes = c.bytes; tags = c.tags }
 
 -- of the objects one has new contents
 pub record Changed (n : ℕ) (c : Contents) (old new : Objects) : Type 0 where

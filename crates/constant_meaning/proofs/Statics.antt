@@ -21,6 +21,7 @@ use Rattle.source_meaning.specs.Meaning.{placed_statics, statics_end, setting_of
 use Rattle.source_meaning.specs.Meaning.{objects_after, initial_objects}
 use Rattle.constant_meaning.specs.Finding.{PointTo}
 use Rattle.constant_meaning.specs.Leaving.{IsConstant, AreConstant}
+use Rattle.constant_meaning.specs.Leaving.{filled, filled_all}
 use Rattle.constant_meaning.proofs.Changes.{contents_of, Changed}
 use Rattle.constant_meaning.proofs.Naming.{parts_unnamed}
 use Rattle.constant_meaning.proofs.Storing.{Leaves, parts_leave, pointers_stay}
@@ -71,7 +72,9 @@ record AllLeft (r : Run (Unit {0})) (n : ℕ) (cs : List Contents) (s : State) :
   after : State
   gives : r s ≡ Gives tt after
   before : (m : ℕ) → m < n → object_at after.objects m ≡ object_at s.objects m
-  own : (k : ℕ) (c : Contents) → slice_get cs k ≡ Some c → contents_of (object_at after.objects (n + k)) ≡ c
+  own : (k : ℕ) (c : Contents) → slice_get cs k ≡ Some c
+      → object_at after.objects (n + k) ≡ filled c (object_at s.objects (n + k))
+  count : length after.objects ≡ length s.objects
 
 still_placed : (first n : ℕ) (os : List StaticObject) (c : Contents) (old new : Objects) → n < first
     → Changed n c old new
@@ -93,6 +96,7 @@ statics_leave ps env n [] [] s h placed made at = record {
   gives = refl;
   before = λ m lt. refl;
   own = λ k c e. absurd (none k c e);
+  count = refl;
 }
   where
     none : (k : ℕ) (c : Contents) → slice_get (let xs : List Contents = [] in xs) k ≡ Some c → ⊥
@@ -114,20 +118,24 @@ statics_leave ps env n (o ∷ os) (c ∷ cs) s h placed made at =
       gives = ap (λ o'. on o' (λ _. store_statics env (n + 1) os)) first.gives ∙ rest.gives;
       before = λ m lt. rest.before m (omega (arith, lt)) ∙ first.changed.others m (λ e. absurd (omega (arith, e, lt)));
       own = own_of first rest;
+      count = rest.count ∙ count;
     }
   where
     own_of : (first : Leaves (choose (name_variables o.parts) skip (store_parts env (pointer_to n s.objects) o.parts)) n
         c s)
         → (rest : AllLeft (store_statics env (n + 1) os) (n + 1) cs first.after)
         → (k : ℕ) (d : Contents) → slice_get (c ∷ cs) k ≡ Some d
-        → contents_of (object_at rest.after.objects (n + k)) ≡ d
+        → object_at rest.after.objects (n + k) ≡ filled d (object_at s.objects (n + k))
     own_of first rest zero d e =
         let same : n + 0 ≡ n = omega arith in
-        ap (λ i. contents_of (object_at rest.after.objects i)) same ∙ ap contents_of (rest.before n (omega arith))
-        ∙ ap contents_of first.changed.own ∙ some_same c d e
+        ap (object_at rest.after.objects) same ∙ rest.before n (omega arith) ∙ first.changed.own
+        ∙ ap (λ x. filled x (object_at s.objects n)) (some_same c d e)
+        ∙ ap (λ i. filled d (object_at s.objects i)) (sym same)
     own_of first rest (suc k) d e =
         let same : n + suc k ≡ n + 1 + k = omega arith in
-        ap (λ i. contents_of (object_at rest.after.objects i)) same ∙ rest.own k d e
+        ap (object_at rest.after.objects) same ∙ rest.own k d e
+        ∙ ap (filled d) (first.changed.others (n + 1 + k) (λ q. absurd (omega (arith, q))))
+        ∙ ap (λ i. filled d (object_at s.objects i)) (sym same)
 
 -- the objects of a program
 
@@ -159,27 +167,91 @@ count_placed first [] offset = refl
 count_placed first (o ∷ os) offset =
     let rest = count_placed first os (rounded_up 16 offset + size_of_kind o.kind) in omega (arith, rest)
 
-statics_low : (p : Program) (budgets : BudgetSizes) → AreMapped (setting_of p budgets).sizes
+statics_low : (p : Program) (budgets : BudgetSizes) → statics_end p.statics 0 ≤ 0x400000
     → statics_first (setting_of p budgets) + statics_end p.statics 0 ≤ 2 ^ 64
 unfolding region_start
-statics_low p budgets mapped = let globals = mapped.globals in omega (arith, globals)
+statics_low p budgets small = omega (arith, small)
 
 abbrev pub placed_of : Program → BudgetSizes → Objects
 placed_of p budgets = placed_statics (statics_first (setting_of p budgets)) p.statics 0
+
+-- what is left of all of them, where they take no more than 4 MiB
+all_left : (p : Program) (budgets : BudgetSizes) (ps : Pointers) (cs : List Contents) → statics_end p.statics 0 ≤ 0x400000
+    → PointTo ps (placed_of p budgets) → AreConstant ps p.statics cs
+    → AllLeft (store_statics (static_env (setting_of p budgets)) 0 p.statics) 0 cs
+    (fresh (setting_of p budgets) (placed_of p budgets) [])
+all_left p budgets ps cs small at constant =
+    let g = setting_of p budgets in
+    let placed = placed_of p budgets in
+    let count = count_placed (statics_first g) p.statics 0 in
+    statics_leave ps (static_env g) 0 p.statics cs (fresh g placed []) constant
+    (are_behind (statics_first g) p.statics 0 0 placed
+    (λ k. let same : 0 + k ≡ k = omega arith in ap (object_at placed) same) (statics_low p budgets small))
+    (omega (arith, count)) at
+
+-- each object has its contents, and is else as it was placed
+pub initial_object_is : (p : Program) (budgets : BudgetSizes) (ps : Pointers) (cs : List Contents)
+    → statics_end p.statics 0 ≤ 0x400000
+    → PointTo ps (placed_of p budgets) → AreConstant ps p.statics cs → (n : ℕ) (c : Contents) → slice_get cs n ≡ Some c
+    → object_at (initial_objects p (setting_of p budgets)) n ≡ filled c (object_at (placed_of p budgets) n)
+initial_object_is p budgets ps cs small at constant n c e =
+    let placed = placed_of p budgets in
+    let left = all_left p budgets ps cs small at constant in
+    let same : n ≡ 0 + n = omega arith in
+    ap (λ o. object_at (objects_after placed o) n) left.gives
+    ∙ ap (object_at left.after.objects) same ∙ left.own n c e ∙ ap (λ i. filled c (object_at placed i)) (sym same)
 
 pub initial_contents_are : (p : Program) (budgets : BudgetSizes) (ps : Pointers) (cs : List Contents)
     → AreMapped (setting_of p budgets).sizes
     → PointTo ps (placed_of p budgets) → AreConstant ps p.statics cs → (n : ℕ) (c : Contents) → slice_get cs n ≡ Some c
     → contents_of (object_at (initial_objects p (setting_of p budgets)) n) ≡ c
 initial_contents_are p budgets ps cs mapped at constant n c e =
+    ap contents_of (initial_object_is p budgets ps cs mapped.globals at constant n c e)
+
+-- all of them
+
+same_lists : (xs ys : Objects) → length xs ≡ length ys → ((k : ℕ) → k < length xs → object_at xs k ≡ object_at ys k)
+    → xs ≡ ys
+same_lists [] [] e h = refl
+same_lists [] (y ∷ ys) e h = absurd (omega (arith, e))
+same_lists (x ∷ xs) [] e h = absurd (omega (arith, e))
+same_lists (x ∷ xs) (y ∷ ys) e h =
+    ap (λ z. z ∷ xs) (h 0 (omega arith))
+    ∙ ap (λ zs. y ∷ zs) (same_lists xs ys (omega (arith, e)) (λ k lt. h (suc k) (omega (arith, lt))))
+
+count_filled : (cs : List Contents) (os : Objects) → length cs ≡ length os → length (filled_all cs os) ≡ length os
+count_filled [] [] e = refl
+count_filled [] (o ∷ os) e = absurd (omega (arith, e))
+count_filled (c ∷ cs) [] e = absurd (omega (arith, e))
+count_filled (c ∷ cs) (o ∷ os) e = omega (arith, count_filled cs os (omega (arith, e)))
+
+filled_at : (cs : List Contents) (os : Objects) (k : ℕ) → length cs ≡ length os → k < length os
+    → (c : Contents) × (slice_get cs k ≡ Some c) × (object_at (filled_all cs os) k ≡ filled c (object_at os k))
+filled_at [] [] k e lt = absurd (omega (arith, lt))
+filled_at [] (o ∷ os) k e lt = absurd (omega (arith, e))
+filled_at (c ∷ cs) [] k e lt = absurd (omega (arith, e))
+filled_at (c ∷ cs) (o ∷ os) zero e lt = (c, refl, refl)
+filled_at (c ∷ cs) (o ∷ os) (suc k) e lt = filled_at cs os k (omega (arith, e)) (omega (arith, lt))
+
+count_constant : (ps : Pointers) (os : List StaticObject) (cs : List Contents) → AreConstant ps os cs
+    → length cs ≡ length os
+count_constant ps [] [] h = refl
+count_constant ps [] (c ∷ cs) h = absurd h
+count_constant ps (o ∷ os) [] h = absurd h
+count_constant ps (o ∷ os) (c ∷ cs) h = omega (arith, count_constant ps os cs h.1)
+
+pub initial_objects_are : (p : Program) (budgets : BudgetSizes) (ps : Pointers) (cs : List Contents)
+    → statics_end p.statics 0 ≤ 0x400000 → PointTo ps (placed_of p budgets) → AreConstant ps p.statics cs
+    → initial_objects p (setting_of p budgets) ≡ filled_all cs (placed_of p budgets)
+initial_objects_are p budgets ps cs small at constant =
     let g = setting_of p budgets in
     let placed = placed_of p budgets in
+    let left = all_left p budgets ps cs small at constant in
+    let known : initial_objects p g ≡ left.after.objects = ap (objects_after placed) left.gives in
     let count = count_placed (statics_first g) p.statics 0 in
-    let left : AllLeft (store_statics (static_env g) 0 p.statics) 0 cs (fresh g placed []) =
-    statics_leave ps (static_env g) 0 p.statics cs (fresh g placed []) constant
-    (are_behind (statics_first g) p.statics 0 0 placed
-    (λ k. let same : 0 + k ≡ k = omega arith in ap (object_at placed) same) (statics_low p budgets mapped))
-    (omega (arith, count)) at in
-    let same : n ≡ 0 + n = omega arith in
-    ap (λ o. contents_of (object_at (objects_after placed o) n)) left.gives
-    ∙ ap (λ i. contents_of (object_at left.after.objects i)) same ∙ left.own n c e
+    let same : length cs ≡ length placed = omega (arith, count, count_constant ps p.statics cs constant) in
+    same_lists (initial_objects p g) (filled_all cs placed)
+    (ap length known ∙ left.count ∙ sym (count_filled cs placed same))
+    (λ k lt.
+        let c = filled_at cs placed k same (omega (arith, lt, ap length known, left.count)) in
+        initial_object_is p budgets ps cs small at constant k c.0 c.1 ∙ sym c.2)

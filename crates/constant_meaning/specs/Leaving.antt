@@ -1,5 +1,6 @@
 -- What is known of static objects whose initializers are constant.
 use Rattle.std.specs.Prelude.{◌≡◌, ℕ, ◌<◌, List, [], ◌∷◌, true, Ok}
+use Rattle.obj_memory.specs.Objects.{ObjectState, Objects}
 use Rattle.c_tree.specs.Statements.{Content, value_content, literal_content, Part}
 use Rattle.c_tree.specs.Programs.{StaticObject}
 use Rattle.c_const.specs.Addresses.{Pointers}
@@ -28,3 +29,13 @@ abbrev pub AreConstant : Pointers → List StaticObject → List Contents → Ty
 AreConstant ps [] [] = Unit {0}
 AreConstant ps (o ∷ os) (c ∷ cs) = IsConstant ps o c × AreConstant ps os cs
 AreConstant ps _ _ = ⊥
+
+-- an object with these contents
+abbrev pub filled : Contents → ObjectState → ObjectState
+filled c o = record o { bytes = c.bytes; tags = c.tags }
+
+-- all of them
+abbrev pub filled_all : List Contents → Objects → Objects
+filled_all [] os = []
+filled_all (c ∷ cs) [] = []
+filled_all (c ∷ cs) (o ∷ os) = filled c o ∷ filled_all cs os

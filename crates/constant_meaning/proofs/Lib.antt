@@ -5,4 +5,4 @@ mod Changes
 mod Overwriting
 mod Storing
 mod Naming
-mod Statics
+pub mod Statics

@@ -1,0 +1,48 @@
+-- The functions of a program in turn, and how many nodes it gets.
+use Rattle.std.specs.Prelude.{◌≡◌, ℕ, ◌+◌, Bool, ◌&&◌, nat_le, List, [], ◌∷◌, ◌++◌, length, get_or, Result, Ok, Err}
+use Rattle.c_tree.specs.declared.expression.Kind.{Kind}
+use Rattle.c_tree.specs.declared.expression.Kind.TheVariants.{Void}
+use Rattle.c_tree.specs.Programs.{Function}
+use Rattle.tac_ir.specs.declared.function.CodeFunction.{CodeFunction}
+use Rattle.statement_lowering.specs.Sizes.{each_height, each_nodes}
+use Rattle.statement_lowering.specs.Switches.{each_decided}
+use Rattle.expression_lowering.specs.Emitted.{Stays}
+use Rattle.program_lowering.specs.declared.program.Lowering.{Lowering}
+use Rattle.program_lowering.specs.declared.program.LowerFault.{LowerFault}
+use Rattle.program_lowering.specs.declared.program.LowerFault.TheVariants.{Memory, NotConstant}
+use Rattle.program_lowering.specs.Code.{IsFunction}
+
+-- a function whose temporaries are counted by its room, and whose switches have at most one default label each
+abbrev pub is_ready : Function → Bool
+is_ready f = nat_le (each_height f.body) f.room && each_decided f.body
+
+-- the code of functions by number
+abbrev pub AreFunctions : (texts : List (List ℕ)) → (results : List Kind) → List Function → List CodeFunction → Type 0
+AreFunctions texts results [] [] = Unit {0}
+AreFunctions texts results (f ∷ fs) (c ∷ cs) =
+    IsFunction texts (get_or results f.type_number Void) f c × AreFunctions texts results fs cs
+AreFunctions texts results _ _ = ⊥
+
+-- the nodes of all functions
+abbrev pub code_nodes : List CodeFunction → ℕ
+code_nodes [] = 0
+code_nodes (c ∷ cs) = length c.code + code_nodes cs
+
+-- and how many they are at most: 2 for each function, up to 6 for each statement, 5 for each node of its expressions, and
+-- up to 2 for each part of an initializer
+abbrev pub program_nodes : List Function → ℕ
+program_nodes [] = 0
+program_nodes (f ∷ fs) = 2 + each_nodes f.body + program_nodes fs
+
+-- what is done so far, with one function more
+pub record Holding (a b : Lowering) (results : List Kind) (f : Function) : Type 0 where
+  pub code : CodeFunction
+  pub functions : b.functions.items ≡ a.functions.items ++ code ∷ []
+  pub texts_stay : Stays a.texts.items b.texts.items
+  pub is : (ts : List (List ℕ)) → Stays b.texts.items ts → IsFunction ts (get_or results f.type_number Void) f code
+
+-- for want of memory nothing is claimed
+abbrev pub OnNoConstant : {A : Type 0} → Result A LowerFault → (ℕ → Type 0) → Type 0
+OnNoConstant (Ok a) P = Unit {0}
+OnNoConstant (Err Memory) P = Unit {0}
+OnNoConstant (Err (NotConstant line)) P = P line

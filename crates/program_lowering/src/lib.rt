@@ -1,0 +1,9 @@
+//! Programs to three-address code.
+#![tactic(auto)]
+
+pub mod body;
+pub mod function;
+pub mod program;
+pub mod variables;
+
+pub use crate::program::{LowerFault, lower};

@@ -1,0 +1,135 @@
+//! Whole programs.
+
+ghost use Rattle.std.specs.Prelude.{◌≡◌, ◌≤◌, true, IfOk, map, length, get_or, Some};
+ghost use Rattle.std.specs.List.{list_all};
+ghost use Rattle.c_tree.specs.declared.expression.Kind.TheVariants.{Void};
+ghost use Rattle.c_tree.specs.Programs.{FunctionType};
+ghost use Rattle.c_tree.specs.View.{function_of, function_type_of, program_of};
+ghost use Rattle.c_tree.specs.ValidProgram.{is_valid_program};
+ghost use Rattle.c_lower.specs.Programs.{IsLowered};
+ghost use Rattle.source_meaning.specs.Meaning.{statics_end};
+ghost use Rattle.static_data.specs.Data.{first_fault, program_pointers};
+ghost use Rattle.program_lowering.specs.Whole.{is_ready, AreFunctions, Holding, OnNoConstant, code_nodes};
+ghost use Rattle.program_lowering.specs.Whole.{program_nodes};
+
+use crate::function::lower_function;
+use c_const::contents::InitialFault;
+use c_tree::{Function, FunctionType, Kind, Program};
+use sb_base::Line;
+use static_data::pointers::global_bytes;
+use static_data::static_data;
+use std::alloc::{AllocError, Global};
+use tac_ir::{CodeFunction, Tac};
+use tree_containers::Items;
+
+/// Why a program has no code.
+#[derive(Clone, Copy, Debug, PartialEq, Eq)]
+pub enum LowerFault {
+    /// There is no memory for it.
+    Memory,
+    /// The initializer of a static object has an expression that is not constant, the first of which is at this line.
+    NotConstant(Line),
+}
+
+/// The functions of a program so far, and its texts.
+#[derive(Drop)]
+pub struct Lowering {
+    pub functions: Vec<CodeFunction>,
+    pub texts: Vec<Items<u8>>,
+}
+
+// What the functions of each type give.
+fn results(alloc: Global, types: &[FunctionType]) -> Result<Vec<Kind>, AllocError>
+    ensures { IfOk result (λ ks. ks.items ≡ map (λ (t : FunctionType). t.result) (map function_type_of types.now)) }
+{
+    let mut results = Vec::new(alloc);
+    for function_type in types {
+        results.push(function_type.result)?;
+    }
+    Ok(results)
+}
+
+fn result_of(results: &[Kind], type_number: usize) -> Kind
+    ensures { result ≡ get_or results.now type_number Void }
+{
+    match results.get(type_number) {
+        Some(kind) => *kind,
+        None => Kind::Void,
+    }
+}
+
+// With one function more.
+fn with_function(
+    alloc: Global,
+    done: Lowering,
+    f: &Function,
+    results: &[Kind],
+) -> Result<Lowering, AllocError>
+    requires { is_ready (function_of f.now) ≡ true }
+    ensures { IfOk result (λ l. Holding done l results.now (function_of f.now)) }
+{
+    let Lowering {
+        mut functions,
+        texts,
+    } = done;
+    let lowered = lower_function(alloc, f, result_of(results, f.type_number), texts)?;
+    functions.push(lowered.function)?;
+    Ok(Lowering {
+        functions,
+        texts: lowered.texts,
+    })
+}
+
+// All functions.
+fn lower_functions(
+    alloc: Global,
+    functions: &[Function],
+    results: &[Kind],
+) -> Result<Lowering, AllocError>
+    requires { list_all is_ready (map function_of functions.now) ≡ true }
+    ensures { IfOk result
+        (λ l. AreFunctions l.texts.items results.now (map function_of functions.now) l.functions.items) }
+{
+    let mut done = Lowering {
+        functions: Vec::new(alloc),
+        texts: Vec::new(alloc),
+    };
+    for i in 0..functions.len() {
+        done = with_function(alloc, done, &functions[i], results)?;
+    }
+    Ok(done)
+}
+
+/// Lowers a valid program whose static objects take at most 4 MiB and which has at most 4096 functions. An error comes
+/// where there is no memory for its code, or with the line of the first expression in an initializer of a static object
+/// that is not constant.
+pub fn lower(alloc: Global, program: &Program) -> Result<Tac, LowerFault>
+    requires valid { is_valid_program (program_of program.now) ≡ true }
+    requires small { statics_end (program_of program.now).statics 0 ≤ 0x400000 }
+    requires few { length (program_of program.now).functions ≤ 4096 }
+    ensures code { IfOk result (λ t. IsLowered (program_of program.now) t) }
+    ensures nodes { IfOk result (λ t. code_nodes t.functions ≤ program_nodes (program_of program.now).functions) }
+    ensures fault { OnNoConstant result
+        (λ line. first_fault (program_pointers (program_of program.now)) (program_of program.now).statics ≡ Some line) }
+{
+    let statics = match static_data(alloc, program) {
+        Ok(statics) => statics,
+        Err(InitialFault::Memory) => return Err(LowerFault::Memory),
+        Err(InitialFault::NotConstant(line)) => return Err(LowerFault::NotConstant(line)),
+    };
+    let Ok(results) = results(alloc, program.function_types.as_slice()) else {
+        return Err(LowerFault::Memory);
+    };
+    let Ok(lowered) = lower_functions(alloc, program.functions.as_slice(), &results) else {
+        return Err(LowerFault::Memory);
+    };
+    let Lowering { functions, texts } = lowered;
+    Ok(Tac {
+        functions: Items::from_vec(functions),
+        results: Items::from_vec(results),
+        main: program.main,
+        statics,
+        global_bytes: global_bytes(program.statics.as_slice()),
+        texts: Items::from_vec(texts),
+    })
+}

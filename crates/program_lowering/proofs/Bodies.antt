@@ -59,11 +59,13 @@ body_code {ss = ss} {texts = texts} {a = a} {returns = returns} {end = end} {x =
 
 -- a function is that of its body
 
-pub function_code : {texts : List (List ℕ)} {result : Kind} {b : Body} {l : Lowered}
-    {parameters variables entered : List Variable} (f : Function) → parameters ≡ f.parameters → variables ≡ f.variables
-    → entered ≡ body_variables f → BodyCode (all_of f) f.body result texts b.code b.entry
+pub function_code : {texts : List (List ℕ)} {result : Kind} {b : Body} {l : Lowered} {vs : List Variable} {ss : Statements}
+    {parameters variables entered : List Variable} (f : Function) → vs ≡ all_of f → ss ≡ f.body → parameters ≡ f.parameters
+    → variables ≡ f.variables → entered ≡ body_variables f → BodyCode vs ss result texts b.code b.entry
     → Completes f.line f.type_number f.room parameters variables entered b l → FunctionCode f result texts l
-function_code {texts = texts} {result = result} {b = b} {l = l} f ep ev ee h w =
+function_code {texts = texts} {result = result} {b = b} {l = l} {ss = ss} f all same ep ev ee of w =
+    let h = subst (λ us. BodyCode us f.body result texts b.code b.entry) all
+    (subst (λ us. BodyCode _ us result texts b.code b.entry) same of) in
     record {
       texts_stay = λ n t k. subst (λ ts. HasAt ts n t) (sym w.texts_are) (h.texts_stay n t k);
       is = λ ts later.
@@ -92,4 +94,4 @@ function_code {texts = texts} {result = result} {b = b} {l = l} f ep ev ee h w =
 pub height_room : (f : Function) (room : ℕ) → each_height f.body ≤ room → room < 2 ^ 64 → each_height f.body < 2 ^ 64
 height_room f room h lt = omega (arith, h, lt)
 
-pub ruleset bodies = (body_code)
+pub ruleset rooms = (height_room)

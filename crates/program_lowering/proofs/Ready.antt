@@ -1,5 +1,5 @@
 -- Functions of a valid program are ready for lowering.
-use Rattle.std.proofs.Common.{◌≡◌, ℕ, suc, ◌+◌, ◌*◌, ◌≤◌, Bool, true, false, List, [], ◌∷◌, ◌++◌, length, map, Some, None, refl}
+use Rattle.std.proofs.Common.{◌≡◌, ℕ, zero, suc, ◌+◌, ◌*◌, ◌≤◌, ◌<◌, Bool, true, false, List, [], ◌∷◌, ◌++◌, length, map, Some, None, refl}
 use Rattle.std.proofs.Common.{sym, ap, ◌∙◌, subst, arith}
 use Rattle.std.specs.Prelude.{not, ◌&&◌, ◌||◌, ◌==◌, nat_le, max, get_or}
 use Rattle.std.specs.List.{list_all, list_any}
@@ -8,6 +8,8 @@ use Rattle.std.proofs.lemmas.Bool.Decides.{nat_tests}
 use Rattle.c_tree.specs.declared.statement.CaseLabel.{CaseLabel}
 use Rattle.c_tree.specs.declared.statement.CaseLabel.TheVariants.{Case, Default}
 use Rattle.c_tree.specs.declared.expression.Kind.{Kind}
+use Rattle.c_tree.specs.declared.program.Function.{Function as CodeFunction}
+use Rattle.c_tree.specs.View.{function_of}
 use Rattle.c_tree.specs.Blocks.{all_of, block_variables, switch_variables, first_variables, each_contents}
 use Rattle.c_tree.specs.Programs.{Function, StaticObject, Program}
 use Rattle.c_tree.specs.Room.{room, function_height, greatest_height}
@@ -140,5 +142,27 @@ each_ready p n (f ∷ fs) h =
 pub all_ready : (p : Program) → is_valid_program p ≡ true → list_all is_ready p.functions ≡ true
 unfolding is_valid_program
 all_ready p h = each_ready p 0 p.functions (and_parts _ (are_functions p 0 p.functions) (and_parts _ _ h).0).1
+
+pub ready_at : (xs : List CodeFunction) (k : ℕ) (x : CodeFunction) → k < length xs → x ≡ get_or xs k x
+    → list_all is_ready (map function_of xs) ≡ true → is_ready (function_of x) ≡ true
+ready_at [] k x lt e h = absurd (omega (arith, lt))
+ready_at (y ∷ xs) zero x lt e h =
+    ap (λ z. is_ready (function_of z)) e
+    ∙ (and_parts (is_ready (function_of y)) (list_all is_ready (map function_of xs)) h).0
+ready_at (y ∷ xs) (suc k) x lt e h =
+    ready_at xs k x (omega (arith, lt)) e
+    (and_parts (is_ready (function_of y)) (list_all is_ready (map function_of xs)) h).1
+
+le_from : (a b : ℕ) → nat_le a b ≡ true → a ≤ b
+le_from a b h = grind (arith, nat_tests)
+
+pub ready_height : (f : Function) → is_ready f ≡ true → each_height f.body ≤ f.room
+ready_height f h =
+    le_from (each_height f.body) f.room (and_parts (nat_le (each_height f.body) f.room) (each_decided f.body) h).0
+
+pub ready_decided : (f : Function) → is_ready f ≡ true → each_decided f.body ≡ true
+ready_decided f h = (and_parts (nat_le (each_height f.body) f.room) (each_decided f.body) h).1
+
+pub ruleset is_ready_for = (ready_height, ready_decided)
 
 pub ruleset ready = (all_ready)

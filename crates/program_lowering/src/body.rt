@@ -24,7 +24,6 @@ pub struct Body {
 
 /// Lowers the body of a function with these variables, which gives a value of this kind, behind the texts of the program
 /// so far. At its end it gives 0.
-#[tactic(auto, using(crate::proofs::Bodies::bodies))]
 pub fn lower_body(
     alloc: Global,
     variables: &[Variable],

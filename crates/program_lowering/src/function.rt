@@ -66,6 +66,7 @@ fn complete(
 }
 
 /// Lowers a function, which gives a value of this kind, behind the texts of the program so far.
+#[tactic(auto, using(crate::proofs::Bodies::rooms))]
 pub fn lower_function(
     alloc: Global,
     f: &Function,
@@ -78,9 +79,11 @@ pub fn lower_function(
 {
     let _room = f.room;
     let all = all_variables(alloc, f)?;
+    let numbered = all.as_slice();
+    let statements = f.body.as_slice();
     let parameters = copied(alloc, f.parameters.as_slice())?;
     let variables = copied(alloc, f.variables.as_slice())?;
     let entered = Items::from_vec(entered_variables(alloc, f)?);
-    let body = lower_body(alloc, &all, f.body.as_slice(), result, texts)?;
+    let body = lower_body(alloc, numbered, statements, result, texts)?;
     Ok(complete(f, parameters, variables, entered, body))
 }

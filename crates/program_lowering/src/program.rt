@@ -59,6 +59,7 @@ fn result_of(results: &[Kind], type_number: usize) -> Kind
 }
 
 // With one function more.
+#[tactic(auto, using(crate::proofs::Ready::is_ready_for))]
 fn with_function(
     alloc: Global,
     done: Lowering,
@@ -103,6 +104,7 @@ fn lower_functions(
 /// Lowers a valid program whose static objects take at most 4 MiB and which has at most 4096 functions. An error comes
 /// where there is no memory for its code, or with the line of the first expression in an initializer of a static object
 /// that is not constant.
+#[tactic(auto, using(crate::proofs::Ready::ready))]
 pub fn lower(alloc: Global, program: &Program) -> Result<Tac, LowerFault>
     requires valid { is_valid_program (program_of program.now) ≡ true }
     requires small { statics_end (program_of program.now).statics 0 ≤ 0x400000 }

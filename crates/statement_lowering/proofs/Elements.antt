@@ -1,7 +1,7 @@
 -- Elements of lists of statements and of items of a switch.
 use Rattle.std.proofs.Common.{◌≡◌, ℕ, zero, suc, ◌+◌, ◌-◌, ◌≤◌, ◌<◌, Bool, true, false, List, [], ◌∷◌, length, map, drop, refl, sym}
 use Rattle.std.proofs.Common.{ap, ◌∙◌, subst, arith}
-use Rattle.std.specs.Prelude.{get_or, slice_set, ◌&&◌}
+use Rattle.std.specs.Prelude.{get_or, set, ◌&&◌}
 use Rattle.c_tree.specs.declared.statement.CaseLabel.{CaseLabel}
 use Rattle.c_tree.specs.declared.statement.Statement.{Statement as CodeStatement}
 use Rattle.c_tree.specs.declared.statement.SwitchItem.{SwitchItem as CodeItem}
@@ -37,14 +37,14 @@ drop_number xs i x ge le is =
     ap (λ p. x ∷ drop p xs) (sym at) ∙ sym (drop_from xs (i - 1) x (omega (arith, ge, le)) is)
 
 -- and where it is set
-set_from : (xs : List ℕ) (k x : ℕ) → k < length xs → drop k (slice_set xs k x) ≡ x ∷ drop (k + 1) xs
+set_from : (xs : List ℕ) (k x : ℕ) → k < length xs → drop k (set xs k x) ≡ x ∷ drop (k + 1) xs
 set_from [] k x lt = absurd (omega (arith, lt))
 set_from (y ∷ xs) zero x lt = refl
 set_from (y ∷ xs) (suc k) x lt =
     let at : suc (k + 1) ≡ suc k + 1 = omega arith in
     set_from xs k x (omega (arith, lt)) ∙ ap (λ n. x ∷ drop n (y ∷ xs)) at
 
-pub drop_set : (xs : List ℕ) (i x : ℕ) → 1 ≤ i → i ≤ length xs → x ∷ drop i xs ≡ drop (i - 1) (slice_set xs (i - 1) x)
+pub drop_set : (xs : List ℕ) (i x : ℕ) → 1 ≤ i → i ≤ length xs → x ∷ drop i xs ≡ drop (i - 1) (set xs (i - 1) x)
 drop_set xs i x ge le =
     let at : i - 1 + 1 ≡ i = omega (arith, ge) in
     ap (λ p. x ∷ drop p xs) (sym at) ∙ sym (set_from xs (i - 1) x (omega (arith, ge, le)))

@@ -1,7 +1,7 @@
 -- Switches from their parts.
 use Rattle.std.proofs.Common.{◌≡◌, ℕ, zero, suc, ◌+◌, ◌-◌, ◌≤◌, ◌<◌, Bool, true, false, List, [], ◌∷◌, length, map, drop, refl, sym}
 use Rattle.std.proofs.Common.{ap, ◌∙◌, subst, arith}
-use Rattle.std.specs.Prelude.{get_or, slice_set, max, not, ◌&&◌, ◌||◌, if◌then◌else◌}
+use Rattle.std.specs.Prelude.{get_or, set, max, not, ◌&&◌, ◌||◌, if◌then◌else◌}
 use Rattle.c_tree.specs.declared.program.Variable.{Variable}
 use Rattle.c_tree.specs.declared.statement.SwitchItem.{SwitchItem as CodeItem}
 use Rattle.c_tree.specs.Blocks.{switch_variables}
@@ -51,10 +51,10 @@ pub next_item : {vs : List Variable} {a b c : Emitter} {n k : ℕ} {x y : Exits}
     → exits_of y ≡ before (exits_of x) k
     → ItemsFrom vs a b (items_in (map item_of (drop i xs))) (drop i starts) k x
     → StatementCode vs b c (statement_of s.statement) n y
-    → ItemsFrom vs a c (items_in (map item_of (drop (i - 1) xs))) (drop (i - 1) (slice_set starts (i - 1) n)) n x
+    → ItemsFrom vs a c (items_in (map item_of (drop (i - 1) xs))) (drop (i - 1) (set starts (i - 1) n)) n x
 next_item {vs = vs} {a = a} {c = c} {n = n} {x = x} xs starts i s ge le is same e hs h =
     let le' : i ≤ length starts = omega (arith, same, le) in
-    subst (λ l. ItemsFrom vs a c l (drop (i - 1) (slice_set starts (i - 1) n)) n x)
+    subst (λ l. ItemsFrom vs a c l (drop (i - 1) (set starts (i - 1) n)) n x)
     (ap items_in (drop_before item_of xs i s ge le is))
     (subst (λ r. ItemsFrom vs a c (items_in (item_of s ∷ map item_of (drop i xs))) r n x) (drop_set starts i n ge le')
     (more_items s _ _ e hs h))
@@ -123,13 +123,14 @@ nodes_of_both : (is : SwitchItems) → bodies_nodes is + tests_nodes is ≤ item
 nodes_of_both no_items = omega arith
 nodes_of_both (items labels s is) = omega (arith, nodes_of_both is)
 
-pub switch_code : {vs : List Variable} {a b c d e' g : Emitter} {numbers starts : List ℕ} {line t k n other : ℕ}
+pub switch_code : {vs : List Variable} {a b c d e' g : Emitter} {numbers starts made : List ℕ} {line t k n other : ℕ}
     {y z x : Exits} {is : SwitchItems} {e : Expression} → numbers ≡ switch_variables is → has_one_default is ≡ true
-    → LeavingCode vs a b numbers y x → exits_of z ≡ in_switch (exits_of y) → ItemsCode vs b c is starts z
-    → other ≡ default_start is starts y.next → TestsCode c d is starts t other → EntryCode vs d e' numbers line k t
+    → LeavingCode vs a b numbers y x → exits_of z ≡ in_switch (exits_of y) → ItemsCode vs b c is made z
+    → starts ≡ made → other ≡ default_start is starts y.next → TestsCode c d is starts t other → EntryCode vs d e' numbers line k t
     → ExpressionCode e' g e 0 n k → StatementCode vs a g (switch e line is) n x
-switch_code {numbers = numbers} {starts = starts} {line = line} {t = t} {k = k} {other = other} {y = y} {z = z} {x = x} {is = is}
-    {e = e} same once l q h goes r entry value =
+switch_code {vs = vs} {b = b} {c = c} {numbers = numbers} {starts = starts} {line = line} {t = t} {k = k} {other = other} {y = y} {z = z} {x = x} {is = is}
+    {e = e} same once l q made_items taken goes r entry value =
+    let h = subst (λ ns. ItemsCode vs b c is ns z) (sym taken) made_items in
     let top = max (height e) (items_height is) in
     let inner = emits_then top (4 + bodies_nodes is) l.emits h.from.emits (omega arith) (omega arith) (omega arith) in
     let tested = emits_then top (4 + (bodies_nodes is + tests_nodes is)) inner r.emits (omega arith)

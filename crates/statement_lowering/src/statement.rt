@@ -116,10 +116,11 @@ fn block(
     ensures { IfOk result (λ n. StatementCode variables.now code.old code.new
         (block line (statements_in (map statement_of body.now))) n x) }
 {
-    let numbers = block_variables(code.alloc, body)?;
-    let inside = leave(code, variables, &numbers, x)?;
+    let declared = block_variables(code.alloc, body)?;
+    let numbers = declared.as_slice();
+    let inside = leave(code, variables, numbers, x)?;
     let first = statements(code, variables, body, inside)?;
-    let entry = enter(code, variables, &numbers, line, first)?;
+    let entry = enter(code, variables, numbers, line, first)?;
     Ok(entry)
 }
 
@@ -234,11 +235,12 @@ fn for_loop(
     ensures { IfOk result (λ n. StatementCode variables.now code.old code.new (for line (first_of first.now)
         (option_map expression_of condition.now) (option_map expression_of step.now) (statement_of body.now)) n x) }
 {
-    let numbers = first_variables(code.alloc, first)?;
-    let head = for_parts(code, variables, &numbers, condition, step, x)?;
+    let declared = first_variables(code.alloc, first)?;
+    let numbers = declared.as_slice();
+    let head = for_parts(code, variables, numbers, condition, step, x)?;
     let turn = statement(code, variables, body, head.inside.in_loop(head.step))?;
     let range = counted_parts(first, condition, step, body);
-    let entry = for_tail(code, variables, &numbers, line, first, range, head, turn)?;
+    let entry = for_tail(code, variables, numbers, line, first, range, head, turn)?;
     Ok(entry)
 }
 
@@ -258,12 +260,14 @@ fn switch(
     ensures { IfOk result (λ n. StatementCode variables.now code.old code.new
         (switch (expression_of e.now) line (items_in (map item_of items.now))) n x) }
 {
-    let numbers = switch_variables(code.alloc, items)?;
-    let inside = leave(code, variables, &numbers, x)?;
-    let starts = switch_items(code, variables, items, inside.in_switch())?;
-    let other = default_start(items, &starts, inside.next);
-    let tests = test_items(code, items, &starts, other)?;
-    let entry = enter(code, variables, &numbers, line, tests)?;
+    let declared = switch_variables(code.alloc, items)?;
+    let numbers = declared.as_slice();
+    let inside = leave(code, variables, numbers, x)?;
+    let nodes = switch_items(code, variables, items, inside.in_switch())?;
+    let starts = nodes.as_slice();
+    let other = default_start(items, starts, inside.next);
+    let tests = test_items(code, items, starts, other)?;
+    let entry = enter(code, variables, numbers, line, tests)?;
     let first = code.expression(e, 0, entry)?;
     Ok(first)
 }

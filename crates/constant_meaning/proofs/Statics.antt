@@ -176,7 +176,8 @@ abbrev pub placed_of : Program → BudgetSizes → Objects
 placed_of p budgets = placed_statics (statics_first (setting_of p budgets)) p.statics 0
 
 -- what is left of all of them, where they take no more than 4 MiB
-all_left : (p : Program) (budgets : BudgetSizes) (ps : Pointers) (cs : List Contents) → statics_end p.statics 0 ≤ 0x400000
+all_left : (p : Program) (budgets : BudgetSizes) (ps : Pointers) (cs : List Contents)
+    → statics_end p.statics 0 ≤ 0x400000
     → PointTo ps (placed_of p budgets) → AreConstant ps p.statics cs
     → AllLeft (store_statics (static_env (setting_of p budgets)) 0 p.statics) 0 cs
     (fresh (setting_of p budgets) (placed_of p budgets) [])
@@ -253,5 +254,5 @@ initial_objects_are p budgets ps cs small at constant =
     same_lists (initial_objects p g) (filled_all cs placed)
     (ap length known ∙ left.count ∙ sym (count_filled cs placed same))
     (λ k lt.
-        let c = filled_at cs placed k same (omega (arith, lt, ap length known, left.count)) in
-        initial_object_is p budgets ps cs small at constant k c.0 c.1 ∙ sym c.2)
+    let c = filled_at cs placed k same (omega (arith, lt, ap length known, left.count)) in
+    initial_object_is p budgets ps cs small at constant k c.0 c.1 ∙ sym c.2)

@@ -59,8 +59,10 @@ body_code {ss = ss} {texts = texts} {a = a} {returns = returns} {end = end} {x =
 
 -- a function is that of its body
 
-pub function_code : {texts : List (List ℕ)} {result : Kind} {b : Body} {l : Lowered} {vs : List Variable} {ss : Statements}
-    {parameters variables entered : List Variable} (f : Function) → vs ≡ all_of f → ss ≡ f.body → parameters ≡ f.parameters
+pub function_code : {texts : List
+    (List ℕ)} {result : Kind} {b : Body} {l : Lowered} {vs : List Variable} {ss : Statements}
+    {parameters variables entered : List Variable} (f : Function) → vs ≡ all_of f → ss ≡ f.body
+    → parameters ≡ f.parameters
     → variables ≡ f.variables → entered ≡ body_variables f → BodyCode vs ss result texts b.code b.entry
     → Completes f.line f.type_number f.room parameters variables entered b l → FunctionCode f result texts l
 function_code {texts = texts} {result = result} {b = b} {l = l} {ss = ss} f all same ep ev ee of w =

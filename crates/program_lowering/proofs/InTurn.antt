@@ -1,5 +1,6 @@
 -- Functions in turn, and the program of them.
-use Rattle.std.proofs.Common.{◌≡◌, ℕ, zero, suc, ◌+◌, ◌≤◌, ◌<◌, List, [], ◌∷◌, ◌++◌, length, map, drop, Some, None, refl, sym, ap}
+use Rattle.std.proofs.Common.{◌≡◌, ℕ, zero, suc, ◌+◌, ◌≤◌, ◌<◌, List, [], ◌∷◌, ◌++◌, length, map, drop, Some, None}
+use Rattle.std.proofs.Common.{refl, sym, ap}
 use Rattle.std.proofs.Common.{◌∙◌, subst, arith, append_assoc}
 use Rattle.std.specs.Prelude.{get_or, slice_get, max}
 use Rattle.sb_base.specs.Budgets.{BudgetSizes}
@@ -34,12 +35,14 @@ pub record Done (results : List Kind) (fs : List CodeOfFunction) (i : ℕ) (l : 
       → AreFunctions ts results (map function_of (drop i fs)) rest
       → AreFunctions ts results (map function_of fs) (l.functions.items ++ rest)
 
-pub done_none : (results : List Kind) (fs : List CodeOfFunction) (l : Lowering) → l.functions.items ≡ [] → Done results fs 0 l
+pub done_none : (results : List Kind) (fs : List CodeOfFunction) (l : Lowering) → l.functions.items ≡ []
+    → Done results fs 0 l
 done_none results fs l e = record {
   by = λ ts s rest h. subst (λ xs. AreFunctions ts results (map function_of fs) (xs ++ rest)) (sym e) h;
 }
 
-pub done_more : {results : List Kind} {l m : Lowering} (fs : List CodeOfFunction) (i : ℕ) (x : CodeOfFunction) → i < length fs
+pub done_more : {results : List Kind} {l m : Lowering} (fs : List CodeOfFunction) (i : ℕ) (x : CodeOfFunction)
+    → i < length fs
     → x ≡ get_or fs i x → Done results fs i l → Holding l m results (function_of x) → Done results fs (i + 1) m
 done_more {results = results} {l = l} {m = m} fs i x lt is d h = record {
   by = λ ts s rest k.
@@ -61,7 +64,8 @@ append_none : {A : Type 0} (xs : List A) → xs ++ [] ≡ xs
 append_none [] = refl
 append_none (x ∷ xs) = ap (λ ys. x ∷ ys) (append_none xs)
 
-pub done_all : {results : List Kind} {l : Lowering} (fs : List CodeOfFunction) (i : ℕ) → i ≡ length fs → Done results fs i l
+pub done_all : {results : List Kind} {l : Lowering} (fs : List CodeOfFunction) (i : ℕ) → i ≡ length fs
+    → Done results fs i l
     → AreFunctions l.texts.items results (map function_of fs) l.functions.items
 done_all {results = results} {l = l} fs i e d =
     let none : drop i fs ≡ [] = ap (λ n. drop n fs) e ∙ drop_all fs in
@@ -71,8 +75,10 @@ done_all {results = results} {l = l} fs i e d =
 
 -- one more function
 
-pub held : {a b : Lowering} {results : List Kind} {f : Function} {texts : List (List ℕ)} {w : Lowered} → texts ≡ a.texts.items
-    → FunctionCode f (get_or results f.type_number Void) texts w → b.functions.items ≡ a.functions.items ++ w.function ∷ []
+pub held : {a b : Lowering} {results : List Kind} {f : Function} {texts : List (List ℕ)} {w : Lowered}
+    → texts ≡ a.texts.items
+    → FunctionCode f (get_or results f.type_number Void) texts w
+    → b.functions.items ≡ a.functions.items ++ w.function ∷ []
     → b.texts.items ≡ w.texts.items → Holding a b results f
 held {w = w} et h ef eb = record {
   code = w.function;
@@ -91,13 +97,15 @@ headers_same ts results (f ∷ fs) [] h = absurd h
 headers_same ts results (f ∷ fs) (c ∷ cs) h =
     ap (λ x. x ∷ map header_of_code cs) h.0.header ∙ ap (λ xs. header_of f ∷ xs) (headers_same ts results fs cs h.1)
 
-room_enough : (statics : List StaticObject) (n : ℕ) (f : Function) → each_height f.body ≤ max 1 (function_height statics n f)
+room_enough : (statics : List StaticObject) (n : ℕ) (f : Function)
+    → each_height f.body ≤ max 1 (function_height statics n f)
 room_enough statics n f = omega (arith, height_of_each f.body)
 
 at_most : {a b c : ℕ} → a ≤ b → b ≤ c → a ≤ c
 at_most h k = omega (arith, h, k)
 
-one_lowered : (ts : List (List ℕ)) (result : Kind) (statics : List StaticObject) (n : ℕ) (f : Function) (c : CodeFunction)
+one_lowered : (ts : List (List ℕ)) (result : Kind) (statics : List StaticObject) (n : ℕ) (f : Function)
+    (c : CodeFunction)
     → IsFunction ts result f c → LowersFunction ts result (function_height statics n f) f c
 one_lowered ts result statics n f c h = record {
   header = h.header;
@@ -105,7 +113,8 @@ one_lowered ts result statics n f c h = record {
   body = h.body;
 }
 
-functions_lowered : (ts : List (List ℕ)) (results : List Kind) (statics : List StaticObject) (n : ℕ) (fs : List Function)
+functions_lowered : (ts : List (List ℕ)) (results : List Kind) (statics : List StaticObject) (n : ℕ)
+    (fs : List Function)
     (cs : List CodeFunction) → AreFunctions ts results fs cs → (k : ℕ)
     → LowersAt ts (result_in results (function_at fs k)) (height_in statics n (function_at fs k)) (function_at fs k)
     (slice_get cs k)

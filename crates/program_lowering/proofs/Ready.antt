@@ -1,5 +1,6 @@
 -- Functions of a valid program are ready for lowering.
-use Rattle.std.proofs.Common.{◌≡◌, ℕ, zero, suc, ◌+◌, ◌*◌, ◌≤◌, ◌<◌, Bool, true, false, List, [], ◌∷◌, ◌++◌, length, map, Some, None, refl}
+use Rattle.std.proofs.Common.{◌≡◌, ℕ, zero, suc, ◌+◌, ◌*◌, ◌≤◌, ◌<◌, Bool, true, false, List, [], ◌∷◌, ◌++◌, length}
+use Rattle.std.proofs.Common.{map, Some, None, refl}
 use Rattle.std.proofs.Common.{sym, ap, ◌∙◌, subst, arith}
 use Rattle.std.specs.Prelude.{not, ◌&&◌, ◌||◌, ◌==◌, nat_le, max, get_or}
 use Rattle.std.specs.List.{list_all, list_any}
@@ -67,7 +68,8 @@ one_default (items labels s is) h =
     (one_default is (different_behind labels (labels_of is) h))
 
 mutual
-  decided : (scope : Scope) (inside : Inside) (s : Statement) → is_statement scope inside s ≡ true → are_decided s ≡ true
+  decided : (scope : Scope) (inside : Inside) (s : Statement) → is_statement scope inside s ≡ true
+  → are_decided s ≡ true
   decided scope inside (expression_statement e) h = refl
   decided scope inside empty h = refl
   decided scope inside (declaration ds) h = refl
@@ -78,7 +80,8 @@ mutual
       let q = and_parts _ _ h in
       let r = and_parts _ (is_statement scope inside other) q.0 in
       let t = and_parts _ _ r.0 in
-      and_from (are_decided s) (are_decided other) (decided scope inside s (and_parts _ (is_statement scope inside s) t.0).1)
+      and_from (are_decided s) (are_decided other) (decided scope inside s (and_parts _
+      (is_statement scope inside s) t.0).1)
       (decided scope inside other r.1)
   decided scope inside (while_do e s) h =
       decided scope in_loop s (and_parts _ (is_statement scope in_loop s) (and_parts _ _ h).0).1
@@ -91,7 +94,8 @@ mutual
       let inner = within scope (switch_variables is) in
       let q = and_parts _ (are_items inner (in_switch inside) is) h in
       let r = and_parts _ (are_different (labels_of is)) q.0 in
-      and_from (has_one_default is) (items_decided is) (one_default is r.1) (decided_items inner (in_switch inside) is q.1)
+      and_from (has_one_default is) (items_decided is) (one_default is r.1) (decided_items inner
+      (in_switch inside) is q.1)
   decided scope inside break h = refl
   decided scope inside continue h = refl
   decided scope inside (return e) h = refl

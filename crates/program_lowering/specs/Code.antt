@@ -18,7 +18,8 @@ use Rattle.program_lowering.specs.declared.body.Body.{Body}
 use Rattle.program_lowering.specs.declared.function.Lowered.{Lowered}
 
 -- of the body of a function with these variables, behind the texts of the program so far
-pub record BodyCode (vs : List Variable) (ss : Statements) (result : Kind) (texts : List (List ℕ)) (b : Emitter) (entry : ℕ)
+pub record BodyCode (vs : List Variable) (ss : Statements) (result : Kind) (texts : List (List ℕ)) (b : Emitter)
+    (entry : ℕ)
     : Type 0 where
   pub texts_stay : Stays texts b.texts.items
   pub homes : Fits (each_height ss) b
@@ -26,7 +27,8 @@ pub record BodyCode (vs : List Variable) (ss : Statements) (result : Kind) (text
   pub stands : (c : Placed) → c.variables ≡ vs → Fills b c → LowersBody c result entry ss
 
 -- a function has the parts of a body
-pub record Completes (line type_number room : ℕ) (parameters variables entered : List Variable) (b : Body) (l : Lowered) : Type
+pub record Completes (line type_number room : ℕ) (parameters variables entered : List Variable) (b : Body)
+    (l : Lowered) : Type
     0 where
   pub line_is : l.function.line ≡ line
   pub type_is : l.function.type_number ≡ type_number

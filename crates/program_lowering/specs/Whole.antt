@@ -28,7 +28,8 @@ abbrev pub code_nodes : List CodeFunction → ℕ
 code_nodes [] = 0
 code_nodes (c ∷ cs) = length c.code + code_nodes cs
 
--- and how many they are at most: 2 for each function, up to 6 for each statement, 5 for each node of its expressions, and
+-- and how many they are at most: 2 for each function, up to 6 for each statement, 5 for each node of its
+-- expressions, and
 -- up to 2 for each part of an initializer
 abbrev pub program_nodes : List Function → ℕ
 program_nodes [] = 0

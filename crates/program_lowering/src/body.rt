@@ -22,8 +22,8 @@ pub struct Body {
     pub entry: usize,
 }
 
-/// Lowers the body of a function with these variables, which gives a value of this kind, behind the texts of the program
-/// so far. At its end it gives 0.
+/// Lowers the body of a function with these variables, which gives a value of this kind, behind the texts of the
+/// program so far. At its end it gives 0.
 pub fn lower_body(
     alloc: Global,
     variables: &[Variable],

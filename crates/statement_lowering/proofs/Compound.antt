@@ -1,15 +1,15 @@
 -- Blocks and branches from their parts.
-use Rattle.std.proofs.Common.{◌≡◌, ℕ, ◌+◌, ◌-◌, ◌≤◌, List, ◌∷◌, length, map, drop, Some, refl, sym, ap, subst, arith}
+use Rattle.std.proofs.Common.{◌≡◌, ℕ, ◌+◌, ◌-◌, ◌≤◌, List, length, map, drop, Some, refl, ap, subst, arith}
 use Rattle.std.specs.Prelude.{get_or, max}
 use Rattle.c_tree.specs.declared.program.Variable.{Variable}
 use Rattle.c_tree.specs.declared.statement.Statement.{Statement as CodeStatement}
 use Rattle.c_tree.specs.Blocks.{block_variables}
 use Rattle.c_tree.specs.Room.{height}
 use Rattle.c_tree.specs.Tree.{Expression}
-use Rattle.c_tree.specs.Statements.{Statement, Statements, no_statements, statements, statements_in, block, if_then, if_else}
+use Rattle.c_tree.specs.Statements.{Statement, Statements, no_statements, statements, statements_in, block, if_then}
+use Rattle.c_tree.specs.Statements.{if_else}
 use Rattle.c_tree.specs.View.{statement_of}
-use Rattle.c_lower.specs.Placed.{Placed}
-use Rattle.c_lower.specs.Statements.{Exits as Left, LowersStatement, LowersEntry, LowersLeaving, has_objects_of}
+use Rattle.c_lower.specs.Statements.{LowersStatement, LowersEntry, LowersLeaving, has_objects_of}
 use Rattle.expression_lowering.specs.declared.emitter.Emitter.{Emitter}
 use Rattle.expression_lowering.specs.Emitted.{nodes}
 use Rattle.expression_lowering.proofs.Growing.{emits_none, emits_then, fills_before}
@@ -19,7 +19,7 @@ use Rattle.statement_parts.specs.Code.{ConditionCode, EntryCode, LeavingCode}
 use Rattle.statement_parts.proofs.InitializerParts.{drop_before}
 use Rattle.statement_lowering.specs.Code.{StatementCode, StatementsCode}
 use Rattle.statement_lowering.specs.Sizes.{statement_height, each_height, statement_nodes, each_nodes}
-use Rattle.statement_lowering.proofs.Heights.{needs_one, each_needs_one}
+use Rattle.statement_lowering.proofs.Heights.{needs_one}
 
 -- statements in order
 
@@ -30,7 +30,8 @@ more_statements : {vs : List Variable} {a b c : Emitter} {n k : ℕ} {x y : Exit
     → exits_of y ≡ before (exits_of x) k → StatementsCode vs a b ss k x → StatementCode vs b c s n y
     → StatementsCode vs a c (statements s ss) n x
 more_statements {n = n} {k = k} s ss e hs h = record {
-  emits = emits_then (max (statement_height s) (each_height ss)) (1 + statement_nodes s + each_nodes ss) hs.emits h.emits
+  emits = emits_then (max (statement_height s) (each_height ss))
+      (1 + statement_nodes s + each_nodes ss) hs.emits h.emits
       (omega arith) (omega arith) (omega arith);
   stands = λ p v f.
       (k, subst (LowersStatement p s n) e (h.stands p v f), hs.stands p v (fills_before h.emits f));
@@ -47,7 +48,8 @@ next_statement {vs = vs} {a = a} {c = c} {n = n} {x = x} xs i s ge le is e hs h 
 
 -- blocks
 
-pub block_code : {vs : List Variable} {a b c d : Emitter} {numbers : List ℕ} {line k n : ℕ} {y x : Exits} {ss : Statements}
+pub block_code : {vs : List Variable} {a b c d : Emitter} {numbers : List ℕ} {line k n : ℕ} {y x : Exits} {ss :
+    Statements}
     → numbers ≡ block_variables ss → LeavingCode vs a b numbers y x → StatementsCode vs b c ss k y
     → EntryCode vs c d numbers line n k → StatementCode vs a d (block line ss) n x
 block_code {numbers = numbers} {line = line} {k = k} {n = n} {y = y} {x = x} {ss = ss} same l h y' =
@@ -73,12 +75,14 @@ block_code {numbers = numbers} {line = line} {k = k} {n = n} {y = y} {x = x} {ss
 pub if_code : {vs : List Variable} {a b c : Emitter} {e : Expression} {s : Statement} {k n : ℕ} {x : Exits}
     → StatementCode vs a b s k x → ConditionCode b c (Some e) n k x.next → StatementCode vs a c (if_then e s) n x
 if_code {e = e} {s = s} {k = k} h t = record {
-  emits = emits_then (max (height e) (statement_height s)) (1 + nodes e + statement_nodes s) h.emits t.emits (omega arith)
+  emits = emits_then (max (height e) (statement_height s)) (1 + nodes e + statement_nodes s) h.emits t.emits
+      (omega arith)
       (omega (arith, needs_one s)) (omega arith);
   stands = λ p v f. (k, t.stands p f, h.stands p v (fills_before t.emits f));
 }
 
-pub if_else_code : {vs : List Variable} {a b c d : Emitter} {e : Expression} {s other : Statement} {k j n : ℕ} {x : Exits}
+pub if_else_code : {vs : List Variable} {a b c d : Emitter} {e : Expression} {s other : Statement} {k j n : ℕ} {x :
+    Exits}
     → StatementCode vs a b other j x → StatementCode vs b c s k x → ConditionCode c d (Some e) n k j
     → StatementCode vs a d (if_else e s other) n x
 if_else_code {e = e} {s = s} {other = other} {k = k} {j = j} ho h t =

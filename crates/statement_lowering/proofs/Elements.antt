@@ -1,6 +1,7 @@
 -- Elements of lists of statements and of items of a switch.
-use Rattle.std.proofs.Common.{◌≡◌, ℕ, zero, suc, ◌+◌, ◌-◌, ◌≤◌, ◌<◌, Bool, true, false, List, [], ◌∷◌, length, map, drop, refl, sym}
-use Rattle.std.proofs.Common.{ap, ◌∙◌, subst, arith}
+use Rattle.std.proofs.Common.{◌≡◌, ℕ, zero, suc, ◌+◌, ◌-◌, ◌≤◌, ◌<◌, Bool, true, false, List, [], ◌∷◌, length, map}
+use Rattle.std.proofs.Common.{drop, refl, sym}
+use Rattle.std.proofs.Common.{ap, ◌∙◌, arith}
 use Rattle.std.specs.Prelude.{get_or, set, ◌&&◌}
 use Rattle.c_tree.specs.declared.statement.CaseLabel.{CaseLabel}
 use Rattle.c_tree.specs.declared.statement.Statement.{Statement as CodeStatement}
@@ -16,7 +17,8 @@ use Rattle.statement_lowering.specs.Switches.{are_decided, each_decided, items_d
 pub of_item : (x : CodeItem) → item_of x ≡ (x.labels, statement_of x.statement)
 of_item x = fold_out-SwitchItem Statement (List CaseLabel × Statement) statement_step item_step x
 
-pub drop_from : {A : Type 0} (xs : List A) (k : ℕ) (x : A) → k < length xs → x ≡ get_or xs k x → drop k xs ≡ x ∷ drop (k + 1) xs
+pub drop_from : {A : Type 0} (xs : List A) (k : ℕ) (x : A) → k < length xs → x ≡ get_or xs k x
+    → drop k xs ≡ x ∷ drop (k + 1) xs
 drop_from [] k x lt e = absurd (omega (arith, lt))
 drop_from (y ∷ xs) zero x lt e = ap (λ z. z ∷ xs) (sym e)
 drop_from (y ∷ xs) (suc k) x lt e =
@@ -75,7 +77,8 @@ pub decided_at : (xs : List CodeStatement) (k : ℕ) (x : CodeStatement) → k <
     → each_decided (statements_in (map statement_of xs)) ≡ true → are_decided (statement_of x) ≡ true
 decided_at [] k x lt e h = absurd (omega (arith, lt))
 decided_at (y ∷ xs) zero x lt e h =
-    ap (λ z. are_decided (statement_of z)) e ∙ left_true (are_decided (statement_of y)) (each_decided (statements_in (map statement_of xs))) h
+    ap (λ z. are_decided (statement_of z)) e ∙ left_true (are_decided (statement_of y)) (each_decided (statements_in
+    (map statement_of xs))) h
 decided_at (y ∷ xs) (suc k) x lt e h =
     decided_at xs k x (omega (arith, lt)) e
     (right_true (are_decided (statement_of y)) (each_decided (statements_in (map statement_of xs))) h)

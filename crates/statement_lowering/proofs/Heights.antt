@@ -1,9 +1,8 @@
 -- What statements need is what their expressions need.
-use Rattle.std.proofs.Common.{◌≡◌, ℕ, ◌≤◌, List, [], ◌∷◌, ◌++◌, arith}
+use Rattle.std.proofs.Common.{◌≡◌, ℕ, ◌≤◌, [], ◌∷◌, ◌++◌, arith}
 use Rattle.std.specs.Prelude.{max}
 use Rattle.c_tree.specs.Blocks.{contents_of, each_contents, items_contents, first_contents, if_any}
 use Rattle.c_tree.specs.Room.{height, greatest_height}
-use Rattle.c_tree.specs.Tree.{Expression}
 use Rattle.c_tree.specs.Statements.{Statement, expression_statement, empty, declaration, block, if_then, if_else}
 use Rattle.c_tree.specs.Statements.{while_do, do_while, for, switch, break, continue, return, Statements, no_statements}
 use Rattle.c_tree.specs.Statements.{statements, SwitchItems, no_items, items, value_content}
@@ -71,7 +70,8 @@ mutual
       (greatest_and (contents_of s) (contents_of other)))
   height_of (while_do e s) = value_beside (height e) (greatest_height (contents_of s)) (height_of s)
   height_of (do_while s e) =
-      behind_value (height e) (greatest_height (contents_of s)) _ (height_of s) (greatest_and (contents_of s) (value_content e ∷ []))
+      behind_value (height e) (greatest_height (contents_of s)) _ (height_of s) (greatest_and (contents_of s)
+      (value_content e ∷ []))
   height_of (for line first condition step s) =
       let body = beside (greatest_height (if_any step)) (greatest_height (contents_of s)) _
       (itself (greatest_height (if_any step))) (height_of s)
@@ -83,7 +83,8 @@ mutual
       (greatest_height (if_any condition ++ (if_any step ++ contents_of s))) _
       (itself (greatest_height (first_contents first))) tested
       (greatest_and (first_contents first) (if_any condition ++ (if_any step ++ contents_of s))) in
-      at_most (in_order (most (first_contents first)) (most (if_any condition)) (most (if_any step)) (statement_height s))
+      at_most (in_order (most (first_contents first)) (most (if_any condition)) (most (if_any step))
+      (statement_height s))
       whole
   height_of (switch e line is) = value_beside (height e) (greatest_height (items_contents is)) (height_of_items is)
   height_of break = omega arith
@@ -99,5 +100,6 @@ mutual
   pub height_of_items : (is : SwitchItems) → items_height is ≤ max 1 (greatest_height (items_contents is))
   height_of_items no_items = omega arith
   height_of_items (items labels s is) =
-      beside (greatest_height (contents_of s)) (greatest_height (items_contents is)) _ (height_of s) (height_of_items is)
+      beside (greatest_height (contents_of s)) (greatest_height (items_contents is)) _ (height_of s)
+      (height_of_items is)
       (greatest_and (contents_of s) (items_contents is))

@@ -1,5 +1,6 @@
 -- The tests of labels.
-use Rattle.std.proofs.Common.{◌≡◌, ℕ, zero, suc, ◌+◌, ◌-◌, ◌≤◌, ◌<◌, Bool, true, false, List, [], ◌∷◌, length, map, drop, refl, sym}
+use Rattle.std.proofs.Common.{◌≡◌, ℕ, ◌+◌, ◌-◌, ◌≤◌, ◌<◌, Bool, true, false, List, [], ◌∷◌, length, map, drop, refl}
+use Rattle.std.proofs.Common.{sym}
 use Rattle.std.proofs.Common.{ap, ◌∙◌, subst, arith}
 use Rattle.std.specs.Prelude.{get_or, ◌||◌, if◌then◌else◌}
 use Rattle.c_tree.specs.declared.statement.CaseLabel.{CaseLabel}
@@ -16,14 +17,19 @@ use Rattle.expression_lowering.proofs.Growing.{emits_none, emits_then, added_emi
 use Rattle.statement_parts.specs.Items.{item_of}
 use Rattle.statement_parts.proofs.InitializerParts.{drop_before}
 use Rattle.statement_lowering.specs.Code.{LabelsCode, TestsCode, tests_nodes}
-use Rattle.statement_lowering.specs.Switches.{DefaultsBegin, LowersTests, default_start}
+use Rattle.statement_lowering.specs.Switches.{default_start}
 use Rattle.statement_lowering.proofs.Elements.{of_item, drop_number, drop_from, get_any}
 
 pub no_labels_code : {a : Emitter} {item n : ℕ} → LabelsCode a a [] item n n
 no_labels_code = record { emits = emits_none 1 0; stands = λ c f other e. refl }
 
-pub case_code : {a b : Emitter} {w item n m : ℕ} → Added a b n (tac.Case 0 w item m) → LabelsCode a b (Case w ∷ []) item n m
-case_code {m = m} h = record { emits = added_emits 1 h (omega arith); stands = λ c f other e. (m, added_holds h tt f, refl) }
+pub case_code : {a b : Emitter} {w item n m : ℕ} → Added a b n (tac.Case 0 w item m)
+    → LabelsCode a b (Case w ∷ []) item n m
+case_code {m = m} h = record {
+  emits = added_emits 1 h (omega arith);
+  stands = λ c f other e.
+      (m, added_holds h tt f, refl);
+}
 
 pub default_code : {a : Emitter} {item n : ℕ} → LabelsCode a a (Default ∷ []) item n n
 default_code = record { emits = emits_none 1 1; stands = λ c f other e. (e refl, refl) }
@@ -58,7 +64,8 @@ more_labels {item = item} {n = n} {k = k} {m = m} l ls hs h = record {
       (hs.stands p (fills_before h.emits f) other (λ d. e (second_of (is_default l) (any_default ls) d)));
 }
 
-pub next_label : {a b c : Emitter} {item n k m : ℕ} (ls : List CaseLabel) (i : ℕ) (l : CaseLabel) → 1 ≤ i → i ≤ length ls
+pub next_label : {a b c : Emitter} {item n k m : ℕ} (ls : List CaseLabel) (i : ℕ) (l : CaseLabel) → 1 ≤ i
+    → i ≤ length ls
     → l ≡ get_or ls (i - 1) l → LabelsCode a b (drop i ls) item k m → LabelsCode b c (l ∷ []) item n k
     → LabelsCode a c (drop (i - 1) ls) item n m
 next_label {a = a} {c = c} {item = item} {n = n} {m = m} ls i l ge le is hs h =
@@ -75,16 +82,20 @@ more_tests : {a b c : Emitter} {n k m start : ℕ} (x : CodeItem) (is : SwitchIt
 more_tests {a = a} {c = c} {n = n} {k = k} {m = m} {start = start} x is starts hs h =
     let view = of_item x in
     let code : TestsCode a c (items x.labels (item_of x).1 is) (start ∷ starts) n m = record {
-      emits = emits_then 1 (length x.labels + tests_nodes is) hs.emits h.emits (omega arith) (omega arith) (omega arith);
+      emits = emits_then 1 (length x.labels + tests_nodes is) hs.emits h.emits (omega arith) (omega arith)
+          (omega arith);
       stands = λ p f d. (k, h.stands p f m d.0, hs.stands p (fills_before h.emits f) d.1);
     } in
     subst (λ ls. TestsCode a c (items ls (item_of x).1 is) (start ∷ starts) n m) (sym (ap (λ i. i.0) view)) code
 
-pub next_tests : {a b c : Emitter} {n k m start : ℕ} {labels : List CaseLabel} (xs : List CodeItem) (starts : List ℕ) (i : ℕ) (x : CodeItem) → 1 ≤ i
+pub next_tests : {a b c : Emitter} {n k m start : ℕ} {labels : List CaseLabel} (xs : List CodeItem)
+    (starts : List ℕ) (i : ℕ) (x : CodeItem) → 1 ≤ i
     → i ≤ length xs → x ≡ get_or xs (i - 1) x → length starts ≡ length xs → start ≡ get_or starts (i - 1) start
     → labels ≡ x.labels → TestsCode a b (items_in (map item_of (drop i xs))) (drop i starts) k m
-    → LabelsCode b c labels start n k → TestsCode a c (items_in (map item_of (drop (i - 1) xs))) (drop (i - 1) starts) n m
-next_tests {a = a} {b = b} {c = c} {n = n} {k = k} {m = m} {start = start} {labels = labels} xs starts i x ge le is same at
+    → LabelsCode b c labels start n k
+    → TestsCode a c (items_in (map item_of (drop (i - 1) xs))) (drop (i - 1) starts) n m
+next_tests {a = a} {b = b} {c = c} {n = n} {k = k} {m = m} {start = start} {labels = labels} xs starts i x ge le is
+    same at
     of hs h =
     let le' : i ≤ length starts = omega (arith, same, le) in
     subst (λ l. TestsCode a c l (drop (i - 1) starts) n m) (ap items_in (drop_before item_of xs i x ge le is))

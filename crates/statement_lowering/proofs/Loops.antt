@@ -1,8 +1,8 @@
 -- Loops from their parts.
-use Rattle.std.proofs.Common.{◌≡◌, ℕ, ◌+◌, ◌≤◌, List, length, Option, Some, None, refl, sym, ap, subst, arith}
+use Rattle.std.proofs.Common.{◌≡◌, ℕ, ◌+◌, ◌≤◌, List, length, Option, None, subst, arith}
 use Rattle.std.specs.Prelude.{max}
 use Rattle.c_tree.specs.declared.program.Variable.{Variable}
-use Rattle.c_tree.specs.Blocks.{first_variables, first_contents, if_any}
+use Rattle.c_tree.specs.Blocks.{first_variables}
 use Rattle.c_tree.specs.Room.{height}
 use Rattle.c_tree.specs.Tree.{Expression}
 use Rattle.c_tree.specs.Statements.{First, Statement, while_do, do_while, for}
@@ -13,11 +13,11 @@ use Rattle.c_lower.specs.Counted.{CountedParts, counted_parts}
 use Rattle.c_lower.specs.Statements.{in_loop, LowersStatement, LowersEntry, LowersLeaving, has_objects_of, CountedIs}
 use Rattle.expression_lowering.specs.declared.emitter.Emitter.{Emitter}
 use Rattle.expression_lowering.specs.Emitted.{Has, Emits, nodes}
-use Rattle.expression_lowering.proofs.Growing.{emits_then, fills_before, keeps_on}
+use Rattle.expression_lowering.proofs.Growing.{fills_before, keeps_on}
 use Rattle.statement_parts.specs.declared.exits.Exits.{Exits}
 use Rattle.statement_parts.specs.declared.loops.ForHead.{ForHead}
 use Rattle.statement_parts.specs.Leaving.{exits_of}
-use Rattle.statement_parts.specs.Code.{most, first_nodes, condition_nodes, part_nodes}
+use Rattle.statement_parts.specs.Code.{most}
 use Rattle.statement_parts.specs.Loops.{Waits, Filled, HeadCode, ForHeadCode, ForTailCode}
 use Rattle.statement_parts.proofs.LoopParts.{filled_fills, filled_keeps, filled_fits, filled_length, filled_holds}
 use Rattle.statement_lowering.specs.Code.{StatementCode}
@@ -37,17 +37,19 @@ filled_emits most count e fresh g f still li lm ln lk = record {
   kept = filled_keeps f (keeps_on e.kept g.kept) fresh;
   fits = λ limit le h.
       filled_fits limit f still (omega (arith, li, le))
-          (g.fits limit (omega (arith, ln, le)) (e.fits limit (omega (arith, lm, le)) h));
+      (g.fits limit (omega (arith, ln, le)) (e.fits limit (omega (arith, lm, le)) h));
   grown = omega (arith, filled_length f, e.grown, g.grown, lk);
 }
 
-pub while_code : {vs : List Variable} {a b c d : Emitter} {e : Expression} {s : Statement} {turn start n : ℕ} {x y : Exits}
+pub while_code : {vs : List Variable} {a b c d : Emitter} {e : Expression} {s : Statement} {turn start n : ℕ} {x y :
+    Exits}
     → HeadCode a b e turn start x.next → exits_of y ≡ in_loop (exits_of x) start → StatementCode vs b c s n y
     → Filled c d turn (tac.Turn None n) → StatementCode vs a d (while_do e s) start x
 while_code {e = e} {s = s} {turn = turn} {n = n} h q g f =
     let still = g.emits.kept.code turn tac.Reserved h.waits.by in
     record {
-      emits = filled_emits (max (height e) (statement_height s)) (2 + nodes e + statement_nodes s) h.emits h.fresh g.emits f
+      emits = filled_emits (max (height e) (statement_height s))
+          (2 + nodes e + statement_nodes s) h.emits h.fresh g.emits f
           still (omega arith) (omega (arith, needs_one s)) (omega arith) (omega arith);
       stands = λ p v k.
           let fg = filled_fills f still k in (
@@ -65,7 +67,8 @@ pub do_code : {vs : List Variable} {a b c d : Emitter} {e : Expression} {s : Sta
 do_code {e = e} {s = s} {turn = turn} {start = start} {n = n} h q g f =
     let still = g.emits.kept.code turn tac.Reserved h.waits.by in
     record {
-      emits = filled_emits (max (height e) (statement_height s)) (2 + nodes e + statement_nodes s) h.emits h.fresh g.emits f
+      emits = filled_emits (max (height e) (statement_height s))
+          (2 + nodes e + statement_nodes s) h.emits h.fresh g.emits f
           still (omega arith) (omega (arith, needs_one s)) (omega arith) (omega arith);
       stands = λ p v k.
           let fg = filled_fills f still k in (
@@ -78,18 +81,20 @@ do_code {e = e} {s = s} {turn = turn} {start = start} {n = n} h q g f =
     }
 
 pub for_code : {vs : List Variable} {a b c d : Emitter} {numbers : List ℕ} {line : ℕ} {first : First}
-    {test step : Option Expression} {s : Statement} {h : ForHead} {parts : Option CountedParts} {n body : ℕ} {x y : Exits}
+    {test step : Option Expression} {s : Statement} {h : ForHead} {parts : Option CountedParts} {n body : ℕ} {x y :
+    Exits}
     → numbers ≡ first_variables first → ForHeadCode vs a b numbers test step h x
     → exits_of y ≡ in_loop (exits_of h.inside) h.step → StatementCode vs b c s body y
     → parts ≡ counted_parts first test step s → ForTailCode vs c d numbers line first parts h body n
     → StatementCode vs a d (for line first test step s) n x
-for_code {line = line} {first = first} {test = test} {step = step} {s = s} {h = h} {n = n} {body = body} {x = x} same k q g
+for_code {line = line} {first = first} {test = test} {step = step} {s = s} {h = h} {n = n} {body = body} {x = x} same
+    k q g
     ranged t = record {
       emits = record {
         kept = t.grows.keeps _ (keeps_on k.emits.kept g.emits.kept) k.fresh;
         fits = λ limit le f.
             t.grows.fits limit (omega (arith, le))
-                (g.emits.fits limit (omega (arith, le)) (k.emits.fits limit (omega (arith, le)) f));
+            (g.emits.fits limit (omega (arith, le)) (k.emits.fits limit (omega (arith, le)) f));
         grown = omega (arith, t.grows.grown, g.emits.grown, k.emits.grown);
       };
       stands = λ p v f.
@@ -104,7 +109,8 @@ for_code {line = line} {first = first} {test = test} {step = step} {s = s} {h = 
             t.counted,
             (
               subst (λ ns. LowersEntry p (has_objects_of p ns) ns line n t.setting) same (t.enters p v f),
-              subst (λ ns. LowersLeaving p (has_objects_of p ns) (exits_of h.inside) (exits_of x)) same (k.leaves p v fk),
+              subst (λ ns. LowersLeaving p (has_objects_of p ns) (exits_of h.inside) (exits_of x)) same
+                  (k.leaves p v fk),
             ),
             t.sets p f,
             k.tests p fk,

@@ -1,10 +1,11 @@
 -- Statements without statements in them, and conditions.
-use Rattle.std.proofs.Common.{◌≡◌, ℕ, ◌+◌, ◌≤◌, ◌<◌, List, [], ◌∷◌, Some, None, refl, sym, ap, subst, arith}
+use Rattle.std.proofs.Common.{ℕ, ◌+◌, ◌<◌, List, [], ◌∷◌, Some, None, refl, sym, ap, subst, arith}
 use Rattle.std.specs.Prelude.{max}
 use Rattle.c_tree.specs.declared.expression.Expression.{Expression as CodeExpression}
 use Rattle.c_tree.specs.declared.program.Variable.{Variable}
 use Rattle.c_tree.specs.Tree.{Expression, kind_of, line_of}
-use Rattle.c_tree.specs.Statements.{value_content, DeclaredVariable, expression_statement, empty, declaration, break, continue, return}
+use Rattle.c_tree.specs.Statements.{value_content, DeclaredVariable, expression_statement, empty, declaration, break}
+use Rattle.c_tree.specs.Statements.{continue, return}
 use Rattle.c_tree.specs.View.{expression_of}
 use Rattle.c_tree.specs.Room.{height}
 use Rattle.tac_ir.specs.declared.instruction.Instruction.TheVariants as tac
@@ -14,15 +15,17 @@ use Rattle.c_lower.proofs.Homes.{fits}
 use Rattle.expression_lowering.specs.declared.emitter.Emitter.{Emitter}
 use Rattle.expression_lowering.specs.Emitted.{Added, ExpressionCode, nodes}
 use Rattle.expression_lowering.specs.Last.{TakingCode}
-use Rattle.expression_lowering.proofs.Growing.{emits_none, emits_then, emits_within, added_emits, added_holds, fills_before}
+use Rattle.expression_lowering.proofs.Growing.{emits_none, emits_then, emits_within, added_emits, added_holds}
+use Rattle.expression_lowering.proofs.Growing.{fills_before}
 use Rattle.expression_lowering.proofs.Views.{of_expression}
 use Rattle.statement_parts.specs.declared.exits.Exits.{Exits}
-use Rattle.statement_parts.specs.Code.{most, DeclaredCode, ConditionCode}
+use Rattle.statement_parts.specs.Code.{most, DeclaredCode}
 use Rattle.statement_parts.proofs.InitializerParts.{evaluated_emits, condition_some}
 use Rattle.statement_lowering.specs.Code.{StatementCode, ResultCode}
 
 -- an expression that is evaluated into temporary 0 needs no more than its height
-pub value_room : (e : CodeExpression) (limit : ℕ) → height (expression_of e) < limit → 0 + used (expression_of e) < limit
+pub value_room : (e : CodeExpression) (limit : ℕ) → height (expression_of e) < limit
+    → 0 + used (expression_of e) < limit
 value_room e limit h = omega (arith, fits (expression_of e), h)
 
 pub evaluated_code : {vs : List Variable} {a b : Emitter} {e : Expression} {n : ℕ} {x : Exits}

@@ -1,5 +1,5 @@
 -- Switches from their parts.
-use Rattle.std.proofs.Common.{◌≡◌, ℕ, zero, suc, ◌+◌, ◌-◌, ◌≤◌, ◌<◌, Bool, true, false, List, [], ◌∷◌, length, map, drop, refl, sym}
+use Rattle.std.proofs.Common.{◌≡◌, ℕ, ◌+◌, ◌-◌, ◌≤◌, Bool, true, false, List, [], ◌∷◌, length, map, drop, refl, sym}
 use Rattle.std.proofs.Common.{ap, ◌∙◌, subst, arith}
 use Rattle.std.specs.Prelude.{get_or, set, max, not, ◌&&◌, ◌||◌, if◌then◌else◌}
 use Rattle.c_tree.specs.declared.program.Variable.{Variable}
@@ -10,7 +10,8 @@ use Rattle.c_tree.specs.Tree.{Expression}
 use Rattle.c_tree.specs.Statements.{SwitchItems, no_items, items, items_in, switch}
 use Rattle.c_tree.specs.View.{statement_of}
 use Rattle.c_lower.specs.Placed.{Placed}
-use Rattle.c_lower.specs.Statements.{Exits as Left, LowersStatement, LowersItems, LowersEntry, LowersLeaving, has_objects_of}
+use Rattle.c_lower.specs.Statements.{Exits as Left, LowersStatement, LowersItems, LowersEntry, LowersLeaving}
+use Rattle.c_lower.specs.Statements.{has_objects_of}
 use Rattle.c_lower.specs.Statements.{LowersLabels, in_switch, any_default, has_default}
 use Rattle.expression_lowering.specs.declared.emitter.Emitter.{Emitter}
 use Rattle.expression_lowering.specs.Emitted.{ExpressionCode, nodes}
@@ -39,14 +40,16 @@ more_items : {vs : List Variable} {a b c : Emitter} {n k : ℕ} {x y : Exits} (i
 more_items {vs = vs} {a = a} {c = c} {n = n} {k = k} {x = x} i is starts e hs h =
     let s = statement_of i.statement in
     let code : ItemsFrom vs a c (items (item_of i).0 s is) (n ∷ starts) n x = record {
-      emits = emits_then (max (statement_height s) (items_height is)) (statement_nodes s + bodies_nodes is) hs.emits h.emits
+      emits = emits_then (max (statement_height s) (items_height is))
+          (statement_nodes s + bodies_nodes is) hs.emits h.emits
           (omega arith) (omega arith) (omega arith);
       stands = λ p v f.
           (refl, k, subst (LowersStatement p s n) e (h.stands p v f), hs.stands p v (fills_before h.emits f));
     } in
     subst (λ t. ItemsFrom vs a c (items (item_of i).0 t is) (n ∷ starts) n x) (sym (ap (λ j. j.1) (of_item i))) code
 
-pub next_item : {vs : List Variable} {a b c : Emitter} {n k : ℕ} {x y : Exits} (xs : List CodeItem) (starts : List ℕ) (i : ℕ)
+pub next_item : {vs : List Variable} {a b c : Emitter} {n k : ℕ} {x y : Exits} (xs : List CodeItem)
+    (starts : List ℕ) (i : ℕ)
     (s : CodeItem) → 1 ≤ i → i ≤ length xs → s ≡ get_or xs (i - 1) s → length starts ≡ length xs
     → exits_of y ≡ before (exits_of x) k
     → ItemsFrom vs a b (items_in (map item_of (drop i xs))) (drop i starts) k x
@@ -94,7 +97,8 @@ defaults_begin : (is : SwitchItems) (starts : List ℕ) (end : ℕ) → has_one_
     → DefaultsBegin is starts (default_start is starts end)
 defaults_begin no_items starts end e = tt
 defaults_begin (items labels s is) [] end e = tt
-defaults_begin (items labels s is) (b ∷ bs) end e = by (any_default labels) (has_default is) refl e (defaults_begin is bs end)
+defaults_begin (items labels s is) (b ∷ bs) end e = by (any_default labels) (has_default is) refl e
+    (defaults_begin is bs end)
   where
     by : (d h : Bool) → has_default is ≡ h → (not d || not h) && has_one_default is ≡ true
         → (has_one_default is ≡ true → DefaultsBegin is bs (default_start is bs end))
@@ -110,14 +114,13 @@ both_stand : (c : Placed) (is : SwitchItems) (starts : List ℕ) (t0 n0 other : 
     → LowersBodies c is starts n0 x → LowersTests c is starts other t0 → LowersItems c is t0 n0 other x
 both_stand c no_items starts t0 n0 other x h t = (t, h)
 both_stand c (items labels s is) [] t0 n0 other x h t = absurd h
-both_stand c (items labels s is) (b ∷ bs) t0 n0 other x h t =
-    (
-      t.0,
-      h.1,
-      subst (λ n. LowersLabels c labels n other t0 t.0) h.0 t.1,
-      h.2,
-      both_stand c is bs t.0 h.1 other x h.3 t.2,
-    )
+both_stand c (items labels s is) (b ∷ bs) t0 n0 other x h t = (
+  t.0,
+  h.1,
+  subst (λ n. LowersLabels c labels n other t0 t.0) h.0 t.1,
+  h.2,
+  both_stand c is bs t.0 h.1 other x h.3 t.2,
+)
 
 nodes_of_both : (is : SwitchItems) → bodies_nodes is + tests_nodes is ≤ items_nodes is
 nodes_of_both no_items = omega arith
@@ -126,9 +129,11 @@ nodes_of_both (items labels s is) = omega (arith, nodes_of_both is)
 pub switch_code : {vs : List Variable} {a b c d e' g : Emitter} {numbers starts made : List ℕ} {line t k n other : ℕ}
     {y z x : Exits} {is : SwitchItems} {e : Expression} → numbers ≡ switch_variables is → has_one_default is ≡ true
     → LeavingCode vs a b numbers y x → exits_of z ≡ in_switch (exits_of y) → ItemsCode vs b c is made z
-    → starts ≡ made → other ≡ default_start is starts y.next → TestsCode c d is starts t other → EntryCode vs d e' numbers line k t
+    → starts ≡ made → other ≡ default_start is starts y.next → TestsCode c d is starts t other
+    → EntryCode vs d e' numbers line k t
     → ExpressionCode e' g e 0 n k → StatementCode vs a g (switch e line is) n x
-switch_code {vs = vs} {b = b} {c = c} {numbers = numbers} {starts = starts} {line = line} {t = t} {k = k} {other = other} {y = y} {z = z} {x = x} {is = is}
+switch_code {vs = vs} {b = b} {c = c} {numbers = numbers} {starts = starts} {line = line} {t = t} {k = k} {other =
+    other} {y = y} {z = z} {x = x} {is = is}
     {e = e} same once l q made_items taken goes r entry value =
     let h = subst (λ ns. ItemsCode vs b c is ns z) (sym taken) made_items in
     let top = max (height e) (items_height is) in

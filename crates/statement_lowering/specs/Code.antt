@@ -13,7 +13,6 @@ use Rattle.expression_lowering.specs.Emitted.{Fills, Emits, nodes}
 use Rattle.statement_parts.specs.declared.exits.Exits.{Exits}
 use Rattle.statement_parts.specs.Leaving.{exits_of}
 use Rattle.statement_lowering.specs.Sizes.{statement_height, each_height, items_height, statement_nodes, each_nodes}
-use Rattle.statement_lowering.specs.Sizes.{items_nodes}
 use Rattle.statement_lowering.specs.Switches.{LowersBodies, LowersTests, DefaultsBegin}
 
 -- of a statement of a function with these variables
@@ -41,13 +40,15 @@ tests_nodes no_items = 0
 tests_nodes (items labels s is) = length labels + tests_nodes is
 
 -- of the items of a switch, which begin at these nodes, the first at one of them
-pub record ItemsFrom (vs : List Variable) (a b : Emitter) (is : SwitchItems) (starts : List ℕ) (n0 : ℕ) (x : Exits) : Type 0
+pub record ItemsFrom (vs : List Variable) (a b : Emitter) (is : SwitchItems) (starts : List ℕ) (n0 : ℕ)
+    (x : Exits) : Type 0
   where
     pub emits : Emits a b (items_height is) (bodies_nodes is)
     pub stands : (c : Placed) → c.variables ≡ vs → Fills b c → LowersBodies c is starts n0 (exits_of x)
 
 -- the first at some node
-pub record ItemsCode (vs : List Variable) (a b : Emitter) (is : SwitchItems) (starts : List ℕ) (x : Exits) : Type 0 where
+pub record ItemsCode (vs : List Variable) (a b : Emitter) (is : SwitchItems) (starts : List ℕ)
+    (x : Exits) : Type 0 where
   pub first : ℕ
   pub from : ItemsFrom vs a b is starts first x
 

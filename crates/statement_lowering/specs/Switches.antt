@@ -1,7 +1,6 @@
 -- Switches: where one goes on whose labels are all different from its value, and the code of its items and of its tests
 -- apart (C99 6.8.4.2).
-use Rattle.std.specs.Prelude.{◌≡◌, ℕ, Bool, true, false, not, ◌&&◌, ◌||◌, if◌then◌else◌, List, [], ◌∷◌}
-use Rattle.c_tree.specs.declared.statement.CaseLabel.{CaseLabel}
+use Rattle.std.specs.Prelude.{◌≡◌, ℕ, Bool, true, not, ◌&&◌, ◌||◌, if◌then◌else◌, List, [], ◌∷◌}
 use Rattle.c_tree.specs.Statements.{Statement, expression_statement, empty, declaration, block, if_then, if_else}
 use Rattle.c_tree.specs.Statements.{while_do, do_while, for, switch, break, continue, return, Statements, no_statements}
 use Rattle.c_tree.specs.Statements.{statements, SwitchItems, no_items, items}

@@ -49,12 +49,7 @@ pub fn default_start(items: &[SwitchItem], starts: &[usize], end: usize) -> usiz
 
 // The test of a label, which leads to its item, before a node.
 #[tactic(auto, using(crate::proofs::LabelTests::testing))]
-fn test(
-    code: &mut Emitter,
-    label: CaseLabel,
-    item: usize,
-    next: usize,
-) -> Result<usize, AllocError>
+fn test(code: &mut Emitter, label: CaseLabel, item: usize, next: usize) -> Result<usize, AllocError>
     ensures { IfOk result (λ n. LabelsCode code.old code.new (label ∷ []) item n next) }
 {
     match label {

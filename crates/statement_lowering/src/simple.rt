@@ -24,7 +24,8 @@ pub fn evaluate(
     x: Exits,
 ) -> Result<usize, AllocError>
     requires { height (expression_of e.now) < 2 ^ 64 }
-    ensures { IfOk result (λ n. StatementCode variables.now code.old code.new (expression_statement (expression_of e.now)) n x) }
+    ensures { IfOk result (λ n. StatementCode variables.now code.old code.new
+        (expression_statement (expression_of e.now)) n x) }
 {
     let first = code.expression(e, 0, x.next)?;
     Ok(first)
@@ -39,7 +40,8 @@ pub fn declare_all(
     x: Exits,
 ) -> Result<usize, AllocError>
     requires { greatest_height (declared_contents (map declared_of declared.now)) < 2 ^ 64 }
-    ensures { IfOk result (λ n. StatementCode variables.now code.old code.new (declaration (map declared_of declared.now)) n x) }
+    ensures { IfOk result (λ n. StatementCode variables.now code.old code.new
+        (declaration (map declared_of declared.now)) n x) }
 {
     let first = declare(code, declared, x.next)?;
     Ok(first)
@@ -65,7 +67,8 @@ pub fn give_back(
     x: Exits,
 ) -> Result<usize, AllocError>
     requires { greatest_height (if_any (option_map expression_of e.now)) < 2 ^ 64 }
-    ensures { IfOk result (λ n. StatementCode variables.now code.old code.new (return (option_map expression_of e.now)) n x) }
+    ensures { IfOk result (λ n. StatementCode variables.now code.old code.new
+        (return (option_map expression_of e.now)) n x) }
 {
     match e {
         None => {

@@ -3,7 +3,8 @@
 ghost use Rattle.std.specs.Prelude.{◌≡◌, ◌<◌, ◌^◌, true, IfOk, Some, map, option_map, length};
 ghost use Rattle.c_tree.specs.Blocks.{first_contents, if_any};
 ghost use Rattle.c_tree.specs.Room.{height, greatest_height};
-ghost use Rattle.c_tree.specs.Statements.{block, if_then, if_else, while_do, do_while, for, switch, statements_in, items_in};
+ghost use Rattle.c_tree.specs.Statements.{block, if_then, if_else, while_do, do_while, for, switch, statements_in};
+ghost use Rattle.c_tree.specs.Statements.{items_in};
 ghost use Rattle.c_tree.specs.View.{expression_of, first_of, statement_of};
 ghost use Rattle.statement_parts.specs.Items.{item_of};
 ghost use Rattle.statement_lowering.specs.Sizes.{statement_height, each_height, items_height};
@@ -48,7 +49,16 @@ pub fn statement(
         Statement::While(e, body) => while_do(code, variables, e, body.get(), x),
         Statement::DoWhile(body, e) => do_while(code, variables, body.get(), e, x),
         Statement::For(line, first, condition, step, body) => {
-            for_loop(code, variables, *line, first, condition, step, body.get(), x)
+            for_loop(
+                code,
+                variables,
+                *line,
+                first,
+                condition,
+                step,
+                body.get(),
+                x,
+            )
         }
         Statement::Switch(e, line, items) => {
             switch(code, variables, e, *line, items.as_slice(), x)

@@ -1,5 +1,6 @@
 -- Static objects in turn.
-use Rattle.std.proofs.Common.{◌≡◌, ℕ, zero, suc, ◌+◌, ◌-◌, ◌≤◌, ◌<◌, ◌^◌, List, [], ◌∷◌, ◌++◌, length, map, drop, Bool, true, false}
+use Rattle.std.proofs.Common.{◌≡◌, ℕ, zero, suc, ◌+◌, ◌-◌, ◌≤◌, ◌<◌, ◌^◌, List, [], ◌∷◌, ◌++◌, length, map, drop}
+use Rattle.std.proofs.Common.{Bool, true, false}
 use Rattle.std.proofs.Common.{refl, sym, ap, ◌∙◌, subst, arith, Some, None, append_assoc}
 use Rattle.std.specs.Prelude.{get_or, ◌&&◌, nat_le, Ok, Err, Result, Option}
 use Rattle.std.specs.List.{list_all}
@@ -21,13 +22,15 @@ use Rattle.constant_meaning.specs.Leaving.{IsConstant, HaveBytes}
 use Rattle.source_meaning.specs.Expressions.{function_pointer}
 use Rattle.source_meaning.specs.Meaning.{statics_end}
 use Rattle.tac_ir.specs.declared.function.StaticData.{StaticData}
-use Rattle.static_data.specs.Data.{static_pointers, function_pointers, pointer_at, IsData, AreData, fault_or, first_fault}
+use Rattle.static_data.specs.Data.{static_pointers, function_pointers, pointer_at, IsData, AreData, fault_or}
+use Rattle.static_data.specs.Data.{first_fault}
 
 ends : (os : List StaticObject) (offset : ℕ) → offset ≤ statics_end os offset
 ends [] offset = omega arith
 ends (o ∷ os) offset = let rest = ends os (rounded_up 16 offset + size_of_kind o.kind) in omega (arith, rest)
 
-drop_from : {A : Type 0} (xs : List A) (k : ℕ) (x : A) → k < length xs → x ≡ get_or xs k x → drop k xs ≡ x ∷ drop (k + 1) xs
+drop_from : {A : Type 0} (xs : List A) (k : ℕ) (x : A) → k < length xs → x ≡ get_or xs k x
+    → drop k xs ≡ x ∷ drop (k + 1) xs
 drop_from [] k x lt e = absurd (omega (arith, lt))
 drop_from (y ∷ xs) zero x lt e = ap (λ z. z ∷ xs) (sym e)
 drop_from (y ∷ xs) (suc k) x lt e =
@@ -46,7 +49,8 @@ pub pointers_step : (xs : List CodeObject) (i offset : ℕ) (x : CodeObject) →
     ++ static_pointers (map static_of (drop (i + 1) xs)) (i + 1) (rounded_up 16 offset + size_of_kind x.kind)
 pointers_step xs i offset x lt e done =
     let next : suc i ≡ i + 1 = omega arith in
-    let rest = λ (n : ℕ). static_pointers (map static_of (drop (i + 1) xs)) n (rounded_up 16 offset + size_of_kind x.kind) in
+    let rest = λ (n : ℕ). static_pointers (map static_of (drop (i + 1) xs)) n
+    (rounded_up 16 offset + size_of_kind x.kind) in
     let p = pointer_at i (objects_begin + rounded_up 16 offset) (size_of_kind x.kind) in
     ap (λ os. done ++ static_pointers os i offset) (from_here xs i x lt e) ∙ ap (λ n. done ++ (p ∷ rest n)) next
     ∙ sym append_assoc

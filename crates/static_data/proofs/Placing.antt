@@ -1,5 +1,6 @@
 -- Pointers to placed objects, and the objects before the run.
-use Rattle.std.proofs.Common.{◌≡◌, ℕ, zero, suc, ◌+◌, ◌-◌, ◌≤◌, ◌<◌, List, [], ◌∷◌, ◌++◌, length, map, drop, Some, None, refl}
+use Rattle.std.proofs.Common.{◌≡◌, ℕ, zero, suc, ◌+◌, ◌-◌, ◌≤◌, ◌<◌, List, [], ◌∷◌, ◌++◌, length, map, drop, Some}
+use Rattle.std.proofs.Common.{None, refl}
 use Rattle.std.proofs.Common.{sym, ap, ◌∙◌, subst, arith}
 use Rattle.std.specs.Prelude.{slice_get, get_or}
 use Rattle.addr_map.specs.Places.{objects_begin, region_start}
@@ -23,7 +24,8 @@ use Rattle.source_meaning.specs.Places.{statics_first}
 use Rattle.source_meaning.specs.Meaning.{placed_statics, statics_end, setting_of, initial_objects}
 use Rattle.tac_ir.specs.declared.function.StaticData.{StaticData}
 use Rattle.tac_ir.specs.Meaning.{placed_data}
-use Rattle.static_data.specs.Data.{pointer_at, static_pointers, function_pointers, program_pointers, IsData, AreData, AreInitial}
+use Rattle.static_data.specs.Data.{pointer_at, static_pointers, function_pointers, program_pointers, IsData, AreData}
+use Rattle.static_data.specs.Data.{AreInitial}
 
 -- static objects begin where object space does
 begins : (p : Program) (budgets : BudgetSizes) → statics_first (setting_of p budgets) ≡ objects_begin
@@ -38,7 +40,11 @@ to_new : (n : ℕ) (address size : ℕ) (all : Objects) → object_at all n ≡ 
     → pointer_at n address size ≡ pointer_to n all
 unfolding pointer_to new_object
 to_new n address size all e =
-    ap (λ o. record { word = o.address; tag = OfObject n (record { base = o.address; bound = o.address + o.size }) }) (sym e)
+    ap (λ o. record {
+      word = o.address;
+      tag = OfObject n
+          (record { base = o.address; bound = o.address + o.size });
+    }) (sym e)
 
 -- those from a number on, in a list in which their objects stand
 statics_point : (os : List StaticObject) (n offset : ℕ) (all : Objects)
@@ -47,7 +53,8 @@ statics_point : (os : List StaticObject) (n offset : ℕ) (all : Objects)
 statics_point [] n offset all at k v e = cc
 statics_point (o ∷ os) n offset all at zero v e =
     let same : n + 0 ≡ n = omega arith in
-    let here = to_new n (objects_begin + rounded_up 16 offset) (size_of_kind o.kind) all (ap (object_at all) (sym same) ∙ at 0) in
+    let here = to_new n (objects_begin + rounded_up 16 offset) (size_of_kind o.kind) all (ap (object_at all)
+    (sym same) ∙ at 0) in
     sym (same_some e) ∙ here ∙ ap (λ i. pointer_to i all) (sym same)
 statics_point (o ∷ os) n offset all at (suc k) v e =
     let same : n + suc k ≡ suc n + k = omega arith in
@@ -73,8 +80,9 @@ pointers_point p budgets =
           let same : 0 + n ≡ n = omega arith in
           statics_point p.statics 0 0 placed
           (λ k.
-              let zero_and : 0 + k ≡ k = omega arith in
-              ap (object_at placed) zero_and ∙ ap (λ a. object_at (placed_statics a p.statics 0) k) (begins p budgets)) n v e
+          let zero_and : 0 + k ≡ k = omega arith in
+          ap (object_at placed) zero_and ∙ ap (λ a. object_at (placed_statics a p.statics 0) k)
+          (begins p budgets)) n v e
           ∙ ap (λ i. pointer_to i placed) same;
       functions = λ f v e.
           let same : 0 + f ≡ f = omega arith in
@@ -128,6 +136,6 @@ pub initial_from : (p : Program) (ds : List StaticData) → statics_end p.static
 initial_from p ds small h = record {
   by = λ budgets.
       sym (initial_objects_are p budgets (program_pointers p) (contents_in ds) small (pointers_point p budgets)
-          (constant_in (program_pointers p) p.statics ds h)
-          ∙ placed_all (program_pointers p) (statics_first (setting_of p budgets)) p.statics ds 0 h);
+      (constant_in (program_pointers p) p.statics ds h)
+      ∙ placed_all (program_pointers p) (statics_first (setting_of p budgets)) p.statics ds 0 h);
 }

@@ -47,7 +47,8 @@ fn data_of(
 ) -> Result<StaticData, InitialFault>
     requires { is_laid_out (static_of object.now) ≡ true }
     ensures data { IfOk result (λ d. IsData (pointers_of pointers.now) (static_of object.now) d) }
-    ensures fault { OnNotConstant result (λ line. initial_contents (pointers_of pointers.now) (static_of object.now) ≡ Err line) }
+    ensures fault { OnNotConstant result
+        (λ line. initial_contents (pointers_of pointers.now) (static_of object.now) ≡ Err line) }
 {
     have_bytes(object.parts.as_slice());
     let contents = initial_bytes(alloc, pointers, object)?;
@@ -95,7 +96,8 @@ pub fn static_data(alloc: Global, program: &Program) -> Result<Items<StaticData>
     requires few { length (program_of program.now).functions ≤ 4096 }
     ensures data { IfOk result (λ ds. AreInitial (program_of program.now) ds) }
     ensures fault { OnNotConstant result
-        (λ line. first_fault (program_pointers (program_of program.now)) (program_of program.now).statics ≡ Some line) }
+        (λ line. first_fault (program_pointers (program_of program.now)) (program_of program.now).statics
+        ≡ Some line) }
 {
     let Ok(statics) = static_pointers(alloc, program.statics.as_slice()) else {
         return Err(InitialFault::Memory);

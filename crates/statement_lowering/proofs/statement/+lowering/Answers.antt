@@ -2,7 +2,8 @@ use Rattle.std.proofs.Common.{arith, ◌≡◌, ◌-◌, ◌<◌, length, ◌∙
 use Rattle.std.proofs.lemmas.List.{length-set}
 use Rattle.std.specs.Prelude.{get_or}
 use Rattle.statement_lowering.proofs.Compound.{next_statement, block_code, if_code, if_else_code}
-use Rattle.statement_lowering.proofs.Elements.{get_any, height_at, nodes_at, decided_at, item_height_at, item_nodes_at, item_decided_at}
+use Rattle.statement_lowering.proofs.Elements.{get_any, height_at, nodes_at, decided_at, item_height_at}
+use Rattle.statement_lowering.proofs.Elements.{item_nodes_at, item_decided_at}
 use Rattle.statement_lowering.proofs.Loops.{while_code, do_code, for_code}
 use Rattle.statement_lowering.proofs.SingleStatements.{value_room}
 use Rattle.statement_lowering.proofs.Switches.{next_item, switch_code}
@@ -11,7 +12,8 @@ use Rattle.statement_lowering.proofs.statement.+lowering.Goals as goal
 pub statements-loop-i-preserved : goal.statements-loop-i-preserved
 statements-loop-i-preserved t c =
     next_statement c.args.body.now c.loop-i.i c.index-body-i.result (omega (arith, c.loop-i-test.true))
-    (omega (arith, c.loop-i.auto.i)) c.index-body-i.is c.before-in-loop-i.ensures c.loop-i.invariant c.in_ok-node.ensures
+    (omega (arith, c.loop-i.auto.i)) c.index-body-i.is c.before-in-loop-i.ensures c.loop-i.invariant
+    c.in_ok-node.ensures
 
 pub statements-statement-requires : goal.statements-statement-requires
 statements-statement-requires t c =
@@ -48,8 +50,8 @@ switch_items-loop-i-preserved t c =
       same = length-set c.loop-i.starts.items (c.loop-i.i - 1) c.in_ok-node.node ∙ c.loop-i.invariant.same;
       code =
           next_item c.args.items.now c.loop-i.starts.items c.loop-i.i x (omega (arith, c.loop-i-test.true))
-              (omega (arith, c.loop-i.auto.i)) is c.loop-i.invariant.same c.before-in-loop-i.ensures c.loop-i.invariant.code
-              c.in_ok-node.ensures;
+          (omega (arith, c.loop-i.auto.i)) is c.loop-i.invariant.same c.before-in-loop-i.ensures c.loop-i.invariant.code
+          c.in_ok-node.ensures;
     }
 
 pub switch-expression-requires : goal.switch-expression-requires
@@ -57,7 +59,8 @@ switch-expression-requires t c = value_room c.args.e.now _ c.requires.value
 
 pub block-returns : goal.block-returns
 block-returns t c =
-    block_code (c.as_slice-numbers.ensures.value ∙ c.in_ok-declared.ensures) c.in_ok-inside.ensures c.in_ok-first.ensures
+    block_code
+    (c.as_slice-numbers.ensures.value ∙ c.in_ok-declared.ensures) c.in_ok-inside.ensures c.in_ok-first.ensures
     c.in_ok-entry.ensures
 
 pub if_then-returns : goal.if_then-returns

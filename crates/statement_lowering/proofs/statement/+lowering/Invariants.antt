@@ -13,7 +13,8 @@ invariant-statements-loop-i l =
 abbrev pub invariant-switch_items-loop-i : goal.invariant-switch_items-loop-i
 invariant-switch_items-loop-i l = record {
   same : length l.starts.items ≡ length l.items;
-  code : ItemsFrom l.variables l.fn.code l.code (items_in (map item_of (drop l.i l.items))) (drop l.i l.starts.items) l.node
+  code : ItemsFrom l.variables l.fn.code l.code (items_in (map item_of (drop l.i l.items)))
+      (drop l.i l.starts.items) l.node
       l.x;
 }
 

@@ -69,7 +69,7 @@ one_default (items labels s is) h =
 
 mutual
   decided : (scope : Scope) (inside : Inside) (s : Statement) → is_statement scope inside s ≡ true
-  → are_decided s ≡ true
+      → are_decided s ≡ true
   decided scope inside (expression_statement e) h = refl
   decided scope inside empty h = refl
   decided scope inside (declaration ds) h = refl

@@ -37,6 +37,12 @@ drop_from (y ∷ xs) (suc k) x lt e =
     let at : suc (k + 1) ≡ suc k + 1 = omega arith in
     drop_from xs k x (omega (arith, lt)) e ∙ ap (λ n. x ∷ drop n (y ∷ xs)) at
 
+-- within a list the value behind it says nothing
+pub get_any : {A : Type 0} (xs : List A) (k : ℕ) (x y : A) → k < length xs → get_or xs k x ≡ get_or xs k y
+get_any [] k x y lt = absurd (omega (arith, lt))
+get_any (z ∷ xs) zero x y lt = refl
+get_any (z ∷ xs) (suc k) x y lt = get_any xs k x y (omega (arith, lt))
+
 -- the objects from a number on
 
 from_here : (xs : List CodeObject) (i : ℕ) (x : CodeObject) → i < length xs → x ≡ get_or xs i x

@@ -1,6 +1,14 @@
-use Rattle.std.proofs.Common.{◌≡◌, ◌+◌, ◌≤◌, sym, ◌∙◌, arith}
-use Rattle.static_data.proofs.Laying.{pointers_step, end_step, end_below}
+use Rattle.std.proofs.Common.{◌≡◌, ◌<◌, length, sym, ◌∙◌, arith}
+use Rattle.std.specs.Prelude.{get_or}
+use Rattle.static_data.proofs.Laying.{get_any, pointers_step, end_step, end_below}
 use Rattle.static_data.proofs.pointers.static_pointers.Goals as goal
 
 pub loop-i-preserved : goal.loop-i-preserved
-loop-i-preserved c = ?
+loop-i-preserved c =
+    let lt : c.loop-i.i < length c.args.statics.now = omega (arith, c.loop-i-test.true) in
+    let x = get_or c.args.statics.now c.loop-i.i c.index-statics-i.result in
+    let is : x ≡ get_or c.args.statics.now c.loop-i.i x = get_any c.args.statics.now c.loop-i.i _ x lt in
+    let step = sym (pointers_step c.args.statics.now c.loop-i.i c.loop-i.offset x lt is c.loop-i.pointers.items)
+    ∙ c.loop-i.invariant.made in
+    let end = sym (end_step c.args.statics.now c.loop-i.i c.loop-i.offset x lt is) ∙ c.loop-i.invariant.end in
+    record { made = ?; end = ? }

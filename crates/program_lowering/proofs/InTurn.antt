@@ -52,7 +52,7 @@ done_more {results = results} {l = l} {m = m} fs i x lt is d h = record {
       let before = d.by ts (λ n t g. s n t (h.texts_stay n t g)) (h.code ∷ rest)
       (subst (λ xs. AreFunctions ts results xs (h.code ∷ rest)) (sym from) (own, k)) in
       let joined : l.functions.items ++ (h.code ∷ rest) ≡ m.functions.items ++ rest =
-      sym (ap (λ xs. xs ++ rest) h.functions ∙ append_assoc) in
+      sym (ap (λ xs. xs ++ rest) h.functions ∙ append_assoc l.functions.items (h.code ∷ []) rest) in
       subst (AreFunctions ts results (map function_of fs)) joined before;
 }
 

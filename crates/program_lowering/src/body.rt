@@ -28,18 +28,18 @@ pub fn lower_body(
     alloc: Global,
     variables: &[Variable],
     body: &[Statement],
-    result: Kind,
+    kind: Kind,
     texts: Vec<Items<u8>>,
 ) -> Result<Body, AllocError>
     requires height { each_height (statements_in (map statement_of body.now)) < 2 ^ 64 }
     requires decided { each_decided (statements_in (map statement_of body.now)) ≡ true }
-    ensures { IfOk result (λ b. BodyCode variables.now (statements_in (map statement_of body.now)) result texts.items
+    ensures { IfOk result (λ b. BodyCode variables.now (statements_in (map statement_of body.now)) kind texts.items
         b.code b.entry) }
 {
     let mut code = Emitter::new(alloc, texts);
     let returns = code.add(Instruction::Return { from: 0 })?;
     let end = code.add(Instruction::ZeroOf {
-        kind: result,
+        kind,
         to: 0,
         next: returns,
     })?;

@@ -70,12 +70,12 @@ fn complete(
 pub fn lower_function(
     alloc: Global,
     f: &Function,
-    result: Kind,
+    kind: Kind,
     texts: Vec<Items<u8>>,
 ) -> Result<Lowered, AllocError>
     requires height { each_height (function_of f.now).body ≤ f.now.room }
     requires decided { each_decided (function_of f.now).body ≡ true }
-    ensures { IfOk result (λ r. FunctionCode (function_of f.now) result texts.items r) }
+    ensures { IfOk result (λ r. FunctionCode (function_of f.now) kind texts.items r) }
 {
     let _room = f.room;
     let all = all_variables(alloc, f)?;
@@ -84,6 +84,6 @@ pub fn lower_function(
     let parameters = copied(alloc, f.parameters.as_slice())?;
     let variables = copied(alloc, f.variables.as_slice())?;
     let entered = Items::from_vec(entered_variables(alloc, f)?);
-    let body = lower_body(alloc, numbered, statements, result, texts)?;
+    let body = lower_body(alloc, numbered, statements, kind, texts)?;
     Ok(complete(f, parameters, variables, entered, body))
 }

@@ -6,8 +6,9 @@ use Rattle.std.specs.Prelude.{get_or, ◌&&◌, nat_le, Ok, Err, Result, Option}
 use Rattle.std.specs.List.{list_all}
 use Rattle.std.proofs.lemmas.Bool.{and_parts, and_from}
 use Rattle.obj_memory.specs.declared.value.Value.{Value}
+use Rattle.obj_memory.specs.declared.value.Tag.TheVariants.{OfFunction}
 use Rattle.obj_memory.specs.Heap.{rounded_up}
-use Rattle.addr_map.specs.Places.{objects_begin}
+use Rattle.addr_map.specs.Places.{objects_begin, function_address}
 use Rattle.c_tree.specs.declared.program.StaticObject.{StaticObject as CodeObject}
 use Rattle.c_tree.specs.Kinds.{size_of_kind, has_size}
 use Rattle.c_tree.specs.Programs.{StaticObject, Program}
@@ -18,14 +19,14 @@ use Rattle.c_tree.specs.ValidProgram.{content_size, are_functions}
 use Rattle.c_tree.specs.View.{static_of}
 use Rattle.c_const.specs.Addresses.{Pointers}
 use Rattle.c_const.specs.Contents.{Contents, is_laid_out, is_inside, are_inside, initial_contents}
-use Rattle.constant_meaning.specs.Leaving.{IsConstant, HaveBytes}
+use Rattle.constant_meaning.specs.Leaving.{IsConstant, HaveBytes, AreBytes}
 use Rattle.source_meaning.specs.Expressions.{function_pointer}
 use Rattle.source_meaning.specs.Meaning.{statics_end}
 use Rattle.tac_ir.specs.declared.function.StaticData.{StaticData}
 use Rattle.static_data.specs.Data.{static_pointers, function_pointers, pointer_at, IsData, AreData, fault_or}
 use Rattle.static_data.specs.Data.{first_fault}
 
-ends : (os : List StaticObject) (offset : ℕ) → offset ≤ statics_end os offset
+pub ends : (os : List StaticObject) (offset : ℕ) → offset ≤ statics_end os offset
 ends [] offset = omega arith
 ends (o ∷ os) offset = let rest = ends os (rounded_up 16 offset + size_of_kind o.kind) in omega (arith, rest)
 
@@ -59,7 +60,7 @@ pointers_step xs i offset x lt e done =
     (rounded_up 16 offset + size_of_kind x.kind) in
     let p = pointer_at i (objects_begin + rounded_up 16 offset) (size_of_kind x.kind) in
     ap (λ os. done ++ static_pointers os i offset) (from_here xs i x lt e) ∙ ap (λ n. done ++ (p ∷ rest n)) next
-    ∙ sym append_assoc
+    ∙ sym (append_assoc done (p ∷ []) (rest (i + 1)))
 
 pub end_step : (xs : List CodeObject) (i offset : ℕ) (x : CodeObject) → i < length xs → x ≡ get_or xs i x
     → statics_end (map static_of (drop i xs)) offset
@@ -84,7 +85,44 @@ functions_step i count lt done =
     let next : suc i ≡ i + 1 = omega arith in
     ap (λ n. done ++ function_pointers i n) more
     ∙ ap (λ n. done ++ (function_pointer i ∷ function_pointers n (count - (i + 1)))) next
-    ∙ sym append_assoc
+    ∙ sym (append_assoc done (function_pointer i ∷ []) (function_pointers (i + 1) (count - (i + 1))))
+
+-- the loops' steps
+
+pub next_below : (xs : List CodeObject) (i offset end : ℕ) (x : CodeObject) → i < length xs
+    → statics_end (map static_of (drop i xs)) offset ≡ end → end ≤ 0x400000
+    → rounded_up 16 offset + size_of_kind (get_or xs i x).kind ≤ 0x400000
+next_below xs i offset end x lt h small =
+    omega (arith, small, end_below xs i offset end (get_or xs i x) lt (get_any xs i x (get_or xs i x) lt) h)
+
+pub next_end : (xs : List CodeObject) (i offset start size end : ℕ) (x : CodeObject) → i < length xs
+    → start ≡ rounded_up 16 offset → size ≡ size_of_kind (get_or xs i x).kind
+    → statics_end (map static_of (drop i xs)) offset ≡ end → statics_end (map static_of (drop (i + 1) xs)) (start + size) ≡ end
+next_end xs i offset start size end x lt es ez h =
+    let behind = map static_of (drop (i + 1) xs) in
+    ap (λ n. statics_end behind (n + size)) es ∙ ap (λ n. statics_end behind (rounded_up 16 offset + n)) ez
+    ∙ sym (end_step xs i offset (get_or xs i x) lt (get_any xs i x (get_or xs i x) lt)) ∙ h
+
+pub next_pointers : (xs : List CodeObject) (i offset start size : ℕ) (x : CodeObject) (done more all : List Value)
+    → i < length xs → start ≡ rounded_up 16 offset → size ≡ size_of_kind (get_or xs i x).kind
+    → more ≡ done ++ pointer_at i (objects_begin + start) size ∷ []
+    → done ++ static_pointers (map static_of (drop i xs)) i offset ≡ all
+    → more ++ static_pointers (map static_of (drop (i + 1) xs)) (i + 1) (start + size) ≡ all
+next_pointers xs i offset start size x done more all lt es ez em h =
+    let behind = map static_of (drop (i + 1) xs) in
+    let made = λ (n : ℕ) (m : ℕ). (done ++ pointer_at i (objects_begin + n) m ∷ []) ++ static_pointers behind (i + 1) (n + m) in
+    ap (λ ps. ps ++ static_pointers behind (i + 1) (start + size)) em ∙ ap (λ n. made n size) es
+    ∙ ap (made (rounded_up 16 offset)) ez
+    ∙ sym (pointers_step xs i offset (get_or xs i x) lt (get_any xs i x (get_or xs i x) lt) done) ∙ h
+
+pub next_functions : (i count word : ℕ) (done more all : List Value) → i < count → word ≡ function_address i
+    → more ≡ done ++ record { word = word; tag = OfFunction i } ∷ []
+    → done ++ function_pointers i (count - i) ≡ all → more ++ function_pointers (i + 1) (count - (i + 1)) ≡ all
+next_functions i count word done more all lt ew em h =
+    let behind = function_pointers (i + 1) (count - (i + 1)) in
+    ap (λ ps. ps ++ behind) em
+    ∙ ap (λ w. (done ++ record { word = w; tag = OfFunction i } ∷ []) ++ behind) ew
+    ∙ sym (functions_step i count lt done) ∙ h
 
 -- data that continue to the data of all
 
@@ -101,7 +139,7 @@ pub continue_more : {ps : Pointers} {d : StaticData} {done more : List StaticDat
 continue_more {ps = ps} {d = d} {done = done} xs i x lt e c h same = record {
   by = λ rest k.
       let before = c.by (d ∷ rest) (subst (λ os. AreData ps os (d ∷ rest)) (sym (from_here xs i x lt e)) (h, k)) in
-      subst (AreData ps (map static_of xs)) (sym (ap (λ ds. ds ++ rest) same ∙ append_assoc)) before;
+      subst (AreData ps (map static_of xs)) (sym (ap (λ ds. ds ++ rest) same ∙ append_assoc done (d ∷ []) rest)) before;
 }
 
 drop_all : {A : Type 0} (xs : List A) → drop (length xs) xs ≡ []
@@ -176,3 +214,8 @@ all_laid p h =
     let k = and_parts _ _ h in
     let f = and_parts _ (are_functions p 0 p.functions) k.0 in
     objects_laid p p.statics (and_parts _ (list_all (is_static_object p) p.statics) f.0).1
+
+-- bytes, each by its place
+pub are_bytes : (bs : List ℕ) → ((k : ℕ) → get_or bs k 0 < 256) → AreBytes bs
+are_bytes [] h = tt
+are_bytes (b ∷ bs) h = (h 0, are_bytes bs (λ k. h (suc k)))

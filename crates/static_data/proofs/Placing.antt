@@ -1,5 +1,5 @@
 -- Pointers to placed objects, and the objects before the run.
-use Rattle.std.proofs.Common.{◌≡◌, ℕ, zero, suc, ◌+◌, ◌-◌, ◌≤◌, ◌<◌, List, [], ◌∷◌, ◌++◌, length, map, drop, Some}
+use Rattle.std.proofs.Common.{true, ◌≡◌, ℕ, zero, suc, ◌+◌, ◌-◌, ◌≤◌, ◌<◌, List, [], ◌∷◌, ◌++◌, length, map, drop, Some}
 use Rattle.std.proofs.Common.{None, refl}
 use Rattle.std.proofs.Common.{sym, ap, ◌∙◌, subst, arith}
 use Rattle.std.specs.Prelude.{slice_get, get_or}
@@ -13,7 +13,9 @@ use Rattle.obj_memory.specs.Objects.{ObjectState, Objects, object_at, new_object
 use Rattle.c_tree.specs.declared.program.StaticObject.{StaticObject as CodeObject}
 use Rattle.c_tree.specs.Kinds.{size_of_kind}
 use Rattle.c_tree.specs.Programs.{StaticObject, Program}
-use Rattle.c_tree.specs.View.{static_of}
+use Rattle.c_tree.specs.View.{static_of, function_of, program_of}
+use Rattle.c_tree.specs.declared.program.Function.{Function as CodeFunction}
+use Rattle.c_tree.specs.declared.program.Program.{Program as CodeProgram}
 use Rattle.c_const.specs.Addresses.{Pointers}
 use Rattle.c_const.specs.Contents.{Contents}
 use Rattle.constant_meaning.specs.Finding.{PointTo}
@@ -139,3 +141,26 @@ initial_from p ds small h = record {
       (constant_in (program_pointers p) p.statics ds h)
       ∙ placed_all (program_pointers p) (statics_first (setting_of p budgets)) p.statics ds 0 h);
 }
+
+count_functions : (fs : List CodeFunction) → length (map function_of fs) ≡ length fs
+count_functions [] = refl
+count_functions (f ∷ fs) = omega (arith, count_functions fs)
+
+pub program_pointers_are : (p : CodeProgram) (objects : List CodeObject) (functions : List CodeFunction) (vs ws : List Value)
+    → objects ≡ p.statics → functions ≡ p.functions → vs ≡ static_pointers (map static_of objects) 0 0
+    → ws ≡ function_pointers 0 (length functions)
+    → record { statics = vs; functions = ws } ≡ program_pointers (program_of p)
+program_pointers_are p objects functions vs ws eo ef ev ew =
+    let same : vs ≡ static_pointers (map static_of p.statics) 0 0 = ev ∙ ap (λ l. static_pointers (map static_of l) 0 0) eo in
+    let count : length functions ≡ length (map function_of p.functions) = ap length ef ∙ sym (count_functions p.functions) in
+    let also : ws ≡ function_pointers 0 (length (map function_of p.functions)) = ew ∙ ap (function_pointers 0) count in
+    ap (λ us. record { statics = us; functions = ws }) same
+    ∙ ap (λ us. record { statics = static_pointers (map static_of p.statics) 0 0; functions = us }) also
+
+pub data_from : {ps : Pointers} {ds made : List StaticData} (p : CodeProgram) (objects : List CodeObject)
+    → statics_end (program_of p).statics 0 ≤ 0x400000 → objects ≡ p.statics → ps ≡ program_pointers (program_of p)
+    → AreData ps (map static_of objects) ds → made ≡ ds → AreInitial (program_of p) made
+data_from {ps = ps} {ds = ds} p objects small eo ep h em =
+    let known = subst (λ qs. AreData qs (map static_of p.statics) ds) ep
+    (subst (λ os. AreData ps (map static_of os) ds) eo h) in
+    subst (AreInitial (program_of p)) (sym em) (initial_from (program_of p) ds small known)

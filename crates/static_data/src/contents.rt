@@ -99,7 +99,8 @@ pub fn static_data(alloc: Global, program: &Program) -> Result<Items<StaticData>
         (λ line. first_fault (program_pointers (program_of program.now)) (program_of program.now).statics
         ≡ Some line) }
 {
-    let Ok(statics) = static_pointers(alloc, program.statics.as_slice()) else {
+    let objects = program.statics.as_slice();
+    let Ok(statics) = static_pointers(alloc, objects) else {
         return Err(InitialFault::Memory);
     };
     let Ok(functions) = function_pointers(alloc, program.functions.as_slice().len()) else {
@@ -109,6 +110,6 @@ pub fn static_data(alloc: Global, program: &Program) -> Result<Items<StaticData>
         statics: &statics,
         functions: &functions,
     };
-    let data = all_data(alloc, &pointers, program.statics.as_slice())?;
+    let data = all_data(alloc, &pointers, objects)?;
     Ok(Items::from_vec(data))
 }

@@ -7,7 +7,7 @@ use Rattle.static_data.proofs.contents.all_data.Given as goal
 
 abbrev pub invariant-loop-i : goal.invariant-loop-i
 invariant-loop-i l = record {
-  data : Continue (pointers_of l.pointers) l.statics l.i l.all.items;
+  made : Continue (pointers_of l.pointers) l.statics l.i l.all.items;
   fault : first_fault (pointers_of l.pointers) (map static_of (drop l.i l.statics))
       ≡ first_fault (pointers_of l.pointers) (map static_of l.statics);
 }

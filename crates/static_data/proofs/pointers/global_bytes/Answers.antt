@@ -1,11 +1,20 @@
-use Rattle.std.proofs.Common.{◌≡◌, ◌<◌, length, sym, ◌∙◌, arith}
-use Rattle.std.specs.Prelude.{get_or}
-use Rattle.static_data.proofs.Laying.{get_any, end_step}
+use Rattle.std.proofs.Common.{arith, map, drop}
+use Rattle.c_tree.specs.View.{static_of}
+use Rattle.static_data.proofs.Laying.{ends, next_below, next_end}
 use Rattle.static_data.proofs.pointers.global_bytes.Goals as goal
 
 pub loop-i-preserved : goal.loop-i-preserved
 loop-i-preserved c =
-    let lt : c.loop-i.i < length c.args.statics.now = omega (arith, c.loop-i-test.true) in
-    let x = get_or c.args.statics.now c.loop-i.i c.index-statics-i.result in
-    let is : x ≡ get_or c.args.statics.now c.loop-i.i x = get_any c.args.statics.now c.loop-i.i _ x lt in
-    let end = sym (end_step c.args.statics.now c.loop-i.i c.loop-i.offset x lt is) ∙ c.loop-i.invariant in ?
+    next_end c.args.statics.now c.loop-i.i c.loop-i.offset _ _ _ c.index-statics-i.result c.loop-i-test.true
+    c.rounded.ensures c.size_of.ensures c.loop-i.invariant
+
+pub rounded-requires : goal.rounded-requires
+rounded-requires c =
+    let below = ends (map static_of (drop c.loop-i.i c.args.statics.now)) c.loop-i.offset in
+    omega (arith, below, c.loop-i.invariant, c.requires)
+
+pub overflow_add-offset : goal.overflow_add-offset
+overflow_add-offset c =
+    let below = next_below c.args.statics.now c.loop-i.i c.loop-i.offset _ c.index-statics-i.result c.loop-i-test.true
+    c.loop-i.invariant c.requires in
+    omega (arith, below, c.rounded.ensures, c.size_of.ensures)

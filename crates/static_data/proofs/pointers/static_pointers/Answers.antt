@@ -1,14 +1,36 @@
-use Rattle.std.proofs.Common.{◌≡◌, ◌<◌, length, sym, ◌∙◌, arith}
-use Rattle.std.specs.Prelude.{get_or}
-use Rattle.static_data.proofs.Laying.{get_any, pointers_step, end_step, end_below}
+use Rattle.std.proofs.Common.{arith, map, drop}
+use Rattle.c_tree.specs.View.{static_of}
+use Rattle.static_data.proofs.Laying.{ends, next_below, next_end, next_pointers}
 use Rattle.static_data.proofs.pointers.static_pointers.Goals as goal
 
 pub loop-i-preserved : goal.loop-i-preserved
-loop-i-preserved c =
-    let lt : c.loop-i.i < length c.args.statics.now = omega (arith, c.loop-i-test.true) in
-    let x = get_or c.args.statics.now c.loop-i.i c.index-statics-i.result in
-    let is : x ≡ get_or c.args.statics.now c.loop-i.i x = get_any c.args.statics.now c.loop-i.i _ x lt in
-    let step = sym (pointers_step c.args.statics.now c.loop-i.i c.loop-i.offset x lt is c.loop-i.pointers.items)
-    ∙ c.loop-i.invariant.made in
-    let end = sym (end_step c.args.statics.now c.loop-i.i c.loop-i.offset x lt is) ∙ c.loop-i.invariant.end in
-    record { made = ?; end = ? }
+loop-i-preserved c = record {
+  made = next_pointers c.args.statics.now c.loop-i.i c.loop-i.offset _ _ c.index-statics-i.result c.loop-i.pointers.items
+      _ _ c.loop-i-test.true c.rounded-start.ensures c.size_of-size.ensures c.in_ok-push.ensures.items
+      c.loop-i.invariant.made;
+  end = next_end c.args.statics.now c.loop-i.i c.loop-i.offset _ _ _ c.index-statics-i.result c.loop-i-test.true
+      c.rounded-start.ensures c.size_of-size.ensures c.loop-i.invariant.end;
+}
+
+pub rounded-start-requires : goal.rounded-start-requires
+rounded-start-requires c =
+    let below = ends (map static_of (drop c.loop-i.i c.args.statics.now)) c.loop-i.offset in
+    omega (arith, below, c.loop-i.invariant.end, c.requires)
+
+pub overflow_add-base : goal.overflow_add-base
+overflow_add-base c =
+    let below = next_below c.args.statics.now c.loop-i.i c.loop-i.offset _ c.index-statics-i.result c.loop-i-test.true
+    c.loop-i.invariant.end c.requires in
+    omega (arith, below, c.rounded-start.ensures, c.size_of-size.ensures)
+
+pub overflow_add-bound : goal.overflow_add-bound
+overflow_add-bound c =
+    let below = next_below c.args.statics.now c.loop-i.i c.loop-i.offset _ c.index-statics-i.result c.loop-i-test.true
+    c.loop-i.invariant.end c.requires in
+    omega (arith, below, c.rounded-start.ensures, c.size_of-size.ensures)
+
+pub overflow_add-offset : goal.overflow_add-offset
+overflow_add-offset c =
+    let below = next_below c.args.statics.now c.loop-i.i c.loop-i.offset _ c.index-statics-i.result c.loop-i-test.true
+    c.loop-i.invariant.end c.requires in
+    omega (arith, below, c.rounded-start.ensures, c.size_of-size.ensures)

@@ -5,7 +5,7 @@ ghost use Rattle.std.specs.List.{list_all};
 ghost use Rattle.c_tree.specs.View.{content_of, part_of, static_of, program_of};
 ghost use Rattle.c_const.specs.Contents.{is_laid_out, initial_contents};
 ghost use Rattle.c_const.specs.View.{pointers_of};
-ghost use Rattle.constant_meaning.specs.Leaving.{HasBytes, HaveBytes};
+ghost use Rattle.constant_meaning.specs.Leaving.{AreBytes, HasBytes, HaveBytes};
 ghost use Rattle.c_tree.specs.ValidProgram.{is_valid_program};
 ghost use Rattle.source_meaning.specs.Meaning.{statics_end};
 ghost use Rattle.static_data.specs.Data.{IsData, AreData, AreInitial, OnNotConstant};
@@ -19,15 +19,20 @@ use std::alloc::{AllocError, Global};
 use tac_ir::StaticData;
 use tree_containers::Items;
 
-// The bytes of a literal are bytes.
+// Bytes are less than 256.
+fn are_bytes(bytes: &[u8])
+    ensures { AreBytes bytes.now }
+{
+    let _count = bytes.len();
+}
+
+// So are those of a literal.
 fn has_bytes(content: &Content)
     ensures { HasBytes (content_of content.now) }
 {
     match content {
         Content::Value(_) => {}
-        Content::Literal(bytes) => {
-            let _bytes = bytes.as_slice();
-        }
+        Content::Literal(bytes) => are_bytes(bytes.as_slice()),
     }
 }
 

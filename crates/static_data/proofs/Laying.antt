@@ -1,8 +1,8 @@
 -- Static objects in turn.
 use Rattle.std.proofs.Common.{◌≡◌, ℕ, zero, suc, ◌+◌, ◌-◌, ◌≤◌, ◌<◌, ◌^◌, List, [], ◌∷◌, ◌++◌, length, map, drop}
-use Rattle.std.proofs.Common.{Bool, true, false}
-use Rattle.std.proofs.Common.{refl, sym, ap, ◌∙◌, subst, arith, Some, None, append_assoc}
-use Rattle.std.specs.Prelude.{get_or, ◌&&◌, nat_le, Ok, Err, Result, Option}
+use Rattle.std.proofs.Common.{true}
+use Rattle.std.proofs.Common.{refl, sym, ap, ◌∙◌, subst, arith, Some, append_assoc}
+use Rattle.std.specs.Prelude.{get_or, nat_le, Err}
 use Rattle.std.specs.List.{list_all}
 use Rattle.std.proofs.lemmas.Bool.{and_parts, and_from}
 use Rattle.obj_memory.specs.declared.value.Value.{Value}
@@ -18,8 +18,8 @@ use Rattle.c_tree.specs.ValidProgram.{is_valid_program, is_static_object, is_par
 use Rattle.c_tree.specs.ValidProgram.{content_size, are_functions}
 use Rattle.c_tree.specs.View.{static_of}
 use Rattle.c_const.specs.Addresses.{Pointers}
-use Rattle.c_const.specs.Contents.{Contents, is_laid_out, is_inside, are_inside, initial_contents}
-use Rattle.constant_meaning.specs.Leaving.{IsConstant, HaveBytes, AreBytes}
+use Rattle.c_const.specs.Contents.{is_laid_out, is_inside, are_inside, initial_contents}
+use Rattle.constant_meaning.specs.Leaving.{AreBytes}
 use Rattle.source_meaning.specs.Expressions.{function_pointer}
 use Rattle.source_meaning.specs.Meaning.{statics_end}
 use Rattle.tac_ir.specs.declared.function.StaticData.{StaticData}
@@ -97,7 +97,8 @@ next_below xs i offset end x lt h small =
 
 pub next_end : (xs : List CodeObject) (i offset start size end : ℕ) (x : CodeObject) → i < length xs
     → start ≡ rounded_up 16 offset → size ≡ size_of_kind (get_or xs i x).kind
-    → statics_end (map static_of (drop i xs)) offset ≡ end → statics_end (map static_of (drop (i + 1) xs)) (start + size) ≡ end
+    → statics_end (map static_of (drop i xs)) offset ≡ end
+    → statics_end (map static_of (drop (i + 1) xs)) (start + size) ≡ end
 next_end xs i offset start size end x lt es ez h =
     let behind = map static_of (drop (i + 1) xs) in
     ap (λ n. statics_end behind (n + size)) es ∙ ap (λ n. statics_end behind (rounded_up 16 offset + n)) ez
@@ -110,7 +111,8 @@ pub next_pointers : (xs : List CodeObject) (i offset start size : ℕ) (x : Code
     → more ++ static_pointers (map static_of (drop (i + 1) xs)) (i + 1) (start + size) ≡ all
 next_pointers xs i offset start size x done more all lt es ez em h =
     let behind = map static_of (drop (i + 1) xs) in
-    let made = λ (n : ℕ) (m : ℕ). (done ++ pointer_at i (objects_begin + n) m ∷ []) ++ static_pointers behind (i + 1) (n + m) in
+    let made = λ (n : ℕ) (m : ℕ).
+    (done ++ pointer_at i (objects_begin + n) m ∷ []) ++ static_pointers behind (i + 1) (n + m) in
     ap (λ ps. ps ++ static_pointers behind (i + 1) (start + size)) em ∙ ap (λ n. made n size) es
     ∙ ap (made (rounded_up 16 offset)) ez
     ∙ sym (pointers_step xs i offset (get_or xs i x) lt (get_any xs i x (get_or xs i x) lt) done) ∙ h

@@ -1,8 +1,8 @@
 -- Pointers to placed objects, and the objects before the run.
-use Rattle.std.proofs.Common.{true, ◌≡◌, ℕ, zero, suc, ◌+◌, ◌-◌, ◌≤◌, ◌<◌, List, [], ◌∷◌, ◌++◌, length, map, drop, Some}
-use Rattle.std.proofs.Common.{None, refl}
+use Rattle.std.proofs.Common.{true, ◌≡◌, ℕ, zero, suc, ◌+◌, ◌≤◌, List, [], ◌∷◌, length, map, Some}
+use Rattle.std.proofs.Common.{refl}
 use Rattle.std.proofs.Common.{sym, ap, ◌∙◌, subst, arith}
-use Rattle.std.specs.Prelude.{slice_get, get_or}
+use Rattle.std.specs.Prelude.{slice_get}
 use Rattle.addr_map.specs.Places.{objects_begin, region_start}
 use Rattle.sb_base.specs.Budgets.{BudgetSizes}
 use Rattle.obj_memory.specs.declared.value.Value.{Value}
@@ -19,14 +19,14 @@ use Rattle.c_tree.specs.declared.program.Program.{Program as CodeProgram}
 use Rattle.c_const.specs.Addresses.{Pointers}
 use Rattle.c_const.specs.Contents.{Contents}
 use Rattle.constant_meaning.specs.Finding.{PointTo}
-use Rattle.constant_meaning.specs.Leaving.{IsConstant, AreConstant, filled, filled_all}
+use Rattle.constant_meaning.specs.Leaving.{AreConstant, filled, filled_all}
 use Rattle.constant_meaning.proofs.Statics.{initial_objects_are}
 use Rattle.source_meaning.specs.Expressions.{function_pointer}
 use Rattle.source_meaning.specs.Places.{statics_first}
-use Rattle.source_meaning.specs.Meaning.{placed_statics, statics_end, setting_of, initial_objects}
+use Rattle.source_meaning.specs.Meaning.{placed_statics, statics_end, setting_of}
 use Rattle.tac_ir.specs.declared.function.StaticData.{StaticData}
 use Rattle.tac_ir.specs.Meaning.{placed_data}
-use Rattle.static_data.specs.Data.{pointer_at, static_pointers, function_pointers, program_pointers, IsData, AreData}
+use Rattle.static_data.specs.Data.{pointer_at, static_pointers, function_pointers, program_pointers, AreData}
 use Rattle.static_data.specs.Data.{AreInitial}
 
 -- static objects begin where object space does
@@ -146,13 +146,16 @@ count_functions : (fs : List CodeFunction) → length (map function_of fs) ≡ l
 count_functions [] = refl
 count_functions (f ∷ fs) = omega (arith, count_functions fs)
 
-pub program_pointers_are : (p : CodeProgram) (objects : List CodeObject) (functions : List CodeFunction) (vs ws : List Value)
+pub program_pointers_are : (p : CodeProgram) (objects : List CodeObject) (functions : List CodeFunction)
+    (vs ws : List Value)
     → objects ≡ p.statics → functions ≡ p.functions → vs ≡ static_pointers (map static_of objects) 0 0
     → ws ≡ function_pointers 0 (length functions)
     → record { statics = vs; functions = ws } ≡ program_pointers (program_of p)
 program_pointers_are p objects functions vs ws eo ef ev ew =
-    let same : vs ≡ static_pointers (map static_of p.statics) 0 0 = ev ∙ ap (λ l. static_pointers (map static_of l) 0 0) eo in
-    let count : length functions ≡ length (map function_of p.functions) = ap length ef ∙ sym (count_functions p.functions) in
+    let same : vs ≡ static_pointers (map static_of p.statics) 0 0 =
+    ev ∙ ap (λ l. static_pointers (map static_of l) 0 0) eo in
+    let count : length functions ≡ length (map function_of p.functions) =
+    ap length ef ∙ sym (count_functions p.functions) in
     let also : ws ≡ function_pointers 0 (length (map function_of p.functions)) = ew ∙ ap (function_pointers 0) count in
     ap (λ us. record { statics = us; functions = ws }) same
     ∙ ap (λ us. record { statics = static_pointers (map static_of p.statics) 0 0; functions = us }) also

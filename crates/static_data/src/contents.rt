@@ -92,9 +92,9 @@ fn all_data(
 }
 
 /// The static objects of a valid program that has at most 4096 functions, where they take at most 4 MiB: each with its
-/// bytes, and the tags of its words, as they are before the run, whatever the budgets. `NotConstant` comes with the line
-/// of the first expression that an initializer stores and that is neither an integer constant expression nor an address
-/// constant.
+/// bytes, and the tags of its words, as they are before the run, whatever the budgets. `NotConstant` comes with the
+/// line of the first expression that an initializer stores and that is neither an integer constant expression nor an
+/// address constant.
 pub fn static_data(alloc: Global, program: &Program) -> Result<Items<StaticData>, InitialFault>
     requires valid { is_valid_program (program_of program.now) ≡ true }
     requires small { statics_end (program_of program.now).statics 0 ≤ 0x400000 }

@@ -1,4 +1,4 @@
-use Rattle.std.proofs.Common.{true, ◌≡◌, sym, ap, ◌∙◌, subst, map}
+use Rattle.std.proofs.Common.{ap, ◌∙◌, map}
 use Rattle.std.specs.List.{list_all}
 use Rattle.c_tree.specs.View.{program_of, static_of}
 use Rattle.c_const.specs.Contents.{is_laid_out}

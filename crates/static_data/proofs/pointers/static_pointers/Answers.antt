@@ -6,7 +6,8 @@ use Rattle.static_data.proofs.pointers.static_pointers.Goals as goal
 pub loop-i-preserved : goal.loop-i-preserved
 loop-i-preserved c = record {
   made = next_pointers c.args.statics.now c.loop-i.i c.loop-i.offset _ _ c.index-statics-i.result
-      c.loop-i.pointers.items _ _ c.loop-i-test.true c.rounded-start.ensures c.size_of-size.ensures c.in_ok-push.ensures.items
+      c.loop-i.pointers.items _ _ c.loop-i-test.true c.rounded-start.ensures c.size_of-size.ensures
+      c.in_ok-push.ensures.items
       c.loop-i.invariant.made;
   end = next_end c.args.statics.now c.loop-i.i c.loop-i.offset _ _ _ c.index-statics-i.result c.loop-i-test.true
       c.rounded-start.ensures c.size_of-size.ensures c.loop-i.invariant.end;

@@ -1,4 +1,4 @@
-//! Programs lowered, with checks put in: how many checks there are.
+//! Statements lowered, with checks put in: how many checks there are.
 #![tactic(auto)]
 
 #[cfg(test)]

@@ -1,59 +1,76 @@
-//! Typed trees, node by node.
+//! Typed trees on line 1, node by node.
 
-use c_tree::{Expression, Function, Kind, Lvalue, LvalueNode, Node, OffsetForm, Statement, Variable};
+ghost use Rattle.std.specs.Prelude.{◌≡◌, IfOk};
+ghost use Rattle.obj_memory.specs.declared.operator.BinaryOperator.TheVariants.{Add};
+ghost use Rattle.c_tree.specs.declared.expression.Kind.TheVariants.{Array};
+ghost use Rattle.c_tree.specs.declared.expression.OffsetForm.TheVariants.{PointerPlusIndex};
+ghost use Rattle.c_tree.specs.Tree.{expression, lvalue, plain, read, deref, binary, assign, decay, static, index};
+ghost use Rattle.c_tree.specs.View.{expression_of, lvalue_of};
+ghost use Rattle.lowering_vectors.specs.Rows.{int, pointer, number, element};
+
+use c_tree::{Expression, Kind, Lvalue, LvalueNode, Node, OffsetForm};
 use obj_memory::{BinaryOperator, IntType, Scalar};
 use sb_base::Line;
 use std::alloc::{AllocError, Global};
-use tree_containers::{Boxed, Items};
+use tree_containers::Boxed;
 
-pub const INT: Kind = Kind::Scalar(Scalar::Integer(IntType::Int));
-pub const POINTER: Kind = Kind::Scalar(Scalar::Pointer);
-
-/// An expression on line 1.
-pub fn expression(kind: Kind, node: Node) -> Expression {
-    Expression {
-        kind,
-        line: Line::new(1),
-        node,
-    }
-}
-
-/// An lvalue on line 1.
-pub fn lvalue(kind: Kind, node: LvalueNode) -> Lvalue {
-    Lvalue {
-        kind,
-        line: Line::new(1),
-        node,
-    }
-}
+const INT: Kind = Kind::Scalar(Scalar::Integer(IntType::Int));
+const POINTER: Kind = Kind::Scalar(Scalar::Pointer);
 
 /// An int constant.
-pub fn number(word: u64) -> Expression {
-    expression(INT, Node::Constant(word))
+pub fn number(word: u64) -> Expression
+    ensures { expression_of result ≡ number word }
+{
+    Expression {
+        kind: INT,
+        line: Line::new(1),
+        node: Node::Constant(word),
+    }
 }
 
-/// `*p`, of an int.
-pub fn through(alloc: Global, pointer: Expression) -> Result<Lvalue, AllocError> {
-    let pointer = Boxed::new(alloc, pointer)?;
-    Ok(lvalue(INT, LvalueNode::Deref(pointer)))
+// The plain variable 0, a pointer.
+fn parameter() -> Expression
+    ensures { expression_of result ≡ expression pointer 1 (plain 0) }
+{
+    Expression {
+        kind: POINTER,
+        line: Line::new(1),
+        node: Node::Plain(0),
+    }
 }
 
-/// What an lvalue holds.
-pub fn read(alloc: Global, place: Lvalue) -> Result<Expression, AllocError> {
-    let kind = place.kind;
+// `*E`, of an int.
+fn through(alloc: Global, e: Expression) -> Result<Lvalue, AllocError>
+    ensures { IfOk result (λ p. lvalue_of p ≡ lvalue int 1 (deref (expression_of e))) }
+{
+    let e = Boxed::new(alloc, e)?;
+    Ok(Lvalue {
+        kind: INT,
+        line: Line::new(1),
+        node: LvalueNode::Deref(e),
+    })
+}
+
+// The int that an lvalue holds.
+fn read(alloc: Global, place: Lvalue) -> Result<Expression, AllocError>
+    ensures { IfOk result (λ e. expression_of e ≡ expression int 1 (read (lvalue_of place))) }
+{
     let place = Boxed::new(alloc, place)?;
-    Ok(expression(kind, Node::Read(place)))
+    Ok(Expression {
+        kind: INT,
+        line: Line::new(1),
+        node: Node::Read(place),
+    })
 }
 
-/// `a[i]`, of an array of int that is a static object of 16 bytes.
-pub fn element(alloc: Global, object: usize, index: Expression) -> Result<Lvalue, AllocError> {
-    let index = Boxed::new(alloc, index)?;
-    let array = Boxed::new(alloc, lvalue(Kind::Array(16), LvalueNode::Static(object)))?;
-    let array = Boxed::new(alloc, expression(POINTER, Node::Decay(array)))?;
-    Ok(lvalue(
-        INT,
-        LvalueNode::Index(OffsetForm::PointerPlusIndex, 4, array, index),
-    ))
+/// `*p` of the plain variable 0.
+pub fn read_parameter(alloc: Global) -> Result<Expression, AllocError>
+    ensures { IfOk result (λ e. expression_of e
+        ≡ expression int 1 (read (lvalue int 1 (deref (expression pointer 1 (plain 0)))))) }
+{
+    let place = through(alloc, parameter())?;
+    let value = read(alloc, place)?;
+    Ok(value)
 }
 
 /// `E + F` of ints.
@@ -61,38 +78,76 @@ pub fn sum(
     alloc: Global,
     left: Boxed<Expression>,
     right: Expression,
-) -> Result<Expression, AllocError> {
+) -> Result<Expression, AllocError>
+    ensures { IfOk result
+        (λ e. expression_of e ≡ expression int 1 (binary Add (expression_of left) (expression_of right))) }
+{
     let right = Boxed::new(alloc, right)?;
-    Ok(expression(
-        INT,
-        Node::Binary(BinaryOperator::Add, left, right),
-    ))
-}
-
-/// `L = E`, of an int.
-pub fn assign(
-    alloc: Global,
-    place: Boxed<Lvalue>,
-    value: Expression,
-) -> Result<Expression, AllocError> {
-    let value = Boxed::new(alloc, value)?;
-    Ok(expression(INT, Node::Assign(place, value)))
-}
-
-/// A function on line 1.
-pub fn function(
-    type_number: usize,
-    parameters: Vec<Variable>,
-    variables: Vec<Variable>,
-    body: Vec<Statement>,
-    room: u64,
-) -> Function {
-    Function {
+    Ok(Expression {
+        kind: INT,
         line: Line::new(1),
-        type_number,
-        parameters: Items::from_vec(parameters),
-        variables: Items::from_vec(variables),
-        body: Items::from_vec(body),
-        room,
-    }
+        node: Node::Binary(BinaryOperator::Add, left, right),
+    })
+}
+
+// The static object 0 of 16 bytes, as a pointer.
+fn array(alloc: Global) -> Result<Boxed<Expression>, AllocError>
+    ensures { IfOk result (λ e. expression_of e ≡ expression pointer 1 (decay (lvalue (Array 16) 1 (static 0)))) }
+{
+    let place = Boxed::new(
+        alloc,
+        Lvalue {
+            kind: Kind::Array(16),
+            line: Line::new(1),
+            node: LvalueNode::Static(0),
+        },
+    )?;
+    let value = Boxed::new(
+        alloc,
+        Expression {
+            kind: POINTER,
+            line: Line::new(1),
+            node: Node::Decay(place),
+        },
+    )?;
+    Ok(value)
+}
+
+// `a[E]` of that object.
+fn element(alloc: Global, array: Boxed<Expression>, e: Expression) -> Result<Boxed<Lvalue>, AllocError>
+    ensures { IfOk result (λ p. lvalue_of p ≡ lvalue int 1 (index PointerPlusIndex 4 (expression_of array)
+        (expression_of e))) }
+{
+    let e = Boxed::new(alloc, e)?;
+    let place = Boxed::new(
+        alloc,
+        Lvalue {
+            kind: INT,
+            line: Line::new(1),
+            node: LvalueNode::Index(OffsetForm::PointerPlusIndex, 4, array, e),
+        },
+    )?;
+    Ok(place)
+}
+
+// `L = E` of ints.
+fn assign(alloc: Global, place: Boxed<Lvalue>, e: Expression) -> Result<Expression, AllocError>
+    ensures { IfOk result (λ r. expression_of r ≡ expression int 1 (assign (lvalue_of place) (expression_of e))) }
+{
+    let e = Boxed::new(alloc, e)?;
+    Ok(Expression {
+        kind: INT,
+        line: Line::new(1),
+        node: Node::Assign(place, e),
+    })
+}
+
+/// `a[INDEX] = VALUE` of the static object 0.
+pub fn set_element(alloc: Global, index: u64, value: u64) -> Result<Expression, AllocError>
+    ensures { IfOk result (λ r. expression_of r ≡ expression int 1 (assign (element (number index)) (number value))) }
+{
+    let base = array(alloc)?;
+    let place = element(alloc, base, number(index))?;
+    let e = assign(alloc, place, number(value))?;
+    Ok(e)
 }

@@ -35,7 +35,7 @@ pub body_code : {vs : List Variable} {ss : Statements} {result : Kind} {texts : 
     {returns end entry : ℕ} {x : Exits} → a.code.items ≡ [] → a.texts.items ≡ texts → Added a b returns (tac.Return 0)
     → Added b c end (tac.ZeroOf result 0 returns) → exits_of x ≡ function_exits end returns
     → StatementsCode vs c d ss entry x → BodyCode vs ss result texts d entry
-body_code {ss = ss} {texts = texts} {a = a} {returns = returns} {end = end} {x = x} none same r z q h =
+body_code {ss = ss} {texts = texts} {a = a} {returns = returns} {end = end} {entry = entry} {x = x} none same r z q h =
     let most = each_height ss in
     let one = each_needs_one ss in
     let er = added_emits most r (omega (arith, one)) in
@@ -51,7 +51,7 @@ body_code {ss = ss} {texts = texts} {a = a} {returns = returns} {end = end} {x =
           let fz = fills_before h.emits f in (
             end,
             returns,
-            subst (λ y. LowersStatements p ss _ y) q (h.stands p v f),
+            subst (λ y. LowersStatements p ss entry y) q (h.stands p v f),
             added_holds z tt fz,
             added_holds r tt (fills_before ez fz),
           );
@@ -65,9 +65,9 @@ pub function_code : {texts : List
     → parameters ≡ f.parameters
     → variables ≡ f.variables → entered ≡ body_variables f → BodyCode vs ss result texts b.code b.entry
     → Completes f.line f.type_number f.room parameters variables entered b l → FunctionCode f result texts l
-function_code {texts = texts} {result = result} {b = b} {l = l} {ss = ss} f all same ep ev ee of w =
+function_code {texts = texts} {result = result} {b = b} {l = l} {vs = vs} {ss = ss} f all same ep ev ee of w =
     let h = subst (λ us. BodyCode us f.body result texts b.code b.entry) all
-    (subst (λ us. BodyCode _ us result texts b.code b.entry) same of) in
+    (subst (λ us. BodyCode vs us result texts b.code b.entry) same of) in
     record {
       texts_stay = λ n t k. subst (λ ts. HasAt ts n t) (sym w.texts_are) (h.texts_stay n t k);
       is = λ ts later.

@@ -14,6 +14,7 @@ use Rattle.c_tree.specs.View.{function_of}
 use Rattle.source_meaning.specs.Calls.{header_of, function_at}
 use Rattle.source_meaning.specs.Meaning.{statics_end}
 use Rattle.tac_ir.specs.declared.function.CodeFunction.{CodeFunction}
+use Rattle.tac_ir.specs.declared.function.StaticData.{StaticData}
 use Rattle.tac_ir.specs.declared.function.Tac.{Tac}
 use Rattle.tac_ir.specs.Meaning.{header_of_code}
 use Rattle.c_lower.specs.Placed.{HasAt}
@@ -27,7 +28,7 @@ use Rattle.static_data.specs.Data.{AreInitial}
 use Rattle.program_lowering.specs.declared.program.Lowering.{Lowering}
 use Rattle.program_lowering.specs.declared.function.Lowered.{Lowered}
 use Rattle.program_lowering.specs.Code.{IsFunction, FunctionCode}
-use Rattle.program_lowering.specs.Whole.{AreFunctions, Holding, code_nodes, program_nodes}
+use Rattle.program_lowering.specs.Whole.{AreFunctions, Holding, Assembles, results_of, code_nodes, program_nodes}
 
 -- what is done makes, with the code of the functions from a number on, the code of all
 pub record Done (results : List Kind) (fs : List CodeOfFunction) (i : ℕ) (l : Lowering) : Type 0 where
@@ -144,3 +145,21 @@ nodes_counted [] [] h = omega arith
 nodes_counted [] (c ∷ cs) h = absurd h
 nodes_counted (f ∷ fs) [] h = absurd h
 nodes_counted (f ∷ fs) (c ∷ cs) h = omega (arith, h.0.count, nodes_counted fs cs h.1)
+
+pub program_from : {statics : List StaticData} {results : List Kind} {l : Lowering} {main bytes : ℕ} {t : Tac} (p : Program)
+    → Assembles main bytes statics results l t → main ≡ p.main → bytes ≡ statics_end p.statics 0 → AreInitial p statics
+    → results ≡ results_of p.function_types → AreFunctions l.texts.items results p.functions l.functions.items
+    → IsLowered p t
+program_from {l = l} {t = t} p a em eb s er h =
+    let kinds = subst (λ ks. AreFunctions l.texts.items ks p.functions l.functions.items) (sym a.results_are) h in
+    let texts = subst (λ ts. AreFunctions ts t.results p.functions l.functions.items) (sym a.texts_are) kinds in
+    let whole = subst (AreFunctions t.texts t.results p.functions) (sym a.functions_are) texts in
+    lowered_from p t (subst (AreInitial p) (sym a.statics_are) s) whole (a.results_are ∙ er) (a.main_is ∙ em)
+    (a.bytes_are ∙ eb)
+
+pub nodes_from : {statics : List StaticData} {results : List Kind} {l : Lowering} {main bytes : ℕ} {t : Tac} (p : Program)
+    → Assembles main bytes statics results l t → AreFunctions l.texts.items results p.functions l.functions.items
+    → code_nodes t.functions ≤ program_nodes p.functions
+nodes_from {l = l} p a h =
+    subst (λ cs. code_nodes cs ≤ program_nodes p.functions) (sym a.functions_are)
+    (nodes_counted p.functions l.functions.items h)

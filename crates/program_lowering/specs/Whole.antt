@@ -1,9 +1,11 @@
 -- The functions of a program in turn, and how many nodes it gets.
-use Rattle.std.specs.Prelude.{◌≡◌, ℕ, ◌+◌, Bool, ◌&&◌, nat_le, List, [], ◌∷◌, ◌++◌, length, get_or, Result, Ok, Err}
+use Rattle.std.specs.Prelude.{◌≡◌, ℕ, ◌+◌, Bool, ◌&&◌, nat_le, List, [], ◌∷◌, ◌++◌, length, map, get_or, Result, Ok, Err}
 use Rattle.c_tree.specs.declared.expression.Kind.{Kind}
 use Rattle.c_tree.specs.declared.expression.Kind.TheVariants.{Void}
-use Rattle.c_tree.specs.Programs.{Function}
+use Rattle.c_tree.specs.Programs.{Function, FunctionType}
 use Rattle.tac_ir.specs.declared.function.CodeFunction.{CodeFunction}
+use Rattle.tac_ir.specs.declared.function.StaticData.{StaticData}
+use Rattle.tac_ir.specs.declared.function.Tac.{Tac}
 use Rattle.statement_lowering.specs.Sizes.{each_height, each_nodes}
 use Rattle.statement_lowering.specs.Switches.{each_decided}
 use Rattle.expression_lowering.specs.Emitted.{Stays}
@@ -35,12 +37,26 @@ abbrev pub program_nodes : List Function → ℕ
 program_nodes [] = 0
 program_nodes (f ∷ fs) = 2 + each_nodes f.body + program_nodes fs
 
+-- what the functions of each type give
+abbrev pub results_of : List FunctionType → List Kind
+results_of = map (λ t. t.result)
+
 -- what is done so far, with one function more
 pub record Holding (a b : Lowering) (results : List Kind) (f : Function) : Type 0 where
   pub code : CodeFunction
   pub functions : b.functions.items ≡ a.functions.items ++ code ∷ []
   pub texts_stay : Stays a.texts.items b.texts.items
   pub is : (ts : List (List ℕ)) → Stays b.texts.items ts → IsFunction ts (get_or results f.type_number Void) f code
+
+-- a program has these parts
+pub record Assembles (main bytes : ℕ) (statics : List StaticData) (results : List Kind) (l : Lowering) (t : Tac) : Type 0
+  where
+    pub main_is : t.main ≡ main
+    pub bytes_are : t.global_bytes ≡ bytes
+    pub statics_are : t.statics ≡ statics
+    pub results_are : t.results ≡ results
+    pub functions_are : t.functions ≡ l.functions.items
+    pub texts_are : t.texts ≡ l.texts.items
 
 -- for want of memory nothing is claimed
 abbrev pub OnNoConstant : {A : Type 0} → Result A LowerFault → (ℕ → Type 0) → Type 0

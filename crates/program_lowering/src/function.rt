@@ -83,7 +83,8 @@ pub fn lower_function(
     let statements = f.body.as_slice();
     let parameters = copied(alloc, f.parameters.as_slice())?;
     let variables = copied(alloc, f.variables.as_slice())?;
-    let entered = Items::from_vec(entered_variables(alloc, f)?);
+    let opened = entered_variables(alloc, f)?;
+    let entered = Items::from_vec(opened);
     let body = lower_body(alloc, numbered, statements, kind, texts)?;
     Ok(complete(f, parameters, variables, entered, body))
 }

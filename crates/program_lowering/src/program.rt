@@ -3,14 +3,13 @@
 ghost use Rattle.std.specs.Prelude.{◌≡◌, ◌≤◌, true, IfOk, map, length, get_or, Some};
 ghost use Rattle.std.specs.List.{list_all};
 ghost use Rattle.c_tree.specs.declared.expression.Kind.TheVariants.{Void};
-ghost use Rattle.c_tree.specs.Programs.{FunctionType};
 ghost use Rattle.c_tree.specs.View.{function_of, function_type_of, program_of};
 ghost use Rattle.c_tree.specs.ValidProgram.{is_valid_program};
 ghost use Rattle.c_lower.specs.Programs.{IsLowered};
 ghost use Rattle.source_meaning.specs.Meaning.{statics_end};
-ghost use Rattle.static_data.specs.Data.{first_fault, program_pointers};
+ghost use Rattle.static_data.specs.Data.{first_fault, program_pointers, AreInitial};
 ghost use Rattle.program_lowering.specs.Whole.{is_ready, AreFunctions, Holding, OnNoConstant, code_nodes};
-ghost use Rattle.program_lowering.specs.Whole.{program_nodes};
+ghost use Rattle.program_lowering.specs.Whole.{program_nodes, results_of, Assembles};
 
 use crate::function::lower_function;
 use c_const::contents::InitialFault;
@@ -19,7 +18,7 @@ use sb_base::Line;
 use static_data::pointers::global_bytes;
 use static_data::static_data;
 use std::alloc::{AllocError, Global};
-use tac_ir::{CodeFunction, Tac};
+use tac_ir::{CodeFunction, StaticData, Tac};
 use tree_containers::Items;
 
 /// Why a program has no code.
@@ -40,7 +39,7 @@ pub struct Lowering {
 
 // What the functions of each type give.
 fn results(alloc: Global, types: &[FunctionType]) -> Result<Vec<Kind>, AllocError>
-    ensures { IfOk result (λ ks. ks.items ≡ map (λ (t : FunctionType). t.result) (map function_type_of types.now)) }
+    ensures { IfOk result (λ ks. ks.items ≡ results_of (map function_type_of types.now)) }
 {
     let mut results = Vec::new(alloc);
     for function_type in types {
@@ -101,10 +100,46 @@ fn lower_functions(
     Ok(done)
 }
 
-/// Lowers a valid program whose static objects take at most 4 MiB and which has at most 4096 functions. An error comes
+// The static objects, as `static_data` gives them.
+fn statics_of(alloc: Global, program: &Program) -> Result<Items<StaticData>, LowerFault>
+    requires valid { is_valid_program (program_of program.now) ≡ true }
+    requires small { statics_end (program_of program.now).statics 0 ≤ 0x400000 }
+    requires few { length (program_of program.now).functions ≤ 4096 }
+    ensures data { IfOk result (λ ds. AreInitial (program_of program.now) ds) }
+    ensures fault { OnNoConstant result
+        (λ line. first_fault (program_pointers (program_of program.now)) (program_of program.now).statics ≡ Some line) }
+{
+    match static_data(alloc, program) {
+        Ok(statics) => Ok(statics),
+        Err(InitialFault::Memory) => Err(LowerFault::Memory),
+        Err(InitialFault::NotConstant(line)) => Err(LowerFault::NotConstant(line)),
+    }
+}
+
+// The program of its parts.
+fn assembled(
+    main: usize,
+    global_bytes: u64,
+    statics: Items<StaticData>,
+    results: Vec<Kind>,
+    lowered: Lowering,
+) -> Tac
+    ensures { Assembles main global_bytes statics results.items lowered result }
+{
+    let Lowering { functions, texts } = lowered;
+    Tac {
+        functions: Items::from_vec(functions),
+        results: Items::from_vec(results),
+        main,
+        statics,
+        global_bytes,
+        texts: Items::from_vec(texts),
+    }
+}
+
+/// Lowers a valid program that has at most 4096 functions, where its static objects take at most 4 MiB. An error comes
 /// where there is no memory for its code, or with the line of the first expression in an initializer of a static object
 /// that is not constant.
-#[tactic(auto, using(crate::proofs::Ready::ready))]
 pub fn lower(alloc: Global, program: &Program) -> Result<Tac, LowerFault>
     requires valid { is_valid_program (program_of program.now) ≡ true }
     requires small { statics_end (program_of program.now).statics 0 ≤ 0x400000 }
@@ -114,24 +149,17 @@ pub fn lower(alloc: Global, program: &Program) -> Result<Tac, LowerFault>
     ensures fault { OnNoConstant result
         (λ line. first_fault (program_pointers (program_of program.now)) (program_of program.now).statics ≡ Some line) }
 {
-    let statics = match static_data(alloc, program) {
-        Ok(statics) => statics,
-        Err(InitialFault::Memory) => return Err(LowerFault::Memory),
-        Err(InitialFault::NotConstant(line)) => return Err(LowerFault::NotConstant(line)),
-    };
-    let Ok(results) = results(alloc, program.function_types.as_slice()) else {
+    let objects = program.statics.as_slice();
+    let types = program.function_types.as_slice();
+    let functions = program.functions.as_slice();
+    let statics = statics_of(alloc, program)?;
+    let Ok(results) = results(alloc, types) else {
         return Err(LowerFault::Memory);
     };
-    let Ok(lowered) = lower_functions(alloc, program.functions.as_slice(), &results) else {
+    let kinds = results.as_slice();
+    let Ok(lowered) = lower_functions(alloc, functions, kinds) else {
         return Err(LowerFault::Memory);
     };
-    let Lowering { functions, texts } = lowered;
-    Ok(Tac {
-        functions: Items::from_vec(functions),
-        results: Items::from_vec(results),
-        main: program.main,
-        statics,
-        global_bytes: global_bytes(program.statics.as_slice()),
-        texts: Items::from_vec(texts),
-    })
+    let bytes = global_bytes(objects);
+    Ok(assembled(program.main, bytes, statics, results, lowered))
 }

@@ -1,6 +1,6 @@
 //! The variables of functions (C99 6.2.4 paragraph 5).
 
-ghost use Rattle.std.specs.Prelude.{◌≡◌, ◌++◌, IfOk, map, length, if◌then◌else◌};
+ghost use Rattle.std.specs.Prelude.{◌≡◌, ◌+◌, ◌<◌, ◌^◌, IfOk, map, length, if◌then◌else◌};
 ghost use Rattle.c_tree.specs.Blocks.{all_of, closed, is_among, opened, body_variables};
 ghost use Rattle.c_tree.specs.View.{function_of};
 

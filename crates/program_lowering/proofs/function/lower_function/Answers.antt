@@ -7,5 +7,6 @@ use Rattle.program_lowering.proofs.function.lower_function.Goals as goal
 pub returns : goal.returns
 returns c =
     function_code (function_of c.args.f.now) (c.as_slice-numbered.ensures.value ∙ c.in_ok-all.ensures)
-    (ap (λ l. statements_in (map statement_of l)) c.as_slice-statements.ensures) ? ? ? c.in_ok-body.ensures
-    c.complete.ensures
+    (ap (λ l. statements_in (map statement_of l)) c.as_slice-statements.ensures)
+    (c.in_ok-parameters.ensures ∙ c.as_slice.ensures) (c.in_ok-variables.ensures ∙ c.as_slice-2.ensures)
+    (c.from_vec-entered.ensures ∙ c.in_ok-opened.ensures) c.in_ok-body.ensures c.complete.ensures

@@ -139,12 +139,12 @@ lowered_from p t s h results main bytes = record {
   functions = λ f. functions_lowered t.texts t.results p.statics f p.functions t.functions h f;
 }
 
-pub nodes_counted : {ts : List (List ℕ)} {results : List Kind} (fs : List Function) (cs : List CodeFunction)
+pub nodes_counted : (ts : List (List ℕ)) (results : List Kind) (fs : List Function) (cs : List CodeFunction)
     → AreFunctions ts results fs cs → code_nodes cs ≤ program_nodes fs
-nodes_counted [] [] h = omega arith
-nodes_counted [] (c ∷ cs) h = absurd h
-nodes_counted (f ∷ fs) [] h = absurd h
-nodes_counted (f ∷ fs) (c ∷ cs) h = omega (arith, h.0.count, nodes_counted fs cs h.1)
+nodes_counted ts results [] [] h = omega arith
+nodes_counted ts results [] (c ∷ cs) h = absurd h
+nodes_counted ts results (f ∷ fs) [] h = absurd h
+nodes_counted ts results (f ∷ fs) (c ∷ cs) h = omega (arith, h.0.count, nodes_counted ts results fs cs h.1)
 
 pub program_from : {statics : List StaticData} {results : List Kind} {l : Lowering} {main bytes : ℕ} {t : Tac} (p : Program)
     → Assembles main bytes statics results l t → main ≡ p.main → bytes ≡ statics_end p.statics 0 → AreInitial p statics
@@ -160,6 +160,6 @@ program_from {l = l} {t = t} p a em eb s er h =
 pub nodes_from : {statics : List StaticData} {results : List Kind} {l : Lowering} {main bytes : ℕ} {t : Tac} (p : Program)
     → Assembles main bytes statics results l t → AreFunctions l.texts.items results p.functions l.functions.items
     → code_nodes t.functions ≤ program_nodes p.functions
-nodes_from {l = l} p a h =
+nodes_from {results = results} {l = l} p a h =
     subst (λ cs. code_nodes cs ≤ program_nodes p.functions) (sym a.functions_are)
-    (nodes_counted p.functions l.functions.items h)
+    (nodes_counted l.texts.items results p.functions l.functions.items h)

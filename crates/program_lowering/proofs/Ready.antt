@@ -19,7 +19,7 @@ use Rattle.c_tree.specs.Statements.{while_do, do_while, for, switch, break, cont
 use Rattle.c_tree.specs.Statements.{statements, SwitchItems, no_items, items}
 use Rattle.c_tree.specs.Valid.{Scope, within, has_number}
 use Rattle.c_tree.specs.ValidProgram.{Inside, in_loop, in_switch, is_statement, are_statements, are_items, is_function}
-use Rattle.c_tree.specs.ValidProgram.{are_functions, is_valid_program, are_different, labels_of, same_label}
+use Rattle.c_tree.specs.ValidProgram.{function_scope, signature_at, are_functions, is_valid_program, are_different, labels_of, same_label}
 use Rattle.c_lower.specs.Statements.{any_default, has_default}
 use Rattle.statement_lowering.specs.Sizes.{each_height}
 use Rattle.statement_lowering.specs.Switches.{has_one_default, are_decided, each_decided, items_decided}
@@ -127,15 +127,19 @@ below_room statics n f = omega (arith, height_of_each f.body)
 le_true : (a b : ℕ) → a ≤ b → nat_le a b ≡ true
 le_true a b h = grind (arith, nat_tests)
 
+abbrev outside : Inside
+outside = record { may_break = false; may_continue = false }
+
 is_ready_by : (p : Program) (n : ℕ) (f : Function) → is_function p n f ≡ true → is_ready f ≡ true
 is_ready_by p n f h =
-    let q = and_parts _ _ h in
-    let b = and_parts _ (are_statements _ _ f.body) q.0 in
-    let same = eqb-true f.room _ q.1 in
+    let kind = (signature_at p f.type_number).result in
+    let q = and_parts _ (f.room == room p.statics n kind f) h in
+    let b = and_parts _ (are_statements (function_scope p f) outside f.body) q.0 in
+    let same : f.room ≡ room p.statics n kind f = eqb-true f.room (room p.statics n kind f) q.1 in
     and_from (nat_le (each_height f.body) f.room) (each_decided f.body)
     (le_true (each_height f.body) f.room
-    (omega (arith, same, below_room p.statics n f, in_room p.statics n _ f)))
-    (decided_each _ _ f.body b.1)
+    (omega (arith, same, below_room p.statics n f, in_room p.statics n kind f)))
+    (decided_each (function_scope p f) outside f.body b.1)
 
 each_ready : (p : Program) (n : ℕ) (fs : List Function) → are_functions p n fs ≡ true → list_all is_ready fs ≡ true
 each_ready p n [] h = refl

@@ -1,5 +1,5 @@
 -- The functions of a program in turn, and how many nodes it gets.
-use Rattle.std.specs.Prelude.{◌≡◌, ℕ, ◌+◌, Bool, ◌&&◌, nat_le, List, [], ◌∷◌, ◌++◌, length, map, get_or, Result, Ok, Err}
+use Rattle.std.specs.Prelude.{◌≡◌, ℕ, ◌+◌, Bool, ◌&&◌, nat_le, List, [], ◌∷◌, ◌++◌, length, map, get_or}
 use Rattle.c_tree.specs.declared.expression.Kind.{Kind}
 use Rattle.c_tree.specs.declared.expression.Kind.TheVariants.{Void}
 use Rattle.c_tree.specs.Programs.{Function, FunctionType}
@@ -10,8 +10,6 @@ use Rattle.statement_lowering.specs.Sizes.{each_height, each_nodes}
 use Rattle.statement_lowering.specs.Switches.{each_decided}
 use Rattle.expression_lowering.specs.Emitted.{Stays}
 use Rattle.program_lowering.specs.declared.program.Lowering.{Lowering}
-use Rattle.program_lowering.specs.declared.program.LowerFault.{LowerFault}
-use Rattle.program_lowering.specs.declared.program.LowerFault.TheVariants.{Memory, NotConstant}
 use Rattle.program_lowering.specs.Code.{IsFunction}
 
 -- a function whose temporaries are counted by its room, and whose switches have at most one default label each
@@ -57,9 +55,3 @@ pub record Assembles (main bytes : ℕ) (statics : List StaticData) (results : L
     pub results_are : t.results ≡ results
     pub functions_are : t.functions ≡ l.functions.items
     pub texts_are : t.texts ≡ l.texts.items
-
--- for want of memory nothing is claimed
-abbrev pub OnNoConstant : {A : Type 0} → Result A LowerFault → (ℕ → Type 0) → Type 0
-OnNoConstant (Ok a) P = Unit {0}
-OnNoConstant (Err Memory) P = Unit {0}
-OnNoConstant (Err (NotConstant line)) P = P line

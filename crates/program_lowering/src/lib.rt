@@ -6,4 +6,4 @@ pub mod function;
 pub mod program;
 pub mod variables;
 
-pub use crate::program::{LowerFault, lower};
+pub use crate::program::lower;

@@ -7,28 +7,18 @@ ghost use Rattle.c_tree.specs.View.{function_of, function_type_of, program_of};
 ghost use Rattle.c_tree.specs.ValidProgram.{is_valid_program};
 ghost use Rattle.c_lower.specs.Programs.{IsLowered};
 ghost use Rattle.source_meaning.specs.Meaning.{statics_end};
-ghost use Rattle.static_data.specs.Data.{first_fault, program_pointers, AreInitial};
-ghost use Rattle.program_lowering.specs.Whole.{is_ready, AreFunctions, Holding, OnNoConstant, code_nodes};
+ghost use Rattle.static_data.specs.Data.{first_fault, program_pointers, OnNotConstant};
+ghost use Rattle.program_lowering.specs.Whole.{is_ready, AreFunctions, Holding, code_nodes};
 ghost use Rattle.program_lowering.specs.Whole.{program_nodes, results_of, Assembles};
 
 use crate::function::lower_function;
 use c_const::contents::InitialFault;
 use c_tree::{Function, FunctionType, Kind, Program};
-use sb_base::Line;
 use static_data::pointers::global_bytes;
 use static_data::static_data;
 use std::alloc::{AllocError, Global};
 use tac_ir::{CodeFunction, StaticData, Tac};
 use tree_containers::Items;
-
-/// Why a program has no code.
-#[derive(Clone, Copy, Debug, PartialEq, Eq)]
-pub enum LowerFault {
-    /// There is no memory for it.
-    Memory,
-    /// The initializer of a static object has an expression that is not constant, the first of which is at this line.
-    NotConstant(Line),
-}
 
 /// The functions of a program so far, and its texts.
 #[derive(Drop)]
@@ -100,22 +90,6 @@ fn lower_functions(
     Ok(done)
 }
 
-// The static objects, as `static_data` gives them.
-fn statics_of(alloc: Global, program: &Program) -> Result<Items<StaticData>, LowerFault>
-    requires valid { is_valid_program (program_of program.now) ≡ true }
-    requires small { statics_end (program_of program.now).statics 0 ≤ 0x400000 }
-    requires few { length (program_of program.now).functions ≤ 4096 }
-    ensures data { IfOk result (λ ds. AreInitial (program_of program.now) ds) }
-    ensures fault { OnNoConstant result
-        (λ line. first_fault (program_pointers (program_of program.now)) (program_of program.now).statics ≡ Some line) }
-{
-    match static_data(alloc, program) {
-        Ok(statics) => Ok(statics),
-        Err(InitialFault::Memory) => Err(LowerFault::Memory),
-        Err(InitialFault::NotConstant(line)) => Err(LowerFault::NotConstant(line)),
-    }
-}
-
 // The program of its parts.
 fn assembled(
     main: usize,
@@ -140,25 +114,25 @@ fn assembled(
 /// Lowers a valid program that has at most 4096 functions, where its static objects take at most 4 MiB. An error comes
 /// where there is no memory for its code, or with the line of the first expression in an initializer of a static object
 /// that is not constant.
-pub fn lower(alloc: Global, program: &Program) -> Result<Tac, LowerFault>
+pub fn lower(alloc: Global, program: &Program) -> Result<Tac, InitialFault>
     requires valid { is_valid_program (program_of program.now) ≡ true }
     requires small { statics_end (program_of program.now).statics 0 ≤ 0x400000 }
     requires few { length (program_of program.now).functions ≤ 4096 }
     ensures code { IfOk result (λ t. IsLowered (program_of program.now) t) }
     ensures nodes { IfOk result (λ t. code_nodes t.functions ≤ program_nodes (program_of program.now).functions) }
-    ensures fault { OnNoConstant result
+    ensures fault { OnNotConstant result
         (λ line. first_fault (program_pointers (program_of program.now)) (program_of program.now).statics ≡ Some line) }
 {
     let objects = program.statics.as_slice();
     let types = program.function_types.as_slice();
     let functions = program.functions.as_slice();
-    let statics = statics_of(alloc, program)?;
+    let statics = static_data(alloc, program)?;
     let Ok(results) = results(alloc, types) else {
-        return Err(LowerFault::Memory);
+        return Err(InitialFault::Memory);
     };
     let kinds = results.as_slice();
     let Ok(lowered) = lower_functions(alloc, functions, kinds) else {
-        return Err(LowerFault::Memory);
+        return Err(InitialFault::Memory);
     };
     let bytes = global_bytes(objects);
     Ok(assembled(program.main, bytes, statics, results, lowered))

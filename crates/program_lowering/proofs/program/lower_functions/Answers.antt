@@ -12,3 +12,7 @@ pub with_function-requires : goal.with_function-requires
 with_function-requires c =
     ready_at c.args.functions.now c.loop-i.i c.index-functions-i.result (omega (arith, c.loop-i-test.true))
     c.index-functions-i.is c.requires
+
+pub returns : goal.returns
+returns c =
+    done_all c.args.functions.now c.loop-i.i (omega (arith, c.loop-i.auto.i-end, c.loop-i-test.false)) c.loop-i.invariant

@@ -1,23 +1,20 @@
 -- Bodies of functions, and functions with their tables.
-use Rattle.std.proofs.Common.{◌≡◌, ℕ, ◌+◌, ◌≤◌, ◌<◌, ◌^◌, List, [], ◌∷◌, length, map, Some, refl, sym, ap, ◌∙◌, subst, arith}
-use Rattle.std.specs.Prelude.{slice_get}
+use Rattle.std.proofs.Common.{◌≡◌, ℕ, ◌+◌, ◌≤◌, ◌<◌, ◌^◌, List, [], ◌∷◌, length, refl, sym, ap, ◌∙◌, subst, arith}
 use Rattle.c_tree.specs.declared.expression.Kind.{Kind}
 use Rattle.c_tree.specs.declared.program.Variable.{Variable}
 use Rattle.c_tree.specs.Blocks.{all_of, body_variables}
 use Rattle.c_tree.specs.Programs.{Function}
 use Rattle.c_tree.specs.Statements.{Statements}
 use Rattle.source_meaning.specs.Calls.{header_of}
-use Rattle.tac_ir.specs.declared.instruction.Instruction.{Instruction}
 use Rattle.tac_ir.specs.declared.instruction.Instruction.TheVariants as tac
 use Rattle.tac_ir.specs.declared.function.CodeFunction.{CodeFunction}
-use Rattle.tac_ir.specs.Temporaries.{temporaries}
 use Rattle.tac_ir.specs.Meaning.{header_of_code}
-use Rattle.c_lower.specs.Placed.{Placed, HasAt}
+use Rattle.c_lower.specs.Placed.{HasAt}
 use Rattle.c_lower.specs.Statements.{LowersStatements}
 use Rattle.c_lower.specs.Programs.{LowersBody, placed_in, function_exits}
 use Rattle.expression_lowering.specs.declared.emitter.Emitter.{Emitter}
-use Rattle.expression_lowering.specs.Emitted.{Added, Fills, Fits, Stays, Has}
-use Rattle.expression_lowering.proofs.Growing.{added_emits, added_holds, emits_then, fills_before, stays_by}
+use Rattle.expression_lowering.specs.Emitted.{Added, Fills}
+use Rattle.expression_lowering.proofs.Growing.{added_emits, added_holds, emits_then, fills_before}
 use Rattle.statement_parts.specs.declared.exits.Exits.{Exits}
 use Rattle.statement_parts.specs.Leaving.{exits_of}
 use Rattle.statement_lowering.specs.Code.{StatementsCode}
@@ -25,7 +22,7 @@ use Rattle.statement_lowering.specs.Sizes.{each_height, each_nodes}
 use Rattle.statement_lowering.proofs.Heights.{each_needs_one}
 use Rattle.program_lowering.specs.declared.body.Body.{Body}
 use Rattle.program_lowering.specs.declared.function.Lowered.{Lowered}
-use Rattle.program_lowering.specs.Code.{BodyCode, Completes, IsFunction, FunctionCode}
+use Rattle.program_lowering.specs.Code.{BodyCode, Completes, FunctionCode}
 
 none_has : {A : Type 0} (xs : List A) (n : ℕ) (x : A) → xs ≡ [] → HasAt xs n x → ⊥
 none_has [] n x e h = cc

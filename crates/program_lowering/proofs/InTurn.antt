@@ -1,15 +1,13 @@
 -- Functions in turn, and the program of them.
-use Rattle.std.proofs.Common.{◌≡◌, ℕ, zero, suc, ◌+◌, ◌≤◌, ◌<◌, List, [], ◌∷◌, ◌++◌, length, map, drop, Some, None}
+use Rattle.std.proofs.Common.{◌≡◌, ℕ, zero, suc, ◌+◌, ◌≤◌, ◌<◌, List, [], ◌∷◌, ◌++◌, length, map, drop}
 use Rattle.std.proofs.Common.{refl, sym, ap}
 use Rattle.std.proofs.Common.{◌∙◌, subst, arith, append_assoc}
 use Rattle.std.specs.Prelude.{get_or, slice_get, max}
-use Rattle.sb_base.specs.Budgets.{BudgetSizes}
 use Rattle.c_tree.specs.declared.expression.Kind.{Kind}
 use Rattle.c_tree.specs.declared.expression.Kind.TheVariants.{Void}
 use Rattle.c_tree.specs.declared.program.Function.{Function as CodeOfFunction}
-use Rattle.c_tree.specs.Blocks.{each_contents}
 use Rattle.c_tree.specs.Programs.{Function, FunctionType, StaticObject, Program}
-use Rattle.c_tree.specs.Room.{function_height, greatest_height}
+use Rattle.c_tree.specs.Room.{function_height}
 use Rattle.c_tree.specs.View.{function_of}
 use Rattle.source_meaning.specs.Calls.{header_of, function_at}
 use Rattle.source_meaning.specs.Meaning.{statics_end}
@@ -146,7 +144,8 @@ nodes_counted ts results [] (c ∷ cs) h = absurd h
 nodes_counted ts results (f ∷ fs) [] h = absurd h
 nodes_counted ts results (f ∷ fs) (c ∷ cs) h = omega (arith, h.0.count, nodes_counted ts results fs cs h.1)
 
-pub program_from : {statics : List StaticData} {results : List Kind} {l : Lowering} {main bytes : ℕ} {t : Tac} (p : Program)
+pub program_from : {statics : List StaticData} {results : List Kind} {l : Lowering} {main bytes : ℕ} {t : Tac}
+    (p : Program)
     → Assembles main bytes statics results l t → main ≡ p.main → bytes ≡ statics_end p.statics 0 → AreInitial p statics
     → results ≡ results_of p.function_types → AreFunctions l.texts.items results p.functions l.functions.items
     → IsLowered p t
@@ -157,7 +156,8 @@ program_from {l = l} {t = t} p a em eb s er h =
     lowered_from p t (subst (AreInitial p) (sym a.statics_are) s) whole (a.results_are ∙ er) (a.main_is ∙ em)
     (a.bytes_are ∙ eb)
 
-pub nodes_from : {statics : List StaticData} {results : List Kind} {l : Lowering} {main bytes : ℕ} {t : Tac} (p : Program)
+pub nodes_from : {statics : List StaticData} {results : List Kind} {l : Lowering} {main bytes : ℕ} {t : Tac}
+    (p : Program)
     → Assembles main bytes statics results l t → AreFunctions l.texts.items results p.functions l.functions.items
     → code_nodes t.functions ≤ program_nodes p.functions
 nodes_from {results = results} {l = l} p a h =

@@ -1,8 +1,8 @@
 -- Functions of a valid program are ready for lowering.
-use Rattle.std.proofs.Common.{◌≡◌, ℕ, zero, suc, ◌+◌, ◌*◌, ◌≤◌, ◌<◌, Bool, true, false, List, [], ◌∷◌, ◌++◌, length}
-use Rattle.std.proofs.Common.{map, Some, None, refl}
+use Rattle.std.proofs.Common.{◌≡◌, ℕ, zero, suc, ◌+◌, ◌≤◌, ◌<◌, Bool, true, false, List, [], ◌∷◌, ◌++◌, length}
+use Rattle.std.proofs.Common.{map, refl}
 use Rattle.std.proofs.Common.{sym, ap, ◌∙◌, subst, arith}
-use Rattle.std.specs.Prelude.{not, ◌&&◌, ◌||◌, ◌==◌, nat_le, max, get_or}
+use Rattle.std.specs.Prelude.{not, ◌||◌, ◌==◌, nat_le, get_or}
 use Rattle.std.specs.List.{list_all, list_any}
 use Rattle.std.proofs.lemmas.Bool.{and_parts, and_from, eqb-true}
 use Rattle.std.proofs.lemmas.Bool.Decides.{nat_tests}
@@ -11,15 +11,16 @@ use Rattle.c_tree.specs.declared.statement.CaseLabel.TheVariants.{Case, Default}
 use Rattle.c_tree.specs.declared.expression.Kind.{Kind}
 use Rattle.c_tree.specs.declared.program.Function.{Function as CodeFunction}
 use Rattle.c_tree.specs.View.{function_of}
-use Rattle.c_tree.specs.Blocks.{all_of, block_variables, switch_variables, first_variables, each_contents}
+use Rattle.c_tree.specs.Blocks.{block_variables, switch_variables, first_variables}
 use Rattle.c_tree.specs.Programs.{Function, StaticObject, Program}
-use Rattle.c_tree.specs.Room.{room, function_height, greatest_height}
+use Rattle.c_tree.specs.Room.{room, function_height}
 use Rattle.c_tree.specs.Statements.{Statement, expression_statement, empty, declaration, block, if_then, if_else}
 use Rattle.c_tree.specs.Statements.{while_do, do_while, for, switch, break, continue, return, Statements, no_statements}
 use Rattle.c_tree.specs.Statements.{statements, SwitchItems, no_items, items}
-use Rattle.c_tree.specs.Valid.{Scope, within, has_number}
+use Rattle.c_tree.specs.Valid.{Scope, within}
 use Rattle.c_tree.specs.ValidProgram.{Inside, in_loop, in_switch, is_statement, are_statements, are_items, is_function}
-use Rattle.c_tree.specs.ValidProgram.{function_scope, signature_at, are_functions, is_valid_program, are_different, labels_of, same_label}
+use Rattle.c_tree.specs.ValidProgram.{function_scope, signature_at, are_functions, is_valid_program, are_different}
+use Rattle.c_tree.specs.ValidProgram.{labels_of, same_label}
 use Rattle.c_lower.specs.Statements.{any_default, has_default}
 use Rattle.statement_lowering.specs.Sizes.{each_height}
 use Rattle.statement_lowering.specs.Switches.{has_one_default, are_decided, each_decided, items_decided}

@@ -47,7 +47,8 @@ pub record Holding (a b : Lowering) (results : List Kind) (f : Function) : Type 
   pub is : (ts : List (List ℕ)) → Stays b.texts.items ts → IsFunction ts (get_or results f.type_number Void) f code
 
 -- a program has these parts
-pub record Assembles (main bytes : ℕ) (statics : List StaticData) (results : List Kind) (l : Lowering) (t : Tac) : Type 0
+pub record Assembles (main bytes : ℕ) (statics : List StaticData) (results : List Kind) (l : Lowering)
+    (t : Tac) : Type 0
   where
     pub main_is : t.main ≡ main
     pub bytes_are : t.global_bytes ≡ bytes

@@ -1,4 +1,4 @@
-use Rattle.std.proofs.Common.{true, ◌≡◌, map, refl, ap, ◌∙◌, subst}
+use Rattle.std.proofs.Common.{map, refl, ap, ◌∙◌, subst}
 use Rattle.std.specs.List.{list_all}
 use Rattle.c_tree.specs.View.{program_of, function_of, function_type_of, static_of}
 use Rattle.source_meaning.specs.Meaning.{statics_end}

@@ -1,5 +1,5 @@
 use Rattle.std.proofs.Common.{arith}
-use Rattle.program_lowering.proofs.InTurn.{done_none, done_more, done_all}
+use Rattle.program_lowering.proofs.InTurn.{done_more, done_all}
 use Rattle.program_lowering.proofs.Ready.{ready_at}
 use Rattle.program_lowering.proofs.program.lower_functions.Goals as goal
 
@@ -15,4 +15,5 @@ with_function-requires c =
 
 pub returns : goal.returns
 returns c =
-    done_all c.args.functions.now c.loop-i.i (omega (arith, c.loop-i.auto.i-end, c.loop-i-test.false)) c.loop-i.invariant
+    done_all c.args.functions.now c.loop-i.i (omega (arith, c.loop-i.auto.i-end, c.loop-i-test.false))
+    c.loop-i.invariant

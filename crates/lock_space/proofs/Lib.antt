@@ -1,0 +1,6 @@
+pub mod Few
+pub mod Spaces
+pub mod Lists
+pub mod Local
+pub mod NewKeys
+pub mod FreedLocks

@@ -1,12 +1,11 @@
 -- How the lock space lies, and that the runtime may use its spaces.
-use Rattle.std.proofs.Common.{◌≡◌, ◌≢◌, ℕ, ◌+◌, ◌*◌, ◌%◌, ◌^◌, ◌<◌, ◌≤◌, Bool, true, false, ◌&&◌, ◌||◌, refl, ap, ◌∙◌}
+use Rattle.std.proofs.Common.{◌≡◌, ◌≢◌, ℕ, ◌+◌, ◌*◌, ◌%◌, ◌^◌, ◌<◌, ◌≤◌, true, ap, ◌∙◌}
 use Rattle.std.proofs.Common.{arith}
-use Rattle.std.specs.Prelude.{nat_le}
-use Rattle.std.proofs.lemmas.Bool.{le-leb}
 use Rattle.addr_map.specs.declared.region.Region.TheVariants.{Locks, FreeLocks, Blocks, Cells}
 use Rattle.addr_map.specs.Places.{MapSizes, AreMapped, spaces_begin, region_size, region_start, region_end}
-use Rattle.flat_meaning.specs.Spaces.{is_of_objects, is_allowed}
+use Rattle.flat_meaning.specs.Spaces.{is_allowed}
 use Rattle.flat_objects.specs.StandsFor.{IsLock, global_lock}
+use Rattle.space_routines.proofs.Quiet.{space_allowed}
 use Rattle.lock_space.specs.Locks.{lock_total}
 
 -- the lock words, then the cells and the list, then the table of blocks
@@ -29,19 +28,7 @@ locks_laid_out s h = record {
   small = omega (arith, h.globals, h.budgets.stack.greatest, h.budgets.heap.greatest, h.budgets.blocks);
 }
 
--- an access of the runtime's spaces is allowed
-pub space_allowed : (s : MapSizes) (a n : ℕ) → spaces_begin ≤ a → a + n ≤ region_end s Cells
-    → is_allowed s a n ≡ true
-space_allowed s a n lo hi =
-    ap (λ b. is_of_objects s a n || (b && nat_le (a + n) (region_end s Cells))) (le-leb spaces_begin a lo)
-    ∙ ap (λ b. is_of_objects s a n || b) (le-leb (a + n) (region_end s Cells) hi)
-    ∙ or_true (is_of_objects s a n)
-  where
-    or_true : (b : Bool) → b || true ≡ true
-    or_true true = refl
-    or_true false = refl
-
--- the same at a place that is known by an equation
+-- an access of the runtime's spaces is allowed, at a place that is known by an equation
 pub allowed_at : (s : MapSizes) (a b n : ℕ) → a ≡ b → spaces_begin ≤ b → b + n ≤ region_end s Cells
     → is_allowed s a n ≡ true
 allowed_at s a b n e lo hi = ap (λ x. is_allowed s x n) e ∙ space_allowed s b n lo hi

@@ -1,5 +1,6 @@
 -- Code in the spaces of the runtime may be done, and shows nothing.
-use Rattle.std.proofs.Common.{◌≡◌, ℕ, ◌+◌, ◌≤◌, List, [], ◌∷◌, Bool, true, false, ◌&&◌, ◌||◌, refl, ap, ◌∙◌, arith}
+use Rattle.std.proofs.Common.{◌≡◌, ℕ, ◌+◌, ◌≤◌, List, [], ◌∷◌, Bool, true, false, ◌&&◌, ◌||◌, length, refl, ap, ◌∙◌}
+use Rattle.std.proofs.Common.{subst, arith}
 use Rattle.std.specs.Prelude.{nat_le}
 use Rattle.std.proofs.lemmas.Bool.{le-leb}
 use Rattle.addr_map.specs.declared.region.Region.TheVariants.{Cells}
@@ -13,9 +14,13 @@ use Rattle.flat_meaning.specs.declared.instruction.FlatInstruction.TheVariants.{
 use Rattle.flat_meaning.specs.declared.instruction.FlatInstruction.TheVariants.{Return, Get, Put, Exit, End, Charged}
 use Rattle.flat_meaning.specs.Spaces.{is_of_objects, is_allowed}
 use Rattle.flat_meaning.specs.State.{State}
-use Rattle.flat_meaning.specs.Meaning.{Context, address_in}
+use Rattle.flat_meaning.specs.Words.{IsOfWords}
+use Rattle.flat_meaning.specs.Meaning.{Context, Goes, address_in}
+use Rattle.flat_meaning.proofs.Words.{LocalFits}
 use Rattle.flat_routines.specs.Effects.{worked, effect, effects, IsAllowed, AreAllowed}
 use Rattle.flat_routines.specs.Metadata.{ShowsNothing}
+use Rattle.flat_routines.proofs.Steps.{has_self, run_fits}
+use Rattle.flat_routines.proofs.Straight.{run_straight}
 use Rattle.flat_routines.proofs.Regions.{IsLaidOut, shadow_not_shown}
 use Rattle.space_routines.specs.Quiet.{IsInSpaces, IsQuiet, AreQuiet}
 
@@ -130,3 +135,13 @@ quiet_shows c (i ∷ is) s ok q =
 pub in_spaces : (c : Context) (a b n : ℕ) → a ≡ b → spaces_begin ≤ b → b + n ≤ region_end c.sizes Cells
     → IsInSpaces c a n
 in_spaces c a b n e lo hi = record { begins = omega arith; ends = omega arith }
+
+-- and leaves words
+pub quiet_words : (c : Context) (is : List FlatInstruction) (s : State) → AreQuiet c is s → IsOfWords s
+    → IsOfWords (effects c is s)
+quiet_words c is s q w =
+    subst LocalFits (run_straight c is is 0 s (quiet_allowed c is s q) (has_self is))
+    (run_fits c is (length is) (Goes 0 s) w)
+
+pub worked_words : (s : State) → IsOfWords s → IsOfWords (worked s)
+worked_words s w = record { values = w.values; memory = w.memory }

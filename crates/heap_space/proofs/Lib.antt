@@ -6,3 +6,6 @@ pub mod Inserting
 pub mod Placing
 pub mod Places
 pub mod Removing
+pub mod Counting
+pub mod Local
+pub mod Objects

@@ -57,13 +57,25 @@ module _ (c : Context) (lie : IsTableLaidOut c.sizes) (v : State) (size key plac
       let cursor = carries.cursor in
       let p = row_cell c.sizes i in
       let at : (offset : ℕ) → offset ≤ 24 → (v.values 6 + offset) % 2 ^ 64 ≡ p + offset = λ offset l. omega arith in
-      let cell : (region_start c.sizes Blocks % 2 ^ 64 + 0) % 2 ^ 64 ≡ total_cell c.sizes = omega arith in
-      (in_spaces c _ (p + 0) 8 (at 0 (omega arith)) (omega arith) (omega arith),
-      (in_spaces c _ (p + 8) 8 (at 8 (omega arith)) (omega arith) (omega arith),
-      (in_spaces c _ (p + 16) 8 (at 16 (omega arith)) (omega arith) (omega arith),
-      (in_spaces c _ (p + 24) 8 (at 24 (omega arith)) (omega arith) (omega arith),
-      (tt, (in_spaces c _ (total_cell c.sizes) 8 cell (omega arith) (omega arith),
-      (tt, (in_spaces c _ (total_cell c.sizes) 8 cell (omega arith) (omega arith), (tt, tt)))))))))
+      let cell : (region_start c.sizes Blocks % 2 ^ 64 + 0) % 2 ^ 64 ≡ total_cell c.sizes = omega arith in (
+        in_spaces c _ (p + 0) 8 (at 0 (omega arith)) (omega arith) (omega arith),
+        (
+          in_spaces c _ (p + 8) 8 (at 8 (omega arith)) (omega arith) (omega arith),
+          (
+            in_spaces c _ (p + 16) 8 (at 16 (omega arith)) (omega arith) (omega arith),
+            (
+              in_spaces c _ (p + 24) 8 (at 24 (omega arith)) (omega arith) (omega arith),
+              (
+                tt,
+                (
+                  in_spaces c _ (total_cell c.sizes) 8 cell (omega arith) (omega arith),
+                  (tt, (in_spaces c _ (total_cell c.sizes) 8 cell (omega arith) (omega arith), (tt, tt))),
+                ),
+              ),
+            ),
+          ),
+        ),
+      )
 
   pub tail_does : ((effects c (tail c.sizes) v).values 2 ≡ place)
       × ((effects c (tail c.sizes) v).memory
@@ -91,8 +103,7 @@ module _ (c : Context) (lie : IsTableLaidOut c.sizes) (v : State) (size key plac
       (inl (omega arith)))
       ∙ counted in
       let more : (load 8 raw ((region_start c.sizes Blocks % 2 ^ 64 + 0) % 2 ^ 64) + 1) % 2 ^ 64 ≡ suc total =
-      omega arith in
-      (
+      omega arith in (
         carries.place_is,
         same_store raw (store_four v.memory p x) _ _ _ _ first cell more,
       )
@@ -240,10 +251,12 @@ module _ (c : Context) (ok : IsLaidOut c.sizes) (lie : IsTableLaidOut c.sizes) (
       (has_front (alone c.sizes) 25 gap_head (test_end c.sizes) (has_25 c.sizes))
       (λ s1. quiet_branch c ok (alone c.sizes) v (11 * total + 10) 27 t Bltu 3 (Register 9) (length (insert c.sizes)) 48
       J (has_27 c.sizes).0 s1
-      (λ e s2. quiet_arrived c ok (alone c.sizes) v (11 * total + 10) 48 48 (worked t) J refl
-      (s2, nothing_placed c.sizes m (v.values 0) (v.values 1) (s.values 2) s.memory g
-      (too_high (region_start c.sizes Heap) (region_end c.sizes Heap) c.sizes.budgets.blocks (v.values 0)
-      (block_rows c.sizes m) (let l = if_less _ _ e in omega arith)) null q.same))
+      (λ e s2. quiet_arrived c ok (alone c.sizes) v (11 * total + 10) 48 48 (worked t) J refl (
+        s2,
+        nothing_placed c.sizes m (v.values 0) (v.values 1) (s.values 2) s.memory g
+            (too_high (region_start c.sizes Heap) (region_end c.sizes Heap) c.sizes.budgets.blocks (v.values 0)
+            (block_rows c.sizes m) (let l = if_less _ _ e in omega arith)) null q.same,
+      ))
       (λ e s2. inserts (worked t) (worked_words t (quiet_words c gap_head s (tt, (tt, tt)) ws)) s2
       (record {
         holds = record {
@@ -330,20 +343,24 @@ module _ (c : Context) (ok : IsLaidOut c.sizes) (lie : IsTableLaidOut c.sizes) (
       (quiet_line c ok (alone c.sizes) v (place_head c.sizes) (suc (7 + suc (5 + rest))) 0 v 48 J (shows_itself v) quiet
       (has_0 c.sizes)
       (λ s1. quiet_branch c ok (alone c.sizes) v (7 + suc (5 + rest)) 2 t Bltu 3 (Register 0) 45 48 J (has_2 c.sizes).0 s1
-      (λ e s2. quiet_arrived c ok (alone c.sizes) v (7 + suc (5 + rest)) 48 48 (worked t) J refl
-      (s2, nothing_placed c.sizes m (v.values 0) (v.values 1) 0 m g
-      (too_high (region_start c.sizes Heap) (region_end c.sizes Heap) c.sizes.budgets.blocks (v.values 0)
-      (block_rows c.sizes m) (let l = if_less _ _ e in omega arith)) refl refl))
+      (λ e s2. quiet_arrived c ok (alone c.sizes) v (7 + suc (5 + rest)) 48 48 (worked t) J refl (
+        s2,
+        nothing_placed c.sizes m (v.values 0) (v.values 1) 0 m g
+            (too_high (region_start c.sizes Heap) (region_end c.sizes Heap) c.sizes.budgets.blocks (v.values 0)
+            (block_rows c.sizes m) (let l = if_less _ _ e in omega arith)) refl refl,
+      ))
       (λ e s2.
       let small : v.values 0 ≤ region_last c.sizes Heap = (let l = if_not_less _ _ e in omega arith) in
       quiet_line c ok (alone c.sizes) v (count_head c.sizes) (suc (5 + rest)) 3 (worked t) 48 J s2 quiet' (has_3 c.sizes)
       (λ s3. quiet_branch c ok (alone c.sizes) v (5 + rest) 10 u Bgeu 7 (Number c.sizes.budgets.blocks) 37 48 J
       (has_10 c.sizes).0 s3
-      (λ e' s4. quiet_arrived c ok (alone c.sizes) v (5 + rest) 48 48 (worked u) J refl
-      (s4, nothing_placed c.sizes m (v.values 0) (v.values 1) 0 m g
-      (too_many (region_start c.sizes Heap) (region_end c.sizes Heap) c.sizes.budgets.blocks (v.values 0)
-      (block_rows c.sizes m)
-      (let l = if_not_below _ _ e' in let n = rows_length m (row_cell c.sizes 0) total in omega arith)) refl refl))
+      (λ e' s4. quiet_arrived c ok (alone c.sizes) v (5 + rest) 48 48 (worked u) J refl (
+        s4,
+        nothing_placed c.sizes m (v.values 0) (v.values 1) 0 m g
+            (too_many (region_start c.sizes Heap) (region_end c.sizes Heap) c.sizes.budgets.blocks (v.values 0)
+            (block_rows c.sizes m)
+            (let l = if_not_below _ _ e' in let n = rows_length m (row_cell c.sizes 0) total in omega arith)) refl refl,
+      ))
       (λ e' s4. seeks_gap (worked u) (worked_words u (quiet_words c (count_head c.sizes) (worked t) quiet' wt)) s4 refl
       refl refl last_is (room_rounded (v.values 0) (omega arith)) at got refl
       (let l = if_below _ _ e' in omega arith) small)))))
@@ -397,8 +414,28 @@ place_does map a k o t mapped apart below results count runtime charge =
   where
     own_from : (t : ℕ)
         → AreFrom t (t ∷ (t + 1) ∷ (t + 2) ∷ (t + 3) ∷ (t + 4) ∷ (t + 5) ∷ (t + 6) ∷ (t + 7) ∷ [])
-    own_from t = (omega arith, (omega arith, (omega arith, (omega arith, (omega arith, (omega arith, (omega arith,
-        (omega arith, tt))))))))
+    own_from t = (
+      omega arith,
+      (
+        omega arith,
+        (
+          omega arith,
+          (
+            omega arith,
+            (
+              omega arith,
+              (
+                omega arith,
+                (
+                  omega arith,
+                  (omega arith, tt),
+                ),
+              ),
+            ),
+          ),
+        ),
+      ),
+    )
 
     own_distinct : (t : ℕ)
         → AreDistinct (t ∷ (t + 1) ∷ (t + 2) ∷ (t + 3) ∷ (t + 4) ∷ (t + 5) ∷ (t + 6) ∷ (t + 7) ∷ [])

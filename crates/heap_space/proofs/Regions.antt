@@ -16,6 +16,7 @@ pub record IsTableLaidOut (s : MapSizes) : Type 0 where
   pub heap_aligned : region_start s Heap % 16 ≡ 0
   pub heap_some : region_start s Heap + 4096 ≤ region_end s Heap
   pub heap_small : region_end s Heap < 2 ^ 31
+  pub some_block : 1 ≤ s.budgets.blocks
   pub few : s.budgets.blocks ≤ 65536
 
 pub table_laid_out : (s : MapSizes) → AreMapped s → IsTableLaidOut s
@@ -36,6 +37,7 @@ table_laid_out s h = record {
   heap_aligned = omega (arith, h.budgets.stack.whole);
   heap_some = omega (arith, h.budgets.heap.least);
   heap_small = omega (arith, h.globals, h.budgets.stack.greatest, h.budgets.heap.greatest);
+  some_block = h.budgets.some_block;
   few = h.budgets.blocks;
 }
 

@@ -158,8 +158,7 @@ module _ (c : Context) (ok : IsLaidOut c.sizes) (lie : IsTableLaidOut c.sizes) (
       let p = row_cell c.sizes h.seen in
       let next : p + 32 ≡ row_cell c.sizes (suc h.seen) = omega arith in
       let from : row_cell c.sizes 0 + 32 * h.seen ≡ p = omega arith in
-      let other : load 8 m p ≢ a = λ e. ne (h.word ∙ e ∙ sym h.start_is) in
-      (
+      let other : load 8 m p ≢ a = λ e. ne (h.word ∙ e ∙ sym h.start_is) in (
         subst (λ x. HasStart a (rows_from m x k)) next (⊎_elim (λ e. absurd (other e)) (λ r. r) h.has),
         h.removed
             ∙ ap (λ xs. rows_from m (row_cell c.sizes 0) h.seen ++ xs)
@@ -188,18 +187,21 @@ module _ (c : Context) (ok : IsLaidOut c.sizes) (lie : IsTableLaidOut c.sizes) (
       let at : (v.values 1 + 32) % 2 ^ 64 ≡ p = omega arith in
       let at0 : ((v.values 1 + 32) % 2 ^ 64 + 0) % 2 ^ 64 ≡ p = omega arith in
       quiet_end c ok (alone c.sizes) start seek_body 8 v (λ values m'. (i : ℕ) × (i ≤ k) × Seeking c m a i values m')
-      shown (tt, (in_spaces c _ p 8 at0 (omega arith) (omega arith), tt)) has
-      (k, omega arith, record {
-        seen = suc h.seen;
-        count = omega arith;
-        start_is = h.start_is;
-        cursor = at;
-        last = h.last;
-        word = ap (λ z. load 8 z (((v.values 1 + 32) % 2 ^ 64 + 0) % 2 ^ 64)) h.same ∙ ap (load 8 m) at0;
-        same = h.same;
-        has = on.0;
-        removed = on.1;
-      })
+      shown (tt, (in_spaces c _ p 8 at0 (omega arith) (omega arith), tt)) has (
+        k,
+        omega arith,
+        record {
+          seen = suc h.seen;
+          count = omega arith;
+          start_is = h.start_is;
+          cursor = at;
+          last = h.last;
+          word = ap (λ z. load 8 z (((v.values 1 + 32) % 2 ^ 64 + 0) % 2 ^ 64)) h.same ∙ ap (load 8 m) at0;
+          same = h.same;
+          has = on.0;
+          removed = on.1;
+        },
+      )
 
   seek_each : (k : ℕ) (v : State) → ShowsNothing start v → Seeking c m a k v.values v.memory
       → HasAt (alone c.sizes) 8 seek_body → (has : HasAt (alone c.sizes) 7 seek_loop)
@@ -265,15 +267,28 @@ module _ (c : Context) (ok : IsLaidOut c.sizes) (lie : IsTableLaidOut c.sizes) (
       let f = lie.first in let e = lie.ends in let s = lie.small in let n = lie.inside in let l = lie.few in
       let cursor = h.cursor in let count = h.count in
       let p = row_cell c.sizes (i + h.done) in
-      let at : (offset : ℕ) → offset ≤ 56 → (v.values 1 + offset) % 2 ^ 64 ≡ p + offset = λ offset l. omega arith in
-      (in_spaces c _ (p + 32) 8 (at 32 (omega arith)) (omega arith) (omega arith),
-      (in_spaces c _ (p + 0) 8 (at 0 (omega arith)) (omega arith) (omega arith),
-      (in_spaces c _ (p + 40) 8 (at 40 (omega arith)) (omega arith) (omega arith),
-      (in_spaces c _ (p + 8) 8 (at 8 (omega arith)) (omega arith) (omega arith),
-      (in_spaces c _ (p + 48) 8 (at 48 (omega arith)) (omega arith) (omega arith),
-      (in_spaces c _ (p + 16) 8 (at 16 (omega arith)) (omega arith) (omega arith),
-      (in_spaces c _ (p + 56) 8 (at 56 (omega arith)) (omega arith) (omega arith),
-      (in_spaces c _ (p + 24) 8 (at 24 (omega arith)) (omega arith) (omega arith), (tt, tt)))))))))
+      let at : (offset : ℕ) → offset ≤ 56 → (v.values 1 + offset) % 2 ^ 64 ≡ p + offset = λ offset l. omega arith in (
+        in_spaces c _ (p + 32) 8 (at 32 (omega arith)) (omega arith) (omega arith),
+        (
+          in_spaces c _ (p + 0) 8 (at 0 (omega arith)) (omega arith) (omega arith),
+          (
+            in_spaces c _ (p + 40) 8 (at 40 (omega arith)) (omega arith) (omega arith),
+            (
+              in_spaces c _ (p + 8) 8 (at 8 (omega arith)) (omega arith) (omega arith),
+              (
+                in_spaces c _ (p + 48) 8 (at 48 (omega arith)) (omega arith) (omega arith),
+                (
+                  in_spaces c _ (p + 16) 8 (at 16 (omega arith)) (omega arith) (omega arith),
+                  (
+                    in_spaces c _ (p + 56) 8 (at 56 (omega arith)) (omega arith) (omega arith),
+                    (in_spaces c _ (p + 24) 8 (at 24 (omega arith)) (omega arith) (omega arith), (tt, tt)),
+                  ),
+                ),
+              ),
+            ),
+          ),
+        ),
+      )
 
   down_one : (k : ℕ) (v : State) → IsOfWords v → (h : Moving c m i left (suc k) v.values v.memory)
       → Moving c m i left k (effects c move_body v).values (effects c move_body v).memory
@@ -317,3 +332,270 @@ module _ (c : Context) (ok : IsLaidOut c.sizes) (lie : IsTableLaidOut c.sizes) (
             (λ values m'. (j : ℕ) × (j ≤ k) × Moving c m i left j values m') s1 (down_quiet k (worked v) h) has
             (k, omega arith, down_one k (worked v) (record { values = w.values; memory = w.memory }) h),
       )
+
+-- ---- the memory with one row less
+
+abbrev removed_memory : MapSizes → Bytes → (total : ℕ) → Bytes
+removed_memory s m1 total = store 8 m1 (total_cell s) total
+
+module _ (s : MapSizes) (lie : IsTableLaidOut s) (m m1 : Bytes) (g : IsTableGood s m) (a i left : ℕ)
+    (count : i + suc left ≡ block_total s m) (h : AreMovedDown s i left m m1)
+    (removed : without_row a (block_rows s m)
+    ≡ rows_from m (row_cell s 0) i ++ rows_from m (row_cell s (suc i)) left) where
+  abbrev rest : ℕ
+  rest = i + left
+
+  abbrev m' : Bytes
+  m' = removed_memory s m1 rest
+
+  cell_beside : (j : ℕ) → metadata_at m' (row_cell s j) ≡ metadata_at m1 (row_cell s j)
+  cell_beside j = metadata_kept m1 m' (row_cell s j)
+      (kept_beside (total_cell s) 8 (row_cell s j) 32 m1 m' (store_beside 8 m1 (total_cell s) rest)
+      (inr (omega arith)))
+
+  row_before : (j : ℕ) → j < i → metadata_at m' (row_cell s j) ≡ metadata_at m (row_cell s j)
+  row_before j l =
+      cell_beside j
+      ∙ metadata_kept m m1 (row_cell s j)
+      (kept_beside (row_cell s i) (32 * left) (row_cell s j) 32 m m1 h.keeps (inl (omega arith)))
+
+  row_moved : (j : ℕ) → i ≤ j → j < rest → metadata_at m' (row_cell s j) ≡ metadata_at m (row_cell s (suc j))
+  row_moved j l b = cell_beside j ∙ h.moved j l b
+
+  total_is : block_total s m' ≡ rest
+  total_is = let f = g.few in let few = lie.few in load_stored 8 m1 (total_cell s) rest (omega arith)
+
+  rows_are : block_rows s m' ≡ without_row a (block_rows s m)
+  rows_are =
+      let at : row_cell s 0 + 32 * i ≡ row_cell s i = omega arith in
+      ap (rows_from m' (row_cell s 0)) total_is
+      ∙ rows_append m' (row_cell s 0) i left
+      ∙ ap (λ x. rows_from m' (row_cell s 0) i ++ rows_from m' x left) at
+      ∙ ap (λ xs. xs ++ rows_from m' (row_cell s i) left)
+      (rows_same m m' (row_cell s 0) (row_cell s 0) i (λ j l.
+      let c : row_cell s 0 + 32 * j ≡ row_cell s j = omega arith in
+      subst (λ x. metadata_at m' x ≡ metadata_at m x) (sym c) (row_before j l)))
+      ∙ ap (λ xs. rows_from m (row_cell s 0) i ++ xs)
+      (rows_same m m' (row_cell s (suc i)) (row_cell s i) left (λ j l.
+      let c : row_cell s i + 32 * j ≡ row_cell s (i + j) = omega arith in
+      let d : row_cell s (suc i) + 32 * j ≡ row_cell s (suc (i + j)) = omega arith in
+      ap (metadata_at m') c ∙ row_moved (i + j) (omega arith) (omega arith) ∙ ap (metadata_at m) (sym d)))
+      ∙ sym removed
+
+  ends_are : (j : ℕ) → j < block_total s m' → load 8 m' (row_cell s j + 24) ≡ row_end (row_at m' (row_cell s j))
+  ends_are j l =
+      let n = total_is in
+      ⊎_elim
+      (λ before. end_same m m' (row_cell s j) (row_cell s j) (row_before j before) (g.ends j (omega arith)))
+      (λ from. end_same m m' (row_cell s (suc j)) (row_cell s j) (row_moved j from (omega arith))
+      (g.ends (suc j) (omega arith)))
+      (cases_lt j i)
+
+  good_removed : IsTableGood s m'
+  good_removed =
+      let n = total_is in let f = g.few in
+      record {
+        few = omega arith;
+        in_order = subst (AreInOrder (region_start s Heap) (region_end s Heap)) (sym rows_are)
+            (order_without (region_start s Heap) (region_end s Heap) a (block_rows s m) g.in_order);
+        ends = ends_are;
+      }
+
+  keeps_removed : KeepsButTable s m m'
+  keeps_removed =
+      let f = g.few in let e = lie.ends in
+      keeps_both (region_start s Blocks) (region_size s Blocks) m m1 m'
+      (keeps_within (row_cell s i) (32 * left) (region_start s Blocks) (region_size s Blocks) m m1 (omega arith)
+      (omega arith) h.keeps)
+      (keeps_within (total_cell s) 8 (region_start s Blocks) (region_size s Blocks) m1 m' (omega arith) (omega arith)
+      (store_beside 8 m1 (total_cell s) rest))
+
+-- ---- the routine
+
+record Result (s : MapSizes) (m : Bytes) (a : ℕ) (m' : Bytes) : Type 0 where
+  rows : block_rows s m' ≡ without_row a (block_rows s m)
+  good : IsTableGood s m'
+  keeps : KeepsButTable s m m'
+
+module _ (c : Context) (lie : IsTableLaidOut c.sizes) (v : State) (total : ℕ)
+    (counted : load 8 v.memory (total_cell c.sizes) ≡ suc total) (small : total < 2 ^ 32) where
+  tail_quiet : AreQuiet c (tail c.sizes) v
+  unfolding put reg_result
+  tail_quiet =
+      let f = lie.first in let e = lie.ends in let s = lie.small in let n = lie.inside in
+      let cell : (region_start c.sizes Blocks % 2 ^ 64 + 0) % 2 ^ 64 ≡ total_cell c.sizes = omega arith in (
+        tt,
+        (
+          in_spaces c _ (total_cell c.sizes) 8 cell (omega arith) (omega arith),
+          (tt, (in_spaces c _ (total_cell c.sizes) 8 cell (omega arith) (omega arith), tt)),
+        ),
+      )
+
+  tail_does : (effects c (tail c.sizes) v).memory ≡ removed_memory c.sizes v.memory total
+  unfolding put reg_result extended
+  tail_does =
+      let f = lie.first in let e = lie.ends in let s = lie.small in let n = lie.inside in
+      let cell : (region_start c.sizes Blocks % 2 ^ 64 + 0) % 2 ^ 64 ≡ total_cell c.sizes = omega arith in
+      let got : load 8 v.memory ((region_start c.sizes Blocks % 2 ^ 64 + 0) % 2 ^ 64) ≡ suc total =
+      ap (load 8 v.memory) cell ∙ counted in
+      let less : (load 8 v.memory ((region_start c.sizes Blocks % 2 ^ 64 + 0) % 2 ^ 64) + (2 ^ 64 - 1)) % 2 ^ 64
+      ≡ total = omega arith in
+      ap (λ x. store 8 v.memory x
+      ((load 8 v.memory ((region_start c.sizes Blocks % 2 ^ 64 + 0) % 2 ^ 64) + (2 ^ 64 - 1)) % 2 ^ 64)) cell
+      ∙ ap (store 8 v.memory (total_cell c.sizes)) less
+
+module _ (c : Context) (ok : IsLaidOut c.sizes) (lie : IsTableLaidOut c.sizes) (v : State) (w : IsOfWords v)
+    (g : IsTableGood c.sizes v.memory) (has : HasStart (v.values 0) (block_rows c.sizes v.memory)) where
+  abbrev total : ℕ
+  total = block_total c.sizes v.memory
+
+  abbrev J : Values → Bytes → Type 0
+  J values m' = Result c.sizes v.memory (v.values 0) m'
+
+  -- the rows behind the one that was found are moved, and one less is counted
+  removes : (s : State) → IsOfWords s → ShowsNothing v s → FoundRow c v.memory (v.values 0) s.values s.memory
+      → ReachesQuietly c (alone c.sizes) (11 * total + 5) 11 v s 26 J
+  removes s ws shown f =
+      let i = f.index in let k = f.left in let count = f.count in let few = g.few in let least = lie.few in
+      let last = f.last in
+      quiet_weaken c ok (alone c.sizes) v (k * (9 + 2) + 1 + 4) (11 * total + 5) 11 s 26 J J (omega arith) (λ x y z. z)
+      (quiet_next c ok (alone c.sizes) v (k * (9 + 2) + 1) 4 11 22 26 s (HasMoved c v.memory i k) J ws
+      (quiet_loop c ok (alone c.sizes) v 11 Beq 1 (Register 2) move_body 9 (Moving c v.memory i k)
+      (HasMoved c v.memory i k) (has_front (alone c.sizes) 11 move_loop (tail c.sizes) (has_11 c.sizes))
+      (λ j s' ws' sh h. down_each c ok lie v v.memory i k (omega arith) j s' ws' sh h
+      (has_front (alone c.sizes) 12 move_body (JumpBack 10 ∷ [])
+      (has_front (alone c.sizes) 11 move_loop (tail c.sizes) (has_11 c.sizes)).1)
+      (has_front (alone c.sizes) 11 move_loop (tail c.sizes) (has_11 c.sizes)))
+      k s ws shown
+      (record {
+        done = 0;
+        count = omega arith;
+        cursor = (let cu = f.cursor in omega arith);
+        last = omega arith;
+        so_far = record {
+          moved = λ j l b. absurd (omega arith);
+          keeps = λ b out. ap (λ z. z b) f.same;
+        };
+      }))
+      (λ s' ws' sh h.
+      let counted : load 8 s'.memory (total_cell c.sizes) ≡ suc (i + k) =
+      load_kept 8 v.memory s'.memory (total_cell c.sizes)
+      (kept_beside (row_cell c.sizes i) (32 * k) (total_cell c.sizes) 8 v.memory s'.memory h.keeps (inl (omega arith)))
+      ∙ sym count ∙ omega arith in
+      quiet_end c ok (alone c.sizes) v (tail c.sizes) 22 s' J sh
+      (tail_quiet c lie s' (i + k) counted (omega arith)) (has_22 c.sizes)
+      (subst (Result c.sizes v.memory (v.values 0)) (sym (tail_does c lie s' (i + k) counted (omega arith)))
+      (record {
+        rows = rows_are c.sizes lie v.memory s'.memory g (v.values 0) i k count h f.removed;
+        good = good_removed c.sizes lie v.memory s'.memory g (v.values 0) i k count h f.removed;
+        keeps = keeps_removed c.sizes lie v.memory s'.memory g (v.values 0) i k count h f.removed;
+      }))))
+
+  head_quiet : AreQuiet c (head c.sizes) v
+  unfolding put reg_result
+  head_quiet =
+      let f = lie.first in let e = lie.ends in let s = lie.small in let n = lie.inside in
+      let some = lie.some_block in
+      let at : (region_start c.sizes Blocks % 2 ^ 64 + 0) % 2 ^ 64 ≡ total_cell c.sizes = omega arith in
+      let first : ((region_start c.sizes Blocks % 2 ^ 64 + 8) % 2 ^ 64 + 0) % 2 ^ 64 ≡ row_cell c.sizes 0 = omega arith in (
+        tt,
+        (
+          in_spaces c _ (total_cell c.sizes) 8 at (omega arith) (omega arith),
+          (
+            tt,
+            (
+              tt,
+              (
+                tt,
+                (
+                  tt,
+                  (in_spaces c _ (row_cell c.sizes 0) 8 first (omega arith) (omega arith), tt),
+                ),
+              ),
+            ),
+          ),
+        ),
+      )
+
+  begins : Seeking c v.memory (v.values 0) total (effects c (head c.sizes) v).values
+      (effects c (head c.sizes) v).memory
+  unfolding put reg_result extended
+  begins =
+      let f = lie.first in let e = lie.ends in let s = lie.small in let n = lie.inside in
+      let few = g.few in let least = lie.few in
+      let some = some_left c ok lie v v.memory few (v.values 0) total (row_cell c.sizes 0) has in
+      let at : (region_start c.sizes Blocks % 2 ^ 64 + 0) % 2 ^ 64 ≡ total_cell c.sizes = omega arith in
+      let got : load 8 v.memory ((region_start c.sizes Blocks % 2 ^ 64 + 0) % 2 ^ 64) ≡ total = ap (load 8 v.memory) at in
+      let first : ((region_start c.sizes Blocks % 2 ^ 64 + 8) % 2 ^ 64 + 0) % 2 ^ 64 ≡ row_cell c.sizes 0 = omega arith in
+      record {
+        seen = 0;
+        count = omega arith;
+        start_is = refl;
+        cursor = omega arith;
+        last = omega arith;
+        word = ap (load 8 v.memory) first;
+        same = refl;
+        has = has;
+        removed = refl;
+      }
+
+  releases_alone : ReachesQuietly c (alone c.sizes) (16 + 16 * total) 0 v v 26 J
+  releases_alone =
+      let loop_has = has_front (alone c.sizes) 7 seek_loop (move_loop ++ tail c.sizes) (has_7 c.sizes) in
+      quiet_weaken c ok (alone c.sizes) v (7 + (total * (2 + 2) + 1 + (11 * total + 5))) (16 + 16 * total) 0 v 26 J J
+      (omega arith) (λ x y z. z)
+      (quiet_next c ok (alone c.sizes) v 7 (total * (2 + 2) + 1 + (11 * total + 5)) 0 7 26 v
+      (Seeking c v.memory (v.values 0) total) J w
+      (quiet_end c ok (alone c.sizes) v (head c.sizes) 0 v (Seeking c v.memory (v.values 0) total) (shows_itself v)
+      head_quiet (has_0 c.sizes) begins)
+      (λ s ws sh h. quiet_next c ok (alone c.sizes) v (total * (2 + 2) + 1) (11 * total + 5) 7 11 26 s
+      (FoundRow c v.memory (v.values 0)) J ws
+      (quiet_loop c ok (alone c.sizes) v 7 Beq 3 (Register 0) seek_body 2 (Seeking c v.memory (v.values 0))
+      (FoundRow c v.memory (v.values 0)) loop_has
+      (λ k s' ws' sh' h'. seek_each c ok lie v v.memory g.few (v.values 0) k s' sh' h'
+      (has_front (alone c.sizes) 8 seek_body (JumpBack 3 ∷ []) loop_has.1) loop_has)
+      total s ws sh h)
+      (λ s' ws' sh' f. removes s' ws' sh' f)))
+
+abbrev release_registers : (start scratch : ℕ) → ℕ → ℕ
+release_registers a t = register_of (a ∷ []) [] (t ∷ (t + 1) ∷ (t + 2) ∷ [])
+
+pub release_does : (map : MapSizes) (a t : ℕ) → AreMapped map → AreBelow t (a ∷ [])
+    → IsReleaseRoutine map a t (release_code map a t (t + 1) (t + 2))
+release_does map a t mapped below count runtime charge =
+    let c = context_of map runtime charge in
+    let ok = laid_out map mapped in
+    let lie = table_laid_out map mapped in
+    let r : AreRegisters (a ∷ []) [] (t ∷ (t + 1) ∷ (t + 2) ∷ []) t =
+    record {
+      none = (tt, tt);
+      distinct = tt;
+      ins_below = below;
+      res_below = tt;
+      from = (omega arith, (omega arith, (omega arith, tt)));
+      own_distinct = ((omega arith, (omega arith, tt)), ((omega arith, tt), (tt, tt)));
+    } in
+    let f = release_registers a t in
+    routine c 4 1 f (alone map)
+    (λ s. HasBlocks map count s.memory × HasStart (s.values a) (block_rows map s.memory))
+    (registers_rename (a ∷ []) [] (t ∷ (t + 1) ∷ (t + 2) ∷ []) t r) refl (λ s. 16 + 16 * count)
+    (λ s. Quietly (through f s) (λ values m'. Result map s.memory (s.values a) m')) (HasRemoved map a t)
+    (λ s w seen p. quiet_weaken c ok (alone map) (through f s) (16 + 16 * block_total map s.memory) (16 + 16 * count) 0
+    (through f s) 26 _ _ (let e = p.0.1 in omega arith) (λ x y z. z)
+    (releases_alone c ok lie (through f s) seen p.0.0 p.1))
+    (λ s s' v w p h agrees only.
+    let same : s'.memory ≡ v.memory = agrees_memory 4 f v s' agrees in
+    let rest = subst (Result map s.memory (s.values a)) (sym same) h.1 in
+    record {
+      rows = rest.rows;
+      good = rest.good;
+      memory = rest.keeps;
+      shows = agrees_shows 4 f v s s' agrees (let z = h.0 in record {
+        input = z.input;
+        output = z.output;
+        taken = z.taken;
+        accesses = z.accesses;
+        turns = z.turns;
+      });
+      others = others_stay (a ∷ []) [] (t ∷ (t + 1) ∷ (t + 2) ∷ []) t r s s' only;
+    })

@@ -5,6 +5,7 @@
 //! is the place by the objects (C99 7.20.3).
 #![tactic(auto)]
 
+pub mod laws;
 pub mod routines;
 
-pub use crate::routines::{find, place};
+pub use crate::routines::{find, place, release};

@@ -4,7 +4,8 @@
 ghost use Rattle.std.specs.Prelude.{◌≡◌, ℕ, ◌+◌, ◌≤◌, ◌^◌, IfOk, [], ◌∷◌};
 ghost use Rattle.addr_map.specs.Places.{AreMapped};
 ghost use Rattle.flat_routines.specs.Registers.{AreDistinct, AreBelow, AreNoneOf};
-ghost use Rattle.heap_space.specs.Routines.{IsFindRoutine, IsPlaceRoutine, find_code, place_code};
+ghost use Rattle.heap_space.specs.Routines.{IsFindRoutine, IsPlaceRoutine, IsReleaseRoutine};
+ghost use Rattle.heap_space.specs.Routines.{find_code, place_code, release_code};
 
 use addr_map::{AddrMap, Region};
 use flat_meaning::{FlatInstruction, RightOperand};
@@ -445,6 +446,184 @@ fn place_instructions(
         FlatInstruction::Move {
             into: into,
             from: place,
+        },
+    ];
+    Vec::from_slice(alloc, &code)
+}
+
+/// Removes the block whose start is in `start` from the table. One of the live blocks has it.
+pub fn release(
+    alloc: Global,
+    map: &AddrMap,
+    start: u32,
+    scratch: u32,
+) -> Result<Vec<FlatInstruction>, AllocError>
+    requires map { AreMapped map.now }
+    requires below { AreBelow scratch (start ∷ []) }
+    requires room { scratch ≤ 2 ^ 31 }
+    ensures { IfOk result (λ r. IsReleaseRoutine map.now start scratch r.items) }
+{
+    release_instructions(alloc, map, start, scratch)
+}
+
+fn release_instructions(
+    alloc: Global,
+    map: &AddrMap,
+    start: u32,
+    scratch: u32,
+) -> Result<Vec<FlatInstruction>, AllocError>
+    requires { scratch ≤ 2 ^ 31 }
+    ensures { IfOk result (λ r. r.items ≡ release_code map.now start scratch (scratch + 1) (scratch + 2)) }
+{
+    let (table, _) = map.region(Region::Blocks);
+    let cursor = scratch;
+    let last = scratch + 1;
+    let word = scratch + 2;
+    let code = [
+        FlatInstruction::Constant {
+            into: cursor,
+            value: table,
+        },
+        FlatInstruction::Load {
+            op: LoadOp::Ld,
+            into: last,
+            at: cursor,
+            offset: 0,
+        },
+        FlatInstruction::Operate {
+            op: RegOp::Sll,
+            into: last,
+            left: last,
+            right: RightOperand::Number(5),
+        },
+        FlatInstruction::Operate {
+            op: RegOp::Add,
+            into: cursor,
+            left: cursor,
+            right: RightOperand::Number(8),
+        },
+        FlatInstruction::Operate {
+            op: RegOp::Add,
+            into: last,
+            left: last,
+            right: RightOperand::Register(cursor),
+        },
+        FlatInstruction::Operate {
+            op: RegOp::Sub,
+            into: last,
+            left: last,
+            right: RightOperand::Number(32),
+        },
+        FlatInstruction::Load {
+            op: LoadOp::Ld,
+            into: word,
+            at: cursor,
+            offset: 0,
+        },
+        // the row
+        FlatInstruction::Branch {
+            op: BranchOp::Beq,
+            left: word,
+            right: RightOperand::Register(start),
+            past: 3,
+        },
+        FlatInstruction::Operate {
+            op: RegOp::Add,
+            into: cursor,
+            left: cursor,
+            right: RightOperand::Number(32),
+        },
+        FlatInstruction::Load {
+            op: LoadOp::Ld,
+            into: word,
+            at: cursor,
+            offset: 0,
+        },
+        FlatInstruction::JumpBack { back: 3 },
+        // the rows behind it are moved down
+        FlatInstruction::Branch {
+            op: BranchOp::Beq,
+            left: cursor,
+            right: RightOperand::Register(last),
+            past: 10,
+        },
+        FlatInstruction::Load {
+            op: LoadOp::Ld,
+            into: word,
+            at: cursor,
+            offset: 32,
+        },
+        FlatInstruction::Store {
+            op: StoreOp::Sd,
+            at: cursor,
+            offset: 0,
+            from: word,
+        },
+        FlatInstruction::Load {
+            op: LoadOp::Ld,
+            into: word,
+            at: cursor,
+            offset: 40,
+        },
+        FlatInstruction::Store {
+            op: StoreOp::Sd,
+            at: cursor,
+            offset: 8,
+            from: word,
+        },
+        FlatInstruction::Load {
+            op: LoadOp::Ld,
+            into: word,
+            at: cursor,
+            offset: 48,
+        },
+        FlatInstruction::Store {
+            op: StoreOp::Sd,
+            at: cursor,
+            offset: 16,
+            from: word,
+        },
+        FlatInstruction::Load {
+            op: LoadOp::Ld,
+            into: word,
+            at: cursor,
+            offset: 56,
+        },
+        FlatInstruction::Store {
+            op: StoreOp::Sd,
+            at: cursor,
+            offset: 24,
+            from: word,
+        },
+        FlatInstruction::Operate {
+            op: RegOp::Add,
+            into: cursor,
+            left: cursor,
+            right: RightOperand::Number(32),
+        },
+        FlatInstruction::JumpBack { back: 10 },
+        // one less is counted
+        FlatInstruction::Constant {
+            into: cursor,
+            value: table,
+        },
+        FlatInstruction::Load {
+            op: LoadOp::Ld,
+            into: last,
+            at: cursor,
+            offset: 0,
+        },
+        FlatInstruction::Operate {
+            op: RegOp::Sub,
+            into: last,
+            left: last,
+            right: RightOperand::Number(1),
+        },
+        FlatInstruction::Store {
+            op: StoreOp::Sd,
+            at: cursor,
+            offset: 0,
+            from: last,
         },
     ];
     Vec::from_slice(alloc, &code)

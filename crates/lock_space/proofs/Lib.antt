@@ -1,4 +1,3 @@
-pub mod Few
 pub mod Spaces
 pub mod Lists
 pub mod Local

@@ -9,7 +9,7 @@ use Rattle.flat_meaning.proofs.Stored.{put_same, put_other}
 use Rattle.flat_objects.specs.StandsFor.{IsLock, global_lock}
 use Rattle.lock_space.specs.Locks.{lock_total, used_locks, listed_cell, first_lock, listed_lock, IsFree, AreLocksGood}
 use Rattle.lock_space.specs.Routines.{OtherLocksStay, CanFresh, CanRelease}
-use Rattle.lock_space.proofs.Few.{AreFew, at_most}
+use Rattle.space_routines.proofs.Few.{AreFew, at_most}
 use Rattle.lock_space.proofs.Spaces.{AreLocksLaidOut, IsOwnLock, own_lock}
 
 -- the list has an entry as before

@@ -1,6 +1,6 @@
 -- Numbers below a bound that all differ are no more than the bound.
-use Rattle.std.proofs.Common.{◌≡◌, ◌≢◌, ℕ, zero, suc, ◌<◌, ◌≤◌, ⊎_elim, sym, ◌∙◌, subst, arith}
-use Rattle.std.proofs.lemmas.Bool.{cases_eq}
+use Rattle.std.proofs.Common.{◌≡◌, ◌≢◌, ℕ, zero, suc, ◌<◌, ◌≤◌, ◌⊎◌, inl, inr, ⊎_elim, sym, ◌∙◌, subst, arith}
+use Rattle.std.proofs.lemmas.Bool.{cases_eq, cases_lt}
 use Rattle.flat_meaning.specs.Memory.{put}
 use Rattle.flat_meaning.proofs.Stored.{put_same, put_other}
 
@@ -44,3 +44,25 @@ pub at_most : (n k : ℕ) (f : ℕ → ℕ) → AreFew n k f → n ≤ k
 at_most zero k f few = omega arith
 at_most (suc n) zero f few = absurd (let z = few.below n (omega arith) in omega arith)
 at_most (suc n) (suc k) f few = let l = at_most n k (moved n k f few) (fewer n k f few) in omega arith
+
+-- the same of a function that is there for the first numbers alone
+pub at_most_of : (n bound : ℕ) (f : (i : ℕ) → i < n → ℕ) → ((i : ℕ) (l : i < n) → f i l < bound)
+    → ((i j : ℕ) (l : i < n) (k : j < n) → f i l ≡ f j k → i ≡ j) → n ≤ bound
+at_most_of n bound f below once = at_most n bound (λ i. value i (cases_lt i n)) (record {
+  below = λ i l. below_by i l (cases_lt i n);
+  once = λ i j l k e. once_by i j l k (cases_lt i n) (cases_lt j n) e;
+})
+  where
+    value : (i : ℕ) → (i < n) ⊎ (n ≤ i) → ℕ
+    value i (inl l) = f i l
+    value i (inr g) = 0
+
+    below_by : (i : ℕ) → i < n → (c : (i < n) ⊎ (n ≤ i)) → value i c < bound
+    below_by i l (inl k) = below i k
+    below_by i l (inr g) = absurd (omega arith)
+
+    once_by : (i j : ℕ) → i < n → j < n → (c : (i < n) ⊎ (n ≤ i)) → (d : (j < n) ⊎ (n ≤ j)) → value i c ≡ value j d
+        → i ≡ j
+    once_by i j l k (inl a) (inl b) e = once i j a b e
+    once_by i j l k (inl a) (inr g) e = absurd (omega arith)
+    once_by i j l k (inr g) d e = absurd (omega arith)

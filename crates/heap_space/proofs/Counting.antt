@@ -1,11 +1,11 @@
 -- The rows of the live blocks are as many as the live blocks.
-use Rattle.std.proofs.Common.{◌≡◌, ◌≢◌, ℕ, zero, suc, ◌+◌, ◌*◌, ◌/◌, ◌<◌, ◌≤◌, ◌⊎◌, inl, inr, ⊎_elim, List, [], ◌∷◌, Bool}
+use Rattle.std.proofs.Common.{◌≡◌, ℕ, zero, suc, ◌+◌, ◌<◌, ◌≤◌, ⊎_elim, List, [], ◌∷◌, Bool}
 use Rattle.std.proofs.Common.{true, false, ◌&&◌, if◌then◌else◌, length, get_or, refl, sym, ap, ◌∙◌, subst, arith}
-use Rattle.std.proofs.lemmas.Bool.{cases_eq, cases_lt, cases_Bool}
+use Rattle.std.proofs.lemmas.Bool.{cases_eq, cases_lt}
 use Rattle.obj_memory.specs.declared.object.Storage.{Storage}
 use Rattle.obj_memory.specs.declared.object.Storage.TheVariants.{Static, Automatic, Allocated}
 use Rattle.obj_memory.specs.Objects.{ObjectState, Objects, object_at}
-use Rattle.obj_memory.specs.Heap.{is_allocated, is_live_block, block_count, block_room, object_room}
+use Rattle.obj_memory.specs.Heap.{is_allocated, is_live_block, block_count, object_room}
 use Rattle.obj_memory.specs.Sound.{AreDisjoint, AreBeside}
 use Rattle.flat_objects.specs.StandsFor.{BlockRow, Keys, no_row, IsRowOf, IsTable}
 use Rattle.space_routines.proofs.Few.{at_most_of}

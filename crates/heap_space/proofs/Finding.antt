@@ -1,17 +1,17 @@
 -- A block is found by its start and key.
-use Rattle.std.proofs.Common.{◌≡◌, ℕ, zero, suc, ◌+◌, ◌-◌, ◌*◌, ◌%◌, ◌^◌, ◌<◌, ◌≤◌, ◌⊎◌, inl, inr, ⊎_elim, List, [], ◌∷◌}
-use Rattle.std.proofs.Common.{◌++◌, Bool, true, false, ◌&&◌, Option, Some, None, if◌then◌else◌, refl, sym, ap, ◌∙◌}
+use Rattle.std.proofs.Common.{◌≡◌, ℕ, zero, suc, ◌+◌, ◌*◌, ◌%◌, ◌^◌, ◌≤◌, ◌⊎◌, inl, inr, List, [], ◌∷◌}
+use Rattle.std.proofs.Common.{Bool, true, false, ◌&&◌, Option, Some, if◌then◌else◌, refl, sym, ap, ◌∙◌}
 use Rattle.std.proofs.Common.{subst, arith}
 use Rattle.std.specs.Prelude.{◌==◌}
 use Rattle.addr_map.specs.declared.region.Region.TheVariants.{Blocks, Cells}
-use Rattle.addr_map.specs.Places.{MapSizes, AreMapped, spaces_begin, region_size, region_start, region_end}
+use Rattle.addr_map.specs.Places.{MapSizes, AreMapped, spaces_begin, region_start, region_end}
 use Rattle.rv_isa.specs.declared.instruction.BranchOp.TheVariants.{Bne, Bgeu}
 use Rattle.rv_isa.specs.declared.instruction.RegOp.TheVariants.{Add}
 use Rattle.rv_isa.specs.declared.instruction.LoadOp.TheVariants.{Ld}
 use Rattle.rv_isa.specs.Results.{reg_result, branch_taken, extended}
 use Rattle.flat_meaning.specs.declared.instruction.RightOperand.TheVariants.{Register, Number}
 use Rattle.flat_meaning.specs.declared.instruction.FlatInstruction.{FlatInstruction}
-use Rattle.flat_meaning.specs.declared.instruction.FlatInstruction.TheVariants.{Constant, Move, Operate, Load, Branch}
+use Rattle.flat_meaning.specs.declared.instruction.FlatInstruction.TheVariants.{Constant, Move, Operate, Load}
 use Rattle.flat_meaning.specs.declared.instruction.FlatInstruction.TheVariants.{JumpBack}
 use Rattle.flat_meaning.specs.Memory.{Bytes, put, load}
 use Rattle.flat_meaning.specs.State.{Values, State}
@@ -28,12 +28,12 @@ use Rattle.flat_routines.proofs.Regions.{IsLaidOut, laid_out}
 use Rattle.flat_routines.proofs.Wrapped.{routine}
 use Rattle.flat_objects.specs.StandsFor.{BlockRow}
 use Rattle.shadow_space.proofs.Entries.{context_of, agrees_shows, agrees_memory}
-use Rattle.space_routines.specs.Quiet.{IsInSpaces, AreQuiet}
+use Rattle.space_routines.specs.Quiet.{AreQuiet}
 use Rattle.space_routines.proofs.Quiet.{in_spaces, shows_itself}
-use Rattle.space_routines.proofs.Rules.{Quietly, ReachesQuietly, Remains, QuietTurn, quiet_line, quiet_end, quiet_next}
+use Rattle.space_routines.proofs.Rules.{Quietly, ReachesQuietly, QuietTurn, quiet_line, quiet_end, quiet_next}
 use Rattle.space_routines.proofs.Rules.{quiet_branch, quiet_loop, quiet_weaken}
 use Rattle.heap_space.specs.Rows.{size_of}
-use Rattle.heap_space.specs.Table.{total_cell, row_cell, block_total, row_at, rows_from, block_rows, IsTableGood}
+use Rattle.heap_space.specs.Table.{total_cell, row_cell, row_at, rows_from, block_rows}
 use Rattle.heap_space.specs.Routines.{IsFound, HasFound, HasBlocks, IsFindRoutine, begin_rows, look_at, find_code}
 use Rattle.heap_space.proofs.Regions.{IsTableLaidOut, table_laid_out, not_below, is_below, if_differ, if_same}
 

@@ -1,31 +1,30 @@
 -- A row is inserted: those behind it are moved up by one.
 use Rattle.std.proofs.Common.{◌≡◌, ◌≢◌, ℕ, zero, suc, ◌+◌, ◌-◌, ◌*◌, ◌%◌, ◌^◌, ◌<◌, ◌≤◌, ◌⊎◌, inl, inr, ⊎_elim, List, []}
-use Rattle.std.proofs.Common.{◌∷◌, ◌++◌, true, false, refl, sym, ap, ◌∙◌, subst, arith}
+use Rattle.std.proofs.Common.{◌∷◌, true, false, refl, sym, ap, ◌∙◌, subst, arith}
 use Rattle.std.proofs.lemmas.Bool.{cases_lt, eq-eqb, ne_eqb}
-use Rattle.addr_map.specs.declared.region.Region.TheVariants.{Heap, Blocks, Cells}
-use Rattle.addr_map.specs.Places.{MapSizes, spaces_begin, region_size, region_start, region_end}
+use Rattle.addr_map.specs.Places.{MapSizes}
 use Rattle.rv_isa.specs.declared.instruction.BranchOp.TheVariants.{Beq}
 use Rattle.rv_isa.specs.Results.{reg_result, extended, branch_taken}
-use Rattle.flat_meaning.specs.declared.instruction.RightOperand.TheVariants.{Register, Number}
+use Rattle.flat_meaning.specs.declared.instruction.RightOperand.TheVariants.{Register}
 use Rattle.flat_meaning.specs.declared.instruction.FlatInstruction.{FlatInstruction}
 use Rattle.flat_meaning.specs.declared.instruction.FlatInstruction.TheVariants.{JumpBack}
 use Rattle.flat_meaning.specs.Memory.{Bytes, AreBytes, put, load, store, KeepsBut}
 use Rattle.flat_meaning.specs.State.{Values, State}
 use Rattle.flat_meaning.specs.Words.{IsOfWords}
 use Rattle.flat_meaning.specs.Meaning.{Context}
-use Rattle.flat_meaning.proofs.Stored.{load_beside, load_stored, store_beside, kept_beside, keeps_within, keeps_both}
+use Rattle.flat_meaning.proofs.Stored.{load_beside, kept_beside, keeps_within, keeps_both}
 use Rattle.flat_meaning.proofs.Stored.{load_fits}
 use Rattle.flat_routines.specs.Routine.{HasAt, until_code}
-use Rattle.flat_routines.specs.Effects.{worked, effects, AreAllowed}
-use Rattle.flat_routines.specs.Metadata.{Metadata, metadata_at, ShowsNothing}
-use Rattle.flat_routines.proofs.Steps.{has_front, has_back}
+use Rattle.flat_routines.specs.Effects.{worked, effects}
+use Rattle.flat_routines.specs.Metadata.{metadata_at, ShowsNothing}
+use Rattle.flat_routines.proofs.Steps.{has_front}
 use Rattle.flat_routines.proofs.Regions.{IsLaidOut}
 use Rattle.flat_routines.proofs.Words.{store_four, IsOfFourWords, four_read, four_beside, metadata_kept}
 use Rattle.space_routines.specs.Quiet.{AreQuiet}
 use Rattle.space_routines.proofs.Quiet.{in_spaces}
 use Rattle.space_routines.proofs.Rules.{ReachesQuietly, QuietTurn, quiet_end, quiet_loop}
-use Rattle.heap_space.specs.Table.{total_cell, row_cell, block_total}
-use Rattle.heap_space.specs.Routines.{move_up, place_code}
+use Rattle.heap_space.specs.Table.{row_cell}
+use Rattle.heap_space.specs.Routines.{move_up}
 use Rattle.heap_space.proofs.Regions.{IsTableLaidOut}
 use Rattle.heap_space.proofs.Seeking.{alone}
 

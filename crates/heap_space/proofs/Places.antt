@@ -1,8 +1,8 @@
 -- The whole routine that places a block.
-use Rattle.std.proofs.Common.{◌≡◌, ◌≢◌, ℕ, zero, suc, ◌+◌, ◌-◌, ◌*◌, ◌/◌, ◌%◌, ◌^◌, ◌<◌, ◌≤◌, inl, List, [], ◌∷◌, ◌++◌}
-use Rattle.std.proofs.Common.{true, false, Option, Some, None, length, refl, sym, ap, ◌∙◌, subst, arith}
-use Rattle.addr_map.specs.declared.region.Region.TheVariants.{Heap, Blocks, Cells}
-use Rattle.addr_map.specs.Places.{MapSizes, AreMapped, spaces_begin, region_size, region_start, region_last, region_end}
+use Rattle.std.proofs.Common.{◌≡◌, ℕ, suc, ◌+◌, ◌-◌, ◌*◌, ◌%◌, ◌^◌, ◌<◌, ◌≤◌, inl, List, [], ◌∷◌, ◌++◌}
+use Rattle.std.proofs.Common.{length, refl, sym, ap, ◌∙◌, subst, arith}
+use Rattle.addr_map.specs.declared.region.Region.TheVariants.{Heap, Blocks}
+use Rattle.addr_map.specs.Places.{MapSizes, AreMapped, region_start, region_last, region_end}
 use Rattle.rv_isa.specs.declared.instruction.BranchOp.TheVariants.{Beq, Bltu, Bgeu}
 use Rattle.rv_isa.specs.declared.instruction.RegOp.TheVariants.{Add, Sub, Sll}
 use Rattle.rv_isa.specs.declared.instruction.LoadOp.TheVariants.{Ld}
@@ -15,11 +15,11 @@ use Rattle.flat_meaning.specs.Memory.{Bytes, put, load, store}
 use Rattle.flat_meaning.specs.State.{Values, State}
 use Rattle.flat_meaning.specs.Words.{IsOfWords}
 use Rattle.flat_meaning.specs.Meaning.{Context}
-use Rattle.flat_meaning.proofs.Stored.{load_beside, load_kept, kept_beside}
+use Rattle.flat_meaning.proofs.Stored.{load_kept, kept_beside}
 use Rattle.flat_routines.specs.Registers.{AreDistinct, AreBelow, AreNoneOf}
 use Rattle.flat_routines.specs.Routine.{HasAt, unless_code, until_code}
 use Rattle.flat_routines.specs.Effects.{worked, effects}
-use Rattle.flat_routines.specs.Metadata.{ShowsNothing, metadata_in, Metadata}
+use Rattle.flat_routines.specs.Metadata.{ShowsNothing, Metadata}
 use Rattle.flat_routines.specs.Renaming.{through}
 use Rattle.flat_routines.proofs.Steps.{has_front, has_back, has_self}
 use Rattle.flat_routines.proofs.Distinct.{AreFrom, AreRegisters, register_of, registers_rename, others_stay}
@@ -31,15 +31,15 @@ use Rattle.space_routines.specs.Quiet.{AreQuiet}
 use Rattle.space_routines.proofs.Quiet.{in_spaces, shows_itself, quiet_words, worked_words}
 use Rattle.space_routines.proofs.Rules.{Quietly, ReachesQuietly, quiet_line, quiet_end, quiet_next, quiet_branch}
 use Rattle.space_routines.proofs.Rules.{quiet_weaken, quiet_arrived}
-use Rattle.heap_space.specs.Rows.{row_end, AreInOrder, with_row, first_gap, row_place}
-use Rattle.heap_space.specs.Table.{total_cell, row_cell, block_total, row_at, rows_from, block_rows, IsTableGood}
-use Rattle.heap_space.specs.Routines.{IsPlacedIn, place_of, HasPlaced, HasBlocks, IsPlaceRoutine, round_size, seek_one}
-use Rattle.heap_space.specs.Routines.{move_up, write_row, insert_code, seek_code, count_code, place_code}
+use Rattle.heap_space.specs.Rows.{AreInOrder, first_gap}
+use Rattle.heap_space.specs.Table.{total_cell, row_cell, block_total, block_rows, IsTableGood}
+use Rattle.heap_space.specs.Routines.{HasPlaced, HasBlocks, IsPlaceRoutine, round_size}
+use Rattle.heap_space.specs.Routines.{write_row, insert_code, seek_code, count_code, place_code}
 use Rattle.heap_space.proofs.Regions.{IsTableLaidOut, table_laid_out, last_of_heap, if_less, if_not_less, if_below}
 use Rattle.heap_space.proofs.Regions.{if_not_below}
 use Rattle.heap_space.proofs.Lists.{gap_most, gap_in_heap, too_many, too_high, rows_length}
-use Rattle.heap_space.proofs.Seeking.{alone, seek_body, Holds, Seeking, Found, seeks}
-use Rattle.heap_space.proofs.Inserting.{move_body, AreMovedUp, Carries, HasMoved, moves}
+use Rattle.heap_space.proofs.Seeking.{alone, seek_body, Found, seeks}
+use Rattle.heap_space.proofs.Inserting.{move_body, Carries, HasMoved, moves}
 use Rattle.heap_space.proofs.Placing.{room_rounded, Result, nothing_placed, new_words, written, row_written}
 
 -- ---- the row is written and counted

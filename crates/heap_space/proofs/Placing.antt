@@ -1,34 +1,24 @@
 -- A block is placed.
-use Rattle.std.proofs.Common.{◌≡◌, ◌≢◌, ℕ, zero, suc, ◌+◌, ◌-◌, ◌*◌, ◌/◌, ◌%◌, ◌^◌, ◌<◌, ◌≤◌, ◌⊎◌, inl, inr, ⊎_elim, List}
-use Rattle.std.proofs.Common.{[], ◌∷◌, ◌++◌, true, false, Option, Some, None, if◌then◌else◌, length, refl, sym, ap, ◌∙◌}
+use Rattle.std.proofs.Common.{◌≡◌, ℕ, suc, ◌+◌, ◌-◌, ◌*◌, ◌/◌, ◌%◌, ◌^◌, ◌<◌, ◌≤◌, ◌⊎◌, inl, inr, ⊎_elim}
+use Rattle.std.proofs.Common.{◌∷◌, ◌++◌, None, if◌then◌else◌, refl, sym, ap, ◌∙◌}
 use Rattle.std.proofs.Common.{subst, arith}
 use Rattle.std.specs.Prelude.{nat_lt}
 use Rattle.std.proofs.lemmas.Bool.{cases_lt, cond-true, cond-false, lt-ltb, le-ltb}
-use Rattle.addr_map.specs.declared.region.Region.TheVariants.{Heap, Blocks, Cells}
-use Rattle.addr_map.specs.Places.{MapSizes, spaces_begin, region_size, region_start, region_last, region_end}
-use Rattle.rv_isa.specs.Results.{reg_result, extended}
+use Rattle.addr_map.specs.declared.region.Region.TheVariants.{Heap, Blocks}
+use Rattle.addr_map.specs.Places.{MapSizes, region_size, region_start, region_end}
 use Rattle.obj_memory.specs.Heap.{block_room}
-use Rattle.flat_meaning.specs.declared.instruction.FlatInstruction.{FlatInstruction}
-use Rattle.flat_meaning.specs.Memory.{Bytes, AreBytes, put, load, store, KeepsBut}
-use Rattle.flat_meaning.specs.State.{Values, State}
-use Rattle.flat_meaning.specs.Words.{IsOfWords}
-use Rattle.flat_meaning.specs.Meaning.{Context}
-use Rattle.flat_meaning.proofs.Stored.{load_beside, load_stored, store_beside, kept_beside, keeps_within, keeps_both}
-use Rattle.flat_meaning.proofs.Stored.{load_kept}
-use Rattle.flat_routines.specs.Effects.{effects}
+use Rattle.flat_meaning.specs.Memory.{Bytes, load, store}
+use Rattle.flat_meaning.proofs.Stored.{load_stored, store_beside, kept_beside, keeps_within, keeps_both}
 use Rattle.flat_routines.specs.Metadata.{Metadata, metadata_at}
-use Rattle.flat_routines.proofs.Words.{store_four, IsOfFourWords, four_read, four_beside, metadata_kept, stored_at}
+use Rattle.flat_routines.proofs.Words.{store_four, IsOfFourWords, four_read, four_beside, metadata_kept}
 use Rattle.flat_objects.specs.StandsFor.{BlockRow}
-use Rattle.space_routines.specs.Quiet.{AreQuiet}
-use Rattle.space_routines.proofs.Quiet.{in_spaces}
-use Rattle.heap_space.specs.Rows.{row_end, AreInOrder, with_row, first_gap, row_place}
+use Rattle.heap_space.specs.Rows.{row_end, AreInOrder, with_row, first_gap}
 use Rattle.heap_space.specs.Table.{total_cell, row_cell, block_total, row_at, rows_from, block_rows, IsTableGood}
 use Rattle.heap_space.specs.Table.{KeepsButTable}
-use Rattle.heap_space.specs.Routines.{IsPlacedIn, place_of, round_size, write_row}
-use Rattle.heap_space.proofs.Regions.{IsTableLaidOut, last_of_heap}
-use Rattle.heap_space.proofs.Lists.{order_with, has_place, rows_length, rows_same, rows_append, row_same, end_same}
-use Rattle.heap_space.proofs.Seeking.{Found}
-use Rattle.heap_space.proofs.Inserting.{AreMovedUp, Carries}
+use Rattle.heap_space.specs.Routines.{IsPlacedIn, place_of}
+use Rattle.heap_space.proofs.Regions.{IsTableLaidOut}
+use Rattle.heap_space.proofs.Lists.{order_with, has_place, rows_length, rows_same, rows_append, end_same}
+use Rattle.heap_space.proofs.Inserting.{AreMovedUp}
 
 -- ---- the room
 

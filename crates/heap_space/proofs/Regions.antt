@@ -1,10 +1,10 @@
 -- How the table of live blocks and the heap lie.
-use Rattle.std.proofs.Common.{◌≡◌, ℕ, ◌+◌, ◌*◌, ◌%◌, ◌^◌, ◌<◌, ◌≤◌, Bool, true, false, not, refl, sym, ap, ◌∙◌, subst, arith}
+use Rattle.std.proofs.Common.{◌≡◌, ℕ, ◌+◌, ◌*◌, ◌%◌, ◌^◌, ◌<◌, ◌≤◌, Bool, true, false, not, ap, arith}
 use Rattle.std.specs.Prelude.{◌==◌, nat_lt}
 use Rattle.std.proofs.lemmas.Bool.{lt-ltb, le-ltb, ltb-true, ltb-false}
 use Rattle.addr_map.specs.declared.region.Region.TheVariants.{Heap, Blocks, Cells}
 use Rattle.addr_map.specs.Places.{MapSizes, AreMapped, objects_begin, spaces_begin, region_size, region_start, region_last, region_end}
-use Rattle.rv_isa.specs.declared.instruction.BranchOp.TheVariants.{Beq, Bne, Bltu, Bgeu}
+use Rattle.rv_isa.specs.declared.instruction.BranchOp.TheVariants.{Bne, Bltu, Bgeu}
 use Rattle.rv_isa.specs.Results.{branch_taken}
 
 pub record IsTableLaidOut (s : MapSizes) : Type 0 where

@@ -1,10 +1,9 @@
 -- A row is removed: it is sought, and those behind it are moved down by one.
-use Rattle.std.proofs.Common.{◌≡◌, ◌≢◌, ℕ, zero, suc, ◌+◌, ◌-◌, ◌*◌, ◌%◌, ◌^◌, ◌<◌, ◌≤◌, ◌⊎◌, inl, inr, ⊎_elim, List, []}
-use Rattle.std.proofs.Common.{◌∷◌, ◌++◌, Bool, true, false, if◌then◌else◌, refl, sym, ap, ◌∙◌, subst, arith}
-use Rattle.std.specs.Prelude.{◌==◌}
+use Rattle.std.proofs.Common.{◌≡◌, ◌≢◌, ℕ, zero, suc, ◌+◌, ◌-◌, ◌*◌, ◌%◌, ◌^◌, ◌<◌, ◌≤◌, inl, inr, ⊎_elim, List, []}
+use Rattle.std.proofs.Common.{◌∷◌, ◌++◌, refl, sym, ap, ◌∙◌, subst, arith}
 use Rattle.std.proofs.lemmas.Bool.{cases_lt, cases_eq, eq-eqb, ne_eqb, cond-true, cond-false}
-use Rattle.addr_map.specs.declared.region.Region.TheVariants.{Heap, Blocks, Cells}
-use Rattle.addr_map.specs.Places.{MapSizes, AreMapped, spaces_begin, region_size, region_start, region_end}
+use Rattle.addr_map.specs.declared.region.Region.TheVariants.{Heap, Blocks}
+use Rattle.addr_map.specs.Places.{MapSizes, AreMapped, region_size, region_start, region_end}
 use Rattle.rv_isa.specs.declared.instruction.BranchOp.TheVariants.{Beq}
 use Rattle.rv_isa.specs.declared.instruction.RegOp.TheVariants.{Sub}
 use Rattle.rv_isa.specs.declared.instruction.LoadOp.TheVariants.{Ld}
@@ -22,7 +21,7 @@ use Rattle.flat_meaning.proofs.Stored.{load_stored, store_beside, load_kept, kep
 use Rattle.flat_routines.specs.Registers.{AreBelow}
 use Rattle.flat_routines.specs.Routine.{HasAt, until_code}
 use Rattle.flat_routines.specs.Effects.{worked, effects}
-use Rattle.flat_routines.specs.Metadata.{Metadata, metadata_at, ShowsNothing}
+use Rattle.flat_routines.specs.Metadata.{metadata_at, ShowsNothing}
 use Rattle.flat_routines.specs.Renaming.{through}
 use Rattle.flat_routines.proofs.Steps.{has_front, has_back, has_self}
 use Rattle.flat_routines.proofs.Distinct.{AreRegisters, register_of, registers_rename, others_stay}
@@ -41,7 +40,7 @@ use Rattle.heap_space.specs.Table.{KeepsButTable}
 use Rattle.heap_space.specs.Routines.{HasRemoved, HasBlocks, IsReleaseRoutine, begin_rows, seek_start, move_down}
 use Rattle.heap_space.specs.Routines.{release_code}
 use Rattle.heap_space.proofs.Regions.{IsTableLaidOut, table_laid_out}
-use Rattle.heap_space.proofs.Lists.{rows_same, rows_append, rows_onward, row_same, end_same}
+use Rattle.heap_space.proofs.Lists.{rows_same, rows_append, rows_onward, end_same}
 use Rattle.heap_space.proofs.Inserting.{same_four, words_at, equal_taken, differ_not_taken}
 
 -- ---- rows without one

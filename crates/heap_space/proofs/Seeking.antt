@@ -1,8 +1,8 @@
 -- The first gap is sought.
-use Rattle.std.proofs.Common.{◌≡◌, ℕ, zero, suc, ◌+◌, ◌-◌, ◌*◌, ◌%◌, ◌^◌, ◌<◌, ◌≤◌, ◌⊎◌, inl, inr, ⊎_elim, List, [], ◌∷◌}
-use Rattle.std.proofs.Common.{◌++◌, true, false, refl, sym, ap, ◌∙◌, subst, arith}
-use Rattle.addr_map.specs.declared.region.Region.TheVariants.{Heap, Blocks, Cells}
-use Rattle.addr_map.specs.Places.{MapSizes, spaces_begin, region_size, region_start, region_last, region_end}
+use Rattle.std.proofs.Common.{◌≡◌, ℕ, zero, suc, ◌+◌, ◌*◌, ◌%◌, ◌^◌, ◌<◌, ◌≤◌, ◌⊎◌, inl, inr, List, [], ◌∷◌}
+use Rattle.std.proofs.Common.{◌++◌, refl, sym, ap, ◌∙◌, subst, arith}
+use Rattle.addr_map.specs.declared.region.Region.TheVariants.{Heap}
+use Rattle.addr_map.specs.Places.{MapSizes, region_last, region_end}
 use Rattle.rv_isa.specs.declared.instruction.BranchOp.TheVariants.{Bgeu}
 use Rattle.rv_isa.specs.declared.instruction.RegOp.TheVariants.{Add}
 use Rattle.rv_isa.specs.declared.instruction.LoadOp.TheVariants.{Ld}

@@ -1,5 +1,5 @@
 -- The table of live blocks in memory.
-use Rattle.std.specs.Prelude.{◌≡◌, ℕ, zero, suc, ◌+◌, ◌-◌, ◌*◌, ◌<◌, ◌≤◌, List, [], ◌∷◌}
+use Rattle.std.specs.Prelude.{◌≡◌, ℕ, zero, suc, ◌+◌, ◌*◌, ◌<◌, ◌≤◌, List, [], ◌∷◌}
 use Rattle.addr_map.specs.declared.region.Region.TheVariants.{Heap, Blocks}
 use Rattle.addr_map.specs.Places.{MapSizes, region_size, region_start, region_end}
 use Rattle.flat_meaning.specs.Memory.{Bytes, load, KeepsBut, Keeps}

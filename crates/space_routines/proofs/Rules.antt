@@ -1,7 +1,7 @@
 -- How quiet code is put together. What is said on the way is said of values and of the memory, which no step of work
 -- changes, beside that nothing was shown since the start.
-use Rattle.std.proofs.Common.{◌≡◌, ℕ, zero, suc, ◌+◌, ◌-◌, ◌*◌, ◌≤◌, ◌⊎◌, inl, inr, ⊎_elim, List, [], ◌∷◌, ◌++◌, true}
-use Rattle.std.proofs.Common.{false, Some, length, refl, sym, ap, ◌∙◌, subst, arith}
+use Rattle.std.proofs.Common.{◌≡◌, ℕ, suc, ◌+◌, ◌*◌, ◌≤◌, ◌⊎◌, inl, inr, ⊎_elim, List, true}
+use Rattle.std.proofs.Common.{false, Some, length, refl, subst, arith}
 use Rattle.std.specs.Prelude.{slice_get}
 use Rattle.rv_isa.specs.declared.instruction.BranchOp.{BranchOp}
 use Rattle.flat_meaning.specs.declared.instruction.RightOperand.{RightOperand}
@@ -10,11 +10,11 @@ use Rattle.flat_meaning.specs.declared.instruction.FlatInstruction.TheVariants.{
 use Rattle.flat_meaning.specs.Memory.{Bytes}
 use Rattle.flat_meaning.specs.State.{Values, State}
 use Rattle.flat_meaning.specs.Words.{IsOfWords}
-use Rattle.flat_meaning.specs.Meaning.{Context, Local, Goes}
+use Rattle.flat_meaning.specs.Meaning.{Context, Goes}
 use Rattle.flat_routines.specs.Routine.{HasAt, Outcome, Continues, Halts, Reaches, Either, Never, until_code}
 use Rattle.flat_routines.specs.Effects.{worked, effects}
 use Rattle.flat_routines.specs.Metadata.{ShowsNothing}
-use Rattle.flat_routines.proofs.Rules.{taken, weaken, next, line_on, branch, jump_on, arrived, loop, Left}
+use Rattle.flat_routines.proofs.Rules.{taken, weaken, next, line_on, branch, jump_on, arrived, loop}
 use Rattle.flat_routines.proofs.Regions.{IsLaidOut}
 use Rattle.space_routines.specs.Quiet.{AreQuiet}
 use Rattle.space_routines.proofs.Quiet.{quiet_allowed, quiet_shows, shows_both, shows_worked}

@@ -1,24 +1,20 @@
 -- The judgement in flat code is that of the objects.
-use Rattle.std.proofs.Common.{◌≡◌, ◌≢◌, ℕ, zero, suc, ◌+◌, ◌-◌, ◌*◌, ◌%◌, ◌^◌, ◌<◌, ◌≤◌, ◌⊎◌, inl, inr, ⊎_elim, List, []}
-use Rattle.std.proofs.Common.{◌∷◌, Bool, true, false, ◌&&◌, if◌then◌else◌, length, refl, sym, ap, ◌∙◌, subst, arith}
+use Rattle.std.proofs.Common.{◌≡◌, ◌≢◌, ℕ, ◌+◌, ◌-◌, ◌%◌, ◌^◌, ◌<◌, ◌≤◌, ◌⊎◌, inl, inr, ⊎_elim, List, []}
+use Rattle.std.proofs.Common.{◌∷◌, true, false, ◌&&◌, if◌then◌else◌, refl, sym, ap, ◌∙◌, subst, arith}
 use Rattle.std.specs.Prelude.{nat_le}
 use Rattle.std.proofs.lemmas.Bool.{eqb-true, eqb-false, le-leb, lt-leb, and_from, and_left, and_right, cond-true}
 use Rattle.std.proofs.lemmas.Bool.{cond-false, cases_Bool}
-use Rattle.sb_base.specs.declared.ending.Ending.{Ending}
 use Rattle.sb_base.specs.declared.ending.Ending.TheVariants.{Spatial, Temporal}
 use Rattle.sb_base.specs.Endings.{code_of, report_of}
-use Rattle.addr_map.specs.declared.region.Region.TheVariants.{Locks, Cells}
-use Rattle.addr_map.specs.Places.{MapSizes, AreMapped, spaces_begin, region_start, region_end, lock_count}
+use Rattle.addr_map.specs.declared.region.Region.TheVariants.{Cells}
+use Rattle.addr_map.specs.Places.{spaces_begin, region_end}
 use Rattle.rv_isa.specs.declared.instruction.BranchOp.TheVariants.{Beq, Bgeu}
 use Rattle.rv_isa.specs.declared.instruction.RegOp.TheVariants.{Sub}
 use Rattle.rv_isa.specs.declared.instruction.LoadOp.TheVariants.{Ld}
 use Rattle.rv_isa.specs.Results.{reg_result, extended, branch_taken}
-use Rattle.obj_memory.specs.declared.value.Bounds.{Bounds}
 use Rattle.obj_memory.specs.declared.value.Tag.{Tag}
 use Rattle.obj_memory.specs.declared.value.Tag.TheVariants.{Untagged, OfFunction, OfObject}
-use Rattle.obj_memory.specs.declared.value.Value.{Value}
 use Rattle.obj_memory.specs.declared.value.Place.{Place}
-use Rattle.obj_memory.specs.declared.judgement.Verdict.{Verdict}
 use Rattle.obj_memory.specs.declared.judgement.Verdict.TheVariants.{Outside as Out, Dead, Inside}
 use Rattle.obj_memory.specs.Objects.{Objects, object_at}
 use Rattle.obj_memory.specs.Judgement.{place_in, judged, judge}
@@ -35,18 +31,18 @@ use Rattle.flat_routines.specs.Registers.{AreBelow}
 use Rattle.flat_routines.specs.Routine.{Outcome, Continues, Halts, Reaches, Either}
 use Rattle.flat_routines.specs.Effects.{worked, effects}
 use Rattle.flat_routines.specs.Renaming.{through, Agrees, ChangesOnly}
-use Rattle.flat_routines.specs.Metadata.{Metadata, metadata_in, held_registers, ShowsNothing}
+use Rattle.flat_routines.specs.Metadata.{Metadata, held_registers, ShowsNothing}
 use Rattle.flat_routines.proofs.Steps.{has_self}
 use Rattle.flat_routines.proofs.Rules.{branch, line_on, arrived, ended}
 use Rattle.flat_routines.proofs.Distinct.{AreRegisters, register_of, registers_rename, others_stay}
 use Rattle.flat_routines.proofs.Regions.{IsLaidOut, laid_out, shadow_not_shown}
 use Rattle.flat_routines.proofs.Wrapped.{routine_that_may_end}
-use Rattle.flat_objects.specs.StandsFor.{Views, Keys, spell, Spells, StandsFor, IsLock}
+use Rattle.flat_objects.specs.StandsFor.{Views, Keys, spell, StandsFor, IsLock}
 use Rattle.shadow_space.proofs.Entries.{context_of, agrees_shows, agrees_memory}
-use Rattle.space_routines.proofs.Quiet.{space_allowed, shows_itself}
+use Rattle.space_routines.proofs.Quiet.{space_allowed}
 use Rattle.lock_space.proofs.Spaces.{AreLocksLaidOut, locks_laid_out}
 use Rattle.heap_space.proofs.Regions.{if_not_below, if_below}
-use Rattle.flat_judging.specs.Judging.{IsToJudge, IsSameBut, EndsWith, IsJudged, IsJudgeRoutine, judge_code}
+use Rattle.flat_judging.specs.Judging.{IsToJudge, IsSameBut, IsJudged, IsJudgeRoutine, judge_code}
 
 -- the routine alone: 0 the address, 1 to 4 the tag, 5 the size, 6 scratch
 abbrev own : Held

@@ -1,16 +1,16 @@
 -- The entries of a range are cleared in two levels.
-use Rattle.std.proofs.Common.{◌≡◌, ◌≢◌, ℕ, zero, suc, ◌+◌, ◌-◌, ◌*◌, ◌/◌, ◌%◌, ◌^◌, ◌<◌, ◌≤◌, ◌⊎◌, inl, inr, ⊎_elim, List}
-use Rattle.std.proofs.Common.{[], ◌∷◌, ◌++◌, true, false, not, refl, sym, ap, ◌∙◌, subst, arith}
-use Rattle.std.proofs.lemmas.Bool.{cases_lt, cases_eq, eqb-true, eqb-false, lt-ltb, le-ltb}
-use Rattle.addr_map.specs.declared.region.Region.TheVariants.{Heap, Shadow, Cells}
-use Rattle.addr_map.specs.Places.{MapSizes, AreMapped, objects_begin, spaces_begin, region_size, region_end}
+use Rattle.std.proofs.Common.{◌≡◌, ◌≢◌, ℕ, zero, suc, ◌+◌, ◌*◌, ◌%◌, ◌^◌, ◌<◌, ◌≤◌, ◌⊎◌, inl, inr, ⊎_elim, List}
+use Rattle.std.proofs.Common.{[], ◌∷◌, ◌++◌, not, refl, sym, ap, ◌∙◌, subst, arith}
+use Rattle.std.proofs.lemmas.Bool.{cases_lt, eqb-true, eqb-false, lt-ltb, le-ltb}
+use Rattle.addr_map.specs.declared.region.Region.TheVariants.{Shadow}
+use Rattle.addr_map.specs.Places.{MapSizes, AreMapped, spaces_begin, region_size}
 use Rattle.rv_isa.specs.declared.instruction.BranchOp.TheVariants.{Beq, Bgeu}
 use Rattle.rv_isa.specs.declared.instruction.RegOp.TheVariants.{Add}
-use Rattle.rv_isa.specs.Results.{reg_result, extended, branch_taken}
+use Rattle.rv_isa.specs.Results.{reg_result, branch_taken}
 use Rattle.flat_meaning.specs.declared.instruction.RightOperand.TheVariants.{Register, Number}
 use Rattle.flat_meaning.specs.declared.instruction.FlatInstruction.{FlatInstruction}
 use Rattle.flat_meaning.specs.declared.instruction.FlatInstruction.TheVariants.{Constant, Move, Operate, JumpBack}
-use Rattle.flat_meaning.specs.Memory.{Bytes, put, load, store, KeepsBut}
+use Rattle.flat_meaning.specs.Memory.{Bytes, put}
 use Rattle.flat_meaning.specs.State.{Values, State}
 use Rattle.flat_meaning.specs.Words.{IsOfWords}
 use Rattle.flat_meaning.specs.Meaning.{Context}
@@ -28,11 +28,10 @@ use Rattle.flat_routines.proofs.Wrapped.{routine}
 use Rattle.shadow_space.specs.Form.{IsWordRange, HasCleared, IsClearRoutine}
 use Rattle.shadow_space.specs.Direct.{store_entry, same_register}
 use Rattle.shadow_space.proofs.Entries.{context_of, agrees_shows, agrees_memory}
-use Rattle.space_routines.specs.Quiet.{AreQuiet}
 use Rattle.space_routines.proofs.Quiet.{in_spaces, shows_itself}
 use Rattle.space_routines.proofs.Rules.{Quietly, ReachesQuietly, QuietTurn, quiet_line, quiet_end, quiet_branch}
 use Rattle.space_routines.proofs.Rules.{quiet_weaken, quiet_next, quiet_loop}
-use Rattle.two_level_shadow.specs.Tables.{pages, page_of, entry_offset, first_table, table_of, two_level_entry}
+use Rattle.two_level_shadow.specs.Tables.{page_of, entry_offset, table_of, two_level_entry}
 use Rattle.two_level_shadow.specs.Tables.{AreTablesGood}
 use Rattle.two_level_shadow.specs.Code.{look_up, clear_word, two_level_clear}
 use Rattle.two_level_shadow.proofs.Levels.{AreLevelsLaidOut, levels_laid_out, page_below, offset_below}

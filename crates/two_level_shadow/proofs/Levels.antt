@@ -1,15 +1,15 @@
 -- How the two levels lie, and an entry written in a table that is there.
-use Rattle.std.proofs.Common.{◌≡◌, ◌≢◌, ℕ, zero, suc, ◌+◌, ◌-◌, ◌*◌, ◌/◌, ◌%◌, ◌^◌, ◌<◌, ◌≤◌, ◌⊎◌, inl, inr, ⊎_elim, refl}
+use Rattle.std.proofs.Common.{◌≡◌, ◌≢◌, ℕ, ◌+◌, ◌-◌, ◌*◌, ◌<◌, ◌≤◌, ◌⊎◌, inl, inr, ⊎_elim}
 use Rattle.std.proofs.Common.{sym, ap, ◌∙◌, subst, arith}
 use Rattle.std.proofs.lemmas.Bool.{cases_lt, cases_eq, eq-eqb, ne_eqb, cond-true, cond-false}
 use Rattle.addr_map.specs.declared.region.Region.TheVariants.{Heap, Shadow, Cells}
 use Rattle.addr_map.specs.Places.{MapSizes, AreMapped, objects_begin, spaces_begin, region_size, region_start, region_end}
-use Rattle.flat_meaning.specs.Memory.{Bytes, load, Keeps, KeepsBut}
+use Rattle.flat_meaning.specs.Memory.{Bytes, Keeps}
 use Rattle.flat_meaning.proofs.Stored.{load_kept, kept_beside, keeps_within}
 use Rattle.flat_routines.specs.Metadata.{Metadata, no_metadata, metadata_at, IsObjectWord, KeepsButShadow, KeepsShadow}
 use Rattle.flat_routines.proofs.Words.{store_four, IsOfFourWords, four_read, four_beside, metadata_kept}
 use Rattle.two_level_shadow.specs.Tables.{pages, page_of, entry_offset, taken_cell, page_cell, first_table, table_of}
-use Rattle.two_level_shadow.specs.Tables.{taken_bytes, in_table, two_level_entry, AreTablesGood}
+use Rattle.two_level_shadow.specs.Tables.{in_table, two_level_entry, AreTablesGood}
 
 pub record AreLevelsLaidOut (s : MapSizes) : Type 0 where
   pub heap : region_end s Heap ≡ objects_begin + 4096 * pages s

@@ -1,9 +1,8 @@
 -- An entry is read in two levels.
-use Rattle.std.proofs.Common.{◌≡◌, ◌≢◌, ℕ, zero, suc, ◌+◌, ◌-◌, ◌*◌, ◌/◌, ◌%◌, ◌^◌, ◌<◌, ◌≤◌, List, [], ◌∷◌, ◌++◌, true}
-use Rattle.std.proofs.Common.{false, refl, sym, ap, ◌∙◌, subst, arith}
+use Rattle.std.proofs.Common.{◌≡◌, ◌≢◌, ℕ, suc, ◌+◌, ◌-◌, ◌*◌, ◌/◌, ◌%◌, ◌^◌, ◌≤◌, List, [], ◌∷◌, ◌++◌}
+use Rattle.std.proofs.Common.{refl, sym, ap, ◌∙◌, arith}
 use Rattle.std.proofs.lemmas.Bool.{eqb-true, eqb-false}
-use Rattle.addr_map.specs.declared.region.Region.TheVariants.{Heap, Shadow, Cells}
-use Rattle.addr_map.specs.Places.{MapSizes, AreMapped, objects_begin, spaces_begin, region_size, region_end}
+use Rattle.addr_map.specs.Places.{MapSizes, AreMapped}
 use Rattle.rv_isa.specs.declared.instruction.BranchOp.TheVariants.{Beq}
 use Rattle.rv_isa.specs.declared.instruction.RegOp.TheVariants.{Add}
 use Rattle.rv_isa.specs.Results.{reg_result, extended, branch_taken}
@@ -12,14 +11,13 @@ use Rattle.flat_meaning.specs.declared.instruction.FlatInstruction.{FlatInstruct
 use Rattle.flat_meaning.specs.declared.instruction.FlatInstruction.TheVariants.{Constant, Operate}
 use Rattle.flat_meaning.specs.Memory.{Bytes, put, load}
 use Rattle.flat_meaning.specs.State.{Values, State}
-use Rattle.flat_meaning.specs.Words.{IsOfWords}
 use Rattle.flat_meaning.specs.Meaning.{Context}
 use Rattle.flat_routines.specs.declared.registers.Entry.{Entry}
 use Rattle.flat_routines.specs.Registers.{AreDistinct, AreBelow}
 use Rattle.flat_routines.specs.Routine.{HasAt, unless_code}
 use Rattle.flat_routines.specs.Effects.{worked, effects}
 use Rattle.flat_routines.specs.Renaming.{through, Agrees}
-use Rattle.flat_routines.specs.Metadata.{Metadata, no_metadata, metadata_at, metadata_in, entry_registers, IsObjectWord}
+use Rattle.flat_routines.specs.Metadata.{no_metadata, metadata_at, metadata_in, entry_registers, IsObjectWord}
 use Rattle.flat_routines.specs.Metadata.{ShowsNothing}
 use Rattle.flat_routines.proofs.Steps.{has_front, has_back, has_self}
 use Rattle.flat_routines.proofs.Distinct.{AreRegisters, register_of, registers_rename, others_stay}
@@ -33,11 +31,11 @@ use Rattle.space_routines.specs.Quiet.{AreQuiet}
 use Rattle.space_routines.proofs.Quiet.{in_spaces, shows_itself}
 use Rattle.space_routines.proofs.Rules.{Quietly, ReachesQuietly, quiet_line, quiet_end, quiet_branch, quiet_weaken}
 use Rattle.space_routines.proofs.Rules.{quiet_arrived}
-use Rattle.two_level_shadow.specs.Tables.{pages, page_of, entry_offset, page_cell, first_table, table_of, in_table}
+use Rattle.two_level_shadow.specs.Tables.{page_of, entry_offset, page_cell, table_of}
 use Rattle.two_level_shadow.specs.Tables.{two_level_entry, AreTablesGood}
 use Rattle.two_level_shadow.specs.Code.{look_up, two_level_read}
 use Rattle.two_level_shadow.proofs.Levels.{AreLevelsLaidOut, levels_laid_out, no_table, with_table, page_below}
-use Rattle.two_level_shadow.proofs.Levels.{offset_below, spot_within}
+use Rattle.two_level_shadow.proofs.Levels.{spot_within}
 
 -- ---- looking up
 

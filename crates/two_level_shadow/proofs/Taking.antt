@@ -1,16 +1,16 @@
 -- A table of the reserve is taken for a page that has none.
-use Rattle.std.proofs.Common.{◌≡◌, ◌≢◌, ℕ, zero, suc, ◌+◌, ◌-◌, ◌*◌, ◌/◌, ◌%◌, ◌^◌, ◌<◌, ◌≤◌, ◌⊎◌, inl, inr, ⊎_elim, refl}
+use Rattle.std.proofs.Common.{◌≡◌, ◌≢◌, ℕ, suc, ◌+◌, ◌*◌, ◌<◌, ◌≤◌, ◌⊎◌, inl, inr, ⊎_elim}
 use Rattle.std.proofs.Common.{sym, ap, ◌∙◌, subst, arith}
 use Rattle.std.proofs.lemmas.Bool.{cases_lt, cases_eq}
 use Rattle.addr_map.specs.declared.region.Region.TheVariants.{Shadow}
 use Rattle.addr_map.specs.Places.{MapSizes, spaces_begin, region_size}
-use Rattle.flat_meaning.specs.Memory.{Bytes, load, store, Keeps, KeepsBut}
-use Rattle.flat_meaning.proofs.Stored.{load_kept, load_stored, load_beside, store_beside, keeps_within, keeps_both}
-use Rattle.flat_routines.specs.Metadata.{Metadata, no_metadata, metadata_at, IsObjectWord, KeepsButShadow}
+use Rattle.flat_meaning.specs.Memory.{Bytes, load, store}
+use Rattle.flat_meaning.proofs.Stored.{load_stored, load_beside, store_beside, keeps_within, keeps_both}
+use Rattle.flat_routines.specs.Metadata.{no_metadata, metadata_at, IsObjectWord, KeepsButShadow}
 use Rattle.flat_routines.proofs.Words.{metadata_kept}
 use Rattle.space_routines.proofs.Few.{at_most_of}
 use Rattle.two_level_shadow.specs.Tables.{pages, page_of, entry_offset, taken_cell, page_cell, first_table, table_of}
-use Rattle.two_level_shadow.specs.Tables.{taken_bytes, in_table, two_level_entry, AreTablesGood}
+use Rattle.two_level_shadow.specs.Tables.{in_table, two_level_entry, AreTablesGood}
 use Rattle.two_level_shadow.proofs.Levels.{AreLevelsLaidOut, no_table, with_table, page_below, offset_below, entry_kept}
 
 -- an entry of zero bytes is none

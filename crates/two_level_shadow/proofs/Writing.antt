@@ -1,17 +1,17 @@
 -- An entry is written in two levels.
-use Rattle.std.proofs.Common.{◌≡◌, ◌≢◌, ℕ, zero, suc, ◌+◌, ◌-◌, ◌*◌, ◌/◌, ◌%◌, ◌^◌, ◌<◌, ◌≤◌, ◌⊎◌, inl, inr, ⊎_elim, List}
+use Rattle.std.proofs.Common.{◌≡◌, ◌≢◌, ℕ, zero, suc, ◌+◌, ◌*◌, ◌%◌, ◌^◌, ◌≤◌, List}
 use Rattle.std.proofs.Common.{[], ◌∷◌, ◌++◌, Bool, true, false, not, refl, sym, ap, ◌∙◌, subst, arith}
 use Rattle.std.specs.Prelude.{◌==◌}
-use Rattle.std.proofs.lemmas.Bool.{cases_eq, eqb-true, eqb-false}
-use Rattle.addr_map.specs.declared.region.Region.TheVariants.{Shadow, Cells}
-use Rattle.addr_map.specs.Places.{MapSizes, AreMapped, spaces_begin, region_size, region_end}
+use Rattle.std.proofs.lemmas.Bool.{eqb-true}
+use Rattle.addr_map.specs.declared.region.Region.TheVariants.{Shadow}
+use Rattle.addr_map.specs.Places.{MapSizes, AreMapped, spaces_begin, region_size}
 use Rattle.rv_isa.specs.declared.instruction.BranchOp.TheVariants.{Beq, Bne}
 use Rattle.rv_isa.specs.declared.instruction.RegOp.TheVariants.{Add}
 use Rattle.rv_isa.specs.Results.{reg_result, extended, branch_taken}
 use Rattle.flat_meaning.specs.declared.instruction.RightOperand.TheVariants.{Register, Number}
 use Rattle.flat_meaning.specs.declared.instruction.FlatInstruction.{FlatInstruction}
 use Rattle.flat_meaning.specs.declared.instruction.FlatInstruction.TheVariants.{Operate, Branch}
-use Rattle.flat_meaning.specs.Memory.{Bytes, put, load, store, KeepsBut}
+use Rattle.flat_meaning.specs.Memory.{Bytes, put, load, store}
 use Rattle.flat_meaning.specs.State.{Values, State}
 use Rattle.flat_meaning.specs.Words.{IsOfWords}
 use Rattle.flat_meaning.specs.Meaning.{Context}
@@ -31,15 +31,14 @@ use Rattle.flat_routines.proofs.Wrapped.{routine}
 use Rattle.shadow_space.specs.Form.{HasWritten, IsWriteRoutine}
 use Rattle.shadow_space.specs.Direct.{store_entry}
 use Rattle.shadow_space.proofs.Entries.{context_of, agrees_shows, agrees_memory}
-use Rattle.space_routines.specs.Quiet.{AreQuiet}
 use Rattle.space_routines.proofs.Quiet.{in_spaces, shows_itself}
 use Rattle.space_routines.proofs.Rules.{Quietly, ReachesQuietly, quiet_line, quiet_end, quiet_branch, quiet_weaken}
 use Rattle.space_routines.proofs.Rules.{quiet_arrived}
 use Rattle.two_level_shadow.specs.Tables.{pages, page_of, entry_offset, taken_cell, page_cell, first_table, table_of}
-use Rattle.two_level_shadow.specs.Tables.{taken_bytes, two_level_entry, AreTablesGood}
+use Rattle.two_level_shadow.specs.Tables.{two_level_entry, AreTablesGood}
 use Rattle.two_level_shadow.specs.Code.{look_up, take_table, two_level_write}
 use Rattle.two_level_shadow.proofs.Levels.{AreLevelsLaidOut, levels_laid_out, no_table, page_below, offset_below}
-use Rattle.two_level_shadow.proofs.Levels.{spot_within, write_good, write_within, write_read, write_others}
+use Rattle.two_level_shadow.proofs.Levels.{write_good, write_within, write_read, write_others}
 use Rattle.two_level_shadow.proofs.Taking.{with_new, one_left, new_here, take_good, take_within, take_entries}
 use Rattle.two_level_shadow.proofs.Reading.{own, Looked, look_up_quiet, looked_up}
 

@@ -1,11 +1,11 @@
 -- A shadow space of zero bytes.
-use Rattle.std.proofs.Common.{◌≡◌, ◌≢◌, ℕ, ◌+◌, ◌*◌, ◌<◌, ◌≤◌, refl, ◌∙◌, arith}
+use Rattle.std.proofs.Common.{◌≡◌, ℕ, ◌+◌, ◌<◌, ◌≤◌, ◌∙◌, arith}
 use Rattle.addr_map.specs.declared.region.Region.TheVariants.{Shadow}
 use Rattle.addr_map.specs.Places.{MapSizes, spaces_begin, region_size}
 use Rattle.flat_meaning.specs.Memory.{Bytes, load}
 use Rattle.flat_meaning.proofs.Stored.{load_kept}
 use Rattle.flat_routines.specs.Metadata.{no_metadata, IsObjectWord}
-use Rattle.two_level_shadow.specs.Tables.{pages, page_of, entry_offset, taken_cell, page_cell, first_table, table_of}
+use Rattle.two_level_shadow.specs.Tables.{pages, page_of, entry_offset, taken_cell, page_cell, table_of}
 use Rattle.two_level_shadow.specs.Tables.{two_level_entry, AreTablesGood}
 use Rattle.two_level_shadow.proofs.Levels.{AreLevelsLaidOut, no_table, page_below}
 

@@ -1,0 +1,42 @@
+-- The table of live blocks in memory.
+use Rattle.std.specs.Prelude.{◌≡◌, ℕ, zero, suc, ◌+◌, ◌*◌, ◌<◌, ◌≤◌, List, [], ◌∷◌}
+use Rattle.addr_map.specs.declared.region.Region.TheVariants.{Heap, Blocks}
+use Rattle.addr_map.specs.Places.{MapSizes, region_size, region_start, region_end}
+use Rattle.flat_meaning.specs.Memory.{Bytes, load, KeepsBut, Keeps}
+use Rattle.flat_objects.specs.StandsFor.{BlockRow}
+use Rattle.heap_space.specs.Rows.{row_end, AreInOrder}
+
+-- the number of live blocks, and behind it the rows: the start of a block, its size, its key, and where its room ends
+abbrev pub total_cell : MapSizes → ℕ
+total_cell s = region_start s Blocks
+
+abbrev pub row_cell : MapSizes → (i : ℕ) → ℕ
+row_cell s i = region_start s Blocks + 8 + 32 * i
+
+abbrev pub block_total : MapSizes → Bytes → ℕ
+block_total s m = load 8 m (total_cell s)
+
+abbrev pub row_at : Bytes → (address : ℕ) → BlockRow
+row_at m a = record { start = load 8 m a; size = load 8 m (a + 8); key = load 8 m (a + 16) }
+
+-- so many rows from an address on
+abbrev pub rows_from : Bytes → (address count : ℕ) → List BlockRow
+rows_from m a zero = []
+rows_from m a (suc n) = row_at m a ∷ rows_from m (a + 32) n
+
+abbrev pub block_rows : MapSizes → Bytes → List BlockRow
+block_rows s m = rows_from m (row_cell s 0) (block_total s m)
+
+-- What holds of the memory whenever a routine is called: there are no more rows than blocks may live, their rooms stand
+-- in the heap in order, and each row has the end of its room.
+pub record IsTableGood (s : MapSizes) (m : Bytes) : Type 0 where
+  pub few : block_total s m ≤ s.budgets.blocks
+  pub in_order : AreInOrder (region_start s Heap) (region_end s Heap) (block_rows s m)
+  pub ends : (i : ℕ) → i < block_total s m → load 8 m (row_cell s i + 24) ≡ row_end (row_at m (row_cell s i))
+
+-- the bytes of the table
+abbrev pub KeepsButTable : MapSizes → Bytes → Bytes → Type 0
+KeepsButTable s = KeepsBut (region_start s Blocks) (region_size s Blocks)
+
+abbrev pub KeepsTable : MapSizes → Bytes → Bytes → Type 0
+KeepsTable s = Keeps (region_start s Blocks) (region_size s Blocks)

@@ -1,0 +1,5 @@
+pub mod Spaces
+pub mod Lists
+pub mod Local
+pub mod NewKeys
+pub mod FreedLocks

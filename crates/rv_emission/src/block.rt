@@ -12,8 +12,10 @@ ghost use Rattle.rv_calls.specs.Calls.{entry_block};
 ghost use Rattle.rv_emission.specs.Kept.{block_of};
 
 use crate::calls::{Arguments, Results, put_call, put_call_address, put_entry_of, put_return};
-use crate::local::{put_charged, put_end, put_exit, put_get, put_load, put_move, put_nothing, put_number};
-use crate::local::{put_operate, put_operate32, put_put, put_store};
+use crate::local::{
+    put_charged, put_end, put_exit, put_get, put_load, put_move, put_nothing, put_number,
+    put_operate, put_operate32, put_put, put_store,
+};
 use crate::values::{self, put_operands};
 use addr_map::{AddrMap, Region};
 use flat_meaning::{FlatFunction, FlatInstruction, FlatProgram, RightOperand};
@@ -212,7 +214,12 @@ pub fn left_register(
     ensures { result ≡ used ((keeping program.now plans.now number).place operand) left_scratch }
 {
     let function = &program.functions.as_slice()[number as usize];
-    values::used(function, &plans[number as usize], u64::from(operand), values::left_scratch())
+    values::used(
+        function,
+        &plans[number as usize],
+        u64::from(operand),
+        values::left_scratch(),
+    )
 }
 
 /// The register in which its right operand is found.

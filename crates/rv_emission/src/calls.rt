@@ -14,7 +14,9 @@ ghost use Rattle.rv_follows.specs.Code.{wanted};
 ghost use Rattle.rv_emission.specs.Kept.{kept_by, call_of};
 
 use crate::constants::{put_constant, put_load_at, put_store_at};
-use crate::values::{frame_register, left_scratch, put_fetch, put_keep, put_restore, put_save, right_scratch, used};
+use crate::values::{
+    frame_register, left_scratch, put_fetch, put_keep, put_restore, put_save, right_scratch, used,
+};
 use flat_meaning::FlatFunction;
 use reg_plan::{FunctionPlan, closed};
 use rv_isa::{Imm12, Instr, Reg, RegOp};
@@ -322,11 +324,7 @@ fn put_hand_over(
 }
 
 // Puts what stands behind that: the next activation record begins, and the callee is jumped to.
-fn put_jump(
-    code: &mut Vec<Instr>,
-    function: &FlatFunction,
-    target: Reg,
-) -> Result<(), AllocError>
+fn put_jump(code: &mut Vec<Instr>, function: &FlatFunction, target: Reg) -> Result<(), AllocError>
     ensures { OnOk result
         (code.new.items ≡ code.old.items
         ++ (constant right_scratch function.now.room
@@ -399,7 +397,11 @@ pub(crate) fn put_call_address(
 {
     put_hand_over(code, function, plan, place, arguments, results)?;
     put_fetch(code, function, plan, u64::from(address), callee_scratch())?;
-    put_jump(code, function, used(function, plan, u64::from(address), callee_scratch()))?;
+    put_jump(
+        code,
+        function,
+        used(function, plan, u64::from(address), callee_scratch()),
+    )?;
     put_back(code, function, plan, place, results)
 }
 

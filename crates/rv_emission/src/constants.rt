@@ -45,12 +45,7 @@ pub(crate) fn put_wide(code: &mut Vec<Instr>, rd: Reg, number: u128) -> Result<(
 
 // Puts a number into a register eleven bits at a time, the highest first.
 #[tactic(auto, using(crate::proofs::Lists::last_digit, crate::proofs::Lists::more_digits), unfolding(rv_blocks::specs::Blocks::digits))]
-fn put_digits(
-    code: &mut Vec<Instr>,
-    count: u32,
-    rd: Reg,
-    number: u64,
-) -> Result<(), AllocError>
+fn put_digits(code: &mut Vec<Instr>, count: u32, rd: Reg, number: u64) -> Result<(), AllocError>
     ensures { OnOk result (code.new.items ≡ code.old.items ++ digits count rd number) }
 {
     if count == 0 || number < 0x800 {
@@ -70,11 +65,7 @@ fn put_digits(
 
 /// Puts a number into a register.
 #[tactic(auto, unfolding(rv_blocks::specs::Blocks::constant))]
-pub(crate) fn put_constant(
-    code: &mut Vec<Instr>,
-    rd: Reg,
-    number: u64,
-) -> Result<(), AllocError>
+pub(crate) fn put_constant(code: &mut Vec<Instr>, rd: Reg, number: u64) -> Result<(), AllocError>
     ensures { OnOk result (code.new.items ≡ code.old.items ++ constant rd number) }
 {
     if number < 0x800 || number >= 0xffff_ffff_ffff_f800 {

@@ -11,7 +11,10 @@ ghost use Rattle.rv_blocks.specs.Places.{location, frame_register};
 
 use crate::calls::argument_words;
 use crate::constants::{addi, put_constant};
-use crate::values::{frame_register, left_scratch, put_fetch, put_keep, put_operands, right_scratch, used, used_right};
+use crate::values::{
+    frame_register, left_scratch, put_fetch, put_keep, put_operands, right_scratch, used,
+    used_right,
+};
 use flat_meaning::{FlatFunction, RightOperand};
 use reg_plan::FunctionPlan;
 use rv_isa::{Imm12, Instr, LoadOp, Reg, RegOp, RegOp32, StoreOp};
@@ -31,7 +34,11 @@ pub(crate) fn put_number(
         (code.new.items ≡ code.old.items
         ++ local_block (location function.now plan.now) (frame_register function.now) 0 (flat.Constant into value)) }
 {
-    put_constant(code, used(function, plan, u64::from(into), left_scratch()), value)?;
+    put_constant(
+        code,
+        used(function, plan, u64::from(into), left_scratch()),
+        value,
+    )?;
     put_keep(code, function, plan, u64::from(into), left_scratch())
 }
 
@@ -170,11 +177,7 @@ pub(crate) fn put_store(
 }
 
 // Puts what asks for one byte in the words of arguments, by an environment call with a number and a descriptor.
-fn put_asks_byte(
-    code: &mut Vec<Instr>,
-    number: u64,
-    descriptor: u64,
-) -> Result<(), AllocError>
+fn put_asks_byte(code: &mut Vec<Instr>, number: u64, descriptor: u64) -> Result<(), AllocError>
     requires number { number < 2 ^ 12 }
     requires descriptor { descriptor < 2 ^ 12 }
     ensures { OnOk result (code.new.items ≡ code.old.items ++ asks_byte number descriptor) }

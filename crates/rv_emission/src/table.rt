@@ -33,9 +33,21 @@ pub fn put_start(
     ensures { OnOk result (code.new.items ≡ code.old.items ++ start_block sizes.now program.now) }
 {
     put_wide(code, Reg::SP, u128::from(sizes.region(Region::Calls).0))?;
-    put_wide(code, argument_words(), u128::from(sizes.region(Region::Arguments).0))?;
-    put_wide(code, Reg::new(4), u128::from(sizes.region(Region::RuntimeCalls).0))?;
-    put_wide(code, callee_scratch(), u128::from(entry_address(program.entry)))?;
+    put_wide(
+        code,
+        argument_words(),
+        u128::from(sizes.region(Region::Arguments).0),
+    )?;
+    put_wide(
+        code,
+        Reg::new(4),
+        u128::from(sizes.region(Region::RuntimeCalls).0),
+    )?;
+    put_wide(
+        code,
+        callee_scratch(),
+        u128::from(entry_address(program.entry)),
+    )?;
     code.push(jump_to(Reg::RA, callee_scratch()))?;
     Ok(())
 }

@@ -199,12 +199,7 @@ fn put_restore_at(
 }
 
 /// The register in which the value of a virtual register is found or left: its own, or the scratch register.
-pub(crate) fn used(
-    function: &FlatFunction,
-    plan: &FunctionPlan,
-    register: u64,
-    scratch: Reg,
-) -> Reg
+pub(crate) fn used(function: &FlatFunction, plan: &FunctionPlan, register: u64, scratch: Reg) -> Reg
     ensures { result ≡ used (location function.now plan.now register) scratch }
 {
     used_at(location(function, plan, register), scratch)
@@ -222,7 +217,12 @@ pub(crate) fn put_fetch(
         (code.new.items ≡ code.old.items
         ++ fetch (location function.now plan.now register) (frame_register function.now) scratch) }
 {
-    put_fetch_at(code, location(function, plan, register), frame_register(function), scratch)
+    put_fetch_at(
+        code,
+        location(function, plan, register),
+        frame_register(function),
+        scratch,
+    )
 }
 
 /// Puts what brings a result from the scratch register to the home of a virtual register, if it is kept there.
@@ -237,7 +237,12 @@ pub(crate) fn put_keep(
         (code.new.items ≡ code.old.items
         ++ keep (location function.now plan.now register) (frame_register function.now) scratch) }
 {
-    put_keep_at(code, location(function, plan, register), frame_register(function), scratch)
+    put_keep_at(
+        code,
+        location(function, plan, register),
+        frame_register(function),
+        scratch,
+    )
 }
 
 /// Puts what brings the value of a virtual register that is kept in a register to its home.
@@ -253,7 +258,12 @@ pub(crate) fn put_save(
         (home function.now register)) }
 {
     let location = location(function, plan, register);
-    put_save_at(code, location, frame_register(function), home_of(function, register))
+    put_save_at(
+        code,
+        location,
+        frame_register(function),
+        home_of(function, register),
+    )
 }
 
 /// Puts what brings it back.
@@ -269,5 +279,10 @@ pub(crate) fn put_restore(
         (home function.now register)) }
 {
     let location = location(function, plan, register);
-    put_restore_at(code, location, frame_register(function), home_of(function, register))
+    put_restore_at(
+        code,
+        location,
+        frame_register(function),
+        home_of(function, register),
+    )
 }

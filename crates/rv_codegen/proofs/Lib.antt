@@ -1,3 +1,4 @@
+pub mod Labels
 pub mod Small
 pub mod Parts
 pub mod Standing

@@ -6,6 +6,7 @@
 
 pub mod code;
 pub mod generator;
+pub mod laws;
 mod listing;
 
 pub use crate::code::{Code, GenerateError};

@@ -6,3 +6,4 @@ pub mod Assembled
 pub mod Missing
 pub mod Placed
 pub mod Running
+pub mod Below

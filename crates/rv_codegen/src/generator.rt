@@ -81,6 +81,7 @@ fn put_compiled(segments: &mut Segments, words: &[u32]) -> Result<(), AllocError
 }
 
 // Puts a function.
+#[tactic(auto, using(crate::proofs::Below::runtime_below, crate::proofs::Below::compiled_below))]
 fn put_function(
     segments: &mut Segments,
     alloc: Global,
@@ -102,9 +103,9 @@ fn put_function(
     let functions = program.functions.as_slice();
     if functions[number as usize].is_runtime {
         put_runtime(segments, functions.len() as u32, &words)?;
-    } else {
-        put_compiled(segments, &words)?;
+        return Ok(());
     }
+    put_compiled(segments, &words)?;
     Ok(())
 }
 

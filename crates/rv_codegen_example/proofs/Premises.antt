@@ -37,16 +37,17 @@ use Rattle.rv_codegen.specs.Generated.{code_bytes, table_bytes, FitsSegments}
 use Rattle.rv_codegen.proofs.Labels.{labels_meet}
 use Rattle.rv_codegen.proofs.Running.{generated_follows}
 use Rattle.rv_codegen_example.specs.Program.{sizes, main, next, program, MeetsPremises}
+use Rattle.rv_codegen_example.proofs.Tested.{all_below}
 use Rattle.rv_codegen_example.proofs.Tested as tested
 use Rattle.rv_codegen_example.proofs.Course.{never_stuck}
 
 -- a vector that holds a list
-abbrev vec_of : {A : Type 0} (items : List A) → length items < 2 ^ 63 → Vec A Global
-vec_of items h = record {
+abbrev vec_of : {A : Type 0} → Global → (items : List A) → length items < 2 ^ 63 → Vec A Global
+vec_of a items h = record {
   ptr = null_ptr;
   len = length items;
   cap = length items;
-  alloc = record { };
+  alloc = a;
   items = items;
   ok = (refl, omega arith);
   small = h;
@@ -55,23 +56,18 @@ vec_of items h = record {
 abbrev span : ℕ → ℕ → LiveInterval
 span a b = record { start = a; end = b }
 
-abbrev both_registers : Vec Place Global
-both_registers = vec_of (Register 0 ∷ Register 1 ∷ []) (omega arith)
+abbrev both_registers : Global → Vec Place Global
+both_registers a = vec_of a (Register 0 ∷ Register 1 ∷ []) (omega arith)
 
-abbrev main_plan : FunctionPlan
-main_plan = record {
-  places = both_registers;
-  live = vec_of (vec_of (span 1 8 ∷ []) (omega arith) ∷ vec_of (span 2 9 ∷ []) (omega arith) ∷ []) (omega arith);
-}
+abbrev two_ranges : Global → (first second : LiveInterval) → Vec (Vec LiveInterval Global) Global
+two_ranges a x y =
+    vec_of a (vec_of a (x ∷ []) (omega arith) ∷ vec_of a (y ∷ []) (omega arith) ∷ []) (omega arith)
 
-abbrev next_plan : FunctionPlan
-next_plan = record {
-  places = both_registers;
-  live = vec_of (vec_of (span 0 1 ∷ []) (omega arith) ∷ vec_of (span 1 2 ∷ []) (omega arith) ∷ []) (omega arith);
-}
+abbrev main_plan : Global → FunctionPlan
+main_plan a = record { places = both_registers a; live = two_ranges a (span 1 8) (span 2 9) }
 
-plans : List FunctionPlan
-plans = main_plan ∷ next_plan ∷ []
+abbrev next_plan : Global → FunctionPlan
+next_plan a = record { places = both_registers a; live = two_ranges a (span 0 1) (span 1 2) }
 
 mapped : AreMapped sizes
 mapped = record {
@@ -85,32 +81,6 @@ mapped = record {
   };
   globals = omega arith;
 }
-
-main_accepted : tested.accepts program 0 main main_plan ≡ true
-unfolding tested.accepts tested.all_below
-main_accepted = refl
-
-next_accepted : tested.accepts program 1 next next_plan ≡ true
-unfolding tested.accepts tested.all_below
-next_accepted = refl
-
-accepted : AreAccepted program plans
-unfolding plans
-accepted = record { size = refl; each = each }
-  where
-    each : (k : ℕ) (f : FlatFunction) (plan : FunctionPlan) → slice_get program.functions k ≡ Some f
-        → slice_get plans k ≡ Some plan → IsAccepted program k f plan
-    each zero f plan h g =
-        let a : main ≡ f = cc in
-        let b : main_plan ≡ plan = cc in
-        subst (λ x. IsAccepted program 0 x plan) a
-        (subst (IsAccepted program 0 main) b (tested.accepted program 0 main main_plan main_accepted))
-    each (suc zero) f plan h g =
-        let a : next ≡ f = cc in
-        let b : next_plan ≡ plan = cc in
-        subst (λ x. IsAccepted program 1 x plan) a
-        (subst (IsAccepted program 1 next) b (tested.accepted program 1 next next_plan next_accepted))
-    each (suc (suc k)) f plan h g = cc
 
 -- ---- instructions fit
 
@@ -166,59 +136,92 @@ startable = record {
   runtime_fits = omega arith;
 }
 
--- ---- the code fits
+-- ---- what depends on the plans, whose vectors may lie anywhere
 
-main_long : nat_lt (longest_size (items_of sizes program plans 0)) (2 ^ 28) ≡ true
-unfolding plans keeping block location home give take save restore digits constant load_at store_at
-main_long = refl
+module _ (a : Global) where
+  plans : List FunctionPlan
+  plans = main_plan a ∷ next_plan a ∷ []
 
-next_long : nat_lt (longest_size (items_of sizes program plans 1)) (2 ^ 28) ≡ true
-unfolding plans keeping block location home give take save restore digits constant load_at store_at
-next_long = refl
+  main_accepted : tested.accepts program 0 main (main_plan a) ≡ true
+  unfolding all_below
+  main_accepted = refl
 
-code_long : nat_le (code_bytes sizes program plans) 0x800000 ≡ true
-unfolding plans keeping block location home give take save restore digits constant load_at store_at words_of forms_of
-    words_below
-code_long = refl
+  next_accepted : tested.accepts program 1 next (next_plan a) ≡ true
+  unfolding all_below
+  next_accepted = refl
 
-table_long : nat_le (0x10000 + table_bytes sizes program plans) 0x100000 ≡ true
-unfolding plans keeping block location home give take save restore digits constant load_at store_at words_of forms_of
-    words_below rows_below
-table_long = refl
+  accepted : AreAccepted program plans
+  unfolding plans
+  accepted = record { size = refl; each = each }
+    where
+      each : (k : ℕ) (f : FlatFunction) (plan : FunctionPlan) → slice_get program.functions k ≡ Some f
+          → slice_get plans k ≡ Some plan → IsAccepted program k f plan
+      each zero f plan h g =
+          let e : main ≡ f = cc in
+          let b : main_plan a ≡ plan = cc in
+          subst (λ x. IsAccepted program 0 x plan) e
+          (subst (IsAccepted program 0 main) b (tested.accepted program 0 main (main_plan a) main_accepted))
+      each (suc zero) f plan h g =
+          let e : next ≡ f = cc in
+          let b : next_plan a ≡ plan = cc in
+          subst (λ x. IsAccepted program 1 x plan) e
+          (subst (IsAccepted program 1 next) b (tested.accepted program 1 next (next_plan a) next_accepted))
+      each (suc (suc k)) f plan h g = cc
 
-fits : FitsSegments sizes program plans
-fits = record {
-  assemblable = able;
-  code = leb-true (code_bytes sizes program plans) 0x800000 code_long;
-  table = leb-true (0x10000 + table_bytes sizes program plans) 0x100000 table_long;
-}
-  where
-    able : (f : ℕ) → f < length program.functions → IsAssemblable (items_of sizes program plans f)
-    able zero lt = labels_meet sizes program plans 0
-        (ltb-true (longest_size (items_of sizes program plans 0)) (2 ^ 28) main_long)
-    able (suc zero) lt = labels_meet sizes program plans 1
-        (ltb-true (longest_size (items_of sizes program plans 1)) (2 ^ 28) next_long)
-    able (suc (suc f)) lt = absurd (omega arith)
+  -- ---- the code fits
 
-premises : MeetsPremises plans
-premises = record {
-  mapped = mapped;
-  accepted = accepted;
-  encodable = encodable;
-  startable = startable;
-  fits = fits;
-  never_stuck = never_stuck;
-}
+  main_long : nat_lt (longest_size (items_of sizes program plans 0)) (2 ^ 28) ≡ true
+  unfolding plans keeping block location home give take save restore digits constant load_at store_at
+  main_long = refl
 
-pub met : (plans : List FunctionPlan) × MeetsPremises plans
+  next_long : nat_lt (longest_size (items_of sizes program plans 1)) (2 ^ 28) ≡ true
+  unfolding plans keeping block location home give take save restore digits constant load_at store_at
+  next_long = refl
+
+  code_long : nat_le (code_bytes sizes program plans) 0x800000 ≡ true
+  unfolding plans keeping block location home give take save restore digits constant load_at store_at words_of forms_of
+      words_below
+  code_long = refl
+
+  table_long : nat_le (0x10000 + table_bytes sizes program plans) 0x100000 ≡ true
+  unfolding plans keeping block location home give take save restore digits constant load_at store_at words_of forms_of
+      words_below rows_below
+  table_long = refl
+
+  fits : FitsSegments sizes program plans
+  fits = record {
+    assemblable = able;
+    code = leb-true (code_bytes sizes program plans) 0x800000 code_long;
+    table = leb-true (0x10000 + table_bytes sizes program plans) 0x100000 table_long;
+  }
+    where
+      able : (f : ℕ) → f < length program.functions → IsAssemblable (items_of sizes program plans f)
+      able zero lt = labels_meet sizes program plans 0
+          (ltb-true (longest_size (items_of sizes program plans 0)) (2 ^ 28) main_long)
+      able (suc zero) lt = labels_meet sizes program plans 1
+          (ltb-true (longest_size (items_of sizes program plans 1)) (2 ^ 28) next_long)
+      able (suc (suc f)) lt = absurd (omega arith)
+
+  premises : MeetsPremises plans
+  premises = record {
+    mapped = mapped;
+    accepted = accepted;
+    encodable = encodable;
+    startable = startable;
+    fits = fits;
+    never_stuck = never_stuck;
+  }
+
+pub met : (a : Global)
+    → (plans : List FunctionPlan) × MeetsPremises plans
     × ((objects spaces : List ℕ) (memory : Bytes) (input : List ℕ)
     → Hold (object_bytes sizes) (space_bytes sizes) memory objects spaces → AreBytes memory
     → Follows 64 (flat_meaning sizes program memory input)
     (behaviour (begins (start_address program) (bytes_of (table_words sizes program plans))
     (bytes_of (code_words sizes program plans)) objects spaces) input))
-met = (
-  plans,
-  premises,
-  λ objects spaces memory input hold bytes. generated_follows sizes program plans objects spaces memory input mapped
-      accepted encodable startable fits hold bytes (never_stuck memory input),
+met a = (
+  plans a,
+  premises a,
+  λ objects spaces memory input hold bytes. generated_follows sizes program (plans a) objects spaces memory input
+      mapped (accepted a) encodable startable (fits a) hold bytes (never_stuck memory input),
 )

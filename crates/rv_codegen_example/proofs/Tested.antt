@@ -21,7 +21,7 @@ use Rattle.rv_follows.proofs.Sound.{get_below}
 
 -- ---- tests of all numbers below one
 
-pub all_below : ℕ → (ℕ → Bool) → Bool
+unfoldable pub all_below : ℕ → (ℕ → Bool) → Bool
 all_below zero P = true
 all_below (suc n) P = all_below n P && P n
 
@@ -79,23 +79,23 @@ range_below (x ∷ xs) (suc y) pc e = let r = range_below xs y pc e in omega ari
 -- ---- the tests of a plan
 
 module _ (p : FlatProgram) (f : ℕ) (g : FlatFunction) (plan : FunctionPlan) where
-  c : ℕ
+  abbrev c : ℕ
   c = length plan.live.items
 
-  n : ℕ
+  abbrev n : ℕ
   n = length g.body
 
   -- behind an instruction what it makes is live, and what else is live there is live before it
-  flow_at : (made : Span) (pc q y : ℕ) → Bool
+  abbrev flow_at : (made : Span) (pc q y : ℕ) → Bool
   flow_at made pc q y =
       implies (is_among made y) (is_live plan q y)
       && implies (is_live plan q y) (is_among made y || is_live plan pc y)
 
-  flow_to : (made : Span) (pc : ℕ) → Option ℕ → Bool
+  abbrev flow_to : (made : Span) (pc : ℕ) → Option ℕ → Bool
   flow_to made pc None = true
   flow_to made pc (Some q) = all_below c (flow_at made pc q)
 
-  step_ok : ℕ → Option FlatInstruction → Bool
+  abbrev step_ok : ℕ → Option FlatInstruction → Bool
   step_ok pc None = true
   step_ok pc (Some i) =
       are_within c (read_by p f i)
@@ -103,64 +103,59 @@ module _ (p : FlatProgram) (f : ℕ) (g : FlatFunction) (plan : FunctionPlan) wh
       && (all_below c (λ y. implies (is_read (read_by p f i) y) (is_live plan pc y))
       && (flow_to (made_by p i) pc (next_of i pc) && flow_to (made_by p i) pc (taken_of i pc))))
 
-  same_word : Option ℕ → Option ℕ → Bool
+  abbrev same_word : Option ℕ → Option ℕ → Bool
   same_word (Some a) (Some b) = nat_eq a b
   same_word (Some a) None = false
   same_word None b = false
 
-  same_register : Option Place → Option Place → Bool
+  abbrev same_register : Option Place → Option Place → Bool
   same_register (Some (Register a)) (Some (Register b)) = nat_eq a b
   same_register a b = false
 
-  home_ok : Option ℕ → Bool
+  abbrev home_ok : Option ℕ → Bool
   home_ok None = false
   home_ok (Some w) = nat_le (8 * w + 16) g.room
 
-  place_ok : Option Place → Bool
+  abbrev place_ok : Option Place → Bool
   place_ok None = false
   place_ok (Some Home) = true
   place_ok (Some (Register r)) = nat_lt r REGISTERS
 
-  value_ok : ℕ → Bool
+  abbrev value_ok : ℕ → Bool
   value_ok y =
       home_ok (slice_get g.homes y)
       && (place_ok (slice_get plan.places.items y) && implies (is_live plan 0 y) (nat_lt y g.parameters))
 
-  pair_ok : ℕ → ℕ → Bool
+  abbrev pair_ok : ℕ → ℕ → Bool
   pair_ok x y =
       nat_eq x y
       || (not (same_word (slice_get g.homes x) (slice_get g.homes y))
       && not (same_register (slice_get plan.places.items x) (slice_get plan.places.items y)))
 
-  pub accepts : Bool
+  abbrev pub accepts : Bool
   accepts =
       all_below n (λ pc. step_ok pc (slice_get g.body pc))
       && (all_below c value_ok && all_below c (λ x. all_below c (pair_ok x)))
 
   live_below : (pc y : ℕ) → IsLive plan pc y → y < c
-  unfolding c
   live_below pc y e = range_below plan.live.items y pc e
 
   home_of_ok : (y : ℕ) (o : Option ℕ) → slice_get g.homes y ≡ o → home_ok o ≡ true → HasHome g y
-  unfolding home_ok
   home_of_ok y None e h = cc
   home_of_ok y (Some w) e h = record { word = w; is = e; inside = leb-true (8 * w + 16) g.room h }
 
   place_of_ok : (y : ℕ) (o : Option Place) → slice_get plan.places.items y ≡ o → place_ok o ≡ true
       → (place : Place) × (slice_get plan.places.items y ≡ Some place)
-  unfolding place_ok
   place_of_ok y None e h = cc
   place_of_ok y (Some place) e h = (place, e)
 
   register_of_ok : (y r : ℕ) → slice_get plan.places.items y ≡ Some (Register r)
       → place_ok (slice_get plan.places.items y) ≡ true → r < REGISTERS
-  unfolding place_ok
   register_of_ok y r e h =
       let t : place_ok (Some (Register r)) ≡ true = ap place_ok (sym e) ∙ h in ltb-true r REGISTERS t
 
   other_words : (x y w : ℕ) → pair_ok x y ≡ true → slice_get g.homes x ≡ Some w → slice_get g.homes y ≡ Some w
       → x ≡ y
-  unfolding pair_ok same_word
   other_words x y w h a b = ⊎_elim (λ e. eqb-true x y e)
       (λ o.
       let parts = and_parts (not (same_word (slice_get g.homes x) (slice_get g.homes y)))
@@ -173,7 +168,6 @@ module _ (p : FlatProgram) (f : ℕ) (g : FlatFunction) (plan : FunctionPlan) wh
 
   other_registers : (x y r : ℕ) → pair_ok x y ≡ true → slice_get plan.places.items x ≡ Some (Register r)
       → slice_get plan.places.items y ≡ Some (Register r) → x ≡ y
-  unfolding pair_ok same_register
   other_registers x y r h a b = ⊎_elim (λ e. eqb-true x y e)
       (λ o.
       let parts = and_parts (not (same_word (slice_get g.homes x) (slice_get g.homes y)))
@@ -196,7 +190,6 @@ module _ (p : FlatProgram) (f : ℕ) (g : FlatFunction) (plan : FunctionPlan) wh
     taken : flow_to (made_by p i) pc (taken_of i pc) ≡ true
 
   step_parts : (pc : ℕ) (i : FlatInstruction) → step_ok pc (Some i) ≡ true → IsStep pc i
-  unfolding step_ok
   step_parts pc i h =
       let a = and_parts (are_within c (read_by p f i)) _ h in
       let b = and_parts (is_within c (made_by p i)) _ a.1 in
@@ -206,7 +199,6 @@ module _ (p : FlatProgram) (f : ℕ) (g : FlatFunction) (plan : FunctionPlan) wh
 
   flow_if : (made : Span) (pc q : ℕ) (o : Option ℕ) → o ≡ Some q → flow_to made pc o ≡ true
       → all_below c (flow_at made pc q) ≡ true
-  unfolding flow_to
   flow_if made pc q o e h = let t : flow_to made pc (Some q) ≡ true = ap (flow_to made pc) (sym e) ∙ h in t
 
   flow_of : (pc q : ℕ) (i : FlatInstruction) → IsStep pc i → Leads i pc q
@@ -216,16 +208,13 @@ module _ (p : FlatProgram) (f : ℕ) (g : FlatFunction) (plan : FunctionPlan) wh
 
   module _ (ok : accepts ≡ true) where
     steps : all_below n (λ pc. step_ok pc (slice_get g.body pc)) ≡ true
-    unfolding accepts
     steps = (and_parts (all_below n (λ pc. step_ok pc (slice_get g.body pc))) _ ok).0
 
     others : (all_below c value_ok ≡ true) × (all_below c (λ x. all_below c (pair_ok x)) ≡ true)
-    unfolding accepts
     others = and_parts (all_below c value_ok) _
         (and_parts (all_below n (λ pc. step_ok pc (slice_get g.body pc))) _ ok).1
 
     step_at : (pc : ℕ) (i : FlatInstruction) → slice_get g.body pc ≡ Some i → IsStep pc i
-    unfolding n
     step_at pc i e =
         let lt = get_below g.body pc i e in
         let t = below_all (length g.body) (λ pc. step_ok pc (slice_get g.body pc)) steps pc lt in
@@ -240,7 +229,6 @@ module _ (p : FlatProgram) (f : ℕ) (g : FlatFunction) (plan : FunctionPlan) wh
     flow_parts : (made : Span) (pc q y : ℕ) → all_below c (flow_at made pc q) ≡ true → y < c
         → (implies (is_among made y) (is_live plan q y) ≡ true)
         × (implies (is_live plan q y) (is_among made y || is_live plan pc y) ≡ true)
-    unfolding flow_at
     flow_parts made pc q y h lt =
         and_parts (implies (is_among made y) (is_live plan q y)) _ (below_all c (flow_at made pc q) h y lt)
 
@@ -267,7 +255,6 @@ module _ (p : FlatProgram) (f : ℕ) (g : FlatFunction) (plan : FunctionPlan) wh
     }
 
     pub accepted : IsAccepted p f g plan
-    unfolding value_ok
     accepted = record {
       closed = closed;
       homes = λ pc x y w lt a b h k.

@@ -1,6 +1,7 @@
 //! The laws of the program, each as the contract of a function that does nothing.
 
 ghost use Rattle.std.specs.Prelude.{List, ℕ};
+ghost use Rattle.std.specs.Global.{Global};
 ghost use Rattle.behaviours.specs.Behaviour.{Follows};
 ghost use Rattle.behaviours.specs.Steps.{run};
 ghost use Rattle.flat_meaning.specs.Memory.{Bytes, AreBytes};
@@ -14,10 +15,10 @@ ghost use Rattle.rv_layout.specs.Lists.{bytes_of};
 ghost use Rattle.rv_codegen.specs.Generated.{start_address, code_words, table_words};
 ghost use Rattle.rv_codegen_example.specs.Program.{sizes, program, MeetsPremises, Ends};
 
-/// The program meets every premise under plans that keep all its values in registers; so the machine with its code
-/// follows it, whatever the data and the input are.
+/// The program meets every premise under plans that keep all its values in registers, wherever these lie in memory; so
+/// the machine with its code follows it, whatever the data and the input are.
 pub fn premises_are_met()
-    ensures { (plans : List FunctionPlan) × MeetsPremises plans
+    ensures { (alloc : Global) → (plans : List FunctionPlan) × MeetsPremises plans
         × ((objects spaces : List ℕ) (memory : Bytes) (input : List ℕ)
         → Hold (object_bytes sizes) (space_bytes sizes) memory objects spaces → AreBytes memory
         → Follows 64 (flat_meaning sizes program memory input)

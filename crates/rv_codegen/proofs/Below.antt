@@ -14,7 +14,7 @@ use Rattle.flat_meaning.specs.Meaning.{is_runtime_function}
 use Rattle.reg_plan.specs.declared.plan.FunctionPlan.{FunctionPlan}
 use Rattle.rv_calls.specs.Calls.{row}
 use Rattle.rv_layout.specs.Lists.{items_of}
-use Rattle.rv_codegen.specs.Generated.{is_of, function_words, words_if, words_below, begin_if, begin, rows_below}
+use Rattle.rv_segments.specs.Segments.{is_of, function_words, words_if, words_below, begin_if, begin, rows_below}
 use Rattle.rv_codegen.specs.Generated.{AreBelow}
 
 module _ (m : MapSizes) (p : FlatProgram) (plans : List FunctionPlan) (k : ℕ) where

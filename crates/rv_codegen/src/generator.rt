@@ -7,7 +7,8 @@ ghost use Rattle.rv_isa.specs.Table.{word_of};
 ghost use Rattle.rv_asm.specs.Forms.{IsAssemblable};
 ghost use Rattle.rv_calls.specs.Calls.{row};
 ghost use Rattle.rv_layout.specs.Lists.{items_of};
-ghost use Rattle.rv_codegen.specs.Generated.{function_words, IsReady, AreBelow, IsGenerated, IsCause};
+ghost use Rattle.rv_segments.specs.Segments.{function_words};
+ghost use Rattle.rv_codegen.specs.Generated.{IsReady, AreBelow, IsGenerated, IsCause};
 
 use crate::code::{Code, GenerateError};
 use crate::listing::function_items;

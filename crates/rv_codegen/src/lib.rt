@@ -6,7 +6,6 @@
 
 pub mod code;
 pub mod generator;
-pub mod laws;
 mod listing;
 
 pub use crate::code::{Code, GenerateError};

@@ -9,12 +9,15 @@ use denote.RawPtr.{null_ptr}
 use Rattle.sb_base.specs.Endings.{code_of, report_of}
 use Rattle.addr_map.specs.Places.{MapSizes, AreMapped, region_size, region_start, function_address}
 use Rattle.behaviours.specs.Behaviour.{Follows}
+use Rattle.behaviours.specs.Steps.{run}
 use Rattle.flat_meaning.specs.declared.instruction.FlatInstruction.{FlatInstruction}
 use Rattle.flat_meaning.specs.declared.instruction.FlatInstruction.TheVariants as flat
 use Rattle.flat_meaning.specs.declared.function.FlatFunction.{FlatFunction}
+use Rattle.flat_meaning.specs.declared.function.FlatProgram.{FlatProgram}
 use Rattle.flat_meaning.specs.Memory.{Bytes, AreBytes}
+use Rattle.flat_meaning.specs.State.{Stuck}
 use Rattle.flat_meaning.specs.Calls.{function_in}
-use Rattle.flat_meaning.specs.Meaning.{instruction_at, body_of, flat_meaning}
+use Rattle.flat_meaning.specs.Meaning.{instruction_at, body_of, step, started, flat_meaning}
 use Rattle.reg_plan.specs.declared.plan.LiveInterval.{LiveInterval}
 use Rattle.reg_plan.specs.declared.plan.Place.{Place}
 use Rattle.reg_plan.specs.declared.plan.Place.TheVariants.{Register}
@@ -32,10 +35,9 @@ use Rattle.rv_follows.specs.Start.{IsStartable, begins}
 use Rattle.rv_layout.specs.Lists.{items_of, bytes_of}
 use Rattle.rv_sim.specs.Behaviour.{behaviour}
 use Rattle.rv_view.specs.Segments.{Hold}
-use Rattle.rv_codegen.specs.Generated.{words_below, begin, rows_below, start_address, code_words, table_words}
-use Rattle.rv_codegen.specs.Generated.{code_bytes, table_bytes, FitsSegments}
-use Rattle.rv_codegen.proofs.Labels.{labels_meet}
-use Rattle.rv_codegen.proofs.Running.{generated_follows}
+use Rattle.rv_segments.specs.Segments.{words_below, begin, rows_below, start_address, code_words, table_words}
+use Rattle.rv_segments.specs.Segments.{code_bytes, table_bytes, FitsSegments}
+use Rattle.rv_segments.proofs.Labels.{labels_meet}
 use Rattle.rv_codegen_example.specs.Program.{sizes, main, next, program, MeetsPremises}
 use Rattle.rv_codegen_example.proofs.Tested.{all_below}
 use Rattle.rv_codegen_example.proofs.Tested as tested
@@ -212,16 +214,26 @@ module _ (a : Global) where
     never_stuck = never_stuck;
   }
 
-pub met : (a : Global)
+-- the law of the segments, as `generated_code_follows` tells it
+abbrev Law : Type 0
+Law = (m : MapSizes) (p : FlatProgram) (plans : List FunctionPlan) (objects spaces : List ℕ) (memory : Bytes)
+    (input : List ℕ) → AreMapped m → AreAccepted p plans → IsEncodable p → IsStartable m p → FitsSegments m p plans
+    → Hold (object_bytes m) (space_bytes m) memory objects spaces → AreBytes memory
+    → ((k : ℕ) → run (step m p) k (started p memory input) ≡ Stuck → ⊥)
+    → Follows 64 (flat_meaning m p memory input)
+    (behaviour (begins (start_address p) (bytes_of (table_words m p plans)) (bytes_of (code_words m p plans)) objects
+    spaces) input)
+
+pub met : Law → (a : Global)
     → (plans : List FunctionPlan) × MeetsPremises plans
     × ((objects spaces : List ℕ) (memory : Bytes) (input : List ℕ)
     → Hold (object_bytes sizes) (space_bytes sizes) memory objects spaces → AreBytes memory
     → Follows 64 (flat_meaning sizes program memory input)
     (behaviour (begins (start_address program) (bytes_of (table_words sizes program plans))
     (bytes_of (code_words sizes program plans)) objects spaces) input))
-met a = (
+met law a = (
   plans a,
   premises a,
-  λ objects spaces memory input hold bytes. generated_follows sizes program (plans a) objects spaces memory input
-      mapped (accepted a) encodable startable (fits a) hold bytes (never_stuck memory input),
+  λ objects spaces memory input hold bytes. law sizes program (plans a) objects spaces memory input mapped
+      (accepted a) encodable startable (fits a) hold bytes (never_stuck memory input),
 )

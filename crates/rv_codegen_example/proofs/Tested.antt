@@ -1,6 +1,6 @@
 -- Tests that compute, and what they show of a plan: that it is accepted.
 use Rattle.std.proofs.Common.{◌≡◌, ℕ, zero, suc, ◌+◌, ◌*◌, ◌<◌, ◌≤◌, ◌⊎◌, Bool, true, false, not, ◌&&◌, ◌||◌, List, []}
-use Rattle.std.proofs.Common.{◌∷◌, length, Option, Some, None, refl, sym, ap, ◌∙◌, subst, arith, ⊎_elim}
+use Rattle.std.proofs.Common.{◌∷◌, inl, inr, length, Option, Some, None, refl, sym, ap, ◌∙◌, subst, arith, ⊎_elim}
 use Rattle.std.specs.Prelude.{slice_get, nat_le, nat_lt, nat_eq, Vec}
 use Rattle.std.specs.Global.{Global}
 use Rattle.std.proofs.lemmas.Bool.{ltb-true, leb-true, eqb-true, eq-eqb, le-ltb, and_parts, cases_lt}
@@ -241,6 +241,8 @@ module _ (p : FlatProgram) (f : ℕ) (g : FlatFunction) (plan : FunctionPlan) wh
           (below_all c (λ y. implies (is_read (read_by p f r.0) y) (is_live plan pc y)) s.read y lt) r.2;
       made = λ pc q y l r.
           let s = step_at pc r.0 r.1 in
+          let by_leads = l.1 in
+          let by_makes = r.1 in
           let same : l.0 ≡ r.0 = cc in
           let leads : Leads r.0 pc q = subst (λ i. Leads i pc q) same l.2 in
           let lt = among_below c (made_by p r.0) y s.makes r.2 in

@@ -18,7 +18,7 @@ use Rattle.reg_plan.specs.declared.plan.FunctionPlan.{FunctionPlan}
 use Rattle.reg_plan.specs.Tests.{AreAccepted}
 use Rattle.rv_follows.specs.Code.{IsEncodable}
 use Rattle.rv_follows.specs.Start.{IsStartable}
-use Rattle.rv_codegen.specs.Generated.{FitsSegments}
+use Rattle.rv_segments.specs.Segments.{FitsSegments}
 
 -- a map with the budgets that are taken where none are asked for
 abbrev pub sizes : MapSizes

@@ -12,8 +12,10 @@ ghost use Rattle.rv_view.specs.Segments.{Hold};
 ghost use Rattle.rv_follows.specs.Matching.{object_bytes, space_bytes};
 ghost use Rattle.rv_follows.specs.Start.{begins};
 ghost use Rattle.rv_layout.specs.Lists.{bytes_of};
-ghost use Rattle.rv_codegen.specs.Generated.{start_address, code_words, table_words};
+ghost use Rattle.rv_segments.specs.Segments.{start_address, code_words, table_words};
 ghost use Rattle.rv_codegen_example.specs.Program.{sizes, program, MeetsPremises, Ends};
+
+use rv_segments::laws::generated_code_follows;
 
 /// The program meets every premise under plans that keep all its values in registers, wherever these lie in memory; so
 /// the machine with its code follows it, whatever the data and the input are.
@@ -24,7 +26,9 @@ pub fn premises_are_met()
         → Follows 64 (flat_meaning sizes program memory input)
         (behaviour (begins (start_address program) (bytes_of (table_words sizes program plans))
         (bytes_of (code_words sizes program plans)) objects spaces) input)) }
-{}
+{
+    generated_code_follows();
+}
 
 /// The program sends three bytes, and ends with status 0.
 pub fn three_bytes_are_sent()

@@ -12,10 +12,10 @@ use Rattle.flat_meaning.specs.Calls.{function_in}
 use Rattle.reg_plan.specs.declared.plan.FunctionPlan.{FunctionPlan}
 use Rattle.rv_calls.specs.Calls.{row}
 use Rattle.rv_follows.specs.Start.{start_block}
-use Rattle.rv_codegen.specs.Generated.{is_of, function_words, words_if, words_below, begin, rows_below, code_words}
-use Rattle.rv_codegen.specs.Generated.{table_words}
-use Rattle.rv_codegen.proofs.Parts.{StandsIn, stands_last, stands_first, stands_left, stands_right, stands_mapped}
-use Rattle.rv_codegen.proofs.Parts.{map_length}
+use Rattle.rv_segments.specs.Segments.{is_of, function_words, words_if, words_below, begin, rows_below, code_words}
+use Rattle.rv_segments.specs.Segments.{table_words}
+use Rattle.rv_segments.proofs.Parts.{StandsIn, stands_last, stands_first, stands_left, stands_right, stands_mapped}
+use Rattle.rv_segments.proofs.Parts.{map_length}
 
 module _ (m : MapSizes) (p : FlatProgram) (plans : List FunctionPlan) where
   -- the words of a function among those of all below a number
@@ -57,9 +57,6 @@ module _ (m : MapSizes) (p : FlatProgram) (plans : List FunctionPlan) where
       (subst (λ a. StandsIn (rows_below m p plans k ++ row (begin m p plans k)) a (row (begin m p plans k)))
       (rows_length k) (stands_last (rows_below m p plans k) (row (begin m p plans k)))))
       (cases_lt k n)
-
-  count : ℕ
-  count = length p.functions
 
   pub row_stands : (k : ℕ) → k < length p.functions
       → StandsIn (table_words m p plans) (4 * k) (map word_of (row (begin m p plans k)))

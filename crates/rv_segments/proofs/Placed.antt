@@ -10,7 +10,6 @@ use Rattle.rv_asm.specs.declared.item.Item.{Item}
 use Rattle.rv_asm.specs.declared.item.Item.TheVariants as item
 use Rattle.rv_asm.specs.Forms.{IsAssemblable}
 use Rattle.rv_asm.specs.Words.{Assembled, words_of}
-use Rattle.rv_asm.proofs.Meeting.{assembled}
 use Rattle.rv_sim.specs.Memory.{fetch}
 use Rattle.rv_view.specs.Segments.{segments}
 use Rattle.rv_view.specs.Views.{Layout, AllStand}
@@ -25,13 +24,13 @@ use Rattle.rv_follows.proofs.Sound.{get_below}
 use Rattle.rv_layout.specs.Lists.{bytes_of, items_of, HasBytes, HasWordsAt, ArePlaced}
 use Rattle.rv_layout.proofs.Bytes.{stand_in_code, stand_in_table}
 use Rattle.rv_layout.proofs.Table.{AllOfTable}
-use Rattle.rv_codegen.specs.Generated.{is_of, function_words, words_below, start_address, begin_if, begin}
-use Rattle.rv_codegen.specs.Generated.{code_words, table_words, FitsSegments}
-use Rattle.rv_codegen.proofs.Parts.{StandsIn, bytes_length, stands_in_bytes, map_length}
-use Rattle.rv_codegen.proofs.Small.{words_small}
-use Rattle.rv_codegen.proofs.Assembled.{function_small}
-use Rattle.rv_codegen.proofs.Missing.{missing_assemblable}
-use Rattle.rv_codegen.proofs.Standing.{row_stands, start_stands, runtime_stands, compiled_stands}
+use Rattle.rv_segments.specs.Segments.{is_of, function_words, words_below, start_address, begin_if, begin}
+use Rattle.rv_segments.specs.Segments.{code_words, table_words, FitsSegments}
+use Rattle.rv_segments.proofs.Parts.{StandsIn, bytes_length, stands_in_bytes, map_length}
+use Rattle.rv_segments.proofs.Small.{words_small}
+use Rattle.rv_segments.proofs.Assembled.{function_small}
+use Rattle.rv_segments.proofs.Missing.{missing_assemblable}
+use Rattle.rv_segments.proofs.Standing.{row_stands, start_stands, runtime_stands, compiled_stands}
 
 -- words of instructions that stand in memory are instructions that stand there
 next_words : (l : Layout) (a w : ℕ) (ws : List ℕ) → HasWordsAt l a (w ∷ ws) → HasWordsAt l (a + 4) ws
@@ -39,7 +38,7 @@ next_words l a w ws h = record {
   fetched = λ k v e objects spaces apart.
       let place : a + 4 + 4 * k ≡ a + 4 * suc k = omega arith in
       ap (fetch (segments l.table l.code objects spaces)) place ∙ h.fetched (suc k) v e objects spaces apart;
-  whole = (let w = h.whole in omega arith);
+  whole = (let four = h.whole in omega arith);
   end = (let e = h.end in omega arith);
 }
 
@@ -79,8 +78,9 @@ of_kind : (g : Option FlatFunction) (f : FlatFunction) (r : Bool) → g ≡ Some
 of_kind g f true e k = ap (is_of true) e ∙ k
 of_kind g f false e k = ap (is_of false) e ∙ ap not k
 
-module _ (m : MapSizes) (p : FlatProgram) (plans : List FunctionPlan) (fits : FitsSegments m p plans) where
-  l : Layout
+module _ (meet : (items : List Item) → IsAssemblable items → Assembled items (words_of items)) (m : MapSizes)
+    (p : FlatProgram) (plans : List FunctionPlan) (fits : FitsSegments m p plans) where
+  abbrev l : Layout
   l = layout_of m (bytes_of (table_words m p plans)) (bytes_of (code_words m p plans))
 
   able : (f : ℕ) → IsAssemblable (items_of m p plans f)
@@ -88,9 +88,9 @@ module _ (m : MapSizes) (p : FlatProgram) (plans : List FunctionPlan) (fits : Fi
       (cases_lt f (length p.functions))
 
   asm : (f : ℕ) → Assembled (items_of m p plans f) (function_words m p plans f)
-  asm f = assembled (items_of m p plans f) (able f)
+  asm f = meet (items_of m p plans f) (able f)
 
-  pub place : (function item : ℕ) → ℕ
+  abbrev pub place : (function item : ℕ) → ℕ
   place f k = (asm f).place k
 
   code_fits : length l.code ≤ code_size
@@ -109,8 +109,9 @@ module _ (m : MapSizes) (p : FlatProgram) (plans : List FunctionPlan) (fits : Fi
   placed_if f g true there kind =
       let lt = get_below p.functions f g there in
       let at = 4 * length p.functions + 9 + length (words_below m p plans true f) in
-      let place : functions_begin + 4 * at ≡ begin m p plans f = omega arith ∙ sym (begins_at f g true there kind) in
-      subst (λ a. HasWordsAt l a (function_words m p plans f)) place
+      let from : functions_begin + 4 * at ≡ begin_if m p plans true f = omega arith in
+      let here : functions_begin + 4 * at ≡ begin m p plans f = from ∙ sym (begins_at f g true there kind) in
+      subst (λ a. HasWordsAt l a (function_words m p plans f)) here
       (stand_in_table l (4 * at) (function_words m p plans f)
       (stands_in_bytes (table_words m p plans) (function_words m p plans f) at
       (runtime_stands m p plans f lt (of_kind (function_in p f) g true there kind)))
@@ -118,8 +119,8 @@ module _ (m : MapSizes) (p : FlatProgram) (plans : List FunctionPlan) (fits : Fi
   placed_if f g false there kind =
       let lt = get_below p.functions f g there in
       let at = length (words_below m p plans false f) in
-      let place : code_begin + 4 * at ≡ begin m p plans f = sym (begins_at f g false there kind) in
-      subst (λ a. HasWordsAt l a (function_words m p plans f)) place
+      let here : code_begin + 4 * at ≡ begin m p plans f = sym (begins_at f g false there kind) in
+      subst (λ a. HasWordsAt l a (function_words m p plans f)) here
       (stand_in_code l (4 * at) (function_words m p plans f)
       (stands_in_bytes (code_words m p plans) (function_words m p plans f) at
       (compiled_stands m p plans f lt (of_kind (function_in p f) g false there kind)))
@@ -145,15 +146,15 @@ module _ (m : MapSizes) (p : FlatProgram) (plans : List FunctionPlan) (fits : Fi
 
   pub start_is_there : AllStand l (start_address p) (start_block m p)
   start_is_there =
-      let place : functions_begin + 4 * (4 * length p.functions) ≡ start_address p = omega arith in
-      subst (λ a. AllStand l a (start_block m p)) place
+      let here : functions_begin + 4 * (4 * length p.functions) ≡ start_address p = omega arith in
+      subst (λ a. AllStand l a (start_block m p)) here
       (in_table (4 * length p.functions) (start_block m p) (start_stands m p plans) (start_fits m p))
 
   row_at : (f : ℕ) → f < length p.functions → AllStand l (function_address f) (row (begin m p plans f))
   unfolding function_address
   row_at f lt =
-      let place : functions_begin + 4 * (4 * f) ≡ functions_begin + 16 * f = omega arith in
-      subst (λ a. AllStand l a (row (begin m p plans f))) place
+      let here : functions_begin + 4 * (4 * f) ≡ functions_begin + 16 * f = omega arith in
+      subst (λ a. AllStand l a (row (begin m p plans f))) here
       (in_table (4 * f) (row (begin m p plans f)) (row_stands m p plans f lt) (row_fits (begin m p plans f)))
 
   low_number : (f : ℕ) → f < length p.functions → function_address f < code_begin

@@ -22,7 +22,7 @@ use Rattle.rv_follows.specs.Code.{keeping, block}
 use Rattle.rv_layout.specs.Lists.{plain, label_for, tail_of, items_at, items_from, items_of, AreWords32}
 use Rattle.rv_layout.proofs.Table.{AllOfTable, HasFields, entry_fits, keeping_fits, block_fits, used_field}
 use Rattle.rv_layout.proofs.Table.{used_right_field}
-use Rattle.rv_codegen.proofs.Small.{words_small, both_small}
+use Rattle.rv_segments.proofs.Small.{words_small, both_small}
 
 -- the registers and the instruction of an item fit their fields
 abbrev IsOfFields : Item → Type 0
@@ -108,10 +108,10 @@ from_small : (places : ℕ → ℕ) (p : ℕ) (forms : List Form) (items : List 
     → AreWords32 (words_from places p forms items)
 from_small places p [] items h k w e = cc
 from_small places p (f ∷ fs) [] h k w e = cc
-from_small places p (f ∷ fs) (i ∷ is) h =
+from_small places p (f ∷ fs) (i ∷ is) h k w e =
     both_small (map word_of (instrs_of f p (target_place places i) i)) (words_from places (p + size_of f i) fs is)
     (words_small (instrs_of f p (target_place places i) i) (instrs_fit f p (target_place places i) i h.0))
-    (from_small places (p + size_of f i) fs is h.1)
+    (from_small places (p + size_of f i) fs is h.1) k w e
 
 pub function_small : (m : MapSizes) (p : FlatProgram) (plans : List FunctionPlan) (f : ℕ)
     → AreWords32 (words_of (items_of m p plans f))

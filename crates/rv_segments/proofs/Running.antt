@@ -3,7 +3,7 @@ use Rattle.std.proofs.Common.{◌≡◌, ℕ, ◌+◌, ◌-◌, ◌*◌, ◌^◌
 use Rattle.addr_map.specs.Places.{MapSizes, AreMapped, functions_begin, code_begin, code_size, objects_begin}
 use Rattle.addr_map.specs.Places.{spaces_begin, region_start, region_end}
 use Rattle.addr_map.specs.declared.region.Region.TheVariants.{Heap, RuntimeCalls}
-use Rattle.addr_map.proofs.Order.{objects_inside, ends_low, others_behind}
+use Rattle.addr_map.proofs.Order.{objects_inside, ends_low}
 use Rattle.behaviours.specs.Behaviour.{Follows}
 use Rattle.behaviours.specs.Steps.{run}
 use Rattle.flat_meaning.specs.declared.function.FlatProgram.{FlatProgram}
@@ -12,6 +12,9 @@ use Rattle.flat_meaning.specs.State.{Stuck}
 use Rattle.flat_meaning.specs.Meaning.{step, started, flat_meaning}
 use Rattle.reg_plan.specs.declared.plan.FunctionPlan.{FunctionPlan}
 use Rattle.reg_plan.specs.Tests.{AreAccepted}
+use Rattle.rv_asm.specs.declared.item.Item.{Item}
+use Rattle.rv_asm.specs.Forms.{IsAssemblable}
+use Rattle.rv_asm.specs.Words.{Assembled, words_of}
 use Rattle.rv_sim.specs.Behaviour.{behaviour}
 use Rattle.rv_view.specs.Segments.{Hold}
 use Rattle.rv_view.specs.Views.{Fits}
@@ -21,9 +24,9 @@ use Rattle.rv_follows.specs.Start.{layout_of, IsStartable, begins}
 use Rattle.rv_follows.proofs.Follows.{machine_follows}
 use Rattle.rv_layout.specs.Lists.{bytes_of, address_in}
 use Rattle.rv_layout.proofs.Laid.{laid}
-use Rattle.rv_codegen.specs.Generated.{start_address, begin, function_words, code_words, table_words, FitsSegments}
-use Rattle.rv_codegen.proofs.Parts.{bytes_length}
-use Rattle.rv_codegen.proofs.Placed.{place, placed, start_is_there}
+use Rattle.rv_segments.specs.Segments.{start_address, begin, function_words, code_words, table_words, FitsSegments}
+use Rattle.rv_segments.proofs.Parts.{bytes_length}
+use Rattle.rv_segments.proofs.Placed.{place, placed, start_is_there}
 
 pub segments_fit : (m : MapSizes) (p : FlatProgram) (plans : List FunctionPlan) → AreMapped m
     → FitsSegments m p plans
@@ -34,6 +37,8 @@ segments_fit m p plans mapped fits =
     let table = fits.table in
     let code = fits.code in
     let heap = objects_inside m mapped Heap (omega arith) (omega arith) in
+    let heap_begins = heap.0 in
+    let heap_ends = heap.1 in
     let calls = ends_low m mapped RuntimeCalls in
     record {
       table_fits = omega arith;
@@ -42,7 +47,7 @@ segments_fit m p plans mapped fits =
       spaces_fit = omega arith;
     }
 
-pub generated_follows : (m : MapSizes) (p : FlatProgram) (plans : List FunctionPlan) (objects spaces : List ℕ)
+pub generated_follows : ((items : List Item) → IsAssemblable items → Assembled items (words_of items)) → (m : MapSizes) (p : FlatProgram) (plans : List FunctionPlan) (objects spaces : List ℕ)
     (memory : Bytes) (input : List ℕ) → AreMapped m → AreAccepted p plans → IsEncodable p → IsStartable m p
     → FitsSegments m p plans → Hold (object_bytes m) (space_bytes m) memory objects spaces → AreBytes memory
     → ((k : ℕ) → run (step m p) k (started p memory input) ≡ Stuck → ⊥)
@@ -50,10 +55,10 @@ pub generated_follows : (m : MapSizes) (p : FlatProgram) (plans : List FunctionP
     (behaviour
     (begins (start_address p) (bytes_of (table_words m p plans)) (bytes_of (code_words m p plans)) objects spaces)
     input)
-generated_follows m p plans objects spaces memory input mapped accepted encodable startable fits hold bytes fine =
+generated_follows meet m p plans objects spaces memory input mapped accepted encodable startable fits hold bytes fine =
     machine_follows m p plans (bytes_of (table_words m p plans)) (bytes_of (code_words m p plans))
-    (address_in m p plans (begin m p plans) (place m p plans fits)) (begin m p plans) (start_address p) objects spaces
+    (address_in m p plans (begin m p plans) (place meet m p plans fits)) (begin m p plans) (start_address p) objects spaces
     memory input mapped accepted encodable startable (segments_fit m p plans mapped fits)
     (laid m p plans (layout_of m (bytes_of (table_words m p plans)) (bytes_of (code_words m p plans)))
-    (begin m p plans) (function_words m p plans) (place m p plans fits) (placed m p plans fits))
-    (start_is_there m p plans fits) hold bytes fine
+    (begin m p plans) (function_words m p plans) (place meet m p plans fits) (placed meet m p plans fits))
+    (start_is_there meet m p plans fits) hold bytes fine

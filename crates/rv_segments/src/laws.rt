@@ -1,7 +1,7 @@
 //! Laws of the code that is generated, each as the contract of a function that does nothing: what is above rests on
 //! them.
 
-ghost use Rattle.std.specs.Prelude.{◌≡◌, ◌^◌, ◌<◌, ⊥, ℕ, List};
+ghost use Rattle.std.specs.Prelude.{◌≡◌, ◌^◌, ◌<◌, ℕ, List};
 ghost use Rattle.addr_map.specs.Places.{MapSizes, AreMapped};
 ghost use Rattle.behaviours.specs.Behaviour.{Follows};
 ghost use Rattle.behaviours.specs.Steps.{run};
@@ -18,8 +18,10 @@ ghost use Rattle.rv_follows.specs.Code.{IsEncodable};
 ghost use Rattle.rv_follows.specs.Matching.{object_bytes, space_bytes};
 ghost use Rattle.rv_follows.specs.Start.{layout_of, IsStartable, begins};
 ghost use Rattle.rv_layout.specs.Lists.{bytes_of, items_of, ArePlaced};
-ghost use Rattle.rv_codegen.specs.Generated.{start_address, begin, function_words, code_words, table_words};
-ghost use Rattle.rv_codegen.specs.Generated.{FitsSegments};
+ghost use Rattle.rv_segments.specs.Segments.{start_address, begin, function_words, code_words, table_words};
+ghost use Rattle.rv_segments.specs.Segments.{FitsSegments};
+
+use rv_asm::laws::targets_are_met;
 
 /// The list of a function can be assembled where its longest forms have fewer than 2^28 words together.
 pub fn lists_can_be_assembled()
@@ -33,7 +35,9 @@ pub fn generated_code_is_placed()
         → (place : (function item : ℕ) → ℕ)
         × ArePlaced m p plans (layout_of m (bytes_of (table_words m p plans)) (bytes_of (code_words m p plans)))
         (begin m p plans) (function_words m p plans) place }
-{}
+{
+    targets_are_met();
+}
 
 /// The machine with the code that is generated follows flat code, at most 64 instructions for each unit of work: where
 /// the plans are accepted, the segments have room, the data segments' bytes are those of the run's memory, and the run
@@ -46,4 +50,6 @@ pub fn generated_code_follows()
         → Follows 64 (flat_meaning m p memory input)
         (behaviour (begins (start_address p) (bytes_of (table_words m p plans)) (bytes_of (code_words m p plans))
         objects spaces) input) }
-{}
+{
+    targets_are_met();
+}

@@ -1,5 +1,5 @@
 -- The list of a number that no function has can be assembled as well.
-use Rattle.std.proofs.Common.{◌≡◌, ℕ, zero, suc, ◌+◌, ◌<◌, ◌≤◌, List, [], ◌∷◌, ◌++◌, length, Option, Some, None}
+use Rattle.std.proofs.Common.{◌≡◌, ℕ, zero, suc, ◌+◌, ◌^◌, ◌<◌, ◌≤◌, List, [], ◌∷◌, ◌++◌, length, Option, Some, None}
 use Rattle.std.proofs.Common.{refl, sym, ap, ◌∙◌, subst, arith}
 use Rattle.std.specs.Prelude.{slice_get}
 use Rattle.addr_map.specs.Places.{MapSizes}
@@ -7,8 +7,7 @@ use Rattle.rv_isa.specs.declared.instruction.Instr.{Instr}
 use Rattle.rv_isa.specs.declared.instruction.Instr.TheVariants.{Ebreak}
 use Rattle.rv_asm.specs.declared.item.Item.{Item}
 use Rattle.rv_asm.specs.declared.item.Item.TheVariants as item
-use Rattle.rv_asm.specs.Items.{target_of, AreApart, AreThere}
-use Rattle.rv_asm.specs.Forms.{IsAssemblable}
+use Rattle.rv_asm.specs.Forms.{IsAssemblable, longest_size}
 use Rattle.flat_meaning.specs.declared.function.FlatFunction.{FlatFunction}
 use Rattle.flat_meaning.specs.declared.function.FlatProgram.{FlatProgram}
 use Rattle.flat_meaning.specs.Calls.{function_in}
@@ -18,6 +17,7 @@ use Rattle.rv_blocks.specs.Blocks.{store_at}
 use Rattle.rv_calls.specs.Calls.{take, entry_block}
 use Rattle.rv_follows.specs.Code.{keeping_of, keeping}
 use Rattle.rv_layout.specs.Lists.{plain, items_from, items_of}
+use Rattle.rv_segments.proofs.Labels.{labels_meet}
 
 get_none : {A : Type 0} (xs : List A) (k : ℕ) → length xs ≤ k → slice_get xs k ≡ None
 get_none [] k le = refl
@@ -27,33 +27,9 @@ get_none (x ∷ xs) (suc k) le = get_none xs k (omega arith)
 short : Instr → List Item
 short i = item.Instr i ∷ item.Label 0 ∷ item.Instr Ebreak ∷ []
 
-no_target : (i j : Item) (l : ℕ) → i ≡ j → target_of i ≡ None → target_of j ≡ Some l → ⊥
-no_target i j l e h t = let n : target_of j ≡ None = ap target_of (sym e) ∙ h in cc
-
-short_assemblable : (i : Instr) → IsAssemblable (short i)
+short_room : (i : Instr) → longest_size (short i) < 2 ^ 28
 unfolding short
-short_assemblable i = record {
-  apart = record { once = once };
-  there = record { place = place };
-  room = omega arith;
-}
-  where
-    once : (j k l : ℕ) → slice_get (short i) j ≡ Some (item.Label l) → slice_get (short i) k ≡ Some (item.Label l)
-        → j ≡ k
-    once zero k l h g = cc
-    once (suc zero) zero l h g = cc
-    once (suc zero) (suc zero) l h g = refl
-    once (suc zero) (suc (suc zero)) l h g = cc
-    once (suc zero) (suc (suc (suc k))) l h g = cc
-    once (suc (suc zero)) k l h g = cc
-    once (suc (suc (suc j))) k l h g = cc
-
-    place : (k l : ℕ) (x : Item) → slice_get (short i) k ≡ Some x → target_of x ≡ Some l
-        → (d : ℕ) × (slice_get (short i) d ≡ Some (item.Label l))
-    place zero l x h t = absurd (no_target (item.Instr i) x l cc refl t)
-    place (suc zero) l x h t = absurd (no_target (item.Label 0) x l cc refl t)
-    place (suc (suc zero)) l x h t = absurd (no_target (item.Instr Ebreak) x l cc refl t)
-    place (suc (suc (suc k))) l x h t = cc
+short_room i = omega arith
 
 -- the list of a function, by whether there is one
 items_if : MapSizes → FlatProgram → List FunctionPlan → ℕ → Option FlatFunction → List Item
@@ -80,7 +56,7 @@ same_items m p plans f = refl
 
 pub missing_assemblable : (m : MapSizes) (p : FlatProgram) (plans : List FunctionPlan) (f : ℕ)
     → length p.functions ≤ f → IsAssemblable (items_of m p plans f)
-missing_assemblable m p plans f le =
-    subst IsAssemblable
+missing_assemblable m p plans f le = labels_meet m p plans f
+    (subst (λ items. longest_size items < 2 ^ 28)
     (sym (same_items m p plans f ∙ ap (items_if m p plans f) (get_none p.functions f le) ∙ none_short m p plans f))
-    (short_assemblable (first_of_none (slice_get plans f)))
+    (short_room (first_of_none (slice_get plans f))))

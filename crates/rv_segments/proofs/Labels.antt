@@ -180,10 +180,13 @@ module _ (m : MapSizes) (p : FlatProgram) (plans : List FunctionPlan) (f n : ℕ
   targets_low : (pc : ℕ) (is : List FlatInstruction) (k l : ℕ) (i : Item) → slice_get (from pc is) k ≡ Some i
       → target_of i ≡ Some l → l ≤ n
   unfolding from inner
-  targets_low pc [] zero l i h t = absurd (goes_nowhere (item.Label n) i l cc (nothing None) t)
-  targets_low pc [] (suc zero) l i h t = absurd (goes_nowhere (item.Instr Ebreak) i l cc (nothing None) t)
+  targets_low pc [] zero l i h t =
+      let e : item.Label n ≡ i = cc in absurd (goes_nowhere (item.Label n) i l e (nothing None) t)
+  targets_low pc [] (suc zero) l i h t =
+      let e : item.Instr Ebreak ≡ i = cc in absurd (goes_nowhere (item.Instr Ebreak) i l e (nothing None) t)
   targets_low pc [] (suc (suc k)) l i h t = cc
-  targets_low pc (x ∷ is) zero l i h t = absurd (goes_nowhere (item.Label pc) i l cc (nothing None) t)
+  targets_low pc (x ∷ is) zero l i h t =
+      let e : item.Label pc ≡ i = cc in absurd (goes_nowhere (item.Label pc) i l e (nothing None) t)
   targets_low pc (x ∷ is) (suc k) l i h t =
       item_behind n (inner pc x) (from (suc pc) is) k l i (inner_plain pc x)
       (λ j g. targets_low (suc pc) is j l i g t) h t

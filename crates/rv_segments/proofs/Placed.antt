@@ -87,7 +87,7 @@ module _ (meet : (items : List Item) → IsAssemblable items → Assembled items
   able f = ⊎_elim (λ lt. fits.assemblable f lt) (λ le. missing_assemblable m p plans f le)
       (cases_lt f (length p.functions))
 
-  asm : (f : ℕ) → Assembled (items_of m p plans f) (function_words m p plans f)
+  pub asm : (f : ℕ) → Assembled (items_of m p plans f) (function_words m p plans f)
   asm f = meet (items_of m p plans f) (able f)
 
   abbrev pub place : (function item : ℕ) → ℕ

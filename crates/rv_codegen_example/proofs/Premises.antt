@@ -174,6 +174,7 @@ module _ (a : Global) where
 
   main_long : nat_lt (longest_size (items_of sizes program plans 0)) (2 ^ 28) ≡ true
   unfolding plans keeping block location home give take save restore digits constant load_at store_at
+      function_address
   main_long = refl
 
   next_long : nat_lt (longest_size (items_of sizes program plans 1)) (2 ^ 28) ≡ true
@@ -182,7 +183,7 @@ module _ (a : Global) where
 
   code_long : nat_le (code_bytes sizes program plans) 0x800000 ≡ true
   unfolding plans keeping block location home give take save restore digits constant load_at store_at words_of forms_of
-      words_below
+      words_below function_address
   code_long = refl
 
   table_long : nat_le (0x10000 + table_bytes sizes program plans) 0x100000 ≡ true

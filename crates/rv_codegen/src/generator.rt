@@ -51,11 +51,7 @@ struct Segments {
 }
 
 // Puts a function of the runtime.
-fn put_runtime(
-    segments: &mut Segments,
-    count: u32,
-    words: &[u32],
-) -> Result<(), AllocError>
+fn put_runtime(segments: &mut Segments, count: u32, words: &[u32]) -> Result<(), AllocError>
     ensures rows { OnOk result
         (segments.new.rows.items ≡ segments.old.rows.items
         ++ row (0x10000 + 16 * count + 36 + 4 * length segments.old.runtime.items)) }
@@ -76,7 +72,10 @@ fn put_compiled(segments: &mut Segments, words: &[u32]) -> Result<(), AllocError
     ensures compiled { OnOk result (segments.new.compiled.items ≡ segments.old.compiled.items ++ words.now) }
     ensures runtime { segments.new.runtime ≡ segments.old.runtime }
 {
-    put_row(&mut segments.rows, 0x10_0000 + 4 * segments.compiled.len() as u128)?;
+    put_row(
+        &mut segments.rows,
+        0x10_0000 + 4 * segments.compiled.len() as u128,
+    )?;
     segments.compiled.extend_from_slice(words)?;
     Ok(())
 }

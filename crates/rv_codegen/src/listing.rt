@@ -96,7 +96,11 @@ impl Listing {
 pub(crate) fn label_for(count: u32, place: u64) -> u32
     ensures { result ≡ label_for count place }
 {
-    if place < u64::from(count) { place as u32 } else { count }
+    if place < u64::from(count) {
+        place as u32
+    } else {
+        count
+    }
 }
 
 // Puts the jump or the branch behind the block of an instruction.
@@ -154,7 +158,15 @@ fn put_items(
         (list.new ≡ list.old ++ items_at sizes.now program.now plans.now number count place instruction.now) }
 {
     let mut block = Vec::new(alloc);
-    put_block(&mut block, sizes, program, plans, number, u64::from(place), instruction)?;
+    put_block(
+        &mut block,
+        sizes,
+        program,
+        plans,
+        number,
+        u64::from(place),
+        instruction,
+    )?;
     list.put_label(place)?;
     list.put_plain(&block)?;
     put_tail(list, program, plans, number, count, place, instruction)
@@ -173,7 +185,9 @@ pub(crate) fn function_items(
     requires small { length (body_of (function_in program.now number)) < 2 ^ 32 }
     ensures { IfOk result (λ list. list ≡ items_of sizes.now program.now plans.now number) }
 {
-    let body = program.functions.as_slice()[number as usize].body.as_slice();
+    let body = program.functions.as_slice()[number as usize]
+        .body
+        .as_slice();
     let count = body.len() as u32;
     let mut entry = Vec::new(alloc);
     put_entry(&mut entry, program, plans, number)?;
@@ -181,7 +195,17 @@ pub(crate) fn function_items(
     list.put_plain(&entry)?;
     for place in 0..count {
         let instruction = &body[place as usize];
-        put_items(&mut list, alloc, sizes, program, plans, number, count, place, instruction)?;
+        put_items(
+            &mut list,
+            alloc,
+            sizes,
+            program,
+            plans,
+            number,
+            count,
+            place,
+            instruction,
+        )?;
     }
     list.put_label(count)?;
     list.put_instr(Instr::Ebreak)?;

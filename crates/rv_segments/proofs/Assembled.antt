@@ -1,5 +1,5 @@
 -- The words of an assembled function fit 32 bits.
-use Rattle.std.proofs.Common.{◌≡◌, ℕ, suc, ◌+◌, ◌-◌, ◌*◌, ◌<◌, List, [], ◌∷◌, ◌++◌, length, map, Option, Some, None}
+use Rattle.std.proofs.Common.{ℕ, suc, ◌+◌, ◌<◌, List, [], ◌∷◌, ◌++◌, length, map}
 use Rattle.std.proofs.Common.{arith}
 use Rattle.addr_map.specs.Places.{MapSizes}
 use Rattle.rv_isa.specs.declared.instruction.BranchOp.{BranchOp}
@@ -19,7 +19,7 @@ use Rattle.flat_meaning.specs.Meaning.{body_of, parameters_of}
 use Rattle.reg_plan.specs.declared.plan.FunctionPlan.{FunctionPlan}
 use Rattle.rv_calls.specs.Calls.{Keeping, entry_block}
 use Rattle.rv_follows.specs.Code.{keeping, block}
-use Rattle.rv_layout.specs.Lists.{plain, label_for, tail_of, items_at, items_from, items_of, AreWords32}
+use Rattle.rv_layout.specs.Lists.{plain, tail_of, items_from, items_of, AreWords32}
 use Rattle.rv_layout.proofs.Table.{AllOfTable, HasFields, entry_fits, keeping_fits, block_fits, used_field}
 use Rattle.rv_layout.proofs.Table.{used_right_field}
 use Rattle.rv_segments.proofs.Small.{words_small, both_small}

@@ -1,14 +1,14 @@
 -- The labels of the list of a function meet: each stands once, and each that an item goes to stands somewhere.
-use Rattle.std.proofs.Common.{◌≡◌, ℕ, zero, suc, ◌+◌, ◌-◌, ◌^◌, ◌<◌, ◌≤◌, Bool, true, false, List, [], ◌∷◌, ◌++◌}
+use Rattle.std.proofs.Common.{◌≡◌, ℕ, zero, suc, ◌+◌, ◌-◌, ◌^◌, ◌<◌, ◌≤◌, List, [], ◌∷◌, ◌++◌}
 use Rattle.std.proofs.Common.{length, Option, Some, None, refl, sym, ap, ◌∙◌, subst, arith, ⊎_elim}
-use Rattle.std.specs.Prelude.{slice_get, nat_lt, if◌then◌else◌}
+use Rattle.std.specs.Prelude.{slice_get, if◌then◌else◌}
 use Rattle.std.proofs.lemmas.Bool.{lt-ltb, le-ltb, cases_lt}
 use Rattle.addr_map.specs.Places.{MapSizes}
 use Rattle.rv_isa.specs.declared.instruction.Instr.{Instr}
 use Rattle.rv_isa.specs.declared.instruction.Instr.TheVariants.{Ebreak}
 use Rattle.rv_asm.specs.declared.item.Item.{Item}
 use Rattle.rv_asm.specs.declared.item.Item.TheVariants as item
-use Rattle.rv_asm.specs.Items.{target_of, AreApart, AreThere}
+use Rattle.rv_asm.specs.Items.{target_of}
 use Rattle.rv_asm.specs.Forms.{IsAssemblable, longest_size}
 use Rattle.flat_meaning.specs.declared.instruction.FlatInstruction.{FlatInstruction}
 use Rattle.flat_meaning.specs.declared.instruction.FlatInstruction.TheVariants as flat
@@ -18,7 +18,7 @@ use Rattle.flat_meaning.specs.Meaning.{body_of, parameters_of}
 use Rattle.reg_plan.specs.declared.plan.FunctionPlan.{FunctionPlan}
 use Rattle.rv_calls.specs.Calls.{Keeping, entry_block}
 use Rattle.rv_follows.specs.Code.{keeping, block}
-use Rattle.rv_layout.specs.Lists.{plain, label_for, tail_of, items_at, items_from, items_of}
+use Rattle.rv_layout.specs.Lists.{plain, label_for, tail_of, items_from, items_of}
 
 -- a list has no label, and goes to none above a number
 record IsPlain (n : ℕ) (items : List Item) : Type 0 where
@@ -73,9 +73,14 @@ both_plain n (x ∷ xs) ys h g =
 
 tail_plain : (k : Keeping) (n pc : ℕ) (i : FlatInstruction) → IsPlain n (tail_of k n pc i)
 tail_plain k n pc (flat.Branch op y z past) =
-    one_plain n (label_for n (pc + 1 + past)) _ (nothing (Some (label_for n (pc + 1 + past)))) (label_low n (pc + 1 + past)) (λ l e. cc)
-tail_plain k n pc (flat.JumpForward past) = one_plain n (label_for n (pc + 1 + past)) _ (nothing (Some (label_for n (pc + 1 + past)))) (label_low n (pc + 1 + past)) (λ l e. cc)
-tail_plain k n pc (flat.JumpBack back) = one_plain n (label_for n (pc - back)) _ (nothing (Some (label_for n (pc - back)))) (label_low n (pc - back)) (λ l e. cc)
+    one_plain n (label_for n (pc + 1 + past)) _ (nothing (Some (label_for n (pc + 1 + past))))
+    (label_low n (pc + 1 + past)) (λ l e. cc)
+tail_plain k n pc (flat.JumpForward past) =
+    one_plain n (label_for n (pc + 1 + past)) _ (nothing (Some (label_for n (pc + 1 + past))))
+    (label_low n (pc + 1 + past)) (λ l e. cc)
+tail_plain k n pc (flat.JumpBack back) =
+    one_plain n (label_for n (pc - back)) _ (nothing (Some (label_for n (pc - back)))) (label_low n (pc - back))
+    (λ l e. cc)
 tail_plain k n pc (flat.Constant x v) = empty_plain n
 tail_plain k n pc (flat.Move x y) = empty_plain n
 tail_plain k n pc (flat.Operate op x y z) = empty_plain n

@@ -1,5 +1,5 @@
 -- Lists that stand in longer ones.
-use Rattle.std.proofs.Common.{◌≡◌, ℕ, zero, suc, ◌+◌, ◌*◌, List, [], ◌∷◌, ◌++◌, length, map}
+use Rattle.std.proofs.Common.{◌≡◌, ℕ, suc, ◌+◌, ◌*◌, List, [], ◌∷◌, ◌++◌, length, map}
 use Rattle.std.proofs.Common.{refl, sym, ap, ◌∙◌, arith, length-append, append_assoc}
 use Rattle.byteorder.specs.Endian.{little_bytes}
 use Rattle.rv_layout.specs.Lists.{bytes_of, HasBytes}

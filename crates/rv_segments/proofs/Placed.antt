@@ -1,13 +1,11 @@
 -- What is generated is placed as the back end asks.
-use Rattle.std.proofs.Common.{◌≡◌, ℕ, zero, suc, ◌+◌, ◌-◌, ◌*◌, ◌/◌, ◌%◌, ◌^◌, ◌<◌, ◌≤◌, Bool, true, false, not, List}
-use Rattle.std.proofs.Common.{[], ◌∷◌, ◌++◌, length, map, Option, Some, None, refl, sym, ap, ◌∙◌, subst, arith, ⊎_elim, length-append}
-use Rattle.std.specs.Prelude.{slice_get}
+use Rattle.std.proofs.Common.{◌≡◌, ℕ, suc, ◌+◌, ◌*◌, ◌<◌, ◌≤◌, Bool, true, false, not, List}
+use Rattle.std.proofs.Common.{[], ◌∷◌, ◌++◌, length, map, Option, Some, refl, sym, ap, ◌∙◌, subst, arith, ⊎_elim, length-append}
 use Rattle.std.proofs.lemmas.Bool.{cases_lt}
 use Rattle.addr_map.specs.Places.{MapSizes, functions_begin, code_begin, code_size, function_address}
 use Rattle.rv_isa.specs.declared.instruction.Instr.{Instr}
 use Rattle.rv_isa.specs.Table.{word_of}
 use Rattle.rv_asm.specs.declared.item.Item.{Item}
-use Rattle.rv_asm.specs.declared.item.Item.TheVariants as item
 use Rattle.rv_asm.specs.Forms.{IsAssemblable}
 use Rattle.rv_asm.specs.Words.{Assembled, words_of}
 use Rattle.rv_sim.specs.Memory.{fetch}
@@ -21,12 +19,12 @@ use Rattle.reg_plan.specs.declared.plan.FunctionPlan.{FunctionPlan}
 use Rattle.rv_calls.specs.Calls.{row}
 use Rattle.rv_follows.specs.Start.{layout_of, start_block}
 use Rattle.rv_follows.proofs.Sound.{get_below}
-use Rattle.rv_layout.specs.Lists.{bytes_of, items_of, HasBytes, HasWordsAt, ArePlaced}
+use Rattle.rv_layout.specs.Lists.{bytes_of, items_of, HasWordsAt, ArePlaced}
 use Rattle.rv_layout.proofs.Bytes.{stand_in_code, stand_in_table}
 use Rattle.rv_layout.proofs.Table.{AllOfTable}
 use Rattle.rv_segments.specs.Segments.{is_of, function_words, words_below, start_address, begin_if, begin}
 use Rattle.rv_segments.specs.Segments.{code_words, table_words, FitsSegments}
-use Rattle.rv_segments.proofs.Parts.{StandsIn, bytes_length, stands_in_bytes, map_length}
+use Rattle.rv_segments.proofs.Parts.{StandsIn, bytes_length, stands_in_bytes}
 use Rattle.rv_segments.proofs.Small.{words_small}
 use Rattle.rv_segments.proofs.Assembled.{function_small}
 use Rattle.rv_segments.proofs.Missing.{missing_assemblable}
@@ -67,11 +65,28 @@ row_fits a = (
 start_fits : (m : MapSizes) (p : FlatProgram) → AllOfTable (start_block m p)
 start_fits m p = (
   (omega arith, omega arith),
-  ((omega arith, omega arith, omega arith),
-  ((omega arith, omega arith), ((omega arith, omega arith, omega arith),
-  ((omega arith, omega arith), ((omega arith, omega arith, omega arith),
-  ((omega arith, omega arith), ((omega arith, omega arith, omega arith),
-  ((omega arith, omega arith, omega arith), tt)))))))),
+  (
+    (omega arith, omega arith, omega arith),
+    (
+      (omega arith, omega arith),
+      (
+        (omega arith, omega arith, omega arith),
+        (
+          (omega arith, omega arith),
+          (
+            (omega arith, omega arith, omega arith),
+            (
+              (omega arith, omega arith),
+              (
+                (omega arith, omega arith, omega arith),
+                ((omega arith, omega arith, omega arith), tt),
+              ),
+            ),
+          ),
+        ),
+      ),
+    ),
+  ),
 )
 
 of_kind : (g : Option FlatFunction) (f : FlatFunction) (r : Bool) → g ≡ Some f → f.is_runtime ≡ r → is_of r g ≡ true

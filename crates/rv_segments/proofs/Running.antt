@@ -1,7 +1,6 @@
 -- The machine with the code that is generated follows flat code.
-use Rattle.std.proofs.Common.{◌≡◌, ℕ, ◌+◌, ◌-◌, ◌*◌, ◌^◌, ◌<◌, ◌≤◌, List, length, arith}
-use Rattle.addr_map.specs.Places.{MapSizes, AreMapped, functions_begin, code_begin, code_size, objects_begin}
-use Rattle.addr_map.specs.Places.{spaces_begin, region_start, region_end}
+use Rattle.std.proofs.Common.{◌≡◌, ℕ, List, arith}
+use Rattle.addr_map.specs.Places.{MapSizes, AreMapped}
 use Rattle.addr_map.specs.declared.region.Region.TheVariants.{Heap, RuntimeCalls}
 use Rattle.addr_map.proofs.Order.{objects_inside, ends_low}
 use Rattle.behaviours.specs.Behaviour.{Follows}
@@ -47,8 +46,9 @@ segments_fit m p plans mapped fits =
       spaces_fit = omega arith;
     }
 
-pub generated_follows : ((items : List Item) → IsAssemblable items → Assembled items (words_of items)) → (m : MapSizes) (p : FlatProgram) (plans : List FunctionPlan) (objects spaces : List ℕ)
-    (memory : Bytes) (input : List ℕ) → AreMapped m → AreAccepted p plans → IsEncodable p → IsStartable m p
+pub generated_follows : ((items : List Item) → IsAssemblable items → Assembled items (words_of items))
+    → (m : MapSizes) (p : FlatProgram) (plans : List FunctionPlan) (objects spaces : List ℕ) (memory : Bytes)
+    (input : List ℕ) → AreMapped m → AreAccepted p plans → IsEncodable p → IsStartable m p
     → FitsSegments m p plans → Hold (object_bytes m) (space_bytes m) memory objects spaces → AreBytes memory
     → ((k : ℕ) → run (step m p) k (started p memory input) ≡ Stuck → ⊥)
     → Follows 64 (flat_meaning m p memory input)

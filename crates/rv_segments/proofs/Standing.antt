@@ -1,12 +1,10 @@
 -- Where the functions, the entries of the jump table and the start stand among the words that are generated.
-use Rattle.std.proofs.Common.{◌≡◌, ℕ, zero, suc, ◌+◌, ◌*◌, ◌<◌, ◌≤◌, Bool, true, false, not, List, [], ◌∷◌, ◌++◌}
-use Rattle.std.proofs.Common.{length, map, Option, Some, None, refl, sym, ap, ◌∙◌, subst, arith, ⊎_elim, length-append}
+use Rattle.std.proofs.Common.{◌≡◌, ℕ, zero, suc, ◌+◌, ◌*◌, ◌<◌, Bool, true, false, List, [], ◌++◌}
+use Rattle.std.proofs.Common.{length, map, sym, ap, ◌∙◌, subst, arith, ⊎_elim, length-append}
 use Rattle.std.specs.Prelude.{if◌then◌else◌}
 use Rattle.std.proofs.lemmas.Bool.{cases_lt}
 use Rattle.addr_map.specs.Places.{MapSizes}
-use Rattle.rv_isa.specs.declared.instruction.Instr.{Instr}
 use Rattle.rv_isa.specs.Table.{word_of}
-use Rattle.flat_meaning.specs.declared.function.FlatFunction.{FlatFunction}
 use Rattle.flat_meaning.specs.declared.function.FlatProgram.{FlatProgram}
 use Rattle.flat_meaning.specs.Calls.{function_in}
 use Rattle.reg_plan.specs.declared.plan.FunctionPlan.{FunctionPlan}
@@ -14,7 +12,7 @@ use Rattle.rv_calls.specs.Calls.{row}
 use Rattle.rv_follows.specs.Start.{start_block}
 use Rattle.rv_segments.specs.Segments.{is_of, function_words, words_if, words_below, begin, rows_below, code_words}
 use Rattle.rv_segments.specs.Segments.{table_words}
-use Rattle.rv_segments.proofs.Parts.{StandsIn, stands_last, stands_first, stands_left, stands_right, stands_mapped}
+use Rattle.rv_segments.proofs.Parts.{StandsIn, stands_last, stands_left, stands_right, stands_mapped}
 use Rattle.rv_segments.proofs.Parts.{map_length}
 
 module _ (m : MapSizes) (p : FlatProgram) (plans : List FunctionPlan) where

@@ -1,6 +1,6 @@
 -- The words of the two segments of code that are generated for a program: the functions of the program one behind the
 -- other in compiled code; the jump table, the start and the functions of the runtime before it.
-use Rattle.std.specs.Prelude.{◌≡◌, ℕ, zero, suc, ◌+◌, ◌*◌, ◌^◌, ◌<◌, ◌≤◌, Bool, true, false, not, if◌then◌else◌}
+use Rattle.std.specs.Prelude.{ℕ, zero, suc, ◌+◌, ◌*◌, ◌<◌, ◌≤◌, Bool, true, false, not, if◌then◌else◌}
 use Rattle.std.specs.Prelude.{List, [], ◌++◌, map, length, Option, Some, None}
 use Rattle.addr_map.specs.Places.{MapSizes, functions_begin, code_begin, code_size}
 use Rattle.rv_isa.specs.declared.instruction.Instr.{Instr}

@@ -1,0 +1,240 @@
+-- The premises, by computation and arithmetic.
+use Rattle.std.proofs.Common.{◌≡◌, ℕ, zero, suc, ◌+◌, ◌*◌, ◌^◌, ◌<◌, ◌≤◌, Bool, true, false, ◌&&◌, List, [], ◌∷◌, length}
+use Rattle.std.proofs.Common.{Option, Some, None, refl, sym, ap, ◌∙◌, subst, arith}
+use Rattle.std.specs.Prelude.{slice_get, nat_lt, nat_le, Vec}
+use Rattle.std.specs.List.{All}
+use Rattle.std.specs.Global.{Global}
+use Rattle.std.proofs.lemmas.Bool.{ltb-true, leb-true, and_parts, false≢true}
+use denote.RawPtr.{null_ptr}
+use Rattle.sb_base.specs.Endings.{code_of, report_of}
+use Rattle.addr_map.specs.Places.{MapSizes, AreMapped, region_size, region_start, function_address}
+use Rattle.behaviours.specs.Behaviour.{Follows}
+use Rattle.behaviours.specs.Steps.{run}
+use Rattle.flat_meaning.specs.declared.instruction.FlatInstruction.{FlatInstruction}
+use Rattle.flat_meaning.specs.declared.instruction.FlatInstruction.TheVariants as flat
+use Rattle.flat_meaning.specs.declared.function.FlatFunction.{FlatFunction}
+use Rattle.flat_meaning.specs.declared.function.FlatProgram.{FlatProgram}
+use Rattle.flat_meaning.specs.Memory.{Bytes, AreBytes}
+use Rattle.flat_meaning.specs.State.{Stuck}
+use Rattle.flat_meaning.specs.Calls.{function_in}
+use Rattle.flat_meaning.specs.Meaning.{instruction_at, body_of, step, started, flat_meaning}
+use Rattle.reg_plan.specs.declared.plan.LiveInterval.{LiveInterval}
+use Rattle.reg_plan.specs.declared.plan.Place.{Place}
+use Rattle.reg_plan.specs.declared.plan.Place.TheVariants.{Register}
+use Rattle.reg_plan.specs.declared.plan.FunctionPlan.{FunctionPlan}
+use Rattle.reg_plan.specs.Accepted.{IsAccepted}
+use Rattle.reg_plan.specs.Tests.{AreAccepted}
+use Rattle.rv_asm.specs.Forms.{forms_of, longest_size, IsAssemblable}
+use Rattle.rv_asm.specs.Words.{words_of}
+use Rattle.rv_blocks.specs.Blocks.{digits, constant, load_at, store_at}
+use Rattle.rv_blocks.specs.Places.{home, location}
+use Rattle.rv_calls.specs.Calls.{give, take, save, restore}
+use Rattle.rv_follows.specs.Code.{keeping, block, IsEncodable}
+use Rattle.rv_follows.specs.Matching.{object_bytes, space_bytes}
+use Rattle.rv_follows.specs.Start.{IsStartable, begins}
+use Rattle.rv_layout.specs.Lists.{items_of, bytes_of}
+use Rattle.rv_sim.specs.Behaviour.{behaviour}
+use Rattle.rv_view.specs.Segments.{Hold}
+use Rattle.rv_segments.specs.Segments.{words_below, begin, rows_below, start_address, code_words, table_words}
+use Rattle.rv_segments.specs.Segments.{code_bytes, table_bytes, FitsSegments}
+use Rattle.rv_segments.proofs.Labels.{labels_meet}
+use Rattle.rv_codegen_example.specs.Program.{sizes, main, next, program, MeetsPremises}
+use Rattle.rv_codegen_example.proofs.Tested.{all_below}
+use Rattle.rv_codegen_example.proofs.Tested as tested
+use Rattle.rv_codegen_example.proofs.Course.{never_stuck}
+
+-- a vector that holds a list
+abbrev vec_of : {A : Type 0} → Global → (items : List A) → length items < 2 ^ 63 → Vec A Global
+vec_of a items h = record {
+  ptr = null_ptr;
+  len = length items;
+  cap = length items;
+  alloc = a;
+  items = items;
+  ok = (refl, omega arith);
+  small = h;
+}
+
+abbrev span : ℕ → ℕ → LiveInterval
+span a b = record { start = a; end = b }
+
+abbrev both_registers : Global → Vec Place Global
+both_registers a = vec_of a (Register 0 ∷ Register 1 ∷ []) (omega arith)
+
+abbrev two_ranges : Global → (first second : LiveInterval) → Vec (Vec LiveInterval Global) Global
+two_ranges a x y =
+    vec_of a (vec_of a (x ∷ []) (omega arith) ∷ vec_of a (y ∷ []) (omega arith) ∷ []) (omega arith)
+
+abbrev main_plan : Global → FunctionPlan
+main_plan a = record { places = both_registers a; live = two_ranges a (span 1 8) (span 2 9) }
+
+abbrev next_plan : Global → FunctionPlan
+next_plan a = record { places = both_registers a; live = two_ranges a (span 0 1) (span 1 2) }
+
+mapped : AreMapped sizes
+mapped = record {
+  budgets = record {
+    heap = record { least = omega arith; greatest = omega arith; whole = refl };
+    stack = record { least = omega arith; greatest = omega arith; whole = refl };
+    calls = record { least = omega arith; greatest = omega arith; whole = refl };
+    some_block = omega arith;
+    blocks = omega arith;
+    keys = omega arith;
+  };
+  globals = omega arith;
+}
+
+-- ---- instructions fit
+
+fits_field : FlatInstruction → Bool
+fits_field (flat.Load op x y offset) = nat_lt offset (2 ^ 11)
+fits_field (flat.Store op y offset x) = nat_lt offset (2 ^ 11)
+fits_field (flat.End e) = false
+fits_field i = true
+
+fit_fields : List FlatInstruction → Bool
+fit_fields [] = true
+fit_fields (i ∷ is) = fits_field i && fit_fields is
+
+one_fits : (is : List FlatInstruction) (k : ℕ) (i : FlatInstruction) → fit_fields is ≡ true
+    → slice_get is k ≡ Some i → fits_field i ≡ true
+unfolding fit_fields
+one_fits [] k i h e = cc
+one_fits (x ∷ xs) zero i h e = let same : x ≡ i = cc in
+    subst (λ z. fits_field z ≡ true) same (and_parts (fits_field x) (fit_fields xs) h).0
+one_fits (x ∷ xs) (suc k) i h e = one_fits xs k i (and_parts (fits_field x) (fit_fields xs) h).1 e
+
+each_fits : (f pc : ℕ) (i : FlatInstruction) → instruction_at program f pc ≡ Some i → fits_field i ≡ true
+unfolding fit_fields fits_field
+each_fits zero pc i e = one_fits main.body pc i refl e
+each_fits (suc zero) pc i e = one_fits next.body pc i refl e
+each_fits (suc (suc f)) pc i e = cc
+
+function_is : (P : FlatFunction → Type 0) → P main → P next → (f : ℕ) (g : FlatFunction)
+    → function_in program f ≡ Some g → P g
+function_is P a b zero g e = let same : main ≡ g = cc in subst P same a
+function_is P a b (suc zero) g e = let same : next ≡ g = cc in subst P same b
+function_is P a b (suc (suc f)) g e = cc
+
+encodable : IsEncodable program
+unfolding fits_field
+encodable = record {
+  load_offset = λ f pc op x y offset e. ltb-true offset (2 ^ 11) (each_fits f pc (flat.Load op x y offset) e);
+  store_offset = λ f pc op y offset x e. ltb-true offset (2 ^ 11) (each_fits f pc (flat.Store op y offset x) e);
+  report = λ f pc e at. absurd (false≢true (each_fits f pc (flat.End e) at));
+  status = λ f pc e at. absurd (false≢true (each_fits f pc (flat.End e) at));
+  rooms = function_is (λ g. 8 ≤ g.room) (omega arith) (omega arith);
+  parameters = function_is (λ g. g.parameters ≤ 1024) (omega arith) (omega arith);
+  results = function_is (λ g. g.results ≤ 1024) (omega arith) (omega arith);
+}
+
+startable : IsStartable sizes program
+unfolding region_size
+startable = record {
+  function = main;
+  there = refl;
+  takes_nothing = refl;
+  program_fits = omega arith;
+  runtime_fits = omega arith;
+}
+
+-- ---- what depends on the plans, whose vectors may lie anywhere
+
+module _ (a : Global) where
+  plans : List FunctionPlan
+  plans = main_plan a ∷ next_plan a ∷ []
+
+  main_accepted : tested.accepts program 0 main (main_plan a) ≡ true
+  unfolding all_below
+  main_accepted = refl
+
+  next_accepted : tested.accepts program 1 next (next_plan a) ≡ true
+  unfolding all_below
+  next_accepted = refl
+
+  accepted : AreAccepted program plans
+  unfolding plans
+  accepted = record { size = refl; each = each }
+    where
+      each : (k : ℕ) (f : FlatFunction) (plan : FunctionPlan) → slice_get program.functions k ≡ Some f
+          → slice_get plans k ≡ Some plan → IsAccepted program k f plan
+      each zero f plan h g =
+          let e : main ≡ f = cc in
+          let b : main_plan a ≡ plan = cc in
+          subst (λ x. IsAccepted program 0 x plan) e
+          (subst (IsAccepted program 0 main) b (tested.accepted program 0 main (main_plan a) main_accepted))
+      each (suc zero) f plan h g =
+          let e : next ≡ f = cc in
+          let b : next_plan a ≡ plan = cc in
+          subst (λ x. IsAccepted program 1 x plan) e
+          (subst (IsAccepted program 1 next) b (tested.accepted program 1 next (next_plan a) next_accepted))
+      each (suc (suc k)) f plan h g = cc
+
+  -- ---- the code fits
+
+  main_long : nat_lt (longest_size (items_of sizes program plans 0)) (2 ^ 28) ≡ true
+  unfolding plans keeping block location home give take save restore digits constant load_at store_at
+      function_address
+  main_long = refl
+
+  next_long : nat_lt (longest_size (items_of sizes program plans 1)) (2 ^ 28) ≡ true
+  unfolding plans keeping block location home give take save restore digits constant load_at store_at
+  next_long = refl
+
+  code_long : nat_le (code_bytes sizes program plans) 0x800000 ≡ true
+  unfolding plans keeping block location home give take save restore digits constant load_at store_at words_of forms_of
+      words_below function_address
+  code_long = refl
+
+  table_long : nat_le (0x10000 + table_bytes sizes program plans) 0x100000 ≡ true
+  unfolding plans keeping block location home give take save restore digits constant load_at store_at words_of forms_of
+      words_below rows_below
+  table_long = refl
+
+  fits : FitsSegments sizes program plans
+  fits = record {
+    assemblable = able;
+    code = leb-true (code_bytes sizes program plans) 0x800000 code_long;
+    table = leb-true (0x10000 + table_bytes sizes program plans) 0x100000 table_long;
+  }
+    where
+      able : (f : ℕ) → f < length program.functions → IsAssemblable (items_of sizes program plans f)
+      able zero lt = labels_meet sizes program plans 0
+          (ltb-true (longest_size (items_of sizes program plans 0)) (2 ^ 28) main_long)
+      able (suc zero) lt = labels_meet sizes program plans 1
+          (ltb-true (longest_size (items_of sizes program plans 1)) (2 ^ 28) next_long)
+      able (suc (suc f)) lt = absurd (omega arith)
+
+  premises : MeetsPremises plans
+  premises = record {
+    mapped = mapped;
+    accepted = accepted;
+    encodable = encodable;
+    startable = startable;
+    fits = fits;
+    never_stuck = never_stuck;
+  }
+
+-- the law of the segments, as `generated_code_follows` tells it
+abbrev Law : Type 0
+Law = (m : MapSizes) (p : FlatProgram) (plans : List FunctionPlan) (objects spaces : List ℕ) (memory : Bytes)
+    (input : List ℕ) → AreMapped m → AreAccepted p plans → IsEncodable p → IsStartable m p → FitsSegments m p plans
+    → Hold (object_bytes m) (space_bytes m) memory objects spaces → AreBytes memory
+    → ((k : ℕ) → run (step m p) k (started p memory input) ≡ Stuck → ⊥)
+    → Follows 64 (flat_meaning m p memory input)
+    (behaviour (begins (start_address p) (bytes_of (table_words m p plans)) (bytes_of (code_words m p plans)) objects
+    spaces) input)
+
+pub met : Law → (a : Global)
+    → (plans : List FunctionPlan) × MeetsPremises plans
+    × ((objects spaces : List ℕ) (memory : Bytes) (input : List ℕ)
+    → Hold (object_bytes sizes) (space_bytes sizes) memory objects spaces → AreBytes memory
+    → Follows 64 (flat_meaning sizes program memory input)
+    (behaviour (begins (start_address program) (bytes_of (table_words sizes program plans))
+    (bytes_of (code_words sizes program plans)) objects spaces) input))
+met law a = (
+  plans a,
+  premises a,
+  λ objects spaces memory input hold bytes. law sizes program (plans a) objects spaces memory input mapped
+      (accepted a) encodable startable (fits a) hold bytes (never_stuck memory input),
+)

@@ -90,6 +90,27 @@ impl<'a, T: Drop> Scopes<'a, T> {
         }
     }
 
+    /// Leaves the innermost scope, and gives what it declares.
+    pub fn leave(&mut self, alloc: Global) -> Names<'a, T>
+        ensures given { names_of result ≡ (scopes_of self.old).current }
+        ensures left { scopes_of self.new ≡ left (scopes_of self.old) }
+    {
+        let around = match self.outer.pop() {
+            Some(around) => around,
+            None => Names::new(alloc),
+        };
+        mem::replace(&mut self.current, around)
+    }
+
+    /// Enters a scope that declares these names already.
+    pub fn enter(&mut self, names: Names<'a, T>) -> Result<(), AllocError>
+        ensures { OnOk result (scopes_of self.new ≡ entered (names_of names) (scopes_of self.old)) }
+    {
+        let around = mem::replace(&mut self.current, names);
+        self.outer.push(around)?;
+        Ok(())
+    }
+
     /// What stands for a name in the innermost scope, where that declares it.
     pub fn here(&self, name: &[u8]) -> Option<&T>
         ensures { option_copied result ≡ declared name.now (scopes_of self.now).current }

@@ -27,7 +27,7 @@ enum Step {
 }
 
 use Step::{Body, Close, Initialized, Open, Plain};
-use Storage::{Absent, Automatic, Extern, Static, Typedef};
+use Storage::{Absent, Auto, Extern, Register, Static, Typedef};
 
 const INT: &[TypeWord] = &[TypeWord::Integer(IntType::Int)];
 
@@ -147,7 +147,7 @@ const ROWS: [Row; 31] = [
     (
         &[
             Open,
-            Plain(Automatic, INT),
+            Plain(Auto, INT),
             Close,
             Open,
             Plain(Static, CHAR),
@@ -166,7 +166,7 @@ const ROWS: [Row; 31] = [
     (&[Plain(Absent, INCOMPLETE)], Some((Rule::Incomplete, 0, 2))),
     (&[Plain(Static, OPEN_ARRAY)], Some((Rule::Incomplete, 0, 2))),
     // Storage-class specifiers (6.7.1, 6.9), and what has no initializer (6.7.8).
-    (&[Plain(Automatic, INT)], Some((STORAGE, 0, 1))),
+    (&[Plain(Register, INT)], Some((STORAGE, 0, 1))),
     (&[Open, Plain(Static, FUNCTION)], Some((STORAGE, 1, 1))),
     (&[Initialized(Extern, INT)], Some((STORAGE, 0, 3))),
     (&[Initialized(Typedef, INT)], Some((STORAGE, 0, 3))),
@@ -216,6 +216,8 @@ fn declared(
         initializer_line: line(index, 3),
         storage,
         c_type: words,
+        type_rule: None,
+        may_be_incomplete: false,
         has_initializer,
         has_body,
     }

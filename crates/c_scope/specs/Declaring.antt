@@ -3,13 +3,10 @@ use Rattle.std.specs.Prelude.{ℕ, Bool, true, false, not, ◌&&◌, ◌||◌, i
 use Rattle.std.specs.Prelude.{Option, Some, None, is_some, option_copied, Ok, Err}
 use Rattle.c_tree.specs.declared.c_type.TypeWord.{TypeWord}
 use Rattle.c_tree.specs.declared.c_type.TypeWord.TheVariants.{OpenArray, Takes, Gives}
-use Rattle.c_tree.specs.Extents.{TypeExtent}
-use Rattle.c_rules.specs.declared.class.Target.{Target}
-use Rattle.c_rules.specs.declared.class.Target.TheVariants as target
+use Rattle.c_tree.specs.Extents.{TypeExtent, extent_of}
 use Rattle.c_rules.specs.declared.fault.Rule.{Rule}
 use Rattle.c_rules.specs.declared.fault.Rule.TheVariants.{Redeclared, Incomplete, MisplacedStorage}
 use Rattle.c_rules.specs.Answer.{Answer}
-use Rattle.c_rules.specs.Types.{target_of}
 use Rattle.c_scope.specs.declared.meaning.Designated.{Designated}
 use Rattle.c_scope.specs.declared.meaning.Designated.TheVariants as what
 use Rattle.c_scope.specs.declared.meaning.Entity.{Entity}
@@ -134,10 +131,6 @@ differs d (Some e) = not (are_compatible e.c_type d.type) || (e.is_defined && is
 abbrev pub is_redeclared : Surroundings → Declaration → Bool
 is_redeclared s d = clashes s.in_file d s.here || (has_linkage s.in_file d && differs d s.entity)
 
-abbrev pub is_complete_target : Target → Bool
-is_complete_target (target.Object size) = true
-is_complete_target _ = false
-
 -- an array of unknown size has its size from its initializer (6.7.8 paragraph 22)
 abbrev pub sized_by_initializer : List TypeWord → List TypeWord
 sized_by_initializer (OpenArray ∷ element) = element
@@ -146,7 +139,7 @@ sized_by_initializer [] = []
 
 abbrev pub is_complete : List (Option TypeExtent) → Declaration → Bool
 is_complete structures d =
-    is_complete_target (target_of structures (if d.has_initializer then sized_by_initializer d.type else d.type))
+    is_some (extent_of structures (if d.has_initializer then sized_by_initializer d.type else d.type))
 
 -- an object is complete where its declarator ends (6.7 paragraph 7), a tentative definition at the end of the file
 -- (6.9.2), and what is declared `extern` need not be, nor a parameter where the function is not defined (6.7.5.3

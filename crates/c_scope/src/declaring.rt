@@ -3,15 +3,14 @@
 ghost use Rattle.std.specs.Prelude.{◌≡◌, option_copied, Result, Ok, Err};
 ghost use Rattle.c_scope.specs.Composite.{composite};
 ghost use Rattle.c_scope.specs.Declaring.{Declaration, Surroundings, agrees, is_linked, are_compatible, clashes};
-ghost use Rattle.c_scope.specs.Declaring.{declaration_of, differs, has_linkage, is_complete, is_complete_target};
+ghost use Rattle.c_scope.specs.Declaring.{declaration_of, differs, has_linkage, is_complete};
 ghost use Rattle.c_scope.specs.Declaring.{is_extern, is_function, is_incomplete, is_misplaced, is_redeclared};
 ghost use Rattle.c_scope.specs.Declaring.{is_tentative, is_typedef, is_undefined, is_wrongly_initialized, judged};
 ghost use Rattle.c_scope.specs.Declaring.{sized_by_initializer, surroundings_of};
 
 use crate::composite::are_compatible;
 use crate::meaning::{Designated, Entity, Meaning, Storage};
-use c_place_rules::target::target;
-use c_rules::{Fault, Rule, Target};
+use c_rules::{Fault, Rule};
 use c_tree::{Extent, TypeWord};
 use sb_base::Line;
 
@@ -144,7 +143,7 @@ impl Declared<'_, '_> {
         } else {
             self.c_type
         };
-        matches!(target(structures, words), Target::Object(_))
+        Extent::of_type(structures, words).is_some()
     }
 }
 

@@ -44,7 +44,7 @@ impl<'a> Environment<'a> {
     /// Enters the scope of the parameters of a function whose block begins.
     pub fn enter_parameters(&mut self, parameters: ParameterScope<'a>) -> Result<(), AllocError>
         ensures { OnOk result (environment_of self.new
-            ≡ with_parameters (scope_of parameters) (environment_of self.old)) }
+            ≡ with_parameters (scope_of parameters.entry) (environment_of self.old)) }
     {
         let ParameterScope {
             names,

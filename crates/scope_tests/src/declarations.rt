@@ -145,13 +145,7 @@ const ROWS: [Row; 31] = [
     ),
     (&[Open, Plain(Extern, INT), Plain(Extern, INT)], None),
     (
-        &[
-            Open,
-            Plain(Auto, INT),
-            Close,
-            Open,
-            Plain(Static, CHAR),
-        ],
+        &[Open, Plain(Auto, INT), Close, Open, Plain(Static, CHAR)],
         None,
     ),
     // Incomplete types (6.7, 6.9.2).

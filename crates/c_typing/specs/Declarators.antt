@@ -30,7 +30,7 @@ pub record Shape : Type 0 where
   pub parameters : Option ParameterScope
 
 abbrev pub located : code_name.LocatedName → Name × ℕ
-located n = (n.name.now, n.line)
+located n = (n.name, n.line)
 
 abbrev pub shape_of : code_shape.Shape → Shape
 shape_of s = record {
@@ -130,7 +130,7 @@ nameless_parameter spec b =
     (unqualified (adjusted b.type))
 
 abbrev pub parameter_built : (in_definition : Bool) → Specification → BuiltType → Option (Name × ℕ) → Typing (List TypeWord)
-parameter_built in_definition spec b None = judged (λ s. nameless_parameter spec b)
+parameter_built in_definition spec b None s = judged (λ s. nameless_parameter spec b) s
 parameter_built in_definition spec b (Some name) s =
     if is_misplaced spec then violates rule.MisplacedStorage spec.line
     else declaring (unqualified (adjusted b.type)) (parameter_declaration in_definition spec b name) s

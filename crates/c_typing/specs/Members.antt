@@ -99,9 +99,10 @@ extent_with false entries = structure_of (map extent_in entries)
 abbrev pub member_at : (offset : ℕ) → Entry → Member
 member_at offset e = record { c_type = e.type; offset = offset; size = e.extent.size }
 
-abbrev pub members_at : List ℕ → List Entry → Names Member → Names Member
-members_at (o ∷ os) (e ∷ es) members = members_at os es (bound e.name (member_at o e) members)
-members_at _ _ members = members
+abbrev pub members_at : List Entry → (offsets : List ℕ) → Names Member → Names Member
+members_at [] os members = members
+members_at (e ∷ es) [] members = members
+members_at (e ∷ es) (o ∷ os) members = members_at es os (bound e.name (member_at o e) members)
 
 abbrev pub any_const : (with_const : List Bool) → List Entry → Bool
 any_const marks [] = false
@@ -111,7 +112,7 @@ abbrev pub with_structure : (is_union : Bool) → (number : ℕ) → List Entry 
 with_structure is_union n entries s = record s {
   environment = record s.environment {
     structures = completed n (extent_with is_union entries) (any_const (with_const s) entries)
-        (members_at (offsets_in is_union entries) entries []) s.environment.structures;
+        (members_at entries (offsets_in is_union entries) []) s.environment.structures;
   };
 }
 

@@ -3,6 +3,7 @@ use Rattle.std.specs.Prelude.{ℕ, zero, suc, ◌+◌, Bool, true, false, not, �
 use Rattle.std.specs.Prelude.{List, [], ◌∷◌, ◌++◌, length, Option, Some, None, Ok, slice_get}
 use Rattle.obj_memory.specs.declared.int_type.IntType.{IntType}
 use Rattle.obj_memory.specs.declared.int_type.IntType.TheVariants as int
+use Rattle.obj_memory.specs.Integers.{size_of}
 use Rattle.c_lexer.specs.declared.integer.IntegerConstant.{IntegerConstant}
 use Rattle.c_lexer.specs.declared.integer.IntegerType.{IntegerType}
 use Rattle.c_lexer.specs.declared.integer.IntegerType.TheVariants as spelled_type
@@ -71,7 +72,7 @@ abbrev pub literal_bytes : (spellings : List (List ℕ)) → List ℕ
 literal_bytes spellings = spelled_bytes spellings ++ 0 ∷ []
 
 abbrev pub literal_type : (size : ℕ) → List TypeWord
-literal_type size = array_word size (scalar_extent 1) ∷ word.Integer int.Char ∷ []
+literal_type size = array_word size (scalar_extent (size_of int.Char)) ∷ word.Integer int.Char ∷ []
 
 -- an lvalue of a type, of which the bytes are counted where it is complete
 

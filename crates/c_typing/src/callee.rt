@@ -218,6 +218,7 @@ impl<'a> Typer<'a> {
         }) }
     {
         let c_type = CType::new(words.to_vec(self.alloc)?);
-        self.function_types.push(c_type)
+        self.function_types.push(c_type)?;
+        Ok(())
     }
 }

@@ -61,7 +61,7 @@ impl<'a> Entries<'a> {
     }
 
     fn with_entry(self, entry: Entry<'a>) -> Result<Self, AllocError>
-        ensures { IfOk result (λ es. entries_of es ≡ with_entry (entry_of entry) (entries_of self)) }
+        ensures { IfOk result (λ es. entries_of es ≡ with_entry (entry_of entry.entry) (entries_of self.entry)) }
     {
         let Entries {
             mut entries,
@@ -81,7 +81,7 @@ impl<'a> Entries<'a> {
         name: Option<&LocatedName<'a>>,
     ) -> Result<Self, Refusal>
         ensures { Gives entries_of result (member_named extents.now (built_of built)
-            (option_map (λ n. located n.now) name.entry) (entries_of self)) }
+            (option_map (λ n. located n.now) name.entry) (entries_of self.entry)) }
     {
         match name {
             None => Ok(self),
@@ -96,7 +96,7 @@ impl<'a> Entries<'a> {
         name: &LocatedName<'a>,
     ) -> Result<Self, Refusal>
         ensures { Gives entries_of result (member_built extents.now (built_of built)
-            (located name.now).0 (located name.now).1 (entries_of self)) }
+            (located name.now).0 (located name.now).1 (entries_of self.entry)) }
     {
         let rule = self.rule(extents, &built, name.name.bytes());
         let judged = refusal(rule, name.line);
@@ -125,7 +125,7 @@ impl<'a> Entries<'a> {
         c_type: CType,
     ) -> Result<Self, Refusal>
         ensures { Gives entries_of result (sized_entry name.now line c_type
-            (extent_of extents.now c_type) (entries_of self)) }
+            (extent_of extents.now c_type) (entries_of self.entry)) }
     {
         let Some(extent) = Extent::of_type(extents, c_type.words()) else {
             let rule = Rule::Incomplete;
@@ -201,10 +201,15 @@ fn members_at<'a>(
     offsets: &[u64],
     entries: &[Entry<'a>],
 ) -> Result<Names<'a, Member>, AllocError>
-    ensures { IfOk result (λ members. names_of members ≡ members_at offsets.now (map entry_of entries.now) []) }
+    ensures { IfOk result (λ members. names_of members ≡ members_at (map entry_of entries.now) offsets.now []) }
 {
     let mut members = Names::new(alloc);
-    for (offset, entry) in offsets.iter().zip(entries.iter()) {
+    let mut offsets = offsets;
+    for entry in entries {
+        let [offset, behind @ ..] = offsets else {
+            return Ok(members);
+        };
+        offsets = behind;
         let c_type = CType::new(entry.c_type.words().to_vec(alloc)?);
         let member = Member {
             c_type,
@@ -250,7 +255,7 @@ impl<'a> Typer<'a> {
         entries: Entries<'a>,
     ) -> Result<Entries<'a>, Refusal>
         ensures { Gives entries_of result (member_added (specification_of specification.now)
-            (shape_of shape.now) (entries_of entries) (state_of self.now)) }
+            (shape_of shape.now) (entries_of entries.entry) (state_of self.now)) }
     {
         let built = self.built_in(specification, shape);
         let (entries, built) = beside(entries, built)?;
@@ -266,7 +271,7 @@ impl<'a> Typer<'a> {
         entries: Entries<'a>,
     ) -> Result<Tag, Refusal>
         ensures { Types (λ t. t) (state_of self.new) result
-            (tag_completed line tag (entries_of entries) (state_of self.old)) }
+            (tag_completed line tag (entries_of entries.entry) (state_of self.old)) }
     {
         match tag {
             Tag::Structure(number) => self.completed(false, line, number, &entries.entries)?,

@@ -242,7 +242,8 @@ impl<'a> Typer<'a> {
             number,
             function,
             bytes,
-        })
+        })?;
+        Ok(())
     }
 
     /// A name as an operand. The rule on undeclared names is violated by one that stands for nothing, that on names of

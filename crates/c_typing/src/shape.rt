@@ -45,7 +45,7 @@ impl<'a> Shape<'a> {
 
     /// A name alone, or no name.
     pub fn new(alloc: Global, name: Option<LocatedName<'a>>) -> Self
-        ensures { shape_of result ≡ plain_shape (option_map located name) }
+        ensures { shape_of result ≡ plain_shape (option_map located name.entry) }
     {
         Shape {
             name,
@@ -56,7 +56,7 @@ impl<'a> Shape<'a> {
 
     /// With one more step of the derivation.
     pub fn with_derivation(self, derivation: Derivation) -> Result<Self, AllocError>
-        ensures { IfOk result (λ shape. shape_of shape ≡ with_derivation (derivation_of derivation) (shape_of self)) }
+        ensures { IfOk result (λ shape. shape_of shape ≡ with_derivation (derivation_of derivation) (shape_of self.entry)) }
     {
         let Shape {
             name,
@@ -77,7 +77,7 @@ impl<'a> Shape<'a> {
         types: Vec<CType>,
         scope: ParameterScope<'a>,
     ) -> Result<Self, AllocError>
-        ensures { IfOk result (λ shape. shape_of shape ≡ with_function types.items (scope_of scope) (shape_of self)) }
+        ensures { IfOk result (λ shape. shape_of shape ≡ with_function types.items (scope_of scope.entry) (shape_of self.entry)) }
     {
         let Shape {
             name,

@@ -8,7 +8,7 @@ ghost use Rattle.c_typing.specs.Sizes.{count_in, enumeration_value, has_sign, is
 use c_const::constant_word;
 use c_rules::TypedValue;
 use c_tree::{Expression, Kind};
-use obj_memory::Scalar;
+use obj_memory::{IntType, Scalar};
 
 /// The number of elements of an array, where the value is an integer constant expression of at least 1.
 pub fn count_in(value: &TypedValue) -> Option<u64>
@@ -56,7 +56,7 @@ fn has_sign(tree: &Expression) -> bool
 {
     match tree.kind {
         Kind::Scalar(Scalar::Integer(of)) => of.is_signed(),
-        _ => false,
+        _ => IntType::UnsignedLong.is_signed(),
     }
 }
 

@@ -44,7 +44,7 @@ impl<'a> Typer<'a> {
     /// At the start of a file.
     pub fn new(alloc: Global, environment: Environment<'a>, objects: Option<Vec<bool>>) -> Self
         ensures { state_of result ≡ record {
-          environment = environment_of environment;
+          environment = environment_of environment.entry;
           function_types = [];
           objects = option_map (λ v. v.items) objects;
           taken = [];

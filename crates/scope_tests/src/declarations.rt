@@ -308,3 +308,53 @@ fn numbers_and_hides(rt: HostRuntime) -> Result<(), Fail> {
     assert!(rt; environment.statics == 2 && environment.variables == 1 && environment.in_file());
     Ok(())
 }
+
+#[test]
+fn keeps_the_scope_of_parameters(rt: HostRuntime) -> Result<(), Fail> {
+    let alloc = rt.alloc();
+    let mut environment = environment(alloc, true)?;
+    environment.open(alloc)?;
+    take(alloc, &mut environment, 0, Plain(Register, INT)).ok();
+    let parameters = environment.leave_parameters(alloc, 0);
+    assert!(rt; environment.in_file() && environment.names.get(b"x").is_none());
+    assert!(rt; environment.variables == 0);
+    environment.enter_parameters(parameters)?;
+    assert!(rt; environment.names.here(b"x").is_some() && environment.variables == 1);
+    Ok(())
+}
+
+#[test]
+fn declares_enumerators(rt: HostRuntime) -> Result<(), Fail> {
+    let alloc = rt.alloc();
+    let mut environment = environment(alloc, true)?;
+    let line = line(0, 2);
+    assert!(rt; environment.enumerate(b"A", line, Some(3)) == Ok(()));
+    assert!(rt; matches!(environment.names.get(b"A"), Some(Meaning::Constant(3))));
+    let rule = REDECLARED;
+    let again = environment.enumerate(b"A", line, Some(3));
+    assert!(rt; again == Err(Refusal::Fault(Fault { rule, line })));
+    let rule = Rule::NoConstant;
+    let without = environment.enumerate(b"B", line, None);
+    assert!(rt; without == Err(Refusal::Fault(Fault { rule, line })));
+    Ok(())
+}
+
+#[test]
+fn tells_what_a_type_violates_behind_the_other_rules(rt: HostRuntime) -> Result<(), Fail> {
+    let alloc = rt.alloc();
+    let rule = Rule::LargeType;
+    let mut environment = environment(alloc, true)?;
+    let large = Declared {
+        type_rule: Some(rule),
+        ..declared(0, Absent, INT, false, false)
+    };
+    let line = line(0, 2);
+    assert!(rt; environment.declare(alloc, &large) == Err(Refusal::Fault(Fault { rule, line })));
+    environment.open(alloc)?;
+    let parameter = Declared {
+        may_be_incomplete: true,
+        ..declared(0, Absent, INCOMPLETE, false, false)
+    };
+    assert!(rt; environment.declare(alloc, &parameter) == Ok(()));
+    Ok(())
+}

@@ -1,5 +1,5 @@
 -- The types of parameters (C99 6.7.5.3 paragraphs 7, 8 and 15).
-use Rattle.std.specs.Prelude.{List, [], ◌∷◌}
+use Rattle.std.specs.Prelude.{List, ◌∷◌}
 use Rattle.c_tree.specs.declared.c_type.TypeWord.{TypeWord}
 use Rattle.c_tree.specs.declared.c_type.TypeWord.TheVariants as word
 

@@ -1,12 +1,11 @@
 -- What a declarator derives its type from (C99 6.7.5): from the name outward one reads "array of 3, pointer to", and the
 -- type that the specifiers name ends the list.
-use Rattle.std.specs.Prelude.{ℕ, ◌^◌, ◌+◌, Bool, true, false, ◌||◌, not, ◌&&◌, ◌==◌, nat_lt, if◌then◌else◌}
-use Rattle.std.specs.Prelude.{List, [], ◌∷◌, ◌++◌, map, Option, Some, None, is_none}
+use Rattle.std.specs.Prelude.{ℕ, ◌^◌, Bool, true, false, ◌||◌, not, ◌&&◌, nat_lt}
+use Rattle.std.specs.Prelude.{List, [], ◌∷◌, ◌++◌, Option, Some, None, is_none}
 use Rattle.c_tree.specs.declared.c_type.TypeWord.{TypeWord}
 use Rattle.c_tree.specs.declared.c_type.TypeWord.TheVariants as word
 use Rattle.c_tree.specs.Arrays.{array_word}
 use Rattle.c_tree.specs.Extents.{TypeExtent, extent_of}
-use Rattle.c_tree.specs.Layout.{array_size}
 use Rattle.c_scope.specs.Declaring.{is_function}
 use Rattle.c_declarators.specs.declared.faults.TypeFaults.{TypeFaults}
 use Rattle.c_declarators.specs.declared.derivation.BuiltType as code_built

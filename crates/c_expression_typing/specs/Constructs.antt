@@ -26,6 +26,7 @@ use Rattle.c_typing.specs.Calls.{Called, a_printf, applied, name_called, pointer
 use Rattle.c_typing.specs.Calls.{printed}
 use Rattle.c_typing.specs.Operators.{addressed, arrowed, as_operand, as_value, dotted, stepped_by, unary_value}
 use Rattle.c_typing.specs.Primaries.{spelled_bytes}
+use Rattle.c_typing.specs.Sizes.{next_value}
 use Rattle.c_typing.specs.State.{State, Typing, done, extents, judged, ◌>>>◌}
 use Rattle.c_expression_typing.specs.declared.constructs.Printing as code_printing
 use Rattle.c_expression_typing.specs.Lines.{name_of, spellings}

@@ -1,5 +1,5 @@
 -- The lines of the tokens at which constructs are judged.
-use Rattle.std.specs.Prelude.{ℕ, List, [], ◌∷◌, Option, Some, None, option_map}
+use Rattle.std.specs.Prelude.{ℕ, List, ◌∷◌, map, Option, option_map}
 use Rattle.c_syntax.specs.declared.position.Spelled.{Spelled}
 use Rattle.c_syntax.specs.Tree.{Specifiers, no_specifiers, specifiers, Specifier, keyword, typedef_name, structure}
 use Rattle.c_syntax.specs.Tree.{structure_body, enumeration, enumeration_body}
@@ -25,5 +25,4 @@ abbrev pub tag_name : Option Spelled → Option Name
 tag_name tag = option_map name_of tag
 
 abbrev pub spellings : Spelled → List Spelled → List Name
-spellings x [] = x.spelling ∷ []
-spellings x (y ∷ more) = x.spelling ∷ spellings y more
+spellings x more = name_of x ∷ map name_of more

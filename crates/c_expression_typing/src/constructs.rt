@@ -65,6 +65,15 @@ pub fn bytes_of(alloc: Global, first: &Spelled, more: &[Spelled]) -> Result<Vec<
     Ok(bytes)
 }
 
+// The bytes of string literals side by side, with the final 0.
+fn ended_bytes(alloc: Global, first: &Spelled, more: &[Spelled]) -> Result<Vec<u8>, AllocError>
+    ensures { IfOk result (λ bytes. bytes.items ≡ literal_bytes (spellings first.now more.now)) }
+{
+    let mut bytes = bytes_of(alloc, first, more)?;
+    bytes.push(0)?;
+    Ok(bytes)
+}
+
 /// String literals side by side as an operand.
 pub fn strings<'a>(
     typer: &mut Typer<'a>,
@@ -75,8 +84,7 @@ pub fn strings<'a>(
     ensures { Types operand_of (state_of typer.new) result (literal is_evaluated
         (literal_bytes (spellings first.now more.now)) first.now.position.line (state_of typer.old)) }
 {
-    let mut bytes = bytes_of(typer.alloc, first, more)?;
-    bytes.push(0)?;
+    let bytes = ended_bytes(typer.alloc, first, more)?;
     typer.literal(is_evaluated, bytes, first.position.line)
 }
 

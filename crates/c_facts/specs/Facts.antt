@@ -2,7 +2,6 @@
 -- also tentatively, and the tags whose structures and unions get their members at file scope.
 use Rattle.std.specs.Prelude.{ℕ, Bool, true, false, not, ◌&&◌, ◌||◌, if◌then◌else◌, List, [], ◌∷◌, length, Option, Some, None}
 use Rattle.std.specs.Prelude.{is_some}
-use Rattle.c_lexer.specs.declared.keyword.Keyword.{Keyword}
 use Rattle.c_lexer.specs.declared.keyword.Keyword.TheVariants as keyword
 use Rattle.c_syntax.specs.declared.position.Position.{Position}
 use Rattle.c_syntax.specs.declared.position.Spelled.{Spelled}

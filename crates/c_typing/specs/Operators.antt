@@ -8,7 +8,6 @@ use Rattle.c_lexer.specs.declared.punctuator.Punctuator.TheVariants as sign
 use Rattle.c_tree.specs.declared.c_type.TypeWord.{TypeWord}
 use Rattle.c_tree.specs.declared.c_type.TypeWord.TheVariants as word
 use Rattle.c_tree.specs.declared.expression.Fixity.{Fixity}
-use Rattle.c_tree.specs.declared.expression.Fixity.TheVariants as fixity
 use Rattle.c_tree.specs.Extents.{TypeExtent, extent_of}
 use Rattle.c_tree.specs.Tree.{Lvalue, lvalue, LvalueNode, automatic, parenthesized_lvalue, lvalue_line}
 use Rattle.c_rules.specs.declared.fault.Rule.TheVariants.{Incomplete, Operands}
@@ -18,10 +17,9 @@ use Rattle.c_rules.specs.Binary.{binary}
 use Rattle.c_rules.specs.Types.{unqualified}
 use Rattle.c_rules.specs.Unary as unary_rules
 use Rattle.c_rules.specs.Values.{Value}
-use Rattle.c_place_rules.specs.Operands.{Operand, Place, a_value, a_place, a_variable, a_function, value_in}
+use Rattle.c_place_rules.specs.Operands.{Operand, Place, a_value, a_place, value_in}
 use Rattle.c_place_rules.specs.Places as places
 use Rattle.c_place_rules.specs.Places.{address, arrow, dereferenced, selected, structure_of}
-use Rattle.c_place_rules.specs.Targets.{pointee_of}
 use Rattle.c_assignment_rules.specs.declared.operators.StepOperator.TheVariants as step_operator
 use Rattle.c_assignment_rules.specs.Assignments.{assignment, compound, stepped}
 use Rattle.c_scope.specs.Names.{Name}
@@ -32,7 +30,7 @@ use Rattle.c_typing.specs.declared.forms.BinaryForm.{BinaryForm}
 use Rattle.c_typing.specs.declared.forms.BinaryForm.TheVariants as binary_form
 use Rattle.c_typing.specs.declared.forms.PrefixForm.{PrefixForm}
 use Rattle.c_typing.specs.declared.forms.PrefixForm.TheVariants as prefix_form
-use Rattle.c_typing.specs.State.{State, Typing, done, extents, judged, with_const}
+use Rattle.c_typing.specs.State.{State, Typing, extents, judged, with_const}
 
 -- which operator a punctuator is
 

@@ -1,5 +1,5 @@
 -- Names, constants and string literals (C99 6.5.1).
-use Rattle.std.specs.Prelude.{ℕ, zero, suc, ◌+◌, Bool, true, false, not, ◌&&◌, ◌||◌, if◌then◌else◌, nat_le}
+use Rattle.std.specs.Prelude.{ℕ, ◌+◌, Bool, true, false, not, ◌&&◌, ◌||◌, if◌then◌else◌, nat_le}
 use Rattle.std.specs.Prelude.{List, [], ◌∷◌, ◌++◌, length, Option, Some, None, Ok, slice_get}
 use Rattle.obj_memory.specs.declared.int_type.IntType.{IntType}
 use Rattle.obj_memory.specs.declared.int_type.IntType.TheVariants as int
@@ -27,7 +27,7 @@ use Rattle.c_scope.specs.declared.meaning.Meaning.TheVariants as meaning
 use Rattle.c_scope.specs.Names.{Name}
 use Rattle.c_scope.specs.Names as names
 use Rattle.c_scope.specs.Tags.{is_true}
-use Rattle.c_typing.specs.State.{Literal, State, Typing, extents}
+use Rattle.c_typing.specs.State.{State, Typing, extents}
 
 -- constants (6.4.4)
 

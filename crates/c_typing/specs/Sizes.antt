@@ -1,6 +1,6 @@
 -- The integer constant expressions of declarators and enumerators (C99 6.6, 6.7.2.2, 6.7.5.2), of which the word is the
 -- value modulo 2^64.
-use Rattle.std.specs.Prelude.{ℕ, ◌+◌, ◌-◌, ◌^◌, ◌%◌, Bool, true, false, not, ◌&&◌, ◌||◌, ◌==◌, nat_lt, nat_le}
+use Rattle.std.specs.Prelude.{ℕ, ◌+◌, ◌-◌, ◌^◌, ◌%◌, Bool, not, ◌&&◌, ◌||◌, ◌==◌, nat_lt, nat_le}
 use Rattle.std.specs.Prelude.{if◌then◌else◌, Option, Some, None}
 use Rattle.obj_memory.specs.Integers.{is_signed}
 use Rattle.c_tree.specs.Tree.{Expression, kind_of}

@@ -1,11 +1,11 @@
 -- What the specifiers of a declaration say (C99 6.7.1 to 6.7.4, 6.7.7).
-use Rattle.std.specs.Prelude.{ℕ, Bool, true, false, if◌then◌else◌, List, [], ◌∷◌, Option, Some, None, Ok}
+use Rattle.std.specs.Prelude.{ℕ, Bool, List, [], ◌∷◌, Option, Some, None, Ok}
 use Rattle.c_lexer.specs.declared.keyword.Keyword.{Keyword}
 use Rattle.c_lexer.specs.declared.keyword.Keyword.TheVariants as keyword
 use Rattle.c_tree.specs.declared.c_type.TypeWord.{TypeWord}
 use Rattle.c_tree.specs.declared.c_type.TypeWord.TheVariants as word
 use Rattle.c_rules.specs.declared.fault.Rule.TheVariants.{Undeclared}
-use Rattle.c_rules.specs.Answer.{Answer, violates, ◌>>=◌}
+use Rattle.c_rules.specs.Answer.{Answer, violates}
 use Rattle.c_place_rules.specs.Targets.{qualified}
 use Rattle.c_scope.specs.declared.meaning.Meaning.{Meaning}
 use Rattle.c_scope.specs.declared.meaning.Meaning.TheVariants as meaning
@@ -20,7 +20,7 @@ use Rattle.c_specifiers.specs.declared.specified.Specified.{Specified}
 use Rattle.c_specifiers.specs.Specified.{basic_type, nothing, with}
 use Rattle.c_typing.specs.declared.specification.Gathered as code_gathered
 use Rattle.c_typing.specs.declared.specification.Specification as code
-use Rattle.c_typing.specs.State.{State, Typing}
+use Rattle.c_typing.specs.State.{State}
 
 -- what the specifiers so far say: their keywords, and the type that another one names
 pub record Gathered : Type 0 where

@@ -4,7 +4,7 @@ use Rattle.c_lexer.specs.declared.punctuator.Punctuator.{Punctuator}
 use Rattle.c_lexer.specs.declared.punctuator.Punctuator.TheVariants as sign
 use Rattle.c_syntax.specs.declared.position.Position.{Position}
 use Rattle.c_syntax.specs.declared.position.Spelled.{Spelled}
-use Rattle.c_syntax.specs.Tree.{Expression, identifier, strings}
+use Rattle.c_syntax.specs.Tree.{Expression, Specifiers, identifier, strings}
 use Rattle.c_tree.specs.declared.c_type.TypeWord.{TypeWord}
 use Rattle.c_tree.specs.declared.expression.Fixity.TheVariants as fixity
 use Rattle.c_rules.specs.declared.fault.Rule.TheVariants.{Operands}
@@ -26,10 +26,13 @@ use Rattle.c_typing.specs.Calls.{Called, a_printf, applied, name_called, pointer
 use Rattle.c_typing.specs.Calls.{printed}
 use Rattle.c_typing.specs.Operators.{addressed, arrowed, as_operand, as_value, dotted, stepped_by, unary_value}
 use Rattle.c_typing.specs.Primaries.{spelled_bytes}
+use Rattle.c_typing.specs.Declarators.{Shape}
+use Rattle.c_typing.specs.Members.{Entries, member_added}
 use Rattle.c_typing.specs.Sizes.{next_value}
+use Rattle.c_typing.specs.Specifications.{Gathered, Specification, specified}
 use Rattle.c_typing.specs.State.{State, Typing, done, extents, judged, ◌>>>◌}
 use Rattle.c_expression_typing.specs.declared.constructs.Printing as code_printing
-use Rattle.c_expression_typing.specs.Lines.{name_of, spellings}
+use Rattle.c_expression_typing.specs.Lines.{first_line, name_of, spellings}
 
 abbrev pub valued : Typing Operand → Typing Value
 valued operand = operand >>> as_value
@@ -111,3 +114,11 @@ begun_as k name line s = begins k name line s.environment >>= λ r. Ok (record s
 abbrev pub enumerated_as : Name → (line : ℕ) → (value : Option ℕ) → Typing (Option ℕ)
 enumerated_as name line value s =
     enumerated name line value s.environment >>= λ env. Ok (record s { environment = env }, next_value value)
+
+-- what specifiers say, of which the first stands on its line
+abbrev pub specified_by : Specifiers → Typing Gathered → Typing Specification
+specified_by specs gathered = gathered >>> λ g. done (specified (first_line specs) g)
+
+-- members with what a declarator adds
+abbrev pub with_shape : Specification → (before : Entries) → Typing Shape → Typing Entries
+with_shape spec es shape = shape >>> λ sh. judged (member_added spec sh es)

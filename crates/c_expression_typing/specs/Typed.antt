@@ -16,16 +16,16 @@ use Rattle.c_declarators.specs.Derivations.{to_array, to_open_array, to_pointer}
 use Rattle.c_scope.specs.declared.tags.TagKind.TheVariants as kind
 use Rattle.c_typing.specs.Declarators.{Shape, parameter, plain_shape, scope_left, scope_opened, type_named}
 use Rattle.c_typing.specs.Declarators.{with_derivation, with_function}
-use Rattle.c_typing.specs.Members.{Entries, member_added, member_specified, no_entries, tag_completed}
+use Rattle.c_typing.specs.Members.{Entries, member_specified, no_entries, tag_completed}
 use Rattle.c_typing.specs.Operators.{assigned_by, assignment_form_of, binary_form_of, combined, indexed}
 use Rattle.c_typing.specs.Operators.{prefix_form_of, step_form, stepped_by}
 use Rattle.c_typing.specs.Primaries.{character_constant, integer_constant, literal, literal_bytes, named}
 use Rattle.c_typing.specs.Sizes.{count_in, enumeration_value}
-use Rattle.c_typing.specs.Specifications.{Gathered, Specification, nothing_gathered, specified, tag_kind, tag_type}
+use Rattle.c_typing.specs.Specifications.{Gathered, Specification, nothing_gathered, tag_kind, tag_type}
 use Rattle.c_typing.specs.Specifications.{typedef_type, with_keyword, with_named}
 use Rattle.c_typing.specs.State.{State, Typing, done, judged, ◌>>>◌}
 use Rattle.c_expression_typing.specs.Constructs.{Printing, accessed, applied_to, begun_as, called_by, cast_to, chosen}
-use Rattle.c_expression_typing.specs.Constructs.{literal_alone, plain_name}
+use Rattle.c_expression_typing.specs.Constructs.{literal_alone, plain_name, specified_by, with_shape}
 use Rattle.c_expression_typing.specs.Constructs.{enumerated_as, format_by, has_words, prefixed, sized, tagged_as, valued}
 use Rattle.c_expression_typing.specs.Lines.{first_line, name_of, spellings, tag_name}
 
@@ -72,7 +72,8 @@ abbrev mutual
   -- a type name (6.7.6)
   pub type_name : TypedDeclarator → Typing (List TypeWord)
   type_name (t.typed specs d) =
-      specification false specs >>> λ spec. shape false d >>> λ sh. judged (type_named spec sh)
+      specified_by specs (gathered false (first_line specs) specs nothing_gathered) >>> λ spec.
+      shape false d >>> λ sh. judged (type_named spec sh)
 
   -- What a declarator says. The parameters that directly follow the name of a function which is defined have complete
   -- types.
@@ -105,14 +106,11 @@ abbrev mutual
 
   pub parameter_type : (in_definition : Bool) → TypedDeclarator → Typing (List TypeWord)
   parameter_type in_definition (t.typed specs d) =
-      specification false specs >>> λ spec. shape false d >>> λ sh. parameter in_definition spec sh
+      specified_by specs (gathered false (first_line specs) specs nothing_gathered) >>> λ spec.
+      shape false d >>> λ sh. parameter in_definition spec sh
 
-  -- What specifiers say. In a declaration that declares nothing else they are alone (6.7.2.3 paragraph 7).
-  pub specification : (is_alone : Bool) → Specifiers → Typing Specification
-  specification is_alone specs =
-      gathered is_alone (first_line specs) specs nothing_gathered >>> λ g. done (specified (first_line specs) g)
-
-  -- with those before
+  -- What specifiers say with those before. In a declaration that declares nothing else they are alone (6.7.2.3
+  -- paragraph 7).
   pub gathered : (is_alone : Bool) → (line : ℕ) → Specifiers → Gathered → Typing Gathered
   gathered is_alone line t.no_specifiers g = done g
   gathered is_alone line (t.specifiers x more) g =
@@ -141,16 +139,14 @@ abbrev mutual
 
   pub with_member : Member → (before : Entries) → Typing Entries
   with_member (t.member_declaration specs d more at) es =
-      specification false specs >>> λ spec. judged (λ s. member_specified spec) >>> λ spec.
-      with_declared spec d es >>> λ es. with_more_declared spec more es
-
-  pub with_declared : Specification → Declarator → (before : Entries) → Typing Entries
-  with_declared spec d es = shape false d >>> λ sh. judged (member_added spec sh es)
+      specified_by specs (gathered false (first_line specs) specs nothing_gathered) >>> λ spec.
+      judged (λ s. member_specified spec) >>> λ spec.
+      with_shape spec es (shape false d) >>> λ es. with_more_declared spec more es
 
   pub with_more_declared : Specification → MoreDeclarators → (before : Entries) → Typing Entries
   with_more_declared spec t.end_of_declarators es = done es
   with_more_declared spec (t.more_declarators at d more) es =
-      with_declared spec d es >>> λ es. with_more_declared spec more es
+      with_shape spec es (shape false d) >>> λ es. with_more_declared spec more es
 
   -- 6.7.2.2: an enumerator, where so one without a value would have this one, and the same for the next
   pub enumerator : (next : Option ℕ) → Enumerator → Typing (Option ℕ)
@@ -161,3 +157,7 @@ abbrev mutual
   pub more_enumerators : MoreEnumerators → (next : Option ℕ) → Typing (Option ℕ)
   more_enumerators t.end_of_enumerators next = done next
   more_enumerators (t.more_enumerators at x more) next = enumerator next x >>> λ next. more_enumerators more next
+
+-- what specifiers say
+abbrev pub specification : (is_alone : Bool) → Specifiers → Typing Specification
+specification is_alone specs = specified_by specs (gathered is_alone (first_line specs) specs nothing_gathered)

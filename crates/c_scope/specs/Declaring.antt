@@ -3,13 +3,10 @@ use Rattle.std.specs.Prelude.{ℕ, Bool, true, false, not, ◌&&◌, ◌||◌, i
 use Rattle.std.specs.Prelude.{Option, Some, None, is_some, option_copied, Ok, Err}
 use Rattle.c_tree.specs.declared.c_type.TypeWord.{TypeWord}
 use Rattle.c_tree.specs.declared.c_type.TypeWord.TheVariants.{OpenArray, Takes, Gives}
-use Rattle.c_tree.specs.Extents.{TypeExtent}
-use Rattle.c_rules.specs.declared.class.Target.{Target}
-use Rattle.c_rules.specs.declared.class.Target.TheVariants as target
+use Rattle.c_tree.specs.Extents.{TypeExtent, extent_of}
 use Rattle.c_rules.specs.declared.fault.Rule.{Rule}
 use Rattle.c_rules.specs.declared.fault.Rule.TheVariants.{Redeclared, Incomplete, MisplacedStorage}
 use Rattle.c_rules.specs.Answer.{Answer}
-use Rattle.c_rules.specs.Types.{target_of}
 use Rattle.c_scope.specs.declared.meaning.Designated.{Designated}
 use Rattle.c_scope.specs.declared.meaning.Designated.TheVariants as what
 use Rattle.c_scope.specs.declared.meaning.Entity.{Entity}
@@ -23,7 +20,8 @@ use Rattle.c_scope.specs.Composite.{composite}
 use Rattle.c_scope.specs.Names.{Name}
 
 -- a declarator: its name, the lines of the first token of its specifiers, of the name and of its initializer, the
--- storage-class specifier, its type, and whether it has an initializer and, as a function, a body
+-- storage-class specifier, its type, the rule that the type violates by itself, whether the type may be incomplete, and
+-- whether it has an initializer and, as a function, a body
 pub record Declaration : Type 0 where
   pub name : Name
   pub specifiers_line : ℕ
@@ -31,6 +29,8 @@ pub record Declaration : Type 0 where
   pub initializer_line : ℕ
   pub storage : Storage
   pub type : List TypeWord
+  pub type_rule : Option Rule
+  pub may_be_incomplete : Bool
   pub has_initializer : Bool
   pub has_body : Bool
 
@@ -56,6 +56,8 @@ declaration_of d = record {
   initializer_line = d.initializer_line;
   storage = d.storage;
   type = d.c_type.now;
+  type_rule = d.type_rule;
+  may_be_incomplete = d.may_be_incomplete;
   has_initializer = d.has_initializer;
   has_body = d.has_body;
 }
@@ -86,7 +88,8 @@ is_function _ = false
 -- `auto` and `register` at file scope or at a function, and `static` at a function in a block (6.7.1 paragraph 5, 6.9
 -- paragraph 2)
 abbrev pub is_misplaced : (in_file of_function : Bool) → Storage → Bool
-is_misplaced in_file of_function storage.Automatic = in_file || of_function
+is_misplaced in_file of_function storage.Auto = in_file || of_function
+is_misplaced in_file of_function storage.Register = in_file || of_function
 is_misplaced in_file of_function storage.Static = not in_file && of_function
 is_misplaced in_file of_function _ = false
 
@@ -128,10 +131,6 @@ differs d (Some e) = not (are_compatible e.c_type d.type) || (e.is_defined && is
 abbrev pub is_redeclared : Surroundings → Declaration → Bool
 is_redeclared s d = clashes s.in_file d s.here || (has_linkage s.in_file d && differs d s.entity)
 
-abbrev pub is_complete_target : Target → Bool
-is_complete_target (target.Object size) = true
-is_complete_target _ = false
-
 -- an array of unknown size has its size from its initializer (6.7.8 paragraph 22)
 abbrev pub sized_by_initializer : List TypeWord → List TypeWord
 sized_by_initializer (OpenArray ∷ element) = element
@@ -140,13 +139,14 @@ sized_by_initializer [] = []
 
 abbrev pub is_complete : List (Option TypeExtent) → Declaration → Bool
 is_complete structures d =
-    is_complete_target (target_of structures (if d.has_initializer then sized_by_initializer d.type else d.type))
+    is_some (extent_of structures (if d.has_initializer then sized_by_initializer d.type else d.type))
 
 -- an object is complete where its declarator ends (6.7 paragraph 7), a tentative definition at the end of the file
--- (6.9.2), and what is declared `extern` need not be
+-- (6.9.2), and what is declared `extern` need not be, nor a parameter where the function is not defined (6.7.5.3
+-- paragraph 12)
 abbrev pub is_incomplete : Surroundings → Declaration → Bool
 is_incomplete s d =
-    if is_typedef d.storage || is_function d.type || is_extern d.storage then false
+    if is_typedef d.storage || is_function d.type || is_extern d.storage || d.may_be_incomplete then false
     else if is_tentative s.in_file d then not s.is_completed
     else not (is_complete s.structures d)
 
@@ -162,12 +162,17 @@ is_wrongly_initialized d = d.has_initializer && (is_typedef d.storage || is_exte
 abbrev pub when : Bool → Rule → (line : ℕ) → Answer (Unit {0}) → Answer (Unit {0})
 when holds rule line other = if holds then Err (record { rule = rule; line = line }) else other
 
+abbrev pub when_some : Option Rule → (line : ℕ) → Answer (Unit {0}) → Answer (Unit {0})
+when_some None line other = other
+when_some (Some rule) line other = Err (record { rule = rule; line = line })
+
 -- the rules of a declarator: at its specifiers, at its name, and at its initializer
 unfoldable pub judged : Surroundings → Declaration → Answer (Unit {0})
 judged s d =
     when (is_misplaced s.in_file (is_function d.type) d.storage) MisplacedStorage d.specifiers_line
     (when (is_redeclared s d) Redeclared d.line
     (when (is_incomplete s d) Incomplete d.line
+    (when_some d.type_rule d.line
     (when (is_undefined s d) MisplacedStorage d.line
     (when (is_wrongly_initialized d) MisplacedStorage d.initializer_line
-    (Ok tt)))))
+    (Ok tt))))))

@@ -4,5 +4,7 @@ pub mod Declaring
 pub mod Structures
 pub mod Environment
 pub mod Tags
+pub mod Enumerators
+pub mod Parameters
 pub mod Library
 pub mod Start

@@ -71,3 +71,10 @@ around (s ∷ t ∷ ss) = s ∷ around (t ∷ ss)
 -- the scope of the file stays
 abbrev pub closed : {A : Type 0} → Scopes A → Scopes A
 closed s = record { outer = around s.outer; current = innermost s.current s.outer }
+
+-- the innermost scope is left, and entered again later
+abbrev pub left : {A : Type 0} → Scopes A → Scopes A
+left s = record { outer = around s.outer; current = innermost [] s.outer }
+
+abbrev pub entered : {A : Type 0} → Names A → Scopes A → Scopes A
+entered names s = record { outer = s.outer ++ s.current ∷ []; current = names }

@@ -7,15 +7,16 @@ use Rattle.c_scope.specs.declared.structures.Body as code
 use Rattle.c_scope.specs.declared.structures.Structures as code_structures
 use Rattle.c_scope.specs.Names.{Name, Names, declared, names_of}
 
--- the tag by which it was declared at file scope, whether the list of its members has begun, and its members
+-- the tag by which it was declared at file scope, whether the list of its members has begun, and its members by name
 pub record Body : Type 0 where
   pub file_tag : Option Name
   pub is_begun : Bool
   pub members : Names Member
 
--- the extents, where they are complete, and the bodies
+-- the extents, where they are complete, whether they have a const member, also within members, and the bodies
 pub record Structures : Type 0 where
   pub extents : List (Option TypeExtent)
+  pub with_const : List Bool
   pub bodies : List Body
 
 abbrev pub body_of : code.Body → Body
@@ -26,15 +27,20 @@ body_of b = record {
 }
 
 abbrev pub structures_of : code_structures.Structures → Structures
-structures_of s = record { extents = s.extents.items; bodies = map body_of s.bodies.items }
+structures_of s = record {
+  extents = s.extents.items;
+  with_const = s.with_const.items;
+  bodies = map body_of s.bodies.items;
+}
 
 abbrev pub none : Structures
-none = record { extents = []; bodies = [] }
+none = record { extents = []; with_const = []; bodies = [] }
 
 -- a structure or union that is incomplete, with the next number
 abbrev pub declared_structure : Option Name → Structures → Structures
 declared_structure tag s = record {
   extents = s.extents ++ None ∷ [];
+  with_const = s.with_const ++ false ∷ [];
   bodies = s.bodies ++ record { file_tag = tag; is_begun = false; members = [] } ∷ [];
 }
 
@@ -50,8 +56,14 @@ begun n s = record s { bodies = changed n (λ b. record b { is_begun = true }) s
 abbrev pub with_extent : ℕ → TypeExtent → Structures → Structures
 with_extent n extent s = record s { extents = changed n (λ e. Some extent) s.extents }
 
+abbrev pub with_constness : ℕ → Bool → Structures → Structures
+with_constness n has_const s = record s { with_const = changed n (λ b. has_const) s.with_const }
+
 abbrev pub with_members : ℕ → Names Member → Structures → Structures
 with_members n members s = record s { bodies = changed n (λ b. record b { members = members }) s.bodies }
+
+abbrev pub completed : ℕ → TypeExtent → (has_const : Bool) → Names Member → Structures → Structures
+completed n extent has_const members s = with_members n members (with_constness n has_const (with_extent n extent s))
 
 abbrev pub begun_body : Option Body → Bool
 begun_body None = false

@@ -3,15 +3,14 @@
 ghost use Rattle.std.specs.Prelude.{◌≡◌, option_copied, Result, Ok, Err};
 ghost use Rattle.c_scope.specs.Composite.{composite};
 ghost use Rattle.c_scope.specs.Declaring.{Declaration, Surroundings, agrees, is_linked, are_compatible, clashes};
-ghost use Rattle.c_scope.specs.Declaring.{declaration_of, differs, has_linkage, is_complete, is_complete_target};
+ghost use Rattle.c_scope.specs.Declaring.{declaration_of, differs, has_linkage, is_complete};
 ghost use Rattle.c_scope.specs.Declaring.{is_extern, is_function, is_incomplete, is_misplaced, is_redeclared};
 ghost use Rattle.c_scope.specs.Declaring.{is_tentative, is_typedef, is_undefined, is_wrongly_initialized, judged};
 ghost use Rattle.c_scope.specs.Declaring.{sized_by_initializer, surroundings_of};
 
 use crate::composite::are_compatible;
 use crate::meaning::{Designated, Entity, Meaning, Storage};
-use c_place_rules::target::target;
-use c_rules::{Fault, Rule, Target};
+use c_rules::{Fault, Rule};
 use c_tree::{Extent, TypeWord};
 use sb_base::Line;
 
@@ -30,6 +29,12 @@ pub struct Declared<'a, 't> {
     pub storage: Storage,
     /// The type.
     pub c_type: &'t [TypeWord],
+    /// The first of the rules on incomplete elements, misplaced functions, constants and large types that the type
+    /// violates by itself.
+    pub type_rule: Option<Rule>,
+    /// Whether the type may be incomplete, as that of a parameter where the function is not defined (6.7.5.3 paragraph
+    /// 12).
+    pub may_be_incomplete: bool,
     /// Whether it has an initializer.
     pub has_initializer: bool,
     /// Whether it has the body of a function.
@@ -138,7 +143,7 @@ impl Declared<'_, '_> {
         } else {
             self.c_type
         };
-        matches!(target(structures, words), Target::Object(_))
+        Extent::of_type(structures, words).is_some()
     }
 }
 
@@ -159,6 +164,7 @@ impl Surroundings<'_> {
         if is_typedef(declared.storage)
             || is_function(declared.c_type)
             || is_extern(declared.storage)
+            || declared.may_be_incomplete
         {
             false
         } else if declared.is_tentative(self.in_file) {
@@ -175,8 +181,8 @@ impl Surroundings<'_> {
     }
 
     /// The first rule that a declarator violates here, in the order of the tokens: at its specifiers a storage-class
-    /// specifier out of place, at its name a name that is declared again, an incomplete type, or `extern` of what the
-    /// file does not define, and at its initializer one of what has none.
+    /// specifier out of place, at its name a name that is declared again, an incomplete type, what its type violates by
+    /// itself, or `extern` of what the file does not define, and at its initializer one of what has none.
     #[tactic(auto, unfolding(crate::specs::Declaring::judged))]
     pub fn judge(&self, declared: &Declared) -> Result<(), Fault>
         ensures { result ≡ judged (surroundings_of self.now) (declaration_of declared.now) }
@@ -190,6 +196,9 @@ impl Surroundings<'_> {
         }
         if self.is_incomplete(declared) {
             return violation(Rule::Incomplete, declared.line);
+        }
+        if let Some(rule) = declared.type_rule {
+            return violation(rule, declared.line);
         }
         if self.is_undefined(declared) {
             return violation(storage, declared.line);
@@ -223,7 +232,7 @@ fn is_misplaced(in_file: bool, of_function: bool, storage: Storage) -> bool
     ensures { result ≡ is_misplaced in_file of_function storage }
 {
     match storage {
-        Storage::Automatic => in_file || of_function,
+        Storage::Auto | Storage::Register => in_file || of_function,
         Storage::Static => !in_file && of_function,
         _ => false,
     }

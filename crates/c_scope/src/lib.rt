@@ -3,10 +3,12 @@
 
 pub mod composite;
 pub mod declaring;
+pub mod enumerators;
 pub mod environment;
 pub mod library;
 pub mod meaning;
 pub mod names;
+pub mod parameters;
 pub mod start;
 pub mod structures;
 pub mod tags;

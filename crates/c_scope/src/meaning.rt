@@ -60,8 +60,10 @@ pub enum Storage {
     Extern,
     /// `static`
     Static,
-    /// `auto` or `register`
-    Automatic,
+    /// `auto`
+    Auto,
+    /// `register`
+    Register,
 }
 
 /// An object or function that has linkage, and so is one throughout the source (6.2.2), as its declarations so far say.

@@ -1,7 +1,7 @@
 //! Names and the scopes in which they are declared (C99 6.2.1). A name is the list of its bytes.
 
 ghost use Rattle.std.specs.Prelude.{◌≡◌, [], length, map, OnOk, option_copied};
-ghost use Rattle.c_scope.specs.Names.{bound, closed, declared, found, is_file_scope, meaning};
+ghost use Rattle.c_scope.specs.Names.{bound, closed, declared, entered, found, is_file_scope, left, meaning};
 ghost use Rattle.c_scope.specs.Names.{names_of, opened, scopes_of};
 
 use indexmap::IndexMap;
@@ -88,6 +88,25 @@ impl<'a, T: Drop> Scopes<'a, T> {
         if let Some(before) = self.outer.pop() {
             self.current = before;
         }
+    }
+
+    /// Leaves the innermost scope, and gives what it declares.
+    pub fn leave(&mut self, alloc: Global) -> Names<'a, T>
+        ensures given { names_of result ≡ (scopes_of self.old).current }
+        ensures left { scopes_of self.new ≡ left (scopes_of self.old) }
+    {
+        let names = mem::replace(&mut self.current, Names::new(alloc));
+        self.close();
+        names
+    }
+
+    /// Enters a scope that declares these names already.
+    pub fn enter(&mut self, names: Names<'a, T>) -> Result<(), AllocError>
+        ensures { OnOk result (scopes_of self.new ≡ entered (names_of names.entry) (scopes_of self.old)) }
+    {
+        let around = mem::replace(&mut self.current, names);
+        self.outer.push(around)?;
+        Ok(())
     }
 
     /// What stands for a name in the innermost scope, where that declares it.

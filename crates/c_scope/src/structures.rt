@@ -20,15 +20,16 @@ pub struct Body<'a> {
 #[derive(Drop)]
 pub struct Structures<'a> {
     extents: Vec<Option<Extent>>,
+    with_const: Vec<bool>,
     bodies: Vec<Body<'a>>,
 }
 
 impl<'a> Structures<'a> {
     ghost use Rattle.std.specs.Prelude.{◌≡◌, ◌++◌, ◌∷◌, [], IfOk, OnOk, option_copied, length, slice_get};
-    ghost use Rattle.c_scope.specs.Structures.{begun, declared_structure, file_tag_of, is_begun, is_known};
+    ghost use Rattle.c_scope.specs.Structures.{begun, completed, declared_structure, file_tag_of, is_begun, is_known};
     ghost use Rattle.c_scope.specs.Structures.{member_of, none};
     ghost use Rattle.c_scope.specs.Structures.{structures_of};
-    ghost use Rattle.c_scope.specs.Structures.{with_extent, with_members};
+    ghost use Rattle.c_scope.specs.Structures.{with_constness, with_extent, with_members};
     ghost use Rattle.c_scope.specs.Names.{names_of};
 
     /// None yet.
@@ -37,6 +38,7 @@ impl<'a> Structures<'a> {
     {
         Structures {
             extents: Vec::new(alloc),
+            with_const: Vec::new(alloc),
             bodies: Vec::new(alloc),
         }
     }
@@ -46,6 +48,13 @@ impl<'a> Structures<'a> {
         ensures { result.now ≡ (structures_of self.now).extents }
     {
         &self.extents
+    }
+
+    /// Whether they have a const member, also within members, of those that are complete.
+    pub fn with_const(&self) -> &[bool]
+        ensures { result.now ≡ (structures_of self.now).with_const }
+    {
+        &self.with_const
     }
 
     /// Declares one that is incomplete, and gives its number.
@@ -60,6 +69,7 @@ impl<'a> Structures<'a> {
     {
         let number = self.extents.len();
         self.extents.push(None)?;
+        self.with_const.push(false)?;
         self.bodies.push(Body {
             file_tag,
             is_begun: false,
@@ -104,12 +114,20 @@ impl<'a> Structures<'a> {
         }
     }
 
-    /// This one is complete: its size and alignment, and its members by name.
-    pub fn complete(&mut self, number: usize, extent: Extent, members: Names<'a, Member>)
+    /// This one is complete: its size and alignment, whether it has a const member, also within members, and its members
+    /// by name.
+    pub fn complete(
+        &mut self,
+        number: usize,
+        extent: Extent,
+        has_const: bool,
+        members: Names<'a, Member>,
+    )
         ensures { structures_of self.new
-            ≡ with_members number (names_of members.entry) (with_extent number extent (structures_of self.old)) }
+            ≡ completed number extent has_const (names_of members.entry) (structures_of self.old) }
     {
         self.set_extent(number, extent);
+        self.set_constness(number, has_const);
         self.set_members(number, members);
     }
 
@@ -118,6 +136,14 @@ impl<'a> Structures<'a> {
     {
         if number < self.extents.len() {
             self.extents[number] = Some(extent);
+        }
+    }
+
+    fn set_constness(&mut self, number: usize, has_const: bool)
+        ensures { structures_of self.new ≡ with_constness number has_const (structures_of self.old) }
+    {
+        if number < self.with_const.len() {
+            self.with_const[number] = has_const;
         }
     }
 

@@ -62,8 +62,8 @@ abbrev pub with : Keyword → Specified → Specified
 with keyword.Typedef s = with_storage storage.Typedef s
 with keyword.Extern s = with_storage storage.Extern s
 with keyword.Static s = with_storage storage.Static s
-with keyword.Auto s = with_storage storage.Automatic s
-with keyword.Register s = with_storage storage.Automatic s
+with keyword.Auto s = with_storage storage.Auto s
+with keyword.Register s = with_storage storage.Register s
 with keyword.Const s = with_const s
 with keyword.Inline s = with_inline s
 with k s = with_type_word k s

@@ -27,7 +27,7 @@ enum Step {
 }
 
 use Step::{Body, Close, Initialized, Open, Plain};
-use Storage::{Absent, Automatic, Extern, Static, Typedef};
+use Storage::{Absent, Auto, Extern, Register, Static, Typedef};
 
 const INT: &[TypeWord] = &[TypeWord::Integer(IntType::Int)];
 
@@ -145,13 +145,7 @@ const ROWS: [Row; 31] = [
     ),
     (&[Open, Plain(Extern, INT), Plain(Extern, INT)], None),
     (
-        &[
-            Open,
-            Plain(Automatic, INT),
-            Close,
-            Open,
-            Plain(Static, CHAR),
-        ],
+        &[Open, Plain(Auto, INT), Close, Open, Plain(Static, CHAR)],
         None,
     ),
     // Incomplete types (6.7, 6.9.2).
@@ -166,7 +160,7 @@ const ROWS: [Row; 31] = [
     (&[Plain(Absent, INCOMPLETE)], Some((Rule::Incomplete, 0, 2))),
     (&[Plain(Static, OPEN_ARRAY)], Some((Rule::Incomplete, 0, 2))),
     // Storage-class specifiers (6.7.1, 6.9), and what has no initializer (6.7.8).
-    (&[Plain(Automatic, INT)], Some((STORAGE, 0, 1))),
+    (&[Plain(Register, INT)], Some((STORAGE, 0, 1))),
     (&[Open, Plain(Static, FUNCTION)], Some((STORAGE, 1, 1))),
     (&[Initialized(Extern, INT)], Some((STORAGE, 0, 3))),
     (&[Initialized(Typedef, INT)], Some((STORAGE, 0, 3))),
@@ -216,6 +210,8 @@ fn declared(
         initializer_line: line(index, 3),
         storage,
         c_type: words,
+        type_rule: None,
+        may_be_incomplete: false,
         has_initializer,
         has_body,
     }
@@ -310,5 +306,55 @@ fn numbers_and_hides(rt: HostRuntime) -> Result<(), Fail> {
         )
     );
     assert!(rt; environment.statics == 2 && environment.variables == 1 && environment.in_file());
+    Ok(())
+}
+
+#[test]
+fn keeps_the_scope_of_parameters(rt: HostRuntime) -> Result<(), Fail> {
+    let alloc = rt.alloc();
+    let mut environment = environment(alloc, true)?;
+    environment.open(alloc)?;
+    take(alloc, &mut environment, 0, Plain(Register, INT)).ok();
+    let parameters = environment.leave_parameters(alloc, 0);
+    assert!(rt; environment.in_file() && environment.names.get(b"x").is_none());
+    assert!(rt; environment.variables == 0);
+    environment.enter_parameters(parameters)?;
+    assert!(rt; environment.names.here(b"x").is_some() && environment.variables == 1);
+    Ok(())
+}
+
+#[test]
+fn declares_enumerators(rt: HostRuntime) -> Result<(), Fail> {
+    let alloc = rt.alloc();
+    let mut environment = environment(alloc, true)?;
+    let line = line(0, 2);
+    assert!(rt; environment.enumerate(b"A", line, Some(3)) == Ok(()));
+    assert!(rt; matches!(environment.names.get(b"A"), Some(Meaning::Constant(3))));
+    let rule = REDECLARED;
+    let again = environment.enumerate(b"A", line, Some(3));
+    assert!(rt; again == Err(Refusal::Fault(Fault { rule, line })));
+    let rule = Rule::NoConstant;
+    let without = environment.enumerate(b"B", line, None);
+    assert!(rt; without == Err(Refusal::Fault(Fault { rule, line })));
+    Ok(())
+}
+
+#[test]
+fn tells_what_a_type_violates_behind_the_other_rules(rt: HostRuntime) -> Result<(), Fail> {
+    let alloc = rt.alloc();
+    let rule = Rule::LargeType;
+    let mut environment = environment(alloc, true)?;
+    let large = Declared {
+        type_rule: Some(rule),
+        ..declared(0, Absent, INT, false, false)
+    };
+    let line = line(0, 2);
+    assert!(rt; environment.declare(alloc, &large) == Err(Refusal::Fault(Fault { rule, line })));
+    environment.open(alloc)?;
+    let parameter = Declared {
+        may_be_incomplete: true,
+        ..declared(0, Absent, INCOMPLETE, false, false)
+    };
+    assert!(rt; environment.declare(alloc, &parameter) == Ok(()));
     Ok(())
 }

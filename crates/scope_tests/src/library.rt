@@ -87,7 +87,7 @@ fn finds_members(rt: HostRuntime) -> Result<(), Fail> {
             size: 1,
         },
     )?;
-    structures.complete(number, Extent::of_integer(IntType::Int), members);
+    structures.complete(number, Extent::of_integer(IntType::Int), false, members);
     assert!(rt; structures.is_begun(number) && structures.is_complete(number));
     assert!(rt;
         structures

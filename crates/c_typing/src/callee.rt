@@ -1,0 +1,224 @@
+//! Calls (C99 6.5.2.2), whose arguments are typed.
+
+ghost use Rattle.std.specs.Prelude.{◌≡◌};
+ghost use Rattle.c_typing.specs.Calls.{called_of, library_called, place_among};
+
+use crate::typer::Typer;
+use c_call_rules::callee::Callee;
+use c_call_rules::calling::{called, called_through};
+use c_call_rules::function_type::callee_type;
+use c_call_rules::printing::{Format, formatted};
+use c_call_rules::routines::routine_type;
+use c_place_rules::operand::Operand;
+use c_rules::holding::beside;
+use c_rules::value::same_words;
+use c_rules::{Refusal, TypedValue};
+use c_scope::meaning::{Designated, LibraryFunction, Meaning};
+use c_tree::{CType, Routine, TypeWord};
+use sb_base::Line;
+use std::alloc::{AllocError, Global};
+
+/// What is called.
+#[derive(Drop)]
+pub enum Called {
+    /// A function of the source by its plain name: its number and its type.
+    Function(usize, CType),
+    /// A routine of the library.
+    Library(Routine),
+    /// `printf`.
+    Printf,
+    /// What a value points to.
+    Pointer(TypedValue),
+}
+
+fn library_called(function: LibraryFunction) -> Called
+    ensures { called_of result ≡ library_called function }
+{
+    match function {
+        LibraryFunction::Routine(routine) => Called::Library(routine),
+        LibraryFunction::Printf => Called::Printf,
+    }
+}
+
+// The place of a type among others, or their number.
+fn place_among(words: &[TypeWord], types: &[CType]) -> usize
+    ensures { result ≡ place_among words.now types.now }
+{
+    let mut place = 0;
+    for c_type in types {
+        if same_words(words, c_type.words()) {
+            return place;
+        }
+        place += 1;
+    }
+    place
+}
+
+impl<'a> Typer<'a> {
+    ghost use Rattle.std.specs.Prelude.{◌≡◌, ◌++◌, ◌∷◌, [], map, option_map, IfOk, OnOk, Ok, Err};
+    ghost use Rattle.c_rules.specs.declared.fault.Refusal.{Refusal};
+    ghost use Rattle.c_rules.specs.declared.fault.Refusal.TheVariants.{Memory};
+    ghost use Rattle.c_rules.specs.Answer.{Gives};
+    ghost use Rattle.c_rules.specs.Values.{value_of};
+    ghost use Rattle.c_place_rules.specs.Operands.{operand_of};
+    ghost use Rattle.c_call_rules.specs.FunctionTypes.{callee_type};
+    ghost use Rattle.c_call_rules.specs.Printing.{format_of};
+    ghost use Rattle.c_scope.specs.Names.{meaning};
+    ghost use Rattle.c_call_rules.specs.Calls.{callee_of};
+    ghost use Rattle.c_typing.specs.Calls.{applied, called_by_value, called_of, called_plainly, callee_number};
+    ghost use Rattle.c_typing.specs.Calls.{name_called, plainly_applied, pointer_applied, pointer_called, printed};
+    ghost use Rattle.c_typing.specs.Calls.{with_callee_type};
+    ghost use Rattle.c_typing.specs.State.{Types, state_of};
+
+    /// What the plain name before a `(` calls. The rules are those of `named` and `value`.
+    pub fn name_called(
+        &mut self,
+        is_evaluated: bool,
+        name: &[u8],
+        line: Line,
+    ) -> Result<Called, Refusal>
+        ensures { Types called_of (state_of self.new) result
+            (name_called is_evaluated name.now line (state_of self.old)) }
+    {
+        let called = match self.called_plainly(name)? {
+            Some(called) => called,
+            None => self.called_by_value(is_evaluated, name, line)?,
+        };
+        self.count_use(is_evaluated, name, line);
+        Ok(called)
+    }
+
+    // A function of the source or of the library, if the name is one.
+    fn called_plainly(&self, name: &[u8]) -> Result<Option<Called>, Refusal>
+        ensures { Gives (option_map called_of) result
+            (Ok (called_plainly (meaning name.now (state_of self.now).environment.names))) }
+    {
+        match self.environment.names.get(name) {
+            Some(Meaning::Named(Designated::Function(number), c_type)) => {
+                let c_type = CType::new(c_type.words().to_vec(self.alloc)?);
+                Ok(Some(Called::Function(*number, c_type)))
+            }
+            Some(Meaning::Named(Designated::Library(function), _)) => {
+                Ok(Some(library_called(*function)))
+            }
+            _ => Ok(None),
+        }
+    }
+
+    /// What the value of an operand points to. The rules are those of `value`.
+    pub fn pointer_called(&self, operand: Operand) -> Result<Called, Refusal>
+        ensures { Gives called_of result (pointer_called (operand_of operand) (state_of self.now)) }
+    {
+        let value = self.value(operand)?;
+        Ok(Called::Pointer(value))
+    }
+
+    /// A call of these arguments, with the line of its `(`. The rules are those of `called` and `called_through`.
+    pub fn applied(
+        &mut self,
+        line: Line,
+        callee: Called,
+        arguments: Vec<TypedValue>,
+    ) -> Result<Operand, Refusal>
+        ensures { Types operand_of (state_of self.new) result
+            (applied line (called_of callee) (map value_of arguments.items) (state_of self.old)) }
+    {
+        match callee {
+            Called::Function(number, c_type) => {
+                self.called(line, Callee::Function(number), c_type.words(), arguments)
+            }
+            Called::Library(routine) => {
+                self.called(
+                    line,
+                    Callee::Library(routine),
+                    routine_type(routine),
+                    arguments,
+                )
+            }
+            Called::Printf => self.printed(line, None, arguments),
+            Called::Pointer(value) => self.pointer_applied(line, value, arguments),
+        }
+    }
+
+    fn called_by_value(
+        &self,
+        is_evaluated: bool,
+        name: &[u8],
+        line: Line,
+    ) -> Result<Called, Refusal>
+        ensures { Gives called_of result (called_by_value is_evaluated line
+            (meaning name.now (state_of self.now).environment.names) (state_of self.now)) }
+    {
+        let operand = self.meant(is_evaluated, name, line)?;
+        self.pointer_called(operand)
+    }
+
+    fn called(
+        &self,
+        line: Line,
+        callee: Callee,
+        words: &[TypeWord],
+        arguments: Vec<TypedValue>,
+    ) -> Result<Operand, Refusal>
+        ensures { Gives operand_of result (plainly_applied line (callee_of callee) words.now
+            (map value_of arguments.items) (state_of self.now)) }
+    {
+        let value = called(self.alloc, self.extents(), line, callee, words, arguments)?;
+        Ok(Operand::Value(value))
+    }
+
+    /// A call of `printf` of a first argument and those behind it. The rules are those of `formatted`.
+    pub fn printed(
+        &self,
+        line: Line,
+        format: Option<Format>,
+        arguments: Vec<TypedValue>,
+    ) -> Result<Operand, Refusal>
+        ensures { Gives operand_of result (printed line (option_map format_of format)
+            (map value_of arguments.items) (state_of self.now)) }
+    {
+        let value = formatted(self.alloc, self.extents(), line, format, arguments)?;
+        Ok(Operand::Value(value))
+    }
+
+    fn pointer_applied(
+        &mut self,
+        line: Line,
+        value: TypedValue,
+        arguments: Vec<TypedValue>,
+    ) -> Result<Operand, Refusal>
+        ensures { Types operand_of (state_of self.new) result
+            (pointer_applied line (value_of value) (map value_of arguments.items) (state_of self.old)) }
+    {
+        let counted = self.count_type(value.c_type.words());
+        let (value, (arguments, number)) = beside(value, beside(arguments, counted))?;
+        let value = called_through(self.alloc, self.extents(), line, number, value, arguments)?;
+        Ok(Operand::Value(value))
+    }
+
+    // The number of the function type to which a value of a type points, and that type among those that are called.
+    fn count_type(&mut self, words: &[TypeWord]) -> Result<usize, Refusal>
+        ensures number { IfOk result (λ number. number ≡ callee_number (callee_type words.now) (state_of self.old)) }
+        ensures added { OnOk result (state_of self.new ≡ with_callee_type (callee_type words.now) (state_of self.old)) }
+        ensures memory { (e : Refusal) → result ≡ Err e → e ≡ Memory }
+    {
+        let Some(words) = callee_type(words) else {
+            return Ok(0);
+        };
+        let number = place_among(words, &self.function_types);
+        if number >= self.function_types.len() {
+            self.add_type(words)?;
+        }
+        Ok(number)
+    }
+
+    fn add_type(&mut self, words: &[TypeWord]) -> Result<(), AllocError>
+        ensures { OnOk result (state_of self.new ≡ record (state_of self.old) {
+          function_types = (state_of self.old).function_types ++ words.now ∷ [];
+        }) }
+    {
+        let c_type = CType::new(words.to_vec(self.alloc)?);
+        self.function_types.push(c_type)?;
+        Ok(())
+    }
+}

@@ -1,0 +1,2 @@
+pub mod MemberLookups
+pub mod Levels

@@ -1,0 +1,4 @@
+pub mod Members
+pub mod Types
+pub mod Subobjects
+pub mod CurrentObject

@@ -1,0 +1,8 @@
+use Rattle.std.proofs.Common.{◌≡◌, ◌++◌, drop}
+use Rattle.rv_layout.specs.Lists.{items_from, items_of}
+use Rattle.rv_codegen.proofs.listing.function_items.Given as goal
+
+abbrev pub invariant-loop-place : goal.invariant-loop-place
+invariant-loop-place l =
+    l.list ++ items_from l.sizes l.program l.plans l.number l.count l.place (drop l.place l.body)
+    ≡ items_of l.sizes l.program l.plans l.number

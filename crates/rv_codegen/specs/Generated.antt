@@ -1,0 +1,47 @@
+-- What is generated from, what is generated, and when nothing is.
+use Rattle.std.specs.Prelude.{◌≡◌, ℕ, ◌+◌, ◌^◌, ◌<◌, ◌≤◌, true, false, List, length, Some}
+use Rattle.addr_map.specs.Places.{MapSizes, functions_begin, code_begin, code_size}
+use Rattle.rv_isa.specs.declared.instruction.Instr.{Instr}
+use Rattle.rv_asm.specs.Forms.{IsAssemblable, longest_size}
+use Rattle.flat_meaning.specs.declared.function.FlatFunction.{FlatFunction}
+use Rattle.flat_meaning.specs.declared.function.FlatProgram.{FlatProgram}
+use Rattle.flat_meaning.specs.Calls.{function_in}
+use Rattle.reg_plan.specs.declared.plan.FunctionPlan.{FunctionPlan}
+use Rattle.rv_layout.specs.Lists.{items_of}
+use Rattle.rv_segments.specs.Segments.{words_below, rows_below, start_address, code_words, table_words}
+use Rattle.rv_segments.specs.Segments.{AreAssemblable, code_bytes, table_bytes, FitsSegments}
+use Rattle.rv_codegen.specs.declared.code.GenerateError.{GenerateError}
+use Rattle.rv_codegen.specs.declared.code.GenerateError.TheVariants.{TooLarge, RuntimeTooLarge}
+use Rattle.rv_codegen.specs.declared.code.GenerateError.TheVariants.{FunctionTooLong, Memory}
+
+-- what is generated from: a plan for each function, and numbers of functions and instructions that fit their types
+pub record IsReady (p : FlatProgram) (plans : List FunctionPlan) : Type 0 where
+  pub plans_are : length plans ≡ length p.functions
+  pub functions : length p.functions < 2 ^ 32
+  pub bodies : (f : ℕ) (g : FlatFunction) → function_in p f ≡ Some g → length g.body < 2 ^ 32
+
+-- the functions below a number are generated
+pub record AreBelow (m : MapSizes) (p : FlatProgram) (plans : List FunctionPlan) (number : ℕ) (rows : List Instr)
+    (runtime compiled : List ℕ) : Type 0 where
+  pub rows_are : rows ≡ rows_below m p plans number
+  pub runtime_is : runtime ≡ words_below m p plans true number
+  pub compiled_is : compiled ≡ words_below m p plans false number
+  pub assemblable : (f : ℕ) → f < number → IsAssemblable (items_of m p plans f)
+
+-- the code of a program
+pub record IsGenerated (m : MapSizes) (p : FlatProgram) (plans : List FunctionPlan) (start : ℕ) (table compiled : List
+    ℕ) : Type 0 where
+  pub start_is : start ≡ start_address p
+  pub table_is : table ≡ table_words m p plans
+  pub compiled_is : compiled ≡ code_words m p plans
+  pub fits : FitsSegments m p plans
+
+-- when each answer comes that gives no code
+abbrev pub IsCause : MapSizes → FlatProgram → List FunctionPlan → GenerateError → Type 0
+IsCause m p plans (TooLarge n) =
+    AreAssemblable m p plans × (code_size < code_bytes m p plans) × (n ≡ code_bytes m p plans)
+IsCause m p plans (RuntimeTooLarge n) =
+    AreAssemblable m p plans × (code_bytes m p plans ≤ code_size)
+    × (code_begin < functions_begin + table_bytes m p plans) × (n ≡ table_bytes m p plans)
+IsCause m p plans (FunctionTooLong f) = (f < length p.functions) × (2 ^ 28 ≤ longest_size (items_of m p plans f))
+IsCause m p plans Memory = Unit {0}

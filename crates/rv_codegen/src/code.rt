@@ -1,0 +1,38 @@
+//! What is generated, and why nothing is.
+
+ghost use Rattle.std.specs.Prelude.{◌≡◌};
+ghost use Rattle.rv_codegen.specs.declared.code.GenerateError.TheVariants.{Memory};
+
+use std::alloc::AllocError;
+
+/// The code of a program: instructions as words.
+#[derive(Drop)]
+pub struct Code {
+    /// The address of the first instruction of a run.
+    pub start: u64,
+    /// From 0x10000 on: the jump table, the start, and the functions of the runtime.
+    pub table: Vec<u32>,
+    /// From 0x100000 on: the functions of the program.
+    pub compiled: Vec<u32>,
+}
+
+/// Why there is no code.
+#[derive(Clone, Copy, Debug)]
+pub enum GenerateError {
+    /// The functions of the program take more than 8388608 bytes, this many.
+    TooLarge(u128),
+    /// The jump table, the start and the functions of the runtime take more than 983040 bytes, this many.
+    RuntimeTooLarge(u128),
+    /// The function with this number has 2^28 words or more, if each branch and jump has its longest form.
+    FunctionTooLong(u32),
+    /// There is no memory.
+    Memory,
+}
+
+impl From<AllocError> for GenerateError {
+    ghost from_gives = { λ _ e. e ≡ Memory };
+
+    fn from(_: AllocError) -> GenerateError {
+        GenerateError::Memory
+    }
+}

@@ -1,0 +1,217 @@
+//! The generator.
+
+ghost use Rattle.std.specs.Prelude.{◌≡◌, ◌+◌, ◌*◌, ◌<◌, ◌≤◌, ◌^◌, ◌++◌, length, map, MatchResult, OnOk, IfOk};
+ghost use Rattle.flat_meaning.specs.Calls.{function_in};
+ghost use Rattle.flat_meaning.specs.Meaning.{body_of};
+ghost use Rattle.rv_isa.specs.Table.{word_of};
+ghost use Rattle.rv_asm.specs.Forms.{IsAssemblable};
+ghost use Rattle.rv_calls.specs.Calls.{row};
+ghost use Rattle.rv_follows.specs.Start.{start_block};
+ghost use Rattle.rv_layout.specs.Lists.{items_of};
+ghost use Rattle.rv_segments.specs.Segments.{function_words};
+ghost use Rattle.rv_codegen.specs.Generated.{IsReady, AreBelow, IsGenerated, IsCause};
+
+use crate::code::{Code, GenerateError};
+use crate::listing::function_items;
+use addr_map::AddrMap;
+use flat_meaning::{FlatFunction, FlatProgram};
+use reg_plan::FunctionPlan;
+use rv_asm::{assemble, is_assemblable};
+use rv_emission::{put_row, put_start};
+use rv_isa::{Instr, encode};
+use rv_segments::laws::lists_can_be_assembled;
+use std::alloc::{AllocError, Global};
+
+// The words of a function.
+fn function_words(
+    alloc: Global,
+    sizes: &AddrMap,
+    program: &FlatProgram,
+    plans: &[FunctionPlan],
+    number: u32,
+) -> Result<Vec<u32>, GenerateError>
+    requires ready { IsReady program.now plans.now }
+    requires function { number < length program.now.functions }
+    ensures { MatchResult result
+        (λ words. (words.items ≡ function_words sizes.now program.now plans.now number)
+        × IsAssemblable (items_of sizes.now program.now plans.now number))
+        (IsCause sizes.now program.now plans.now) }
+{
+    let list = function_items(alloc, sizes, program, plans, number)?;
+    let items = list.as_slice();
+    let able = is_assemblable(alloc, items)?;
+    lists_can_be_assembled();
+    if able {
+        return Ok(assemble(alloc, items)?);
+    }
+    Err(GenerateError::FunctionTooLong(number))
+}
+
+// What is generated so far.
+#[derive(Drop)]
+struct Segments {
+    rows: Vec<Instr>,
+    runtime: Vec<u32>,
+    compiled: Vec<u32>,
+}
+
+// Puts a function of the runtime.
+fn put_runtime(
+    segments: &mut Segments,
+    program: &FlatProgram,
+    words: &[u32],
+) -> Result<(), AllocError>
+    ensures rows { OnOk result
+        (segments.new.rows.items ≡ segments.old.rows.items
+        ++ row (0x10000 + 16 * length program.now.functions + 36 + 4 * length segments.old.runtime.items)) }
+    ensures runtime { OnOk result (segments.new.runtime.items ≡ segments.old.runtime.items ++ words.now) }
+    ensures compiled { segments.new.compiled.items ≡ segments.old.compiled.items }
+{
+    let count = program.functions.as_slice().len() as u128;
+    let begin = 0x1_0000 + 16 * count + 36 + 4 * segments.runtime.len() as u128;
+    put_row(&mut segments.rows, begin)?;
+    segments.runtime.extend_from_slice(words)?;
+    Ok(())
+}
+
+// Puts a function of the program.
+fn put_compiled(segments: &mut Segments, words: &[u32]) -> Result<(), AllocError>
+    ensures rows { OnOk result
+        (segments.new.rows.items ≡ segments.old.rows.items
+        ++ row (0x100000 + 4 * length segments.old.compiled.items)) }
+    ensures compiled { OnOk result (segments.new.compiled.items ≡ segments.old.compiled.items ++ words.now) }
+    ensures runtime { segments.new.runtime.items ≡ segments.old.runtime.items }
+{
+    put_row(
+        &mut segments.rows,
+        0x10_0000 + 4 * segments.compiled.len() as u128,
+    )?;
+    segments.compiled.extend_from_slice(words)?;
+    Ok(())
+}
+
+// Whether a function is one of the runtime.
+fn is_of_runtime(function: &FlatFunction) -> bool
+    ensures { result ≡ function.now.is_runtime }
+{
+    function.is_runtime
+}
+
+// Puts a function.
+fn put_function(
+    segments: &mut Segments,
+    alloc: Global,
+    sizes: &AddrMap,
+    program: &FlatProgram,
+    plans: &[FunctionPlan],
+    number: u32,
+) -> Result<(), GenerateError>
+    requires ready { IsReady program.now plans.now }
+    requires function { number < length program.now.functions }
+    requires below { AreBelow sizes.now program.now plans.now number segments.old.rows.items
+        segments.old.runtime.items segments.old.compiled.items }
+    ensures { MatchResult result
+        (λ _. AreBelow sizes.now program.now plans.now (number + 1) segments.new.rows.items
+        segments.new.runtime.items segments.new.compiled.items)
+        (IsCause sizes.now program.now plans.now) }
+{
+    let code = function_words(alloc, sizes, program, plans, number)?;
+    let words = code.as_slice();
+    let functions = program.functions.as_slice();
+    let runtime = is_of_runtime(&functions[number as usize]);
+    if runtime {
+        put_runtime(segments, program, words)?;
+        return Ok(());
+    }
+    put_compiled(segments, words)?;
+    Ok(())
+}
+
+// All functions.
+fn segments_of(
+    alloc: Global,
+    sizes: &AddrMap,
+    program: &FlatProgram,
+    plans: &[FunctionPlan],
+) -> Result<Segments, GenerateError>
+    requires ready { IsReady program.now plans.now }
+    ensures { MatchResult result
+        (λ s. AreBelow sizes.now program.now plans.now (length program.now.functions) s.rows.items s.runtime.items
+        s.compiled.items)
+        (IsCause sizes.now program.now plans.now) }
+{
+    let mut segments = Segments {
+        rows: Vec::new(alloc),
+        runtime: Vec::new(alloc),
+        compiled: Vec::new(alloc),
+    };
+    for number in 0..program.functions.as_slice().len() as u32 {
+        put_function(&mut segments, alloc, sizes, program, plans, number)?;
+    }
+    Ok(segments)
+}
+
+// The words of instructions.
+fn put_words(words: &mut Vec<u32>, instrs: &[Instr]) -> Result<(), AllocError>
+    ensures { OnOk result (words.new.items ≡ words.old.items ++ map word_of instrs.now) }
+{
+    for instr in instrs {
+        words.push(encode(*instr))?;
+    }
+    Ok(())
+}
+
+// The words of the jump table, the start and the functions of the runtime.
+fn table_of(
+    alloc: Global,
+    sizes: &AddrMap,
+    program: &FlatProgram,
+    rows: &mut Vec<Instr>,
+    runtime: &[u32],
+) -> Result<Vec<u32>, AllocError>
+    ensures { IfOk result
+        (λ table. table.items ≡ map word_of (rows.old.items ++ start_block sizes.now program.now) ++ runtime.now) }
+{
+    put_start(rows, sizes, program)?;
+    let mut table = Vec::new(alloc);
+    put_words(&mut table, rows)?;
+    table.extend_from_slice(runtime)?;
+    Ok(table)
+}
+
+/// The code of a program under its plans, one for each function. `TooLarge` comes exactly where every function can be
+/// assembled and the functions of the program take more than 8388608 bytes; `RuntimeTooLarge` where they take no more,
+/// and the jump table, the start and the functions of the runtime more than 983040; `FunctionTooLong` names a function
+/// whose longest forms have 2^28 words or more; `Memory` where there is none.
+pub fn generate(
+    alloc: Global,
+    sizes: &AddrMap,
+    program: &FlatProgram,
+    plans: &[FunctionPlan],
+) -> Result<Code, GenerateError>
+    requires { IsReady program.now plans.now }
+    ensures { MatchResult result
+        (λ c. IsGenerated sizes.now program.now plans.now c.start c.table.items c.compiled.items)
+        (IsCause sizes.now program.now plans.now) }
+{
+    let Segments {
+        mut rows,
+        runtime,
+        compiled,
+    } = segments_of(alloc, sizes, program, plans)?;
+    let code_bytes = 4 * compiled.len() as u128;
+    if code_bytes > 0x80_0000 {
+        return Err(GenerateError::TooLarge(code_bytes));
+    }
+    let table = table_of(alloc, sizes, program, &mut rows, &runtime)?;
+    let table_bytes = 4 * table.len() as u128;
+    if table_bytes > 0xf_0000 {
+        return Err(GenerateError::RuntimeTooLarge(table_bytes));
+    }
+    let start = 0x1_0000 + 16 * program.functions.as_slice().len() as u64;
+    Ok(Code {
+        start,
+        table,
+        compiled,
+    })
+}

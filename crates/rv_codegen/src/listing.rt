@@ -1,0 +1,213 @@
+//! Labelled lists.
+
+ghost use Rattle.std.specs.Prelude.{◌≡◌, ◌+◌, ◌-◌, ◌<◌, ◌^◌, ◌++◌, ◌∷◌, [], length, OnOk, IfOk};
+ghost use Rattle.rv_asm.specs.declared.item.Item.TheVariants as item;
+ghost use Rattle.flat_meaning.specs.Calls.{function_in};
+ghost use Rattle.flat_meaning.specs.Meaning.{body_of};
+ghost use Rattle.rv_follows.specs.Code.{keeping};
+ghost use Rattle.rv_layout.specs.Lists.{plain, label_for, tail_of, items_at, items_of};
+
+use addr_map::AddrMap;
+use flat_meaning::{FlatInstruction, FlatProgram};
+use reg_plan::FunctionPlan;
+use rv_asm::{Item, Label};
+use rv_emission::{left_register, put_block, put_entry, right_register};
+use rv_isa::Instr;
+use std::alloc::{AllocError, Global};
+use std::marker::Model;
+
+/// A labelled list that grows.
+#[derive(Drop)]
+pub struct Listing {
+    items: Vec<Item>,
+    last: Instr,
+}
+
+impl Model for Listing {
+    ghost use Rattle.std.specs.Prelude.{List};
+    ghost use Rattle.rv_asm.specs.declared.item.Item.{Item};
+
+    ghost Value = { List Item };
+
+    ghost view = { λ list. list.items.items };
+}
+
+impl Listing {
+    /// An empty list.
+    pub(crate) fn new(alloc: Global) -> Listing
+        ensures { result ≡ [] }
+    {
+        Listing {
+            items: Vec::new(alloc),
+            last: Instr::Ebreak,
+        }
+    }
+
+    /// The items.
+    pub(crate) fn as_slice(&self) -> &[Item]
+        ensures { result.now ≡ self.now }
+    {
+        self.items.as_slice()
+    }
+
+    // Puts an item.
+    fn put(&mut self, item: Item) -> Result<(), AllocError>
+        ensures { OnOk result (self.new ≡ self.old ++ item ∷ []) }
+    {
+        self.items.push(item)?;
+        Ok(())
+    }
+
+    // Puts an instruction.
+    fn put_instr(&mut self, instr: Instr) -> Result<(), AllocError>
+        ensures { OnOk result (self.new ≡ self.old ++ item.Instr instr ∷ []) }
+    {
+        self.put(Item::Instr(instr))
+    }
+
+    /// Puts instructions.
+    pub(crate) fn put_plain(&mut self, instrs: &[Instr]) -> Result<(), AllocError>
+        ensures { OnOk result (self.new ≡ self.old ++ plain instrs.now) }
+    {
+        for instr in instrs {
+            self.put_instr(*instr)?;
+        }
+        Ok(())
+    }
+
+    /// Puts a label.
+    pub(crate) fn put_label(&mut self, number: u32) -> Result<(), AllocError>
+        ensures { OnOk result (self.new ≡ self.old ++ item.Label number ∷ []) }
+    {
+        self.put(Item::Label(Label::new(number)))
+    }
+
+    // Puts a jump to a label.
+    fn put_jump(&mut self, number: u32) -> Result<(), AllocError>
+        ensures { OnOk result (self.new ≡ self.old ++ item.Jump number ∷ []) }
+    {
+        self.put(Item::Jump {
+            to: Label::new(number),
+        })
+    }
+}
+
+/// The number of the label for a place of a function of so many instructions.
+pub(crate) fn label_for(count: u32, place: u64) -> u32
+    ensures { result ≡ label_for count place }
+{
+    if place < u64::from(count) {
+        place as u32
+    } else {
+        count
+    }
+}
+
+// Puts the jump or the branch behind the block of an instruction.
+fn put_tail(
+    list: &mut Listing,
+    program: &FlatProgram,
+    plans: &[FunctionPlan],
+    number: u32,
+    count: u32,
+    place: u32,
+    instruction: &FlatInstruction,
+) -> Result<(), AllocError>
+    requires function { number < length program.now.functions }
+    requires plan { number < length plans.now }
+    ensures { OnOk result
+        (list.new ≡ list.old ++ tail_of (keeping program.now plans.now number) count place instruction.now) }
+{
+    match *instruction {
+        FlatInstruction::Branch {
+            op,
+            left,
+            right,
+            past,
+        } => list.put(Item::Branch {
+            op,
+            rs1: left_register(program, plans, number, left),
+            rs2: right_register(program, plans, number, right),
+            to: Label::new(label_for(count, u64::from(place) + 1 + u64::from(past))),
+        }),
+        FlatInstruction::JumpForward { past } => {
+            list.put_jump(label_for(count, u64::from(place) + 1 + u64::from(past)))
+        }
+        FlatInstruction::JumpBack { back } => {
+            list.put_jump(label_for(count, u64::from(place.saturating_sub(back))))
+        }
+        _ => Ok(()),
+    }
+}
+
+// Puts the items of an instruction.
+fn put_items(
+    list: &mut Listing,
+    alloc: Global,
+    sizes: &AddrMap,
+    program: &FlatProgram,
+    plans: &[FunctionPlan],
+    number: u32,
+    count: u32,
+    place: u32,
+    instruction: &FlatInstruction,
+) -> Result<(), AllocError>
+    requires function { number < length program.now.functions }
+    requires plan { number < length plans.now }
+    ensures { OnOk result
+        (list.new ≡ list.old ++ items_at sizes.now program.now plans.now number count place instruction.now) }
+{
+    let mut block = Vec::new(alloc);
+    put_block(
+        &mut block,
+        sizes,
+        program,
+        plans,
+        number,
+        u64::from(place),
+        instruction,
+    )?;
+    list.put_label(place)?;
+    list.put_plain(&block)?;
+    put_tail(list, program, plans, number, count, place, instruction)
+}
+
+/// The labelled list of a function.
+pub(crate) fn function_items(
+    alloc: Global,
+    sizes: &AddrMap,
+    program: &FlatProgram,
+    plans: &[FunctionPlan],
+    number: u32,
+) -> Result<Listing, AllocError>
+    requires function { number < length program.now.functions }
+    requires plan { number < length plans.now }
+    requires small { length (body_of (function_in program.now number)) < 2 ^ 32 }
+    ensures { IfOk result (λ list. list ≡ items_of sizes.now program.now plans.now number) }
+{
+    let body = program.functions.as_slice()[number as usize]
+        .body
+        .as_slice();
+    let count = body.len() as u32;
+    let mut entry = Vec::new(alloc);
+    put_entry(&mut entry, program, plans, number)?;
+    let mut list = Listing::new(alloc);
+    list.put_plain(&entry)?;
+    for place in 0..count {
+        let instruction = &body[place as usize];
+        put_items(
+            &mut list,
+            alloc,
+            sizes,
+            program,
+            plans,
+            number,
+            count,
+            place,
+            instruction,
+        )?;
+    }
+    list.put_label(count)?;
+    list.put_instr(Instr::Ebreak)?;
+    Ok(list)
+}

@@ -1,0 +1,5 @@
+pub mod Placed
+pub mod Order
+pub mod Parts
+pub mod Literals
+pub mod Initializing

@@ -1,5 +1,5 @@
 -- What flat code does, step by step.
-use Rattle.std.specs.Prelude.{ℕ, ◌+◌, ◌-◌, ◌%◌, ◌^◌, Bool, true, false, not, ◌&&◌, ◌==◌, nat_le, if◌then◌else◌, List}
+use Rattle.std.specs.Prelude.{ℕ, ◌+◌, ◌-◌, ◌*◌, ◌%◌, ◌^◌, Bool, true, false, not, ◌&&◌, ◌==◌, nat_le, if◌then◌else◌, List}
 use Rattle.std.specs.Prelude.{[], ◌∷◌, ◌++◌, drop, length, Option, Some, None, slice_get}
 use Rattle.words.specs.TwosComplement.{low_bits}
 use Rattle.rv_isa.specs.declared.instruction.LoadOp.{LoadOp}
@@ -28,12 +28,13 @@ use Rattle.flat_meaning.specs.Calls.{function_in, room_if, rooms, charged, argum
 
 -- ---- instructions that stay in their function
 
--- what they depend on: the map of the memory, whether the function is one of the runtime, and the bytes that are
--- charged
+-- what they depend on: the map of the memory, whether the function is one of the runtime, the bytes that are charged,
+-- and what an instruction weighs
 pub record Context : Type 0 where
   pub sizes : MapSizes
   pub is_runtime : Bool
   pub charge : ℕ
+  pub weight : ℕ
 
 -- Where they lead: to a place of the function, to the end of the run with a status and a report, out of the function by
 -- a
@@ -153,13 +154,27 @@ leaves m p _ f pc s frames = Stuck
 
 -- ---- steps
 
--- what an instruction counts as work: one, and one for each value that a call hands over and each byte of a report
+-- An instruction weighs twice as much where the activation record of its function passes what the offsets of loads and
+-- stores reach (RISC-V unprivileged ISA manual, 2.6: 12 bits with a sign).
+abbrev pub weight_of : Option FlatFunction → ℕ
+weight_of None = 1
+weight_of (Some f) = if nat_le f.room (2 ^ 11) then 1 else 2
+
+-- what an instruction that is no call and no return counts as work: its weight, twice for a byte of the input or the
+-- output, and once more for each byte of a report
+abbrev pub local_cost : (weight : ℕ) → FlatInstruction → ℕ
+local_cost w (Get x) = 2 * w
+local_cost w (Put x) = 2 * w
+local_cost w (End e) = w * (1 + length (report_of e))
+local_cost w _ = w
+
+-- what an instruction counts as work: a call and a return for the registers that wait, and twice for each value that
+-- is handed over
 abbrev pub cost : FlatProgram → (function : ℕ) → FlatInstruction → ℕ
-cost p f (Call g first x) = 1 + parameters_of (function_in p g)
-cost p f (CallAddress y first n x r) = 1 + n
-cost p f (Return y) = 1 + results_of (function_in p f)
-cost p f (End e) = 1 + length (report_of e)
-cost p f _ = 1
+cost p f (Call g first x) = 8 + 2 * parameters_of (function_in p g)
+cost p f (CallAddress y first n x r) = 8 + 2 * n
+cost p f (Return y) = 8 + 2 * results_of (function_in p f)
+cost p f i = local_cost (weight_of (function_in p f)) i
 
 abbrev pub goes_to : MapSizes → FlatProgram → FlatInstruction → (function place : ℕ) → State → List Frame → Local
     → Stage
@@ -181,6 +196,7 @@ context m p f frames = record {
   sizes = m;
   is_runtime = is_runtime_function (function_in p f);
   charge = charged p f frames;
+  weight = weight_of (function_in p f);
 }
 
 abbrev pub at_instruction : MapSizes → FlatProgram → Option FlatInstruction → (function place : ℕ) → State → List Frame

@@ -1,6 +1,5 @@
 -- The course of the run: it is never stuck, and ends.
-use Rattle.std.proofs.Common.{◌≡◌, ℕ, zero, suc, ◌+◌, Bool, true, false, not, ◌&&◌, List, [], ◌∷◌, refl, sym, ap, ◌∙◌}
-use Rattle.std.proofs.Common.{subst}
+use Rattle.std.proofs.Common.{◌≡◌, ℕ, zero, suc, Bool, true, false, ◌&&◌, List, refl, ap}
 use Rattle.std.proofs.lemmas.Bool.{and_parts}
 use Rattle.addr_map.specs.Places.{region_size}
 use Rattle.behaviours.specs.Steps.{run}
@@ -47,7 +46,7 @@ walks_fine zero s h k = over_fine k s h
 walks_fine (suc n) s h zero = (and_parts (is_fine s) (walks n (goes s)) h).0
 walks_fine (suc n) s h (suc k) = walks_fine n (goes s) (and_parts (is_fine s) (walks n (goes s)) h).1 k
 
-walked : (memory : Bytes) (input : List ℕ) → walks 26 (started program memory input) ≡ true
+walked : (memory : Bytes) (input : List ℕ) → walks 41 (started program memory input) ≡ true
 unfolding walks goes is_fine is_over region_size branch_taken reg_result put rooms
 walked memory input = refl
 
@@ -60,9 +59,9 @@ pub never_stuck : (memory : Bytes) (input : List ℕ) (k : ℕ)
 unfolding goes
 never_stuck memory input k e =
     stuck_not_fine (run goes k (started program memory input)) e
-    (walks_fine 26 (started program memory input) (walked memory input) k)
+    (walks_fine 41 (started program memory input) (walked memory input) k)
 
 pub ends : (memory : Bytes) (input : List ℕ)
-    → Ends memory input (run (step sizes program) 26 (started program memory input))
+    → Ends memory input (run (step sizes program) 41 (started program memory input))
 unfolding region_size branch_taken reg_result put rooms
 ends memory input = record { state = _; is = refl; output = refl }

@@ -1,15 +1,15 @@
 -- The premises, by computation and arithmetic.
-use Rattle.std.proofs.Common.{◌≡◌, ℕ, zero, suc, ◌+◌, ◌*◌, ◌^◌, ◌<◌, ◌≤◌, Bool, true, false, ◌&&◌, List, [], ◌∷◌, length}
-use Rattle.std.proofs.Common.{Option, Some, None, refl, sym, ap, ◌∙◌, subst, arith}
+use Rattle.std.proofs.Common.{◌≡◌, ℕ, zero, suc, ◌+◌, ◌-◌, ◌^◌, ◌<◌, ◌≤◌, Bool, true, false, ◌&&◌, List, [], ◌∷◌, length}
+use Rattle.std.proofs.Common.{inl, Some, refl, subst, arith}
 use Rattle.std.specs.Prelude.{slice_get, nat_lt, nat_le, Vec}
-use Rattle.std.specs.List.{All}
 use Rattle.std.specs.Global.{Global}
 use Rattle.std.proofs.lemmas.Bool.{ltb-true, leb-true, and_parts, false≢true}
 use denote.RawPtr.{null_ptr}
-use Rattle.sb_base.specs.Endings.{code_of, report_of}
-use Rattle.addr_map.specs.Places.{MapSizes, AreMapped, region_size, region_start, function_address}
+use Rattle.addr_map.specs.Places.{MapSizes, AreMapped, region_size, function_address}
 use Rattle.behaviours.specs.Behaviour.{Follows}
 use Rattle.behaviours.specs.Steps.{run}
+use Rattle.flat_meaning.specs.declared.instruction.RightOperand.{RightOperand}
+use Rattle.flat_meaning.specs.declared.instruction.RightOperand.TheVariants as right
 use Rattle.flat_meaning.specs.declared.instruction.FlatInstruction.{FlatInstruction}
 use Rattle.flat_meaning.specs.declared.instruction.FlatInstruction.TheVariants as flat
 use Rattle.flat_meaning.specs.declared.function.FlatFunction.{FlatFunction}
@@ -17,16 +17,16 @@ use Rattle.flat_meaning.specs.declared.function.FlatProgram.{FlatProgram}
 use Rattle.flat_meaning.specs.Memory.{Bytes, AreBytes}
 use Rattle.flat_meaning.specs.State.{Stuck}
 use Rattle.flat_meaning.specs.Calls.{function_in}
-use Rattle.flat_meaning.specs.Meaning.{instruction_at, body_of, step, started, flat_meaning}
+use Rattle.flat_meaning.specs.Meaning.{instruction_at, step, started, flat_meaning}
 use Rattle.reg_plan.specs.declared.plan.LiveInterval.{LiveInterval}
 use Rattle.reg_plan.specs.declared.plan.Place.{Place}
-use Rattle.reg_plan.specs.declared.plan.Place.TheVariants.{Register}
+use Rattle.reg_plan.specs.declared.plan.Place.TheVariants.{Home, Register}
 use Rattle.reg_plan.specs.declared.plan.FunctionPlan.{FunctionPlan}
 use Rattle.reg_plan.specs.Accepted.{IsAccepted}
 use Rattle.reg_plan.specs.Tests.{AreAccepted}
 use Rattle.rv_asm.specs.Forms.{forms_of, longest_size, IsAssemblable}
 use Rattle.rv_asm.specs.Words.{words_of}
-use Rattle.rv_blocks.specs.Blocks.{digits, constant, load_at, store_at}
+use Rattle.rv_blocks.specs.Blocks.{RightIsShort, digits, constant, load_at, store_at}
 use Rattle.rv_blocks.specs.Places.{home, location}
 use Rattle.rv_calls.specs.Calls.{give, take, save, restore}
 use Rattle.rv_follows.specs.Code.{keeping, block, IsEncodable}
@@ -35,10 +35,10 @@ use Rattle.rv_follows.specs.Start.{IsStartable, begins}
 use Rattle.rv_layout.specs.Lists.{items_of, bytes_of}
 use Rattle.rv_sim.specs.Behaviour.{behaviour}
 use Rattle.rv_view.specs.Segments.{Hold}
-use Rattle.rv_segments.specs.Segments.{words_below, begin, rows_below, start_address, code_words, table_words}
+use Rattle.rv_segments.specs.Segments.{words_below, rows_below, start_address, code_words, table_words}
 use Rattle.rv_segments.specs.Segments.{code_bytes, table_bytes, FitsSegments}
 use Rattle.rv_segments.proofs.Labels.{labels_meet}
-use Rattle.rv_codegen_example.specs.Program.{sizes, main, next, program, MeetsPremises}
+use Rattle.rv_codegen_example.specs.Program.{sizes, main, next, same, program, MeetsPremises}
 use Rattle.rv_codegen_example.proofs.Tested.{all_below}
 use Rattle.rv_codegen_example.proofs.Tested as tested
 use Rattle.rv_codegen_example.proofs.Course.{never_stuck}
@@ -65,11 +65,17 @@ abbrev two_ranges : Global → (first second : LiveInterval) → Vec (Vec LiveIn
 two_ranges a x y =
     vec_of a (vec_of a (x ∷ []) (omega arith) ∷ vec_of a (y ∷ []) (omega arith) ∷ []) (omega arith)
 
+abbrev register_and_home : Global → Vec Place Global
+register_and_home a = vec_of a (Register 0 ∷ Home ∷ []) (omega arith)
+
 abbrev main_plan : Global → FunctionPlan
-main_plan a = record { places = both_registers a; live = two_ranges a (span 1 8) (span 2 9) }
+main_plan a = record { places = both_registers a; live = two_ranges a (span 4 11) (span 5 12) }
 
 abbrev next_plan : Global → FunctionPlan
-next_plan a = record { places = both_registers a; live = two_ranges a (span 0 1) (span 1 2) }
+next_plan a = record { places = register_and_home a; live = two_ranges a (span 0 4) (span 1 3) }
+
+abbrev same_plan : Global → FunctionPlan
+same_plan a = record { places = both_registers a; live = two_ranges a (span 0 1) (span 1 2) }
 
 mapped : AreMapped sizes
 mapped = record {
@@ -86,7 +92,20 @@ mapped = record {
 
 -- ---- instructions fit
 
+is_short : RightOperand → Bool
+is_short (right.Register z) = true
+is_short (right.Number n) = nat_lt n (2 ^ 31 - 2 ^ 11)
+
+short_right : (z : RightOperand) → is_short z ≡ true → RightIsShort z
+unfolding is_short
+short_right (right.Register z) e = tt
+short_right (right.Number n) e = inl (ltb-true n (2 ^ 31 - 2 ^ 11) e)
+
 fits_field : FlatInstruction → Bool
+fits_field (flat.Constant x n) = nat_lt n (2 ^ 31 - 2 ^ 11)
+fits_field (flat.Operate op x y z) = is_short z
+fits_field (flat.Operate32 op x y z) = is_short z
+fits_field (flat.Branch op y z past) = is_short z
 fits_field (flat.Load op x y offset) = nat_lt offset (2 ^ 11)
 fits_field (flat.Store op y offset x) = nat_lt offset (2 ^ 11)
 fits_field (flat.End e) = false
@@ -105,28 +124,40 @@ one_fits (x ∷ xs) zero i h e = let same : x ≡ i = cc in
 one_fits (x ∷ xs) (suc k) i h e = one_fits xs k i (and_parts (fits_field x) (fit_fields xs) h).1 e
 
 each_fits : (f pc : ℕ) (i : FlatInstruction) → instruction_at program f pc ≡ Some i → fits_field i ≡ true
-unfolding fit_fields fits_field
+unfolding fit_fields fits_field is_short
 each_fits zero pc i e = one_fits main.body pc i refl e
 each_fits (suc zero) pc i e = one_fits next.body pc i refl e
-each_fits (suc (suc f)) pc i e = cc
+each_fits (suc (suc zero)) pc i e = one_fits same.body pc i refl e
+each_fits (suc (suc (suc f))) pc i e = cc
 
-function_is : (P : FlatFunction → Type 0) → P main → P next → (f : ℕ) (g : FlatFunction)
+function_is : (P : FlatFunction → Type 0) → P main → P next → P same → (f : ℕ) (g : FlatFunction)
     → function_in program f ≡ Some g → P g
-function_is P a b zero g e = let same : main ≡ g = cc in subst P same a
-function_is P a b (suc zero) g e = let same : next ≡ g = cc in subst P same b
-function_is P a b (suc (suc f)) g e = cc
+function_is P a b c zero g e = let it : main ≡ g = cc in subst P it a
+function_is P a b c (suc zero) g e = let it : next ≡ g = cc in subst P it b
+function_is P a b c (suc (suc zero)) g e = let it : same ≡ g = cc in subst P it c
+function_is P a b c (suc (suc (suc f))) g e = cc
 
 encodable : IsEncodable program
 unfolding fits_field
 encodable = record {
   load_offset = λ f pc op x y offset e. ltb-true offset (2 ^ 11) (each_fits f pc (flat.Load op x y offset) e);
   store_offset = λ f pc op y offset x e. ltb-true offset (2 ^ 11) (each_fits f pc (flat.Store op y offset x) e);
+  constant = λ f pc x n e. inl (ltb-true n (2 ^ 31 - 2 ^ 11) (each_fits f pc (flat.Constant x n) e));
+  operate = λ f pc op x y z e. short_right z (each_fits f pc (flat.Operate op x y z) e);
+  operate32 = λ f pc op x y z e. short_right z (each_fits f pc (flat.Operate32 op x y z) e);
+  branch = λ f pc op y z past e. short_right z (each_fits f pc (flat.Branch op y z past) e);
   report = λ f pc e at. absurd (false≢true (each_fits f pc (flat.End e) at));
   status = λ f pc e at. absurd (false≢true (each_fits f pc (flat.End e) at));
-  rooms = function_is (λ g. 8 ≤ g.room) (omega arith) (omega arith);
-  parameters = function_is (λ g. g.parameters ≤ 1024) (omega arith) (omega arith);
-  results = function_is (λ g. g.results ≤ 1024) (omega arith) (omega arith);
+  rooms = function_is (λ g. 8 ≤ g.room) (omega arith) (omega arith) (omega arith);
+  parameters = function_is (λ g. g.parameters ≤ 1024) (omega arith) (omega arith) (omega arith);
+  results = function_is (λ g. g.results ≤ 1024) (omega arith) (omega arith) (omega arith);
 }
+
+begins_with_turns : (k : ℕ) → k < 3 → instruction_at program 0 k ≡ Some flat.Turn
+begins_with_turns zero lt = refl
+begins_with_turns (suc zero) lt = refl
+begins_with_turns (suc (suc zero)) lt = refl
+begins_with_turns (suc (suc (suc k))) lt = absurd (omega arith)
 
 startable : IsStartable sizes program
 unfolding region_size
@@ -134,6 +165,7 @@ startable = record {
   function = main;
   there = refl;
   takes_nothing = refl;
+  turns = begins_with_turns;
   program_fits = omega arith;
   runtime_fits = omega arith;
 }
@@ -142,7 +174,7 @@ startable = record {
 
 module _ (a : Global) where
   plans : List FunctionPlan
-  plans = main_plan a ∷ next_plan a ∷ []
+  plans = main_plan a ∷ next_plan a ∷ same_plan a ∷ []
 
   main_accepted : tested.accepts program 0 main (main_plan a) ≡ true
   unfolding all_below
@@ -151,6 +183,10 @@ module _ (a : Global) where
   next_accepted : tested.accepts program 1 next (next_plan a) ≡ true
   unfolding all_below
   next_accepted = refl
+
+  same_accepted : tested.accepts program 2 same (same_plan a) ≡ true
+  unfolding all_below
+  same_accepted = refl
 
   accepted : AreAccepted program plans
   unfolding plans
@@ -168,7 +204,12 @@ module _ (a : Global) where
           let b : next_plan a ≡ plan = cc in
           subst (λ x. IsAccepted program 1 x plan) e
           (subst (IsAccepted program 1 next) b (tested.accepted program 1 next (next_plan a) next_accepted))
-      each (suc (suc k)) f plan h g = cc
+      each (suc (suc zero)) f plan h g =
+          let e : same ≡ f = cc in
+          let b : same_plan a ≡ plan = cc in
+          subst (λ x. IsAccepted program 2 x plan) e
+          (subst (IsAccepted program 2 same) b (tested.accepted program 2 same (same_plan a) same_accepted))
+      each (suc (suc (suc k))) f plan h g = cc
 
   -- ---- the code fits
 
@@ -179,7 +220,12 @@ module _ (a : Global) where
 
   next_long : nat_lt (longest_size (items_of sizes program plans 1)) (2 ^ 28) ≡ true
   unfolding plans keeping block location home give take save restore digits constant load_at store_at
+      function_address
   next_long = refl
+
+  same_long : nat_lt (longest_size (items_of sizes program plans 2)) (2 ^ 28) ≡ true
+  unfolding plans keeping block location home give take save restore digits constant load_at store_at
+  same_long = refl
 
   code_long : nat_le (code_bytes sizes program plans) 0x800000 ≡ true
   unfolding plans keeping block location home give take save restore digits constant load_at store_at words_of forms_of
@@ -203,7 +249,9 @@ module _ (a : Global) where
           (ltb-true (longest_size (items_of sizes program plans 0)) (2 ^ 28) main_long)
       able (suc zero) lt = labels_meet sizes program plans 1
           (ltb-true (longest_size (items_of sizes program plans 1)) (2 ^ 28) next_long)
-      able (suc (suc f)) lt = absurd (omega arith)
+      able (suc (suc zero)) lt = labels_meet sizes program plans 2
+          (ltb-true (longest_size (items_of sizes program plans 2)) (2 ^ 28) same_long)
+      able (suc (suc (suc f))) lt = absurd (omega arith)
 
   premises : MeetsPremises plans
   premises = record {

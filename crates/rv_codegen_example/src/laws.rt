@@ -17,7 +17,8 @@ ghost use Rattle.rv_codegen_example.specs.Program.{sizes, program, MeetsPremises
 
 use rv_segments::laws::generated_code_follows;
 
-/// The program meets every premise under plans that keep all its values in registers, wherever these lie in memory; so
+/// The program meets every premise under plans that keep all its values but one in registers, wherever these lie in
+/// memory; so
 /// the machine with its code follows it, whatever the data and the input are.
 pub fn premises_are_met()
     ensures { (alloc : Global) → (plans : List FunctionPlan) × MeetsPremises plans
@@ -33,5 +34,5 @@ pub fn premises_are_met()
 /// The program sends three bytes, and ends with status 0.
 pub fn three_bytes_are_sent()
     ensures { (memory : Bytes) (input : List ℕ)
-        → Ends memory input (run (step sizes program) 26 (started program memory input)) }
+        → Ends memory input (run (step sizes program) 41 (started program memory input)) }
 {}

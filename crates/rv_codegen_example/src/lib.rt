@@ -1,4 +1,4 @@
-//! One program of two functions, carried through all that the theorems of the back end ask: that their premises can be
+//! One program of three functions, carried through all that the theorems of the back end ask: that their premises can be
 //! met together.
 #![tactic(auto)]
 

@@ -1,0 +1,101 @@
+-- How much memory the segments of an image take.
+use Rattle.std.proofs.Common.{◌≡◌, ℕ, zero, suc, ◌+◌, ◌*◌, ◌<◌, ◌≤◌, List, length, map, arith, ◌∙◌}
+use Rattle.std.proofs.Common.{length-append, ◌++◌, true}
+use Rattle.addr_map.specs.Places.{MapSizes, AreMapped, region_size, region_start}
+use Rattle.addr_map.specs.declared.region.Region.TheVariants.{Shadow, Locks, FreeLocks, Blocks}
+use Rattle.addr_map.specs.declared.region.Region.TheVariants.{StructureValues, Cells, Arguments, Calls, RuntimeCalls}
+use Rattle.rv_isa.specs.Table.{word_of}
+use Rattle.elf_image.specs.Writing.{IsInOrder}
+use Rattle.flat_meaning.specs.declared.function.FlatProgram.{FlatProgram}
+use Rattle.reg_plan.specs.declared.plan.FunctionPlan.{FunctionPlan}
+use Rattle.rv_calls.specs.Calls.{row}
+use Rattle.rv_follows.specs.Matching.{object_bytes, space_bytes}
+use Rattle.rv_follows.specs.Start.{start_block}
+use Rattle.rv_follows.proofs.Regions.{regions}
+use Rattle.rv_segments.specs.Segments.{begin, rows_below, table_words, code_words, words_below}
+use Rattle.rv_segments.specs.Segments.{FitsSegments}
+use Rattle.rv_segments.proofs.Parts.{map_length, bytes_length}
+use Rattle.rv_image.specs.Image.{written}
+
+-- ---- data
+
+objects_size : (m : MapSizes) → AreMapped m → object_bytes m ≤ 0x1800000
+unfolding region_size region_start
+objects_size m h = omega (arith, h.globals, h.budgets.stack.greatest, h.budgets.heap.greatest)
+
+shadow_size : (m : MapSizes) → AreMapped m → region_size m Shadow ≤ 0x8000000
+unfolding region_size
+shadow_size m h = omega (arith, h.globals, h.budgets.stack.greatest, h.budgets.heap.greatest)
+
+locks_size : (m : MapSizes) → AreMapped m → region_size m Locks ≤ 0x400000
+unfolding region_size
+locks_size m h = omega (arith, h.budgets.stack.greatest, h.budgets.blocks)
+
+free_locks_size : (m : MapSizes) → AreMapped m → region_size m FreeLocks ≤ 0x400000
+unfolding region_size
+free_locks_size m h = omega (arith, h.budgets.stack.greatest, h.budgets.blocks)
+
+blocks_size : (m : MapSizes) → AreMapped m → region_size m Blocks ≤ 0x400000
+unfolding region_size
+blocks_size m h = omega (arith, h.budgets.blocks)
+
+others_size : (m : MapSizes) → AreMapped m
+    → region_size m StructureValues + region_size m Cells + region_size m Arguments + region_size m Calls
+    + region_size m RuntimeCalls ≤ 0x2020000
+unfolding region_size
+others_size m h = omega (arith, h.budgets.calls.greatest)
+
+spaces_size : (m : MapSizes) → AreMapped m → space_bytes m ≤ 0xb000000
+unfolding region_start
+spaces_size m h = omega (arith, shadow_size m h, locks_size m h, free_locks_size m h, blocks_size m h, others_size m h)
+
+-- ---- code
+
+-- the start stands behind the jump table, whose entries have four words
+rows_length : (m : MapSizes) (p : FlatProgram) (plans : List FunctionPlan) (n : ℕ)
+    → length (rows_below m p plans n) ≡ 4 * n
+unfolding rows_below
+rows_length m p plans zero = omega arith
+rows_length m p plans (suc n) = let r = rows_length m p plans n in
+    length-append (rows_below m p plans n) (row (begin m p plans n)) ∙ omega arith
+
+table_length : (m : MapSizes) (p : FlatProgram) (plans : List FunctionPlan)
+    → 4 * length p.functions < length (table_words m p plans)
+table_length m p plans =
+    let rows = rows_below m p plans (length p.functions) in
+    let a = rows_length m p plans (length p.functions) in
+    let b = length-append rows (start_block m p) in
+    let c = map_length word_of (rows ++ start_block m p) in
+    let d = length-append (map word_of (rows ++ start_block m p)) (words_below m p plans true (length p.functions)) in
+    omega arith
+
+-- ---- together
+
+pub in_order : (m : MapSizes) (p : FlatProgram) (plans : List FunctionPlan) (objects spaces : List ℕ) → AreMapped m
+    → FitsSegments m p plans → length objects ≤ object_bytes m → length spaces ≤ space_bytes m
+    → IsInOrder (written m p plans objects spaces)
+unfolding written
+in_order m p plans objects spaces mapped fits few few' =
+    let r = regions m mapped in
+    let a = bytes_length (table_words m p plans) in
+    let b = bytes_length (code_words m p plans) in
+    let table = fits.table in
+    let code = fits.code in
+    let entry = table_length m p plans in
+    let o = objects_size m mapped in
+    let s = spaces_size m mapped in
+    record {
+      jump_table_bytes = omega arith;
+      code_bytes = omega arith;
+      objects_bytes = few;
+      runtime_bytes = few';
+      jump_table_first = omega arith;
+      code_next = omega arith;
+      objects_next = omega arith;
+      runtime_last = omega arith;
+      runtime_address = omega arith;
+      together = omega arith;
+      aligned = omega arith;
+      entry_from = omega arith;
+      entry_below = omega arith;
+    }

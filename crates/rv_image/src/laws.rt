@@ -1,0 +1,28 @@
+//! Laws of images, each as the contract of a function that does nothing.
+
+ghost use Rattle.std.specs.Prelude.{◌≤◌, ℕ, List, length};
+ghost use Rattle.addr_map.specs.Places.{MapSizes, AreMapped};
+ghost use Rattle.flat_meaning.specs.declared.function.FlatProgram.{FlatProgram};
+ghost use Rattle.reg_plan.specs.declared.plan.FunctionPlan.{FunctionPlan};
+ghost use Rattle.rv_view.specs.Segments.{Hold};
+ghost use Rattle.rv_follows.specs.Matching.{object_bytes, space_bytes};
+ghost use Rattle.rv_image.specs.Image.{IsImage, ImageFollows, filled, data_memory};
+
+use rv_segments::laws::generated_code_follows;
+
+/// The machine that begins an image follows the program of which it is one.
+pub fn images_follow()
+    ensures { (m : MapSizes) (p : FlatProgram) (plans : List FunctionPlan) (objects spaces file : List ℕ)
+        → AreMapped m → IsImage m p plans objects spaces file → ImageFollows m p plans objects spaces file }
+{
+    generated_code_follows();
+}
+
+/// There is a memory that has the data of an image.
+pub fn data_is_held()
+    ensures { (m : MapSizes) (objects spaces : List ℕ) → AreMapped m → length objects ≤ object_bytes m
+        → length spaces ≤ space_bytes m
+        → Hold (object_bytes m) (space_bytes m)
+        (data_memory (filled (object_bytes m) objects) (filled (space_bytes m) spaces))
+        (filled (object_bytes m) objects) (filled (space_bytes m) spaces) }
+{}

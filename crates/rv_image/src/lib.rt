@@ -1,0 +1,10 @@
+//! The image of a program: its generated code, and what the two data segments have at the start, as an executable file.
+//!
+//! `specs/Image` says which segments these are (docs/FORMATS.md, "The image"), and that the machine of the loaded image
+//! stands at its start.
+#![tactic(auto)]
+
+pub mod image;
+pub mod laws;
+
+pub use crate::image::image_of;

@@ -1,5 +1,5 @@
 -- How much work a run within a function does at most.
-use Rattle.std.proofs.Common.{◌≡◌, ℕ, zero, suc, ◌+◌, ◌*◌, ◌≤◌, List, Bool, true, false, Option, Some, None, length, subst, ap, ◌∙◌}
+use Rattle.std.proofs.Common.{◌≡◌, ℕ, zero, suc, ◌+◌, ◌-◌, ◌*◌, ◌≤◌, List, Bool, true, false, Option, Some, None, length, subst, ap, ◌∙◌}
 use Rattle.std.proofs.Common.{arith, refl, not, ◌&&◌, if◌then◌else◌, [], ◌∷◌, ◌++◌}
 use Rattle.std.specs.Prelude.{slice_get}
 use Rattle.std.proofs.Math.Nat.{suc-mul, mul_comm}
@@ -17,7 +17,7 @@ use Rattle.flat_meaning.specs.State.{State}
 use Rattle.flat_meaning.specs.Meaning.{Context, Local, Goes, Ends, Leaves, Fails, local, with_register, with_access}
 use Rattle.flat_meaning.specs.Meaning.{address_in, received}
 use Rattle.flat_routines.specs.Local.{counted, act, local_step, local_run}
-use Rattle.flat_routines.specs.Routine.{Outcome, Continues, Halts, left_at}
+use Rattle.flat_routines.specs.Routine.{Outcome, Continues, Halts, left_at, Reaches}
 use Rattle.flat_routines.specs.Laws.{work_of, report_length}
 
 -- at most k and w for so many; where the run is over once more for each byte of the report
@@ -148,3 +148,16 @@ work_within c code steps pc s place x comes =
     by (Halts status report v) h =
         let e : 0 + 2 * steps + length report ≡ 2 * steps + length report = omega arith in
         subst (λ q. v.work ≤ s.work + c.weight * q) e h
+
+-- the same of what comes to a place within so many steps
+pub reaches_within : (c : Context) (code : List FlatInstruction) (b pc : ℕ) (s : State) (place : ℕ)
+    (Q : Outcome → Type 0) (t : Reaches c code b (Goes pc s) place Q)
+    → work_of t.outcome ≤ s.work + c.weight * (2 * b + report_length t.outcome)
+reaches_within c code b pc s place Q t =
+    let n = 2 * t.steps + report_length t.outcome in
+    let more = 2 * (b - t.steps) in
+    let within = t.within in
+    let whole : n + more ≡ 2 * b + report_length t.outcome = omega arith in
+    let w = work_within c code t.steps pc s place t.outcome t.comes in
+    let e = spread c.weight n more in
+    subst (λ q. work_of t.outcome ≤ s.work + c.weight * q) whole (omega arith)

@@ -11,6 +11,8 @@ use Rattle.elf_image.specs.Content.{memory_of}
 use Rattle.elf_image.specs.Layout.{content_of}
 use Rattle.elf_image.specs.Tests.{image_fault}
 use Rattle.elf_image.specs.Writing.{image_bytes, content}
+use Rattle.elf_image.proofs.Ordered.{in_order_fits}
+use Rattle.elf_image.proofs.Written.{written_is_image, written_is_content}
 use Rattle.rv_sim.specs.Behaviour.{behaviour}
 use Rattle.rv_sim.specs.Start.{start_of}
 use Rattle.rv_view.specs.Segments.{Hold}
@@ -27,6 +29,7 @@ use Rattle.rv_follows.proofs.Regions.{regions}
 use Rattle.rv_layout.specs.Lists.{bytes_of}
 use Rattle.rv_segments.specs.Segments.{start_address, code_words, table_words, FitsSegments}
 use Rattle.rv_codegen.specs.Generated.{IsGenerated}
+use Rattle.rv_image.proofs.Sizes.{in_order}
 use Rattle.rv_image.specs.Image.{image_with, written, filled, IsImage, ImageFollows, data_memory}
 
 -- where the file has all bytes of a segment, memory has no others
@@ -59,6 +62,15 @@ is_image m p plans objects spaces file fits file_is passes content_is = record {
   starts = ap start_of content_is
       ∙ starts_with m (start_address p) (table_words m p plans) (code_words m p plans) objects spaces;
 }
+
+pub has_image : (m : MapSizes) (p : FlatProgram) (plans : List FunctionPlan) (objects spaces : List ℕ) → AreMapped m
+    → FitsSegments m p plans → length objects ≤ object_bytes m → length spaces ≤ space_bytes m
+    → IsImage m p plans objects spaces (image_bytes (written m p plans objects spaces))
+has_image m p plans objects spaces mapped fits few few' =
+    let image = written m p plans objects spaces in
+    let fit = in_order_fits image (in_order m p plans objects spaces mapped fits few few') in
+    is_image m p plans objects spaces (image_bytes image) fits refl (written_is_image image fit)
+    (written_is_content image fit)
 
 -- the segments of generated code are those of the program's image, and pass the tests of one
 pub written_is : (m : MapSizes) (p : FlatProgram) (plans : List FunctionPlan) (start : ℕ)

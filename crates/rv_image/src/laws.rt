@@ -6,7 +6,9 @@ ghost use Rattle.flat_meaning.specs.declared.function.FlatProgram.{FlatProgram};
 ghost use Rattle.reg_plan.specs.declared.plan.FunctionPlan.{FunctionPlan};
 ghost use Rattle.rv_view.specs.Segments.{Hold};
 ghost use Rattle.rv_follows.specs.Matching.{object_bytes, space_bytes};
-ghost use Rattle.rv_image.specs.Image.{IsImage, ImageFollows, filled, data_memory};
+ghost use Rattle.elf_image.specs.Writing.{image_bytes};
+ghost use Rattle.rv_segments.specs.Segments.{FitsSegments};
+ghost use Rattle.rv_image.specs.Image.{written, IsImage, ImageFollows, filled, data_memory};
 
 use rv_segments::laws::generated_code_follows;
 
@@ -17,6 +19,13 @@ pub fn images_follow()
 {
     generated_code_follows();
 }
+
+/// A program whose code fits its segments has an image: the file with these bytes.
+pub fn programs_have_images()
+    ensures { (m : MapSizes) (p : FlatProgram) (plans : List FunctionPlan) (objects spaces : List ℕ) → AreMapped m
+        → FitsSegments m p plans → length objects ≤ object_bytes m → length spaces ≤ space_bytes m
+        → IsImage m p plans objects spaces (image_bytes (written m p plans objects spaces)) }
+{}
 
 /// There is a memory that has the data of an image.
 pub fn data_is_held()

@@ -6,5 +6,7 @@
 
 pub mod image;
 pub mod laws;
+pub mod loading;
 
 pub use crate::image::image_of;
+pub use crate::loading::machine_of;

@@ -33,7 +33,11 @@ use Rattle.rv_follows.specs.Code.{keeping, block, IsEncodable}
 use Rattle.rv_follows.specs.Matching.{object_bytes, space_bytes}
 use Rattle.rv_follows.specs.Start.{IsStartable, begins}
 use Rattle.rv_layout.specs.Lists.{items_of, bytes_of}
+use Rattle.elf_image.specs.Layout.{content_of}
+use Rattle.elf_image.specs.Writing.{image_bytes}
 use Rattle.rv_sim.specs.Behaviour.{behaviour}
+use Rattle.rv_sim.specs.Start.{start_of}
+use Rattle.rv_image.specs.Image.{written, filled, IsImage, ImageFollows}
 use Rattle.rv_view.specs.Segments.{Hold}
 use Rattle.rv_segments.specs.Segments.{words_below, rows_below, start_address, code_words, table_words}
 use Rattle.rv_segments.specs.Segments.{code_bytes, table_bytes, FitsSegments}
@@ -286,3 +290,29 @@ met law a = (
   λ objects spaces memory input hold bytes. law sizes program (plans a) objects spaces memory input mapped
       (accepted a) encodable startable (fits a) hold bytes (never_stuck memory input),
 )
+
+-- the laws of images, as `programs_have_images` and `images_follow` tell them
+abbrev HasImage : Type 0
+HasImage = (m : MapSizes) (p : FlatProgram) (plans : List FunctionPlan) (objects spaces : List ℕ) → AreMapped m
+    → FitsSegments m p plans → length objects ≤ object_bytes m → length spaces ≤ space_bytes m
+    → IsImage m p plans objects spaces (image_bytes (written m p plans objects spaces))
+
+abbrev HasFollowing : Type 0
+HasFollowing = (m : MapSizes) (p : FlatProgram) (plans : List FunctionPlan) (objects spaces file : List ℕ) → AreMapped m
+    → IsImage m p plans objects spaces file → ImageFollows m p plans objects spaces file
+
+pub image_met : HasImage → HasFollowing → (a : Global)
+    → (plans : List FunctionPlan) × (file : List ℕ) × IsImage sizes program plans [] [] file
+    × ((memory : Bytes) (input : List ℕ)
+    → Hold (object_bytes sizes) (space_bytes sizes) memory (filled (object_bytes sizes) [])
+    (filled (space_bytes sizes) []) → AreBytes memory
+    → Follows 6 (flat_meaning sizes program memory input) (behaviour (start_of (content_of file)) input))
+image_met has law a =
+    let file = image_bytes (written sizes program (plans a) [] []) in
+    let image = has sizes program (plans a) [] [] mapped (fits a) (omega arith) (omega arith) in (
+      plans a,
+      file,
+      image,
+      λ memory input hold bytes. (law sizes program (plans a) [] [] file mapped image).follows memory input (accepted a)
+          encodable startable hold bytes (never_stuck memory input),
+    )

@@ -1,20 +1,24 @@
 //! The laws of the program, each as the contract of a function that does nothing.
 
-ghost use Rattle.std.specs.Prelude.{List, ℕ};
+ghost use Rattle.std.specs.Prelude.{List, [], ℕ};
 ghost use Rattle.std.specs.Global.{Global};
 ghost use Rattle.behaviours.specs.Behaviour.{Follows};
 ghost use Rattle.behaviours.specs.Steps.{run};
 ghost use Rattle.flat_meaning.specs.Memory.{Bytes, AreBytes};
 ghost use Rattle.flat_meaning.specs.Meaning.{step, started, flat_meaning};
 ghost use Rattle.reg_plan.specs.declared.plan.FunctionPlan.{FunctionPlan};
+ghost use Rattle.elf_image.specs.Layout.{content_of};
 ghost use Rattle.rv_sim.specs.Behaviour.{behaviour};
+ghost use Rattle.rv_sim.specs.Start.{start_of};
 ghost use Rattle.rv_view.specs.Segments.{Hold};
 ghost use Rattle.rv_follows.specs.Matching.{object_bytes, space_bytes};
 ghost use Rattle.rv_follows.specs.Start.{begins};
 ghost use Rattle.rv_layout.specs.Lists.{bytes_of};
 ghost use Rattle.rv_segments.specs.Segments.{start_address, code_words, table_words};
+ghost use Rattle.rv_image.specs.Image.{filled, IsImage};
 ghost use Rattle.rv_codegen_example.specs.Program.{sizes, program, MeetsPremises, Ends};
 
+use rv_image::laws::{images_follow, programs_have_images};
 use rv_segments::laws::generated_code_follows;
 
 /// The program meets every premise under plans that keep all its values but one in registers, wherever these lie in
@@ -29,6 +33,18 @@ pub fn premises_are_met()
         (bytes_of (code_words sizes program plans)) objects spaces) input)) }
 {
     generated_code_follows();
+}
+
+/// So does the machine that begins the program's image, which has no data but zeros.
+pub fn its_image_follows()
+    ensures { (alloc : Global) → (plans : List FunctionPlan) × (file : List ℕ) × IsImage sizes program plans [] [] file
+        × ((memory : Bytes) (input : List ℕ)
+        → Hold (object_bytes sizes) (space_bytes sizes) memory (filled (object_bytes sizes) [])
+        (filled (space_bytes sizes) []) → AreBytes memory
+        → Follows 6 (flat_meaning sizes program memory input) (behaviour (start_of (content_of file)) input)) }
+{
+    programs_have_images();
+    images_follow();
 }
 
 /// The program sends three bytes, and ends with status 0.

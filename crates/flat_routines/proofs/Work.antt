@@ -1,5 +1,6 @@
 -- How much work a run within a function does at most.
-use Rattle.std.proofs.Common.{◌≡◌, ℕ, zero, suc, ◌+◌, ◌-◌, ◌*◌, ◌≤◌, List, Bool, true, false, Option, Some, None, length, subst, ap, ◌∙◌}
+use Rattle.std.proofs.Common.{◌≡◌, ℕ, zero, suc, ◌+◌, ◌-◌, ◌*◌, ◌≤◌, List, Bool, true, false, Option, Some, None}
+use Rattle.std.proofs.Common.{length, subst, ap, ◌∙◌}
 use Rattle.std.proofs.Common.{arith, refl, not, ◌&&◌, if◌then◌else◌, [], ◌∷◌, ◌++◌}
 use Rattle.std.specs.Prelude.{slice_get}
 use Rattle.std.proofs.Math.Nat.{suc-mul, mul_comm}

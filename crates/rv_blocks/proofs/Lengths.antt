@@ -82,17 +82,6 @@ pub keep_length : (x : Location) (base t : ℕ) → length (keep x base t) ≤ 3
 keep_length (Register r) base t = omega arith
 keep_length (Frame o) base t = store_length t base o
 
-pub fetch_right_length : (place : ℕ → Location) (base : ℕ) (z : RightOperand) → length (fetch_right place base z) ≤ 11
-fetch_right_length place base (right.Register z) = let r = fetch_length (place z) base 6 in omega arith
-fetch_right_length place base (right.Number n) = constant_length 6 _
-
-pub operands_length : (place : ℕ → Location) (base y : ℕ) (z : RightOperand) → length (operands place base y z) ≤ 14
-operands_length place base y z =
-    let a = fetch_length (place y) base 5 in
-    let b = fetch_right_length place base z in
-    let whole = length-append (fetch (place y) base 5) (fetch_right place base z) in
-    omega arith
-
 -- How many instructions reach a home in a record of so many bytes: one where the offsets of loads and stores do, of
 -- which that of the last word is eight less than the bytes.
 abbrev pub home_reach : (room : ℕ) → ℕ

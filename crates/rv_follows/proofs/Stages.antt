@@ -9,7 +9,6 @@ use Rattle.addr_map.specs.Places.{MapSizes, region_size, function_address, funct
 use Rattle.addr_map.specs.declared.region.Region.TheVariants.{RuntimeCalls}
 use Rattle.sb_base.specs.Endings.{code_of, report_of}
 use Rattle.rv_isa.specs.Results.{wrap, low_word, branch_taken, reg_result, reg32_result, load_bytes, store_bytes}
-use Rattle.flat_meaning.specs.declared.instruction.RightOperand.{RightOperand}
 use Rattle.flat_meaning.specs.declared.instruction.FlatInstruction.{FlatInstruction}
 use Rattle.flat_meaning.specs.declared.instruction.FlatInstruction.TheVariants as flat
 use Rattle.flat_meaning.specs.declared.function.FlatFunction.{FlatFunction}
@@ -24,13 +23,13 @@ use Rattle.flat_meaning.specs.Meaning.{goes_to, local, context, right_value, wit
 use Rattle.flat_meaning.specs.Meaning.{enters, enters_at, returns, has_room, waiting}
 use Rattle.flat_meaning.specs.Words.{IsOfWords}
 use Rattle.reg_plan.specs.declared.plan.FunctionPlan.{FunctionPlan}
-use Rattle.reg_plan.specs.Effects.{is_among, is_read, many, one, two, none, operand, read_by, made_by, Leads}
+use Rattle.reg_plan.specs.Effects.{is_among, is_read, many, one, none, read_by, Leads}
 use Rattle.rv_sim.specs.Run.{Configuration}
 use Rattle.rv_view.specs.Views.{View, Fits}
 use Rattle.rv_blocks.specs.declared.location.Location.{Location}
 use Rattle.rv_blocks.specs.declared.location.Location.TheVariants as location
 use Rattle.rv_blocks.specs.Blocks.{constant, used, fetch}
-use Rattle.rv_blocks.specs.Effects.{IsIn, RightIsIn, kept, HasFrame}
+use Rattle.rv_blocks.specs.Effects.{IsIn, kept, HasFrame}
 use Rattle.rv_blocks.proofs.Pieces.{constant_gives, fetches}
 use Rattle.rv_blocks.proofs.Lengths.{short_constant_length, fetch_length}
 use Rattle.rv_calls.specs.Calls.{call_block, entry_block, save, give, advance, restore}
@@ -40,7 +39,8 @@ use Rattle.rv_calls.proofs.Lengths.{save_length, restore_length, give_length, ta
 use Rattle.rv_calls.proofs.Lengths.{retreat_length, return_length, entry_length}
 use Rattle.rv_follows.specs.Code.{keeping, IsLaid, IsEncodable, CallShape, shape_of, wanted, back_part}
 use Rattle.rv_follows.specs.Matching.{object_bytes, space_bytes, record_of, Meets}
-use Rattle.rv_follows.proofs.Bounds.{Weighs, weighs, end_most, constant_bound, move_bound, operate_bound, operate32_bound}
+use Rattle.rv_follows.proofs.Bounds.{Weighs, weighs, end_most, constant_bound, move_bound, operate_bound}
+use Rattle.rv_follows.proofs.Bounds.{operate32_bound}
 use Rattle.rv_follows.proofs.Bounds.{branch_bound, charged_bound, put_bound, exit_bound, turn_bound, end_bound}
 use Rattle.rv_follows.proofs.Regions.{AreRegions}
 use Rattle.rv_follows.proofs.Sound.{IsSound}
@@ -48,7 +48,7 @@ use Rattle.rv_follows.proofs.Standing.{function_there, frame_of, IsKind, kind}
 use Rattle.rv_follows.proofs.Locals.{layout, Becomes, among_one, constant_steps, move_steps}
 use Rattle.rv_follows.proofs.Locals.{operate_steps, operate32_steps, jump_steps, turn_steps}
 use Rattle.rv_follows.proofs.Locals.{turn_takes_one, branch_steps, charged_steps, place_in, made_in, right_in}
-use Rattle.rv_follows.proofs.Locals.{RightIsLive, operator_reads}
+use Rattle.rv_follows.proofs.Locals.{operator_reads}
 use Rattle.rv_follows.proofs.Outside.{put_steps, exit_steps, end_steps}
 use Rattle.rv_follows.proofs.Calling.{Aims}
 use Rattle.rv_follows.proofs.CallSim.{IsCall, call_steps}
@@ -351,7 +351,8 @@ module _ (m : MapSizes) (p : FlatProgram) (plans : List FunctionPlan) (table cod
         (6 * (8 + 2 * r))
         (λ shape place count. let b = back_length x.function place gx shape there_x.1 small in
         omega (arith, count, results)) in
-        from_steps m p plans table code address entry regions ok fit laid can x.function x.next s' xs c (6 * (8 + 2 * r))
+        from_steps m p plans table code address entry regions ok fit laid can x.function x.next s' xs c
+        (6 * (8 + 2 * r))
         (6 * (8 + 2 * r)) t.turns t.work st (omega arith) (omega arith) refl
       where
         fits_of : (x : Frame) (xs : List Frame)
@@ -364,25 +365,6 @@ module _ (m : MapSizes) (p : FlatProgram) (plans : List FunctionPlan) (table cod
     -- ---- all instructions
     weight : Weighs (keeping p plans f).room (weight_of (function_in p f))
     weight = weighs p f (keeping p plans f).room g there (ok.room f g there)
-
-    -- what an instruction makes, and what it reads, lies in its place
-    made_at : (x : ℕ) (i : FlatInstruction) → instruction_at p f pc ≡ Some i → Leads i pc (pc + 1)
-        → pc + 1 < length g.body → made_by p i ≡ one x → IsIn (keeping p plans f).room ((keeping p plans f).place x)
-    made_at x i at leads inside makes =
-        made_in m p plans table code address entry regions ok fit laid can f pc x g i there at leads inside makes
-
-    placed_at : (y : ℕ) → (keeping p plans f).live pc y ≡ true
-        → IsIn (keeping p plans f).room ((keeping p plans f).place y)
-    placed_at y live = place_in m p plans table code address entry regions ok fit laid can f pc y g there live
-
-    right_at : (z : RightOperand) → RightIsLive (keeping p plans f) pc z
-        → RightIsIn (keeping p plans f).room (keeping p plans f).place z
-    right_at z live = right_in m p plans table code address entry regions ok fit laid can f pc g z there live
-
-    read_at : (y : ℕ) (z : RightOperand) (i : FlatInstruction) → instruction_at p f pc ≡ Some i
-        → read_by p f i ≡ two (one y) (operand z)
-        → ((keeping p plans f).live pc y ≡ true) × RightIsLive (keeping p plans f) pc z
-    read_at y z i at e = operator_reads m p plans table code address entry regions ok fit laid can f pc y z g i there at e
 
     pub turn_stage : instruction_at p f pc ≡ Some flat.Turn
         → StageSteps m p plans table code address entry regions ok fit laid can
@@ -414,49 +396,70 @@ module _ (m : MapSizes) (p : FlatProgram) (plans : List FunctionPlan) (table cod
         (goes_to m p i f pc t frames (local (context m p f frames) i pc t)) c (6 * cost p f i) t.turns t.work
     instruction_stage (flat.Constant x n) at fine =
         let s' = with_register x (low_bits 64 n) t in
-        let inside = inside_of m p plans table code address entry regions ok fit laid can f (pc + 1) g s' frames fine there in
+        let inside = inside_of m p plans table code address entry regions ok fit laid can
+        f (pc + 1) g s' frames fine there in
         let st = constant_steps m p plans table code address entry regions ok fit laid can f pc g t s' frames c h words
         there x n at inside
         (plain m p plans table code address entry regions ok fit laid can t (put t.values x (low_bits 64 n))) in
-        let bound = constant_bound m p plans f pc x n (made_at x (flat.Constant x n) at (inl refl) inside refl)
+        let bound = constant_bound m p plans f pc x n
+        (made_in m p plans table code address entry regions ok fit laid can f pc x g (flat.Constant x n) there
+        at (inl refl) inside refl)
         (can.constant f pc x n at) in
-        from_steps m p plans table code address entry regions ok fit laid can f (pc + 1) s' frames c _ (6 * weight_of (function_in p f))
+        from_steps m p plans table code address entry regions ok fit laid can f (pc + 1) s' frames c _
+        (6 * weight_of (function_in p f))
         t.turns t.work st (omega (arith, bound, weight.twice, weight.some)) (omega arith) refl
     instruction_stage (flat.Move x y) at fine =
         let s' = with_register x (t.values y) t in
-        let inside = inside_of m p plans table code address entry regions ok fit laid can f (pc + 1) g s' frames fine there in
+        let inside = inside_of m p plans table code address entry regions ok fit laid can
+        f (pc + 1) g s' frames fine there in
         let st = move_steps m p plans table code address entry regions ok fit laid can f pc g t s' frames c h words
         there x y at inside
         (plain m p plans table code address entry regions ok fit laid can t (put t.values x (t.values y))) in
-        let bound = move_bound m p plans f pc x y (made_at x (flat.Move x y) at (inl refl) inside refl)
-        (placed_at y (ok.reads f pc g (flat.Move x y) there at y (rw (among_one y) refl))) in
-        from_steps m p plans table code address entry regions ok fit laid can f (pc + 1) s' frames c _ (6 * weight_of (function_in p f))
+        let bound = move_bound m p plans f pc x y
+        (made_in m p plans table code address entry regions ok fit laid can f pc x g (flat.Move x y) there
+        at (inl refl) inside refl)
+        (place_in m p plans table code address entry regions ok fit laid can f pc y g there
+        (ok.reads f pc g (flat.Move x y) there at y (rw (among_one y) refl))) in
+        from_steps m p plans table code address entry regions ok fit laid can f (pc + 1) s' frames c _
+        (6 * weight_of (function_in p f))
         t.turns t.work st (omega (arith, bound, weight.twice, weight.some)) (omega arith) refl
     instruction_stage (flat.Operate op x y z) at fine =
         let n = reg_result op (t.values y) (right_value z t.values) in
         let s' = with_register x n t in
         let i = flat.Operate op x y z in
-        let inside = inside_of m p plans table code address entry regions ok fit laid can f (pc + 1) g s' frames fine there in
+        let inside = inside_of m p plans table code address entry regions ok fit laid can
+        f (pc + 1) g s' frames fine there in
         let st = operate_steps m p plans table code address entry regions ok fit laid can f pc g t s' frames c h words
         there op x y z at inside
         (plain m p plans table code address entry regions ok fit laid can t (put t.values x n)) in
-        let live = read_at y z i at refl in
-        let bound = operate_bound m p plans f pc op x y z (made_at x i at (inl refl) inside refl)
-        (placed_at y live.0) (right_at z live.1) (can.operate f pc op x y z at) in
-        from_steps m p plans table code address entry regions ok fit laid can f (pc + 1) s' frames c _ (6 * weight_of (function_in p f))
+        let live = operator_reads m p plans table code address entry regions ok fit laid can
+        f pc y z g i there at refl in
+        let bound = operate_bound m p plans f pc op x y z
+        (made_in m p plans table code address entry regions ok fit laid can f pc x g i there at (inl refl) inside refl)
+        (place_in m p plans table code address entry regions ok fit laid can f pc y g there live.0)
+        (right_in m p plans table code address entry regions ok fit laid can f pc g z there live.1)
+        (can.operate f pc op x y z at) in
+        from_steps m p plans table code address entry regions ok fit laid can f (pc + 1) s' frames c _
+        (6 * weight_of (function_in p f))
         t.turns t.work st (omega (arith, bound, weight.twice, weight.some)) (omega arith) refl
     instruction_stage (flat.Operate32 op x y z) at fine =
         let n = reg32_result op (low_word (t.values y)) (low_word (right_value z t.values)) in
         let s' = with_register x n t in
         let i = flat.Operate32 op x y z in
-        let inside = inside_of m p plans table code address entry regions ok fit laid can f (pc + 1) g s' frames fine there in
+        let inside = inside_of m p plans table code address entry regions ok fit laid can
+        f (pc + 1) g s' frames fine there in
         let st = operate32_steps m p plans table code address entry regions ok fit laid can f pc g t s' frames c h words
         there op x y z at inside
         (plain m p plans table code address entry regions ok fit laid can t (put t.values x n)) in
-        let live = read_at y z i at refl in
-        let bound = operate32_bound m p plans f pc op x y z (made_at x i at (inl refl) inside refl)
-        (placed_at y live.0) (right_at z live.1) (can.operate32 f pc op x y z at) in
-        from_steps m p plans table code address entry regions ok fit laid can f (pc + 1) s' frames c _ (6 * weight_of (function_in p f))
+        let live = operator_reads m p plans table code address entry regions ok fit laid can
+        f pc y z g i there at refl in
+        let bound = operate32_bound m p plans f pc op x y z
+        (made_in m p plans table code address entry regions ok fit laid can f pc x g i there at (inl refl) inside refl)
+        (place_in m p plans table code address entry regions ok fit laid can f pc y g there live.0)
+        (right_in m p plans table code address entry regions ok fit laid can f pc g z there live.1)
+        (can.operate32 f pc op x y z at) in
+        from_steps m p plans table code address entry regions ok fit laid can f (pc + 1) s' frames c _
+        (6 * weight_of (function_in p f))
         t.turns t.work st (omega (arith, bound, weight.twice, weight.some)) (omega arith) refl
     instruction_stage (flat.Load op x y o) at fine =
         load_stage m p plans table code address entry regions ok fit laid can f pc g t frames c h words there op x y o
@@ -469,10 +472,14 @@ module _ (m : MapSizes) (p : FlatProgram) (plans : List FunctionPlan) (table cod
         let st = branch_steps m p plans table code address entry regions ok fit laid can f pc g t t frames c h words
         there
         op y z past at (same m p plans table code address entry regions ok fit laid can t) in
-        let live = read_at y z (flat.Branch op y z past) at refl in
-        let bound = branch_bound m p plans f pc op y z past (placed_at y live.0) (right_at z live.1)
+        let live = operator_reads m p plans table code address entry regions ok fit laid can
+        f pc y z g (flat.Branch op y z past) there at refl in
+        let bound = branch_bound m p plans f pc op y z past
+        (place_in m p plans table code address entry regions ok fit laid can f pc y g there live.0)
+        (right_in m p plans table code address entry regions ok fit laid can f pc g z there live.1)
         (can.branch f pc op y z past at) in
-        from_steps m p plans table code address entry regions ok fit laid can f q t frames c _ (6 * weight_of (function_in p f)) t.turns
+        from_steps m p plans table code address entry regions ok fit laid can f q t frames c _
+        (6 * weight_of (function_in p f)) t.turns
         t.work st (omega (arith, bound, weight.twice, weight.some)) (omega arith) refl
     instruction_stage (flat.JumpForward past) at fine =
         let st = jump_steps m p plans table code address entry regions ok fit laid can f pc g t t frames c h words there
@@ -504,7 +511,8 @@ module _ (m : MapSizes) (p : FlatProgram) (plans : List FunctionPlan) (table cod
         there x
         at refl refl refl refl refl refl in
         let bound = put_bound m p plans f pc x
-        (placed_at x (ok.reads f pc g (flat.Put x) there at x (rw (among_one x) refl))) in
+        (place_in m p plans table code address entry regions ok fit laid can f pc x g there
+        (ok.reads f pc g (flat.Put x) there at x (rw (among_one x) refl))) in
         from_steps m p plans table code address entry regions ok fit laid can f (pc + 1) s' frames c _
         (6 * (2 * weight_of (function_in p f))) t.turns
         t.work st (omega (arith, bound, weight.twice, weight.some)) (omega arith) refl
@@ -513,7 +521,8 @@ module _ (m : MapSizes) (p : FlatProgram) (plans : List FunctionPlan) (table cod
         there x
         at refl refl refl in
         let bound = exit_bound m p plans f pc x
-        (placed_at x (ok.reads f pc g (flat.Exit x) there at x (rw (among_one x) refl))) in
+        (place_in m p plans table code address entry regions ok fit laid can f pc x g there
+        (ok.reads f pc g (flat.Exit x) there at x (rw (among_one x) refl))) in
         from_ends m p plans table code address entry regions ok fit laid can (t.values x % 256) [] t c _
         (6 * weight_of (function_in p f)) t.turns
         t.work st (omega (arith, bound, weight.twice, weight.some)) (omega arith) refl
@@ -529,11 +538,15 @@ module _ (m : MapSizes) (p : FlatProgram) (plans : List FunctionPlan) (table cod
     instruction_stage (flat.Charged x) at fine =
         let n = wrap (charged p f frames) in
         let s' = with_register x n t in
-        let inside = inside_of m p plans table code address entry regions ok fit laid can f (pc + 1) g s' frames fine there in
+        let inside = inside_of m p plans table code address entry regions ok fit laid can
+        f (pc + 1) g s' frames fine there in
         let st = charged_steps m p plans table code address entry regions ok fit laid can f pc g t s' frames c h words
         there x at inside
         (plain m p plans table code address entry regions ok fit laid can t (put t.values x n)) in
-        let bound = charged_bound m p plans f pc x (made_at x (flat.Charged x) at (inl refl) inside refl)
+        let bound = charged_bound m p plans f pc x
+        (made_in m p plans table code address entry regions ok fit laid can f pc x g (flat.Charged x) there
+        at (inl refl) inside refl)
         (omega (arith, regions.calls, regions.end)) in
-        from_steps m p plans table code address entry regions ok fit laid can f (pc + 1) s' frames c _ (6 * weight_of (function_in p f))
+        from_steps m p plans table code address entry regions ok fit laid can f (pc + 1) s' frames c _
+        (6 * weight_of (function_in p f))
         t.turns t.work st (omega (arith, bound, weight.twice, weight.some)) (omega arith) refl

@@ -10,7 +10,6 @@ use Rattle.behaviours.specs.Shown.{Access, Read, Write}
 use Rattle.rv_isa.specs.declared.instruction.LoadOp.{LoadOp}
 use Rattle.rv_isa.specs.declared.instruction.StoreOp.{StoreOp}
 use Rattle.rv_isa.specs.Results.{wrap, load_bytes, extended, store_bytes}
-use Rattle.flat_meaning.specs.declared.instruction.FlatInstruction.{FlatInstruction}
 use Rattle.flat_meaning.specs.declared.instruction.FlatInstruction.TheVariants as flat
 use Rattle.flat_meaning.specs.declared.function.FlatFunction.{FlatFunction}
 use Rattle.flat_meaning.specs.declared.function.FlatProgram.{FlatProgram}
@@ -23,10 +22,9 @@ use Rattle.flat_meaning.specs.Meaning.{at_instruction, goes_to, Goes, Fails, con
 use Rattle.flat_meaning.specs.Meaning.{with_access, with_register, received}
 use Rattle.flat_meaning.specs.Words.{IsOfWords}
 use Rattle.reg_plan.specs.declared.plan.FunctionPlan.{FunctionPlan}
-use Rattle.reg_plan.specs.Effects.{is_among, made_by, one, Leads}
+use Rattle.reg_plan.specs.Effects.{is_among, one}
 use Rattle.rv_sim.specs.Run.{Configuration, Turn, runs}
 use Rattle.rv_view.specs.Views.{Fits}
-use Rattle.rv_blocks.specs.Effects.{IsIn}
 use Rattle.rv_follows.specs.Code.{keeping, block, IsLaid, IsEncodable}
 use Rattle.rv_follows.specs.Matching.{Meets, HasEnded}
 use Rattle.rv_follows.proofs.Bounds.{weighs, load_bound, store_bound, get_bound}
@@ -182,16 +180,6 @@ module _ (m : MapSizes) (p : FlatProgram) (plans : List FunctionPlan) (table cod
   module _ (f pc : ℕ) (g : FlatFunction) (t : State) (frames : List Frame) (c : Configuration)
       (h : Meets m p plans (layout m table code) address f pc t frames c) (words : IsOfWords t)
       (there : function_in p f ≡ Some g) where
-    -- what an instruction makes, and what it reads, lies in its place
-    made_at : (x : ℕ) (i : FlatInstruction) → instruction_at p f pc ≡ Some i → Leads i pc (pc + 1)
-        → pc + 1 < length g.body → made_by p i ≡ one x → IsIn (keeping p plans f).room ((keeping p plans f).place x)
-    made_at x i at leads inside makes =
-        made_in m p plans table code address entry regions ok fit laid can f pc x g i there at leads inside makes
-
-    placed_at : (y : ℕ) → (keeping p plans f).live pc y ≡ true
-        → IsIn (keeping p plans f).room ((keeping p plans f).place y)
-    placed_at y live = place_in m p plans table code address entry regions ok fit laid can f pc y g there live
-
     -- ---- loads and stores
     pub load_stage : (op : LoadOp) (x y o : ℕ) (b : Bool) → instruction_at p f pc ≡ Some (flat.Load op x y o)
         → is_allowed m (wrap (t.values y + o)) (load_bytes op) ≡ b
@@ -224,8 +212,10 @@ module _ (m : MapSizes) (p : FlatProgram) (plans : List FunctionPlan) (table cod
           taken_is = e.taken_is;
         }) in
         let i = flat.Load op x y o in
-        let bound = load_bound m p plans f pc op x y o (made_at x i at (inl refl) inside refl)
-        (placed_at y (ok.reads f pc g i there at y (rw (among_one y) refl))) in
+        let bound = load_bound m p plans f pc op x y o
+        (made_in m p plans table code address entry regions ok fit laid can f pc x g i there at (inl refl) inside refl)
+        (place_in m p plans table code address entry regions ok fit laid can f pc y g there
+        (ok.reads f pc g i there at y (rw (among_one y) refl))) in
         let w = weighs p f (keeping p plans f).room g there (ok.room f g there) in
         let turns = access_turns shows t extra in
         let done = access_work shows t extra in
@@ -265,8 +255,10 @@ module _ (m : MapSizes) (p : FlatProgram) (plans : List FunctionPlan) (table cod
         }) in
         let i = flat.Store op y o x in
         let bound = store_bound m p plans f pc op y o x
-        (placed_at y (ok.reads f pc g i there at y (rw (among_one y) refl)))
-        (placed_at x (ok.reads f pc g i there at x (rw (among_one x) (or_true (is_among (one y) x))))) in
+        (place_in m p plans table code address entry regions ok fit laid can f pc y g there
+        (ok.reads f pc g i there at y (rw (among_one y) refl)))
+        (place_in m p plans table code address entry regions ok fit laid can f pc x g there
+        (ok.reads f pc g i there at x (rw (among_one x) (or_true (is_among (one y) x))))) in
         let w = weighs p f (keeping p plans f).room g there (ok.room f g there) in
         let turns = access_turns shows t' extra in
         let done = access_work shows t' extra in
@@ -277,14 +269,17 @@ module _ (m : MapSizes) (p : FlatProgram) (plans : List FunctionPlan) (table cod
 
     pub get_stage : (x : ℕ) (input : List ℕ) → instruction_at p f pc ≡ Some (flat.Get x) → t.input ≡ input
         → (step m p (Stands f (pc + 1) (received x (slice_get input 0) t) frames) ≡ Stuck → ⊥)
-        → StageSteps (Stands f (pc + 1) (received x (slice_get input 0) t) frames) c (6 * (2 * weight_of (function_in p f))) t.turns t.work
+        → StageSteps (Stands f (pc + 1) (received x (slice_get input 0) t) frames) c (6 * (2 * weight_of
+        (function_in p f))) t.turns t.work
     get_stage x [] at e fine =
         let s' = received x None t in
         let inside = inside_of f (pc + 1) g s' frames fine there in
         let st = get_nothing_steps m p plans table code address entry regions ok fit laid can f pc g t s' frames c h
         words
         there x at inside e refl refl refl refl refl refl in
-        let bound = get_bound m p plans f pc x (made_at x (flat.Get x) at (inl refl) inside refl) in
+        let bound = get_bound m p plans f pc x
+        (made_in m p plans table code address entry regions ok fit laid can f pc x g (flat.Get x) there
+        at (inl refl) inside refl) in
         let w = weighs p f (keeping p plans f).room g there (ok.room f g there) in
         let done : s'.work ≡ t.work = refl in
         from_steps f (pc + 1) s' frames c (length (block m p plans f pc (flat.Get x)))
@@ -295,7 +290,9 @@ module _ (m : MapSizes) (p : FlatProgram) (plans : List FunctionPlan) (table cod
         let inside = inside_of f (pc + 1) g s' frames fine there in
         let st = get_byte_steps m p plans table code address entry regions ok fit laid can f pc g t s' frames c h words
         there x byte rest at inside e refl refl refl (ap (drop 1) e) refl refl in
-        let bound = get_bound m p plans f pc x (made_at x (flat.Get x) at (inl refl) inside refl) in
+        let bound = get_bound m p plans f pc x
+        (made_in m p plans table code address entry regions ok fit laid can f pc x g (flat.Get x) there
+        at (inl refl) inside refl) in
         let w = weighs p f (keeping p plans f).room g there (ok.room f g there) in
         let done : s'.work ≡ t.work = refl in
         from_steps f (pc + 1) s' frames c (length (block m p plans f pc (flat.Get x)))

@@ -1,11 +1,13 @@
 -- Flat code follows three-address code.
-use Rattle.std.proofs.Common.{◌≡◌, ℕ, ◌^◌, ◌<◌, ◌≤◌, refl, sym, ap, ◌∙◌, subst, arith, true, List}
+use Rattle.std.proofs.Common.{◌*◌, ◌≡◌, ℕ, ◌^◌, ◌<◌, ◌≤◌, refl, sym, ap, ◌∙◌, subst, arith, true, List}
 use Rattle.std.proofs.Common.{Option, Some, None}
 use Rattle.std.specs.Prelude.{slice_get}
 use Rattle.behaviours.specs.Shown.{Shown, Status}
-use Rattle.behaviours.specs.Behaviour.{Follows, Meets}
-use Rattle.behaviours.specs.Steps.{run, Simulates}
-use Rattle.behaviours.proofs.Running.{follows_by_steps}
+use Rattle.behaviours.specs.Behaviour.{Behaviour, Follows, Meets, IsSource}
+use Rattle.behaviours.specs.Steps.{run, Simulates, IsStepping}
+use Rattle.behaviours.proofs.Following.{follows_trans}
+use Rattle.behaviours.proofs.Running.{follows_by_steps, never_stuck}
+use Rattle.tac_ir.proofs.Turns.{follower_never_stuck}
 use Rattle.addr_map.specs.Places.{MapSizes, AreMapped}
 use Rattle.sb_base.specs.Budgets.{BudgetSizes}
 use Rattle.source_meaning.specs.State.{State, Setting}
@@ -190,3 +192,26 @@ code_follows o ops t part budgets address p ex mapped views memory sizes start b
       words = (record { values = λ x. omega arith; memory = bytes }, tt);
     })
     fine
+
+module _ (o : OperatorCode) (ops : AreOperators o) (t : Tac) (part : is_integer_code t ≡ true) (budgets : BudgetSizes)
+    (address : (function node : ℕ) → ℕ) (p : FlatProgram)
+    (ex : IsExpanded o (setting_of_code t budgets).sizes t address p)
+    (mapped : AreMapped (setting_of_code t budgets).sizes) (views : Views) (memory : Bytes)
+    (sizes : views.sizes ≡ (setting_of_code t budgets).sizes)
+    (start : IsStart views (objects_before t (setting_of_code t budgets)) memory) (bytes : AreBytes memory)
+    (input : List ℕ) (c : ℕ) (a : Behaviour) (source : IsSource a) (f : Follows c a (tac_meaning t budgets input)) where
+  -- what the program follows its expansion follows
+  pub source_followed : Follows (factor * c) a (flat_meaning (setting_of_code t budgets).sizes p memory input)
+  source_followed =
+      follows_trans c factor a (tac_meaning t budgets input)
+      (flat_meaning (setting_of_code t budgets).sizes p memory input) f
+      (code_follows o ops t part budgets address p ex mapped views memory sizes start bytes input
+      (follower_never_stuck t budgets input c a source f))
+
+  -- and is never stuck
+  pub expansion_runs : IsStepping (flat_step (setting_of_code t budgets).sizes p) flat.seen
+      (λ (x : flat.Stage). x ≡ flat.Stuck) → (k : ℕ)
+      → run (flat_step (setting_of_code t budgets).sizes p) k (started p memory input) ≡ flat.Stuck → ⊥
+  expansion_runs steps k e =
+      never_stuck (flat_step (setting_of_code t budgets).sizes p) flat.seen (λ (x : flat.Stage). x ≡ flat.Stuck) steps
+      (factor * c) a (started p memory input) refl source source_followed k e

@@ -22,6 +22,7 @@ use Rattle.tac_ir.specs.Meaning.{header_of_code}
 use Rattle.rv_isa.specs.declared.instruction.BranchOp.TheVariants.{Bltu}
 use Rattle.rv_isa.specs.Results.{wrap, branch_taken}
 use Rattle.flat_meaning.specs.declared.instruction.RightOperand.TheVariants.{Number}
+use Rattle.flat_meaning.specs.declared.instruction.FlatInstruction.TheVariants as flat_code
 use Rattle.flat_meaning.specs.declared.function.FlatProgram.{FlatProgram}
 use Rattle.flat_meaning.specs.Memory.{put}
 use Rattle.flat_meaning.specs.State as flat
@@ -30,7 +31,13 @@ use Rattle.flat_meaning.specs.Meaning.{body_of, step, weight_of}
 use Rattle.flat_routines.specs.Routine.{HasAt}
 use Rattle.metadata_plan.specs.Registers.{all_variables, most_temporaries, variable_register}
 use Rattle.metadata_plan.specs.Registers.{temporary_register, first_free}
-use Rattle.metadata_plan.specs.Blocks.{call_tests, argument_moves}
+use Rattle.metadata_plan.specs.Blocks.{call_tests, argument_moves, zeros, zero_variables}
+use Rattle.std.specs.Prelude.{◌==◌}
+use Rattle.std.proofs.lemmas.Bool.{eqb-true, eqb-false}
+use Rattle.source_meaning.specs.Calls.{plain_count}
+use Rattle.metadata_plan.specs.Registers.{words_of}
+use Rattle.metadata_plan.proofs.Flat.{constant_comes}
+use Rattle.flat_meaning.specs.declared.instruction.FlatInstruction.{FlatInstruction}
 use Rattle.metadata_plan.specs.Part.{are_integers}
 use Rattle.metadata_plan.specs.Matching.{Holds}
 use Rattle.metadata_plan.proofs.Numbers.{put_same, put_other, integers_words, integers_register, integers_front}
@@ -194,6 +201,86 @@ module _ (m : MapSizes) (p : FlatProgram) (c : CodeFunction) (u : ℕ) (xs : Lis
           (λ same. absurd (omega arith))
           ∙ ap (λ z. v.values (temporary_register c z)) f
 
+-- ---- the prologue
+
+-- registers that are 0 stay so
+pub record Zeroed (m : MapSizes) (p : FlatProgram) (u pc : ℕ) (v : flat.State) (xs : List flat.Frame)
+    (place most : ℕ) : Type 0 where
+  pub values : flat.Values
+  pub comes : Comes m p u pc v xs place (record v { values = values }) most
+  pub same : (y : ℕ) → values y ≡ v.values y
+
+pub plain_counted : (vs : List Variable) → are_integers vs ≡ true → plain_count vs ≡ length vs
+plain_counted [] e = refl
+plain_counted (v ∷ vs) e =
+    let h = is_integer_variable v vs e in
+    let one : (if v.is_object then 0 else 1) ≡ 1 = ap one_unless h.0 in
+    omega (arith, one, plain_counted vs h.2)
+  where
+    one_unless : Bool → ℕ
+    one_unless b = if b then 0 else 1
+
+-- one more register
+zero_one : (r w : ℕ) (b : Bool) → b ≡ false → w ≡ 1 → (rest : ℕ → List FlatInstruction)
+    → ((if b then [] else zeros r w) ++ rest (r + w)) ≡ (flat_code.Constant r 0 ∷ rest (r + 1))
+zero_one r w b not_object one rest =
+    ap (λ z. (if z then [] else zeros r w) ++ rest (r + w)) not_object
+    ∙ ap (λ z. zeros r z ++ rest (r + z)) one
+
+module _ (m : MapSizes) (p : FlatProgram) (u : ℕ) (xs : List flat.Frame) where
+  pub variables_zeroed : (vs : List Variable) → are_integers vs ≡ true → (pc : ℕ) (v : flat.State) (r : ℕ)
+      → ((y : ℕ) → r ≤ y → v.values y ≡ 0) → HasAt (body_of (function_in p u)) pc (zero_variables r vs)
+      → Zeroed m p u pc v xs (pc + length (zero_variables r vs)) (2 * length vs)
+  variables_zeroed [] e pc v r zero_from has =
+      let at : pc ≡ pc + 0 = omega arith in
+      let w : v.work ≡ v.work + 0 = omega arith in
+      record {
+        values = v.values;
+        comes = record {
+          steps = 0;
+          work = 0;
+          few = omega arith;
+          comes = ap (λ z. flat.Stands u z v xs) at ∙ ap (λ z. flat.Stands u (pc + 0) (record v { work = z }) xs) w;
+        };
+        same = λ y. refl;
+      }
+  variables_zeroed (x ∷ vs) e pc v r zero_from has =
+      let h = is_integer_variable x vs e in
+      let list = zero_one r (words_of x.kind) x.is_object h.0 h.1 (λ z. zero_variables z vs) in
+      let has' = subst (λ z. HasAt (body_of (function_in p u)) pc z) list has in
+      let a = constant_comes m p u pc v xs r 0 has'.0 in
+      let b = put v.values r (low_bits 64 0) in
+      let kept = same_put v.values r (zero_from r (omega arith)) in
+      let between : flat.State = record v { values = b; work = v.work + a.work } in
+      let rest = variables_zeroed vs h.2 (pc + 1) between (r + 1)
+      (λ y le. kept y ∙ zero_from y (omega arith)) has'.1 in
+      let place = pc + 1 + length (zero_variables (r + 1) vs) in
+      let all = then_comes m p u pc v xs (pc + 1) place (record v { values = b })
+      (record between { values = rest.values }) 2 (2 * length vs) a rest.comes in
+      let size : length (zero_variables r (x ∷ vs)) ≡ suc (length (zero_variables (r + 1) vs)) = ap length list in
+      let at : place ≡ pc + length (zero_variables r (x ∷ vs)) = omega (arith, size) in
+      let few : 2 + 2 * length vs ≡ 2 * length (x ∷ vs) = omega arith in
+      let retold : Comes m p u pc v xs place (record v { values = rest.values }) (2 + 2 * length vs) =
+      record { steps = all.steps; work = all.work; few = all.few; comes = all.comes } in
+      record {
+        values = rest.values;
+        comes = subst (λ z. Comes m p u pc v xs (pc + length (zero_variables r (x ∷ vs)))
+            (record v { values = rest.values }) z) few
+            (subst (λ z. Comes m p u pc v xs z (record v { values = rest.values }) (2 + 2 * length vs)) at retold);
+        same = λ y. rest.same y ∙ kept y;
+      }
+    where
+      same_put : (values : flat.Values) (r : ℕ) → values r ≡ 0 → (y : ℕ)
+          → put values r (low_bits 64 0) y ≡ values y
+      same_put values r is y = by (y == r) refl
+        where
+          by : (b : Bool) → (y == r) ≡ b → put values r (low_bits 64 0) y ≡ values y
+          by true e =
+              let here = eqb-true y r e in
+              ap (put values r (low_bits 64 0)) here ∙ put_same values r (low_bits 64 0) ∙ sym is
+              ∙ ap values (sym here)
+          by false e = put_other values r (low_bits 64 0) y (eqb-false y r e)
+
 -- the arguments of three-address code
 pub gathered_at : (temps : Temps) (d count j : ℕ) → j < count
     → get_or (gathered temps d count) j (rvalue (integer 0)) ≡ temps (d + j)
@@ -248,7 +335,7 @@ counted (q ∷ ps) = let e = counted ps in omega arith
 argument_in : (first n y : ℕ) (values : flat.Values) → y < n → arguments first n values y ≡ values (first + y)
 argument_in first n y values lt = ap (λ b. if b then values (first + y) else 0) (lt-ltb y n lt)
 
-argument_out : (first n y : ℕ) (values : flat.Values) → n ≤ y → arguments first n values y ≡ 0
+pub argument_out : (first n y : ℕ) (values : flat.Values) → n ≤ y → arguments first n values y ≡ 0
 argument_out first n y values le = ap (λ b. if b then values (first + y) else 0) (le-ltb y n le)
 
 -- what a function that is called holds

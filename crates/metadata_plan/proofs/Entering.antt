@@ -32,17 +32,20 @@ use Rattle.flat_routines.specs.Routine.{HasAt}
 use Rattle.flat_routines.proofs.Steps.{has_self}
 use Rattle.flat_objects.specs.StandsFor.{Views, Keys, StandsFor}
 use Rattle.metadata_plan.specs.Operators.{OperatorCode, AreOperators}
-use Rattle.metadata_plan.specs.Blocks.{call_tests, entry_code}
+use Rattle.metadata_plan.specs.Blocks.{prologue, call_tests, entry_code}
 use Rattle.metadata_plan.specs.Expanded.{IsExpanded, EntersAt}
 use Rattle.metadata_plan.specs.Part.{are_integers, have_no_objects, is_integer_code}
 use Rattle.metadata_plan.specs.Matching.{factor, IsAlike, AllWait, Wait, MatchesBy}
-use Rattle.metadata_plan.proofs.Numbers.{integers_words, integers_front, is_integer_variable}
+use Rattle.metadata_plan.proofs.Numbers.{integers_back, integers_words, integers_front, is_integer_variable}
 use Rattle.metadata_plan.proofs.Flat.{Comes, leads_comes, one}
 use Rattle.metadata_plan.proofs.Holding.{IsSet}
+use Rattle.metadata_plan.proofs.Holding.{holds_free}
+use Rattle.metadata_plan.specs.Registers.{words_in}
 use Rattle.metadata_plan.proofs.SetUp.{laid_out, laid_out_homes, exhausted, set_up_gives}
 use Rattle.metadata_plan.proofs.Standing.{function_parts, there, integer_function, Result, ends}
 use Rattle.metadata_plan.proofs.Calling.{tested, tests_end, counted}
 use Rattle.metadata_plan.proofs.Calling.{callee_holds}
+use Rattle.metadata_plan.proofs.Calling.{variables_zeroed, plain_counted, argument_out}
 
 pub room_behind : (b : Bool) (p : FlatProgram) (x : flat.Frame) (xs : List flat.Frame)
     → rooms b p (x ∷ xs) ≡ room_if b (function_in p x.function) + rooms b p xs
@@ -207,25 +210,41 @@ module _ (o : OperatorCode) (views : Views) (g : Setting) (t : Tac) (address : (
           work = v.work + K.work
               + (8 + 2 * z);
         }) (frame ∷ xs)) n in
-        let l = leads_comes m p f 0 in_callee (frame ∷ xs) (address f c.entry) th.begins in
-        let last : flat.State = record in_callee {
-          work = v.work + K.work + (8 + 2 * length c.parameters) + l.work;
+        let words = integers_words c.parameters (integers_front c.parameters c.variables parts.0) in
+        let others = integers_back c.parameters c.variables parts.0 in
+        let z = variables_zeroed m p f (frame ∷ xs) c.variables others 0 in_callee (words_in c.parameters)
+        (λ y le. argument_out first (length c.parameters) y values (omega arith)) th.zeroed in
+        let zeroed : flat.State = record in_callee {
+          values = z.values;
+          work = v.work + K.work + (8 + 2 * length c.parameters) + z.comes.work;
         } in
-        let comes : run (step m p) (K.steps + (1 + l.steps)) (flat.Stands u pc v xs)
+        let at : 0 + length (prologue c) ≡ length (prologue c) = omega arith in
+        let begun_at : run (step m p) z.comes.steps (flat.Stands f 0 in_callee (frame ∷ xs))
+        ≡ flat.Stands f (length (prologue c)) zeroed (frame ∷ xs) =
+        z.comes.comes ∙ ap (λ y. flat.Stands f y zeroed (frame ∷ xs)) at in
+        let l = leads_comes m p f (length (prologue c)) zeroed (frame ∷ xs) (address f c.entry) th.begins in
+        let last : flat.State = record zeroed {
+          work = v.work + K.work + (8 + 2 * length c.parameters) + z.comes.work + l.work;
+        } in
+        let comes : run (step m p) (K.steps + (1 + (z.comes.steps + l.steps))) (flat.Stands u pc v xs)
         ≡ flat.Stands f (address f c.entry) last (frame ∷ xs) =
-        run_add (step m p) K.steps (1 + l.steps) (flat.Stands u pc v xs)
-        ∙ ap (run (step m p) (1 + l.steps)) K.comes
-        ∙ run_add (step m p) 1 l.steps (flat.Stands u q called xs) ∙ ap (run (step m p) l.steps) e ∙ l.comes in
+        run_add (step m p) K.steps (1 + (z.comes.steps + l.steps)) (flat.Stands u pc v xs)
+        ∙ ap (run (step m p) (1 + (z.comes.steps + l.steps))) K.comes
+        ∙ run_add (step m p) 1 (z.comes.steps + l.steps) (flat.Stands u q called xs)
+        ∙ ap (run (step m p) (z.comes.steps + l.steps)) e
+        ∙ run_add (step m p) z.comes.steps l.steps (flat.Stands f 0 in_callee (frame ∷ xs))
+        ∙ ap (run (step m p) l.steps) begun_at ∙ l.comes in
         let t' = laid_out header vs (begun s) in
         let many = counted c.parameters in
         let result : Gives (Stands f c.entry no_temps frames t') = record {
-          steps = K.steps + (1 + l.steps);
+          steps = K.steps + (1 + (z.comes.steps + l.steps));
           matches = subst (MatchesBy views g t address p (Stands f c.entry no_temps frames t')) (sym comes) (record {
             function = refl;
             place = refl;
             code = c;
             there = found;
-            holds = callee_holds c vs first values parts.0 args;
+            holds = holds_free c parts.0 no_temps t'.plain (arguments first (length c.parameters) values) z.values
+                (callee_holds c vs first values parts.0 args) (λ y lt. z.same y);
             alike = record {
               input = alike.input;
               output = alike.output;
@@ -233,7 +252,7 @@ module _ (o : OperatorCode) (views : Views) (g : Setting) (t : Tac) (address : (
               accesses = alike.accesses;
               turns = ap (λ z. z + 1) alike.turns;
             };
-            work = omega (arith, K.few, l.few, work, many);
+            work = omega (arith, K.few, z.comes.few, l.few, work, many, plain_counted c.variables others);
             homes = laid_out_homes header;
             stacked = stacked;
             charge = omega (arith, behind, th.room, charge);

@@ -130,7 +130,8 @@ flat_main = record {
   room = 96;
   is_runtime = false;
   homes = [];
-  body = flat.Constant 1 0
+  body = flat.Constant 0 0
+      ∷ flat.Constant 1 0
       ∷ flat.Move 0 1
       ∷ flat.Move 1 0
       ∷ flat.Constant 6 4
@@ -184,7 +185,7 @@ expansion = record { functions = flat_main ∷ flat_next ∷ entry ∷ []; entry
 
 -- the place of each node
 abbrev address : (function node : ℕ) → ℕ
-address zero n = get_or (25 ∷ 24 ∷ 18 ∷ 17 ∷ 11 ∷ 10 ∷ 9 ∷ 7 ∷ 4 ∷ 3 ∷ 2 ∷ 1 ∷ 0 ∷ []) n 0
+address zero n = get_or (26 ∷ 25 ∷ 19 ∷ 18 ∷ 12 ∷ 11 ∷ 10 ∷ 8 ∷ 5 ∷ 4 ∷ 3 ∷ 2 ∷ 1 ∷ []) n 1
 address (suc u) n = get_or (3 ∷ 2 ∷ 1 ∷ 0 ∷ []) n 0
 
 -- ---- what the law asks
@@ -296,6 +297,7 @@ is_expanded = record {
           results = refl;
           room = refl;
           of_program = refl;
+          zeroed = (refl, tt);
           begins = Falls refl;
           blocks = λ n i at. put_at main flat_main.body (address 0) n i main_put at;
         })
@@ -306,6 +308,7 @@ is_expanded = record {
           results = refl;
           room = refl;
           of_program = refl;
+          zeroed = tt;
           begins = Falls refl;
           blocks = λ n i at. put_at next flat_next.body (address 1) n i next_put at;
         })
@@ -320,7 +323,7 @@ next_laid : body_of operators setting.sizes program next ≡ flat_next.body
 unfolding place_of
 next_laid = refl
 
--- ---- both runs, by computation: `main` gives 4, for 40 and 116 units of work
+-- ---- both runs, by computation: `main` gives 4, for 40 and 117 units of work
 
 abbrev ended : (turns work : ℕ) → Moment
 ended turns work = record {
@@ -333,6 +336,6 @@ tac_run : tac_meaning program default_sizes [] 40 ≡ ended 5 40
 unfolding int_wrap binary_value fit region_size region_start
 tac_run = refl
 
-flat_run : flat_meaning setting.sizes expansion (λ a. 0) [] 90 ≡ ended 5 116
+flat_run : flat_meaning setting.sizes expansion (λ a. 0) [] 90 ≡ ended 5 117
 unfolding put rooms branch_taken reg_result reg32_result region_size
 flat_run = refl

@@ -17,7 +17,7 @@ use Rattle.flat_meaning.specs.declared.function.FlatFunction.{FlatFunction}
 use Rattle.flat_routines.specs.Routine.{HasAt}
 use Rattle.flat_routines.proofs.Steps.{has_front, has_back}
 use Rattle.metadata_plan.specs.Operators.{OperatorCode}
-use Rattle.metadata_plan.specs.Blocks.{block}
+use Rattle.metadata_plan.specs.Blocks.{block, prologue}
 use Rattle.metadata_plan.specs.Expanded.{Leads, Falls, Forward, Back, LeadOn, IsPut, IsExpandedFunction, ExpandsAt}
 use Rattle.metadata_plan.specs.Expanded.{EntersAt, IsExpanded}
 use Rattle.metadata_plan.specs.Laid.{jump, jump_unless_next, jumps, jump_count, size_at, size_from, begin_size, place_of}
@@ -137,12 +137,28 @@ module _ (o : OperatorCode) (m : MapSizes) (t : Tac) (c : CodeFunction) where
             ∙ ap (λ z. laid_from o m t c (suc z) (drop (suc n) is) ++ (part_of z i ++ (h.rest ++ part_of first x))) at;
       }
 
-  begin_length : length (begin_code o m t c) ≡ begin_size o m t c
-  begin_length = by (c.entry + 1 == length c.code)
+  begin_jump : List FlatInstruction
+  begin_jump =
+      if c.entry + 1 == length c.code
+      then []
+      else jump (length (prologue c)) (place_of o m t c c.entry) ∷ []
+
+  jump_length : length begin_jump ≡ one_unless (c.entry + 1 == length c.code)
+  unfolding begin_jump
+  jump_length = by (c.entry + 1 == length c.code)
     where
-      by : (b : Bool) → length (if b then [] else jump 0 (place_of o m t c c.entry) ∷ []) ≡ (if b then 0 else 1)
+      by : (b : Bool)
+          → length (if b then [] else jump (length (prologue c)) (place_of o m t c c.entry) ∷ []) ≡ one_unless b
       by true = refl
       by false = refl
+
+  begin_is : begin_code o m t c ≡ prologue c ++ begin_jump
+  unfolding begin_jump
+  begin_is = refl
+
+  begin_length : length (begin_code o m t c) ≡ begin_size o m t c
+  begin_length =
+      ap length begin_is ∙ length-append (prologue c) begin_jump ∙ ap (λ z. length (prologue c) + z) jump_length
 
   place_is : (n : ℕ) → place_of o m t c n ≡ begin_size o m t c + size_from o m t c (suc n) (drop (suc n) c.code)
   unfolding place_of
@@ -220,19 +236,35 @@ module _ (o : OperatorCode) (m : MapSizes) (t : Tac) (c : CodeFunction) where
         leads = leads n i e (successors i) refl (has_back (body_of o m t c) pc b js stands);
       }
 
-  begins : Leads (body_of o m t c) 0 (place_of o m t c c.entry)
+  zeroed_and_jump : HasAt (body_of o m t c) 0 (prologue c ++ begin_jump)
+  zeroed_and_jump =
+      let all = has_all ((prologue c ++ begin_jump) ++ laid_from o m t c 0 c.code) [] in
+      let front = has_front ((prologue c ++ begin_jump) ++ laid_from o m t c 0 c.code) 0 (prologue c ++ begin_jump)
+      (laid_from o m t c 0 c.code) all in
+      subst (λ z. HasAt (z ++ laid_from o m t c 0 c.code) 0 (prologue c ++ begin_jump)) (sym begin_is) front
+
+  begins : Leads (body_of o m t c) (length (prologue c)) (place_of o m t c c.entry)
+  unfolding begin_jump
   begins = by (c.entry + 1 == length c.code) refl
+      (has_back (body_of o m t c) 0 (prologue c) begin_jump zeroed_and_jump)
     where
-      by : (b : Bool) → (c.entry + 1 == length c.code) ≡ b → Leads (body_of o m t c) 0 (place_of o m t c c.entry)
-      by true e =
-          let size : begin_size o m t c ≡ 0 = ap (λ z. if z then 0 else 1) e in
+      by : (b : Bool) → (c.entry + 1 == length c.code) ≡ b → HasAt (body_of o m t c) (0 + length (prologue c))
+          (if c.entry + 1 == length c.code
+          then []
+          else jump (length (prologue c)) (place_of o m t c c.entry) ∷ [])
+          → Leads (body_of o m t c) (length (prologue c)) (place_of o m t c c.entry)
+      by true e has =
+          let size : one_unless (c.entry + 1 == length c.code) ≡ 0 = ap one_unless e in
           let last : suc c.entry ≡ length c.code = let a = eqb-true (c.entry + 1) (length c.code) e in omega arith in
           let none = drop_past c.code (suc c.entry) (omega arith) in
           let rest = ap (size_from o m t c (suc c.entry)) none in
-          Falls (omega (arith, place_is c.entry))
-      by false e = jump_leads (body_of o m t c) 0 (place_of o m t c c.entry)
-          (ap (λ z. slice_get ((if z then [] else jump 0 (place_of o m t c c.entry) ∷ []) ++ laid_from o m t c 0 c.code) 0)
-          e)
+          Falls (omega (arith, place_is c.entry, size, rest))
+      by false e has =
+          let there = subst (λ z. HasAt (body_of o m t c) (0 + length (prologue c))
+          (if z then [] else jump (length (prologue c)) (place_of o m t c c.entry) ∷ [])) e has in
+          let at : 0 + length (prologue c) ≡ length (prologue c) = omega arith in
+          jump_leads (body_of o m t c) (length (prologue c)) (place_of o m t c c.entry)
+          (ap (slice_get (body_of o m t c)) (sym at) ∙ there.0)
 
   pub function_expands : (homes : List ℕ)
       → IsExpandedFunction o m t c (place_of o m t c) (function_of o m t c homes)
@@ -241,6 +273,7 @@ module _ (o : OperatorCode) (m : MapSizes) (t : Tac) (c : CodeFunction) where
     results = refl;
     room = refl;
     of_program = refl;
+    zeroed = has_front (body_of o m t c) 0 (prologue c) begin_jump zeroed_and_jump;
     begins = begins;
     blocks = is_put;
   }

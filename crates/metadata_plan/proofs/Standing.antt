@@ -24,6 +24,8 @@ use Rattle.flat_meaning.specs.Meaning.{body_of, parameters_of, results_of, step}
 use Rattle.flat_objects.specs.StandsFor.{Views, StandsFor}
 use Rattle.metadata_plan.specs.Registers.{words_in, all_variables, most_temporaries}
 use Rattle.metadata_plan.specs.Operators.{OperatorCode, AreOperators, Position, Computes}
+use Rattle.flat_routines.specs.Routine.{HasAt}
+use Rattle.metadata_plan.specs.Blocks.{prologue}
 use Rattle.metadata_plan.specs.Expanded.{Leads, IsPut, ExpandsAt, IsExpanded}
 use Rattle.metadata_plan.specs.Part.{are_integers, have_no_objects, is_integer_instruction, are_integer_instructions}
 use Rattle.metadata_plan.specs.Part.{is_integer_function, are_integer_functions, has_no_statics, takes, is_integer_code}
@@ -60,7 +62,8 @@ pub record IsThere (o : OperatorCode) (m : MapSizes) (t : Tac) (address : ℕ �
   pub function_is : q ≡ Some function
   pub blocks : (n : ℕ) (i : Instruction) → slice_get c.code n ≡ Some i
       → IsPut o m t c (body_of q) address (address n) i
-  pub begins : Leads (body_of q) 0 (address c.entry)
+  pub zeroed : HasAt (body_of q) 0 (prologue c)
+  pub begins : Leads (body_of q) (length (prologue c)) (address c.entry)
   pub room : room_if false q ≡ c.room
   pub no_room : room_if true q ≡ 0
   pub parameters : parameters_of q ≡ words_in c.parameters
@@ -73,6 +76,7 @@ there_by o m t address c (Some f) h = record {
   function = f;
   function_is = refl;
   blocks = h.blocks;
+  zeroed = h.zeroed;
   begins = h.begins;
   room = ap (λ b. if b then 0 else f.room) h.of_program ∙ h.room;
   no_room = ap (λ b. if b then f.room else 0) h.of_program;

@@ -1,5 +1,5 @@
 -- The flat code of each instruction of three-address code, as far as integers go.
-use Rattle.std.specs.Prelude.{ℕ, zero, suc, ◌+◌, ◌-◌, List, [], ◌∷◌, ◌++◌, Option, Some, None}
+use Rattle.std.specs.Prelude.{ℕ, zero, suc, ◌+◌, ◌-◌, List, [], ◌∷◌, ◌++◌, Option, Some, None, if◌then◌else◌}
 use Rattle.sb_base.specs.declared.ending.Ending.TheVariants.{Stack, Abort as AbortAt}
 use Rattle.addr_map.specs.Places.{MapSizes}
 use Rattle.obj_memory.specs.declared.int_type.IntType.{IntType}
@@ -26,7 +26,8 @@ use Rattle.flat_meaning.specs.declared.instruction.RightOperand.TheVariants.{Num
 use Rattle.flat_meaning.specs.declared.instruction.FlatInstruction.{FlatInstruction}
 use Rattle.flat_meaning.specs.declared.instruction.FlatInstruction.TheVariants.{Constant, Move, Branch, Turn, Call}
 use Rattle.flat_meaning.specs.declared.instruction.FlatInstruction.TheVariants.{Return, Get, Put, Exit, End, Charged}
-use Rattle.metadata_plan.specs.Registers.{variable_register, temporary_register, first_free}
+use Rattle.c_tree.specs.declared.program.Variable.{Variable}
+use Rattle.metadata_plan.specs.Registers.{words_of, words_in, variable_register, temporary_register, first_free}
 use Rattle.metadata_plan.specs.Operators.{OperatorCode}
 
 -- a value converted to a kind; one of void has a word of 0
@@ -105,6 +106,22 @@ block o m t c (tac.Library r line d n next) = library_code o r line (temporary_r
 block o m t c (tac.Call f line d n next) = call_code m t c f line d n
 block o m t c (tac.Return a) = Return (temporary_register c a) ∷ []
 block o m t c _ = []
+
+-- so many registers become 0
+abbrev pub zeros : (register count : ℕ) → List FlatInstruction
+zeros r zero = []
+zeros r (suc n) = Constant r 0 ∷ zeros (r + 1) n
+
+-- the registers of plain variables become 0
+abbrev pub zero_variables : (register : ℕ) → List Variable → List FlatInstruction
+zero_variables r [] = []
+zero_variables r (v ∷ vs) =
+    (if v.is_object then [] else zeros r (words_of v.kind)) ++ zero_variables (r + words_of v.kind) vs
+
+-- A function begins with this: every plain variable but a parameter is 0, so that no value but an argument is needed
+-- where it is entered.
+abbrev pub prologue : CodeFunction → List FlatInstruction
+prologue c = zero_variables (words_in c.parameters) c.variables
 
 -- where a run begins: `main` is called at the line of its name, and its result is the status
 abbrev pub entry_code : MapSizes → Tac → List FlatInstruction

@@ -14,7 +14,7 @@ use Rattle.flat_meaning.specs.Calls.{function_in}
 use Rattle.flat_routines.specs.Routine.{HasAt}
 use Rattle.metadata_plan.specs.Registers.{words_in}
 use Rattle.metadata_plan.specs.Operators.{OperatorCode}
-use Rattle.metadata_plan.specs.Blocks.{block, entry_code}
+use Rattle.metadata_plan.specs.Blocks.{block, prologue, entry_code}
 
 -- code at a place leads to another: it is this one, or a jump there stands at the first
 pub data Leads (body : List FlatInstruction) (place target : ℕ) : Type 0 where
@@ -43,7 +43,8 @@ pub record IsExpandedFunction (o : OperatorCode) (m : MapSizes) (t : Tac) (c : C
   pub results : f.results ≡ 1
   pub room : f.room ≡ c.room
   pub of_program : f.is_runtime ≡ false
-  pub begins : Leads f.body 0 (address c.entry)
+  pub zeroed : HasAt f.body 0 (prologue c)
+  pub begins : Leads f.body (length (prologue c)) (address c.entry)
   pub blocks : (n : ℕ) (i : Instruction) → slice_get c.code n ≡ Some i → IsPut o m t c f.body address (address n) i
 
 abbrev pub ExpandsAt : OperatorCode → MapSizes → Tac → CodeFunction → (address : ℕ → ℕ) → Option FlatFunction → Type 0

@@ -12,7 +12,7 @@ use Rattle.flat_meaning.specs.declared.function.FlatFunction.{FlatFunction}
 use Rattle.flat_meaning.specs.declared.function.FlatProgram.{FlatProgram}
 use Rattle.metadata_plan.specs.Registers.{words_in}
 use Rattle.metadata_plan.specs.Operators.{OperatorCode}
-use Rattle.metadata_plan.specs.Blocks.{block, entry_code}
+use Rattle.metadata_plan.specs.Blocks.{block, prologue, entry_code}
 
 -- a jump from a place to another
 abbrev pub jump : (from to : ℕ) → FlatInstruction
@@ -42,9 +42,9 @@ module _ (o : OperatorCode) (m : MapSizes) (t : Tac) (c : CodeFunction) where
   size_from n [] = 0
   size_from n (i ∷ is) = size_at n i + size_from (suc n) is
 
-  -- a jump to the entry stands first, unless the entry is the last node
+  -- behind the prologue a jump to the entry stands, unless the entry is the last node
   abbrev pub begin_size : ℕ
-  begin_size = if c.entry + 1 == length c.code then 0 else 1
+  begin_size = length (prologue c) + (if c.entry + 1 == length c.code then 0 else 1)
 
   -- the place of a node: behind all higher ones
   unfoldable pub place_of : (node : ℕ) → ℕ
@@ -57,7 +57,9 @@ module _ (o : OperatorCode) (m : MapSizes) (t : Tac) (c : CodeFunction) where
       ++ (block o m t c i ++ jumps place_of n (place_of n + length (block o m t c i)) (successors i))
 
   abbrev pub begin_code : List FlatInstruction
-  begin_code = if c.entry + 1 == length c.code then [] else jump 0 (place_of c.entry) ∷ []
+  begin_code =
+      prologue c
+      ++ (if c.entry + 1 == length c.code then [] else jump (length (prologue c)) (place_of c.entry) ∷ [])
 
   abbrev pub body_of : List FlatInstruction
   body_of = begin_code ++ laid_from 0 c.code

@@ -21,9 +21,9 @@ ghost use Rattle.metadata_plan.specs.Part.{is_integer_code};
 ghost use Rattle.metadata_plan.specs.Laid.{address_of, program_of};
 
 /// The expansion of an integer program follows it: it shows what the program in three-address code shows, at each
-/// moment,
-/// for each budget and input, with at most 21 units of work for each of the program's. The code of the operators is to
-/// compute them, the memory at the start to stand for the static objects, and the program never to be stuck.
+/// moment, for each budget and input, with at most 21 units of work for each of the program's. The code of the
+/// operators is to compute them, the memory at the start to stand for the static objects, and the program never to be
+/// stuck.
 pub fn integer_code_follows()
     ensures { (o : OperatorCode) → AreOperators o → (t : Tac) → is_integer_code t ≡ true → (budgets : BudgetSizes)
         (address : (function node : ℕ) → ℕ) (p : FlatProgram)
@@ -34,8 +34,8 @@ pub fn integer_code_follows()
         → Follows 21 (tac_meaning t budgets input) (flat_meaning (setting_of_code t budgets).sizes p memory input) }
 {}
 
-/// Where the program follows a source, so does its expansion, with at most 21 times as much work, and it is never stuck:
-/// it touches no byte that it may not use, and each of its calls has room.
+/// Where the program follows a source, so does its expansion, with at most 21 times as much work, and it is never
+/// stuck: it touches no byte that it may not use, and each of its calls has room.
 pub fn expansions_follow_a_source()
     ensures follows { (o : OperatorCode) → AreOperators o → (t : Tac) → is_integer_code t ≡ true
         → (budgets : BudgetSizes) (address : (function node : ℕ) → ℕ) (p : FlatProgram)
@@ -55,8 +55,8 @@ pub fn expansions_follow_a_source()
     flat_meaning::laws::steps_begin_at_most_one_turn();
 }
 
-/// Blocks that are laid one behind the other, that of the last node first, with a jump where the next node is not the one
-/// that follows, make an expansion, whatever homes the virtual registers have.
+/// Blocks that are laid one behind the other, that of the last node first, with a jump where the next node is not the
+/// one that follows, make an expansion, whatever homes the virtual registers have.
 pub fn laid_code_is_an_expansion()
     ensures { (o : OperatorCode) (m : MapSizes) (t : Tac) (homes : CodeFunction → List ℕ)
         → IsExpanded o m t (address_of o m t) (program_of o m t homes) }

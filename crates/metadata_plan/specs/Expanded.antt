@@ -1,0 +1,70 @@
+-- When a flat program is the expansion of a program in three-address code.
+use Rattle.std.specs.Prelude.{◌≡◌, ℕ, ◌+◌, ◌-◌, ◌≤◌, List, [], ◌∷◌, length, Option, Some, None, true, false, slice_get}
+use Rattle.addr_map.specs.declared.region.Region.TheVariants.{RuntimeCalls}
+use Rattle.addr_map.specs.Places.{MapSizes, region_size}
+use Rattle.tac_ir.specs.declared.instruction.Instruction.{Instruction}
+use Rattle.tac_ir.specs.declared.function.CodeFunction.{CodeFunction}
+use Rattle.tac_ir.specs.declared.function.Tac.{Tac}
+use Rattle.tac_ir.specs.Edges.{successors}
+use Rattle.flat_meaning.specs.declared.instruction.FlatInstruction.{FlatInstruction}
+use Rattle.flat_meaning.specs.declared.instruction.FlatInstruction.TheVariants.{JumpForward, JumpBack}
+use Rattle.flat_meaning.specs.declared.function.FlatFunction.{FlatFunction}
+use Rattle.flat_meaning.specs.declared.function.FlatProgram.{FlatProgram}
+use Rattle.flat_meaning.specs.Calls.{function_in}
+use Rattle.flat_routines.specs.Routine.{HasAt}
+use Rattle.metadata_plan.specs.Registers.{words_in}
+use Rattle.metadata_plan.specs.Operators.{OperatorCode}
+use Rattle.metadata_plan.specs.Blocks.{block, prologue, entry_code}
+
+-- code at a place leads to another: it is this one, or a jump there stands at the first
+pub data Leads (body : List FlatInstruction) (place target : ℕ) : Type 0 where
+  Falls : place ≡ target → Leads body place target
+  Forward : (past : ℕ) → slice_get body place ≡ Some (JumpForward past) → place + 1 + past ≡ target
+      → Leads body place target
+  Back : (back : ℕ) → slice_get body place ≡ Some (JumpBack back) → place - back ≡ target → Leads body place target
+
+-- Behind a block the code leads to the block of the node that comes next. Of two nodes the second stands behind the
+-- block, and the first one instruction further on, to which the branch at its end leads.
+abbrev pub LeadOn : (body : List FlatInstruction) → (address : ℕ → ℕ) → (place : ℕ) → (nodes : List ℕ) → Type 0
+LeadOn body address pc [] = Unit {0}
+LeadOn body address pc (n ∷ []) = Leads body pc (address n)
+LeadOn body address pc (x ∷ y ∷ ns) = Leads body pc (address y) × Leads body (pc + 1) (address x)
+
+-- the block of an instruction stands at a place
+pub record IsPut (o : OperatorCode) (m : MapSizes) (t : Tac) (c : CodeFunction) (body : List FlatInstruction)
+    (address : ℕ → ℕ) (place : ℕ) (i : Instruction) : Type 0 where
+  pub has : HasAt body place (block o m t c i)
+  pub leads : LeadOn body address (place + length (block o m t c i)) (successors i)
+
+-- a function and its expansion, with the place of each node's block
+pub record IsExpandedFunction (o : OperatorCode) (m : MapSizes) (t : Tac) (c : CodeFunction) (address : ℕ → ℕ)
+    (f : FlatFunction) : Type 0 where
+  pub parameters : f.parameters ≡ words_in c.parameters
+  pub results : f.results ≡ 1
+  pub room : f.room ≡ c.room
+  pub of_program : f.is_runtime ≡ false
+  pub zeroed : HasAt f.body 0 (prologue c)
+  pub begins : Leads f.body (length (prologue c)) (address c.entry)
+  pub blocks : (n : ℕ) (i : Instruction) → slice_get c.code n ≡ Some i → IsPut o m t c f.body address (address n) i
+
+abbrev pub ExpandsAt : OperatorCode → MapSizes → Tac → CodeFunction → (address : ℕ → ℕ) → Option FlatFunction → Type 0
+ExpandsAt o m t c address None = ⊥
+ExpandsAt o m t c address (Some f) = IsExpandedFunction o m t c address f
+
+-- the function with which a run begins is one of the runtime
+pub record IsEntry (m : MapSizes) (t : Tac) (f : FlatFunction) : Type 0 where
+  pub parameters : f.parameters ≡ 0
+  pub of_runtime : f.is_runtime ≡ true
+  pub room : f.room ≤ region_size m RuntimeCalls
+  pub body : f.body ≡ entry_code m t
+
+abbrev pub EntersAt : MapSizes → Tac → Option FlatFunction → Type 0
+EntersAt m t None = ⊥
+EntersAt m t (Some f) = IsEntry m t f
+
+-- The functions of the text have their numbers. The address is the place of each node's block in its function.
+pub record IsExpanded (o : OperatorCode) (m : MapSizes) (t : Tac) (address : (function node : ℕ) → ℕ)
+    (p : FlatProgram) : Type 0 where
+  pub functions : (u : ℕ) (c : CodeFunction) → slice_get t.functions u ≡ Some c
+      → ExpandsAt o m t c (address u) (function_in p u)
+  pub entry : EntersAt m t (function_in p p.entry)

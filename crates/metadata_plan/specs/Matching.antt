@@ -1,0 +1,134 @@
+-- When a run of flat code is where a run of three-address code is.
+use Rattle.std.specs.Prelude.{◌≡◌, ℕ, ◌+◌, ◌*◌, ◌<◌, ◌≤◌, List, [], ◌∷◌, length, Some, slice_get, get_or}
+use Rattle.sb_base.specs.Endings.{code_of, report_of}
+use Rattle.obj_memory.specs.declared.value.Value.{Value}
+use Rattle.source_meaning.specs.State.{State, Home, NoObject, InObject, Setting}
+use Rattle.source_meaning.specs.Actions.{integer}
+use Rattle.source_meaning.specs.Structures.{rvalue}
+use Rattle.source_meaning.specs.Places.{stack_first}
+use Rattle.source_meaning.specs.Meaning.{fresh}
+use Rattle.tac_ir.specs.declared.function.CodeFunction.{CodeFunction}
+use Rattle.tac_ir.specs.declared.function.Tac.{Tac}
+use Rattle.tac_ir.specs.Stage.{Temps, Waiting, Frame, Waits, Entered, Stage, Begins, Stands, Over}
+use Rattle.tac_ir.specs.Meaning.{objects_before}
+use Rattle.flat_meaning.specs.declared.function.FlatProgram.{FlatProgram}
+use Rattle.flat_meaning.specs.Memory.{Bytes}
+use Rattle.flat_meaning.specs.State as flat
+use Rattle.flat_meaning.specs.Calls.{function_in, charged}
+use Rattle.flat_meaning.specs.Meaning.{body_of, started}
+use Rattle.flat_meaning.specs.Words.{HasWords}
+use Rattle.flat_objects.specs.StandsFor.{Views, Keys, StandsFor}
+use Rattle.metadata_plan.specs.Registers.{all_variables, most_temporaries, variable_register, temporary_register}
+use Rattle.metadata_plan.specs.Expanded.{Leads}
+
+-- how many units of work flat code does at most for each of three-address code
+abbrev pub factor : ℕ
+factor = 21
+
+-- the registers of a function hold the values of its temporaries and plain variables, which are integers
+pub record Holds (c : CodeFunction) (temps : Temps) (plain : List Value) (values : flat.Values) : Type 0 where
+  pub temporaries : (i : ℕ) → i < most_temporaries c.code
+      → temps i ≡ rvalue (integer (values (temporary_register c i)))
+  pub variables : (x : ℕ) → x < length (all_variables c)
+      → get_or plain x (integer 0) ≡ integer (values (variable_register c x))
+  pub count : length plain ≡ length (all_variables c)
+
+-- no variable is an object
+abbrev pub AreNoObjects : List Home → Type 0
+AreNoObjects [] = Unit {0}
+AreNoObjects (NoObject ∷ homes) = AreNoObjects homes
+AreNoObjects (InObject o ∷ homes) = ⊥
+
+pub record HaveNoObjects (homes : List Home) : Type 0 where
+  pub by : AreNoObjects homes
+
+-- both have the same input, output and accesses, and have begun as many turns
+pub record IsAlike (s : State) (v : flat.State) : Type 0 where
+  pub input : v.input ≡ s.input
+  pub output : v.output ≡ s.output
+  pub taken : v.taken ≡ s.taken
+  pub accesses : v.accesses ≡ s.accesses
+  pub turns : v.turns ≡ s.turns
+
+-- a caller waits as a record does: behind its call the code leads to its node, and its result comes to the register of
+-- its temporary
+pub record WaitsAs (g : Setting) (t : Tac) (address : (function node : ℕ) → ℕ) (p : FlatProgram) (w : Waiting)
+    (x : flat.Frame) (xs : List flat.Frame) : Type 0 where
+  pub function : x.function ≡ w.function
+  pub code : CodeFunction
+  pub there : slice_get t.functions w.function ≡ Some code
+  pub leads : Leads (body_of (function_in p w.function)) x.next (address w.function w.node)
+  pub low : w.place < most_temporaries code.code
+  pub into : x.into ≡ temporary_register code w.place
+  pub holds : Holds code w.temps w.caller.plain x.values
+  pub homes : HaveNoObjects w.caller.frame
+  pub stacked : w.caller.stacked ≡ stack_first g
+  pub charge : w.caller.charged ≡ charged p w.function xs
+  pub fits : w.caller.charged ≤ g.sizes.budgets.calls
+
+-- under `main` waits the function with which the run began, to exit with the result
+abbrev pub EntryWaits : FlatProgram → flat.Frame → Type 0
+EntryWaits p x = (x.function ≡ p.entry) × (x.next ≡ 5) × (x.into ≡ 0)
+
+abbrev pub AllWait : Setting → Tac → (address : (function node : ℕ) → ℕ) → FlatProgram → List Frame → List flat.Frame
+    → Type 0
+AllWait g t address p ws [] = ⊥
+AllWait g t address p [] (x ∷ []) = EntryWaits p x
+AllWait g t address p [] (x ∷ y ∷ xs) = ⊥
+AllWait g t address p (Waits w ∷ ws) (x ∷ xs) = WaitsAs g t address p w x xs × AllWait g t address p ws xs
+AllWait g t address p (Entered b ∷ ws) (x ∷ xs) = ⊥
+
+pub record Wait (g : Setting) (t : Tac) (address : (function node : ℕ) → ℕ) (p : FlatProgram) (ws : List Frame)
+    (xs : List flat.Frame) : Type 0 where
+  pub by : AllWait g t address p ws xs
+
+-- both stand at a node of a function. The calls of the program's functions are charged their records, and the memory
+-- stands for the objects
+pub record IsAt (views : Views) (g : Setting) (t : Tac) (address : (function node : ℕ) → ℕ) (p : FlatProgram)
+    (u n : ℕ) (temps : Temps) (ws : List Frame) (s : State) (f pc : ℕ) (v : flat.State) (xs : List flat.Frame) : Type 0
+  where
+    pub function : f ≡ u
+    pub place : pc ≡ address u n
+    pub code : CodeFunction
+    pub there : slice_get t.functions u ≡ Some code
+    pub holds : Holds code temps s.plain v.values
+    pub alike : IsAlike s v
+    pub work : v.work ≤ factor * s.work
+    pub homes : HaveNoObjects s.frame
+    pub stacked : s.stacked ≡ stack_first g
+    pub charge : s.charged ≡ charged p u xs
+    pub fits : s.charged ≤ g.sizes.budgets.calls
+    pub keys : Keys
+    pub stands : StandsFor views keys s.objects v.memory
+    pub wait : Wait g t address p ws xs
+
+-- both are at the start
+pub record IsFirst (views : Views) (g : Setting) (t : Tac) (p : FlatProgram) (s : State) (x : flat.Stage) : Type 0 where
+  pub input : List ℕ
+  pub memory : Bytes
+  pub keys : Keys
+  pub fresh_is : s ≡ fresh g (objects_before t g) input
+  pub started_is : x ≡ started p memory input
+  pub stands : StandsFor views keys (objects_before t g) memory
+
+-- both have ended, with the same status and report
+pub record HaveEnded (status : ℕ) (report : List ℕ) (expected : ℕ) (reported : List ℕ) (s : State) (v : flat.State) :
+    Type 0 where
+  pub status_is : status ≡ expected
+  pub report_is : report ≡ reported
+  pub alike : IsAlike s v
+  pub work : v.work ≤ factor * (s.work + length reported)
+
+abbrev pub MatchesBy : Views → Setting → Tac → (address : (function node : ℕ) → ℕ) → FlatProgram → Stage → flat.Stage
+    → Type 0
+MatchesBy views g t address p (Begins s) x = IsFirst views g t p s x
+MatchesBy views g t address p (Stands u n temps ws s) (flat.Stands f pc v xs) =
+    IsAt views g t address p u n temps ws s f pc v xs
+MatchesBy views g t address p (Over e s) (flat.Over status report v) =
+    HaveEnded status report (code_of e) (report_of e) s v
+MatchesBy views g t address p _ _ = ⊥
+
+pub record Matches (views : Views) (g : Setting) (t : Tac) (address : (function node : ℕ) → ℕ) (p : FlatProgram)
+    (a : Stage) (x : flat.Stage) : Type 0 where
+  pub matches : MatchesBy views g t address p a x
+  pub words : HasWords x

@@ -1,7 +1,8 @@
 -- A division ends the run where the divisor is zero, and all other operators give a value.
-use Rattle.std.proofs.Common.{◌≡◌, ℕ, ◌+◌, ◌^◌, ◌<◌, ◌≤◌, Bool, true, false, not, ◌==◌, if◌then◌else◌, List, [], ◌∷◌}
-use Rattle.std.proofs.Common.{length, Option, Some, None, refl, sym, ap, ◌∙◌, subst, arith}
-use Rattle.std.proofs.lemmas.Bool.{cases_Bool, not-true, not-false, cond-true, cond-false}
+use Rattle.std.proofs.Common.{◌≡◌, ℕ, ◌+◌, ◌<◌, ◌≤◌, true, false, ◌==◌, if◌then◌else◌, List, ◌∷◌}
+use Rattle.std.proofs.Common.{length, Option, Some, None, refl, sym, subst, arith}
+use Rattle.std.proofs.lemmas.Bool.{not-true, not-false, cond-true, cond-false}
+use Rattle.sb_base.specs.declared.ending.Ending.{Ending}
 use Rattle.sb_base.specs.declared.ending.Ending.TheVariants as ending
 use Rattle.sb_base.specs.Endings.{code_of, report_of}
 use Rattle.rv_isa.specs.declared.instruction.BranchOp.TheVariants.{Bne}
@@ -9,7 +10,6 @@ use Rattle.rv_isa.specs.declared.instruction.RegOp.{RegOp}
 use Rattle.rv_isa.specs.declared.instruction.RegOp.TheVariants as op
 use Rattle.rv_isa.specs.declared.instruction.RegOp32.TheVariants.{Addw, Subw, Mulw}
 use Rattle.rv_isa.specs.Results.{branch_taken, reg_result}
-use Rattle.words.specs.TwosComplement.{low_bits}
 use Rattle.obj_memory.specs.declared.int_type.IntType.{IntType}
 use Rattle.obj_memory.specs.declared.operator.UnaryOperator.{UnaryOperator}
 use Rattle.obj_memory.specs.declared.operator.BinaryOperator.{BinaryOperator}
@@ -17,8 +17,8 @@ use Rattle.obj_memory.specs.declared.operator.BinaryOperator.TheVariants.{Add, S
 use Rattle.obj_memory.specs.declared.operator.BinaryOperator.TheVariants.{ShiftLeft, ShiftRight, BitAnd, BitXor}
 use Rattle.obj_memory.specs.declared.operator.BinaryOperator.TheVariants.{BitOr, Less, Greater, LessOrEqual}
 use Rattle.obj_memory.specs.declared.operator.BinaryOperator.TheVariants.{GreaterOrEqual, Equal, NotEqual}
-use Rattle.obj_memory.specs.Integers.{fit, is_signed, size_of}
-use Rattle.obj_memory.specs.Operators.{quotient, remainder, is_less, unary_value, binary_value}
+use Rattle.obj_memory.specs.Integers.{fit, is_signed}
+use Rattle.obj_memory.specs.Operators.{quotient, remainder, unary_value, binary_value}
 use Rattle.flat_meaning.specs.declared.instruction.RightOperand.TheVariants.{Register, Number}
 use Rattle.flat_meaning.specs.declared.instruction.FlatInstruction.{FlatInstruction}
 use Rattle.flat_meaning.specs.declared.instruction.FlatInstruction.TheVariants.{Operate, End}
@@ -29,9 +29,9 @@ use Rattle.flat_routines.specs.Local.{counted}
 use Rattle.flat_routines.specs.Routine.{HasAt, Does, Outcome, Continues, Halts, Reaches}
 use Rattle.flat_routines.specs.Effects.{worked, effects}
 use Rattle.flat_routines.proofs.Rules.{branch, line_on, arrived, ended, weaken}
-use Rattle.integer_operators.specs.Operators.{conversion_code, converted, divided_code, wrapping_code}
-use Rattle.integer_operators.specs.Operators.{shift_left_code, shift_right_code, unary_code, binary_code}
-use Rattle.integer_operators.specs.Results.{HasResult, IsUnchanged, AreOperands, Anywhere, IsResult}
+use Rattle.integer_operators.specs.Operators.{conversion_code, converted, divided_code}
+use Rattle.integer_operators.specs.Operators.{unary_code, binary_code}
+use Rattle.integer_operators.specs.Results.{IsUnchanged, Anywhere, IsResult}
 use Rattle.integer_operators.proofs.Sets.{does_straight, set_behind}
 use Rattle.integer_operators.proofs.Values.{int_sum, int_difference, int_product, quotient_by, remainder_by, less_by}
 use Rattle.integer_operators.proofs.Values.{sum_by, difference_by, product_by, and_by, or_by, xor_by}
@@ -97,15 +97,21 @@ module _ (c : Context) (line d n : ℕ) where
         end : ℕ
         end = pc + length (divided_code o t line d a b)
 
+        v : ℕ
+        v = f (s.values a) (s.values b)
+
+        zero_divisor : Ending
+        zero_divisor = ending.Divide line
+
         R : Outcome → Type 0
         R = IsResult (answer s) line d n s
 
         on : (s.values b == 0) ≡ false → Reaches c code 3 (Goes (pc + 1 + 1) s1) end R
         on e =
-            let g = operator_gives c d n s1 w1 o t a b (f (s.values a) (s.values b)) (by_f (s.values a) (s.values b) e) in
+            let g = operator_gives c d n s1 w1 o t a b v (by_f (s.values a) (s.values b) e) in
             let s2 = effects c is s1 in
-            let h = set_behind n d (fit t (f (s.values a) (s.values b))) s s1 s2 (unchanged s1.work s) g.1 in
-            let same : Some (fit t (f (s.values a) (s.values b))) ≡ answer s = sym (cond-false (s.values b == 0) None (Some (fit t (f (s.values a) (s.values b)))) e) in
+            let h = set_behind n d (fit t v) s s1 s2 (unchanged s1.work s) g.1 in
+            let same : Some (fit t v) ≡ answer s = sym (cond-false (s.values b == 0) None (Some (fit t v)) e) in
             let l : length is ≤ 3 = omega (arith, length_converted t d) in
             let last : pc + 1 + 1 + length is ≡ end = omega arith in
             weaken c code (length is + 0) 3 (Goes (pc + 1 + 1) s1) end R R (omega arith) (λ x r. r)
@@ -115,11 +121,11 @@ module _ (c : Context) (line d n : ℕ) where
 
         off : (s.values b == 0) ≡ true → Reaches c code 3 (Goes (pc + 1) s1) end R
         off e =
-            let same : None ≡ answer s = sym (cond-true (s.values b == 0) None (Some (fit t (f (s.values a) (s.values b)))) e) in
-            let s2 : State = counted (End (ending.Divide line)) s1 in
-            ended c code 2 (ending.Divide line) s1 (pc + 1) end R has.1.0
-            (subst (λ v. IsResult v line d n s (Halts (code_of (ending.Divide line)) (report_of (ending.Divide line)) s2))
-            same (record { by = (refl, refl, unchanged s2.work s) }))
+            let same : None ≡ answer s = sym (cond-true (s.values b == 0) None (Some (fit t v)) e) in
+            let s2 : State = counted (End zero_divisor) s1 in
+            ended c code 2 zero_divisor s1 (pc + 1) end R has.1.0
+            (subst (λ v. IsResult v line d n s (Halts (code_of zero_divisor) (report_of zero_divisor) s2)) same
+            (record { by = (refl, refl, unchanged s2.work s) }))
 
     pub does_divide : Does c (divided_code o t line d a b) Anywhere (λ s. 4) (λ s. IsResult (answer s) line d n s)
     does_divide = record { from = λ code pc s has w p. divides code pc s has w }

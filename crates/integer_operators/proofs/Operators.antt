@@ -1,19 +1,15 @@
 -- The code of each operator gives its value.
-use Rattle.std.proofs.Common.{◌≡◌, ℕ, zero, suc, ◌+◌, ◌-◌, ◌*◌, ◌%◌, ◌^◌, ◌<◌, ◌≤◌, Bool, true, false, not, ◌==◌}
-use Rattle.std.proofs.Common.{if◌then◌else◌, List, [], ◌∷◌, ◌++◌, length, Option, Some, None, refl, sym, ap, ◌∙◌, subst}
+use Rattle.std.proofs.Common.{◌≡◌, ℕ, ◌-◌, ◌%◌, ◌^◌, ◌<◌, ◌≤◌, Bool, true, false, not, ◌==◌}
+use Rattle.std.proofs.Common.{if◌then◌else◌, List, [], ◌∷◌, ◌++◌, length, refl, sym, ap, ◌∙◌, subst}
 use Rattle.std.proofs.Common.{arith}
-use Rattle.std.proofs.lemmas.Bool.{cases_Bool, cond-true, cond-false, not-true, not-false}
-use Rattle.sb_base.specs.declared.ending.Ending.TheVariants as ending
-use Rattle.sb_base.specs.Endings.{code_of, report_of}
-use Rattle.rv_isa.specs.declared.instruction.BranchOp.TheVariants.{Bne}
 use Rattle.rv_isa.specs.declared.instruction.RegOp.{RegOp}
 use Rattle.rv_isa.specs.declared.instruction.RegOp.TheVariants as op
 use Rattle.rv_isa.specs.declared.instruction.RegOp32.{RegOp32}
-use Rattle.rv_isa.specs.declared.instruction.RegOp32.TheVariants.{Addw, Subw, Mulw, Sllw}
-use Rattle.rv_isa.specs.Results.{branch_taken, low_word, reg_result, reg32_result}
+use Rattle.rv_isa.specs.declared.instruction.RegOp32.TheVariants.{Sllw}
+use Rattle.rv_isa.specs.Results.{low_word, reg_result, reg32_result}
 use Rattle.rv_isa.proofs.Words.{reg_fits}
 use Rattle.words.specs.TwosComplement.{low_bits}
-use Rattle.words.specs.Operations.{sum, difference, product, shifted_left}
+use Rattle.words.specs.Operations.{shifted_left}
 use Rattle.obj_memory.specs.declared.int_type.IntType.{IntType}
 use Rattle.obj_memory.specs.declared.int_type.IntType.TheVariants.{Char, SignedChar, UnsignedChar, Short}
 use Rattle.obj_memory.specs.declared.int_type.IntType.TheVariants.{UnsignedShort, Int, UnsignedInt, Long}
@@ -21,23 +17,21 @@ use Rattle.obj_memory.specs.declared.int_type.IntType.TheVariants.{UnsignedLong,
 use Rattle.obj_memory.specs.Integers.{fit, is_signed, size_of}
 use Rattle.obj_memory.specs.declared.operator.UnaryOperator.{UnaryOperator}
 use Rattle.obj_memory.specs.declared.operator.UnaryOperator.TheVariants.{Plus, Negate, Complement, Not}
-use Rattle.obj_memory.specs.Operators.{one_if, is_less, shift_right, shift_amount, unary_value}
+use Rattle.obj_memory.specs.Operators.{one_if, shift_right, shift_amount, unary_value}
 use Rattle.flat_meaning.specs.declared.instruction.RightOperand.TheVariants.{Register, Number}
 use Rattle.flat_meaning.specs.declared.instruction.FlatInstruction.{FlatInstruction}
 use Rattle.flat_meaning.specs.declared.instruction.FlatInstruction.TheVariants.{Constant, Move, Operate, Operate32}
-use Rattle.flat_meaning.specs.declared.instruction.FlatInstruction.TheVariants.{Branch, End}
-use Rattle.flat_meaning.specs.Memory.{put}
 use Rattle.flat_meaning.specs.State.{State}
 use Rattle.flat_meaning.specs.Words.{IsOfWords}
 use Rattle.flat_meaning.specs.Meaning.{Context}
 use Rattle.flat_meaning.proofs.Stored.{put_same, put_other}
 use Rattle.flat_routines.specs.Effects.{IsAllowed, AreAllowed, effect, effects}
 use Rattle.integer_operators.specs.Operators.{two_shifts, conversion_code, converted, wrapping_code}
-use Rattle.integer_operators.specs.Operators.{shift_left_code, shift_right_code, less_op, turned, equal_code, unary_code}
-use Rattle.integer_operators.specs.Results.{HasResult, IsUnchanged, AreOperands}
+use Rattle.integer_operators.specs.Operators.{shift_left_code, shift_right_code, turned, equal_code, unary_code}
+use Rattle.integer_operators.specs.Results.{HasResult, IsUnchanged}
 use Rattle.integer_operators.proofs.Sets.{one_set, scratch_set, set_again, set_behind, is_value}
 use Rattle.integer_operators.proofs.Values.{zeros_by_shifts, signs_by_shifts, int_by_word, left_by_word, right_by}
-use Rattle.integer_operators.proofs.Values.{masked, less_by, other_by, zero_by, equal_by, amount_of_whole}
+use Rattle.integer_operators.proofs.Values.{masked, other_by, zero_by, equal_by, amount_of_whole}
 use Rattle.integer_operators.proofs.Values.{amount_of_word, whole_shift, word_shift_fits, negated_by, complement_by}
 
 module _ (c : Context) (d n : ℕ) where

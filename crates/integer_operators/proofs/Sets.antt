@@ -1,7 +1,5 @@
 -- Registers that code sets one after another.
-use Rattle.std.proofs.Common.{◌≡◌, ◌≢◌, ℕ, ◌<◌, ◌≤◌, List, [], ◌∷◌, length, refl, sym, ap, ◌∙◌, subst, arith}
-use Rattle.rv_isa.specs.declared.instruction.RegOp.{RegOp}
-use Rattle.rv_isa.specs.Results.{reg_result}
+use Rattle.std.proofs.Common.{◌≡◌, ℕ, ◌≤◌, List, length, refl, ◌∙◌, subst, arith}
 use Rattle.flat_meaning.specs.declared.instruction.FlatInstruction.{FlatInstruction}
 use Rattle.flat_meaning.specs.Memory.{put}
 use Rattle.flat_meaning.specs.State.{State}

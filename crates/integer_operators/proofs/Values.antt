@@ -1,15 +1,14 @@
 -- What the machine's operators give is what those of C give, on words.
-use Rattle.std.proofs.Common.{◌≡◌, ℕ, ◌+◌, ◌-◌, ◌*◌, ◌/◌, ◌%◌, ◌^◌, ◌<◌, ◌≤◌, Bool, true, false, not, ◌==◌, refl, sym}
+use Rattle.std.proofs.Common.{◌≡◌, ℕ, ◌-◌, ◌/◌, ◌%◌, ◌^◌, ◌<◌, ◌≤◌, Bool, true, false, not, ◌==◌, refl, sym}
 use Rattle.std.proofs.Common.{ap, ◌∙◌, arith, if◌then◌else◌}
 use Rattle.std.specs.Prelude.{nat_lt, bit_and, bit_or, bit_xor}
 use Rattle.std.proofs.lemmas.Bool.{true≢false, false≢true, cond-true, cond-false, eqb-true, eqb-false, lt-ltb, le-ltb}
 use Rattle.std.proofs.lemmas.Nat.{and_mask}
-use Rattle.rv_isa.specs.declared.instruction.RegOp.{RegOp}
 use Rattle.rv_isa.specs.declared.instruction.RegOp.TheVariants as op
 use Rattle.rv_isa.specs.declared.instruction.RegOp32.TheVariants.{Addw, Subw, Mulw, Sllw}
 use Rattle.rv_isa.specs.Results.{low_word, reg_result, reg32_result, bit_of}
 use Rattle.rv_isa.proofs.Words.{reg32_fits}
-use Rattle.words.specs.TwosComplement.{IsExtendable, low_bits, sign_extended}
+use Rattle.words.specs.TwosComplement.{low_bits, sign_extended}
 use Rattle.words.specs.Operations.{sum, difference, product, complement, shifted_left}
 use Rattle.words.proofs.Extended.{extended_low}
 use Rattle.words.proofs.Narrowing.{low_of_low, low_sum, low_difference, low_product, low_shift}

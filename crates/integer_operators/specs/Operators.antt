@@ -1,6 +1,6 @@
 -- The operators of C on integers in flat code (C99 6.5.3.3, 6.5.5 to 6.5.12) and their conversions (6.3.1.3), on
 -- registers that hold words: `into` gets the result. The register `scratch` may change.
-use Rattle.std.specs.Prelude.{ℕ, ◌-◌, ◌^◌, Bool, true, false, ◌==◌, if◌then◌else◌, List, [], ◌∷◌, ◌++◌}
+use Rattle.std.specs.Prelude.{ℕ, ◌-◌, ◌^◌, ◌==◌, if◌then◌else◌, List, [], ◌∷◌, ◌++◌}
 use Rattle.sb_base.specs.declared.ending.Ending.TheVariants as ending
 use Rattle.rv_isa.specs.declared.instruction.BranchOp.TheVariants.{Bne}
 use Rattle.rv_isa.specs.declared.instruction.RegOp.{RegOp}

@@ -1,17 +1,10 @@
 -- What the code of an operator leaves.
-use Rattle.std.specs.Prelude.{◌≡◌, ◌≢◌, ℕ, ◌<◌, List, Option, Some, None}
+use Rattle.std.specs.Prelude.{◌≡◌, ◌≢◌, ℕ, ◌<◌, Option, Some, None}
 use Rattle.sb_base.specs.declared.ending.Ending.TheVariants as ending
 use Rattle.sb_base.specs.Endings.{code_of, report_of}
-use Rattle.obj_memory.specs.declared.int_type.IntType.{IntType}
-use Rattle.obj_memory.specs.declared.operator.UnaryOperator.{UnaryOperator}
-use Rattle.obj_memory.specs.declared.operator.BinaryOperator.{BinaryOperator}
-use Rattle.obj_memory.specs.Integers.{fit}
-use Rattle.obj_memory.specs.Operators.{unary_value, binary_value}
 use Rattle.flat_meaning.specs.State.{State}
-use Rattle.flat_meaning.specs.Meaning.{Context}
-use Rattle.flat_routines.specs.Routine.{Does, Outcome, Continues, Halts}
+use Rattle.flat_routines.specs.Routine.{Outcome, Continues, Halts}
 use Rattle.flat_routines.specs.Metadata.{ShowsNothing}
-use Rattle.integer_operators.specs.Operators.{conversion_code, unary_code, binary_code}
 
 -- one register below scratch has a value, all others there, and the memory, are as before, and nothing was shown
 pub record HasResult (into value scratch : ℕ) (s s' : State) : Type 0 where

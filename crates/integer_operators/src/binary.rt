@@ -17,8 +17,8 @@ use rv_isa::{BranchOp, RegOp, RegOp32};
 use sb_base::{Ending, Line};
 use std::alloc::AllocError;
 
-/// The registers of an operator on two words. The result may go to one of the operands; `scratch` is above them all, and
-/// may change.
+/// The registers of an operator on two words. The result may go to one of the operands; `scratch` is above them all,
+/// and may change.
 #[derive(Clone, Copy)]
 pub struct Registers {
     /// Gets the result.
@@ -275,8 +275,8 @@ fn put_remainder(
     put_divided(code, op, int_type, line, registers)
 }
 
-/// Puts a binary operator on two words of a type, or a shift of one, behind a list. The run ends at `line` where a divisor
-/// is zero. It fails only for want of memory.
+/// Puts a binary operator on two words of a type, or a shift of one, behind a list. The run ends at `line` where a
+/// divisor is zero. It fails only for want of memory.
 #[tactic(auto, unfolding(crate::specs::Operators::binary_code))]
 pub fn put_binary(
     code: &mut Vec<FlatInstruction>,

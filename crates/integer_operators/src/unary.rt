@@ -44,8 +44,8 @@ fn put_less_from(
     put_converted(code, int_type, into)
 }
 
-/// Puts a unary operator on the word in `from` behind a list; `into` gets the result, and `scratch` may change. It fails
-/// only for want of memory.
+/// Puts a unary operator on the word in `from` behind a list; `into` gets the result, and `scratch` may change. It
+/// fails only for want of memory.
 #[tactic(auto, unfolding(crate::specs::Operators::unary_code))]
 pub fn put_unary(
     code: &mut Vec<FlatInstruction>,

@@ -98,12 +98,12 @@ module _ (c : Context) (ok : IsLaidOut c.sizes) (line : ℕ) (v : State) (w : Is
       branch c code 9 0 v Bgeu 0 (Register 1) 1 10 R h.0
       (λ e.
       let above : v.values 1 ≤ v.values 0 = if_not_below (v.values 0) (v.values 1) e in
-      branch c code 8 2 (worked v) Bgeu 2 (Register 0) 1 10 R h.1.1.0
+      branch c code 8 2 (worked c v) Bgeu 2 (Register 0) 1 10 R h.1.1.0
       (λ e2.
       let reach : v.values 0 ≤ v.values 2 = if_not_below (v.values 2) (v.values 0) e2 in
-      let y = effects c (Operate Sub 6 2 (Register 0) ∷ []) (worked (worked v)) in
+      let y = effects c (Operate Sub 6 2 (Register 0) ∷ []) (worked c (worked c v)) in
       let room : (v.values 2 + (2 ^ 64 - v.values 0)) % 2 ^ 64 ≡ v.values 2 - v.values 0 = omega arith in
-      line_on c code (Operate Sub 6 2 (Register 0) ∷ []) 7 4 (worked (worked v)) 10 R (tt, tt) (h.1.1.1.1.0, tt)
+      line_on c code (Operate Sub 6 2 (Register 0) ∷ []) 7 4 (worked c (worked c v)) 10 R (tt, tt) (h.1.1.1.1.0, tt)
       (branch c code 6 5 y Bgeu 6 (Register 5) 1 10 R h.1.1.1.1.1.0
       (λ e3.
       let wide : v.values 5 ≤ (v.values 2 + (2 ^ 64 - v.values 0)) % 2 ^ 64 = if_not_below _ _ e3 in
@@ -111,7 +111,7 @@ module _ (c : Context) (ok : IsLaidOut c.sizes) (line : ℕ) (v : State) (w : Is
       let l = lock above below in
       let lo = l.begins in let hi = l.ends in let small = l.small in
       let at : (v.values 4 + 0) % 2 ^ 64 ≡ v.values 4 = omega arith in
-      let z = effects c (Load Ld 6 4 0 ∷ []) (worked y) in
+      let z = effects c (Load Ld 6 4 0 ∷ []) (worked c y) in
       let got : load 8 v.memory ((v.values 4 + 0) % 2 ^ 64) ≡ load 8 v.memory (v.values 4) = ap (load 8 v.memory) at in
       let shown : ShowsNothing v z = record {
         input = refl;
@@ -120,10 +120,10 @@ module _ (c : Context) (ok : IsLaidOut c.sizes) (line : ℕ) (v : State) (w : Is
         accesses = shadow_not_shown c _ 8 _ _ ok (omega arith);
         turns = refl;
       } in
-      line_on c code (Load Ld 6 4 0 ∷ []) 5 7 (worked y) 10 R
+      line_on c code (Load Ld 6 4 0 ∷ []) 5 7 (worked c y) 10 R
       (space_allowed c.sizes ((v.values 4 + 0) % 2 ^ 64) 8 (omega arith) (omega arith), tt) (h.1.1.1.1.1.1.1.0, tt)
       (branch c code 4 8 z Beq 6 (Register 3) 1 10 R h.1.1.1.1.1.1.1.1.0
-      (λ e4. arrived c code 4 (worked z) 10 10 R refl (record {
+      (λ e4. arrived c code 4 (worked c z) 10 10 R refl (record {
         above = above;
         below = below;
         held = sym got ∙ if_equal (load 8 v.memory ((v.values 4 + 0) % 2 ^ 64)) (v.values 3) e4;
@@ -138,7 +138,7 @@ module _ (c : Context) (ok : IsLaidOut c.sizes) (line : ℕ) (v : State) (w : Is
           },
         );
       }))
-      (λ e4. ended c code 3 (Temporal line) (worked z) 9 10 R h.1.1.1.1.1.1.1.1.1.0 (
+      (λ e4. ended c code 3 (Temporal line) (worked c z) 9 10 R h.1.1.1.1.1.1.1.1.1.0 (
         (
           refl,
           record {
@@ -154,14 +154,14 @@ module _ (c : Context) (ok : IsLaidOut c.sizes) (line : ℕ) (v : State) (w : Is
       ))))
       (λ e3.
       let narrow : (v.values 2 + (2 ^ 64 - v.values 0)) % 2 ^ 64 < v.values 5 = if_below _ _ e3 in
-      ended c code 5 (Spatial line) (worked y) 6 10 R h.1.1.1.1.1.1.0
+      ended c code 5 (Spatial line) (worked c y) 6 10 R h.1.1.1.1.1.1.0
       ((refl, record { input = refl; output = refl; taken = refl; accesses = refl; turns = refl }), Beyond refl refl (inr (omega arith))))))
       (λ e2.
       let beyond : v.values 2 < v.values 0 = if_below (v.values 2) (v.values 0) e2 in
-      ended c code 7 (Spatial line) (worked (worked v)) 3 10 R h.1.1.1.0
+      ended c code 7 (Spatial line) (worked c (worked c v)) 3 10 R h.1.1.1.0
       ((refl, record { input = refl; output = refl; taken = refl; accesses = refl; turns = refl }), Beyond refl refl (inr (omega arith)))))
       (λ e.
-      ended c code 8 (Spatial line) (worked v) 1 10 R h.1.0
+      ended c code 8 (Spatial line) (worked c v) 1 10 R h.1.0
       ((refl, record { input = refl; output = refl; taken = refl; accesses = refl; turns = refl }), Beyond refl refl (inl (if_below (v.values 0) (v.values 1) e))))
 
 -- ---- what the numbers say of the judgement
@@ -212,8 +212,8 @@ judge_registers h n t =
 pub judges : (h : Held) (n line t : ℕ) → AreBelow t (n ∷ held_registers h)
     → IsJudgeRoutine h n line t (judge_code h n line t)
 unfolding judge
-judges h n line t below g k objects v size runtime charge mapped =
-    let c = context_of g.sizes runtime charge in
+judges h n line t below g k objects v size runtime charge weight mapped =
+    let c = context_of g.sizes runtime charge weight in
     let ok = laid_out g.sizes mapped in
     let lie = locks_laid_out g.sizes mapped in
     let ins = h.value ∷ h.tag.base ∷ h.tag.bound ∷ h.tag.key ∷ h.tag.lock ∷ n ∷ [] in
@@ -250,7 +250,7 @@ judges h n line t below g k objects v size runtime charge mapped =
   where
     lock_place : (c : Context) → AreLocksLaidOut g.sizes → (s : State) → IsToJudge g k objects v size h n s
         → s.values h.tag.base ≤ s.values h.value → s.values h.value + s.values n ≤ s.values h.tag.bound
-        → IsLockPlace (context_of g.sizes runtime charge) (s.values h.tag.lock)
+        → IsLockPlace (context_of g.sizes runtime charge weight) (s.values h.tag.lock)
     lock_place c lie s p lo hi =
         let base = ap (λ q. q.base) p.spells.tag in let bound = ap (λ q. q.bound) p.spells.tag in
         let lock = ap (λ q. q.lock) p.spells.tag in let word = p.spells.word in let size_is = p.size_is in

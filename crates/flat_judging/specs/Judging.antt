@@ -70,7 +70,7 @@ judge_code h n line t =
 -- within 10 steps the access is judged.
 abbrev pub IsJudgeRoutine : Held → (size line scratch : ℕ) → List FlatInstruction → Type 0
 IsJudgeRoutine h n line t r =
-    (g : Views) (k : Keys) (objects : Objects) (v : Value) (size : ℕ) (runtime : Bool) (charge : ℕ)
+    (g : Views) (k : Keys) (objects : Objects) (v : Value) (size : ℕ) (runtime : Bool) (charge weight : ℕ)
     → AreMapped g.sizes
-    → Does (record { sizes = g.sizes; is_runtime = runtime; charge = charge }) r (IsToJudge g k objects v size h n)
+    → Does (record { sizes = g.sizes; is_runtime = runtime; charge = charge; weight = weight }) r (IsToJudge g k objects v size h n)
     (λ s. 10) (λ s. IsJudged (judge size v objects) line t s)

@@ -1,4 +1,5 @@
 pub mod Steps
+pub mod Work
 pub mod Straight
 pub mod Rules
 pub mod Renamed

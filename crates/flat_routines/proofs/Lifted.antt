@@ -43,15 +43,15 @@ module _ (m : MapSizes) (p : FlatProgram) (f : ℕ) (frames : List Frame) where
   leads i pc s Fails = refl
 
   one : (i : FlatInstruction) (pc : ℕ) (s : State)
-      → Leads (local c i pc (counted i s)) (at_instruction m p (Some i) f pc s frames)
+      → Leads (local c i pc (counted c i s)) (at_instruction m p (Some i) f pc s frames)
   one (Constant x w) pc s = refl
   one (Move x y) pc s = refl
   one (Operate op x y z) pc s = refl
   one (Operate32 op x y z) pc s = refl
-  one (Load op x y offset) pc s = leads (Load op x y offset) pc (counted (Load op x y offset) s)
-      (local c (Load op x y offset) pc (counted (Load op x y offset) s))
-  one (Store op y offset x) pc s = leads (Store op y offset x) pc (counted (Store op y offset x) s)
-      (local c (Store op y offset x) pc (counted (Store op y offset x) s))
+  one (Load op x y offset) pc s = leads (Load op x y offset) pc (counted c (Load op x y offset) s)
+      (local c (Load op x y offset) pc (counted c (Load op x y offset) s))
+  one (Store op y offset x) pc s = leads (Store op y offset x) pc (counted c (Store op y offset x) s)
+      (local c (Store op y offset x) pc (counted c (Store op y offset x) s))
   one (Branch op y z past) pc s = refl
   one (JumpForward past) pc s = refl
   one (JumpBack back) pc s = refl

@@ -22,10 +22,10 @@ use Rattle.flat_meaning.specs.Memory.{put, load, store}
 use Rattle.flat_meaning.specs.Spaces.{is_of_objects, is_allowed}
 use Rattle.flat_meaning.specs.State.{Values, State}
 use Rattle.flat_meaning.specs.Meaning.{Context, Local, Goes, Ends, Leaves, Fails, right_value, with_register}
-use Rattle.flat_meaning.specs.Meaning.{with_access}
+use Rattle.flat_meaning.specs.Meaning.{with_access, local_cost}
 use Rattle.flat_meaning.specs.Meaning.{loads, stores, received, local}
 use Rattle.flat_meaning.proofs.Stored.{put_same, put_other}
-use Rattle.flat_routines.specs.Local.{local_cost, counted, act, local_step, local_run}
+use Rattle.flat_routines.specs.Local.{counted, act, local_step, local_run}
 use Rattle.flat_routines.specs.Routine.{HasAt, Outcome, Continues, Halts, left_at, Reaches, Either}
 use Rattle.flat_routines.specs.Renaming.{rename_right, rename, reads_right, fits, all_fit, IsRenaming, ChangesOnly}
 use Rattle.flat_routines.specs.Renaming.{Agrees}
@@ -311,13 +311,13 @@ module _ (c : Context) (n d : ℕ) (f : ℕ
           let at : slice_get code (pc + i) ≡ Some (rename f x) =
           has_get code (map (rename f) r) pc i (rename f x) has
           (slice_get-map (rename f) r i ∙ ap (option_map (rename f)) p.2) in
-          let there : local_step c code (Goes j s) ≡ local c (rename f x) (pc + i) (counted (rename f x) s) =
+          let there : local_step c code (Goes j s) ≡ local c (rename f x) (pc + i) (counted c (rename f x) s) =
           ap (λ q. local_step c code (Goes q s)) rel.0 ∙ ap (λ o. act c o (pc + i) s) at in
-          let alone : local_run c r k (local c x i (counted x v)) ≡ left_at (length r) e =
+          let alone : local_run c r k (local c x i (counted c x v)) ≡ left_at (length r) e =
           ap (λ o. local_run c r k (act c o i v)) (sym p.2) ∙ from_step in
-          let both = local_rel c n d f names (length r) pc s0 i x (counted x v) (counted (rename f x) s) p.1 fx
+          let both = local_rel c n d f names (length r) pc s0 i x (counted c x v) (counted c (rename f x) s) p.1 fx
           (counted_rel x rel.2) in
-          let t = again (local c x i (counted x v)) (local c (rename f x) (pc + i) (counted (rename f x) s)) both
+          let t = again (local c x i (counted c x v)) (local c (rename f x) (pc + i) (counted c (rename f x) s)) both
           alone in
           record {
             steps = suc t.steps;
@@ -327,7 +327,7 @@ module _ (c : Context) (n d : ℕ) (f : ℕ
             same = t.same;
           }
         where
-          cost_same : (x : FlatInstruction) → local_cost (rename f x) ≡ local_cost x
+          cost_same : (x : FlatInstruction) → local_cost c.weight (rename f x) ≡ local_cost c.weight x
           cost_same (Constant x w) = refl
           cost_same (Move x y) = refl
           cost_same (Operate op x y z) = refl
@@ -348,11 +348,11 @@ module _ (c : Context) (n d : ℕ) (f : ℕ
           cost_same (Charged x) = refl
 
           counted_rel : (x : FlatInstruction) → Rel c n d f names (length r) pc s0 v s
-              → Rel c n d f names (length r) pc s0 (counted x v) (counted (rename f x) s)
+              → Rel c n d f names (length r) pc s0 (counted c x v) (counted c (rename f x) s)
           counted_rel x q =
-              subst (λ w. Rel c n d f names (length r) pc s0 (counted x v) (record s { work = s.work + w }))
+              subst (λ w. Rel c n d f names (length r) pc s0 (counted c x v) (record s { work = s.work + w }))
               (sym (cost_same x))
-              (kept_rel c n d f names (length r) pc s0 v s (λ z. record z { work = z.work + local_cost x })
+              (kept_rel c n d f names (length r) pc s0 v s (λ z. record z { work = z.work + local_cost c.weight x })
               (λ z values. refl) q)
 
   follow : (k : ℕ) (e : Outcome) → Again k e

@@ -139,14 +139,14 @@ module _ (c : Context) (code : List FlatInstruction) where
 
   -- the run ends with a report
   pub ended : (b : ℕ) (e : Ending) (s : State) (pc end : ℕ) (R : Outcome → Type 0) → slice_get code pc ≡ Some (End e)
-      → R (Halts (code_of e) (report_of e) (counted (End e) s)) → Reaches c code (suc b) (Goes pc s) end R
+      → R (Halts (code_of e) (report_of e) (counted c (End e) s)) → Reaches c code (suc b) (Goes pc s) end R
   ended b e s pc end R at h =
-      let l : Local = Ends (code_of e) (report_of e) (counted (End e) s) in
+      let l : Local = Ends (code_of e) (report_of e) (counted c (End e) s) in
       step_on b (Goes pc s) l end R (ap (λ o. act c o pc s) at)
       (record {
         steps = 0;
         within = omega arith;
-        outcome = Halts (code_of e) (report_of e) (counted (End e) s);
+        outcome = Halts (code_of e) (report_of e) (counted c (End e) s);
         comes = run_zero c code l;
         holds = h;
       })
@@ -154,42 +154,42 @@ module _ (c : Context) (code : List FlatInstruction) where
   -- a jump
   pub jump_on : (b pc past : ℕ) (s : State) (end : ℕ) (R : Outcome → Type 0)
       → slice_get code pc ≡ Some (JumpForward past)
-      → Reaches c code b (Goes (pc + 1 + past) (worked s)) end R → Reaches c code (suc b) (Goes pc s) end R
-  jump_on b pc past s end R at t = step_on b (Goes pc s) (Goes (pc + 1 + past) (worked s)) end R
+      → Reaches c code b (Goes (pc + 1 + past) (worked c s)) end R → Reaches c code (suc b) (Goes pc s) end R
+  jump_on b pc past s end R at t = step_on b (Goes pc s) (Goes (pc + 1 + past) (worked c s)) end R
       (ap (λ o. act c o pc s) at) t
 
   pub jump_back : (b pc back to : ℕ) (s : State) (end : ℕ) (R : Outcome → Type 0)
       → slice_get code pc ≡ Some (JumpBack back) → pc ≡ to + back
-      → Reaches c code b (Goes to (worked s)) end R → Reaches c code (suc b) (Goes pc s) end R
+      → Reaches c code b (Goes to (worked c s)) end R → Reaches c code (suc b) (Goes pc s) end R
   jump_back b pc back to s end R at e t =
       let same : pc - back ≡ to = omega arith in
-      step_on b (Goes pc s) (Goes to (worked s)) end R (ap (λ o. act c o pc s) at ∙ ap (λ n. Goes n (worked s)) same) t
+      step_on b (Goes pc s) (Goes to (worked c s)) end R (ap (λ o. act c o pc s) at ∙ ap (λ n. Goes n (worked c s)) same) t
 
   -- a branch, by its condition
   pub branch : (b pc : ℕ) (s : State) (op : BranchOp) (x : ℕ) (y : RightOperand) (past end : ℕ) (R : Outcome → Type 0)
       → slice_get code pc ≡ Some (Branch op x y past)
-      → (taken op x y s ≡ true → Reaches c code b (Goes (pc + 1 + past) (worked s)) end R)
-      → (taken op x y s ≡ false → Reaches c code b (Goes (pc + 1) (worked s)) end R)
+      → (taken op x y s ≡ true → Reaches c code b (Goes (pc + 1 + past) (worked c s)) end R)
+      → (taken op x y s ≡ false → Reaches c code b (Goes (pc + 1) (worked c s)) end R)
       → Reaches c code (suc b) (Goes pc s) end R
   branch b pc s op x y past end R at on off =
       ⊎_elim
-      (λ e. step_on b (Goes pc s) (Goes (pc + 1 + past) (worked s)) end R
-      (ap (λ o. act c o pc s) at ∙ ap (λ n. Goes n (worked s)) (cond-true _ (pc + 1 + past) (pc + 1) e)) (on e))
-      (λ e. step_on b (Goes pc s) (Goes (pc + 1) (worked s)) end R
-      (ap (λ o. act c o pc s) at ∙ ap (λ n. Goes n (worked s)) (cond-false _ (pc + 1 + past) (pc + 1) e)) (off e))
+      (λ e. step_on b (Goes pc s) (Goes (pc + 1 + past) (worked c s)) end R
+      (ap (λ o. act c o pc s) at ∙ ap (λ n. Goes n (worked c s)) (cond-true _ (pc + 1 + past) (pc + 1) e)) (on e))
+      (λ e. step_on b (Goes pc s) (Goes (pc + 1) (worked c s)) end R
+      (ap (λ o. act c o pc s) at ∙ ap (λ n. Goes n (worked c s)) (cond-false _ (pc + 1 + past) (pc + 1) e)) (off e))
       (cases_Bool (taken op x y s))
 
   -- a body that may be passed over
   pub unless : (b pc : ℕ) (s : State) (op : BranchOp) (x : ℕ) (y : RightOperand) (body : List FlatInstruction)
       (R : Outcome → Type 0) → HasAt code pc (unless_code op x y body)
-      → (taken op x y s ≡ true → R (Continues (worked s)))
-      → (taken op x y s ≡ false → Reaches c code b (Goes (pc + 1) (worked s)) (pc + 1 + length body) R)
+      → (taken op x y s ≡ true → R (Continues (worked c s)))
+      → (taken op x y s ≡ false → Reaches c code b (Goes (pc + 1) (worked c s)) (pc + 1 + length body) R)
       → Reaches c code (suc b) (Goes pc s) (pc + length (unless_code op x y body)) R
   unless b pc s op x y body R has on off =
       let e : pc + 1 + length body ≡ pc + length (unless_code op x y body) = omega arith in
       subst (λ k. Reaches c code (suc b) (Goes pc s) k R) e
       (branch b pc s op x y (length body) (pc + 1 + length body) R has.0
-      (λ h. arrived b (worked s) (pc + 1 + length body) (pc + 1 + length body) R refl (on h)) off)
+      (λ h. arrived b (worked c s) (pc + 1 + length body) (pc + 1 + length body) R refl (on h)) off)
 
   -- A loop: I k holds where at most k turns are left, and D where the condition holds. A turn leaves fewer.
   module _ (pc : ℕ) (op : BranchOp) (x : ℕ) (y : RightOperand) (body : List FlatInstruction) (b : ℕ)
@@ -200,41 +200,41 @@ module _ (c : Context) (code : List FlatInstruction) where
 
     abbrev pub Turns : (k : ℕ) → State → Type 0
     Turns k s = ((taken op x y s ≡ false) × (j : ℕ) × (k ≡ suc j)
-        × Reaches c code b (Goes (pc + 1) (worked s)) (pc + 1 + length body) (Either (λ s'. Left j (worked s')) J))
-        ⊎ ((taken op x y s ≡ true) × D (worked s))
+        × Reaches c code b (Goes (pc + 1) (worked c s)) (pc + 1 + length body) (Either (λ s'. Left j (worked c s')) J))
+        ⊎ ((taken op x y s ≡ true) × D (worked c s))
 
     abbrev pub Finishes : (k : ℕ) → State → Type 0
     Finishes k s = Reaches c code (k * (b + 2) + 1) (Goes pc s) (pc + length (until_code op x y body)) (Either D J)
 
-    stops : (n : ℕ) (s : State) → (taken op x y s ≡ true) × D (worked s) → Finishes n s
+    stops : (n : ℕ) (s : State) → (taken op x y s ≡ true) × D (worked c s) → Finishes n s
     stops n s d =
         let e : pc + 1 + (length body + 1) ≡ pc + length (until_code op x y body) =
         omega (arith, length-append body (JumpBack (length body + 1) ∷ [])) in
         let n' : suc (n * (b + 2)) ≡ n * (b + 2) + 1 = omega arith in
         subst (λ m. Reaches c code m (Goes pc s) (pc + length (until_code op x y body)) (Either D J)) n'
-        (step_on (n * (b + 2)) (Goes pc s) (Goes (pc + 1 + (length body + 1)) (worked s)) _ (Either D J)
-        (ap (λ o. act c o pc s) has.0 ∙ ap (λ n. Goes n (worked s)) (cond-true _ _ (pc + 1) d.0))
-        (arrived (n * (b + 2)) (worked s) _ _ (Either D J) e d.1))
+        (step_on (n * (b + 2)) (Goes pc s) (Goes (pc + 1 + (length body + 1)) (worked c s)) _ (Either D J)
+        (ap (λ o. act c o pc s) has.0 ∙ ap (λ n. Goes n (worked c s)) (cond-true _ _ (pc + 1) d.0))
+        (arrived (n * (b + 2)) (worked c s) _ _ (Either D J) e d.1))
 
     turns_on : (n k : ℕ) (s : State) → k ≤ suc n → IsOfWords s
         → ((i : ℕ) → i ≤ n → (s' : State) → IsOfWords s' → Left i s' → Finishes n s')
         → (taken op x y s ≡ false) × (j : ℕ) × (k ≡ suc j)
-        × Reaches c code b (Goes (pc + 1) (worked s)) (pc + 1 + length body) (Either (λ s'. Left j (worked s')) J)
+        × Reaches c code b (Goes (pc + 1) (worked c s)) (pc + 1 + length body) (Either (λ s'. Left j (worked c s')) J)
         → Finishes (suc n) s
     turns_on n k s le w again d =
         let at_end = (has_back code (pc + 1) body (JumpBack (length body + 1) ∷ []) has.1).0 in
         let m : suc n * (b + 2) + 1 ≡ suc (b + suc (n * (b + 2) + 1)) = omega (arith, suc_times n (b + 2)) in
-        let w' : IsOfWords (worked s) = record { values = w.values; memory = w.memory } in
+        let w' : IsOfWords (worked c s) = record { values = w.values; memory = w.memory } in
         subst (λ m. Reaches c code m (Goes pc s) (pc + length (until_code op x y body)) (Either D J)) (sym m)
-        (step_on (b + suc (n * (b + 2) + 1)) (Goes pc s) (Goes (pc + 1) (worked s)) _ (Either D J)
-        (ap (λ o. act c o pc s) has.0 ∙ ap (λ n. Goes n (worked s)) (cond-false _ (pc + 1 + (length body + 1)) _ d.0))
-        (next b (suc (n * (b + 2) + 1)) (Goes (pc + 1) (worked s)) (pc + 1 + length body) _ (λ s'. Left d.1 (worked
+        (step_on (b + suc (n * (b + 2) + 1)) (Goes pc s) (Goes (pc + 1) (worked c s)) _ (Either D J)
+        (ap (λ o. act c o pc s) has.0 ∙ ap (λ n. Goes n (worked c s)) (cond-false _ (pc + 1 + (length body + 1)) _ d.0))
+        (next b (suc (n * (b + 2) + 1)) (Goes (pc + 1) (worked c s)) (pc + 1 + length body) _ (λ s'. Left d.1 (worked c
         s')) J
         (Either D J) w'
         d.3
         (λ s2 w2 q. jump_back (n * (b + 2) + 1) (pc + 1 + length body) (length body + 1) pc s2 _ (Either D J) at_end
         (omega arith)
-        (again d.1 (omega (arith, d.2)) (worked s2) (record { values = w2.values; memory = w2.memory }) q))
+        (again d.1 (omega (arith, d.2)) (worked c s2) (record { values = w2.values; memory = w2.memory }) q))
         (λ status report s j. j)))
 
     pub loop : ((k : ℕ) (s : State) → IsOfWords s → I k s → Turns k s) → (n k : ℕ) → k ≤ n → (s : State) → IsOfWords s

@@ -80,7 +80,7 @@ step_fits : (c : Context) (code : List FlatInstruction) (l : Local) → LocalFit
 step_fits c code (Goes pc s) h =
     elim (slice_get code pc) as (λ o. LocalFits (act c o pc s)) [
       | None ↦ tt
-      | Some i ↦ local_fits c i pc (counted i s) (record { values = h.values; memory = h.memory })
+      | Some i ↦ local_fits c i pc (counted c i s) (record { values = h.values; memory = h.memory })
     ]
 step_fits c code (Ends status report s) h = tt
 step_fits c code Leaves h = tt

@@ -31,7 +31,7 @@ access_shown c a n kind s = by (not c.is_runtime && is_of_objects c.sizes a n)
     by false = refl
 
 goes_straight : (c : Context) (i : FlatInstruction) (pc : ℕ) (s : State) → IsAllowed c i s
-    → local c i pc (counted i s) ≡ Goes (pc + 1) (effect c i s)
+    → local c i pc (counted c i s) ≡ Goes (pc + 1) (effect c i s)
 goes_straight c (Constant x n) pc s h = refl
 goes_straight c (Move x y) pc s h = refl
 goes_straight c (Operate op x y z) pc s h = refl
@@ -40,12 +40,12 @@ goes_straight c (Load op x y offset) pc s h =
     let a = address_in s y offset in
     let n = load_bytes op in
     let v = extended op (load n s.memory a) in
-    cond-true _ (Goes (pc + 1) (with_register x v (with_access c a n Read (worked s)))) Fails h
-    ∙ ap (λ z. Goes (pc + 1) (with_register x v z)) (access_shown c a n Read (worked s))
+    cond-true _ (Goes (pc + 1) (with_register x v (with_access c a n Read (worked c s)))) Fails h
+    ∙ ap (λ z. Goes (pc + 1) (with_register x v z)) (access_shown c a n Read (worked c s))
 goes_straight c (Store op y offset x) pc s h =
     let a = address_in s y offset in
     let n = store_bytes op in
-    let t : State = record (worked s) { memory = store n s.memory a (s.values x) } in
+    let t : State = record (worked c s) { memory = store n s.memory a (s.values x) } in
     cond-true _ (Goes (pc + 1) (with_access c a n Write t)) Fails h
     ∙ ap (λ z. Goes (pc + 1) z) (access_shown c a n Write t)
 goes_straight c (Branch op y z past) pc s h = absurd h

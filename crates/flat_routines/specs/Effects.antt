@@ -10,6 +10,7 @@ use Rattle.flat_meaning.specs.Memory.{load, store}
 use Rattle.flat_meaning.specs.Spaces.{is_of_objects, is_allowed}
 use Rattle.flat_meaning.specs.State.{State}
 use Rattle.flat_meaning.specs.Meaning.{Context, right_value, with_register, address_in, received}
+use Rattle.flat_routines.specs.Local.{counted}
 
 -- the accesses with one more, if it is of object space and by a function of the program
 abbrev pub with_shown : Context → (address size : ℕ) → AccessKind → List Access → List Access
@@ -18,28 +19,29 @@ with_shown c a n kind accesses =
     then accesses ++ record { address = a; size = n; kind = kind } ∷ []
     else accesses
 
-abbrev pub worked : State → State
-worked s = record s { work = s.work + 1 }
+-- the state with the weight of an instruction counted
+abbrev pub worked : Context → State → State
+worked c s = record s { work = s.work + c.weight }
 
 -- the state after an instruction that goes on to the next
 abbrev pub effect : Context → FlatInstruction → State → State
-effect c (Constant x n) s = with_register x (low_bits 64 n) (worked s)
-effect c (Move x y) s = with_register x (s.values y) (worked s)
-effect c (Operate op x y z) s = with_register x (reg_result op (s.values y) (right_value z s.values)) (worked s)
+effect c (Constant x n) s = with_register x (low_bits 64 n) (worked c s)
+effect c (Move x y) s = with_register x (s.values y) (worked c s)
+effect c (Operate op x y z) s = with_register x (reg_result op (s.values y) (right_value z s.values)) (worked c s)
 effect c (Operate32 op x y z) s =
-    with_register x (reg32_result op (low_word (s.values y)) (low_word (right_value z s.values))) (worked s)
+    with_register x (reg32_result op (low_word (s.values y)) (low_word (right_value z s.values))) (worked c s)
 effect c (Load op x y offset) s =
     with_register x (extended op (load (load_bytes op) s.memory (address_in s y offset)))
-    (record (worked s) { accesses = with_shown c (address_in s y offset) (load_bytes op) Read s.accesses })
+    (record (worked c s) { accesses = with_shown c (address_in s y offset) (load_bytes op) Read s.accesses })
 effect c (Store op y offset x) s =
-    record (worked s) {
+    record (worked c s) {
       memory = store (store_bytes op) s.memory (address_in s y offset) (s.values x);
       accesses = with_shown c (address_in s y offset) (store_bytes op) Write s.accesses;
     }
-effect c Turn s = record (worked s) { turns = s.turns + 1 }
-effect c (Get x) s = received x (slice_get s.input 0) (worked s)
-effect c (Put x) s = record (worked s) { output = s.output ++ s.values x % 256 ∷ [] }
-effect c (Charged x) s = with_register x (wrap c.charge) (worked s)
+effect c Turn s = record (worked c s) { turns = s.turns + 1 }
+effect c (Get x) s = received x (slice_get s.input 0) (counted c (Get x) s)
+effect c (Put x) s = record (counted c (Put x) s) { output = s.output ++ s.values x % 256 ∷ [] }
+effect c (Charged x) s = with_register x (wrap c.charge) (worked c s)
 effect c _ s = s
 
 -- whether it does, and touches no byte that may not be used

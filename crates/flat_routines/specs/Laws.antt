@@ -1,5 +1,5 @@
 -- Words of the laws.
-use Rattle.std.specs.Prelude.{◌≡◌, ℕ, ◌≤◌, List}
+use Rattle.std.specs.Prelude.{◌≡◌, ℕ, ◌≤◌, List, length}
 use Rattle.flat_meaning.specs.declared.instruction.FlatInstruction.{FlatInstruction}
 use Rattle.flat_meaning.specs.State.{State}
 use Rattle.flat_meaning.specs.Meaning.{Context, Goes}
@@ -22,3 +22,12 @@ pub record Arrives (c : Context) (n d : ℕ) (f : ℕ → ℕ) (code : List Flat
   pub outcome : Outcome
   pub comes : local_run c code steps (Goes pc s) ≡ left_at place outcome
   pub agree : AgreeAtEnd n d f s x outcome
+
+-- the work that is done, and how many bytes the report has
+abbrev pub work_of : Outcome → ℕ
+work_of (Continues s) = s.work
+work_of (Halts status report s) = s.work
+
+abbrev pub report_length : Outcome → ℕ
+report_length (Continues s) = 0
+report_length (Halts status report s) = length report

@@ -1,23 +1,17 @@
 -- Runs of instructions within one call of a function, step by step as the whole run makes them.
-use Rattle.std.specs.Prelude.{ℕ, zero, suc, ◌+◌, List, length, Option, Some, None, slice_get}
-use Rattle.sb_base.specs.Endings.{report_of}
+use Rattle.std.specs.Prelude.{ℕ, zero, suc, ◌+◌, List, Option, Some, None, slice_get}
 use Rattle.flat_meaning.specs.declared.instruction.FlatInstruction.{FlatInstruction}
-use Rattle.flat_meaning.specs.declared.instruction.FlatInstruction.TheVariants.{End}
 use Rattle.flat_meaning.specs.State.{State}
-use Rattle.flat_meaning.specs.Meaning.{Context, Local, Goes, Ends, Leaves, Fails, local}
+use Rattle.flat_meaning.specs.Meaning.{Context, Local, Goes, Ends, Leaves, Fails, local, local_cost}
 
--- what an instruction counts as work, where it is no call and no return
-abbrev pub local_cost : FlatInstruction → ℕ
-local_cost (End e) = 1 + length (report_of e)
-local_cost _ = 1
-
-abbrev pub counted : FlatInstruction → State → State
-counted i s = record s { work = s.work + local_cost i }
+-- the state with the work of an instruction counted, where it is no call and no return
+abbrev pub counted : Context → FlatInstruction → State → State
+counted c i s = record s { work = s.work + local_cost c.weight i }
 
 -- the instruction at a place, if there is one
 abbrev pub act : Context → Option FlatInstruction → (place : ℕ) → State → Local
 act c None pc s = Fails
-act c (Some i) pc s = local c i pc (counted i s)
+act c (Some i) pc s = local c i pc (counted c i s)
 
 -- one step; what has left the function, has ended or has failed stays so
 abbrev pub local_step : Context → List FlatInstruction → Local → Local

@@ -1,7 +1,7 @@
 //! Laws of routines, each as the contract of a function that does nothing: crates above rest on them. Those that speak
 //! of any condition and any result are public lemmas of `proofs/Rules`, `proofs/Renamed` and `proofs/Wrapped`.
 
-ghost use Rattle.std.specs.Prelude.{◌≡◌, ◌+◌, ℕ, List, Bool, true, map, length};
+ghost use Rattle.std.specs.Prelude.{◌≡◌, ◌+◌, ◌*◌, ◌≤◌, ℕ, List, Bool, true, map, length};
 ghost use Rattle.behaviours.specs.Steps.{run};
 ghost use Rattle.addr_map.specs.Places.{MapSizes};
 ghost use Rattle.flat_meaning.specs.declared.instruction.FlatInstruction.{FlatInstruction};
@@ -14,7 +14,7 @@ ghost use Rattle.flat_routines.specs.Routine.{HasAt, Outcome, left_at};
 ghost use Rattle.flat_routines.specs.Effects.{effects, AreAllowed};
 ghost use Rattle.flat_routines.specs.Renaming.{rename, all_fit, IsRenaming, through};
 ghost use Rattle.flat_routines.specs.Lifted.{stage_of};
-ghost use Rattle.flat_routines.specs.Laws.{Arrives};
+ghost use Rattle.flat_routines.specs.Laws.{Arrives, work_of, report_length};
 
 /// A routine does from any place of any function, and over any registers, what it does alone from place 0 and over its
 /// own, in no more steps; all registers but those that it is given to write keep their values.
@@ -37,4 +37,12 @@ pub fn programs_run_their_functions()
     ensures { (m : MapSizes) (p : FlatProgram) (f : ℕ) (frames : List Frame) (n pc : ℕ) (s : State) (place : ℕ)
         (x : Outcome) → local_run (context m p f frames) (body_of (function_in p f)) n (Goes pc s) ≡ left_at place x
         → run (step m p) n (Stands f pc s frames) ≡ stage_of f frames place x }
+{}
+
+/// So many steps within a function do at most twice their weight of work, and its weight once more for each byte of a
+/// report.
+pub fn runs_do_little_work()
+    ensures { (c : Context) (code : List FlatInstruction) (n pc : ℕ) (s : State) (place : ℕ) (x : Outcome)
+        → local_run c code n (Goes pc s) ≡ left_at place x
+        → work_of x ≤ s.work + c.weight * (2 * n + report_length x) }
 {}

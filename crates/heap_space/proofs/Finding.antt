@@ -123,12 +123,12 @@ module _ (c : Context) (ok : IsLaidOut c.sizes) (lie : IsTableLaidOut c.sizes) (
       λ b t. ap (λ z. z == key) (sym is_key) ∙ ap (λ z. load 8 v.memory ((v.values 4 + 16) % 2 ^ 64) == z)
       (sym h.key_is) ∙ t in
       let v1 = effects c (Load Ld 6 4 0 ∷ []) v in
-      let v2 = effects c (Load Ld 6 4 16 ∷ []) (worked v1) in
+      let v2 = effects c (Load Ld 6 4 16 ∷ []) (worked c v1) in
       quiet_line c ok (alone c.sizes) start (Load Ld 6 4 0 ∷ []) 7 7 v 15 J shown
       (in_spaces c _ p 8 at0 lo (omega arith), tt) (has.0, tt)
       (λ s1. quiet_branch c ok (alone c.sizes) start 6 8 v1 Bne 6 (Register 0) 5 15 J has.1.0 s1
-      (λ t s2. quiet_weaken c ok (alone c.sizes) start 1 6 14 (worked v1) 15 J J (omega arith) (λ x y q. q)
-      (quiet_end c ok (alone c.sizes) start (Operate Add 4 4 (Number 32) ∷ []) 14 (worked v1) J s2 (tt, tt)
+      (λ t s2. quiet_weaken c ok (alone c.sizes) start 1 6 14 (worked c v1) 15 J J (omega arith) (λ x y q. q)
+      (quiet_end c ok (alone c.sizes) start (Operate Add 4 4 (Number 32) ∷ []) 14 (worked c v1) J s2 (tt, tt)
       (has.1.1.1.1.1.1.1.0, tt) (
         k,
         omega arith,
@@ -145,11 +145,11 @@ module _ (c : Context) (ok : IsLaidOut c.sizes) (lie : IsTableLaidOut c.sizes) (
           ends = omega arith;
         }),
       )))
-      (λ t s2. quiet_line c ok (alone c.sizes) start (Load Ld 6 4 16 ∷ []) 5 9 (worked v1) 15 J s2
+      (λ t s2. quiet_line c ok (alone c.sizes) start (Load Ld 6 4 16 ∷ []) 5 9 (worked c v1) 15 J s2
       (in_spaces c _ (p + 16) 8 at16 (omega arith) (omega arith), tt) (has.1.1.0, tt)
       (λ s3. quiet_branch c ok (alone c.sizes) start 4 10 v2 Bne 6 (Register 1) 3 15 J has.1.1.1.0 s3
-      (λ t' s4. quiet_weaken c ok (alone c.sizes) start 1 4 14 (worked v2) 15 J J (omega arith) (λ x y q. q)
-      (quiet_end c ok (alone c.sizes) start (Operate Add 4 4 (Number 32) ∷ []) 14 (worked v2) J s4 (tt, tt)
+      (λ t' s4. quiet_weaken c ok (alone c.sizes) start 1 4 14 (worked c v2) 15 J J (omega arith) (λ x y q. q)
+      (quiet_end c ok (alone c.sizes) start (Operate Add 4 4 (Number 32) ∷ []) 14 (worked c v2) J s4 (tt, tt)
       (has.1.1.1.1.1.1.1.0, tt) (
         k,
         omega arith,
@@ -168,7 +168,7 @@ module _ (c : Context) (ok : IsLaidOut c.sizes) (lie : IsTableLaidOut c.sizes) (
         }),
       )))
       (λ t' s4. quiet_end c ok (alone c.sizes) start
-      (Load Ld 2 4 8 ∷ Constant 3 1 ∷ Move 5 4 ∷ Operate Add 4 4 (Number 32) ∷ []) 11 (worked v2) J s4
+      (Load Ld 2 4 8 ∷ Constant 3 1 ∷ Move 5 4 ∷ Operate Add 4 4 (Number 32) ∷ []) 11 (worked c v2) J s4
       (in_spaces c _ (p + 8) 8 at8 (omega arith) (omega arith), (tt, (tt, (tt, tt))))
       (has.1.1.1.1.0, (has.1.1.1.1.1.0, (has.1.1.1.1.1.1.0, (has.1.1.1.1.1.1.1.0, tt)))) (
         0,
@@ -199,7 +199,7 @@ module _ (c : Context) (ok : IsLaidOut c.sizes) (lie : IsTableLaidOut c.sizes) (
         is_below (v.values 4) (v.values 5) (omega arith),
         k,
         refl,
-        λ s1. turn k (worked v) s1 (record {
+        λ s1. turn k (worked c v) s1 (record {
           at = h.at;
           cursor = h.cursor;
           end = h.end;
@@ -273,8 +273,8 @@ find_registers a k n f t = register_of (a ∷ k ∷ []) (n ∷ f ∷ []) (t ∷ 
 pub find_does : (map : MapSizes) (a k n f t : ℕ) → AreMapped map → AreNoneOf (a ∷ k ∷ []) (n ∷ f ∷ [])
     → AreDistinct (n ∷ f ∷ []) → AreBelow t (a ∷ k ∷ []) → AreBelow t (n ∷ f ∷ [])
     → IsFindRoutine map a k n f t (find_code map a k n f t (t + 1) (t + 2))
-find_does map a k n f t mapped apart distinct below results count runtime charge =
-    let c = context_of map runtime charge in
+find_does map a k n f t mapped apart distinct below results count runtime charge weight =
+    let c = context_of map runtime charge weight in
     let ok = laid_out map mapped in
     let lie = table_laid_out map mapped in
     let r : AreRegisters (a ∷ k ∷ []) (n ∷ f ∷ []) (t ∷ (t + 1) ∷ (t + 2) ∷ []) t =

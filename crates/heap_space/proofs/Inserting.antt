@@ -216,9 +216,9 @@ module _ (c : Context) (ok : IsLaidOut c.sizes) (lie : IsTableLaidOut c.sizes) (
         differ_not_taken (v.values 7) (v.values 6) (λ e. omega arith),
         k,
         refl,
-        λ s1. quiet_end c ok (alone c.sizes) start move_body 29 (worked v)
-            (λ values m'. (j : ℕ) × (j ≤ k) × I j values m') s1 (one_quiet k (worked v) h) has
-            (k, omega arith, one k (worked v) (record { values = w.values; memory = w.memory }) h),
+        λ s1. quiet_end c ok (alone c.sizes) start move_body 29 (worked c v)
+            (λ values m'. (j : ℕ) × (j ≤ k) × I j values m') s1 (one_quiet k (worked c v) h) has
+            (k, omega arith, one k (worked c v) (record { values = w.values; memory = w.memory }) h),
       )
 
   pub moves : (k : ℕ) (v : State) → IsOfWords v → ShowsNothing start v → i + k ≡ total

@@ -251,13 +251,13 @@ module _ (c : Context) (ok : IsLaidOut c.sizes) (lie : IsTableLaidOut c.sizes) (
       (has_front (alone c.sizes) 25 gap_head (test_end c.sizes) (has_25 c.sizes))
       (λ s1. quiet_branch c ok (alone c.sizes) v (11 * total + 10) 27 t Bltu 3 (Register 9) (length (insert c.sizes)) 48
       J (has_27 c.sizes).0 s1
-      (λ e s2. quiet_arrived c ok (alone c.sizes) v (11 * total + 10) 48 48 (worked t) J refl (
+      (λ e s2. quiet_arrived c ok (alone c.sizes) v (11 * total + 10) 48 48 (worked c t) J refl (
         s2,
         nothing_placed c.sizes m (v.values 0) (v.values 1) (s.values 2) s.memory g
             (too_high (region_start c.sizes Heap) (region_end c.sizes Heap) c.sizes.budgets.blocks (v.values 0)
             (block_rows c.sizes m) (let l = if_less _ _ e in omega arith)) null q.same,
       ))
-      (λ e s2. inserts (worked t) (worked_words t (quiet_words c gap_head s (tt, (tt, tt)) ws)) s2
+      (λ e s2. inserts (worked c t) (worked_words c t (quiet_words c gap_head s (tt, (tt, tt)) ws)) s2
       (record {
         holds = record {
           size_is = q.size_is;
@@ -328,22 +328,22 @@ module _ (c : Context) (ok : IsLaidOut c.sizes) (lie : IsTableLaidOut c.sizes) (
       let rest = total * (7 + 2) + 1 + (2 + suc (11 * total + 10)) in
       let t = effects c (place_head c.sizes) v in
       let quiet : AreQuiet c (place_head c.sizes) v = (tt, (tt, tt)) in
-      let wt = worked_words t (quiet_words c (place_head c.sizes) v quiet w) in
+      let wt = worked_words c t (quiet_words c (place_head c.sizes) v quiet w) in
       let last_is : region_last c.sizes Heap % 2 ^ 64 ≡ region_last c.sizes Heap = omega arith in
       let low = gap_most (region_start c.sizes Heap) (region_end c.sizes Heap) room (block_rows c.sizes m) g.in_order in
       let blocks : c.sizes.budgets.blocks % 2 ^ 64 ≡ c.sizes.budgets.blocks = omega arith in
       let cell : (region_start c.sizes Blocks % 2 ^ 64 + 0) % 2 ^ 64 ≡ total_cell c.sizes = omega arith in
       let at : region_start c.sizes Blocks % 2 ^ 64 ≡ total_cell c.sizes = omega arith in
       let got : load 8 m ((region_start c.sizes Blocks % 2 ^ 64 + 0) % 2 ^ 64) ≡ total = ap (load 8 m) cell in
-      let u = effects c (count_head c.sizes) (worked t) in
-      let quiet' : AreQuiet c (count_head c.sizes) (worked t) =
+      let u = effects c (count_head c.sizes) (worked c t) in
+      let quiet' : AreQuiet c (count_head c.sizes) (worked c t) =
       (tt, (tt, (tt, (tt, (tt, (tt, (in_spaces c _ (total_cell c.sizes) 8 cell (omega arith) (omega arith), tt))))))) in
       quiet_weaken c ok (alone c.sizes) v (2 + suc (7 + suc (5 + rest))) (32 + 20 * total) 0 v 48 J J (omega arith)
       (λ x y z. z)
       (quiet_line c ok (alone c.sizes) v (place_head c.sizes) (suc (7 + suc (5 + rest))) 0 v 48 J (shows_itself v) quiet
       (has_0 c.sizes)
       (λ s1. quiet_branch c ok (alone c.sizes) v (7 + suc (5 + rest)) 2 t Bltu 3 (Register 0) 45 48 J (has_2 c.sizes).0 s1
-      (λ e s2. quiet_arrived c ok (alone c.sizes) v (7 + suc (5 + rest)) 48 48 (worked t) J refl (
+      (λ e s2. quiet_arrived c ok (alone c.sizes) v (7 + suc (5 + rest)) 48 48 (worked c t) J refl (
         s2,
         nothing_placed c.sizes m (v.values 0) (v.values 1) 0 m g
             (too_high (region_start c.sizes Heap) (region_end c.sizes Heap) c.sizes.budgets.blocks (v.values 0)
@@ -351,17 +351,17 @@ module _ (c : Context) (ok : IsLaidOut c.sizes) (lie : IsTableLaidOut c.sizes) (
       ))
       (λ e s2.
       let small : v.values 0 ≤ region_last c.sizes Heap = (let l = if_not_less _ _ e in omega arith) in
-      quiet_line c ok (alone c.sizes) v (count_head c.sizes) (suc (5 + rest)) 3 (worked t) 48 J s2 quiet' (has_3 c.sizes)
+      quiet_line c ok (alone c.sizes) v (count_head c.sizes) (suc (5 + rest)) 3 (worked c t) 48 J s2 quiet' (has_3 c.sizes)
       (λ s3. quiet_branch c ok (alone c.sizes) v (5 + rest) 10 u Bgeu 7 (Number c.sizes.budgets.blocks) 37 48 J
       (has_10 c.sizes).0 s3
-      (λ e' s4. quiet_arrived c ok (alone c.sizes) v (5 + rest) 48 48 (worked u) J refl (
+      (λ e' s4. quiet_arrived c ok (alone c.sizes) v (5 + rest) 48 48 (worked c u) J refl (
         s4,
         nothing_placed c.sizes m (v.values 0) (v.values 1) 0 m g
             (too_many (region_start c.sizes Heap) (region_end c.sizes Heap) c.sizes.budgets.blocks (v.values 0)
             (block_rows c.sizes m)
             (let l = if_not_below _ _ e' in let n = rows_length m (row_cell c.sizes 0) total in omega arith)) refl refl,
       ))
-      (λ e' s4. seeks_gap (worked u) (worked_words u (quiet_words c (count_head c.sizes) (worked t) quiet' wt)) s4 refl
+      (λ e' s4. seeks_gap (worked c u) (worked_words c u (quiet_words c (count_head c.sizes) (worked c t) quiet' wt)) s4 refl
       refl refl last_is (room_rounded (v.values 0) (omega arith)) at got refl
       (let l = if_below _ _ e' in omega arith) small)))))
 
@@ -373,8 +373,8 @@ pub place_does : (map : MapSizes) (a k o t : ℕ) → AreMapped map → AreNoneO
     → AreBelow t (a ∷ k ∷ []) → AreBelow t (o ∷ [])
     → IsPlaceRoutine map a k o t
     (place_code map a k o t (t + 1) (t + 2) (t + 3) (t + 4) (t + 5) (t + 6) (t + 7))
-place_does map a k o t mapped apart below results count runtime charge =
-    let c = context_of map runtime charge in
+place_does map a k o t mapped apart below results count runtime charge weight =
+    let c = context_of map runtime charge weight in
     let ok = laid_out map mapped in
     let lie = table_laid_out map mapped in
     let own = t ∷ (t + 1) ∷ (t + 2) ∷ (t + 3) ∷ (t + 4) ∷ (t + 5) ∷ (t + 6) ∷ (t + 7) ∷ [] in

@@ -212,7 +212,7 @@ module _ (c : Context) (ok : IsLaidOut c.sizes) (lie : IsTableLaidOut c.sizes) (
         differ_not_taken (v.values 3) (v.values 0) ne,
         k,
         refl,
-        λ s1. seek_turn k (worked v) s1 h ne has,
+        λ s1. seek_turn k (worked c v) s1 h ne has,
       ))
       (cases_eq (v.values 3) (v.values 0))
 
@@ -327,9 +327,9 @@ module _ (c : Context) (ok : IsLaidOut c.sizes) (lie : IsTableLaidOut c.sizes) (
         differ_not_taken (v.values 1) (v.values 2) (λ e. omega arith),
         k,
         refl,
-        λ s1. quiet_end c ok (alone c.sizes) start move_body 12 (worked v)
-            (λ values m'. (j : ℕ) × (j ≤ k) × Moving c m i left j values m') s1 (down_quiet k (worked v) h) has
-            (k, omega arith, down_one k (worked v) (record { values = w.values; memory = w.memory }) h),
+        λ s1. quiet_end c ok (alone c.sizes) start move_body 12 (worked c v)
+            (λ values m'. (j : ℕ) × (j ≤ k) × Moving c m i left j values m') s1 (down_quiet k (worked c v) h) has
+            (k, omega arith, down_one k (worked c v) (record { values = w.values; memory = w.memory }) h),
       )
 
 -- ---- the memory with one row less
@@ -561,8 +561,8 @@ release_registers a t = register_of (a ∷ []) [] (t ∷ (t + 1) ∷ (t + 2) ∷
 
 pub release_does : (map : MapSizes) (a t : ℕ) → AreMapped map → AreBelow t (a ∷ [])
     → IsReleaseRoutine map a t (release_code map a t (t + 1) (t + 2))
-release_does map a t mapped below count runtime charge =
-    let c = context_of map runtime charge in
+release_does map a t mapped below count runtime charge weight =
+    let c = context_of map runtime charge weight in
     let ok = laid_out map mapped in
     let lie = table_laid_out map mapped in
     let r : AreRegisters (a ∷ []) [] (t ∷ (t + 1) ∷ (t + 2) ∷ []) t =

@@ -153,8 +153,8 @@ module _ (c : Context) (ok : IsLaidOut c.sizes) (lie : IsTableLaidOut c.sizes) (
       quiet_line c ok (alone c.sizes) start (Load Ld 9 6 0 ∷ Operate Add 10 5 (Register 4) ∷ []) 5 17 v 24 J shown
       (in_spaces c _ p 8 at0 (omega arith) (omega arith), (tt, tt)) (has.0, (has.1.0, tt))
       (λ s1. quiet_branch c ok (alone c.sizes) start 4 19 v1 Bgeu 9 (Register 10) 3 24 J has.1.1.0 s1
-      (λ t s2. quiet_weaken c ok (alone c.sizes) start 1 4 23 (worked v1) 24 J J (omega arith) (λ x y z. z)
-      (quiet_end c ok (alone c.sizes) start (Move 8 6 ∷ []) 23 (worked v1) J s2 (tt, tt) (has.1.1.1.1.1.1.0, tt) (
+      (λ t s2. quiet_weaken c ok (alone c.sizes) start 1 4 23 (worked c v1) 24 J J (omega arith) (λ x y z. z)
+      (quiet_end c ok (alone c.sizes) start (Move 8 6 ∷ []) 23 (worked c v1) J s2 (tt, tt) (has.1.1.1.1.1.1.0, tt) (
         0,
         omega arith,
         inr (
@@ -184,12 +184,12 @@ module _ (c : Context) (ok : IsLaidOut c.sizes) (lie : IsTableLaidOut c.sizes) (
             }),
       )))
       (λ t s2. quiet_line c ok (alone c.sizes) start (Load Ld 5 6 24 ∷ Operate Add 6 6 (Number 32) ∷ []) 2 20
-      (worked v1) 24 J s2 (in_spaces c _ (p + 24) 8 at24 (omega arith) (omega arith), (tt, tt))
+      (worked c v1) 24 J s2 (in_spaces c _ (p + 24) 8 at24 (omega arith) (omega arith), (tt, tt))
       (has.1.1.1.0, (has.1.1.1.1.0, tt))
       (λ s3. quiet_jump c ok (alone c.sizes) start 1 22 1
-      (effects c (Load Ld 5 6 24 ∷ Operate Add 6 6 (Number 32) ∷ []) (worked v1)) 24 J has.1.1.1.1.1.0 s3
+      (effects c (Load Ld 5 6 24 ∷ Operate Add 6 6 (Number 32) ∷ []) (worked c v1)) 24 J has.1.1.1.1.1.0 s3
       (λ s4. quiet_arrived c ok (alone c.sizes) start 1 24 24
-      (worked (effects c (Load Ld 5 6 24 ∷ Operate Add 6 6 (Number 32) ∷ []) (worked v1))) J refl (
+      (worked c (effects c (Load Ld 5 6 24 ∷ Operate Add 6 6 (Number 32) ∷ []) (worked c v1))) J refl (
         s4,
         (
           k,
@@ -244,7 +244,7 @@ module _ (c : Context) (ok : IsLaidOut c.sizes) (lie : IsTableLaidOut c.sizes) (
       inr (not_below (v.values 6) (v.values 8) (omega arith), behind_all v h)
   each (suc k) v shown (inl h) has whole =
       let d = h.stop in let e = h.cursor in let z = h.count in
-      inl (is_below (v.values 6) (v.values 8) (omega arith), k, refl, λ s1. turn k (worked v) s1 h has)
+      inl (is_below (v.values 6) (v.values 8) (omega arith), k, refl, λ s1. turn k (worked c v) s1 h has)
 
   pub seeks : (v : State) → IsOfWords v → ShowsNothing start v
       → Seeking c m size key n gap (block_total c.sizes m) v.values v.memory

@@ -163,8 +163,8 @@ release_registers lock t = register_of (lock ∷ []) [] (t ∷ (t + 1) ∷ (t + 
 
 pub release_does : (map : MapSizes) (lock t : ℕ) → AreMapped map → AreBelow t (lock ∷ [])
     → IsReleaseRoutine map lock t (release_code map lock t (t + 1) (t + 2))
-release_does map lock t mapped below runtime charge =
-    let c = context_of map runtime charge in
+release_does map lock t mapped below runtime charge weight =
+    let c = context_of map runtime charge weight in
     let ok = laid_out map mapped in
     let lie = locks_laid_out map mapped in
     let r : AreRegisters (lock ∷ []) [] (t ∷ (t + 1) ∷ (t + 2) ∷ []) t =

@@ -90,8 +90,8 @@ next_registers key t = register_of [] (key ∷ []) (t ∷ [])
 
 pub next_does : (map : MapSizes) (key t : ℕ) → AreMapped map → AreBelow t (key ∷ [])
     → IsNextRoutine map key t (next_code map key t)
-next_does map key t mapped below runtime charge =
-    let c = context_of map runtime charge in
+next_does map key t mapped below runtime charge weight =
+    let c = context_of map runtime charge weight in
     let ok = laid_out map mapped in
     let lie = locks_laid_out map mapped in
     let r : AreRegisters [] (key ∷ []) (t ∷ []) t =
@@ -318,8 +318,8 @@ found_of s m lie can =
 
 pub fresh_does : (map : MapSizes) (key lock t : ℕ) → AreMapped map → AreDistinct (key ∷ lock ∷ [])
     → AreBelow t (key ∷ lock ∷ []) → IsFreshRoutine map key lock t (fresh_code map key lock t (t + 1))
-fresh_does map key lock t mapped distinct below runtime charge =
-    let c = context_of map runtime charge in
+fresh_does map key lock t mapped distinct below runtime charge weight =
+    let c = context_of map runtime charge weight in
     let ok = laid_out map mapped in
     let lie = locks_laid_out map mapped in
     let r : AreRegisters [] (key ∷ lock ∷ []) (t ∷ (t + 1) ∷ []) t =

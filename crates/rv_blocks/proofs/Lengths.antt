@@ -1,7 +1,8 @@
 -- How many instructions the blocks have at most.
 use Rattle.std.proofs.Common.{◌≡◌, ℕ, zero, suc, ◌+◌, ◌-◌, ◌*◌, ◌/◌, ◌%◌, ◌^◌, ◌<◌, ◌≤◌, List, [], ◌∷◌, ◌++◌, length}
-use Rattle.std.proofs.Common.{Bool, true, false, arith, length-append}
-use Rattle.std.proofs.lemmas.Bool.{lt-ltb}
+use Rattle.std.proofs.Common.{◌⊎◌, inl, inr, ⊎_elim, Bool, true, false, refl, sym, ◌∙◌, subst, arith, length-append}
+use Rattle.std.proofs.lemmas.Bool.{lt-ltb, le-leb, leb-true, false≢true}
+use Rattle.words.specs.TwosComplement.{low_bits}
 use Rattle.std.specs.Prelude.{nat_lt, nat_le, if◌then◌else◌}
 use Rattle.rv_isa.specs.declared.instruction.Instr.{Instr}
 use Rattle.rv_isa.specs.declared.instruction.Instr.TheVariants.{ShiftImm, OpImm}
@@ -12,7 +13,8 @@ use Rattle.flat_meaning.specs.declared.instruction.RightOperand.TheVariants as r
 use Rattle.rv_blocks.specs.declared.location.Location.{Location}
 use Rattle.rv_blocks.specs.declared.location.Location.TheVariants.{Register, Frame}
 use Rattle.rv_blocks.specs.Blocks.{wide, digits, constant, load_at, store_at, fetch, keep, fetch_right, operands}
-use Rattle.rv_blocks.specs.Blocks.{report_bytes}
+use Rattle.rv_blocks.specs.Blocks.{report_bytes, IsShort, RightIsShort}
+use Rattle.rv_blocks.specs.Effects.{IsIn, RightIsIn}
 
 choice : (b : Bool) (is js : List Instr) (n : ℕ) → length is ≤ n → length js ≤ n → length (if b then is else js) ≤ n
 choice true is js n h k = h
@@ -34,19 +36,35 @@ constant_length rd n =
     let d = digits_length 5 rd n in
     choice (nat_lt n (2 ^ 11)) _ _ 11 (omega arith)
     (choice (nat_le (2 ^ 64 - 2 ^ 11) n) _ _ 11 (omega arith)
-    (choice (nat_lt n (2 ^ 31 - 2 ^ 11)) _ (digits 5 rd n) 11 (omega arith) (omega arith)))
+    (choice (nat_lt n (2 ^ 31 - 2 ^ 11)) _ _ 11 (omega arith)
+    (choice (nat_le (2 ^ 64 - 2 ^ 31) n) _ (digits 5 rd n) 11 (omega arith) (omega arith))))
 
--- what is below 2 ^ 31 - 2 ^ 11 takes two
-pub short_constant_length : (rd n : ℕ) → n < 2 ^ 31 - 2 ^ 11 → length (constant rd n) ≤ 2
+-- a number of 32 bits with its sign takes two
+pub short_constant_length : (rd n : ℕ) → IsShort n → length (constant rd n) ≤ 2
 unfolding constant
-short_constant_length rd n small = by (nat_lt n (2 ^ 31 - 2 ^ 11)) (lt-ltb n (2 ^ 31 - 2 ^ 11) small)
+short_constant_length rd n small = by (nat_lt n (2 ^ 31 - 2 ^ 11)) (nat_le (2 ^ 64 - 2 ^ 31) n) (⊎_elim
+    (λ l. inl (lt-ltb n (2 ^ 31 - 2 ^ 11) l))
+    (λ g. inr (le-leb (2 ^ 64 - 2 ^ 31) n g.0))
+    small)
   where
-    by : (b : Bool) → b ≡ true → length (if nat_lt n (2 ^ 11) then OpImm Addi rd 0 (n % 2 ^ 12) ∷ [] else (
+    by : (b d : Bool) → (b ≡ true) ⊎ (d ≡ true)
+        → length (if nat_lt n (2 ^ 11) then OpImm Addi rd 0 (n % 2 ^ 12) ∷ [] else (
         if nat_le (2 ^ 64 - 2 ^ 11) n then OpImm Addi rd 0 (n % 2 ^ 12) ∷ [] else (
-        if b then wide rd n else digits 5 rd n))) ≤ 2
-    by true e = choice (nat_lt n (2 ^ 11)) _ _ 2 (omega arith)
+        if b then wide rd n else (if d then wide rd n else digits 5 rd n)))) ≤ 2
+    by true d e = choice (nat_lt n (2 ^ 11)) _ _ 2 (omega arith)
         (choice (nat_le (2 ^ 64 - 2 ^ 11) n) _ (wide rd n) 2 (omega arith) (omega arith))
-    by false e = cc
+    by false true e = choice (nat_lt n (2 ^ 11)) _ _ 2 (omega arith)
+        (choice (nat_le (2 ^ 64 - 2 ^ 11) n) _ (wide rd n) 2 (omega arith) (omega arith))
+    by false false e = ⊎_elim (λ f. absurd (false≢true f)) (λ f. absurd (false≢true f)) e
+
+-- the same of the 64 bits of one
+pub short_bits_length : (rd n : ℕ) → IsShort n → length (constant rd (low_bits 64 n)) ≤ 2
+short_bits_length rd n small =
+    let same : low_bits 64 n ≡ n = omega (arith, below) in
+    subst (λ k. length (constant rd k) ≤ 2) (sym same) (short_constant_length rd n small)
+  where
+    below : n < 2 ^ 64
+    below = ⊎_elim (λ l. omega (arith, l)) (λ g. g.1) small
 
 pub load_length : (rd base o : ℕ) → length (load_at rd base o) ≤ 3
 unfolding load_at
@@ -72,6 +90,64 @@ pub operands_length : (place : ℕ → Location) (base y : ℕ) (z : RightOperan
 operands_length place base y z =
     let a = fetch_length (place y) base 5 in
     let b = fetch_right_length place base z in
+    let whole = length-append (fetch (place y) base 5) (fetch_right place base z) in
+    omega arith
+
+-- How many instructions reach a home in a record of so many bytes: one where the offsets of loads and stores do, of
+-- which that of the last word is eight less than the bytes.
+abbrev pub home_reach : (room : ℕ) → ℕ
+home_reach room = if nat_le room (2 ^ 11) then 1 else 3
+
+near_by : (b : Bool) (is js : List Instr) (room o : ℕ) → nat_lt o (2 ^ 11) ≡ b → o + 8 ≤ room → length is ≤ 1
+    → length js ≤ 3 → length (if b then is else js) ≤ home_reach room
+near_by b is js room o e le one three = by b (nat_le room (2 ^ 11)) e refl
+  where
+    by : (b c : Bool) → nat_lt o (2 ^ 11) ≡ b → nat_le room (2 ^ 11) ≡ c
+        → length (if b then is else js) ≤ (if c then 1 else 3)
+    by true true p q = one
+    by true false p q = omega arith
+    by false true p q =
+        let l = leb-true room (2 ^ 11) q in
+        absurd (false≢true (sym p ∙ lt-ltb o (2 ^ 11) (omega arith)))
+    by false false p q = three
+
+pub load_reach : (room rd base o : ℕ) → o + 8 ≤ room → length (load_at rd base o) ≤ home_reach room
+unfolding load_at
+load_reach room rd base o le = near_by (nat_lt o (2 ^ 11)) _ _ room o refl le (omega arith) (omega arith)
+
+pub store_reach : (room from base o : ℕ) → o + 8 ≤ room → length (store_at from base o) ≤ home_reach room
+unfolding store_at
+store_reach room from base o le = near_by (nat_lt o (2 ^ 11)) _ _ room o refl le (omega arith) (omega arith)
+
+pub fetch_reach : (room : ℕ) (x : Location) (base t : ℕ) → IsIn room x → length (fetch x base t) ≤ home_reach room
+fetch_reach room (Register r) base t h = omega arith
+fetch_reach room (Frame o) base t h = load_reach room t base o h.1
+
+pub keep_reach : (room : ℕ) (x : Location) (base t : ℕ) → IsIn room x → length (keep x base t) ≤ home_reach room
+keep_reach room (Register r) base t h = omega arith
+keep_reach room (Frame o) base t h = store_reach room t base o h.1
+
+some_reach : (room : ℕ) → 1 ≤ home_reach room
+some_reach room = by (nat_le room (2 ^ 11))
+  where
+    by : (b : Bool) → 1 ≤ (if b then 1 else 3)
+    by true = omega arith
+    by false = omega arith
+
+-- a right operand takes one instruction more where it is a number of 32 bits
+pub fetch_right_reach : (room : ℕ) (place : ℕ → Location) (base : ℕ) (z : RightOperand) → RightIsIn room place z
+    → RightIsShort z → length (fetch_right place base z) ≤ home_reach room + 1
+fetch_right_reach room place base (right.Register z) inside short =
+    let r = fetch_reach room (place z) base 6 inside in omega arith
+fetch_right_reach room place base (right.Number n) inside short =
+    let c = short_bits_length 6 n short in let r = some_reach room in omega arith
+
+pub operands_reach : (room : ℕ) (place : ℕ → Location) (base y : ℕ) (z : RightOperand) → IsIn room (place y)
+    → RightIsIn room place z → RightIsShort z
+    → length (operands place base y z) ≤ 2 * home_reach room + 1
+operands_reach room place base y z left inside short =
+    let a = fetch_reach room (place y) base 5 left in
+    let b = fetch_right_reach room place base z inside short in
     let whole = length-append (fetch (place y) base 5) (fetch_right place base z) in
     omega arith
 

@@ -83,6 +83,27 @@ parts n b l h = by (nat_le (2 ^ 11) (n % 2 ^ 12)) refl
     by true e = let k = leb-true (2 ^ 11) (n % 2 ^ 12) e in rw (low, e) (omega arith)
     by false e = let k = leb-false (2 ^ 11) (n % 2 ^ 12) e in rw (low, e) (omega arith)
 
+-- the same of a negative number of 32 bits
+high_parts : (n : ℕ) → 2 ^ 64 - 2 ^ 31 ≤ n → n < 2 ^ 64
+    → wrap (sext 32 (upper n * 2 ^ 12) + sext 12 (lower n)) ≡ n
+high_parts n least small =
+    by (nat_le (2 ^ 31) ((n + 2 ^ 11) / 2 ^ 12 % 2 ^ 20 * 2 ^ 12)) (nat_le (2 ^ 11) (n % 2 ^ 12)) refl refl
+  where
+    by : (b c : Bool) → nat_le (2 ^ 31) ((n + 2 ^ 11) / 2 ^ 12 % 2 ^ 20 * 2 ^ 12) ≡ b
+        → nat_le (2 ^ 11) (n % 2 ^ 12) ≡ c → wrap (sext 32 (upper n * 2 ^ 12) + sext 12 (lower n)) ≡ n
+    by true true p q =
+        let l = leb-true (2 ^ 31) ((n + 2 ^ 11) / 2 ^ 12 % 2 ^ 20 * 2 ^ 12) p in
+        let k = leb-true (2 ^ 11) (n % 2 ^ 12) q in rw (p, q) (omega arith)
+    by true false p q =
+        let l = leb-true (2 ^ 31) ((n + 2 ^ 11) / 2 ^ 12 % 2 ^ 20 * 2 ^ 12) p in
+        let k = leb-false (2 ^ 11) (n % 2 ^ 12) q in rw (p, q) (omega arith)
+    by false true p q =
+        let l = leb-false (2 ^ 31) ((n + 2 ^ 11) / 2 ^ 12 % 2 ^ 20 * 2 ^ 12) p in
+        let k = leb-true (2 ^ 11) (n % 2 ^ 12) q in rw (p, q) (omega arith)
+    by false false p q =
+        let l = leb-false (2 ^ 31) ((n + 2 ^ 11) / 2 ^ 12 % 2 ^ 20 * 2 ^ 12) p in
+        let k = leb-false (2 ^ 11) (n % 2 ^ 12) q in rw (p, q) (omega arith)
+
 -- ---- scratch registers
 
 pub saved_apart : (r : ℕ) → IsSaved r → IsNoScratch r
@@ -111,23 +132,28 @@ module _ (o s : ℕ) where
     accesses = no_access v.accesses v.pc;
   }
 
-  pub wide_gives : (rd n : ℕ) (v : View) → rd ≢ 0 → n < 2 ^ 31 - 2 ^ 11 → Gives o s (wide rd n) v rd n
+  wide_makes : (rd n : ℕ) (v : View) → rd ≢ 0 → wrap (sext 32 (upper n * 2 ^ 12) + sext 12 (lower n)) ≡ n
+      → Gives o s (wide rd n) v rd n
   unfolding imm_result
-  wide_gives rd n v ne l =
+  wide_makes rd n v ne p =
       let up = sext 32 (upper n * 2 ^ 12) in
       let x1 = with_value v.registers rd up in
-      let n0 : n + 0 ≡ n = omega arith in
-      let p : wrap (wrap (up + 0) + sext 12 (lower n)) ≡ n + 0 = parts n 0 l (omega (arith, l)) in
-      let first : wrap (up + 0) ≡ up = by_size n l in
       record {
         go = (tt, (tt, tt));
         pc = (let e : v.pc + 4 + 4 ≡ v.pc + 4 * 2 = omega arith in e);
         value = with_same x1 rd (wrap (x1 rd + sext 12 (lower n))) ne
-            ∙ ap (λ q. wrap (q + sext 12 (lower n))) (with_same v.registers rd up ne ∙ sym first) ∙ p ∙ n0;
+            ∙ ap (λ q. wrap (q + sext 12 (lower n))) (with_same v.registers rd up ne) ∙ p;
         others = λ r a. with_other x1 rd (wrap (x1 rd + sext 12 (lower n))) r a ∙ with_other v.registers rd up r a;
         memory = refl;
         accesses = no_access (v.accesses ++ accesses_by v.pc None) (v.pc + 4) ∙ no_access v.accesses v.pc;
       }
+
+  pub wide_gives : (rd n : ℕ) (v : View) → rd ≢ 0 → n < 2 ^ 31 - 2 ^ 11 → Gives o s (wide rd n) v rd n
+  wide_gives rd n v ne l =
+      let up = sext 32 (upper n * 2 ^ 12) in
+      let n0 : n + 0 ≡ n = omega arith in
+      let p : wrap (wrap (up + 0) + sext 12 (lower n)) ≡ n + 0 = parts n 0 l (omega (arith, l)) in
+      wide_makes rd n v ne (ap (λ q. wrap (q + sext 12 (lower n))) (sym (by_size n l)) ∙ p ∙ n0)
     where
       by_size : (k : ℕ) → k < 2 ^ 31 - 2 ^ 11
           → wrap (sext 32 (upper k * 2 ^ 12) + 0) ≡ sext 32 (upper k * 2 ^ 12)
@@ -183,21 +209,24 @@ module _ (o s : ℕ) where
       → Gives o s (constant rd n) v rd n
   unfolding constant
   constant_gives rd n v ne z small = by (nat_lt n (2 ^ 11)) (nat_le (2 ^ 64 - 2 ^ 11) n) (nat_lt n (2 ^ 31 - 2 ^ 11))
-      refl refl refl
+      (nat_le (2 ^ 64 - 2 ^ 31) n) refl refl refl refl
     where
-      by : (a b c : Bool) → nat_lt n (2 ^ 11) ≡ a → nat_le (2 ^ 64 - 2 ^ 11) n ≡ b → nat_lt n (2 ^ 31 - 2 ^ 11) ≡ c
+      by : (a b c d : Bool) → nat_lt n (2 ^ 11) ≡ a → nat_le (2 ^ 64 - 2 ^ 11) n ≡ b → nat_lt n (2 ^ 31 - 2 ^ 11) ≡ c
+          → nat_le (2 ^ 64 - 2 ^ 31) n ≡ d
           → Gives o s (if a then OpImm Addi rd 0 (n % 2 ^ 12) ∷ [] else (
           if b then OpImm Addi rd 0 (n % 2 ^ 12) ∷ [] else (
-          if c then wide rd n else digits 5 rd n))) v rd n
-      by true b c p q t =
+          if c then wide rd n else (if d then wide rd n else digits 5 rd n)))) v rd n
+      by true b c d p q t u =
           let l = ltb-true n (2 ^ 11) p in
           one_constant rd n (n % 2 ^ 12) v ne z (ap wrap (small_sext (n % 2 ^ 12) (omega arith)) ∙ omega arith)
-      by false true c p q t =
+      by false true c d p q t u =
           let l = leb-true (2 ^ 64 - 2 ^ 11) n q in
           let high : nat_le (2 ^ 11) (n % 2 ^ 12) ≡ true = le-leb (2 ^ 11) (n % 2 ^ 12) (omega arith) in
           one_constant rd n (n % 2 ^ 12) v ne z (rw high (omega arith))
-      by false false true p q t = wide_gives rd n v ne (ltb-true n (2 ^ 31 - 2 ^ 11) t)
-      by false false false p q t = digits_give 5 rd n v ne z (omega arith) small
+      by false false true d p q t u = wide_gives rd n v ne (ltb-true n (2 ^ 31 - 2 ^ 11) t)
+      by false false false true p q t u =
+          wide_makes rd n v ne (high_parts n (leb-true (2 ^ 64 - 2 ^ 31) n u) small)
+      by false false false false p q t u = digits_give 5 rd n v ne z (omega arith) small
 
   -- ---- words of memory
 

@@ -1,5 +1,5 @@
 -- The machine's instructions for the instructions of flat code.
-use Rattle.std.specs.Prelude.{ℕ, zero, suc, ◌+◌, ◌-◌, ◌/◌, ◌%◌, ◌^◌, nat_lt, nat_le, if◌then◌else◌, List, [], ◌∷◌, ◌++◌}
+use Rattle.std.specs.Prelude.{ℕ, zero, suc, ◌+◌, ◌-◌, ◌/◌, ◌%◌, ◌^◌, ◌<◌, ◌≤◌, ◌⊎◌, nat_lt, nat_le, if◌then◌else◌, List, [], ◌∷◌, ◌++◌}
 use Rattle.words.specs.TwosComplement.{low_bits}
 use Rattle.rv_isa.specs.declared.instruction.LoadOp.TheVariants.{Ld, Lbu}
 use Rattle.rv_isa.specs.declared.instruction.StoreOp.TheVariants.{Sb, Sd}
@@ -37,13 +37,22 @@ digits (suc k) rd n =
     then OpImm Addi rd 0 (n % 2 ^ 11) ∷ []
     else digits k rd (n / 2 ^ 11) ++ (ShiftImm Slli rd rd 11 ∷ OpImm Addi rd rd (n % 2 ^ 11) ∷ [])
 
--- a number in a register: one instruction for -2048 to 2047, two for what is below 2 ^ 31 - 2 ^ 11, and else at most
+-- a number in a register: one instruction for -2048 to 2047, two for -2 ^ 31 to 2 ^ 31 - 2 ^ 11 - 1, and else at most
 -- eleven
 unfoldable pub constant : (rd n : ℕ) → List Instr
 constant rd n =
     if nat_lt n (2 ^ 11) then OpImm Addi rd 0 (n % 2 ^ 12) ∷ [] else (
     if nat_le (2 ^ 64 - 2 ^ 11) n then OpImm Addi rd 0 (n % 2 ^ 12) ∷ [] else (
-    if nat_lt n (2 ^ 31 - 2 ^ 11) then wide rd n else digits 5 rd n))
+    if nat_lt n (2 ^ 31 - 2 ^ 11) then wide rd n else (
+    if nat_le (2 ^ 64 - 2 ^ 31) n then wide rd n else digits 5 rd n)))
+
+-- a number of 32 bits with its sign, which LUI and ADDI make
+abbrev pub IsShort : ℕ → Type 0
+IsShort n = (n < 2 ^ 31 - 2 ^ 11) ⊎ ((2 ^ 64 - 2 ^ 31 ≤ n) × (n < 2 ^ 64))
+
+abbrev pub RightIsShort : RightOperand → Type 0
+RightIsShort (right.Register z) = Unit {0}
+RightIsShort (right.Number n) = IsShort n
 
 -- ---- words of memory
 

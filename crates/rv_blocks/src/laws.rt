@@ -10,17 +10,17 @@ ghost use Rattle.flat_meaning.specs.State.{Values};
 ghost use Rattle.flat_meaning.specs.Meaning.{right_value};
 ghost use Rattle.rv_view.specs.Views.{View};
 ghost use Rattle.rv_blocks.specs.declared.location.Location.{Location};
-ghost use Rattle.rv_blocks.specs.Blocks.{constant, load_at, store_at, used, used_right, keep, operands};
+ghost use Rattle.rv_blocks.specs.Blocks.{IsShort, constant, load_at, store_at, used, used_right, keep, operands};
 ghost use Rattle.rv_blocks.specs.Effects.{IsIn, IsOfSpaces, kept, Gives, Stores, Puts, HasFrame, RightIsIn};
 ghost use Rattle.rv_blocks.specs.Effects.{RightIsKept};
 
 /// A constant comes to its register, and nothing else changes. It takes at most eleven instructions, and at most two
-/// where it is below 2^31 - 2^11.
+/// where it has 32 bits with its sign.
 pub fn constants_come_to_registers()
     ensures gives { (o s rd n : ℕ) (v : View) → rd ≢ 0 → v.registers 0 ≡ 0 → n < 2 ^ 64
         → Gives o s (constant rd n) v rd n }
     ensures few { (rd n : ℕ) → length (constant rd n) ≤ 11 }
-    ensures fewer { (rd n : ℕ) → n < 2 ^ 31 - 2 ^ 11 → length (constant rd n) ≤ 2 }
+    ensures fewer { (rd n : ℕ) → IsShort n → length (constant rd n) ≤ 2 }
 {}
 
 /// A word of the runtime's spaces is loaded and stored at any offset, by at most three instructions.

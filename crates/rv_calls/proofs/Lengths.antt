@@ -1,6 +1,6 @@
 -- How many instructions the blocks of calls and returns have at most: each of the eleven registers is saved once.
 use Rattle.std.proofs.Common.{◌≡◌, ℕ, zero, suc, ◌+◌, ◌-◌, ◌*◌, ◌^◌, ◌<◌, ◌≤◌, List, [], ◌∷◌, ◌++◌, length}
-use Rattle.std.proofs.Common.{Bool, true, false, refl, sym, ap, ◌∙◌, subst, arith, ⊎_elim, length-append, true≢false}
+use Rattle.std.proofs.Common.{inl, Bool, true, false, refl, sym, ap, ◌∙◌, subst, arith, ⊎_elim, length-append, true≢false}
 use Rattle.std.specs.Prelude.{nat_eq, ◌&&◌, if◌then◌else◌}
 use Rattle.std.proofs.lemmas.Bool.{cases_eq, eq-eqb, eqb-true, and_parts, cases_Bool}
 use Rattle.rv_isa.specs.declared.instruction.RegOp.TheVariants.{Add, Sub}
@@ -229,12 +229,12 @@ restore_length room k wanted n own =
 
 pub advance_length : (k : Keeping) → k.room < 2 ^ 31 - 2 ^ 11 → length (advance k) ≤ 3
 advance_length k small =
-    let c = short_constant_length 6 k.room small in
+    let c = short_constant_length 6 k.room (inl small) in
     let a = length-append (constant 6 k.room) (Op Add k.base k.base 6 ∷ []) in omega arith
 
 pub retreat_length : (k : Keeping) → k.room < 2 ^ 31 - 2 ^ 11 → length (retreat k) ≤ 3
 retreat_length k small =
-    let c = short_constant_length 6 k.room small in
+    let c = short_constant_length 6 k.room (inl small) in
     let a = length-append (constant 6 k.room) (Op Sub k.base k.base 6 ∷ []) in omega arith
 
 pub return_length : (k : Keeping) (from n : ℕ) → length (return_block k from n) ≤ 6 * n + 3

@@ -221,7 +221,7 @@ Law = (m : MapSizes) (p : FlatProgram) (plans : List FunctionPlan) (objects spac
     (input : List ℕ) → AreMapped m → AreAccepted p plans → IsEncodable p → IsStartable m p → FitsSegments m p plans
     → Hold (object_bytes m) (space_bytes m) memory objects spaces → AreBytes memory
     → ((k : ℕ) → run (step m p) k (started p memory input) ≡ Stuck → ⊥)
-    → Follows 64 (flat_meaning m p memory input)
+    → Follows 6 (flat_meaning m p memory input)
     (behaviour (begins (start_address p) (bytes_of (table_words m p plans)) (bytes_of (code_words m p plans)) objects
     spaces) input)
 
@@ -229,7 +229,7 @@ pub met : Law → (a : Global)
     → (plans : List FunctionPlan) × MeetsPremises plans
     × ((objects spaces : List ℕ) (memory : Bytes) (input : List ℕ)
     → Hold (object_bytes sizes) (space_bytes sizes) memory objects spaces → AreBytes memory
-    → Follows 64 (flat_meaning sizes program memory input)
+    → Follows 6 (flat_meaning sizes program memory input)
     (behaviour (begins (start_address program) (bytes_of (table_words sizes program plans))
     (bytes_of (code_words sizes program plans)) objects spaces) input))
 met law a = (

@@ -23,7 +23,7 @@ pub fn premises_are_met()
     ensures { (alloc : Global) → (plans : List FunctionPlan) × MeetsPremises plans
         × ((objects spaces : List ℕ) (memory : Bytes) (input : List ℕ)
         → Hold (object_bytes sizes) (space_bytes sizes) memory objects spaces → AreBytes memory
-        → Follows 64 (flat_meaning sizes program memory input)
+        → Follows 6 (flat_meaning sizes program memory input)
         (behaviour (begins (start_address program) (bytes_of (table_words sizes program plans))
         (bytes_of (code_words sizes program plans)) objects spaces) input)) }
 {

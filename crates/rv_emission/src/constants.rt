@@ -71,7 +71,7 @@ pub(crate) fn put_constant(code: &mut Vec<Instr>, rd: Reg, number: u64) -> Resul
     if number < 0x800 || number >= 0xffff_ffff_ffff_f800 {
         code.push(addi(rd, Reg::ZERO, number % 0x1000))?;
         Ok(())
-    } else if number < 0x7fff_f800 {
+    } else if number < 0x7fff_f800 || number >= 0xffff_ffff_8000_0000 {
         put_wide(code, rd, u128::from(number))
     } else {
         put_digits(code, 5, rd, number)

@@ -5,11 +5,12 @@ use Rattle.std.proofs.Common.{None}
 use Rattle.std.specs.Prelude.{if◌then◌else◌, replicate, slice_index, ◌==◌}
 use Rattle.addr_map.specs.Places.{MapSizes, AreMapped, region_start, region_size, function_address}
 use Rattle.addr_map.specs.declared.region.Region.TheVariants.{Arguments, Calls, RuntimeCalls}
-use Rattle.behaviours.specs.Shown.{Shown}
+use Rattle.behaviours.specs.Shown.{Shown, nothing_shown}
 use Rattle.behaviours.specs.Behaviour.{Follows, Meets as MeetsMoment}
 use Rattle.behaviours.specs.Steps.{run}
 use Rattle.behaviours.proofs.Running.{run_last}
-use Rattle.rv_isa.specs.declared.instruction.Instr.TheVariants.{Jalr}
+use Rattle.rv_isa.specs.declared.instruction.Instr.{Instr}
+use Rattle.rv_isa.specs.declared.instruction.Instr.TheVariants.{Lui, Jalr}
 use Rattle.flat_meaning.specs.declared.instruction.FlatInstruction.{FlatInstruction}
 use Rattle.flat_meaning.specs.declared.instruction.FlatInstruction.TheVariants as flat
 use Rattle.flat_meaning.specs.declared.function.FlatFunction.{FlatFunction}
@@ -19,7 +20,7 @@ use Rattle.flat_meaning.specs.State.{State, Frame, Stage, Stands, Over, Stuck, s
 use Rattle.flat_meaning.specs.Calls.{function_in, room_if, rooms}
 use Rattle.flat_meaning.specs.Meaning.{step, started, flat_meaning, instruction_at, at_instruction, goes_to, local}
 use Rattle.flat_meaning.specs.Meaning.{context}
-use Rattle.flat_meaning.specs.Meaning.{cost}
+use Rattle.flat_meaning.specs.Meaning.{weight_of, cost}
 use Rattle.flat_meaning.specs.Words.{IsOfWords, HasWords}
 use Rattle.flat_meaning.proofs.Words.{step_fits}
 use Rattle.reg_plan.specs.declared.plan.FunctionPlan.{FunctionPlan}
@@ -31,7 +32,8 @@ use Rattle.rv_sim.proofs.Runs.{runs-zero}
 use Rattle.rv_view.specs.Segments.{Hold}
 use Rattle.rv_view.specs.Views.{View, Fits, AllStand, AllGoOn, Shows, performs}
 use Rattle.rv_view.proofs.Straight.{runs_then}
-use Rattle.rv_blocks.specs.Blocks.{wide}
+use Rattle.rv_view.proofs.Leaving.{no_access}
+use Rattle.rv_blocks.specs.Blocks.{upper, wide}
 use Rattle.rv_blocks.specs.Effects.{HasFrame}
 use Rattle.rv_blocks.proofs.Pieces.{wide_gives, performs_append, go_append}
 use Rattle.rv_calls.specs.Calls.{entry_block}
@@ -45,8 +47,9 @@ use Rattle.rv_follows.proofs.Sound.{IsSound, sound}
 use Rattle.rv_follows.proofs.Standing.{function_there, IsKind, kind, record_behind}
 use Rattle.rv_follows.proofs.Locals.{layout}
 use Rattle.rv_follows.proofs.Entering.{arrives, enters}
-use Rattle.rv_follows.proofs.Whole.{Matches, meets_worked}
-use Rattle.rv_follows.proofs.Stages.{instruction_stage}
+use Rattle.rv_follows.proofs.Bounds.{weighs}
+use Rattle.rv_follows.proofs.Whole.{Matches, StageSteps, meets_worked}
+use Rattle.rv_follows.proofs.Stages.{turn_stage, instruction_stage}
 
 address_whole : (f : ℕ) → function_address f % 4 ≡ 0
 unfolding function_address
@@ -62,46 +65,41 @@ shown_is a b o e t x n =
     ∙ ap (λ q. record { output = b.output; errors = b.errors; taken = b.taken; accesses = q; ending = a.ending }) x
     ∙ ap (λ q. record { output = b.output; errors = b.errors; taken = b.taken; accesses = b.accesses; ending = q }) n
 
--- every instruction is some work
-cost_some : (p : FlatProgram) (f : ℕ) (i : FlatInstruction) → 1 ≤ cost p f i
-cost_some p f (flat.Constant x n) = omega arith
-cost_some p f (flat.Move x y) = omega arith
-cost_some p f (flat.Operate op x y z) = omega arith
-cost_some p f (flat.Operate32 op x y z) = omega arith
-cost_some p f (flat.Load op x y o) = omega arith
-cost_some p f (flat.Store op y o x) = omega arith
-cost_some p f (flat.Branch op y z past) = omega arith
-cost_some p f (flat.JumpForward past) = omega arith
-cost_some p f (flat.JumpBack back) = omega arith
-cost_some p f flat.Turn = omega arith
-cost_some p f (flat.Call to first x) = omega arith
-cost_some p f (flat.CallAddress y first n x r) = omega arith
-cost_some p f (flat.Return y) = omega arith
-cost_some p f (flat.Get x) = omega arith
-cost_some p f (flat.Put x) = omega arith
-cost_some p f (flat.Exit x) = omega arith
-cost_some p f (flat.End e) = omega arith
-cost_some p f (flat.Charged x) = omega arith
-
 module _ (m : MapSizes) (p : FlatProgram) (plans : List FunctionPlan) (table code : List ℕ)
     (address : (function pc : ℕ) → ℕ) (entry : (function : ℕ) → ℕ) (regions : AreRegions m) (ok : IsSound p plans)
     (fit : Fits (layout m table code)) (laid : IsLaid m p plans (layout m table code) address entry)
     (can : IsEncodable p) where
-  -- after so many instructions the machine is where the run is; 46 for each unit of work, and those of the start
-  record Running (c0 : Configuration) (x : Stage) : Type 0 where
+  -- after so many instructions the machine is where the run is: at most six for each unit of work, and so many more
+  record Running (late : ℕ) (c0 : Configuration) (x : Stage) : Type 0 where
     steps : ℕ
     matches : Matches m p plans table code address entry regions ok fit laid can x (runs steps c0)
-    work : steps ≤ 46 * (seen x).work + 15
+    work : steps ≤ 6 * (seen x).work + late
     turns : (seen x).turns ≤ steps
     words : HasWords x
 
-  -- one step more
+  -- one step more, with what it takes at most
+  one_more : (late more : ℕ) (c0 : Configuration) (f pc : ℕ) (s t : State) (frames : List Frame) (x : Stage) (most : ℕ)
+      → (r : Running (more + late) c0 (Stands f pc s frames)) → s.turns ≡ t.turns
+      → most + 6 * s.work + more ≤ 6 * t.work
+      → StageSteps m p plans table code address entry regions ok fit laid can x (runs r.steps c0).0 most t.turns t.work
+      → HasWords x → Running late c0 x
+  one_more late more c0 f pc s t frames x most r same enough st words =
+      let here : runs r.steps c0 ≡ ((runs r.steps c0).0, None) = ap (λ q. ((runs r.steps c0).0, q)) r.matches.0 in
+      let done : runs (st.steps + r.steps) c0 ≡ st.after =
+      runs_then st.steps r.steps c0 (runs r.steps c0).0 here ∙ st.is in
+      record {
+        steps = st.steps + r.steps;
+        matches = subst (Matches m p plans table code address entry regions ok fit laid can x) (sym done) st.matches;
+        work = omega (arith, st.few, st.worked, r.work);
+        turns = omega (arith, st.turned, r.turns);
+        words = words;
+      }
+
   more_by : (c0 : Configuration) (f pc : ℕ) (s : State) (frames : List Frame) (o : Option FlatInstruction)
-      → instruction_at p f pc ≡ o → Running c0 (Stands f pc s frames)
+      → instruction_at p f pc ≡ o → Running 0 c0 (Stands f pc s frames)
       → HasWords (at_instruction m p o f pc s frames)
       → (step m p (at_instruction m p o f pc s frames) ≡ Stuck → ⊥)
-      → Running c0 (at_instruction m p o f pc s frames)
-      × (s.work + 1 ≤ (seen (at_instruction m p o f pc s frames)).work)
+      → Running 0 c0 (at_instruction m p o f pc s frames)
   more_by c0 f pc s frames None at r words fine = absurd (fine refl)
   more_by c0 f pc s frames (Some i) at r words fine =
       let t : State = record s { work = s.work + cost p f i } in
@@ -111,52 +109,50 @@ module _ (m : MapSizes) (p : FlatProgram) (plans : List FunctionPlan) (table cod
       let w : IsOfWords t = record { values = r.words.0.values; memory = r.words.0.memory } in
       let st = instruction_stage m p plans table code address entry regions ok fit laid can f pc there.0 t frames
       (runs r.steps c0).0 h w there.1 i at fine in
-      let here : runs r.steps c0 ≡ ((runs r.steps c0).0, None) = ap (λ q. ((runs r.steps c0).0, q)) r.matches.0 in
-      let done : runs (st.steps + r.steps) c0 ≡ st.after =
-      runs_then st.steps r.steps c0 (runs r.steps c0).0 here ∙ st.is in
-      let some = cost_some p f i in (
-        record {
-          steps = st.steps + r.steps;
-          matches = subst (Matches m p plans table code address entry regions ok fit laid can
-              (goes_to m p i f pc t frames (local (context m p f frames) i pc t))) (sym done) st.matches;
-          work = omega (arith, st.few, st.worked, r.work);
-          turns = omega (arith, st.turned, r.turns);
-          words = words;
-        },
-        omega (arith, st.worked),
-      )
+      one_more 0 0 c0 f pc s t frames (goes_to m p i f pc t frames (local (context m p f frames) i pc t))
+      (6 * cost p f i) r refl (omega arith) st words
 
-  -- behind the start: a stage whose work is some, or that has ended
-  record IsOn (c0 : Configuration) (x : Stage) : Type 0 where
-    running : Running c0 x
-    some : 1 ≤ (seen x).work
-
-  on_by : (c0 : Configuration) (x : Stage) → IsOn c0 x → (step m p (step m p x) ≡ Stuck → ⊥) → IsOn c0 (step m p x)
+  on_by : (c0 : Configuration) (x : Stage) → Running 0 c0 x → (step m p (step m p x) ≡ Stuck → ⊥)
+      → Running 0 c0 (step m p x)
   on_by c0 (Stands f pc s frames) h fine =
-      let r = more_by c0 f pc s frames (instruction_at p f pc) refl h.running
-      (step_fits m p (Stands f pc s frames) h.running.words) fine in
-      record { running = r.0; some = omega (arith, r.1) }
+      more_by c0 f pc s frames (instruction_at p f pc) refl h (step_fits m p (Stands f pc s frames) h.words) fine
   on_by c0 (Over status report s) h fine = h
   on_by c0 Stuck h fine = h
 
-  first_by : (c0 : Configuration) (f pc : ℕ) (s : State) (frames : List Frame) → Running c0 (Stands f pc s frames)
-      → (step m p (step m p (Stands f pc s frames)) ≡ Stuck → ⊥) → IsOn c0 (step m p (Stands f pc s frames))
-  first_by c0 f pc s frames h fine =
-      let r = more_by c0 f pc s frames (instruction_at p f pc) refl h (step_fits m p (Stands f pc s frames) h.words)
-      fine
-      in record { running = r.0; some = omega (arith, r.1) }
+  on_at : (c0 : Configuration) (x : Stage) → Running 0 c0 x → ((k : ℕ) → run (step m p) k x ≡ Stuck → ⊥) → (n : ℕ)
+      → Running 0 c0 (run (step m p) n x)
+  on_at c0 x h fine zero = h
+  on_at c0 x h fine (suc n) =
+      let before = on_at c0 x h fine n in
+      let last = run_last (step m p) n x in
+      let last2 = run_last (step m p) (suc n) x in
+      subst (Running 0 c0) (sym last) (on_by c0 (run (step m p) n x) before
+      (λ e. fine (suc (suc n)) (last2 ∙ ap (step m p) last ∙ e)))
 
-  on_at : (c0 : Configuration) (f pc : ℕ) (s : State) (frames : List Frame) → Running c0 (Stands f pc s frames)
-      → ((k : ℕ) → run (step m p) k (Stands f pc s frames) ≡ Stuck → ⊥) → (n : ℕ)
-      → IsOn c0 (run (step m p) (suc n) (Stands f pc s frames))
-  on_at c0 f pc s frames h fine zero = first_by c0 f pc s frames h (fine 2)
-  on_at c0 f pc s frames h fine (suc n) =
-      let before = on_at c0 f pc s frames h fine n in
-      let x = run (step m p) (suc n) (Stands f pc s frames) in
-      let last = run_last (step m p) (suc n) (Stands f pc s frames) in
-      let last2 = run_last (step m p) (suc (suc n)) (Stands f pc s frames) in
-      subst (IsOn c0) (sym last) (on_by c0 x before
-      (λ e. fine (suc (suc (suc n))) (last2 ∙ ap (step m p) last ∙ e)))
+  -- a turn takes one instruction, and counts as six at least
+  turned : (function : ℕ) → State → State
+  turned f s = record s { work = s.work + weight_of (function_in p f); turns = s.turns + 1 }
+
+  turn_is : (f pc : ℕ) (s : State) (frames : List Frame) → instruction_at p f pc ≡ Some flat.Turn
+      → step m p (Stands f pc s frames) ≡ Stands f (pc + 1) (turned f s) frames
+  unfolding turned
+  turn_is f pc s frames at = ap (λ o. at_instruction m p o f pc s frames) at
+
+  turn_by : (late : ℕ) (c0 : Configuration) (f pc : ℕ) (s : State) (frames : List Frame)
+      → instruction_at p f pc ≡ Some flat.Turn → Running (5 + late) c0 (Stands f pc s frames)
+      → Running late c0 (Stands f (pc + 1) (turned f s) frames)
+  unfolding turned
+  turn_by late c0 f pc s frames at r =
+      let t : State = record s { work = s.work + weight_of (function_in p f) } in
+      let there = function_there p f pc flat.Turn at in
+      let h = meets_worked m p plans table code address entry regions ok fit laid can f pc s frames
+      (runs r.steps c0).0 (s.work + weight_of (function_in p f)) r.matches.1 in
+      let w : IsOfWords t = record { values = r.words.0.values; memory = r.words.0.memory } in
+      let st = turn_stage m p plans table code address entry regions ok fit laid can f pc there.0 t frames
+      (runs r.steps c0).0 h w there.1 at in
+      let some = (weighs p f (keeping p plans f).room there.0 there.1 (ok.room f there.0 there.1)).some in
+      one_more late 5 c0 f pc s t frames (Stands f (pc + 1) (record t { turns = t.turns + 1 }) frames) 1 r refl
+      (omega arith) st (record { values = r.words.0.values; memory = r.words.0.memory }, r.words.1)
 
   -- what is seen is the same
   sees_same : (s0 : MachineState) (input : List ℕ) (x : Stage) (n : ℕ)
@@ -262,8 +258,17 @@ module _ (m : MapSizes) (p : FlatProgram) (plans : List FunctionPlan) (table cod
   module _ (start : ℕ) (objects spaces : List ℕ) (memory : Bytes) (input : List ℕ) (can_start : IsStartable m p)
       (stands : AllStand (layout m table code) start (start_block m p))
       (hold : Hold (object_bytes m) (space_bytes m) memory objects spaces) (bytes : AreBytes memory) where
-    abbrev first_state : MachineState
-    first_state = begins start table code objects spaces
+    abbrev first_of : Bytes → List ℕ → State
+    first_of bytes read = record {
+      values = λ x. 0;
+      memory = bytes;
+      input = read;
+      output = [];
+      taken = 0;
+      accesses = [];
+      turns = 0;
+      work = 0;
+    }
 
     abbrev first_view : View
     first_view = record { pc = start; registers = λ r. 0; memory = memory; accesses = [] }
@@ -285,7 +290,7 @@ module _ (m : MapSizes) (p : FlatProgram) (plans : List FunctionPlan) (table cod
         by true r = refl
         by false r = zeros 32 r
 
-    first_running : Running (begun (begins start table code objects spaces) input) (started p memory input)
+    first_running : Running 15 (begun (begins start table code objects spaces) input) (started p memory input)
     first_running =
         let l = layout m table code in
         let g = can_start.function in
@@ -382,12 +387,66 @@ module _ (m : MapSizes) (p : FlatProgram) (plans : List FunctionPlan) (table cod
         whole_address : (f : ℕ) → function_address f % 4 ≡ 0
         whole_address f = address_whole f
 
-    pub follows : ((k : ℕ) → run (step m p) k (started p memory input) ≡ Stuck → ⊥)
-        → Follows 64 (flat_meaning m p memory input) (behaviour (begins start table code objects spaces) input)
+    -- a moment of the start, at which nothing has been shown
+    early : (is : List Instr) (x : Stage) → AllStand (layout m table code) start is
+        → AllGoOn (object_bytes m) (space_bytes m) is first_view → (performs is first_view).accesses ≡ []
+        → (seen x).shown ≡ nothing_shown → (seen x).turns ≤ length is → length is ≤ 6 * (seen x).work
+        → MeetsMoment 6 (seen x) (behaviour (begins start table code objects spaces) input (length is))
     unfolding behaviour
+    early is x stand go silent nothing turns work =
+        let c0 = begun (begins start table code objects spaces) input in
+        let one = straight_comes (layout m table code) fit is c0 first_view stand go first_shows in
+        record {
+          shown = nothing ∙ shown_is nothing_shown (shown_by (one.after, None)) (sym one.stays.output)
+              (sym one.stays.errors) (sym one.stays.taken) (sym (one.shows.accesses_are ∙ silent)) refl
+              ∙ sym (ap shown_by one.is);
+          turns = turns;
+          work = work;
+        }
+
+    -- the entry begins with three turns
+    s1 : State
+    s1 = turned p.entry (first_of memory input)
+
+    s2 : State
+    s2 = turned p.entry s1
+
+    s3 : State
+    s3 = turned p.entry s2
+
+    first_turn : step m p (started p memory input) ≡ Stands p.entry 1 s1 []
+    unfolding s1
+    first_turn = turn_is p.entry 0 (first_of memory input) [] (can_start.turns 0 (omega arith))
+
+    second_turn : step m p (Stands p.entry 1 s1 []) ≡ Stands p.entry 2 s2 []
+    unfolding s2
+    second_turn = turn_is p.entry 1 s1 [] (can_start.turns 1 (omega arith))
+
+    third_turn : step m p (Stands p.entry 2 s2 []) ≡ Stands p.entry 3 s3 []
+    unfolding s3
+    third_turn = turn_is p.entry 2 s2 [] (can_start.turns 2 (omega arith))
+
+    turned_running : Running 0 (begun (begins start table code objects spaces) input) (Stands p.entry 3 s3 [])
+    unfolding s1 s2 s3
+    turned_running =
+        let c0 = begun (begins start table code objects spaces) input in
+        turn_by 0 c0 p.entry 2 s2 [] (can_start.turns 2 (omega arith))
+        (turn_by 5 c0 p.entry 1 s1 [] (can_start.turns 1 (omega arith))
+        (turn_by 10 c0 p.entry 0 (first_of memory input) [] (can_start.turns 0 (omega arith)) first_running))
+
+    entry_weight : 1 ≤ weight_of (function_in p p.entry)
+    entry_weight = (weighs p p.entry (keeping p plans p.entry).room can_start.function can_start.there
+        (ok.room p.entry can_start.function can_start.there)).some
+
+    pub follows : ((k : ℕ) → run (step m p) k (started p memory input) ≡ Stuck → ⊥)
+        → Follows 6 (flat_meaning m p memory input) (behaviour (begins start table code objects spaces) input)
+    unfolding behaviour s1 s2 turned
     follows fine = record { at = by }
       where
-        by : (n : ℕ) → (k : ℕ) × MeetsMoment 64 (flat_meaning m p memory input n)
+        third : run (step m p) 3 (started p memory input) ≡ Stands p.entry 3 s3 []
+        third = ap (λ x. step m p (step m p x)) first_turn ∙ ap (step m p) second_turn ∙ third_turn
+
+        by : (n : ℕ) → (k : ℕ) × MeetsMoment 6 (flat_meaning m p memory input n)
             (behaviour (begins start table code objects spaces) input k)
         by zero = (
           0,
@@ -397,20 +456,42 @@ module _ (m : MapSizes) (p : FlatProgram) (plans : List FunctionPlan) (table cod
             work = omega arith;
           },
         )
-        by (suc n) =
-            let r = on_at (begun (begins start table code objects spaces) input) p.entry 0 _ [] first_running fine n in
-            let some = r.some in
-            let x = run (step m p) (suc n) (started p memory input) in (
-              r.running.steps,
-              record {
-                shown = sees_same (begins start table code objects spaces) input x r.running.steps r.running.matches;
-                turns = r.running.turns;
-                work = omega (arith, r.running.work);
-              },
+        by (suc zero) =
+            let n = region_start m Calls in (
+              1,
+              subst (λ x. MeetsMoment 6 (seen x) (behaviour (begins start table code objects spaces) input 1))
+                  (sym first_turn)
+                  (early (Lui 2 (upper n) ∷ []) (Stands p.entry 1 s1 []) (stands.0, tt) (tt, tt)
+                  (no_access [] start) refl (omega arith) (omega (arith, entry_weight))),
+            )
+        by (suc (suc zero)) =
+            let n = region_start m Calls in
+            let gives = wide_gives (object_bytes m) (space_bytes m) 2 n first_view (omega arith)
+            (omega (arith, regions.calls, regions.end)) in (
+              2,
+              subst (λ x. MeetsMoment 6 (seen x) (behaviour (begins start table code objects spaces) input 2))
+                  (sym (ap (step m p) first_turn ∙ second_turn))
+                  (early (wide 2 n) (Stands p.entry 2 s2 []) (stands.0, (stands.1.0, tt)) gives.go gives.accesses refl
+                  (omega arith) (omega (arith, entry_weight))),
+            )
+        by (suc (suc (suc n))) =
+            let c0 = begun (begins start table code objects spaces) input in
+            let x = run (step m p) n (Stands p.entry 3 s3 []) in
+            let same : run (step m p) n (run (step m p) 3 (started p memory input)) ≡ x = ap (run (step m p) n) third in
+            let r = on_at c0 (Stands p.entry 3 s3 []) turned_running
+            (λ k e. fine (suc (suc (suc k))) (ap (run (step m p) k) third ∙ e)) n in (
+              r.steps,
+              subst (λ y. MeetsMoment 6 (seen y) (behaviour (begins start table code objects spaces) input r.steps))
+                  (sym same)
+                  (record {
+                    shown = sees_same (begins start table code objects spaces) input x r.steps r.matches;
+                    turns = r.turns;
+                    work = omega (arith, r.work);
+                  }),
             )
 
 -- The machine follows flat code: where its instructions stand in memory as the layout says, it shows what the program
--- shows, with at most 64 instructions for each unit of work.
+-- shows, with at most six instructions for each unit of work.
 pub machine_follows : (m : MapSizes) (p : FlatProgram) (plans : List FunctionPlan) (table code : List ℕ)
     (address : (function pc : ℕ) → ℕ) (entry : (function : ℕ) → ℕ) (start : ℕ) (objects spaces : List ℕ)
     (memory : Bytes) (input : List ℕ) → AreMapped m → AreAccepted p plans → IsEncodable p → IsStartable m p
@@ -418,7 +499,7 @@ pub machine_follows : (m : MapSizes) (p : FlatProgram) (plans : List FunctionPla
     → AllStand (layout m table code) start (start_block m p)
     → Hold (object_bytes m) (space_bytes m) memory objects spaces → AreBytes memory
     → ((k : ℕ) → run (step m p) k (started p memory input) ≡ Stuck → ⊥)
-    → Follows 64 (flat_meaning m p memory input) (behaviour (begins start table code objects spaces) input)
+    → Follows 6 (flat_meaning m p memory input) (behaviour (begins start table code objects spaces) input)
 machine_follows m p plans table code address entry start objects spaces memory input mapped accepted can can_start fit
     laid stands hold bytes fine =
     follows m p plans table code address entry (regions m mapped) (sound p plans accepted) fit laid can start objects

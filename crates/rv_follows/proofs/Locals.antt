@@ -91,7 +91,7 @@ RightIsLive k pc (right.Number n) = Unit {0}
 pub among_one : (z : ℕ) → is_among (one z) z ≡ true
 among_one z = rw (le-leb z z (omega arith), lt-ltb z (z + 1) (omega arith)) refl
 
-or_true : (a : Bool) → (a || true) ≡ true
+pub or_true : (a : Bool) → (a || true) ≡ true
 or_true true = refl
 or_true false = refl
 
@@ -201,11 +201,11 @@ module _ (m : MapSizes) (p : FlatProgram) (plans : List FunctionPlan) (table cod
       }
 
   -- what a live value has
-  place_in : (f pc y : ℕ) (g : FlatFunction) → function_in p f ≡ Some g → (keeping p plans f).live pc y ≡ true
+  pub place_in : (f pc y : ℕ) (g : FlatFunction) → function_in p f ≡ Some g → (keeping p plans f).live pc y ≡ true
       → IsIn (keeping p plans f).room ((keeping p plans f).place y)
   place_in f pc y g there live = (ok.kept f pc g there).inside y live
 
-  right_in : (f pc : ℕ) (g : FlatFunction) (z : RightOperand) → function_in p f ≡ Some g
+  pub right_in : (f pc : ℕ) (g : FlatFunction) (z : RightOperand) → function_in p f ≡ Some g
       → RightIsLive (keeping p plans f) pc z → RightIsIn (keeping p plans f).room (keeping p plans f).place z
   right_in f pc g (right.Register z) there live = place_in f pc z g there live
   right_in f pc g (right.Number n) there live = tt
@@ -221,14 +221,14 @@ module _ (m : MapSizes) (p : FlatProgram) (plans : List FunctionPlan) (table cod
   right_fits (right.Number n) values w = omega arith
 
   -- where the result of an instruction goes
-  made_in : (f pc x : ℕ) (g : FlatFunction) (i : FlatInstruction) → function_in p f ≡ Some g
+  pub made_in : (f pc x : ℕ) (g : FlatFunction) (i : FlatInstruction) → function_in p f ≡ Some g
       → instruction_at p f pc ≡ Some i
       → Leads i pc (pc + 1) → pc + 1 < length g.body → made_by p i ≡ one x
       → IsIn (keeping p plans f).room ((keeping p plans f).place x)
   made_in f pc x g i there at leads inside makes = place_in f (pc + 1) x g there
       (ok.makes f pc g i there at (pc + 1) x leads inside (ap (λ q. is_among q x) makes ∙ among_one x))
 
-  operator_reads : (f pc y : ℕ) (z : RightOperand) (g : FlatFunction) (i : FlatInstruction) → function_in p f ≡ Some g
+  pub operator_reads : (f pc y : ℕ) (z : RightOperand) (g : FlatFunction) (i : FlatInstruction) → function_in p f ≡ Some g
       → instruction_at p f pc ≡ Some i
       → read_by p f i ≡ two (one y) (operand z)
       → ((keeping p plans f).live pc y ≡ true) × RightIsLive (keeping p plans f) pc z

@@ -9,6 +9,7 @@ use Rattle.addr_map.specs.Places.{MapSizes, region_size, function_address, funct
 use Rattle.addr_map.specs.declared.region.Region.TheVariants.{RuntimeCalls}
 use Rattle.sb_base.specs.Endings.{code_of, report_of}
 use Rattle.rv_isa.specs.Results.{wrap, low_word, branch_taken, reg_result, reg32_result, load_bytes, store_bytes}
+use Rattle.flat_meaning.specs.declared.instruction.RightOperand.{RightOperand}
 use Rattle.flat_meaning.specs.declared.instruction.FlatInstruction.{FlatInstruction}
 use Rattle.flat_meaning.specs.declared.instruction.FlatInstruction.TheVariants as flat
 use Rattle.flat_meaning.specs.declared.function.FlatFunction.{FlatFunction}
@@ -18,18 +19,18 @@ use Rattle.flat_meaning.specs.Spaces.{is_allowed}
 use Rattle.flat_meaning.specs.State.{State, Frame, Stands, Stuck}
 use Rattle.flat_meaning.specs.Calls.{function_in, room_if, rooms, charged, arguments, with_results, function_at}
 use Rattle.flat_meaning.specs.Calls.{is_of_program}
-use Rattle.flat_meaning.specs.Meaning.{instruction_at, parameters_of, results_of, cost, step}
+use Rattle.flat_meaning.specs.Meaning.{instruction_at, parameters_of, results_of, weight_of, cost, step}
 use Rattle.flat_meaning.specs.Meaning.{goes_to, local, context, right_value, with_register}
 use Rattle.flat_meaning.specs.Meaning.{enters, enters_at, returns, has_room, waiting}
 use Rattle.flat_meaning.specs.Words.{IsOfWords}
 use Rattle.reg_plan.specs.declared.plan.FunctionPlan.{FunctionPlan}
-use Rattle.reg_plan.specs.Effects.{is_among, is_read, many, one, none, read_by, Leads}
+use Rattle.reg_plan.specs.Effects.{is_among, is_read, many, one, two, none, operand, read_by, made_by, Leads}
 use Rattle.rv_sim.specs.Run.{Configuration}
 use Rattle.rv_view.specs.Views.{View, Fits}
 use Rattle.rv_blocks.specs.declared.location.Location.{Location}
 use Rattle.rv_blocks.specs.declared.location.Location.TheVariants as location
 use Rattle.rv_blocks.specs.Blocks.{constant, used, fetch}
-use Rattle.rv_blocks.specs.Effects.{IsIn, kept, HasFrame}
+use Rattle.rv_blocks.specs.Effects.{IsIn, RightIsIn, kept, HasFrame}
 use Rattle.rv_blocks.proofs.Pieces.{constant_gives, fetches}
 use Rattle.rv_blocks.proofs.Lengths.{short_constant_length, fetch_length}
 use Rattle.rv_calls.specs.Calls.{call_block, entry_block, save, give, advance, restore}
@@ -39,20 +40,21 @@ use Rattle.rv_calls.proofs.Lengths.{save_length, restore_length, give_length, ta
 use Rattle.rv_calls.proofs.Lengths.{retreat_length, return_length, entry_length}
 use Rattle.rv_follows.specs.Code.{keeping, IsLaid, IsEncodable, CallShape, shape_of, wanted, back_part}
 use Rattle.rv_follows.specs.Matching.{object_bytes, space_bytes, record_of, Meets}
-use Rattle.rv_follows.proofs.Bounds.{constant_bound, move_bound, operate_bound, operate32_bound}
+use Rattle.rv_follows.proofs.Bounds.{Weighs, weighs, end_most, constant_bound, move_bound, operate_bound, operate32_bound}
 use Rattle.rv_follows.proofs.Bounds.{branch_bound, charged_bound, put_bound, exit_bound, turn_bound, end_bound}
 use Rattle.rv_follows.proofs.Regions.{AreRegions}
 use Rattle.rv_follows.proofs.Sound.{IsSound}
 use Rattle.rv_follows.proofs.Standing.{function_there, frame_of, IsKind, kind}
 use Rattle.rv_follows.proofs.Locals.{layout, Becomes, among_one, constant_steps, move_steps}
 use Rattle.rv_follows.proofs.Locals.{operate_steps, operate32_steps, jump_steps, turn_steps}
-use Rattle.rv_follows.proofs.Locals.{turn_takes_one, branch_steps, charged_steps}
+use Rattle.rv_follows.proofs.Locals.{turn_takes_one, branch_steps, charged_steps, place_in, made_in, right_in}
+use Rattle.rv_follows.proofs.Locals.{RightIsLive, operator_reads}
 use Rattle.rv_follows.proofs.Outside.{put_steps, exit_steps, end_steps}
 use Rattle.rv_follows.proofs.Calling.{Aims}
 use Rattle.rv_follows.proofs.CallSim.{IsCall, call_steps}
 use Rattle.rv_follows.proofs.ReturnSim.{call_of}
 use Rattle.rv_follows.proofs.ReturnStep.{return_steps}
-use Rattle.rv_follows.proofs.Whole.{StageSteps, from_steps, from_ends, inside_of, plain, same}
+use Rattle.rv_follows.proofs.Whole.{StageSteps, more_steps, from_steps, from_ends, inside_of, plain, same}
 use Rattle.rv_follows.proofs.Whole.{load_stage, store_stage, get_stage}
 
 or_last : (a b d : Bool) → d ≡ true → (a || (b || d)) ≡ true
@@ -161,7 +163,7 @@ module _ (m : MapSizes) (p : FlatProgram) (plans : List FunctionPlan) (table cod
         (waiting f pc shape.into t ∷ frames) else Stuck) ≡ Stuck → ⊥)
         → StageSteps m p plans table code address entry regions ok fit laid can
         (if b then Stands to 0 (record t { values = arguments shape.first shape.count t.values })
-        (waiting f pc shape.into t ∷ frames) else Stuck) c (46 * (1 + shape.count)) t.turns t.work
+        (waiting f pc shape.into t ∷ frames) else Stuck) c (6 * (8 + 2 * shape.count)) t.turns t.work
     enters_if i shape to callee false at shape_is callee_is e reads leads no_six no_base short aims fine =
         absurd (fine refl)
     enters_if i shape to callee true at shape_is callee_is e reads leads no_six no_base short aims fine =
@@ -202,7 +204,7 @@ module _ (m : MapSizes) (p : FlatProgram) (plans : List FunctionPlan) (table cod
         from_steps m p plans table code address entry regions ok fit laid can to 0 s' frames' c
         (length (entry_block (keeping p plans to) shape.count) + (4
         + length (call_block k (wanted k pc shape.into shape.results) shape.first shape.count shape.aim)))
-        (46 * (1 + shape.count)) t.turns t.work st (omega arith) (omega arith) refl
+        (6 * (8 + 2 * shape.count)) t.turns t.work st (omega arith) (omega arith) refl
 
     enters_stage : (i : FlatInstruction) (shape : CallShape) (to : ℕ) (o : Option FlatFunction)
         → instruction_at p f pc ≡ Some i → shape_of p (keeping p plans f) i ≡ Some shape
@@ -218,7 +220,7 @@ module _ (m : MapSizes) (p : FlatProgram) (plans : List FunctionPlan) (table cod
         ≡ Stuck → ⊥)
         → StageSteps m p plans table code address entry regions ok fit laid can
         (enters m p to shape.first shape.count shape.results o (waiting f pc shape.into t ∷ frames) t) c
-        (46 * (1 + shape.count)) t.turns t.work
+        (6 * (8 + 2 * shape.count)) t.turns t.work
     enters_stage i shape to None at shape_is callee_is reads leads no_six no_base short aims fine = absurd (fine refl)
     enters_stage i shape to (Some callee) at shape_is callee_is reads leads no_six no_base short aims fine =
         enters_if i shape to callee
@@ -238,7 +240,7 @@ module _ (m : MapSizes) (p : FlatProgram) (plans : List FunctionPlan) (table cod
         (function_in p to) (waiting f pc x t ∷ frames) t) ≡ Stuck → ⊥)
         → StageSteps m p plans table code address entry regions ok fit laid can
         (enters m p to first (parameters_of (function_in p to)) (results_of (function_in p to)) (function_in p to)
-        (waiting f pc x t ∷ frames) t) c (46 * (1 + parameters_of (function_in p to))) t.turns t.work
+        (waiting f pc x t ∷ frames) t) c (6 * (8 + 2 * parameters_of (function_in p to))) t.turns t.work
     call_stage to first x at fine = by (function_in p to) refl fine
       where
         by : (o : Option FlatFunction) → function_in p to ≡ o
@@ -246,7 +248,7 @@ module _ (m : MapSizes) (p : FlatProgram) (plans : List FunctionPlan) (table cod
             o (waiting f pc x t ∷ frames) t) ≡ Stuck → ⊥)
             → StageSteps m p plans table code address entry regions ok fit laid can
             (enters m p to first (parameters_of (function_in p to)) (results_of (function_in p to)) o
-            (waiting f pc x t ∷ frames) t) c (46 * (1 + parameters_of (function_in p to))) t.turns t.work
+            (waiting f pc x t ∷ frames) t) c (6 * (8 + 2 * parameters_of (function_in p to))) t.turns t.work
         by None e fine' = absurd (fine' refl)
         by (Some callee) e fine' =
             let numbered = laid.numbered to callee e in
@@ -260,7 +262,7 @@ module _ (m : MapSizes) (p : FlatProgram) (plans : List FunctionPlan) (table cod
               aim = constant 28 (function_address to);
               target = 28;
             } in
-            let short = short_constant_length 28 (function_address to) small in
+            let short = short_constant_length 28 (function_address to) (inl small) in
             enters_stage (flat.Call to first x) shape to (Some callee) at refl e
             (λ j lt. or_last (is_among none (first + j)) (is_among none (first + j)) (is_among (many first n) (first
             + j))
@@ -286,7 +288,7 @@ module _ (m : MapSizes) (p : FlatProgram) (plans : List FunctionPlan) (table cod
         → instruction_at p f pc ≡ Some (flat.CallAddress y first n x r) → function_at p (t.values y) ≡ o
         → (step m p (enters_at m p o first n r (waiting f pc x t ∷ frames) t) ≡ Stuck → ⊥)
         → StageSteps m p plans table code address entry regions ok fit laid can
-        (enters_at m p o first n r (waiting f pc x t ∷ frames) t) c (46 * (1 + n)) t.turns t.work
+        (enters_at m p o first n r (waiting f pc x t ∷ frames) t) c (6 * (8 + 2 * n)) t.turns t.work
     address_stage y first n x r None at e fine = absurd (fine refl)
     address_stage y first n x r (Some to) at e fine =
         let k = keeping p plans f in
@@ -329,7 +331,7 @@ module _ (m : MapSizes) (p : FlatProgram) (plans : List FunctionPlan) (table cod
     return_stage : (y : ℕ) (fs : List Frame) → frames ≡ fs → instruction_at p f pc ≡ Some (flat.Return y)
         → (step m p (returns (results_of (function_in p f)) y fs t) ≡ Stuck → ⊥)
         → StageSteps m p plans table code address entry regions ok fit laid can
-        (returns (results_of (function_in p f)) y fs t) c (46 * (1 + results_of (function_in p f))) t.turns t.work
+        (returns (results_of (function_in p f)) y fs t) c (6 * (8 + 2 * results_of (function_in p f))) t.turns t.work
     return_stage y [] e at fine = absurd (fine refl)
     return_stage y (x ∷ xs) e at fine =
         let r = results_of (function_in p f) in
@@ -346,11 +348,11 @@ module _ (m : MapSizes) (p : FlatProgram) (plans : List FunctionPlan) (table cod
         (rooms true p xs) fits.0 fits.1 in
         let st = return_steps m p plans table code address entry regions ok fit laid can f pc y g t s' x xs c h' words
         there at (ap (λ n. with_results x.into n t.values y x.values) results) refl refl refl refl refl
-        (46 * (1 + r))
+        (6 * (8 + 2 * r))
         (λ shape place count. let b = back_length x.function place gx shape there_x.1 small in
         omega (arith, count, results)) in
-        from_steps m p plans table code address entry regions ok fit laid can x.function x.next s' xs c (46 * (1 + r))
-        (46 * (1 + r)) t.turns t.work st (omega arith) (omega arith) refl
+        from_steps m p plans table code address entry regions ok fit laid can x.function x.next s' xs c (6 * (8 + 2 * r))
+        (6 * (8 + 2 * r)) t.turns t.work st (omega arith) (omega arith) refl
       where
         fits_of : (x : Frame) (xs : List Frame)
             → room_if false (function_in p f) + rooms false p (x ∷ xs) ≤ m.budgets.calls
@@ -360,79 +362,32 @@ module _ (m : MapSizes) (p : FlatProgram) (plans : List FunctionPlan) (table cod
         fits_of x xs a b = let l = less_rooms p x xs in (omega (arith, l.0), omega (arith, l.1))
 
     -- ---- all instructions
-    pub instruction_stage : (i : FlatInstruction) → instruction_at p f pc ≡ Some i
-        → (step m p (goes_to m p i f pc t frames (local (context m p f frames) i pc t)) ≡ Stuck → ⊥)
+    weight : Weighs (keeping p plans f).room (weight_of (function_in p f))
+    weight = weighs p f (keeping p plans f).room g there (ok.room f g there)
+
+    -- what an instruction makes, and what it reads, lies in its place
+    made_at : (x : ℕ) (i : FlatInstruction) → instruction_at p f pc ≡ Some i → Leads i pc (pc + 1)
+        → pc + 1 < length g.body → made_by p i ≡ one x → IsIn (keeping p plans f).room ((keeping p plans f).place x)
+    made_at x i at leads inside makes =
+        made_in m p plans table code address entry regions ok fit laid can f pc x g i there at leads inside makes
+
+    placed_at : (y : ℕ) → (keeping p plans f).live pc y ≡ true
+        → IsIn (keeping p plans f).room ((keeping p plans f).place y)
+    placed_at y live = place_in m p plans table code address entry regions ok fit laid can f pc y g there live
+
+    right_at : (z : RightOperand) → RightIsLive (keeping p plans f) pc z
+        → RightIsIn (keeping p plans f).room (keeping p plans f).place z
+    right_at z live = right_in m p plans table code address entry regions ok fit laid can f pc g z there live
+
+    read_at : (y : ℕ) (z : RightOperand) (i : FlatInstruction) → instruction_at p f pc ≡ Some i
+        → read_by p f i ≡ two (one y) (operand z)
+        → ((keeping p plans f).live pc y ≡ true) × RightIsLive (keeping p plans f) pc z
+    read_at y z i at e = operator_reads m p plans table code address entry regions ok fit laid can f pc y z g i there at e
+
+    pub turn_stage : instruction_at p f pc ≡ Some flat.Turn
         → StageSteps m p plans table code address entry regions ok fit laid can
-        (goes_to m p i f pc t frames (local (context m p f frames) i pc t)) c (46 * cost p f i) t.turns t.work
-    instruction_stage (flat.Constant x n) at fine =
-        let s' = with_register x (low_bits 64 n) t in
-        let st = constant_steps m p plans table code address entry regions ok fit laid can f pc g t s' frames c h words
-        there x n at (inside_of m p plans table code address entry regions ok fit laid can f (pc + 1) g s' frames fine
-        there)
-        (plain m p plans table code address entry regions ok fit laid can t (put t.values x (low_bits 64 n))) in
-        let bound = constant_bound m p plans f pc x n in
-        from_steps m p plans table code address entry regions ok fit laid can f (pc + 1) s' frames c _ 46 t.turns
-        t.work st
-        (omega arith) (omega arith) refl
-    instruction_stage (flat.Move x y) at fine =
-        let s' = with_register x (t.values y) t in
-        let st = move_steps m p plans table code address entry regions ok fit laid can f pc g t s' frames c h words
-        there x y at (inside_of m p plans table code address entry regions ok fit laid can f (pc + 1) g s' frames fine
-        there)
-        (plain m p plans table code address entry regions ok fit laid can t (put t.values x (t.values y))) in
-        let bound = move_bound m p plans f pc x y in
-        from_steps m p plans table code address entry regions ok fit laid can f (pc + 1) s' frames c _ 46 t.turns
-        t.work st
-        (omega arith) (omega arith) refl
-    instruction_stage (flat.Operate op x y z) at fine =
-        let n = reg_result op (t.values y) (right_value z t.values) in
-        let s' = with_register x n t in
-        let st = operate_steps m p plans table code address entry regions ok fit laid can f pc g t s' frames c h words
-        there op x y z at (inside_of m p plans table code address entry regions ok fit laid can f (pc + 1) g s' frames
-        fine there)
-        (plain m p plans table code address entry regions ok fit laid can t (put t.values x n)) in
-        let bound = operate_bound m p plans f pc op x y z in
-        from_steps m p plans table code address entry regions ok fit laid can f (pc + 1) s' frames c _ 46 t.turns
-        t.work st
-        (omega arith) (omega arith) refl
-    instruction_stage (flat.Operate32 op x y z) at fine =
-        let n = reg32_result op (low_word (t.values y)) (low_word (right_value z t.values)) in
-        let s' = with_register x n t in
-        let st = operate32_steps m p plans table code address entry regions ok fit laid can f pc g t s' frames c h words
-        there op x y z at (inside_of m p plans table code address entry regions ok fit laid can f (pc + 1) g s' frames
-        fine there)
-        (plain m p plans table code address entry regions ok fit laid can t (put t.values x n)) in
-        let bound = operate32_bound m p plans f pc op x y z in
-        from_steps m p plans table code address entry regions ok fit laid can f (pc + 1) s' frames c _ 46 t.turns
-        t.work st
-        (omega arith) (omega arith) refl
-    instruction_stage (flat.Load op x y o) at fine =
-        load_stage m p plans table code address entry regions ok fit laid can f pc g t frames c h words there op x y o
-        (is_allowed m (wrap (t.values y + o)) (load_bytes op)) at refl fine
-    instruction_stage (flat.Store op y o x) at fine =
-        store_stage m p plans table code address entry regions ok fit laid can f pc g t frames c h words there op y o x
-        (is_allowed m (wrap (t.values y + o)) (store_bytes op)) at refl fine
-    instruction_stage (flat.Branch op y z past) at fine =
-        let q = if branch_taken op (t.values y) (right_value z t.values) then pc + 1 + past else pc + 1 in
-        let st = branch_steps m p plans table code address entry regions ok fit laid can f pc g t t frames c h words
-        there
-        op y z past at (same m p plans table code address entry regions ok fit laid can t) in
-        let bound = branch_bound m p plans f pc op y z past in
-        from_steps m p plans table code address entry regions ok fit laid can f q t frames c _ 46 t.turns t.work st
-        (omega arith) (omega arith) refl
-    instruction_stage (flat.JumpForward past) at fine =
-        let st = jump_steps m p plans table code address entry regions ok fit laid can f pc g t t frames c h words there
-        (pc + 1 + past) (flat.JumpForward past) at (inl refl) refl
-        (same m p plans table code address entry regions ok fit laid can t) (laid.forward f pc past at) in
-        from_steps m p plans table code address entry regions ok fit laid can f (pc + 1 + past) t frames c 2 46 t.turns
-        t.work st (omega arith) (omega arith) refl
-    instruction_stage (flat.JumpBack back) at fine =
-        let st = jump_steps m p plans table code address entry regions ok fit laid can f pc g t t frames c h words there
-        (pc - back) (flat.JumpBack back) at (inl refl) refl
-        (same m p plans table code address entry regions ok fit laid can t) (laid.back f pc back at) in
-        from_steps m p plans table code address entry regions ok fit laid can f (pc - back) t frames c 2 46 t.turns
-        t.work st (omega arith) (omega arith) refl
-    instruction_stage flat.Turn at fine =
+        (Stands f (pc + 1) (record t { turns = t.turns + 1 }) frames) c 1 t.turns t.work
+    turn_stage at =
         let s' : State = record t { turns = t.turns + 1 } in
         let b : Becomes t s' t.values t.memory t.accesses = record {
           values_are = refl;
@@ -449,9 +404,92 @@ module _ (m : MapSizes) (p : FlatProgram) (plans : List FunctionPlan) (table cod
         words
         there at b in
         let bound = turn_bound m p plans f pc in
-        from_steps m p plans table code address entry regions ok fit laid can f (pc + 1) s' frames c _ 46 t.turns
+        from_steps m p plans table code address entry regions ok fit laid can f (pc + 1) s' frames c _ 1 t.turns
         t.work st
         (omega arith) (omega (arith, takes)) refl
+
+    pub instruction_stage : (i : FlatInstruction) → instruction_at p f pc ≡ Some i
+        → (step m p (goes_to m p i f pc t frames (local (context m p f frames) i pc t)) ≡ Stuck → ⊥)
+        → StageSteps m p plans table code address entry regions ok fit laid can
+        (goes_to m p i f pc t frames (local (context m p f frames) i pc t)) c (6 * cost p f i) t.turns t.work
+    instruction_stage (flat.Constant x n) at fine =
+        let s' = with_register x (low_bits 64 n) t in
+        let inside = inside_of m p plans table code address entry regions ok fit laid can f (pc + 1) g s' frames fine there in
+        let st = constant_steps m p plans table code address entry regions ok fit laid can f pc g t s' frames c h words
+        there x n at inside
+        (plain m p plans table code address entry regions ok fit laid can t (put t.values x (low_bits 64 n))) in
+        let bound = constant_bound m p plans f pc x n (made_at x (flat.Constant x n) at (inl refl) inside refl)
+        (can.constant f pc x n at) in
+        from_steps m p plans table code address entry regions ok fit laid can f (pc + 1) s' frames c _ (6 * weight_of (function_in p f))
+        t.turns t.work st (omega (arith, bound, weight.twice, weight.some)) (omega arith) refl
+    instruction_stage (flat.Move x y) at fine =
+        let s' = with_register x (t.values y) t in
+        let inside = inside_of m p plans table code address entry regions ok fit laid can f (pc + 1) g s' frames fine there in
+        let st = move_steps m p plans table code address entry regions ok fit laid can f pc g t s' frames c h words
+        there x y at inside
+        (plain m p plans table code address entry regions ok fit laid can t (put t.values x (t.values y))) in
+        let bound = move_bound m p plans f pc x y (made_at x (flat.Move x y) at (inl refl) inside refl)
+        (placed_at y (ok.reads f pc g (flat.Move x y) there at y (rw (among_one y) refl))) in
+        from_steps m p plans table code address entry regions ok fit laid can f (pc + 1) s' frames c _ (6 * weight_of (function_in p f))
+        t.turns t.work st (omega (arith, bound, weight.twice, weight.some)) (omega arith) refl
+    instruction_stage (flat.Operate op x y z) at fine =
+        let n = reg_result op (t.values y) (right_value z t.values) in
+        let s' = with_register x n t in
+        let i = flat.Operate op x y z in
+        let inside = inside_of m p plans table code address entry regions ok fit laid can f (pc + 1) g s' frames fine there in
+        let st = operate_steps m p plans table code address entry regions ok fit laid can f pc g t s' frames c h words
+        there op x y z at inside
+        (plain m p plans table code address entry regions ok fit laid can t (put t.values x n)) in
+        let live = read_at y z i at refl in
+        let bound = operate_bound m p plans f pc op x y z (made_at x i at (inl refl) inside refl)
+        (placed_at y live.0) (right_at z live.1) (can.operate f pc op x y z at) in
+        from_steps m p plans table code address entry regions ok fit laid can f (pc + 1) s' frames c _ (6 * weight_of (function_in p f))
+        t.turns t.work st (omega (arith, bound, weight.twice, weight.some)) (omega arith) refl
+    instruction_stage (flat.Operate32 op x y z) at fine =
+        let n = reg32_result op (low_word (t.values y)) (low_word (right_value z t.values)) in
+        let s' = with_register x n t in
+        let i = flat.Operate32 op x y z in
+        let inside = inside_of m p plans table code address entry regions ok fit laid can f (pc + 1) g s' frames fine there in
+        let st = operate32_steps m p plans table code address entry regions ok fit laid can f pc g t s' frames c h words
+        there op x y z at inside
+        (plain m p plans table code address entry regions ok fit laid can t (put t.values x n)) in
+        let live = read_at y z i at refl in
+        let bound = operate32_bound m p plans f pc op x y z (made_at x i at (inl refl) inside refl)
+        (placed_at y live.0) (right_at z live.1) (can.operate32 f pc op x y z at) in
+        from_steps m p plans table code address entry regions ok fit laid can f (pc + 1) s' frames c _ (6 * weight_of (function_in p f))
+        t.turns t.work st (omega (arith, bound, weight.twice, weight.some)) (omega arith) refl
+    instruction_stage (flat.Load op x y o) at fine =
+        load_stage m p plans table code address entry regions ok fit laid can f pc g t frames c h words there op x y o
+        (is_allowed m (wrap (t.values y + o)) (load_bytes op)) at refl fine
+    instruction_stage (flat.Store op y o x) at fine =
+        store_stage m p plans table code address entry regions ok fit laid can f pc g t frames c h words there op y o x
+        (is_allowed m (wrap (t.values y + o)) (store_bytes op)) at refl fine
+    instruction_stage (flat.Branch op y z past) at fine =
+        let q = if branch_taken op (t.values y) (right_value z t.values) then pc + 1 + past else pc + 1 in
+        let st = branch_steps m p plans table code address entry regions ok fit laid can f pc g t t frames c h words
+        there
+        op y z past at (same m p plans table code address entry regions ok fit laid can t) in
+        let live = read_at y z (flat.Branch op y z past) at refl in
+        let bound = branch_bound m p plans f pc op y z past (placed_at y live.0) (right_at z live.1)
+        (can.branch f pc op y z past at) in
+        from_steps m p plans table code address entry regions ok fit laid can f q t frames c _ (6 * weight_of (function_in p f)) t.turns
+        t.work st (omega (arith, bound, weight.twice, weight.some)) (omega arith) refl
+    instruction_stage (flat.JumpForward past) at fine =
+        let st = jump_steps m p plans table code address entry regions ok fit laid can f pc g t t frames c h words there
+        (pc + 1 + past) (flat.JumpForward past) at (inl refl) refl
+        (same m p plans table code address entry regions ok fit laid can t) (laid.forward f pc past at) in
+        from_steps m p plans table code address entry regions ok fit laid can f (pc + 1 + past) t frames c 2
+        (6 * weight_of (function_in p f)) t.turns t.work st (omega (arith, weight.some)) (omega arith) refl
+    instruction_stage (flat.JumpBack back) at fine =
+        let st = jump_steps m p plans table code address entry regions ok fit laid can f pc g t t frames c h words there
+        (pc - back) (flat.JumpBack back) at (inl refl) refl
+        (same m p plans table code address entry regions ok fit laid can t) (laid.back f pc back at) in
+        from_steps m p plans table code address entry regions ok fit laid can f (pc - back) t frames c 2
+        (6 * weight_of (function_in p f)) t.turns t.work st (omega (arith, weight.some)) (omega arith) refl
+    instruction_stage flat.Turn at fine =
+        more_steps m p plans table code address entry regions ok fit laid can
+        (Stands f (pc + 1) (record t { turns = t.turns + 1 }) frames) c 1 (6 * weight_of (function_in p f)) t.turns
+        t.work (omega (arith, weight.some)) (turn_stage at)
     instruction_stage (flat.Call to first x) at fine = call_stage to first x at fine
     instruction_stage (flat.CallAddress y first n x r) at fine =
         address_stage y first n x r (function_at p (t.values y)) at refl fine
@@ -465,33 +503,37 @@ module _ (m : MapSizes) (p : FlatProgram) (plans : List FunctionPlan) (table cod
         let st = put_steps m p plans table code address entry regions ok fit laid can f pc g t s' frames c h words
         there x
         at refl refl refl refl refl refl in
-        let bound = put_bound m p plans f pc x in
-        from_steps m p plans table code address entry regions ok fit laid can f (pc + 1) s' frames c _ 46 t.turns
-        t.work st
-        (omega arith) (omega arith) refl
+        let bound = put_bound m p plans f pc x
+        (placed_at x (ok.reads f pc g (flat.Put x) there at x (rw (among_one x) refl))) in
+        from_steps m p plans table code address entry regions ok fit laid can f (pc + 1) s' frames c _
+        (6 * (2 * weight_of (function_in p f))) t.turns
+        t.work st (omega (arith, bound, weight.twice, weight.some)) (omega arith) refl
     instruction_stage (flat.Exit x) at fine =
         let st = exit_steps m p plans table code address entry regions ok fit laid can f pc g t t frames c h words
         there x
         at refl refl refl in
-        let bound = exit_bound m p plans f pc x in
-        from_ends m p plans table code address entry regions ok fit laid can (t.values x % 256) [] t c _ 46 t.turns
-        t.work
-        st (omega arith) (omega arith) refl
+        let bound = exit_bound m p plans f pc x
+        (placed_at x (ok.reads f pc g (flat.Exit x) there at x (rw (among_one x) refl))) in
+        from_ends m p plans table code address entry regions ok fit laid can (t.values x % 256) [] t c _
+        (6 * weight_of (function_in p f)) t.turns
+        t.work st (omega (arith, bound, weight.twice, weight.some)) (omega arith) refl
     instruction_stage (flat.End e) at fine =
         let st = end_steps m p plans table code address entry regions ok fit laid can f pc g t t frames c h words
         there e
         at refl refl refl in
         let bound = end_bound m p plans f pc e in
+        let most = end_most (function_in p f) (length (report_of e)) in
         from_ends m p plans table code address entry regions ok fit laid can (code_of e) (report_of e) t c _
-        (46 * (1 + length (report_of e))) t.turns t.work st (omega arith) (omega arith) refl
+        (6 * (weight_of (function_in p f) * (1 + length (report_of e)))) t.turns t.work st (omega (arith, bound, most))
+        (omega arith) refl
     instruction_stage (flat.Charged x) at fine =
         let n = wrap (charged p f frames) in
         let s' = with_register x n t in
+        let inside = inside_of m p plans table code address entry regions ok fit laid can f (pc + 1) g s' frames fine there in
         let st = charged_steps m p plans table code address entry regions ok fit laid can f pc g t s' frames c h words
-        there x at (inside_of m p plans table code address entry regions ok fit laid can f (pc + 1) g s' frames fine
-        there)
+        there x at inside
         (plain m p plans table code address entry regions ok fit laid can t (put t.values x n)) in
-        let bound = charged_bound m p plans f pc x in
-        from_steps m p plans table code address entry regions ok fit laid can f (pc + 1) s' frames c _ 46 t.turns
-        t.work st
-        (omega arith) (omega arith) refl
+        let bound = charged_bound m p plans f pc x (made_at x (flat.Charged x) at (inl refl) inside refl)
+        (omega (arith, regions.calls, regions.end)) in
+        from_steps m p plans table code address entry regions ok fit laid can f (pc + 1) s' frames c _ (6 * weight_of (function_in p f))
+        t.turns t.work st (omega (arith, bound, weight.twice, weight.some)) (omega arith) refl

@@ -1,5 +1,5 @@
 -- Every step of a run, on the machine.
-use Rattle.std.proofs.Common.{◌≡◌, ℕ, zero, suc, ◌+◌, ◌*◌, ◌<◌, ◌≤◌, refl, sym}
+use Rattle.std.proofs.Common.{◌≡◌, ℕ, zero, suc, ◌+◌, ◌*◌, ◌<◌, ◌≤◌, inl, refl, sym}
 use Rattle.std.proofs.Common.{ap, ◌∙◌, arith, ⊎_elim, Bool, true, false, List, [], ◌∷◌, ◌++◌, length, Some}
 use Rattle.std.proofs.Common.{None}
 use Rattle.std.specs.Prelude.{if◌then◌else◌, not, ◌&&◌, slice_get, drop}
@@ -10,6 +10,7 @@ use Rattle.behaviours.specs.Shown.{Access, Read, Write}
 use Rattle.rv_isa.specs.declared.instruction.LoadOp.{LoadOp}
 use Rattle.rv_isa.specs.declared.instruction.StoreOp.{StoreOp}
 use Rattle.rv_isa.specs.Results.{wrap, load_bytes, extended, store_bytes}
+use Rattle.flat_meaning.specs.declared.instruction.FlatInstruction.{FlatInstruction}
 use Rattle.flat_meaning.specs.declared.instruction.FlatInstruction.TheVariants as flat
 use Rattle.flat_meaning.specs.declared.function.FlatFunction.{FlatFunction}
 use Rattle.flat_meaning.specs.declared.function.FlatProgram.{FlatProgram}
@@ -17,20 +18,21 @@ use Rattle.flat_meaning.specs.Memory.{put, load, store}
 use Rattle.flat_meaning.specs.Spaces.{is_of_objects, is_allowed}
 use Rattle.flat_meaning.specs.State.{State, Frame, Values, Stage, Stands, Over, Stuck, seen}
 use Rattle.flat_meaning.specs.Calls.{function_in}
-use Rattle.flat_meaning.specs.Meaning.{instruction_at, body_of, is_runtime_function, cost, step}
+use Rattle.flat_meaning.specs.Meaning.{instruction_at, body_of, is_runtime_function, weight_of, cost, step}
 use Rattle.flat_meaning.specs.Meaning.{at_instruction, goes_to, Goes, Fails, context}
 use Rattle.flat_meaning.specs.Meaning.{with_access, with_register, received}
 use Rattle.flat_meaning.specs.Words.{IsOfWords}
 use Rattle.reg_plan.specs.declared.plan.FunctionPlan.{FunctionPlan}
+use Rattle.reg_plan.specs.Effects.{is_among, made_by, one, Leads}
 use Rattle.rv_sim.specs.Run.{Configuration, Turn, runs}
 use Rattle.rv_view.specs.Views.{Fits}
-use Rattle.rv_follows.specs.Code.{block, IsLaid, IsEncodable}
+use Rattle.rv_blocks.specs.Effects.{IsIn}
+use Rattle.rv_follows.specs.Code.{keeping, block, IsLaid, IsEncodable}
 use Rattle.rv_follows.specs.Matching.{Meets, HasEnded}
-use Rattle.rv_follows.proofs.Bounds.{load_bound, store_bound}
-use Rattle.rv_follows.proofs.Bounds.{get_bound}
+use Rattle.rv_follows.proofs.Bounds.{weighs, load_bound, store_bound, get_bound}
 use Rattle.rv_follows.proofs.Regions.{AreRegions}
 use Rattle.rv_follows.proofs.Sound.{IsSound}
-use Rattle.rv_follows.proofs.Locals.{layout, Becomes, Steps}
+use Rattle.rv_follows.proofs.Locals.{layout, Becomes, Steps, place_in, made_in, among_one, or_true}
 use Rattle.rv_follows.proofs.Locals.{load_steps, store_steps}
 use Rattle.rv_follows.proofs.Outside.{Ends, get_nothing_steps, get_byte_steps}
 
@@ -116,6 +118,18 @@ module _ (m : MapSizes) (p : FlatProgram) (plans : List FunctionPlan) (table cod
     worked = done;
   }
 
+  pub more_steps : (x : Stage) (c : Configuration) (n most turns work : ℕ) → n ≤ most → StageSteps x c n turns work
+      → StageSteps x c most turns work
+  more_steps x c n most turns work le st = record {
+    steps = st.steps;
+    few = omega (arith, le, st.few);
+    after = st.after;
+    is = st.is;
+    matches = st.matches;
+    turned = st.turned;
+    worked = st.worked;
+  }
+
   -- a run that is not stuck at the next step stands at an instruction
   pub inside_of : (f q : ℕ) (g : FlatFunction) (s : State) (frames : List Frame)
       → (step m p (Stands f q s frames) ≡ Stuck → ⊥) → function_in p f ≡ Some g → q < length g.body
@@ -168,6 +182,16 @@ module _ (m : MapSizes) (p : FlatProgram) (plans : List FunctionPlan) (table cod
   module _ (f pc : ℕ) (g : FlatFunction) (t : State) (frames : List Frame) (c : Configuration)
       (h : Meets m p plans (layout m table code) address f pc t frames c) (words : IsOfWords t)
       (there : function_in p f ≡ Some g) where
+    -- what an instruction makes, and what it reads, lies in its place
+    made_at : (x : ℕ) (i : FlatInstruction) → instruction_at p f pc ≡ Some i → Leads i pc (pc + 1)
+        → pc + 1 < length g.body → made_by p i ≡ one x → IsIn (keeping p plans f).room ((keeping p plans f).place x)
+    made_at x i at leads inside makes =
+        made_in m p plans table code address entry regions ok fit laid can f pc x g i there at leads inside makes
+
+    placed_at : (y : ℕ) → (keeping p plans f).live pc y ≡ true
+        → IsIn (keeping p plans f).room ((keeping p plans f).place y)
+    placed_at y live = place_in m p plans table code address entry regions ok fit laid can f pc y g there live
+
     -- ---- loads and stores
     pub load_stage : (op : LoadOp) (x y o : ℕ) (b : Bool) → instruction_at p f pc ≡ Some (flat.Load op x y o)
         → is_allowed m (wrap (t.values y + o)) (load_bytes op) ≡ b
@@ -177,7 +201,7 @@ module _ (m : MapSizes) (p : FlatProgram) (plans : List FunctionPlan) (table cod
         → StageSteps (goes_to m p (flat.Load op x y o) f pc t frames (if b then Goes (pc + 1)
         (with_register x (extended op (load (load_bytes op) t.memory (wrap (t.values y + o))))
         (with_access (context m p f frames) (wrap (t.values y + o)) (load_bytes op) Read t)) else Fails)) c
-        (46 * cost p f (flat.Load op x y o)) t.turns t.work
+        (6 * cost p f (flat.Load op x y o)) t.turns t.work
     load_stage op x y o false at allowed fine = absurd (fine refl)
     load_stage op x y o true at allowed fine =
         let a = wrap (t.values y + o) in
@@ -188,9 +212,10 @@ module _ (m : MapSizes) (p : FlatProgram) (plans : List FunctionPlan) (table cod
         let u = if shows then record t { accesses = t.accesses ++ extra } else t in
         let v = extended op (load size t.memory a) in
         let s' = with_register x v u in
+        let inside = inside_of f (pc + 1) g s' frames fine there in
         let st = load_steps m p plans table code address entry regions ok fit laid can f pc g t s' frames c h words
         there
-        op x y o at (inside_of f (pc + 1) g s' frames fine there) allowed (record {
+        op x y o at inside allowed (record {
           values_are = ap (λ q. put q x v) e.values_are;
           memory_is = e.memory_is;
           accesses_are = e.accesses_are;
@@ -198,12 +223,16 @@ module _ (m : MapSizes) (p : FlatProgram) (plans : List FunctionPlan) (table cod
           output_is = e.output_is;
           taken_is = e.taken_is;
         }) in
-        let bound = load_bound m p plans f pc op x y o in
+        let i = flat.Load op x y o in
+        let bound = load_bound m p plans f pc op x y o (made_at x i at (inl refl) inside refl)
+        (placed_at y (ok.reads f pc g i there at y (rw (among_one y) refl))) in
+        let w = weighs p f (keeping p plans f).room g there (ok.room f g there) in
         let turns = access_turns shows t extra in
         let done = access_work shows t extra in
-        from_steps f (pc + 1) s' frames c (length (block m p plans f pc (flat.Load op x y o))) (46 * 1) t.turns
+        from_steps f (pc + 1) s' frames c (length (block m p plans f pc (flat.Load op x y o)))
+        (6 * weight_of (function_in p f)) t.turns
         t.work st
-        (omega arith) (omega arith) done
+        (omega (arith, bound, w.twice, w.some)) (omega arith) done
 
     pub store_stage : (op : StoreOp) (y o x : ℕ) (b : Bool) → instruction_at p f pc ≡ Some (flat.Store op y o x)
         → is_allowed m (wrap (t.values y + o)) (store_bytes op) ≡ b
@@ -214,7 +243,7 @@ module _ (m : MapSizes) (p : FlatProgram) (plans : List FunctionPlan) (table cod
         → StageSteps (goes_to m p (flat.Store op y o x) f pc t frames (if b then Goes (pc + 1)
         (with_access (context m p f frames) (wrap (t.values y + o)) (store_bytes op) Write
         (record t { memory = store (store_bytes op) t.memory (wrap (t.values y + o)) (t.values x) })) else Fails)) c
-        (46 * cost p f (flat.Store op y o x)) t.turns t.work
+        (6 * cost p f (flat.Store op y o x)) t.turns t.work
     store_stage op y o x false at allowed fine = absurd (fine refl)
     store_stage op y o x true at allowed fine =
         let a = wrap (t.values y + o) in
@@ -234,30 +263,41 @@ module _ (m : MapSizes) (p : FlatProgram) (plans : List FunctionPlan) (table cod
           output_is = e.output_is;
           taken_is = e.taken_is;
         }) in
-        let bound = store_bound m p plans f pc op y o x in
+        let i = flat.Store op y o x in
+        let bound = store_bound m p plans f pc op y o x
+        (placed_at y (ok.reads f pc g i there at y (rw (among_one y) refl)))
+        (placed_at x (ok.reads f pc g i there at x (rw (among_one x) (or_true (is_among (one y) x))))) in
+        let w = weighs p f (keeping p plans f).room g there (ok.room f g there) in
         let turns = access_turns shows t' extra in
         let done = access_work shows t' extra in
-        from_steps f (pc + 1) u frames c (length (block m p plans f pc (flat.Store op y o x))) (46 * 1) t.turns
+        from_steps f (pc + 1) u frames c (length (block m p plans f pc (flat.Store op y o x)))
+        (6 * weight_of (function_in p f)) t.turns
         t.work st
-        (omega arith) (omega arith) done
+        (omega (arith, bound, w.twice, w.some)) (omega arith) done
 
     pub get_stage : (x : ℕ) (input : List ℕ) → instruction_at p f pc ≡ Some (flat.Get x) → t.input ≡ input
         → (step m p (Stands f (pc + 1) (received x (slice_get input 0) t) frames) ≡ Stuck → ⊥)
-        → StageSteps (Stands f (pc + 1) (received x (slice_get input 0) t) frames) c (46 * 1) t.turns t.work
+        → StageSteps (Stands f (pc + 1) (received x (slice_get input 0) t) frames) c (6 * (2 * weight_of (function_in p f))) t.turns t.work
     get_stage x [] at e fine =
         let s' = received x None t in
+        let inside = inside_of f (pc + 1) g s' frames fine there in
         let st = get_nothing_steps m p plans table code address entry regions ok fit laid can f pc g t s' frames c h
         words
-        there x at (inside_of f (pc + 1) g s' frames fine there) e refl refl refl refl refl refl in
-        let bound = get_bound m p plans f pc x in
+        there x at inside e refl refl refl refl refl refl in
+        let bound = get_bound m p plans f pc x (made_at x (flat.Get x) at (inl refl) inside refl) in
+        let w = weighs p f (keeping p plans f).room g there (ok.room f g there) in
         let done : s'.work ≡ t.work = refl in
-        from_steps f (pc + 1) s' frames c (length (block m p plans f pc (flat.Get x))) (46 * 1) t.turns t.work st
-        (omega arith) (omega arith) done
+        from_steps f (pc + 1) s' frames c (length (block m p plans f pc (flat.Get x)))
+        (6 * (2 * weight_of (function_in p f))) t.turns t.work st
+        (omega (arith, bound, w.twice, w.some)) (omega arith) done
     get_stage x (byte ∷ rest) at e fine =
         let s' = received x (Some byte) t in
+        let inside = inside_of f (pc + 1) g s' frames fine there in
         let st = get_byte_steps m p plans table code address entry regions ok fit laid can f pc g t s' frames c h words
-        there x byte rest at (inside_of f (pc + 1) g s' frames fine there) e refl refl refl (ap (drop 1) e) refl refl in
-        let bound = get_bound m p plans f pc x in
+        there x byte rest at inside e refl refl refl (ap (drop 1) e) refl refl in
+        let bound = get_bound m p plans f pc x (made_at x (flat.Get x) at (inl refl) inside refl) in
+        let w = weighs p f (keeping p plans f).room g there (ok.room f g there) in
         let done : s'.work ≡ t.work = refl in
-        from_steps f (pc + 1) s' frames c (length (block m p plans f pc (flat.Get x))) (46 * 1) t.turns t.work st
-        (omega arith) (omega arith) done
+        from_steps f (pc + 1) s' frames c (length (block m p plans f pc (flat.Get x)))
+        (6 * (2 * weight_of (function_in p f))) t.turns t.work st
+        (omega (arith, bound, w.twice, w.some)) (omega arith) done

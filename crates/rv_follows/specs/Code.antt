@@ -8,6 +8,8 @@ use Rattle.addr_map.specs.Places.{MapSizes, region_start, function_address, code
 use Rattle.addr_map.specs.declared.region.Region.TheVariants.{Calls}
 use Rattle.rv_isa.specs.declared.instruction.LoadOp.{LoadOp}
 use Rattle.rv_isa.specs.declared.instruction.StoreOp.{StoreOp}
+use Rattle.rv_isa.specs.declared.instruction.RegOp.{RegOp}
+use Rattle.rv_isa.specs.declared.instruction.RegOp32.{RegOp32}
 use Rattle.rv_isa.specs.declared.instruction.BranchOp.{BranchOp}
 use Rattle.rv_isa.specs.declared.instruction.Instr.{Instr}
 use Rattle.rv_isa.specs.declared.instruction.Instr.TheVariants.{Jalr}
@@ -27,7 +29,7 @@ use Rattle.reg_plan.specs.Effects.{is_among, many}
 use Rattle.reg_plan.specs.Accepted.{is_live}
 use Rattle.rv_blocks.specs.declared.location.Location.TheVariants.{Frame}
 use Rattle.rv_blocks.specs.Places.{home, location, frame_register, callee_scratch, left_scratch}
-use Rattle.rv_blocks.specs.Blocks.{constant, used, used_right, fetch, local_block}
+use Rattle.rv_blocks.specs.Blocks.{IsShort, RightIsShort, constant, used, used_right, fetch, local_block}
 use Rattle.rv_calls.specs.Calls.{Keeping, call_block, back_block, entry_block, return_block, row}
 
 -- how a function keeps its values under a plan: only before an instruction of its own is a value live
@@ -194,14 +196,20 @@ pub record IsLaid (m : MapSizes) (p : FlatProgram) (plans : List FunctionPlan) (
       → address f pc + 4 * length (block m p plans f pc i) ≤ code_begin
 
 -- what the meaning of flat code does not ask, and the machine's instructions need: offsets of loads and stores fit
--- their
--- fields, reports and statuses are bytes, each record has room for its return address, and the words of arguments are
--- enough
+-- their fields, numbers have 32 bits with their sign, reports and statuses are bytes, each record has room for its
+-- return address, and the words of arguments are enough
 pub record IsEncodable (p : FlatProgram) : Type 0 where
   pub load_offset : (f pc : ℕ) (op : LoadOp) (x y offset : ℕ)
       → instruction_at p f pc ≡ Some (flat.Load op x y offset) → offset < 2 ^ 11
   pub store_offset : (f pc : ℕ) (op : StoreOp) (y offset x : ℕ)
       → instruction_at p f pc ≡ Some (flat.Store op y offset x) → offset < 2 ^ 11
+  pub constant : (f pc x n : ℕ) → instruction_at p f pc ≡ Some (flat.Constant x n) → IsShort n
+  pub operate : (f pc : ℕ) (op : RegOp) (x y : ℕ) (z : RightOperand)
+      → instruction_at p f pc ≡ Some (flat.Operate op x y z) → RightIsShort z
+  pub operate32 : (f pc : ℕ) (op : RegOp32) (x y : ℕ) (z : RightOperand)
+      → instruction_at p f pc ≡ Some (flat.Operate32 op x y z) → RightIsShort z
+  pub branch : (f pc : ℕ) (op : BranchOp) (y : ℕ) (z : RightOperand) (past : ℕ)
+      → instruction_at p f pc ≡ Some (flat.Branch op y z past) → RightIsShort z
   pub report : (f pc : ℕ) (e : Ending) → instruction_at p f pc ≡ Some (flat.End e) → All (λ b. b < 256) (report_of e)
   pub status : (f pc : ℕ) (e : Ending) → instruction_at p f pc ≡ Some (flat.End e) → code_of e < 256
   pub rooms : (f : ℕ) (g : FlatFunction) → function_in p f ≡ Some g → 8 ≤ g.room

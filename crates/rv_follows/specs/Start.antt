@@ -1,5 +1,5 @@
 -- Where a program begins on the machine, and when its image can.
-use Rattle.std.specs.Prelude.{◌≡◌, ℕ, ◌≤◌, true, false, List, [], ◌∷◌, ◌++◌, Some, replicate}
+use Rattle.std.specs.Prelude.{◌≡◌, ℕ, ◌<◌, ◌≤◌, true, false, List, [], ◌∷◌, ◌++◌, Some, replicate}
 use Rattle.addr_map.specs.Places.{MapSizes, region_start, region_size, function_address}
 use Rattle.addr_map.specs.declared.region.Region.TheVariants.{Arguments, Calls, RuntimeCalls}
 use Rattle.rv_isa.specs.declared.instruction.Instr.{Instr}
@@ -9,7 +9,9 @@ use Rattle.rv_view.specs.Segments.{segments}
 use Rattle.rv_view.specs.Views.{Layout}
 use Rattle.flat_meaning.specs.declared.function.FlatFunction.{FlatFunction}
 use Rattle.flat_meaning.specs.declared.function.FlatProgram.{FlatProgram}
+use Rattle.flat_meaning.specs.declared.instruction.FlatInstruction.TheVariants.{Turn}
 use Rattle.flat_meaning.specs.Calls.{function_in, room_if}
+use Rattle.flat_meaning.specs.Meaning.{instruction_at}
 use Rattle.rv_blocks.specs.Places.{program_frame, argument_words, runtime_frame, callee_scratch}
 use Rattle.rv_blocks.specs.Blocks.{wide}
 use Rattle.rv_follows.specs.Matching.{object_bytes, space_bytes}
@@ -22,11 +24,13 @@ start_block m p =
     ++ (wide runtime_frame (region_start m RuntimeCalls)
     ++ (wide callee_scratch (function_address p.entry) ++ (Jalr 1 callee_scratch 0 ∷ []))))
 
--- the entry takes no arguments, and its activation record fits
+-- The entry takes no arguments, its activation record fits, and it begins with three turns: they count as much as the
+-- instructions take that are done before the first of the entry.
 pub record IsStartable (m : MapSizes) (p : FlatProgram) : Type 0 where
   pub function : FlatFunction
   pub there : function_in p p.entry ≡ Some function
   pub takes_nothing : function.parameters ≡ 0
+  pub turns : (k : ℕ) → k < 3 → instruction_at p p.entry k ≡ Some Turn
   pub program_fits : room_if false (function_in p p.entry) ≤ m.budgets.calls
   pub runtime_fits : room_if true (function_in p p.entry) ≤ region_size m RuntimeCalls
 

@@ -21,7 +21,7 @@ ghost use Rattle.rv_follows.specs.Start.{layout_of, start_block, IsStartable, be
 /// with the data segments' bytes those of the run's memory, and the run is never stuck, it shows what the run
 /// shows: the
 /// same output, report, bytes of the input, ending, and accesses of object space by the functions of the program; with
-/// at most 64 instructions for each unit of work.
+/// at most six instructions for each unit of work.
 pub fn the_machine_follows_flat_code()
     ensures { (m : MapSizes) (p : FlatProgram) (plans : List FunctionPlan) (table code : List ℕ)
         (address : (function pc : ℕ) → ℕ) (entry : (function : ℕ) → ℕ) (start : ℕ) (objects spaces : List ℕ)
@@ -30,5 +30,5 @@ pub fn the_machine_follows_flat_code()
         → AllStand (layout_of m table code) start (start_block m p)
         → Hold (object_bytes m) (space_bytes m) memory objects spaces → AreBytes memory
         → ((k : ℕ) → run (step m p) k (started p memory input) ≡ Stuck → ⊥)
-        → Follows 64 (flat_meaning m p memory input) (behaviour (begins start table code objects spaces) input) }
+        → Follows 6 (flat_meaning m p memory input) (behaviour (begins start table code objects spaces) input) }
 {}

@@ -64,7 +64,8 @@ pub constant_fits : (rd n : ℕ) → rd < 32 → AllOfTable (constant rd n)
 unfolding constant
 constant_fits rd n h = choice (nat_lt n (2 ^ 11)) _ _ ((omega arith, omega arith, omega arith), tt)
     (choice (nat_le (2 ^ 64 - 2 ^ 11) n) _ _ ((omega arith, omega arith, omega arith), tt)
-    (choice (nat_lt n (2 ^ 31 - 2 ^ 11)) _ _ (wide_fits rd n h) (digits_fit 5 rd n h)))
+    (choice (nat_lt n (2 ^ 31 - 2 ^ 11)) _ _ (wide_fits rd n h)
+    (choice (nat_le (2 ^ 64 - 2 ^ 31) n) _ _ (wide_fits rd n h) (digits_fit 5 rd n h))))
 
 load_fits : (rd base o : ℕ) → rd < 32 → base < 32 → AllOfTable (load_at rd base o)
 unfolding load_at

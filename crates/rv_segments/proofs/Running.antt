@@ -51,7 +51,7 @@ pub generated_follows : ((items : List Item) → IsAssemblable items → Assembl
     (input : List ℕ) → AreMapped m → AreAccepted p plans → IsEncodable p → IsStartable m p
     → FitsSegments m p plans → Hold (object_bytes m) (space_bytes m) memory objects spaces → AreBytes memory
     → ((k : ℕ) → run (step m p) k (started p memory input) ≡ Stuck → ⊥)
-    → Follows 64 (flat_meaning m p memory input)
+    → Follows 6 (flat_meaning m p memory input)
     (behaviour
     (begins (start_address p) (bytes_of (table_words m p plans)) (bytes_of (code_words m p plans)) objects spaces)
     input)

@@ -39,7 +39,7 @@ pub fn generated_code_is_placed()
     targets_are_met();
 }
 
-/// The machine with the code that is generated follows flat code, at most 64 instructions for each unit of work: where
+/// The machine with the code that is generated follows flat code, at most six instructions for each unit of work: where
 /// the plans are accepted, the segments have room, the data segments' bytes are those of the run's memory, and the run
 /// is never stuck.
 pub fn generated_code_follows()
@@ -47,7 +47,7 @@ pub fn generated_code_follows()
         (memory : Bytes) (input : List ℕ) → AreMapped m → AreAccepted p plans → IsEncodable p → IsStartable m p
         → FitsSegments m p plans → Hold (object_bytes m) (space_bytes m) memory objects spaces → AreBytes memory
         → ((k : ℕ) → run (step m p) k (started p memory input) ≡ Stuck → ⊥)
-        → Follows 64 (flat_meaning m p memory input)
+        → Follows 6 (flat_meaning m p memory input)
         (behaviour (begins (start_address p) (bytes_of (table_words m p plans)) (bytes_of (code_words m p plans))
         objects spaces) input) }
 {

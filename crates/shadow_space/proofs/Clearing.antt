@@ -55,8 +55,8 @@ record Clearing (start : State) (p n k : ℕ) (v : State) : Type 0 where
   cleared : (i : ℕ) → i < done → metadata_at v.memory (p + 32 * i) ≡ no_metadata
 
 -- work alone differs
-worked_clearing : (start : State) (p n k : ℕ) (v : State) → Clearing start p n k v → Clearing start p n k (worked v)
-worked_clearing start p n k v h = record {
+worked_clearing : (c : Context) (start : State) (p n k : ℕ) (v : State) → Clearing start p n k v → Clearing start p n k (worked c v)
+worked_clearing c start p n k v h = record {
   done = h.done;
   count = h.count;
   cursor = h.cursor;
@@ -183,23 +183,23 @@ module _ (c : Context) (ok : IsLaidOut c.sizes) (start : State) (p n : ℕ) (are
           (has_back alone 0 head turns_of (has_self alone)) k v
       turn zero v h =
           let e = h.cursor in let d = h.count in let f = h.end in
-          inr (taken_at (v.values 2) (v.values 3) (omega arith), worked_clearing start p n 0 v h)
+          inr (taken_at (v.values 2) (v.values 3) (omega arith), worked_clearing c start p n 0 v h)
       turn (suc k) v h =
           let e = h.cursor in let d = h.count in let f = h.end in
           let has = (has_back alone 0 head turns_of (has_self alone)).1 in
-          let h' = worked_clearing start p n (suc k) v h in
+          let h' = worked_clearing c start p n (suc k) v h in
           inl (
             not_taken_at (v.values 2) (v.values 3) (omega arith),
             k,
             refl,
-            weaken c alone 5 5 (Goes 5 (worked v)) 10 _ _ (omega arith) then
-                (line c alone body 5 (worked v) (Clearing start p n k) Never (one_allowed k (worked v) h')
-                (has_front alone 5 body (JumpBack 6 ∷ []) has) (one k (worked v) h')),
+            weaken c alone 5 5 (Goes 5 (worked c v)) 10 _ _ (omega arith) then
+                (line c alone body 5 (worked c v) (Clearing start p n k) Never (one_allowed k (worked c v) h')
+                (has_front alone 5 body (JumpBack 6 ∷ []) has) (one k (worked c v) h')),
           )
         where
           then : (x : Outcome) → Either (Clearing start p n k) Never x
-              → Either (λ s'. (i : ℕ) × (i ≤ k) × Clearing start p n i (worked s')) Never x
-          then (Continues s') q = (k, omega arith, worked_clearing start p n k s' q)
+              → Either (λ s'. (i : ℕ) × (i ≤ k) × Clearing start p n i (worked c s')) Never x
+          then (Continues s') q = (k, omega arith, worked_clearing c start p n k s' q)
           then (Halts status report s') q = q
 
 -- the first part of the routine
@@ -240,8 +240,8 @@ clear_registers first bytes t = register_of (first ∷ bytes ∷ []) [] (t ∷ (
 
 pub direct_clears : (map : MapSizes) (first bytes t : ℕ) → IsLaidOut map → AreBelow t (first ∷ bytes ∷ [])
     → IsClearRoutine map direct_entry (λ m. Unit {0}) first bytes t (direct_clear first bytes t (t + 1) (t + 2))
-direct_clears map first bytes t ok below count runtime charge =
-    let c = context_of map runtime charge in
+direct_clears map first bytes t ok below count runtime charge weight =
+    let c = context_of map runtime charge weight in
     let r : AreRegisters (first ∷ bytes ∷ []) [] (t ∷ (t + 1) ∷ (t + 2) ∷ []) t =
     record {
       none = (tt, (tt, tt));

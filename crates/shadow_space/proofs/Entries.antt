@@ -131,8 +131,8 @@ module _ (c : Context) (ok : IsLaidOut c.sizes) where
       stored_at v.memory (4 * v.values 0) _ _ _ _ (metadata_in v.values own) (omega arith) (omega arith) (omega arith)
       (omega arith)
 
-abbrev pub context_of : MapSizes → Bool → ℕ → Context
-context_of map runtime charge = record { sizes = map; is_runtime = runtime; charge = charge }
+abbrev pub context_of : MapSizes → Bool → (charge weight : ℕ) → Context
+context_of map runtime charge weight = record { sizes = map; is_runtime = runtime; charge = charge; weight = weight }
 
 -- ---- reading
 
@@ -142,8 +142,8 @@ read_registers at into t = register_of (at ∷ []) (entry_registers into) (t ∷
 pub direct_reads : (map : MapSizes) (at : ℕ) (into : Entry) (t : ℕ) → IsLaidOut map
     → AreDistinct (at ∷ entry_registers into) → AreBelow t (at ∷ entry_registers into)
     → IsReadRoutine map direct_entry (λ m. Unit {0}) at into t (direct_read at into t)
-direct_reads map at into t ok distinct below runtime charge =
-    let c = context_of map runtime charge in
+direct_reads map at into t ok distinct below runtime charge weight =
+    let c = context_of map runtime charge weight in
     let r : AreRegisters (at ∷ []) (entry_registers into) (t ∷ []) t =
     record {
       none = (distinct.0, tt);
@@ -203,8 +203,8 @@ write_registers at from t = register_of (at ∷ entry_registers from) [] (t ∷ 
 pub direct_writes : (map : MapSizes) (at : ℕ) (from : Entry) (t : ℕ) → IsLaidOut map
     → AreBelow t (at ∷ entry_registers from)
     → IsWriteRoutine map direct_entry (λ m. Unit {0}) at from t (direct_write at from t)
-direct_writes map at from t ok below runtime charge =
-    let c = context_of map runtime charge in
+direct_writes map at from t ok below runtime charge weight =
+    let c = context_of map runtime charge weight in
     let r : AreRegisters (at ∷ entry_registers from) [] (t ∷ []) t =
     record {
       none = (tt, (tt, (tt, (tt, (tt, tt)))));

@@ -15,8 +15,8 @@ use Rattle.flat_routines.specs.Metadata.{KeepsButShadow, ShowsNothing}
 abbrev pub DoesAnywhere : MapSizes → List FlatInstruction → (State → Type 0) → (steps : ℕ) → (State → State → Type 0)
     → Type 0
 DoesAnywhere map r P steps Q =
-    (runtime : Bool) (charge : ℕ)
-    → Does (record { sizes = map; is_runtime = runtime; charge = charge }) r P (λ s. steps) (λ s. Either (Q s) Never)
+    (runtime : Bool) (charge weight : ℕ)
+    → Does (record { sizes = map; is_runtime = runtime; charge = charge; weight = weight }) r P (λ s. steps) (λ s. Either (Q s) Never)
 
 pub record HasRead (entry : View) (at : ℕ) (into : Entry) (scratch : ℕ) (s s' : State) : Type 0 where
   pub read : metadata_in s'.values into ≡ entry s.memory (s.values at)

@@ -76,8 +76,8 @@ shows_both s s1 s2 h k = record {
   turns = k.turns ∙ h.turns;
 }
 
-pub shows_worked : (s s1 : State) → ShowsNothing s s1 → ShowsNothing s (worked s1)
-shows_worked s s1 h = record {
+pub shows_worked : (c : Context) (s s1 : State) → ShowsNothing s s1 → ShowsNothing s (worked c s1)
+shows_worked c s s1 h = record {
   input = h.input;
   output = h.output;
   taken = h.taken;
@@ -143,5 +143,5 @@ quiet_words c is s q w =
     subst LocalFits (run_straight c is is 0 s (quiet_allowed c is s q) (has_self is))
     (run_fits c is (length is) (Goes 0 s) w)
 
-pub worked_words : (s : State) → IsOfWords s → IsOfWords (worked s)
-worked_words s w = record { values = w.values; memory = w.memory }
+pub worked_words : (c : Context) (s : State) → IsOfWords s → IsOfWords (worked c s)
+worked_words c s w = record { values = w.values; memory = w.memory }

@@ -32,8 +32,8 @@ abbrev pub ReachesQuietly : Context → (code : List FlatInstruction) → (bound
     → (place : ℕ) → Fact → Type 0
 ReachesQuietly c code b pc start v end J = Reaches c code b (Goes pc v) end (Either (Quietly start J) Never)
 
-pub quietly_worked : (start v : State) (J : Fact) → Quietly start J v → Quietly start J (worked v)
-quietly_worked start v J h = (shows_worked start v h.0, h.1)
+pub quietly_worked : (c : Context) (start v : State) (J : Fact) → Quietly start J v → Quietly start J (worked c v)
+quietly_worked c start v J h = (shows_worked c start v h.0, h.1)
 
 module _ (c : Context) (ok : IsLaidOut c.sizes) (code : List FlatInstruction) (start : State) where
   -- fewer steps, and less said
@@ -84,20 +84,20 @@ module _ (c : Context) (ok : IsLaidOut c.sizes) (code : List FlatInstruction) (s
   -- a branch, by its condition
   pub quiet_branch : (b pc : ℕ) (v : State) (op : BranchOp) (x : ℕ) (y : RightOperand) (past end : ℕ) (J : Fact)
       → slice_get code pc ≡ Some (Branch op x y past) → ShowsNothing start v
-      → (taken op x y v ≡ true → ShowsNothing start (worked v)
-      → ReachesQuietly c code b (pc + 1 + past) start (worked v) end J)
-      → (taken op x y v ≡ false → ShowsNothing start (worked v)
-      → ReachesQuietly c code b (pc + 1) start (worked v) end J)
+      → (taken op x y v ≡ true → ShowsNothing start (worked c v)
+      → ReachesQuietly c code b (pc + 1 + past) start (worked c v) end J)
+      → (taken op x y v ≡ false → ShowsNothing start (worked c v)
+      → ReachesQuietly c code b (pc + 1) start (worked c v) end J)
       → ReachesQuietly c code (suc b) pc start v end J
   quiet_branch b pc v op x y past end J at shown on off =
-      let shown' = shows_worked start v shown in
+      let shown' = shows_worked c start v shown in
       branch c code b pc v op x y past end _ at (λ e. on e shown') (λ e. off e shown')
 
   pub quiet_jump : (b pc past : ℕ) (v : State) (end : ℕ) (J : Fact) → slice_get code pc ≡ Some (JumpForward past)
       → ShowsNothing start v
-      → (ShowsNothing start (worked v) → ReachesQuietly c code b (pc + 1 + past) start (worked v) end J)
+      → (ShowsNothing start (worked c v) → ReachesQuietly c code b (pc + 1 + past) start (worked c v) end J)
       → ReachesQuietly c code (suc b) pc start v end J
-  quiet_jump b pc past v end J at shown t = jump_on c code b pc past v end _ at (t (shows_worked start v shown))
+  quiet_jump b pc past v end J at shown t = jump_on c code b pc past v end _ at (t (shows_worked c start v shown))
 
   -- A loop: I k holds where at most k turns are left, and D where the condition holds. A turn leaves fewer.
   module _ (pc : ℕ) (op : BranchOp) (x : ℕ) (y : RightOperand) (body : List FlatInstruction) (b : ℕ)
@@ -108,29 +108,29 @@ module _ (c : Context) (ok : IsLaidOut c.sizes) (code : List FlatInstruction) (s
 
     abbrev pub QuietTurn : (k : ℕ) → State → Type 0
     QuietTurn k v = ((taken op x y v ≡ false) × (j : ℕ) × (k ≡ suc j)
-        × (ShowsNothing start (worked v)
-        → ReachesQuietly c code b (pc + 1) start (worked v) (pc + 1 + length body) (Remains j)))
+        × (ShowsNothing start (worked c v)
+        → ReachesQuietly c code b (pc + 1) start (worked c v) (pc + 1 + length body) (Remains j)))
         ⊎ ((taken op x y v ≡ true) × D v.values v.memory)
 
     quiet_turn : (k : ℕ) (v : State) → ShowsNothing start v → QuietTurn k v
         → ((taken op x y v ≡ false) × (j : ℕ) × (k ≡ suc j)
-        × Reaches c code b (Goes (pc + 1) (worked v)) (pc + 1 + length body)
-        (Either (λ s'. (i : ℕ) × (i ≤ j) × Quietly start (I i) (worked s')) Never))
-        ⊎ ((taken op x y v ≡ true) × Quietly start D (worked v))
+        × Reaches c code b (Goes (pc + 1) (worked c v)) (pc + 1 + length body)
+        (Either (λ s'. (i : ℕ) × (i ≤ j) × Quietly start (I i) (worked c s')) Never))
+        ⊎ ((taken op x y v ≡ true) × Quietly start D (worked c v))
     quiet_turn k v shown t = ⊎_elim
         (λ d. inl (
           d.0,
           d.1,
           d.2,
-          weaken c code b b (Goes (pc + 1) (worked v)) (pc + 1 + length body) _ _
-              (omega arith) (by d.1) (d.3 (shows_worked start v shown)),
+          weaken c code b b (Goes (pc + 1) (worked c v)) (pc + 1 + length body) _ _
+              (omega arith) (by d.1) (d.3 (shows_worked c start v shown)),
         ))
-        (λ d. inr (d.0, (shows_worked start v shown, d.1)))
+        (λ d. inr (d.0, (shows_worked c start v shown, d.1)))
         t
       where
         by : (j : ℕ) (x : Outcome) → Either (Quietly start (Remains j)) Never x
-            → Either (λ s'. (i : ℕ) × (i ≤ j) × Quietly start (I i) (worked s')) Never x
-        by j (Continues s) q = (q.1.0, q.1.1, (shows_worked start s q.0, q.1.2))
+            → Either (λ s'. (i : ℕ) × (i ≤ j) × Quietly start (I i) (worked c s')) Never x
+        by j (Continues s) q = (q.1.0, q.1.1, (shows_worked c start s q.0, q.1.2))
         by j (Halts status report s) q = q
 
     pub quiet_loop : ((k : ℕ) (v : State) → IsOfWords v → ShowsNothing start v → I k v.values v.memory → QuietTurn k v)

@@ -200,11 +200,11 @@ module _ (c : Context) (ok : IsLaidOut c.sizes) (lie : AreLevelsLaidOut c.sizes)
       (quiet_line c ok alone start (look_up 2 5 6 7) (suc 6) 4 v 18 J shown (look_up_quiet c lie 2 v w)
       (has_front alone 4 (look_up 2 5 6 7) (tests ++ onward) has)
       (λ s1. quiet_branch c ok alone start 6 11 s Beq 5 (Number 0) 5 18 J has_tests.0 s1
-      (λ t s2. quiet_weaken c ok alone start 1 6 17 (worked s) 18 J J (omega arith) (λ x y z. z)
-      (passes k v (worked s) s2 h looked.same h.cursor refl h.zero_is
+      (λ t s2. quiet_weaken c ok alone start 1 6 17 (worked c s) 18 J J (omega arith) (λ x y z. z)
+      (passes k v (worked c s) s2 h looked.same h.cursor refl h.zero_is
       (sym looked.table ∙ eqb-true (s.values 5) 0 t)
       (has_back alone 12 store_it onward has_tests.1)))
-      (λ t s2. clears_there k v (worked s) s2 h
+      (λ t s2. clears_there k v (worked c s) s2 h
       (record { table = looked.table; cell = looked.cell; offset = looked.offset; same = looked.same }) h.cursor refl
       h.zero_is (λ z. eqb-false (s.values 5) 0 t (looked.table ∙ z)) has_tests.1)))
 
@@ -225,7 +225,7 @@ module _ (c : Context) (ok : IsLaidOut c.sizes) (lie : AreLevelsLaidOut c.sizes)
       )
   each (suc k) v shown h has whole =
       let count = h.count in let cursor = h.cursor in let end = h.end in
-      inl (ap not (lt-ltb (v.values 2) (v.values 3) (omega arith)), k, refl, λ s1. turn k (worked v) s1 h has)
+      inl (ap not (lt-ltb (v.values 2) (v.values 3) (omega arith)), k, refl, λ s1. turn k (worked c v) s1 h has)
 
 module _ (c : Context) (ok : IsLaidOut c.sizes) (lie : AreLevelsLaidOut c.sizes) (n : ℕ) (v : State)
     (w : IsOfWords v) (range : IsWordRange c.sizes (v.values 0) (v.values 1) n)
@@ -268,8 +268,8 @@ clear_registers a n t = register_of (a ∷ n ∷ []) []
 pub two_level_clears : (map : MapSizes) (a n t : ℕ) → AreMapped map → AreBelow t (a ∷ n ∷ [])
     → IsClearRoutine map two_level_entry (AreTablesGood map) a n t
     (two_level_clear a n t (t + 1) (t + 2) (t + 3) (t + 4) (t + 5))
-two_level_clears map a n t mapped below count runtime charge =
-    let c = context_of map runtime charge in
+two_level_clears map a n t mapped below count runtime charge weight =
+    let c = context_of map runtime charge weight in
     let ok = laid_out map mapped in
     let lie = levels_laid_out map mapped in
     let own_registers = t ∷ (t + 1) ∷ (t + 2) ∷ (t + 3) ∷ (t + 4) ∷ (t + 5) ∷ [] in

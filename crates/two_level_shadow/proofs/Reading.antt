@@ -174,7 +174,7 @@ module _ (c : Context) (ok : IsLaidOut c.sizes) (lie : AreLevelsLaidOut c.sizes)
       (quiet_line c ok alone v front (suc 5) 0 v 17 J (shows_itself v) front_quiet
       (has_front alone 0 front (unless_code Beq 5 (Number 0) load_it) has)
       (λ s1. quiet_branch c ok alone v 5 11 s Beq 5 (Number 0) 5 17 J rest.0 s1
-      (λ e s2. quiet_arrived c ok alone v 5 17 17 (worked s) J refl (
+      (λ e s2. quiet_arrived c ok alone v 5 17 17 (worked c s) J refl (
         s2,
         (
           front_none ∙ sym (no_table v.memory table (entry_offset (v.values 0))
@@ -182,7 +182,7 @@ module _ (c : Context) (ok : IsLaidOut c.sizes) (lie : AreLevelsLaidOut c.sizes)
           h.same,
         ),
       ))
-      (λ e s2. loads (worked s) s2 (record { table = h.table; cell = h.cell; offset = h.offset; same = h.same })
+      (λ e s2. loads (worked c s) s2 (record { table = h.table; cell = h.cell; offset = h.offset; same = h.same })
       (λ z. eqb-false (s.values 5) 0 e (h.table ∙ z)) rest.1)))
 
 abbrev read_registers : (at : ℕ) → Entry → (scratch : ℕ) → ℕ → ℕ
@@ -191,8 +191,8 @@ read_registers at into t = register_of (at ∷ []) (entry_registers into) (t ∷
 pub two_level_reads : (map : MapSizes) (at : ℕ) (into : Entry) (t : ℕ) → AreMapped map
     → AreDistinct (at ∷ entry_registers into) → AreBelow t (at ∷ entry_registers into)
     → IsReadRoutine map two_level_entry (AreTablesGood map) at into t (two_level_read at into t (t + 1) (t + 2))
-two_level_reads map at into t mapped distinct below runtime charge =
-    let c = context_of map runtime charge in
+two_level_reads map at into t mapped distinct below runtime charge weight =
+    let c = context_of map runtime charge weight in
     let ok = laid_out map mapped in
     let lie = levels_laid_out map mapped in
     let r : AreRegisters (at ∷ []) (entry_registers into) (t ∷ (t + 1) ∷ (t + 2) ∷ []) t =

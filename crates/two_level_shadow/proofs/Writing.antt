@@ -236,22 +236,22 @@ module _ (c : Context) (ok : IsLaidOut c.sizes) (lie : AreLevelsLaidOut c.sizes)
       let has = (has_7 c.sizes).1 in
       let code = alone c.sizes in
       quiet_branch c ok code v 14 8 s Bne 1 (Number 0) 3 23 J has.0 shown
-      (λ t s1. quiet_weaken c ok code v 11 14 12 (worked s) 23 J J (omega arith) (λ x y z. z)
-      (takes (worked s) s1 (again s h) none))
-      (λ t1 s1. quiet_branch c ok code v 13 9 (worked s) Bne 2 (Number 0) 2 23 J has.1.0 s1
-      (λ t s2. quiet_weaken c ok code v 11 13 12 (worked (worked s)) 23 J J (omega arith) (λ x y z. z)
-      (takes (worked (worked s)) s2 (again s h) none))
-      (λ t2 s2. quiet_branch c ok code v 12 10 (worked (worked s)) Bne 3 (Number 0) 1 23 J has.1.1.0 s2
-      (λ t s3. quiet_weaken c ok code v 11 12 12 (worked (worked (worked s))) 23 J J (omega arith) (λ x y z. z)
-      (takes (worked (worked (worked s))) s3 (again s h) none))
-      (λ t3 s3. quiet_branch c ok code v 11 11 (worked (worked (worked s))) Beq 4 (Number 0) 11 23 J has.1.1.1.0 s3
-      (λ t4 s4. quiet_arrived c ok code v 11 23 23 (worked (worked (worked (worked s)))) J refl (
+      (λ t s1. quiet_weaken c ok code v 11 14 12 (worked c s) 23 J J (omega arith) (λ x y z. z)
+      (takes (worked c s) s1 (again s h) none))
+      (λ t1 s1. quiet_branch c ok code v 13 9 (worked c s) Bne 2 (Number 0) 2 23 J has.1.0 s1
+      (λ t s2. quiet_weaken c ok code v 11 13 12 (worked c (worked c s)) 23 J J (omega arith) (λ x y z. z)
+      (takes (worked c (worked c s)) s2 (again s h) none))
+      (λ t2 s2. quiet_branch c ok code v 12 10 (worked c (worked c s)) Bne 3 (Number 0) 1 23 J has.1.1.0 s2
+      (λ t s3. quiet_weaken c ok code v 11 12 12 (worked c (worked c (worked c s))) 23 J J (omega arith) (λ x y z. z)
+      (takes (worked c (worked c (worked c s))) s3 (again s h) none))
+      (λ t3 s3. quiet_branch c ok code v 11 11 (worked c (worked c (worked c s))) Beq 4 (Number 0) 11 23 J has.1.1.1.0 s3
+      (λ t4 s4. quiet_arrived c ok code v 11 23 23 (worked c (worked c (worked c (worked c s)))) J refl (
         s4,
         subst (IsWritten c.sizes m a e) (sym h.0.same) (none_written c.sizes lie m g a w e none
             (sym h.1 ∙ same_metadata (metadata_in s.values own) no_metadata (if_zero (s.values 1) t1) (if_zero (s.values 2) t2)
             (if_zero (s.values 3) t3) (eqb-true (s.values 4) 0 t4))),
       ))
-      (λ t4 s4. takes (worked (worked (worked (worked s)))) s4 (again s h) none))))
+      (λ t4 s4. takes (worked c (worked c (worked c (worked c s)))) s4 (again s h) none))))
     where
       again : (s : State) → Ready s.values s.memory → Ready s.values s.memory
       again s h = (record { table = h.0.table; cell = h.0.cell; offset = h.0.offset; same = h.0.same }, h.1)
@@ -271,11 +271,11 @@ module _ (c : Context) (ok : IsLaidOut c.sizes) (lie : AreLevelsLaidOut c.sizes)
       let there : table ≢ 0 = λ z. not_zero (s.values 5) t (h.table ∙ z) in
       let spot = g.table (page_of a) (page_below c.sizes a lie w) there in
       let below = spot.1 in let at = spot.2 in let n = g.within in
-      quiet_weaken c ok code v 5 15 18 (worked s) 23 J J (omega arith) (λ x y z. z)
-      (stores (worked s) table s2 h.table h.offset refl (omega arith) (omega arith)
+      quiet_weaken c ok code v 5 15 18 (worked c s) 23 J J (omega arith) (λ x y z. z)
+      (stores (worked c s) table s2 h.table h.offset refl (omega arith) (omega arith)
       (subst (λ x. IsWritten c.sizes m a e (store_four x (table + entry_offset a) e)) (sym h.same)
       (written_there c.sizes lie m g a w e there words))))
-      (λ t s2. chooses (worked s) s2
+      (λ t s2. chooses (worked c s) s2
       (record { table = h.table; cell = h.cell; offset = h.offset; same = h.same }, refl)
       (sym h.table ∙ if_zero (s.values 5) t))))
     where
@@ -291,8 +291,8 @@ pub two_level_writes : (map : MapSizes) (at : ℕ) (from : Entry) (t : ℕ) → 
     → AreBelow t (at ∷ entry_registers from)
     → IsWriteRoutine map two_level_entry (AreTablesGood map) at from t
     (two_level_write map at from t (t + 1) (t + 2) (t + 3) (t + 4))
-two_level_writes map at from t mapped below runtime charge =
-    let c = context_of map runtime charge in
+two_level_writes map at from t mapped below runtime charge weight =
+    let c = context_of map runtime charge weight in
     let ok = laid_out map mapped in
     let lie = levels_laid_out map mapped in
     let own_registers = t ∷ (t + 1) ∷ (t + 2) ∷ (t + 3) ∷ (t + 4) ∷ [] in

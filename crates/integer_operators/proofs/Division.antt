@@ -1,5 +1,5 @@
 -- A division ends the run where the divisor is zero, and all other operators give a value.
-use Rattle.std.proofs.Common.{◌≡◌, ℕ, ◌+◌, ◌<◌, ◌≤◌, true, false, ◌==◌, if◌then◌else◌, List, ◌∷◌}
+use Rattle.std.proofs.Common.{◌≡◌, ℕ, ◌+◌, ◌^◌, ◌<◌, ◌≤◌, true, false, ◌==◌, if◌then◌else◌, List, ◌∷◌}
 use Rattle.std.proofs.Common.{length, Option, Some, None, refl, sym, subst, arith}
 use Rattle.std.proofs.lemmas.Bool.{not-true, not-false, cond-true, cond-false}
 use Rattle.sb_base.specs.declared.ending.Ending.{Ending}
@@ -29,7 +29,7 @@ use Rattle.flat_routines.specs.Local.{counted}
 use Rattle.flat_routines.specs.Routine.{HasAt, Does, Outcome, Continues, Halts, Reaches}
 use Rattle.flat_routines.specs.Effects.{worked, effects}
 use Rattle.flat_routines.proofs.Rules.{branch, line_on, arrived, ended, weaken}
-use Rattle.integer_operators.specs.Operators.{conversion_code, converted, divided_code}
+use Rattle.integer_operators.specs.Operators.{constant_code, conversion_code, converted, divided_code}
 use Rattle.integer_operators.specs.Operators.{unary_code, binary_code}
 use Rattle.integer_operators.specs.Results.{IsUnchanged, Anywhere, IsResult}
 use Rattle.integer_operators.proofs.Sets.{does_straight, set_behind}
@@ -38,7 +38,8 @@ use Rattle.integer_operators.proofs.Values.{sum_by, difference_by, product_by, a
 use Rattle.integer_operators.proofs.Operators.{Gives, conversion_gives, operator_gives, alone_gives, wrapping_gives}
 use Rattle.integer_operators.proofs.Operators.{turned_gives, equal_gives, unequal_gives, shift_left_gives}
 use Rattle.integer_operators.proofs.Operators.{shift_right_gives, unary_gives, length_converted, length_conversion}
-use Rattle.integer_operators.proofs.Operators.{length_wrapping, length_unary, length_left, length_right}
+use Rattle.integer_operators.proofs.Operators.{length_wrapping, length_unary, constant_gives, length_constant}
+use Rattle.integer_operators.proofs.Operators.{length_left, length_right}
 
 -- a list that gives a value everywhere
 module _ (c : Context) (line d n : ℕ) where
@@ -61,6 +62,12 @@ module _ (c : Context) (line d n : ℕ) where
   does_unary o t x below =
       does_give (unary_code o t d x n) 4 (λ s. unary_value o t (s.values x)) (length_unary o t d x n)
       (λ s w. unary_gives c d n s w o t x below)
+
+  pub does_constant : (word : ℕ) → word < 2 ^ 64
+      → Does c (constant_code d word) Anywhere (λ s. 5) (λ s. IsResult (Some word) line d n s)
+  does_constant word low =
+      does_give (constant_code d word) 5 (λ s. word) (length_constant d word)
+      (λ s w. constant_gives c d n s word low)
 
   -- ---- division
 
@@ -89,7 +96,7 @@ module _ (c : Context) (line d n : ℕ) where
         is = Operate o d a (Register b) ∷ converted t d
 
         s1 : State
-        s1 = worked s
+        s1 = worked c s
 
         w1 : IsOfWords s1
         w1 = record { values = w.values; memory = w.memory }
@@ -122,7 +129,7 @@ module _ (c : Context) (line d n : ℕ) where
         off : (s.values b == 0) ≡ true → Reaches c code 3 (Goes (pc + 1) s1) end R
         off e =
             let same : None ≡ answer s = sym (cond-true (s.values b == 0) None (Some (fit t v)) e) in
-            let s2 : State = counted (End zero_divisor) s1 in
+            let s2 : State = counted c (End zero_divisor) s1 in
             ended c code 2 zero_divisor s1 (pc + 1) end R has.1.0
             (subst (λ v. IsResult v line d n s (Halts (code_of zero_divisor) (report_of zero_divisor) s2)) same
             (record { by = (refl, refl, unchanged s2.work s) }))

@@ -1,5 +1,5 @@
 -- The code of each operator gives its value.
-use Rattle.std.proofs.Common.{◌≡◌, ℕ, ◌-◌, ◌%◌, ◌^◌, ◌<◌, ◌≤◌, Bool, true, false, not, ◌==◌}
+use Rattle.std.proofs.Common.{◌≡◌, ℕ, ◌-◌, ◌/◌, ◌%◌, ◌^◌, ◌<◌, ◌≤◌, Bool, true, false, not, ◌==◌}
 use Rattle.std.proofs.Common.{if◌then◌else◌, List, [], ◌∷◌, ◌++◌, length, refl, sym, ap, ◌∙◌, subst}
 use Rattle.std.proofs.Common.{arith}
 use Rattle.rv_isa.specs.declared.instruction.RegOp.{RegOp}
@@ -9,7 +9,7 @@ use Rattle.rv_isa.specs.declared.instruction.RegOp32.TheVariants.{Sllw}
 use Rattle.rv_isa.specs.Results.{low_word, reg_result, reg32_result}
 use Rattle.rv_isa.proofs.Words.{reg_fits}
 use Rattle.words.specs.TwosComplement.{low_bits}
-use Rattle.words.specs.Operations.{shifted_left}
+use Rattle.words.specs.Operations.{sum, shifted_left}
 use Rattle.obj_memory.specs.declared.int_type.IntType.{IntType}
 use Rattle.obj_memory.specs.declared.int_type.IntType.TheVariants.{Char, SignedChar, UnsignedChar, Short}
 use Rattle.obj_memory.specs.declared.int_type.IntType.TheVariants.{UnsignedShort, Int, UnsignedInt, Long}
@@ -26,6 +26,8 @@ use Rattle.flat_meaning.specs.Words.{IsOfWords}
 use Rattle.flat_meaning.specs.Meaning.{Context}
 use Rattle.flat_meaning.proofs.Stored.{put_same, put_other}
 use Rattle.flat_routines.specs.Effects.{IsAllowed, AreAllowed, effect, effects}
+use Rattle.flat_routines.proofs.Straight.{effects_append}
+use Rattle.integer_operators.specs.Operators.{is_short, appended, wide_code, constant_code}
 use Rattle.integer_operators.specs.Operators.{two_shifts, conversion_code, converted, wrapping_code}
 use Rattle.integer_operators.specs.Operators.{shift_left_code, shift_right_code, turned, equal_code, unary_code}
 use Rattle.integer_operators.specs.Results.{HasResult, IsUnchanged}
@@ -33,6 +35,12 @@ use Rattle.integer_operators.proofs.Sets.{one_set, scratch_set, set_again, set_b
 use Rattle.integer_operators.proofs.Values.{zeros_by_shifts, signs_by_shifts, int_by_word, left_by_word, right_by}
 use Rattle.integer_operators.proofs.Values.{masked, other_by, zero_by, equal_by, amount_of_whole}
 use Rattle.integer_operators.proofs.Values.{amount_of_word, whole_shift, word_shift_fits, negated_by, complement_by}
+
+-- code that may be done, behind code that may
+both_all : (c : Context) (is js : List FlatInstruction) (s : State) → AreAllowed c is s
+    → AreAllowed c js (effects c is s) → AreAllowed c (is ++ js) s
+both_all c [] js s a b = b
+both_all c (i ∷ is) js s a b = (a.0, both_all c is js (effect c i s) a.1 b)
 
 module _ (c : Context) (d n : ℕ) where
   -- code without jumps gives a value in d
@@ -60,6 +68,67 @@ module _ (c : Context) (d n : ℕ) where
   pub behind_gives : (i : FlatInstruction) (is : List FlatInstruction) (v : ℕ) (s : State) → IsAllowed c i s
       → IsUnchanged n s (effect c i s) → Gives is (effect c i s) v → Gives (i ∷ is) s v
   behind_gives i is v s a h g = ((a, g.0), set_behind n d v s (effect c i s) (effects c is (effect c i s)) h g.1)
+
+  -- ---- constants
+
+  -- 20 more bits behind those that stand in d
+  appended_gives : (bits u v : ℕ) (s : State) → s.values d ≡ u → sum 64 (shifted_left 64 u 20) bits ≡ v
+      → bits < 2 ^ 20 → Gives (appended d bits) s v
+  unfolding reg_result
+  appended_gives bits u v s is_u e low =
+      let m = reg_result op.Sll (s.values d) (low_bits 64 20) in
+      let s1 = effect c (Operate op.Sll d d (Number 20)) s in
+      let here : s1.values d ≡ shifted_left 64 u 20 = put_same s.values d m ∙ ap (λ x. shifted_left 64 x 20) is_u in
+      let is_bits : low_bits 64 bits ≡ bits = omega arith in
+      then_gives (Operate op.Sll d d (Number 20)) (Operate op.Add d d (Number bits) ∷ []) m v s tt (one_set n d m _ s)
+      ((tt, tt), is_value n d (sum 64 (s1.values d) (low_bits 64 bits)) v s1 _
+      (ap (λ x. sum 64 x (low_bits 64 bits)) here ∙ ap (sum 64 (shifted_left 64 u 20)) is_bits ∙ e)
+      (one_set n d _ _ s1))
+
+  -- two lists one behind the other
+  both_give : (is js : List FlatInstruction) (u v : ℕ) (s : State) → Gives is s u → Gives js (effects c is s) v
+      → Gives (is ++ js) s v
+  both_give is js u v s g h =
+      (both_all c is js s g.0 h.0, subst (HasResult d v n s) (sym (effects_append c is js s))
+      (set_again n d u v s (effects c is s) (effects c js (effects c is s)) g.1 h.1))
+
+  pub constant_gives : (s : State) (word : ℕ) → word < 2 ^ 64 → Gives (constant_code d word) s word
+  unfolding constant_code
+  constant_gives s word low = cases (is_short word)
+    where
+      high : ℕ
+      high = word / 2 ^ 40
+
+      middle : ℕ
+      middle = word / 2 ^ 20 % 2 ^ 20
+
+      s1 : State
+      s1 = effect c (Constant d high) s
+
+      first : s1.values d ≡ high
+      first = put_same s.values d (low_bits 64 high) ∙ omega arith
+
+      second : sum 64 (shifted_left 64 high 20) middle ≡ word / 2 ^ 20
+      second = omega arith
+
+      third : sum 64 (shifted_left 64 (word / 2 ^ 20) 20) (word % 2 ^ 20) ≡ word
+      third = omega arith
+
+      wide : Gives (appended d middle ++ appended d (word % 2 ^ 20)) s1 word
+      wide =
+          let g = appended_gives middle high (word / 2 ^ 20) s1 first second (omega arith) in
+          both_give (appended d middle) (appended d (word % 2 ^ 20)) (word / 2 ^ 20) word s1 g
+          (appended_gives (word % 2 ^ 20) (word / 2 ^ 20) word (effects c (appended d middle) s1) g.1.result third
+          (omega arith))
+
+      whole : low_bits 64 word ≡ word
+      whole = omega arith
+
+      cases : (b : Bool) → Gives (if b then Constant d word ∷ [] else wide_code d word) s word
+      cases true = ((tt, tt), is_value n d (low_bits 64 word) word s _ whole (one_set n d _ _ s))
+      cases false =
+          then_gives (Constant d high) (appended d middle ++ appended d (word % 2 ^ 20)) (low_bits 64 high) word s tt
+          (one_set n d _ _ s) wide
 
   -- ---- conversions
 
@@ -369,3 +438,7 @@ length_right t d a b n =
     length_if (size_of t == 8) (Operate (if is_signed t then op.Sra else op.Srl) d a (Register b) ∷ [])
     (Operate op.And n b (Number 31) ∷ Operate (if is_signed t then op.Sra else op.Srl) d a (Register n) ∷ []) 2
     (omega arith) (omega arith)
+
+pub length_constant : (d w : ℕ) → length (constant_code d w) ≤ 5
+unfolding constant_code
+length_constant d w = length_if (is_short w) (Constant d w ∷ []) (wide_code d w) 5 (omega arith) (omega arith)

@@ -1,6 +1,6 @@
 -- The operators of C on integers in flat code (C99 6.5.3.3, 6.5.5 to 6.5.12) and their conversions (6.3.1.3), on
 -- registers that hold words: `into` gets the result. The register `scratch` may change.
-use Rattle.std.specs.Prelude.{ℕ, ◌-◌, ◌^◌, ◌==◌, if◌then◌else◌, List, [], ◌∷◌, ◌++◌}
+use Rattle.std.specs.Prelude.{ℕ, ◌-◌, ◌/◌, ◌%◌, ◌^◌, Bool, ◌||◌, ◌==◌, nat_lt, nat_le, if◌then◌else◌, List, [], ◌∷◌, ◌++◌}
 use Rattle.sb_base.specs.declared.ending.Ending.TheVariants as ending
 use Rattle.rv_isa.specs.declared.instruction.BranchOp.TheVariants.{Bne}
 use Rattle.rv_isa.specs.declared.instruction.RegOp.{RegOp}
@@ -23,6 +23,25 @@ use Rattle.flat_meaning.specs.declared.instruction.RightOperand.TheVariants.{Reg
 use Rattle.flat_meaning.specs.declared.instruction.FlatInstruction.{FlatInstruction}
 use Rattle.flat_meaning.specs.declared.instruction.FlatInstruction.TheVariants.{Constant, Move, Operate, Operate32}
 use Rattle.flat_meaning.specs.declared.instruction.FlatInstruction.TheVariants.{Branch, End}
+
+-- ---- constants
+
+-- A number in an instruction has at most 32 bits with its sign, and not quite all of the positive ones, so that it takes
+-- two instructions of the machine (RISC-V unprivileged ISA manual, 2.4: LUI and ADDI).
+abbrev pub is_short : ℕ → Bool
+is_short w = nat_lt w (2 ^ 31 - 2 ^ 11) || nat_le (2 ^ 64 - 2 ^ 31) w
+
+-- 20 more bits behind those of a register
+abbrev pub appended : (into bits : ℕ) → List FlatInstruction
+appended d n = Operate op.Sll d d (Number 20) ∷ Operate op.Add d d (Number n) ∷ []
+
+abbrev pub wide_code : (into word : ℕ) → List FlatInstruction
+wide_code d w = Constant d (w / 2 ^ 40) ∷ (appended d (w / 2 ^ 20 % 2 ^ 20) ++ appended d (w % 2 ^ 20))
+
+unfoldable pub constant_code : (into word : ℕ) → List FlatInstruction
+constant_code d w = if is_short w then Constant d w ∷ [] else wide_code d w
+
+-- ---- conversions
 
 -- the low 64 - n bits, extended by a shift to the left and one back
 abbrev pub two_shifts : (back : RegOp) → (n into from : ℕ) → List FlatInstruction
@@ -63,6 +82,8 @@ shift_right_code t d a b n =
     let shift = if is_signed t then op.Sra else op.Srl in
     if size_of t == 8 then Operate shift d a (Register b) ∷ []
     else Operate op.And n b (Number 31) ∷ Operate shift d a (Register n) ∷ []
+
+-- ---- divisions
 
 -- the run ends where the divisor is zero
 abbrev pub divided_code : RegOp → IntType → (line into left right : ℕ) → List FlatInstruction

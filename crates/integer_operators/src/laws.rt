@@ -1,6 +1,6 @@
 //! Laws of the lists, each as the contract of a function that does nothing.
 
-ghost use Rattle.std.specs.Prelude.{ℕ, ◌<◌, Some};
+ghost use Rattle.std.specs.Prelude.{ℕ, ◌^◌, ◌<◌, Some};
 ghost use Rattle.obj_memory.specs.declared.int_type.IntType.{IntType};
 ghost use Rattle.obj_memory.specs.declared.operator.UnaryOperator.{UnaryOperator};
 ghost use Rattle.obj_memory.specs.declared.operator.BinaryOperator.{BinaryOperator};
@@ -8,8 +8,14 @@ ghost use Rattle.obj_memory.specs.Integers.{fit};
 ghost use Rattle.obj_memory.specs.Operators.{unary_value, binary_value};
 ghost use Rattle.flat_meaning.specs.Meaning.{Context};
 ghost use Rattle.flat_routines.specs.Routine.{Does};
-ghost use Rattle.integer_operators.specs.Operators.{conversion_code, unary_code, binary_code};
+ghost use Rattle.integer_operators.specs.Operators.{constant_code, conversion_code, unary_code, binary_code};
 ghost use Rattle.integer_operators.specs.Results.{AreOperands, Anywhere, IsResult};
+
+/// A word gets into a register within five steps.
+pub fn constants_get_there()
+    ensures { (c : Context) (line d n w : ℕ) → d < n → w < 2 ^ 64
+        → Does c (constant_code d w) Anywhere (λ s. 5) (λ s. IsResult (Some w) line d n s) }
+{}
 
 /// A conversion gives the value that fits the type (C99 6.3.1.3), within two steps.
 pub fn conversions_fit()

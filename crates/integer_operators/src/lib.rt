@@ -3,6 +3,7 @@
 #![tactic(auto)]
 
 pub mod binary;
+pub mod constant;
 pub mod conversion;
 pub mod laws;
 mod list;

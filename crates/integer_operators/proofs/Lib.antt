@@ -1,0 +1,4 @@
+pub mod Sets
+pub mod Values
+pub mod Operators
+pub mod Division

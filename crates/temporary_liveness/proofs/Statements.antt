@@ -245,7 +245,7 @@ module _ (c : Placed) where
         → has_default is ≡ true → AreDead k x → Dead k other
     of_default no_items k t n other x l e h = absurd (false≢true e)
     of_default (items labels s is) k t n other x l e h =
-        default_of labels (has_default is) k n other t l.0 l.2 e 
+        default_of labels (has_default is) k n other t l.0 l.2 e
         (of_statement s k n (record x { next = l.1 }) l.3 (with_next k l.1 x h (of_items is k l.0 l.1 other x l.4 h)))
         (λ q. of_default is k l.0 l.1 other x l.4 q h)
 
@@ -254,7 +254,7 @@ module _ (c : Placed) where
         → AreDead k x → May c k Result t
     of_tests no_items k t n other x l d h = subst (May c k Result) (sym l.0) (also c k Nothing 0 other d)
     of_tests (items labels s is) k t n other x l d h =
-        of_labels labels k n other t l.0 l.2 
+        of_labels labels k n other t l.0 l.2
         (of_statement s k n (record x { next = l.1 }) l.3 (with_next k l.1 x h (of_items is k l.0 l.1 other x l.4 h)))
         (of_tests is k l.0 l.1 other x l.4 d h)
 

@@ -1,6 +1,7 @@
 -- The machine that begins an image.
-use Rattle.std.proofs.Common.{◌≡◌, ℕ, zero, suc, ◌+◌, ◌-◌, ◌≤◌, true, false, List, ◌++◌}
+use Rattle.std.proofs.Common.{◌≡◌, ℕ, zero, suc, ◌+◌, ◌<◌, ◌-◌, ◌≤◌, Bool, true, false, List, [], ◌∷◌, ◌++◌}
 use Rattle.std.proofs.Common.{length, refl, sym, ap, ◌∙◌, subst, arith, length-append, None}
+use Rattle.std.specs.List.{All}
 use Rattle.std.specs.Prelude.{replicate, slice_index, nat_lt, if◌then◌else◌}
 use Rattle.std.proofs.lemmas.Bool.{lt-ltb, le-ltb}
 use Rattle.std.proofs.lemmas.List.{append-nil}
@@ -147,3 +148,24 @@ held m objects spaces mapped few few' =
           else slice_index ss (spaces_begin + k - spaces_begin)) behind
           ∙ ap (slice_index ss) place;
     }
+
+zero_at : (n k : ℕ) → slice_index (zeros n) k ≡ 0
+unfolding zeros
+zero_at zero k = refl
+zero_at (suc n) zero = refl
+zero_at (suc n) (suc k) = zero_at n k
+
+filled_byte : (xs : List ℕ) (n k : ℕ) → All (λ b. b < 256) xs → slice_index (xs ++ zeros n) k < 256
+filled_byte [] n k h = let e = zero_at n k in omega arith
+filled_byte (x ∷ xs) n zero h = h 0 0 (omega arith)
+filled_byte (x ∷ xs) n (suc k) h = filled_byte xs n k (λ j d lt. h (suc j) d (omega arith))
+
+pub data_bytes : (objects spaces : List ℕ) (m n : ℕ) → All (λ b. b < 256) objects → All (λ b. b < 256) spaces
+    → AreBytes (data_memory (filled m objects) (filled n spaces))
+unfolding zeros
+data_bytes objects spaces m n ho hs a = by (nat_lt a spaces_begin)
+  where
+    by : (c : Bool) → (if c then slice_index (filled m objects) (a - objects_begin)
+        else slice_index (filled n spaces) (a - spaces_begin)) < 256
+    by true = filled_byte objects (m - length objects) (a - objects_begin) ho
+    by false = filled_byte spaces (n - length spaces) (a - spaces_begin) hs

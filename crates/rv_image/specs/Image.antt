@@ -72,4 +72,6 @@ pub record ImageFollows (m : MapSizes) (p : FlatProgram) (plans : List FunctionP
 -- a memory that has them
 abbrev pub data_memory : (objects spaces : List ℕ) → Bytes
 data_memory objects spaces =
-    λ a. if nat_lt a spaces_begin then slice_index objects (a - objects_begin) else slice_index spaces (a - spaces_begin)
+    λ a.
+    if nat_lt a spaces_begin then slice_index objects (a - objects_begin)
+    else slice_index spaces (a - spaces_begin)

@@ -102,9 +102,9 @@ fn parts_of(
     })
 }
 
-/// The image of a program under its plans, one for each function: its generated code, the bytes that object space has at
-/// the start, from 0x10000000 on, and those of the runtime's spaces, from 0x40000000 on; what is not given is zero. The
-/// machine that begins it follows the program, for every input. An error is a cause that `generate` names.
+/// The image of a program under its plans, one for each function: its generated code, the bytes that object space has
+/// at the start, from 0x10000000 on, and those of the runtime's spaces, from 0x40000000 on; what is not given is zero.
+/// The machine that begins it follows the program, for every input. An error is a cause that `generate` names.
 pub fn image_of(
     alloc: Global,
     sizes: &AddrMap,

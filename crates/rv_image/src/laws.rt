@@ -1,8 +1,10 @@
 //! Laws of images, each as the contract of a function that does nothing.
 
-ghost use Rattle.std.specs.Prelude.{◌≤◌, ℕ, List, length};
+ghost use Rattle.std.specs.Prelude.{◌<◌, ◌≤◌, ℕ, List, length};
+ghost use Rattle.std.specs.List.{All};
 ghost use Rattle.addr_map.specs.Places.{MapSizes, AreMapped};
 ghost use Rattle.flat_meaning.specs.declared.function.FlatProgram.{FlatProgram};
+ghost use Rattle.flat_meaning.specs.Memory.{AreBytes};
 ghost use Rattle.reg_plan.specs.declared.plan.FunctionPlan.{FunctionPlan};
 ghost use Rattle.rv_view.specs.Segments.{Hold};
 ghost use Rattle.rv_follows.specs.Matching.{object_bytes, space_bytes};
@@ -27,11 +29,13 @@ pub fn programs_have_images()
         → IsImage m p plans objects spaces (image_bytes (written m p plans objects spaces)) }
 {}
 
-/// There is a memory that has the data of an image.
+/// There is a memory that has the data of an image, and is of bytes where the data is.
 pub fn data_is_held()
-    ensures { (m : MapSizes) (objects spaces : List ℕ) → AreMapped m → length objects ≤ object_bytes m
+    ensures held { (m : MapSizes) (objects spaces : List ℕ) → AreMapped m → length objects ≤ object_bytes m
         → length spaces ≤ space_bytes m
         → Hold (object_bytes m) (space_bytes m)
         (data_memory (filled (object_bytes m) objects) (filled (space_bytes m) spaces))
         (filled (object_bytes m) objects) (filled (space_bytes m) spaces) }
+    ensures bytes { (objects spaces : List ℕ) (m n : ℕ) → All (λ b. b < 256) objects → All (λ b. b < 256) spaces
+        → AreBytes (data_memory (filled m objects) (filled n spaces)) }
 {}

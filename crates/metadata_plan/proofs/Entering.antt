@@ -34,7 +34,7 @@ use Rattle.flat_objects.specs.StandsFor.{Views, Keys, StandsFor}
 use Rattle.metadata_plan.specs.Operators.{OperatorCode, AreOperators}
 use Rattle.metadata_plan.specs.Blocks.{prologue, call_tests, entry_code}
 use Rattle.metadata_plan.specs.Expanded.{IsExpanded, EntersAt}
-use Rattle.metadata_plan.specs.Part.{are_integers, have_no_objects, is_integer_code}
+use Rattle.metadata_plan.specs.Part.{are_integers, have_no_objects, IsIntegerCode}
 use Rattle.metadata_plan.specs.Matching.{factor, IsAlike, AllWait, Wait, MatchesBy}
 use Rattle.metadata_plan.proofs.Numbers.{integers_back, integers_words, integers_front, is_integer_variable}
 use Rattle.metadata_plan.proofs.Flat.{Comes, leads_comes, one}
@@ -42,7 +42,7 @@ use Rattle.metadata_plan.proofs.Holding.{IsSet}
 use Rattle.metadata_plan.proofs.Holding.{holds_free}
 use Rattle.metadata_plan.specs.Registers.{words_in}
 use Rattle.metadata_plan.proofs.SetUp.{laid_out, laid_out_homes, exhausted, set_up_gives}
-use Rattle.metadata_plan.proofs.Standing.{function_parts, there, integer_function, Result, ends}
+use Rattle.metadata_plan.proofs.Standing.{there, integer_function, Result, ends}
 use Rattle.metadata_plan.proofs.Calling.{tested, tests_end, counted}
 use Rattle.metadata_plan.proofs.Calling.{callee_holds}
 use Rattle.metadata_plan.proofs.Calling.{variables_zeroed, plain_counted, argument_out}
@@ -136,7 +136,7 @@ result_set free into y results values = record {
 
 module _ (o : OperatorCode) (views : Views) (g : Setting) (t : Tac) (address : (function node : ℕ) → ℕ)
     (p : FlatProgram) (ops : AreOperators o) (ex : IsExpanded o g.sizes t address p)
-    (part : is_integer_code t ≡ true) (low : g.sizes.budgets.calls < 2 ^ 63) (stack : stack_first g ≤ stack_end g) where
+    (part : IsIntegerCode t) (low : g.sizes.budgets.calls < 2 ^ 63) (stack : stack_first g ≤ stack_end g) where
   abbrev m : MapSizes
   m = g.sizes
 
@@ -180,8 +180,8 @@ module _ (o : OperatorCode) (views : Views) (g : Setting) (t : Tac) (address : (
         → Gives call_stage
     enters_matches values most keys K at args fits stacked work stands wait =
         let th = there o views g t address p ops ex part f c found in
-        let parts = function_parts t c (integer_function o views g t address p ops ex part f c found) in
-        let none = no_objects_of c.parameters c.entered (integers_front c.parameters c.variables parts.0) parts.1 in
+        let parts = integer_function o views g t address p ops ex part f c found in
+        let none = no_objects_of c.parameters c.entered (integers_front c.parameters c.variables parts.variables) parts.entered in
         let header = header_of_code c in
         let set = set_up_gives g header vs line (begun s) none stacked stack
         (le-leb (s.charged + c.room) g.sizes.budgets.calls fits) in
@@ -198,7 +198,7 @@ module _ (o : OperatorCode) (views : Views) (g : Setting) (t : Tac) (address : (
         let called : flat.State =
         record v { turns = v.turns + 1; values = values; work = v.work + K.work } in
         let n : parameters_of (function_in p f) ≡ length c.parameters =
-        th.parameters ∙ integers_words c.parameters (integers_front c.parameters c.variables parts.0) in
+        th.parameters ∙ integers_words c.parameters (integers_front c.parameters c.variables parts.variables) in
         let in_callee : flat.State = record called {
           values = arguments first (length c.parameters) values;
           work = v.work + K.work + (8 + 2 * length c.parameters);
@@ -210,8 +210,8 @@ module _ (o : OperatorCode) (views : Views) (g : Setting) (t : Tac) (address : (
           work = v.work + K.work
               + (8 + 2 * z);
         }) (frame ∷ xs)) n in
-        let words = integers_words c.parameters (integers_front c.parameters c.variables parts.0) in
-        let others = integers_back c.parameters c.variables parts.0 in
+        let words = integers_words c.parameters (integers_front c.parameters c.variables parts.variables) in
+        let others = integers_back c.parameters c.variables parts.variables in
         let z = variables_zeroed m p f (frame ∷ xs) c.variables others 0 in_callee (words_in c.parameters)
         (λ y le. argument_out first (length c.parameters) y values (omega arith)) th.zeroed in
         let zeroed : flat.State = record in_callee {
@@ -243,14 +243,15 @@ module _ (o : OperatorCode) (views : Views) (g : Setting) (t : Tac) (address : (
             place = refl;
             code = c;
             there = found;
-            holds = holds_free c parts.0 no_temps t'.plain (arguments first (length c.parameters) values) z.values
-                (callee_holds c vs first values parts.0 args) (λ y lt. z.same y);
+            holds = holds_free c parts.variables no_temps t'.plain (arguments first (length c.parameters) values) z.values
+                (callee_holds c vs first values parts.variables args) (λ y lt. z.same y);
+            safe = parts.safe;
             alike = record {
               input = alike.input;
               output = alike.output;
               taken = alike.taken;
               accesses = alike.accesses;
-              turns = ap (λ z. z + 1) alike.turns;
+              turns = omega (arith, alike.turns);
             };
             work = omega (arith, K.few, z.comes.few, l.few, work, many, plain_counted c.variables others);
             homes = laid_out_homes header;
@@ -266,7 +267,7 @@ module _ (o : OperatorCode) (views : Views) (g : Setting) (t : Tac) (address : (
 
     pub exhausts : HasAt (body_of (function_in p u)) pc (call_tests m c.room line first)
         → g.sizes.budgets.calls < s.charged + c.room → s.charged ≤ g.sizes.budgets.calls
-        → v.work ≤ factor * s.work → Gives call_stage
+        → v.work ≤ factor * s.work + 4 → Gives call_stage
     exhausts has more fits work =
         let none = exhausted g (header_of_code c) vs line (begun s) (not_le (s.charged + c.room) g.sizes.budgets.calls more)
         in
@@ -282,7 +283,7 @@ module _ (o : OperatorCode) (views : Views) (g : Setting) (t : Tac) (address : (
           output = alike.output;
           taken = alike.taken;
           accesses = alike.accesses;
-          turns = ap (λ z. z + 1) alike.turns;
+          turns = omega (arith, alike.turns);
         })
         (omega (arith, r.few, work)) in
         subst (λ z. Gives (came z (λ _ y. Stands f c.entry no_temps frames y))) (sym none) result

@@ -3,7 +3,8 @@
 --     while(i!=4){i=next(i);i++;}return i;}
 --     int next(int x){return x+1;}
 use Rattle.std.proofs.Common.{◌≡◌, ℕ, zero, suc, ◌+◌, true, List, [], ◌∷◌, get_or, Some, None, refl}
-use Rattle.std.proofs.Common.{subst, false, arith}
+use Rattle.std.proofs.Common.{subst, sym, false, arith, Bool, ◌&&◌, ◌<◌, length, inl, inr, nat_lt}
+use Rattle.std.proofs.lemmas.Bool.{and_parts, ltb-true}
 use Rattle.std.specs.Prelude.{slice_get}
 use Rattle.std.specs.Int.{int_wrap}
 use Rattle.behaviours.specs.Shown.{Status}
@@ -45,7 +46,9 @@ use Rattle.metadata_plan.specs.Blocks.{entry_code}
 use Rattle.metadata_plan.specs.Expanded.{Falls, Forward, Back, IsPut, IsExpandedFunction, ExpandsAt}
 use Rattle.metadata_plan.specs.Expanded.{IsExpanded}
 use Rattle.metadata_plan.specs.Laid.{place_of, body_of}
-use Rattle.metadata_plan.specs.Part.{is_integer_code}
+use Rattle.tac_ir.specs.Edges.{IsAmong, successors}
+use Rattle.std.proofs.lemmas.Option.{same_Some, none-some}
+use Rattle.metadata_plan.specs.Part.{SafeWithin, IsIntegerFunction, IsIntegerCode, is_integer_instruction}
 
 -- ---- three-address code
 
@@ -190,9 +193,60 @@ address (suc u) n = get_or (3 ∷ 2 ∷ 1 ∷ 0 ∷ []) n 0
 
 -- ---- what the law asks
 
-is_of_the_part : is_integer_code program ≡ true
-unfolding is_integer_code
-is_of_the_part = refl
+-- code of integers whose nodes lead to nodes of it is safe from each of them on
+
+all_below : (size : ℕ) → List ℕ → Bool
+all_below k [] = true
+all_below k (m ∷ ms) = nat_lt m k && all_below k ms
+
+are_closed : (is_safe : Instruction → Bool) → (size : ℕ) → List Instruction → Bool
+are_closed ok k [] = true
+are_closed ok k (i ∷ is) = ok i && (all_below k (successors i) && are_closed ok k is)
+
+below_among : (k m : ℕ) (ms : List ℕ) → all_below k ms ≡ true → IsAmong m ms → m < k
+unfolding all_below
+below_among k m [] e a = absurd a
+below_among k m (x ∷ ms) e (inl same) =
+    let h = and_parts (nat_lt x k) (all_below k ms) e in
+    let b = ltb-true x k h.0 in subst (λ z. z < k) (sym same) b
+below_among k m (x ∷ ms) e (inr a) = below_among k m ms (and_parts (nat_lt x k) (all_below k ms) e).1 a
+
+closed_at : (ok : Instruction → Bool) (k : ℕ) (is : List Instruction) (n : ℕ) → are_closed ok k is ≡ true
+    → n < length is
+    → (i : Instruction) × (slice_get is n ≡ Some i) × (ok i ≡ true) × (all_below k (successors i) ≡ true)
+unfolding are_closed
+closed_at ok k [] n e lt = absurd (omega arith)
+closed_at ok k (i ∷ is) zero e lt =
+    let h = and_parts (ok i) (all_below k (successors i) && are_closed ok k is) e in
+    (i, refl, h.0, (and_parts (all_below k (successors i)) (are_closed ok k is) h.1).0)
+closed_at ok k (i ∷ is) (suc n) e lt =
+    let h = and_parts (ok i) (all_below k (successors i) && are_closed ok k is) e in
+    closed_at ok k is n (and_parts (all_below k (successors i)) (are_closed ok k is) h.1).1 (omega arith)
+
+closed_safe : (ok : Instruction → Bool) (code : List Instruction) → are_closed ok (length code) code ≡ true
+    → (k n : ℕ) → n < length code → SafeWithin ok code k n
+unfolding SafeWithin
+closed_safe ok code e zero n lt = tt
+closed_safe ok code e (suc k) n lt =
+    let h = closed_at ok (length code) code n e lt in
+    (h.0, h.1, h.2, λ m l. closed_safe ok code e k m (below_among (length code) m (successors h.0) h.3 l))
+
+is_of_the_part : IsIntegerCode program
+unfolding are_closed all_below
+is_of_the_part = record { statics = refl; main = refl; functions = each }
+  where
+    each : (u : ℕ) (c : CodeFunction) → slice_get program.functions u ≡ Some c → IsIntegerFunction program c
+    each zero c e = subst (IsIntegerFunction program) (same_Some main c e) (record {
+      variables = refl;
+      entered = refl;
+      safe = λ k. closed_safe (is_integer_instruction program 1) main.code refl k 12 (omega arith);
+    })
+    each (suc zero) c e = subst (IsIntegerFunction program) (same_Some next c e) (record {
+      variables = refl;
+      entered = refl;
+      safe = λ k. closed_safe (is_integer_instruction program 1) next.code refl k 3 (omega arith);
+    })
+    each (suc (suc u)) c e = absurd (none-some c e)
 
 AllPut : (c : CodeFunction) → List FlatInstruction → (address : ℕ → ℕ) → (node : ℕ) → List Instruction → Type 0
 AllPut c body places n [] = Unit {0}
@@ -323,7 +377,7 @@ next_laid : body_of operators setting.sizes program next ≡ flat_next.body
 unfolding place_of
 next_laid = refl
 
--- ---- both runs, by computation: `main` gives 4, for 40 and 117 units of work
+-- ---- both runs, by computation: `main` gives 4, for 40 and 119 units of work
 
 abbrev ended : (turns work : ℕ) → Moment
 ended turns work = record {
@@ -336,6 +390,6 @@ tac_run : tac_meaning program default_sizes [] 40 ≡ ended 5 40
 unfolding int_wrap binary_value fit region_size region_start
 tac_run = refl
 
-flat_run : flat_meaning setting.sizes expansion (λ a. 0) [] 90 ≡ ended 5 117
+flat_run : flat_meaning setting.sizes expansion (λ a. 0) [] 90 ≡ ended 7 119
 unfolding put rooms branch_taken reg_result reg32_result region_size
 flat_run = refl

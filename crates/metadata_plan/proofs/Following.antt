@@ -29,7 +29,7 @@ use Rattle.flat_objects.specs.Start.{start_keys, IsStart}
 use Rattle.flat_objects.proofs.Starts.{starts}
 use Rattle.metadata_plan.specs.Operators.{OperatorCode, AreOperators}
 use Rattle.metadata_plan.specs.Expanded.{IsExpanded}
-use Rattle.metadata_plan.specs.Part.{is_integer_code}
+use Rattle.metadata_plan.specs.Part.{IsIntegerCode}
 use Rattle.metadata_plan.specs.Matching.{factor, IsAt, MatchesBy, Matches}
 use Rattle.metadata_plan.proofs.Flat.{words_kept}
 use Rattle.metadata_plan.proofs.Standing.{node, Result}
@@ -50,7 +50,7 @@ shown_is a b o e t x n =
 
 module _ (o : OperatorCode) (views : Views) (g : Setting) (t : Tac) (address : (function node : ℕ) → ℕ)
     (p : FlatProgram) (ops : AreOperators o) (ex : IsExpanded o g.sizes t address p)
-    (part : is_integer_code t ≡ true) (low : g.sizes.budgets.calls < 2 ^ 63) (stack : stack_first g ≤ stack_end g) where
+    (part : IsIntegerCode t) (low : g.sizes.budgets.calls < 2 ^ 63) (stack : stack_first g ≤ stack_end g) where
   abbrev m : MapSizes
   m = g.sizes
 
@@ -89,7 +89,7 @@ module _ (o : OperatorCode) (views : Views) (g : Setting) (t : Tac) (address : (
   instruction u n temps ws s v xs h w (tac.Return a) at =
       return_step o views g t address p ops ex part low stack u n temps ws s v xs h a at
   instruction u n temps ws s v xs h w i at =
-      let fine = (node o views g t address p ops ex part u h.code n i h.there at).part in cc
+      let fine = (node o views g t address p ops ex part u h.code n i h.there h.safe at).part in cc
 
   -- a step from a node
   stands : (u n : ℕ) (temps : Temps) (ws : List Frame) (s : State) (v : flat.State) (xs : List flat.Frame)
@@ -165,7 +165,7 @@ module _ (o : OperatorCode) (views : Views) (g : Setting) (t : Tac) (address : (
 stack_is : (g : Setting) → stack_first g ≤ stack_end g
 stack_is g = omega arith
 
-pub code_follows : (o : OperatorCode) → AreOperators o → (t : Tac) → is_integer_code t ≡ true → (budgets : BudgetSizes)
+pub code_follows : (o : OperatorCode) → AreOperators o → (t : Tac) → IsIntegerCode t → (budgets : BudgetSizes)
     (address : (function node : ℕ) → ℕ) (p : FlatProgram)
     → IsExpanded o (setting_of_code t budgets).sizes t address p → AreMapped (setting_of_code t budgets).sizes
     → (views : Views) (memory : Bytes) → views.sizes ≡ (setting_of_code t budgets).sizes
@@ -193,7 +193,7 @@ code_follows o ops t part budgets address p ex mapped views memory sizes start b
     })
     fine
 
-module _ (o : OperatorCode) (ops : AreOperators o) (t : Tac) (part : is_integer_code t ≡ true) (budgets : BudgetSizes)
+module _ (o : OperatorCode) (ops : AreOperators o) (t : Tac) (part : IsIntegerCode t) (budgets : BudgetSizes)
     (address : (function node : ℕ) → ℕ) (p : FlatProgram)
     (ex : IsExpanded o (setting_of_code t budgets).sizes t address p)
     (mapped : AreMapped (setting_of_code t budgets).sizes) (views : Views) (memory : Bytes)

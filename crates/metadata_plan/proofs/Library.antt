@@ -1,4 +1,5 @@
 -- The routines of the library that integer programs call.
+use Rattle.std.proofs.Common.{inl}
 use Rattle.std.proofs.Common.{◌≡◌, ℕ, ◌+◌, ◌-◌, ◌*◌, ◌%◌, ◌^◌, ◌<◌, ◌≤◌, refl, sym, ap, ◌∙◌, subst}
 use Rattle.std.proofs.Common.{arith, Bool, true, false, List, [], ◌∷◌, ◌++◌, Option, Some, None, length, drop, mul-le-mul_right}
 use Rattle.std.specs.Prelude.{slice_get, nat_lt}
@@ -33,7 +34,7 @@ use Rattle.flat_objects.specs.StandsFor.{Views}
 use Rattle.metadata_plan.specs.Registers.{most_temporaries, temporary_register, first_free}
 use Rattle.metadata_plan.specs.Operators.{OperatorCode, AreOperators, Position}
 use Rattle.metadata_plan.specs.Expanded.{Leads, IsExpanded}
-use Rattle.metadata_plan.specs.Part.{is_integer_routine, is_integer_code}
+use Rattle.metadata_plan.specs.Part.{is_integer_routine, IsIntegerCode}
 use Rattle.metadata_plan.specs.Matching.{IsAt}
 use Rattle.metadata_plan.proofs.Flat.{weight_small, Comes, then_comes, put_comes, get_comes, exit_step, end_step}
 use Rattle.metadata_plan.proofs.Holding.{IsSet, set_by_put, holds_temporary, temporary_free}
@@ -55,7 +56,7 @@ byte_of w = refl
 
 module _ (o : OperatorCode) (views : Views) (g : Setting) (t : Tac) (address : (function node : ℕ) → ℕ)
     (p : FlatProgram) (ops : AreOperators o) (ex : IsExpanded o g.sizes t address p)
-    (part : is_integer_code t ≡ true) (u n : ℕ) (temps : Temps) (ws : List Frame) (s : State) (v : flat.State)
+    (part : IsIntegerCode t) (u n : ℕ) (temps : Temps) (ws : List Frame) (s : State) (v : flat.State)
     (xs : List flat.Frame) (h : IsAt views g t address p u n temps ws s u (address u n) v xs) (words : IsOfWords v) where
   abbrev m : MapSizes
   m = g.sizes
@@ -73,7 +74,7 @@ module _ (o : OperatorCode) (views : Views) (g : Setting) (t : Tac) (address : (
   Node i = IsNode o g.sizes t (address u) (body_of (function_in p u)) h.code (address u n) i
 
   known : (i : Instruction) → slice_get h.code.code n ≡ Some i → Node i
-  known i at = node o views g t address p ops ex part u h.code n i h.there at
+  known i at = node o views g t address p ops ex part u h.code n i h.there h.safe at
 
   putchar : (line d count next : ℕ) → slice_get h.code.code n ≡ Some (tac.Library routine.Putchar line d count next)
       → count ≡ 1
@@ -120,7 +121,7 @@ module _ (o : OperatorCode) (views : Views) (g : Setting) (t : Tac) (address : (
         accesses = h.alike.accesses;
         turns = h.alike.turns;
       })
-      (record { objects = refl; frame = refl; stacked = refl; charged = refl }) refl (omega arith) in
+      (record { objects = refl; frame = refl; stacked = refl; charged = refl }) refl (omega arith) (k.on next (inl refl)) in
       subst (λ z. Gives (act g t (tac.Library routine.Putchar line d z next) u temps ws (spent 1 s))) (sym one)
       (subst (λ z. Gives (stage_at z)) (sym word) result)
 
@@ -158,7 +159,7 @@ module _ (o : OperatorCode) (views : Views) (g : Setting) (t : Tac) (address : (
             accesses = h.alike.accesses;
             turns = h.alike.turns;
           })
-          (record { objects = refl; frame = refl; stacked = refl; charged = refl }) refl (omega arith)
+          (record { objects = refl; frame = refl; stacked = refl; charged = refl }) refl (omega arith) (k.on next (inl refl))
       by (b ∷ bs) e =
           let x = temporary_register c d in
           let some : slice_get v.input 0 ≡ Some b = ap (λ l. slice_get l 0) (h.alike.input ∙ e) in
@@ -175,7 +176,7 @@ module _ (o : OperatorCode) (views : Views) (g : Setting) (t : Tac) (address : (
             accesses = h.alike.accesses;
             turns = h.alike.turns;
           })
-          (record { objects = refl; frame = refl; stacked = refl; charged = refl }) refl (omega arith)
+          (record { objects = refl; frame = refl; stacked = refl; charged = refl }) refl (omega arith) (k.on next (inl refl))
 
   exit : (line d count next : ℕ) → slice_get h.code.code n ≡ Some (tac.Library routine.Exit line d count next)
       → count ≡ 1

@@ -13,8 +13,7 @@ use Rattle.tac_ir.specs.declared.function.Tac.{Tac}
 use Rattle.tac_ir.specs.Temporaries.{temporaries}
 use Rattle.flat_meaning.specs.Memory.{put}
 use Rattle.metadata_plan.specs.Registers.{words_of, words_in, register_of, most_temporaries}
-use Rattle.metadata_plan.specs.Part.{is_integer_kind, are_integers, is_integer_instruction, are_integer_instructions}
-use Rattle.metadata_plan.specs.Part.{is_integer_function, are_integer_functions}
+use Rattle.metadata_plan.specs.Part.{is_integer_kind, are_integers}
 
 -- ---- registers that change
 
@@ -86,24 +85,3 @@ pub integers_back : (vs ws : List Variable) → are_integers (vs ++ ws) ≡ true
 integers_back [] ws e = e
 integers_back (v ∷ vs) ws e =
     integers_back vs ws (and_parts (not v.is_object && is_integer_kind v.kind) (are_integers (vs ++ ws)) e).1
-
--- ---- the part
-
-pub part_at : (t : Tac) (k : ℕ) (is : List Instruction) (n : ℕ) (i : Instruction)
-    → are_integer_instructions t k is ≡ true → slice_get is n ≡ Some i → is_integer_instruction t k i ≡ true
-part_at t k [] n i e at = cc
-part_at t k (x ∷ is) zero i e at =
-    let same : i ≡ x = cc in
-    ap (is_integer_instruction t k) same
-    ∙ (and_parts (is_integer_instruction t k x) (are_integer_instructions t k is) e).0
-part_at t k (x ∷ is) (suc n) i e at =
-    part_at t k is n i (and_parts (is_integer_instruction t k x) (are_integer_instructions t k is) e).1 at
-
-pub function_part : (t : Tac) (cs : List CodeFunction) (u : ℕ) (c : CodeFunction) → are_integer_functions t cs ≡ true
-    → slice_get cs u ≡ Some c → is_integer_function t c ≡ true
-function_part t [] u c e at = cc
-function_part t (x ∷ cs) zero c e at =
-    let same : c ≡ x = cc in
-    ap (is_integer_function t) same ∙ (and_parts (is_integer_function t x) (are_integer_functions t cs) e).0
-function_part t (x ∷ cs) (suc u) c e at =
-    function_part t cs u c (and_parts (is_integer_function t x) (are_integer_functions t cs) e).1 at

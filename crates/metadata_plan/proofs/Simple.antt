@@ -40,7 +40,9 @@ use Rattle.metadata_plan.specs.Registers.{all_variables, most_temporaries, varia
 use Rattle.metadata_plan.specs.Registers.{first_free}
 use Rattle.metadata_plan.specs.Operators.{OperatorCode, AreOperators, Position, binary_most}
 use Rattle.metadata_plan.specs.Expanded.{Leads, IsExpanded}
-use Rattle.metadata_plan.specs.Part.{has_no_pointer, is_word, is_integer_code}
+use Rattle.std.proofs.Common.{inl, inr}
+use Rattle.tac_ir.specs.Edges.{LeadsTo}
+use Rattle.metadata_plan.specs.Part.{has_no_pointer, is_word, IsIntegerCode}
 use Rattle.metadata_plan.specs.Matching.{IsAlike, IsAt}
 use Rattle.metadata_plan.proofs.Flat.{weight_small, Comes, constant_comes, move_comes, turn_comes, branch_taken_comes}
 use Rattle.metadata_plan.proofs.Flat.{branch_passed_comes}
@@ -81,7 +83,7 @@ most_small operator.NotEqual = omega arith
 
 module _ (o : OperatorCode) (views : Views) (g : Setting) (t : Tac) (address : (function node : ℕ) → ℕ)
     (p : FlatProgram) (ops : AreOperators o) (ex : IsExpanded o g.sizes t address p)
-    (part : is_integer_code t ≡ true) (u n : ℕ) (temps : Temps) (ws : List Frame) (s : State) (v : flat.State)
+    (part : IsIntegerCode t) (u n : ℕ) (temps : Temps) (ws : List Frame) (s : State) (v : flat.State)
     (xs : List flat.Frame) (h : IsAt views g t address p u n temps ws s u (address u n) v xs) (words : IsOfWords v) where
   abbrev m : MapSizes
   m = g.sizes
@@ -105,7 +107,7 @@ module _ (o : OperatorCode) (views : Views) (g : Setting) (t : Tac) (address : (
   Node i = IsNode o g.sizes t (address u) (body_of (function_in p u)) h.code (address u n) i
 
   pub known : (i : Instruction) → slice_get h.code.code n ≡ Some i → Node i
-  known i at = node o views g t address p ops ex part u h.code n i h.there at
+  known i at = node o views g t address p ops ex part u h.code n i h.there h.safe at
 
   pub leads_on : (q r : ℕ) (after : flat.State) (a : ℕ) → ComesTo q after a
       → Leads (body_of (function_in p u)) q r → ComesTo r after (a + 2)
@@ -131,22 +133,22 @@ module _ (o : OperatorCode) (views : Views) (g : Setting) (t : Tac) (address : (
   }
 
   -- a temporary gets an integer
-  pub sets_temporary : (i : Instruction) → Node i → (d w next most : ℕ) (values : flat.Values)
+  pub sets_temporary : (i : Instruction) → Node i → (d w next most : ℕ) → LeadsTo i next → (values : flat.Values)
       → ComesTo (address u next) (record v { values = values }) most
       → IsSet (first_free c) (temporary_register c d) w v.values values → most ≤ 21
       → Gives (Stands u next (with_temp temps d (rvalue (integer w))) ws (spent 1 s))
-  sets_temporary i k d w next most values run_to is_set few =
+  sets_temporary i k d w next most l values run_to is_set few =
       stays o views g t address p ops ex part u n temps (with_temp temps d (rvalue (integer w))) ws s (spent 1 s) v
       (record v { values = values }) xs next most h run_to
       (holds_temporary c k.integers temps s.plain v.values values d w h.holds is_set) (alike_values 1 values)
-      (record { objects = refl; frame = refl; stacked = refl; charged = refl }) refl (omega arith)
+      (record { objects = refl; frame = refl; stacked = refl; charged = refl }) refl (omega arith) (k.on next l)
 
-  pub sets_variable : (i : Instruction) → Node i → (x w next most : ℕ) (values : flat.Values)
+  pub sets_variable : (i : Instruction) → Node i → (x w next most : ℕ) → LeadsTo i next → (values : flat.Values)
       → x < length (all_variables c)
       → ComesTo (address u next) (record v { values = values }) most
       → IsSet (first_free c) (variable_register c x) w v.values values → most ≤ 21
       → Gives (Stands u next temps ws (record (spent 1 s) { plain = set s.plain x (integer w) }))
-  sets_variable i k x w next most values lt run_to is_set few =
+  sets_variable i k x w next most l values lt run_to is_set few =
       stays o views g t address p ops ex part u n temps temps ws s
       (record (spent 1 s) { plain = set s.plain x (integer w) }) v (record v { values = values }) xs next most h run_to
       (holds_variable c k.integers temps s.plain v.values values x w lt h.holds is_set)
@@ -158,6 +160,7 @@ module _ (o : OperatorCode) (views : Views) (g : Setting) (t : Tac) (address : (
         turns = h.alike.turns;
       })
       (record { objects = refl; frame = refl; stacked = refl; charged = refl }) refl (omega arith)
+      (k.on next l)
 
   constant_set : (x w : ℕ) → is_word w ≡ true → IsSet (first_free c) x w v.values (put v.values x (low_bits 64 w))
   constant_set x w e =
@@ -170,7 +173,7 @@ module _ (o : OperatorCode) (views : Views) (g : Setting) (t : Tac) (address : (
       let k = known (tac.Constant d w next) at in
       let x = temporary_register c d in
       let values = put v.values x (low_bits 64 w) in
-      sets_temporary (tac.Constant d w next) k d w next 4 values
+      sets_temporary (tac.Constant d w next) k d w next 4 (inl refl) values
       (leads_on (pc + 1) (address u next) (record v { values = values }) 2
       (constant_comes m p u pc v xs x w k.put.has.0) k.put.leads)
       (constant_set x w k.part) (omega arith)
@@ -184,7 +187,7 @@ module _ (o : OperatorCode) (views : Views) (g : Setting) (t : Tac) (address : (
       let values = put v.values r (v.values y) in
       let value = h.holds.variables x (ltb-true x (length (all_variables c)) k.part) in
       subst (λ z. Gives (Stands u next (with_temp temps d (rvalue z)) ws (spent 1 s))) (sym value)
-      (sets_temporary (tac.GetPlain d x next) k d (v.values y) next 4 values
+      (sets_temporary (tac.GetPlain d x next) k d (v.values y) next 4 (inl refl) values
       (leads_on (pc + 1) (address u next) (record v { values = values }) 2
       (move_comes m p u pc v xs r y k.put.has.0) k.put.leads)
       (set_by_put (first_free c) r (v.values y) v.values) (omega arith))
@@ -198,7 +201,7 @@ module _ (o : OperatorCode) (views : Views) (g : Setting) (t : Tac) (address : (
       let values = put v.values y (v.values r) in
       subst (λ z. Gives (Stands u next temps ws (record (spent 1 s) { plain = set s.plain x z })))
       (sym (held a k.temporaries_low))
-      (sets_variable (tac.SetPlain x a next) k x (v.values r) next 4 values
+      (sets_variable (tac.SetPlain x a next) k x (v.values r) next 4 (inl refl) values
       (ltb-true x (length (all_variables c)) k.part)
       (leads_on (pc + 1) (address u next) (record v { values = values }) 2
       (move_comes m p u pc v xs y r k.put.has.0) k.put.leads)
@@ -216,7 +219,7 @@ module _ (o : OperatorCode) (views : Views) (g : Setting) (t : Tac) (address : (
       zero_set q k' =
           let x = temporary_register c d in
           let values = put v.values x (low_bits 64 0) in
-          sets_temporary (tac.ZeroOf q d next) k' d 0 next 4 values
+          sets_temporary (tac.ZeroOf q d next) k' d 0 next 4 (inl refl) values
           (leads_on (pc + 1) (address u next) (record v { values = values }) 2
           (constant_comes m p u pc v xs x 0 k'.put.has.0) k'.put.leads)
           (constant_set x 0 refl) (omega arith)
@@ -240,7 +243,7 @@ module _ (o : OperatorCode) (views : Views) (g : Setting) (t : Tac) (address : (
           let k = known (tac.Convert Void d a next) e in
           let x = temporary_register c d in
           let values = put v.values x (low_bits 64 0) in
-          sets_temporary (tac.Convert Void d a next) k d 0 next 4 values
+          sets_temporary (tac.Convert Void d a next) k d 0 next 4 (inl refl) values
           (leads_on (pc + 1) (address u next) (record v { values = values }) 2
           (constant_comes m p u pc v xs x 0 k.put.has.0) k.put.leads)
           (constant_set x 0 refl) (omega arith)
@@ -257,7 +260,7 @@ module _ (o : OperatorCode) (views : Views) (g : Setting) (t : Tac) (address : (
           (temporary_free c k.integers a from) (record { has = k.put.has; words = words }) in
           subst (λ z. Gives (Stands u next (with_temp temps d (rvalue (integer (fit ty z)))) ws (spent 1 s)))
           (sym (held_word a from))
-          (sets_temporary i k d (fit ty (v.values y)) next 6 r.after
+          (sets_temporary i k d (fit ty (v.values y)) next 6 (inl refl) r.after
           (leads_on place (address u next) (record v { values = r.after }) 4
           (computed o views g t address p ops ex part u pc v xs place x (fit ty (v.values y)) f 2 r (omega arith))
           k.put.leads)
@@ -284,7 +287,7 @@ module _ (o : OperatorCode) (views : Views) (g : Setting) (t : Tac) (address : (
       (temporary_free c k.integers a from) (record { has = k.put.has; words = words }) in
       subst (λ z. Gives (Stands u next (with_temp temps d (rvalue (integer (unary_value op ty z)))) ws (spent 1 s)))
       (sym (held_word a from))
-      (sets_temporary i k d w next 14 r.after
+      (sets_temporary i k d w next 14 (inl refl) r.after
       (leads_on place (address u next) (record v { values = r.after }) 12
       (computed o views g t address p ops ex part u pc v xs place x w f 6 r (omega arith)) k.put.leads)
       (computed_set o views g t address p ops ex part position place x w f f 6 r (omega arith)) (omega arith))
@@ -322,7 +325,7 @@ module _ (o : OperatorCode) (views : Views) (g : Setting) (t : Tac) (address : (
           let r = ops.binary m p position op ty x y z f line w (temporary_free c k.integers d to)
           (temporary_free c k.integers a left) (temporary_free c k.integers b right)
           (record { has = k.put.has; words = words }) e in
-          sets_temporary (tac.Binary op ty line d a b next) k d w next (most * 2 + 2) r.after
+          sets_temporary (tac.Binary op ty line d a b next) k d w next (most * 2 + 2) (inl refl) r.after
           (leads_on place (address u next) (record v { values = r.after }) (most * 2)
           (computed o views g t address p ops ex part u pc v xs place x w f most r (omega arith)) k.put.leads)
           (computed_set o views g t address p ops ex part position place x w f f most r (omega arith)) (omega arith)
@@ -353,12 +356,12 @@ module _ (o : OperatorCode) (views : Views) (g : Setting) (t : Tac) (address : (
           scaled q e w le low = le_trans le (mul-le-mul_left q low)
 
   -- nothing changes but the place
-  goes_on : (i : Instruction) → Node i → (next most : ℕ) → ComesTo (address u next) v most → most ≤ 21
+  goes_on : (i : Instruction) → Node i → (next most : ℕ) → LeadsTo i next → ComesTo (address u next) v most → most ≤ 21
       → Gives (Stands u next temps ws (spent 1 s))
-  goes_on i k next most run_to few =
+  goes_on i k next most l run_to few =
       stays o views g t address p ops ex part u n temps temps ws s (spent 1 s) v v xs next most h run_to
       (holds_free c k.integers temps s.plain v.values v.values h.holds (λ y lt. refl)) (alike_values 1 v.values)
-      (record { objects = refl; frame = refl; stacked = refl; charged = refl }) refl (omega arith)
+      (record { objects = refl; frame = refl; stacked = refl; charged = refl }) refl (omega arith) (k.on next l)
 
   pub branch : (a x y : ℕ) → slice_get h.code.code n ≡ Some (tac.Branch a x y)
       → Gives (act g t (tac.Branch a x y) u temps ws (spent 1 s))
@@ -370,11 +373,11 @@ module _ (o : OperatorCode) (views : Views) (g : Setting) (t : Tac) (address : (
       k = known (tac.Branch a x y) at
 
       by : (b : Bool) → (v.values (temporary_register c a) == 0) ≡ b → Gives (Stands u (cond b y x) temps ws (spent 1 s))
-      by true e = goes_on (tac.Branch a x y) k y 4
+      by true e = goes_on (tac.Branch a x y) k y 4 (inr (inl refl))
           (leads_on (pc + 1) (address u y) v 2
           (branch_passed_comes m p u pc v xs Bne (temporary_register c a) (Number 0) 1 k.put.has.0 (not_equal (v.values (temporary_register c a)) 0 true e))
           k.put.leads.0) (omega arith)
-      by false e = goes_on (tac.Branch a x y) k x 4
+      by false e = goes_on (tac.Branch a x y) k x 4 (inl refl)
           (leads_on (pc + 1 + 1) (address u x) v 2
           (branch_taken_comes m p u pc v xs Bne (temporary_register c a) (Number 0) 1 k.put.has.0 (not_equal (v.values (temporary_register c a)) 0 false e))
           k.put.leads.1) (omega arith)
@@ -392,12 +395,12 @@ module _ (o : OperatorCode) (views : Views) (g : Setting) (t : Tac) (address : (
       same b e = ap (λ z. v.values (temporary_register c a) == z) (low_word_same w k.part) ∙ e
 
       by : (b : Bool) → (v.values (temporary_register c a) == w) ≡ b → Gives (Stands u (cond b x y) temps ws (spent 1 s))
-      by true e = goes_on (tac.Case a w x y) k x 4
+      by true e = goes_on (tac.Case a w x y) k x 4 (inl refl)
           (leads_on (pc + 1 + 1) (address u x) v 2
           (branch_taken_comes m p u pc v xs Beq (temporary_register c a) (Number w) 1 k.put.has.0
           (equal (v.values (temporary_register c a)) (low_bits 64 w) true (same true e)))
           k.put.leads.1) (omega arith)
-      by false e = goes_on (tac.Case a w x y) k y 4
+      by false e = goes_on (tac.Case a w x y) k y 4 (inr (inl refl))
           (leads_on (pc + 1) (address u y) v 2
           (branch_passed_comes m p u pc v xs Beq (temporary_register c a) (Number w) 1 k.put.has.0
           (equal (v.values (temporary_register c a)) (low_bits 64 w) false (same false e)))
@@ -417,6 +420,7 @@ module _ (o : OperatorCode) (views : Views) (g : Setting) (t : Tac) (address : (
         output = h.alike.output;
         taken = h.alike.taken;
         accesses = h.alike.accesses;
-        turns = ap (λ z. z + 1) h.alike.turns;
+        turns = omega (arith, h.alike.turns);
       })
       (record { objects = refl; frame = refl; stacked = refl; charged = refl }) refl (omega arith)
+      (k.on next (inl refl))

@@ -1,4 +1,5 @@
 -- Functions and their expansions, and the result of a step that stays in its function.
+use Rattle.std.proofs.Common.{Bool, suc}
 use Rattle.std.proofs.Common.{◌≡◌, ℕ, ◌+◌, ◌*◌, ◌≤◌, refl, sym, ap, ◌∙◌, subst, arith}
 use Rattle.std.proofs.Common.{true, false, ◌&&◌, List, Option, Some, None, length, le_trans}
 use Rattle.std.proofs.Common.{mul-le-mul_left}
@@ -27,33 +28,33 @@ use Rattle.metadata_plan.specs.Operators.{OperatorCode, AreOperators, Position, 
 use Rattle.flat_routines.specs.Routine.{HasAt}
 use Rattle.metadata_plan.specs.Blocks.{prologue}
 use Rattle.metadata_plan.specs.Expanded.{Leads, IsPut, ExpandsAt, IsExpanded}
-use Rattle.metadata_plan.specs.Part.{are_integers, have_no_objects, is_integer_instruction, are_integer_instructions}
-use Rattle.metadata_plan.specs.Part.{is_integer_function, are_integer_functions, has_no_statics, takes, is_integer_code}
+use Rattle.std.proofs.lemmas.Option.{same_Some}
+use Rattle.tac_ir.specs.Edges.{LeadsTo}
+use Rattle.metadata_plan.specs.Part.{are_integers, have_no_objects, is_integer_instruction, SafeWithin, IsSafeFrom}
+use Rattle.metadata_plan.specs.Part.{IsIntegerFunction, takes, IsIntegerCode}
 use Rattle.metadata_plan.specs.Matching.{factor, Holds, HaveNoObjects, IsAlike, IsAt, MatchesBy}
-use Rattle.metadata_plan.proofs.Numbers.{most_at, part_at, function_part}
+use Rattle.metadata_plan.proofs.Numbers.{most_at}
 use Rattle.metadata_plan.proofs.Flat.{weight_small, Comes, then_comes, leads_comes}
 use Rattle.metadata_plan.proofs.Holding.{IsSet}
 
--- the parts of the test of a program
-pub code_parts : (t : Tac) → is_integer_code t ≡ true
-    → (has_no_statics t.statics ≡ true) × (takes (code_in t t.main) 0 ≡ true)
-    × (are_integer_functions t t.functions ≡ true)
-unfolding is_integer_code
-code_parts t e =
-    let a = and_parts (has_no_statics t.statics)
-    (takes (code_in t t.main) 0 && are_integer_functions t t.functions) e in
-    let b = and_parts (takes (code_in t t.main) 0) (are_integer_functions t t.functions) a.1 in
-    (a.0, b.0, b.1)
+-- the instruction of a node that is safe, and the nodes to which it leads
+safe_at : (t : Tac) (c : CodeFunction) (n : ℕ) (i : Instruction) → IsSafeFrom t c n → slice_get c.code n ≡ Some i
+    → (is_integer_instruction t (length (all_variables c)) i ≡ true)
+    × ((m : ℕ) → LeadsTo i m → IsSafeFrom t c m)
+unfolding SafeWithin
+safe_at t c n i safe at = (here (safe 1), λ m l k. there k (safe (suc k)) m l)
+  where
+    ok : Instruction → Bool
+    ok = is_integer_instruction t (length (all_variables c))
 
-pub function_parts : (t : Tac) (c : CodeFunction) → is_integer_function t c ≡ true
-    → (are_integers (all_variables c) ≡ true) × (have_no_objects c.entered ≡ true)
-    × (are_integer_instructions t (length (all_variables c)) c.code ≡ true)
-function_parts t c e =
-    let a = and_parts (are_integers (all_variables c))
-    (have_no_objects c.entered && are_integer_instructions t (length (all_variables c)) c.code) e in
-    let b = and_parts (have_no_objects c.entered)
-    (are_integer_instructions t (length (all_variables c)) c.code) a.1 in
-    (a.0, b.0, b.1)
+    same : (j : Instruction) → slice_get c.code n ≡ Some j → j ≡ i
+    same j e = same_Some j i (sym e ∙ at)
+
+    here : SafeWithin ok c.code 1 n → is_integer_instruction t (length (all_variables c)) i ≡ true
+    here s = subst (λ j. is_integer_instruction t (length (all_variables c)) j ≡ true) (same s.0 s.1) s.2
+
+    there : (k : ℕ) → SafeWithin ok c.code (suc k) n → (m : ℕ) → LeadsTo i m → SafeWithin ok c.code k m
+    there k s m l = s.3 m (subst (λ j. LeadsTo j m) (sym (same s.0 s.1)) l)
 
 -- a function of the program, and what stands for it
 pub record IsThere (o : OperatorCode) (m : MapSizes) (t : Tac) (address : ℕ → ℕ) (c : CodeFunction)
@@ -98,10 +99,11 @@ pub record IsNode (o : OperatorCode) (m : MapSizes) (t : Tac) (address : ℕ →
   pub integers : are_integers (all_variables c) ≡ true
   pub temporaries_low : temporaries i ≤ most_temporaries c.code
   pub part : is_integer_instruction t (length (all_variables c)) i ≡ true
+  pub on : (m : ℕ) → LeadsTo i m → IsSafeFrom t c m
 
 module _ (o : OperatorCode) (views : Views) (g : Setting) (t : Tac) (address : (function node : ℕ) → ℕ)
     (p : FlatProgram) (ops : AreOperators o) (ex : IsExpanded o g.sizes t address p)
-    (part : is_integer_code t ≡ true) where
+    (part : IsIntegerCode t) where
   abbrev m : MapSizes
   m = g.sizes
 
@@ -110,18 +112,20 @@ module _ (o : OperatorCode) (views : Views) (g : Setting) (t : Tac) (address : (
   there u c e = there_by o m t (address u) c (function_in p u) (ex.functions u c e)
 
   pub integer_function : (u : ℕ) (c : CodeFunction) → slice_get t.functions u ≡ Some c
-      → is_integer_function t c ≡ true
-  integer_function u c e = function_part t t.functions u c (code_parts t part).2 e
+      → IsIntegerFunction t c
+  integer_function u c e = part.functions u c e
 
   pub node : (u : ℕ) (c : CodeFunction) (n : ℕ) (i : Instruction) → slice_get t.functions u ≡ Some c
-      → slice_get c.code n ≡ Some i → IsNode o m t (address u) (body_of (function_in p u)) c (address u n) i
-  node u c n i e at =
-      let parts = function_parts t c (integer_function u c e) in
+      → IsSafeFrom t c n → slice_get c.code n ≡ Some i
+      → IsNode o m t (address u) (body_of (function_in p u)) c (address u n) i
+  node u c n i e safe at =
+      let s = safe_at t c n i safe at in
       record {
         put = (there u c e).blocks n i at;
-        integers = parts.0;
+        integers = (integer_function u c e).variables;
         temporaries_low = most_at c.code n i at;
-        part = part_at t (length (all_variables c)) c.code n i parts.2 at;
+        part = s.0;
+        on = s.1;
       }
 
   -- the run of flat code comes to where it matches
@@ -162,9 +166,9 @@ module _ (o : OperatorCode) (views : Views) (g : Setting) (t : Tac) (address : (
       → (h : IsAt views g t address p u n temps ws s u (address u n) v xs)
       → Comes m p u (address u n) v xs (address u next) after most
       → Holds h.code temps' s'.plain after.values → IsAlike s' after → Keeps s s' → after.memory ≡ v.memory
-      → most + factor * s.work ≤ factor * s'.work
+      → most + factor * s.work ≤ factor * s'.work → IsSafeFrom t h.code next
       → Result (Stands u next temps' ws s') (flat.Stands u (address u n) v xs)
-  stays u n temps temps' ws s s' v after xs next most h k holds alike keeps memory work = record {
+  stays u n temps temps' ws s s' v after xs next most h k holds alike keeps memory work safe = record {
     steps = k.steps;
     matches = subst (MatchesBy views g t address p (Stands u next temps' ws s')) (sym k.comes) (record {
       function = refl;
@@ -172,6 +176,7 @@ module _ (o : OperatorCode) (views : Views) (g : Setting) (t : Tac) (address : (
       code = h.code;
       there = h.there;
       holds = holds;
+      safe = safe;
       alike = record {
         input = alike.input;
         output = alike.output;

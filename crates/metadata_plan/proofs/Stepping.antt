@@ -1,4 +1,5 @@
 -- Calls and returns of three-address code, and the start of a run.
+use Rattle.std.proofs.Common.{inl}
 use Rattle.std.proofs.Common.{⊎_elim, ◌≡◌, ℕ, ◌+◌, ◌*◌, ◌%◌, ◌^◌, ◌<◌, ◌≤◌, refl, sym, ap, ◌∙◌, subst}
 use Rattle.std.proofs.Common.{arith, true, false, List, [], ◌∷◌, ◌++◌, Option, Some, None}
 use Rattle.std.proofs.Common.{length, length-append}
@@ -34,13 +35,13 @@ use Rattle.metadata_plan.specs.Registers.{most_temporaries, temporary_register, 
 use Rattle.metadata_plan.specs.Operators.{OperatorCode, AreOperators}
 use Rattle.metadata_plan.specs.Blocks.{call_tests, argument_moves, room_in}
 use Rattle.metadata_plan.specs.Expanded.{Leads, IsExpanded}
-use Rattle.metadata_plan.specs.Part.{takes, is_integer_code}
+use Rattle.metadata_plan.specs.Part.{takes, IsIntegerCode}
 use Rattle.metadata_plan.specs.Matching.{IsAlike, WaitsAs, AllWait, IsAt, IsFirst, MatchesBy}
 use Rattle.metadata_plan.proofs.Numbers.{put_other}
-use Rattle.metadata_plan.proofs.Flat.{weight_small, Comes, then_comes, leads_comes, exit_step}
+use Rattle.metadata_plan.proofs.Flat.{weight_small, Comes, then_comes, turn_comes, leads_comes, exit_step}
 use Rattle.metadata_plan.proofs.Holding.{IsSet, holds_free, holds_temporary}
 use Rattle.metadata_plan.proofs.SetUp.{none_die}
-use Rattle.metadata_plan.proofs.Standing.{code_parts, function_parts, IsNode, there, integer_function, node, Result, ends}
+use Rattle.metadata_plan.proofs.Standing.{IsNode, there, integer_function, node, Result, ends}
 use Rattle.metadata_plan.proofs.Library.{status_is}
 use Rattle.metadata_plan.proofs.Calling.{tested, tests_pass, arguments_moved, gathered_at}
 use Rattle.metadata_plan.proofs.Entering.{entry_there, returns_step, result_set, no_rooms, enters_matches}
@@ -58,7 +59,7 @@ takes_is (Some c) n e = record { code = c; is = refl; count = eqb-true (length c
 
 module _ (o : OperatorCode) (views : Views) (g : Setting) (t : Tac) (address : (function node : ℕ) → ℕ)
     (p : FlatProgram) (ops : AreOperators o) (ex : IsExpanded o g.sizes t address p)
-    (part : is_integer_code t ≡ true) (low : g.sizes.budgets.calls < 2 ^ 63) (stack : stack_first g ≤ stack_end g) where
+    (part : IsIntegerCode t) (low : g.sizes.budgets.calls < 2 ^ 63) (stack : stack_first g ≤ stack_end g) where
   abbrev m : MapSizes
   m = g.sizes
 
@@ -91,7 +92,7 @@ module _ (o : OperatorCode) (views : Views) (g : Setting) (t : Tac) (address : (
     module _ (f line d count next : ℕ) (at : slice_get h.code.code n ≡ Some (tac.Call f line d count next)) where
       known : IsNode o g.sizes t (address u) (body_of (function_in p u)) h.code (address u n)
           (tac.Call f line d count next)
-      known = node o views g t address p ops ex part u h.code n (tac.Call f line d count next) h.there at
+      known = node o views g t address p ops ex part u h.code n (tac.Call f line d count next) h.there h.safe at
 
       called_is : Takes (code_in t f) count
       called_is = takes_is (code_in t f) count known.part
@@ -133,7 +134,7 @@ module _ (o : OperatorCode) (views : Views) (g : Setting) (t : Tac) (address : (
           given.comes in
           let K : Comes m p u pc v xs q (record v { turns = v.turns + 1; values = given.values }) (6 + 2 * count) =
           record { steps = both.steps; work = both.work; few = both.few; comes = both.comes } in
-          let parts = function_parts t c (integer_function o views g t address p ops ex part u c h.there) in
+          let parts = integer_function o views g t address p ops ex part u c h.there in
           let same : (y : ℕ) → y < free → given.values y ≡ v.values y = λ y lt. given.given.others y lt
           ∙ put_other v.values free _ y (λ e. absurd (omega arith)) in
           let frame : flat.Frame = record {
@@ -152,7 +153,8 @@ module _ (o : OperatorCode) (views : Views) (g : Setting) (t : Tac) (address : (
             leads = subst (λ z. Leads body z (address u next)) (sym place) known.put.leads;
             low = lows.0;
             into = refl;
-            holds = holds_free c parts.0 temps s.plain v.values given.values h.holds same;
+            holds = holds_free c parts.variables temps s.plain v.values given.values h.holds same;
+            safe = known.on next (inl refl);
             homes = h.homes;
             stacked = h.stacked;
             charge = h.charge;
@@ -181,7 +183,7 @@ module _ (o : OperatorCode) (views : Views) (g : Setting) (t : Tac) (address : (
     return_step a at = by ws xs h.wait.by refl
       where
         known : IsNode o g.sizes t (address u) (body_of (function_in p u)) h.code (address u n) (tac.Return a)
-        known = node o views g t address p ops ex part u h.code n (tac.Return a) h.there at
+        known = node o views g t address p ops ex part u h.code n (tac.Return a) h.there h.safe at
 
         r : ℕ
         r = temporary_register h.code a
@@ -189,7 +191,7 @@ module _ (o : OperatorCode) (views : Views) (g : Setting) (t : Tac) (address : (
         gives : temps a ≡ rvalue (integer (v.values (temporary_register h.code a)))
         gives = h.holds.temporaries a known.temporaries_low
 
-        ended : (x : flat.Frame) → (x.function ≡ p.entry) × (x.next ≡ 5) × (x.into ≡ 0)
+        ended : (x : flat.Frame) → (x.function ≡ p.entry) × (x.next ≡ 7) × (x.into ≡ 0)
             → Result o views g t address p ops ex part (Over (ExitWith (int_of (temps a).value.word)) (spent 1 s))
             (flat.Stands u (address u n) v (x ∷ []))
         ended x e =
@@ -201,7 +203,7 @@ module _ (o : OperatorCode) (views : Views) (g : Setting) (t : Tac) (address : (
             let results = (there o views g t address p ops ex part u c h.there).results in
             let first = returns_step m p u pc v x [] (temporary_register h.code a) known.put.has.0 results
             ∙ ap (λ z. flat.Stands z x.next back []) e.0 ∙ ap (λ z. flat.Stands p.entry z back []) e.1 in
-            let second = exit_step m p p.entry 5 back [] 0 entry.has.1.1.1.1.1.0 in
+            let second = exit_step m p p.entry 7 back [] 0 entry.has.1.1.1.1.1.1.1.0 in
             let status : values 0 ≡ w =
             ap values (sym e.2) ∙ (result_set free x.into (temporary_register h.code a) v.values x.values).gives in
             let last : flat.State = record back { work = v.work + 10 + weight_of (function_in p p.entry) } in
@@ -239,8 +241,7 @@ module _ (o : OperatorCode) (views : Views) (g : Setting) (t : Tac) (address : (
             let comes : run (step m p) (1 + l.steps) (flat.Stands u pc v (x ∷ rest))
             ≡ flat.Stands w.function (address w.function w.node) last rest =
             run_add (step m p) 1 l.steps (flat.Stands u pc v (x ∷ rest)) ∙ ap (run (step m p) l.steps) first ∙ l.comes in
-            let parts = function_parts t k.code
-            (integer_function o views g t address p ops ex part w.function k.code k.there) in
+            let parts = integer_function o views g t address p ops ex part w.function k.code k.there in
             let is_set = subst (λ z. IsSet (first_free k.code) z value x.values
             (with_results x.into 1 v.values (temporary_register h.code a) x.values)) k.into
             (result_set (first_free k.code) x.into (temporary_register h.code a) v.values x.values) in
@@ -256,7 +257,8 @@ module _ (o : OperatorCode) (views : Views) (g : Setting) (t : Tac) (address : (
                     place = refl;
                     code = k.code;
                     there = k.there;
-                    holds = holds_temporary k.code parts.0 w.temps w.caller.plain x.values values w.place value k.holds is_set;
+                    holds = holds_temporary k.code parts.variables w.temps w.caller.plain x.values values w.place value k.holds is_set;
+                    safe = k.safe;
                     alike = record {
                       input = h.alike.input;
                       output = h.alike.output;
@@ -290,10 +292,19 @@ module _ (o : OperatorCode) (views : Views) (g : Setting) (t : Tac) (address : (
 
   -- ---- the start
 
+  -- a match further on
+  earlier : (a : Stage) (n : ℕ) (x y : flat.Stage) → run (step m p) n x ≡ y
+      → Result o views g t address p ops ex part a y → Result o views g t address p ops ex part a x
+  earlier a n x y e r = record {
+    steps = n + r.steps;
+    matches = subst (MatchesBy views g t address p a)
+        (sym (run_add (step m p) n r.steps x ∙ ap (run (step m p) r.steps) e)) r.matches;
+  }
+
   pub begins : (s : State) (x : flat.Stage) → IsFirst views g t p s x
       → Result o views g t address p ops ex part (called g t t.main [] (line_in (code_in t t.main)) [] s) x
   begins s x h =
-      let main = takes_is (code_in t t.main) 0 (code_parts t part).1 in
+      let main = takes_is (code_in t t.main) 0 part.main in
       subst (λ z. Result o views g t address p ops ex part (called g t t.main [] (line_in (code_in t t.main)) [] z) x)
       (sym h.fresh_is)
       (subst (λ z. Result o views g t address p ops ex part
@@ -311,9 +322,9 @@ module _ (o : OperatorCode) (views : Views) (g : Setting) (t : Tac) (address : (
           let code = body_of (function_in p p.entry) in
           let tests = call_tests m k.room k.line 0 in
           let ending = flat_code.Call t.main 0 0 ∷ flat_code.Exit 0 ∷ [] in
-          let whole : HasAt code 0 (tests ++ ending) =
-          subst (λ z. HasAt code 0 (call_tests m (room_in z) (line_in z) 0 ++ ending)) is entry.has in
-          let has_tests = has_front code 0 tests ending whole in
+          let whole : HasAt code 2 (tests ++ ending) =
+          subst (λ z. HasAt code 2 (call_tests m (room_in z) (line_in z) 0 ++ ending)) is entry.has.1.1 in
+          let has_tests = has_front code 2 tests ending whole in
           let v : flat.State = record {
             values = λ y. 0;
             memory = h.memory;
@@ -324,16 +335,32 @@ module _ (o : OperatorCode) (views : Views) (g : Setting) (t : Tac) (address : (
             turns = 0;
             work = 0;
           } in
+          let one_turn = turn_comes m p p.entry 0 v [] entry.has.0 in
+          let between : flat.State = record v { turns = 1; work = 0 + one_turn.work } in
+          let next_turn = turn_comes m p p.entry 1 between [] entry.has.1.0 in
+          let second_turn : Comes m p p.entry 1 between [] 2 (record v { turns = 2 }) 2 = record {
+            steps = next_turn.steps;
+            work = next_turn.work;
+            few = next_turn.few;
+            comes = next_turn.comes;
+          } in
+          let two_turns = then_comes m p p.entry 0 v [] 1 2 (record v { turns = 1 }) (record v { turns = 2 }) 2 2 one_turn
+          second_turn in
+          let w : flat.State = record v { turns = 2; work = 0 + two_turns.work } in
+          let few = two_turns.few in
           let s0 = fresh g (objects_before t g) h.input in
           let charge : charged p p.entry [] ≡ 0 = omega (arith, entry.no_room, no_rooms false p) in
-          let alike : IsAlike s0 v =
-          record { input = refl; output = refl; taken = refl; accesses = refl; turns = refl } in
-          ⊎_elim
-          (λ more. exhausts o views g t address p ops ex part low stack p.entry 0 0 v [] t.main k is k.line 0 0 [] [] s0
-          (sym charge) alike has_tests more (omega arith) (omega arith))
+          let alike : IsAlike s0 w =
+          record { input = refl; output = refl; taken = refl; accesses = refl; turns = omega arith } in
+          let later : Result o views g t address p ops ex part
+          (called_at g (Some k) t.main [] k.line [] s0) (flat.Stands p.entry 2 w []) = ⊎_elim
+          (λ more. exhausts o views g t address p ops ex part low stack p.entry 2 0 w [] t.main k is k.line 0 0 [] [] s0
+          (sym charge) alike has_tests more (omega arith) (omega (arith, few)))
           (λ fits.
-          let K = tests_pass m p p.entry 0 v [] k.room k.line 0 has_tests low (omega arith) in
-          enters_matches o views g t address p ops ex part low stack p.entry 0 4 v [] t.main k is k.line 0 0 [] [] s0
-          (sym charge) alike (put (λ y. 0) 0 _) 6 h.keys K entry.has.1.1.1.1.0 (λ j lt. absurd (omega arith))
-          fits refl (omega arith) h.stands (record { by = (refl, refl, refl) }))
-          (cases_lt m.budgets.calls (0 + k.room))
+          let K = tests_pass m p p.entry 2 w [] k.room k.line 0 has_tests low (omega arith) in
+          enters_matches o views g t address p ops ex part low stack p.entry 2 6 w [] t.main k is k.line 0 0 [] [] s0
+          (sym charge) alike (put (λ y. 0) 0 _) 6 h.keys K entry.has.1.1.1.1.1.1.0 (λ j lt. absurd (omega arith))
+          fits refl (omega (arith, few)) h.stands (record { by = (refl, refl, refl) }))
+          (cases_lt m.budgets.calls (0 + k.room)) in
+          earlier (called_at g (Some k) t.main [] k.line [] s0) two_turns.steps (flat.Stands p.entry 0 v [])
+          (flat.Stands p.entry 2 w []) two_turns.comes later

@@ -1,4 +1,5 @@
 -- An update of a plain variable.
+use Rattle.std.proofs.Common.{inl}
 use Rattle.std.proofs.Common.{◌≡◌, ◌≢◌, ℕ, ◌+◌, ◌*◌, ◌<◌, ◌≤◌, refl, sym, ap, ap₂, ◌∙◌, subst}
 use Rattle.std.proofs.Common.{arith, Bool, true, false, List, [], ◌∷◌, ◌++◌, Option, Some, None, length}
 use Rattle.std.proofs.Common.{le_trans, mul-le-mul_left, set, ltb-true, length-append}
@@ -50,7 +51,7 @@ use Rattle.metadata_plan.specs.Registers.{first_free}
 use Rattle.metadata_plan.specs.Operators.{OperatorCode, AreOperators, Position, Computes, IsHere, binary_most}
 use Rattle.metadata_plan.specs.Blocks.{right_code, right_register, kept_by}
 use Rattle.metadata_plan.specs.Expanded.{Leads, IsExpanded}
-use Rattle.metadata_plan.specs.Part.{is_right, is_by_one, is_integer_update, is_integer_code}
+use Rattle.metadata_plan.specs.Part.{is_right, is_by_one, is_integer_update, IsIntegerCode}
 use Rattle.metadata_plan.specs.Matching.{IsAt}
 use Rattle.metadata_plan.proofs.Numbers.{put_same, put_other}
 use Rattle.metadata_plan.proofs.Flat.{weight_small, Comes, then_comes, constant_comes, move_comes, words_kept}
@@ -91,7 +92,7 @@ few_of op One e = by op e
 
 module _ (o : OperatorCode) (views : Views) (g : Setting) (t : Tac) (address : (function node : ℕ) → ℕ)
     (p : FlatProgram) (ops : AreOperators o) (ex : IsExpanded o g.sizes t address p)
-    (part : is_integer_code t ≡ true) (u n : ℕ) (temps : Temps) (ws : List Frame) (s : State) (v : flat.State)
+    (part : IsIntegerCode t) (u n : ℕ) (temps : Temps) (ws : List Frame) (s : State) (v : flat.State)
     (xs : List flat.Frame) (h : IsAt views g t address p u n temps ws s u (address u n) v xs)
     (words : HasWords (flat.Stands u (address u n) v xs)) where
   abbrev m : MapSizes
@@ -256,7 +257,7 @@ module _ (o : OperatorCode) (views : Views) (g : Setting) (t : Tac) (address : (
     i = tac.UpdatePlain (Arithmetic op ty) (Integer k) f line d x right next
 
     known_node : IsNode o g.sizes t (address u) (body_of (function_in p u)) h.code (address u n) i
-    known_node = node o views g t address p ops ex part u h.code n i h.there at
+    known_node = node o views g t address p ops ex part u h.code n i h.there h.safe at
 
     inside : (x < length (all_variables c)) × (is_right op right ≡ true)
     inside =
@@ -409,7 +410,7 @@ module _ (o : OperatorCode) (views : Views) (g : Setting) (t : Tac) (address : (
           turns = h.alike.turns;
         })
         (record { objects = refl; frame = refl; stacked = refl; charged = refl }) refl
-        (omega (arith, few_of op right inside.1))
+        (omega (arith, few_of op right inside.1)) (known_node.on next (inl refl))
       where
         by : (values : flat.Values) (new : ℕ) → values xr ≡ new
             → ((y : ℕ) → y < free → y ≢ xr → y ≢ dr → values y ≡ v.values y) → (y : ℕ) → y < free → y ≢ dr
@@ -486,7 +487,7 @@ module _ (o : OperatorCode) (views : Views) (g : Setting) (t : Tac) (address : (
   update_plain_step w scalar f line d x right next at = by w scalar at
       (and_parts (nat_lt x (length (all_variables c))) (is_integer_update w scalar right)
       (node o views g t address p ops ex part u h.code n (tac.UpdatePlain w scalar f line d x right next) h.there
-      at).part).1
+      h.safe at).part).1
     where
       by : (w : Update) (scalar : Scalar)
           → slice_get h.code.code n ≡ Some (tac.UpdatePlain w scalar f line d x right next)

@@ -123,7 +123,9 @@ zero_variables r (v ∷ vs) =
 abbrev pub prologue : CodeFunction → List FlatInstruction
 prologue c = zero_variables (words_in c.parameters) c.variables
 
--- where a run begins: `main` is called at the line of its name, and its result is the status
+-- Where a run begins: `main` is called at the line of its name, and its result is the status. Two turns stand before
+-- that of the call, for what the machine does before its first instruction here.
 abbrev pub entry_code : MapSizes → Tac → List FlatInstruction
 entry_code m t =
-    call_tests m (room_in (function_in t t.main)) (line_in (function_in t t.main)) 0 ++ (Call t.main 0 0 ∷ Exit 0 ∷ [])
+    Turn ∷ Turn
+    ∷ call_tests m (room_in (function_in t t.main)) (line_in (function_in t t.main)) 0 ++ (Call t.main 0 0 ∷ Exit 0 ∷ [])

@@ -19,6 +19,7 @@ use Rattle.flat_meaning.specs.Meaning.{body_of, started}
 use Rattle.flat_meaning.specs.Words.{HasWords}
 use Rattle.flat_objects.specs.StandsFor.{Views, Keys, StandsFor}
 use Rattle.metadata_plan.specs.Registers.{all_variables, most_temporaries, variable_register, temporary_register}
+use Rattle.metadata_plan.specs.Part.{IsSafeFrom}
 use Rattle.metadata_plan.specs.Expanded.{Leads}
 
 -- how many units of work flat code does at most for each of three-address code
@@ -42,13 +43,13 @@ AreNoObjects (InObject o ∷ homes) = ⊥
 pub record HaveNoObjects (homes : List Home) : Type 0 where
   pub by : AreNoObjects homes
 
--- both have the same input, output and accesses, and have begun as many turns
+-- both have the same input, output and accesses, and flat code has begun as many turns, with those before its first call
 pub record IsAlike (s : State) (v : flat.State) : Type 0 where
   pub input : v.input ≡ s.input
   pub output : v.output ≡ s.output
   pub taken : v.taken ≡ s.taken
   pub accesses : v.accesses ≡ s.accesses
-  pub turns : v.turns ≡ s.turns
+  pub turns : s.turns ≤ v.turns
 
 -- a caller waits as a record does: behind its call the code leads to its node, and its result comes to the register of
 -- its temporary
@@ -61,6 +62,7 @@ pub record WaitsAs (g : Setting) (t : Tac) (address : (function node : ℕ) → 
   pub low : w.place < most_temporaries code.code
   pub into : x.into ≡ temporary_register code w.place
   pub holds : Holds code w.temps w.caller.plain x.values
+  pub safe : IsSafeFrom t code w.node
   pub homes : HaveNoObjects w.caller.frame
   pub stacked : w.caller.stacked ≡ stack_first g
   pub charge : w.caller.charged ≡ charged p w.function xs
@@ -68,7 +70,7 @@ pub record WaitsAs (g : Setting) (t : Tac) (address : (function node : ℕ) → 
 
 -- under `main` waits the function with which the run began, to exit with the result
 abbrev pub EntryWaits : FlatProgram → flat.Frame → Type 0
-EntryWaits p x = (x.function ≡ p.entry) × (x.next ≡ 5) × (x.into ≡ 0)
+EntryWaits p x = (x.function ≡ p.entry) × (x.next ≡ 7) × (x.into ≡ 0)
 
 abbrev pub AllWait : Setting → Tac → (address : (function node : ℕ) → ℕ) → FlatProgram → List Frame → List flat.Frame
     → Type 0
@@ -92,6 +94,7 @@ pub record IsAt (views : Views) (g : Setting) (t : Tac) (address : (function nod
     pub code : CodeFunction
     pub there : slice_get t.functions u ≡ Some code
     pub holds : Holds code temps s.plain v.values
+    pub safe : IsSafeFrom t code n
     pub alike : IsAlike s v
     pub work : v.work ≤ factor * s.work
     pub homes : HaveNoObjects s.frame

@@ -1,5 +1,6 @@
 -- The programs in three-address code that have integers alone: no objects, pointers or structures, and of the library
 -- `putchar`, `getchar`, `exit` and `abort`.
+use Rattle.std.specs.Prelude.{◌≡◌, zero, suc, slice_get}
 use Rattle.std.specs.Prelude.{ℕ, ◌^◌, Bool, true, false, not, ◌&&◌, ◌==◌, nat_lt, List, [], ◌∷◌, length}
 use Rattle.std.specs.Prelude.{Option, Some, None}
 use Rattle.obj_memory.specs.declared.operator.BinaryOperator.{BinaryOperator}
@@ -20,6 +21,7 @@ use Rattle.tac_ir.specs.declared.instruction.Instruction.TheVariants as tac
 use Rattle.tac_ir.specs.declared.function.CodeFunction.{CodeFunction}
 use Rattle.tac_ir.specs.declared.function.StaticData.{StaticData}
 use Rattle.tac_ir.specs.declared.function.Tac.{Tac}
+use Rattle.tac_ir.specs.Edges.{LeadsTo}
 use Rattle.tac_ir.specs.Meaning.{function_in}
 use Rattle.metadata_plan.specs.Registers.{all_variables}
 
@@ -90,23 +92,29 @@ is_integer_instruction t k (tac.Call f line d n next) = takes (function_in t f) 
 is_integer_instruction t k (tac.Return a) = true
 is_integer_instruction t k _ = false
 
-abbrev pub are_integer_instructions : Tac → (variables : ℕ) → List Instruction → Bool
-are_integer_instructions t k [] = true
-are_integer_instructions t k (i ∷ is) = is_integer_instruction t k i && are_integer_instructions t k is
+-- every instruction that a path of so many steps from a node comes to is such a one
+unfoldable pub SafeWithin : (is_safe : Instruction → Bool) → List Instruction → (steps node : ℕ) → Type 0
+SafeWithin is_safe code zero n = Unit {0}
+SafeWithin is_safe code (suc k) n =
+    (i : Instruction) × (slice_get code n ≡ Some i) × (is_safe i ≡ true)
+    × ((m : ℕ) → LeadsTo i m → SafeWithin is_safe code k m)
 
-abbrev pub is_integer_function : Tac → CodeFunction → Bool
-is_integer_function t c =
-    are_integers (all_variables c)
-    && (have_no_objects c.entered && are_integer_instructions t (length (all_variables c)) c.code)
+-- from a node on a function has integers alone
+abbrev pub IsSafeFrom : Tac → CodeFunction → (node : ℕ) → Type 0
+IsSafeFrom t c n = (k : ℕ) → SafeWithin (is_integer_instruction t (length (all_variables c))) c.code k n
 
-abbrev pub are_integer_functions : Tac → List CodeFunction → Bool
-are_integer_functions t [] = true
-are_integer_functions t (c ∷ cs) = is_integer_function t c && are_integer_functions t cs
+-- a function of integers: what no path from its entry reaches may be anything
+pub record IsIntegerFunction (t : Tac) (c : CodeFunction) : Type 0 where
+  pub variables : are_integers (all_variables c) ≡ true
+  pub entered : have_no_objects c.entered ≡ true
+  pub safe : IsSafeFrom t c c.entry
 
 abbrev pub has_no_statics : List StaticData → Bool
 has_no_statics [] = true
 has_no_statics (d ∷ ds) = false
 
--- `main` is there and takes no arguments
-unfoldable pub is_integer_code : Tac → Bool
-is_integer_code t = has_no_statics t.statics && (takes (function_in t t.main) 0 && are_integer_functions t t.functions)
+-- a program of integers; `main` is there and takes no arguments
+pub record IsIntegerCode (t : Tac) : Type 0 where
+  pub statics : has_no_statics t.statics ≡ true
+  pub main : takes (function_in t t.main) 0 ≡ true
+  pub functions : (u : ℕ) (c : CodeFunction) → slice_get t.functions u ≡ Some c → IsIntegerFunction t c

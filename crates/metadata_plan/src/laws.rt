@@ -17,7 +17,7 @@ ghost use Rattle.flat_objects.specs.StandsFor.{Views};
 ghost use Rattle.flat_objects.specs.Start.{IsStart};
 ghost use Rattle.metadata_plan.specs.Operators.{OperatorCode, AreOperators};
 ghost use Rattle.metadata_plan.specs.Expanded.{IsExpanded};
-ghost use Rattle.metadata_plan.specs.Part.{is_integer_code};
+ghost use Rattle.metadata_plan.specs.Part.{IsIntegerCode};
 ghost use Rattle.metadata_plan.specs.Laid.{address_of, program_of};
 
 /// The expansion of an integer program follows it: it shows what the program in three-address code shows, at each
@@ -25,7 +25,7 @@ ghost use Rattle.metadata_plan.specs.Laid.{address_of, program_of};
 /// operators is to compute them, the memory at the start to stand for the static objects, and the program never to be
 /// stuck.
 pub fn integer_code_follows()
-    ensures { (o : OperatorCode) → AreOperators o → (t : Tac) → is_integer_code t ≡ true → (budgets : BudgetSizes)
+    ensures { (o : OperatorCode) → AreOperators o → (t : Tac) → IsIntegerCode t → (budgets : BudgetSizes)
         (address : (function node : ℕ) → ℕ) (p : FlatProgram)
         → IsExpanded o (setting_of_code t budgets).sizes t address p → AreMapped (setting_of_code t budgets).sizes
         → (views : Views) (memory : Bytes) → views.sizes ≡ (setting_of_code t budgets).sizes
@@ -37,14 +37,14 @@ pub fn integer_code_follows()
 /// Where the program follows a source, so does its expansion, with at most 21 times as much work, and it is never
 /// stuck: it touches no byte that it may not use, and each of its calls has room.
 pub fn expansions_follow_a_source()
-    ensures follows { (o : OperatorCode) → AreOperators o → (t : Tac) → is_integer_code t ≡ true
+    ensures follows { (o : OperatorCode) → AreOperators o → (t : Tac) → IsIntegerCode t
         → (budgets : BudgetSizes) (address : (function node : ℕ) → ℕ) (p : FlatProgram)
         → IsExpanded o (setting_of_code t budgets).sizes t address p → AreMapped (setting_of_code t budgets).sizes
         → (views : Views) (memory : Bytes) → views.sizes ≡ (setting_of_code t budgets).sizes
         → IsStart views (objects_before t (setting_of_code t budgets)) memory → AreBytes memory → (input : List ℕ)
         (c : ℕ) (a : Behaviour) → IsSource a → Follows c a (tac_meaning t budgets input)
         → Follows (21 * c) a (flat_meaning (setting_of_code t budgets).sizes p memory input) }
-    ensures runs { (o : OperatorCode) → AreOperators o → (t : Tac) → is_integer_code t ≡ true
+    ensures runs { (o : OperatorCode) → AreOperators o → (t : Tac) → IsIntegerCode t
         → (budgets : BudgetSizes) (address : (function node : ℕ) → ℕ) (p : FlatProgram)
         → IsExpanded o (setting_of_code t budgets).sizes t address p → AreMapped (setting_of_code t budgets).sizes
         → (views : Views) (memory : Bytes) → views.sizes ≡ (setting_of_code t budgets).sizes

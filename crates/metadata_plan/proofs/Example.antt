@@ -121,6 +121,7 @@ binary_code _ x y z = flat.Operate32 Addw x y (Register z) ∷ []
 
 abbrev operators : OperatorCode
 operators = record {
+  constant = λ x w s. flat.Constant x w ∷ [];
   unary = λ op t x y s. [];
   binary = λ op t x y z s line. binary_code op x y z;
   convert = λ t x y s. flat.Operate32 Addw x y (Number 0) ∷ [];

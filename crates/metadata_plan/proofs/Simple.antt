@@ -1,6 +1,6 @@
 -- Instructions whose blocks change registers, go one of two ways, or begin a turn.
 use Rattle.std.proofs.Common.{◌≡◌, ℕ, ◌+◌, ◌*◌, ◌^◌, ◌<◌, ◌≤◌, refl, sym, ap, ap₂, ◌∙◌, subst}
-use Rattle.std.proofs.Common.{arith, Bool, true, false, cond, not, List, Option, Some, None, length}
+use Rattle.std.proofs.Common.{arith, Bool, true, false, cond, not, List, [], ◌∷◌, ◌++◌, Option, Some, None, length, length-append}
 use Rattle.std.proofs.Common.{mod-eq_of_lt, le_trans, mul-le-mul_left, set, ltb-true}
 use Rattle.std.specs.Prelude.{slice_get, ◌==◌}
 use Rattle.words.specs.TwosComplement.{low_bits}
@@ -28,22 +28,26 @@ use Rattle.tac_ir.specs.Costs.{spent}
 use Rattle.tac_ir.specs.Meaning.{act, given_in, begun}
 use Rattle.rv_isa.specs.declared.instruction.BranchOp.TheVariants.{Beq, Bne}
 use Rattle.rv_isa.specs.Results.{branch_taken}
-use Rattle.flat_meaning.specs.declared.instruction.RightOperand.TheVariants.{Number}
+use Rattle.flat_meaning.specs.declared.instruction.RightOperand.TheVariants.{Register, Number}
 use Rattle.flat_meaning.specs.declared.function.FlatProgram.{FlatProgram}
 use Rattle.flat_meaning.specs.Memory.{put}
 use Rattle.flat_meaning.specs.State as flat
 use Rattle.flat_meaning.specs.Calls.{function_in}
-use Rattle.flat_meaning.specs.Meaning.{body_of}
+use Rattle.flat_meaning.specs.declared.instruction.FlatInstruction.{FlatInstruction}
+use Rattle.flat_meaning.specs.declared.instruction.FlatInstruction.TheVariants.{Branch}
+use Rattle.flat_meaning.specs.Meaning.{body_of, instruction_at}
 use Rattle.flat_meaning.specs.Words.{IsOfWords}
 use Rattle.flat_objects.specs.StandsFor.{Views}
 use Rattle.metadata_plan.specs.Registers.{all_variables, most_temporaries, variable_register, temporary_register}
 use Rattle.metadata_plan.specs.Registers.{first_free}
-use Rattle.metadata_plan.specs.Operators.{OperatorCode, AreOperators, Position, binary_most}
+use Rattle.flat_routines.proofs.Steps.{has_front, has_back}
+use Rattle.metadata_plan.specs.Operators.{OperatorCode, AreOperators, Position, Computes, binary_most}
 use Rattle.metadata_plan.specs.Expanded.{Leads, IsExpanded}
 use Rattle.std.proofs.Common.{inl, inr}
 use Rattle.tac_ir.specs.Edges.{LeadsTo}
 use Rattle.metadata_plan.specs.Part.{has_no_pointer, is_word, IsIntegerCode}
 use Rattle.metadata_plan.specs.Matching.{IsAlike, IsAt}
+use Rattle.metadata_plan.proofs.Flat.{then_comes}
 use Rattle.metadata_plan.proofs.Flat.{weight_small, Comes, constant_comes, move_comes, turn_comes, branch_taken_comes}
 use Rattle.metadata_plan.proofs.Flat.{branch_passed_comes}
 use Rattle.metadata_plan.proofs.Holding.{IsSet, set_by_put, holds_free, holds_temporary, holds_variable}
@@ -172,11 +176,15 @@ module _ (o : OperatorCode) (views : Views) (g : Setting) (t : Tac) (address : (
   constant d w next at =
       let k = known (tac.Constant d w next) at in
       let x = temporary_register c d in
-      let values = put v.values x (low_bits 64 w) in
-      sets_temporary (tac.Constant d w next) k d w next 4 (inl refl) values
-      (leads_on (pc + 1) (address u next) (record v { values = values }) 2
-      (constant_comes m p u pc v xs x w k.put.has.0) k.put.leads)
-      (constant_set x w k.part) (omega arith)
+      let f = first_free c in
+      let to : d < most_temporaries c.code = omega (arith, k.temporaries_low) in
+      let place = pc + length (o.constant x w f) in
+      let r = ops.constant m p position x w f (temporary_free c k.integers d to) (ltb-true w (2 ^ 64) k.part)
+      (record { has = k.put.has; words = words }) in
+      sets_temporary (tac.Constant d w next) k d w next 12 (inl refl) r.after
+      (leads_on place (address u next) (record v { values = r.after }) 10
+      (computed o views g t address p ops ex part u pc v xs place x w f 5 r (omega arith)) k.put.leads)
+      (computed_set o views g t address p ops ex part position place x w f f 5 r (omega arith)) (omega arith)
 
   pub get_plain : (d x next : ℕ) → slice_get h.code.code n ≡ Some (tac.GetPlain d x next)
       → Gives (act g t (tac.GetPlain d x next) u temps ws (spent 1 s))
@@ -382,29 +390,90 @@ module _ (o : OperatorCode) (views : Views) (g : Setting) (t : Tac) (address : (
           (branch_taken_comes m p u pc v xs Bne (temporary_register c a) (Number 0) 1 k.put.has.0 (not_equal (v.values (temporary_register c a)) 0 false e))
           k.put.leads.1) (omega arith)
 
-  pub case : (a w x y : ℕ) → slice_get h.code.code n ≡ Some (tac.Case a w x y)
-      → Gives (act g t (tac.Case a w x y) u temps ws (spent 1 s))
-  case a w x y at =
-      subst (λ z. Gives (Stands u (cond (z == w) x y) temps ws (spent 1 s))) (sym (held_word a k.temporaries_low))
-      (by (v.values (temporary_register c a) == w) refl)
-    where
-      k : Node (tac.Case a w x y)
-      k = known (tac.Case a w x y) at
+  -- registers of its own alone change, and the place
+  goes_with : (i : Instruction) → Node i → (next most : ℕ) → LeadsTo i next → (values : flat.Values)
+      → ((y : ℕ) → y < first_free c → values y ≡ v.values y) → ComesTo (address u next) (record v { values = values }) most
+      → most ≤ 21 → Gives (Stands u next temps ws (spent 1 s))
+  goes_with i k next most l values same run_to few =
+      stays o views g t address p ops ex part u n temps temps ws s (spent 1 s) v (record v { values = values }) xs next
+      most h run_to (holds_free c k.integers temps s.plain v.values values h.holds same) (alike_values 1 values)
+      (record { objects = refl; frame = refl; stacked = refl; charged = refl }) refl (omega arith) (k.on next l)
 
-      same : (b : Bool) → (v.values (temporary_register c a) == w) ≡ b → (v.values (temporary_register c a) == low_bits 64 w) ≡ b
-      same b e = ap (λ z. v.values (temporary_register c a) == z) (low_word_same w k.part) ∙ e
+  module _ (a w x y : ℕ) (at : slice_get h.code.code n ≡ Some (tac.Case a w x y)) where
+    abbrev label : Node (tac.Case a w x y)
+    label = known (tac.Case a w x y) at
 
-      by : (b : Bool) → (v.values (temporary_register c a) == w) ≡ b → Gives (Stands u (cond b x y) temps ws (spent 1 s))
-      by true e = goes_on (tac.Case a w x y) k x 4 (inl refl)
-          (leads_on (pc + 1 + 1) (address u x) v 2
-          (branch_taken_comes m p u pc v xs Beq (temporary_register c a) (Number w) 1 k.put.has.0
-          (equal (v.values (temporary_register c a)) (low_bits 64 w) true (same true e)))
-          k.put.leads.1) (omega arith)
-      by false e = goes_on (tac.Case a w x y) k y 4 (inr (inl refl))
-          (leads_on (pc + 1) (address u y) v 2
-          (branch_passed_comes m p u pc v xs Beq (temporary_register c a) (Number w) 1 k.put.has.0
-          (equal (v.values (temporary_register c a)) (low_bits 64 w) false (same false e)))
-          k.put.leads.0) (omega arith)
+    abbrev free : ℕ
+    free = first_free c
+
+    abbrev register : ℕ
+    register = temporary_register c a
+
+    abbrev test : List FlatInstruction
+    test = Branch Beq (temporary_register c a) (Register (first_free c)) 1 ∷ []
+
+    abbrev word_code : List FlatInstruction
+    word_code = o.constant (first_free c) w (first_free c + 1)
+
+    abbrev tested_at : ℕ
+    tested_at = pc + length word_code
+
+    abbrev word_in : Computes m p position tested_at (first_free c) w (first_free c + 1) 5
+    word_in =
+        ops.constant m p position free w (free + 1) (omega arith) (ltb-true w (2 ^ 64) label.part)
+        (record { has = has_front (body_of (function_in p u)) pc word_code test label.put.has; words = words })
+
+    kept : (z : ℕ) → z < free → word_in.after z ≡ v.values z
+    kept z lt = word_in.others z (omega arith) (λ e. absurd (omega arith))
+
+    same_test : (b : Bool) → (v.values register == w) ≡ b → branch_taken Beq (word_in.after register) (word_in.after free)
+        ≡ b
+    same_test b e =
+        let low = temporary_free c label.integers a label.temporaries_low in
+        equal (word_in.after register) (word_in.after free) b
+        (ap (λ z. z == word_in.after free) (kept register low) ∙ ap (λ z. v.values register == z) word_in.gives ∙ e)
+
+    first : ComesTo tested_at (record v { values = word_in.after }) 10
+    first = computed o views g t address p ops ex part u pc v xs tested_at free w (free + 1) 5 word_in (omega arith)
+
+    abbrev between : flat.State
+    between = record v { values = word_in.after; work = v.work + first.work }
+
+    at_test : instruction_at p u tested_at ≡ Some (Branch Beq register (Register free) 1)
+    at_test = (has_back (body_of (function_in p u)) pc word_code test label.put.has).0
+
+    end_is : pc + length (word_code ++ test) ≡ tested_at + 1
+    end_is = omega (arith, length-append word_code test)
+
+    equal_way : (v.values register == w) ≡ true → Gives (Stands u x temps ws (spent 1 s))
+    equal_way e =
+        let b = branch_taken_comes m p u tested_at between xs Beq register (Register free) 1 at_test (same_test true e) in
+        let all = then_comes m p u pc v xs tested_at (tested_at + 1 + 1) (record v { values = word_in.after }) between 10 2
+        first b in
+        goes_with (tac.Case a w x y) label x 14 (inl refl) word_in.after kept
+        (leads_on (tested_at + 1 + 1) (address u x) (record v { values = word_in.after }) 12
+        (record { steps = all.steps; work = all.work; few = all.few; comes = all.comes })
+        (subst (λ z. Leads (body_of (function_in p u)) (z + 1) (address u x)) end_is label.put.leads.1)) (omega arith)
+
+    other_way : (v.values register == w) ≡ false → Gives (Stands u y temps ws (spent 1 s))
+    other_way e =
+        let b = branch_passed_comes m p u tested_at between xs Beq register (Register free) 1 at_test (same_test false e)
+        in
+        let all = then_comes m p u pc v xs tested_at (tested_at + 1) (record v { values = word_in.after }) between 10 2
+        first b in
+        goes_with (tac.Case a w x y) label y 14 (inr (inl refl)) word_in.after kept
+        (leads_on (tested_at + 1) (address u y) (record v { values = word_in.after }) 12
+        (record { steps = all.steps; work = all.work; few = all.few; comes = all.comes })
+        (subst (λ z. Leads (body_of (function_in p u)) z (address u y)) end_is label.put.leads.0)) (omega arith)
+
+    pub case : Gives (act g t (tac.Case a w x y) u temps ws (spent 1 s))
+    case =
+        subst (λ z. Gives (Stands u (cond (z == w) x y) temps ws (spent 1 s)))
+        (sym (held_word a label.temporaries_low)) (by (v.values register == w) refl)
+      where
+        by : (b : Bool) → (v.values register == w) ≡ b → Gives (Stands u (cond b x y) temps ws (spent 1 s))
+        by true e = equal_way e
+        by false e = other_way e
 
   pub turn : (counted : Option ℕ) (next : ℕ) → slice_get h.code.code n ≡ Some (tac.Turn counted next)
       → Gives (act g t (tac.Turn counted next) u temps ws (spent 1 s))

@@ -22,7 +22,7 @@ use Rattle.tac_ir.specs.declared.function.CodeFunction.{CodeFunction}
 use Rattle.tac_ir.specs.declared.function.Tac.{Tac}
 use Rattle.tac_ir.specs.Meaning.{function_in, line_in}
 use Rattle.rv_isa.specs.declared.instruction.BranchOp.TheVariants.{Beq, Bne, Bltu}
-use Rattle.flat_meaning.specs.declared.instruction.RightOperand.TheVariants.{Number}
+use Rattle.flat_meaning.specs.declared.instruction.RightOperand.TheVariants.{Register, Number}
 use Rattle.flat_meaning.specs.declared.instruction.FlatInstruction.{FlatInstruction}
 use Rattle.flat_meaning.specs.declared.instruction.FlatInstruction.TheVariants.{Constant, Move, Branch, Turn, Call}
 use Rattle.flat_meaning.specs.declared.instruction.FlatInstruction.TheVariants.{Return, Get, Put, Exit, End, Charged}
@@ -88,7 +88,7 @@ call_code m t c f line d n =
     ++ (argument_moves c s d n ++ (Call f s (temporary_register c d) ∷ []))
 
 abbrev pub block : OperatorCode → MapSizes → Tac → CodeFunction → Instruction → List FlatInstruction
-block o m t c (tac.Constant d w next) = Constant (temporary_register c d) w ∷ []
+block o m t c (tac.Constant d w next) = o.constant (temporary_register c d) w (first_free c)
 block o m t c (tac.GetPlain d x next) = Move (temporary_register c d) (variable_register c x) ∷ []
 block o m t c (tac.SetPlain x a next) = Move (variable_register c x) (temporary_register c a) ∷ []
 block o m t c (tac.UpdatePlain w k f line d x right next) = update_code o c w k f line d x right
@@ -100,7 +100,9 @@ block o m t c (tac.Unary op ty d a next) =
 block o m t c (tac.Binary op ty line d a b next) =
     o.binary op ty (temporary_register c d) (temporary_register c a) (temporary_register c b) (first_free c) line
 block o m t c (tac.Branch a x y) = Branch Bne (temporary_register c a) (Number 0) 1 ∷ []
-block o m t c (tac.Case a w x y) = Branch Beq (temporary_register c a) (Number w) 1 ∷ []
+block o m t c (tac.Case a w x y) =
+    o.constant (first_free c) w (first_free c + 1)
+    ++ (Branch Beq (temporary_register c a) (Register (first_free c)) 1 ∷ [])
 block o m t c (tac.Turn counted next) = Turn ∷ []
 block o m t c (tac.Library r line d n next) = library_code o r line (temporary_register c d) (first_free c)
 block o m t c (tac.Call f line d n next) = call_code m t c f line d n

@@ -1,5 +1,5 @@
 -- The code of the operators on integers (C99 6.5.3.3, 6.5.5 to 6.5.12, 6.3.1.3), and what is asked of it.
-use Rattle.std.specs.Prelude.{◌≡◌, ◌≢◌, ℕ, ◌+◌, ◌*◌, ◌<◌, ◌≤◌, List, length, Some, None}
+use Rattle.std.specs.Prelude.{◌≡◌, ◌≢◌, ℕ, ◌+◌, ◌*◌, ◌^◌, ◌<◌, ◌≤◌, List, length, Some, None}
 use Rattle.behaviours.specs.Steps.{run}
 use Rattle.addr_map.specs.Places.{MapSizes}
 use Rattle.sb_base.specs.declared.ending.Ending.{Ending}
@@ -19,9 +19,10 @@ use Rattle.flat_meaning.specs.Meaning.{body_of, weight_of, step}
 use Rattle.flat_meaning.specs.Words.{IsOfWords}
 use Rattle.flat_routines.specs.Routine.{HasAt}
 
--- the code of each operator over registers; those from scratch on are its own. A division by zero ends the run at the
--- line
+-- the code of a constant, which may take several instructions, and of each operator over registers; those from scratch
+-- on are its own. A division by zero ends the run at the line
 pub record OperatorCode : Type 0 where
+  pub constant : (into word scratch : ℕ) → List FlatInstruction
   pub unary : UnaryOperator → IntType → (into from scratch : ℕ) → List FlatInstruction
   pub binary : BinaryOperator → IntType → (into left right scratch line : ℕ) → List FlatInstruction
   pub convert : IntType → (into from scratch : ℕ) → List FlatInstruction
@@ -67,6 +68,9 @@ pub record IsHere (p : FlatProgram) (x : Position) (code : List FlatInstruction)
 
 -- Wherever it stands, the code of an operator comes to its end with the operator's value.
 pub record AreOperators (o : OperatorCode) : Type 0 where
+  pub constant : (m : MapSizes) (p : FlatProgram) (x : Position) (into word scratch : ℕ) → into < scratch
+      → word < 2 ^ 64 → IsHere p x (o.constant into word scratch)
+      → Computes m p x (x.place + length (o.constant into word scratch)) into word scratch 5
   pub unary : (m : MapSizes) (p : FlatProgram) (x : Position) (op : UnaryOperator) (t : IntType) (into from scratch : ℕ)
       → into < scratch → from < scratch → IsHere p x (o.unary op t into from scratch)
       → Computes m p x (x.place + length (o.unary op t into from scratch)) into

@@ -1,0 +1,7 @@
+use Rattle.std.proofs.Common.{◌≡◌, max, drop}
+use Rattle.metadata_expansion.specs.Numbers.{greatest_callee}
+use Rattle.metadata_expansion.proofs.numbers.greatest_callee.Given as goal
+
+abbrev pub invariant-loop-instruction : goal.invariant-loop-instruction
+invariant-loop-instruction l =
+    max l.greatest (greatest_callee (drop l.instruction-index l.instructions)) ≡ greatest_callee l.instructions

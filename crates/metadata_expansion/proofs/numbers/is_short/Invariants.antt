@@ -1,0 +1,10 @@
+use Rattle.std.proofs.Common.{◌≡◌, ◌+◌, drop}
+use Rattle.metadata_plan.specs.Laid.{size_from}
+use Rattle.metadata_expansion.specs.Numbers.{body_size}
+use Rattle.metadata_expansion.specs.Operators.{operators}
+use Rattle.metadata_expansion.proofs.numbers.is_short.Given as goal
+
+abbrev pub invariant-loop-node : goal.invariant-loop-node
+invariant-loop-node l =
+    l.size + size_from operators l.sizes l.program l.function l.node (drop l.node l.function.code)
+    ≡ body_size l.sizes l.program l.function

@@ -1,0 +1,11 @@
+use Rattle.std.proofs.Common.{◌≡◌, ap, arith}
+use Rattle.metadata_plan.specs.Registers.{words_in}
+use Rattle.metadata_expansion.proofs.Lists.{registers_few}
+use Rattle.metadata_expansion.proofs.program.expand_function.Goals as goal
+
+pub words_in-requires : goal.words_in-requires
+words_in-requires c =
+    let few = registers_few c.args.function.now c.requires.registers in
+    let same : words_in c.as_slice.result.now ≡ words_in c.args.function.now.parameters =
+        ap (λ vs. words_in vs) c.as_slice.ensures in
+    omega (arith, few, same)

@@ -1,0 +1,39 @@
+-- The numbers of an expansion that have to fit an instruction of flat code.
+use Rattle.std.specs.Prelude.{◌≡◌, ℕ, ◌+◌, ◌^◌, ◌<◌, ◌≤◌, max, List, [], ◌∷◌, length, Some, slice_get}
+use Rattle.addr_map.specs.Places.{MapSizes}
+use Rattle.tac_ir.specs.declared.instruction.Instruction.{Instruction}
+use Rattle.tac_ir.specs.declared.instruction.Instruction.TheVariants as tac
+use Rattle.tac_ir.specs.declared.function.CodeFunction.{CodeFunction}
+use Rattle.tac_ir.specs.declared.function.Tac.{Tac}
+use Rattle.metadata_plan.specs.Registers.{first_free}
+use Rattle.metadata_plan.specs.Laid.{begin_size, size_from}
+use Rattle.metadata_expansion.specs.Operators.{operators}
+use Rattle.metadata_expansion.specs.Homes.{free_count}
+
+-- the number of the function that an instruction calls
+abbrev pub callee : Instruction → ℕ
+callee (tac.Call f line d n next) = f
+callee _ = 0
+
+abbrev pub greatest_callee : List Instruction → ℕ
+greatest_callee [] = 0
+greatest_callee (i ∷ is) = max (callee i) (greatest_callee is)
+
+-- how many virtual registers a function has
+abbrev pub register_count : CodeFunction → ℕ
+register_count c = first_free c + free_count c
+
+-- how many instructions its expansion has
+abbrev pub body_size : MapSizes → Tac → CodeFunction → ℕ
+body_size m t c = begin_size operators m t c + size_from operators m t c 0 c.code
+
+pub record AreSmall (m : MapSizes) (t : Tac) (c : CodeFunction) : Type 0 where
+  pub registers : register_count c < 2 ^ 32
+  pub instructions : body_size m t c < 2 ^ 31
+  pub room : c.room < 2 ^ 32
+  pub callees : greatest_callee c.code < 2 ^ 32
+
+pub record AreAllSmall (m : MapSizes) (t : Tac) : Type 0 where
+  pub functions : (u : ℕ) (c : CodeFunction) → slice_get t.functions u ≡ Some c → AreSmall m t c
+  pub count : length t.functions < 2 ^ 32
+  pub main : t.main < length t.functions

@@ -1,0 +1,219 @@
+//! The body of a function: the prologue, and the blocks with jumps between them, that of the last node first.
+
+ghost use Rattle.std.specs.Prelude.{◌≡◌, ◌+◌, ◌<◌, ◌≤◌, ◌^◌, ◌++◌, if◌then◌else◌, [], length, true, OnOk, IfOk};
+ghost use Rattle.tac_ir.specs.Edges.{successors};
+ghost use Rattle.metadata_plan.specs.Registers.{words_of, words_in};
+ghost use Rattle.metadata_plan.specs.Blocks.{block, prologue, zero_variables, zeros};
+ghost use Rattle.metadata_plan.specs.Laid.{begin_code, body_of, jumps, laid_from, place_of};
+ghost use Rattle.metadata_expansion.specs.Numbering.{AreRegisters, IsAmong};
+ghost use Rattle.metadata_expansion.specs.Numbers.{AreSmall};
+ghost use Rattle.metadata_expansion.specs.Operators.{operators};
+ghost use Rattle.metadata_expansion.specs.Layout.{ArePlaces};
+ghost use Rattle.metadata_expansion.specs.Ways.{nodes_of};
+
+use crate::blocks::put_block;
+use crate::jumps::{Ways, follows, jump, put_jump, ways_of};
+use crate::layout::{Places, instruction_at, placed};
+use crate::list::put;
+use crate::registers::{Registers, words_in, words_of};
+use addr_map::AddrMap;
+use c_tree::Variable;
+use flat_meaning::FlatInstruction;
+use std::alloc::{AllocError, Global};
+use tac_ir::{CodeFunction, Instruction, Tac};
+
+// Puts what makes so many registers 0 behind a list.
+fn put_zeros(code: &mut Vec<FlatInstruction>, register: u32, count: u32) -> Result<(), AllocError>
+    requires { register + count < 2 ^ 32 }
+    ensures { OnOk result (code.new.items ≡ code.old.items ++ zeros register count) }
+{
+    for i in 0..count {
+        let into = register + i;
+        put(code, FlatInstruction::Constant { into, value: 0 })?;
+    }
+    Ok(())
+}
+
+// Puts what makes the registers of a variable 0, which is no object, behind a list.
+#[tactic(auto, using(crate::proofs::Lists::nothing_behind))]
+fn put_zero(
+    code: &mut Vec<FlatInstruction>,
+    register: u32,
+    variable: &Variable,
+) -> Result<(), AllocError>
+    requires { register + words_of variable.now.kind < 2 ^ 32 }
+    ensures { OnOk result (code.new.items ≡ code.old.items
+        ++ (if variable.now.is_object then [] else zeros register (words_of variable.now.kind))) }
+{
+    if variable.is_object {
+        return Ok(());
+    }
+    put_zeros(code, register, words_of(variable.kind))
+}
+
+// Puts what makes the registers of variables 0 behind a list.
+fn put_zero_variables(
+    code: &mut Vec<FlatInstruction>,
+    first: u32,
+    variables: &[Variable],
+) -> Result<(), AllocError>
+    requires { first + words_in variables.now < 2 ^ 32 }
+    ensures { OnOk result (code.new.items ≡ code.old.items ++ zero_variables first variables.now) }
+{
+    let mut register = first;
+    for variable in variables {
+        put_zero(code, register, variable)?;
+        register += words_of(variable.kind);
+    }
+    Ok(())
+}
+
+// Puts what a function begins with behind a list.
+fn put_prologue(
+    code: &mut Vec<FlatInstruction>,
+    function: &CodeFunction,
+) -> Result<(), AllocError>
+    requires { words_in function.now.parameters + words_in function.now.variables < 2 ^ 32 }
+    ensures { OnOk result (code.new.items ≡ code.old.items ++ prologue function.now) }
+{
+    let first = words_in(function.parameters.as_slice());
+    put_zero_variables(code, first, function.variables.as_slice())
+}
+
+// How many instructions a function begins with.
+pub(crate) fn prologue_size(alloc: Global, function: &CodeFunction) -> Result<usize, AllocError>
+    requires { words_in function.now.parameters + words_in function.now.variables < 2 ^ 32 }
+    ensures { IfOk result (λ n. n ≡ length (prologue function.now)) }
+{
+    let mut code = Vec::new(alloc);
+    put_prologue(&mut code, function)?;
+    Ok(code.len())
+}
+
+// Puts the jumps behind the block of a node, which ends at a place.
+fn put_jumps(
+    code: &mut Vec<FlatInstruction>,
+    sizes: &AddrMap,
+    program: &Tac,
+    function: &CodeFunction,
+    places: &Places,
+    node: usize,
+    ways: Ways,
+    place: u32,
+) -> Result<(), AllocError>
+    requires places { ArePlaces places.now sizes.now program.now function.now }
+    requires small { place + 1 < 2 ^ 32 }
+    ensures { OnOk result (code.new.items ≡ code.old.items
+        ++ jumps (place_of operators sizes.now program.now function.now) node place (nodes_of ways)) }
+{
+    match ways {
+        Ways::Nowhere => Ok(()),
+        Ways::To(next) => {
+            let to = places.of(sizes, program, function, next);
+            put_jump(code, node, next, place, to)
+        }
+        Ways::Either(first, second) => {
+            let to = places.of(sizes, program, function, second);
+            put(code, jump(place, to))?;
+            let to = places.of(sizes, program, function, first);
+            put_jump(code, node, first, place + 1, to)
+        }
+    }
+}
+
+// Puts the block of a node, and the jumps behind it.
+fn put_node(
+    code: &mut Vec<FlatInstruction>,
+    sizes: &AddrMap,
+    program: &Tac,
+    function: &CodeFunction,
+    registers: &Registers,
+    places: &Places,
+    node: usize,
+    instruction: &Instruction,
+) -> Result<(), AllocError>
+    requires registers { AreRegisters registers.now function.now }
+    requires among { IsAmong function.now instruction.now }
+    requires places { ArePlaces places.now sizes.now program.now function.now }
+    requires small { place_of operators sizes.now program.now function.now node
+        + length (block operators sizes.now program.now function.now instruction.now) < 2 ^ 31 }
+    ensures { OnOk result (code.new.items ≡ code.old.items
+        ++ (block operators sizes.now program.now function.now instruction.now
+        ++ jumps (place_of operators sizes.now program.now function.now) node
+        (place_of operators sizes.now program.now function.now node
+        + length (block operators sizes.now program.now function.now instruction.now))
+        (successors instruction.now))) }
+{
+    let before = code.len();
+    put_block(code, sizes, program, function, registers, instruction)?;
+    let size = code.len() - before;
+    let place = places.of(sizes, program, function, node) + size as u32;
+    put_jumps(code, sizes, program, function, places, node, ways_of(instruction), place)
+}
+
+// Puts all nodes, the last first.
+fn put_nodes(
+    code: &mut Vec<FlatInstruction>,
+    sizes: &AddrMap,
+    program: &Tac,
+    function: &CodeFunction,
+    registers: &Registers,
+    places: &Places,
+) -> Result<(), AllocError>
+    requires registers { AreRegisters registers.now function.now }
+    requires small { AreSmall sizes.now program.now function.now }
+    requires places { ArePlaces places.now sizes.now program.now function.now }
+    ensures { OnOk result (code.new.items ≡ code.old.items
+        ++ laid_from operators sizes.now program.now function.now 0 function.now.code) }
+{
+    let count = function.code.as_slice().len();
+    for behind in 0..count {
+        let node = count - 1 - behind;
+        let instruction = instruction_at(function, node);
+        put_node(code, sizes, program, function, registers, places, node, instruction)?;
+    }
+    Ok(())
+}
+
+// Puts the prologue, and the jump to the entry.
+fn put_begin(
+    code: &mut Vec<FlatInstruction>,
+    sizes: &AddrMap,
+    program: &Tac,
+    function: &CodeFunction,
+    places: &Places,
+    behind: u32,
+) -> Result<(), AllocError>
+    requires places { ArePlaces places.now sizes.now program.now function.now }
+    requires words { words_in function.now.parameters + words_in function.now.variables < 2 ^ 32 }
+    requires behind { behind ≡ length (prologue function.now) }
+    ensures { OnOk result (code.new.items ≡ code.old.items
+        ++ begin_code operators sizes.now program.now function.now) }
+{
+    put_prologue(code, function)?;
+    let count = function.code.as_slice().len();
+    let to = places.of(sizes, program, function, function.entry);
+    put_jump(code, count, function.entry, behind, to)
+}
+
+/// Puts the body of a function behind a list. It fails only for want of memory.
+pub fn put_body(
+    code: &mut Vec<FlatInstruction>,
+    alloc: Global,
+    sizes: &AddrMap,
+    program: &Tac,
+    function: &CodeFunction,
+    registers: &Registers,
+) -> Result<(), AllocError>
+    requires registers { AreRegisters registers.now function.now }
+    requires small { AreSmall sizes.now program.now function.now }
+    ensures { OnOk result (code.new.items ≡ code.old.items
+        ++ body_of operators sizes.now program.now function.now) }
+{
+    let behind = prologue_size(alloc, function)? as u32;
+    let count = function.code.as_slice().len();
+    let jumps = if follows(count, function.entry) { 0 } else { 1 };
+    let places = placed(alloc, sizes, program, function, registers, behind + jumps)?;
+    put_begin(code, sizes, program, function, &places, behind)?;
+    put_nodes(code, sizes, program, function, registers, &places)
+}

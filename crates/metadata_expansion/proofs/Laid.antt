@@ -1,6 +1,6 @@
 -- Nodes from the last down: their places, and their code.
-use Rattle.std.proofs.Common.{◌≡◌, ℕ, zero, suc, ◌+◌, ◌-◌, ◌*◌, ◌^◌, ◌<◌, ◌≤◌, max, List, [], ◌∷◌, ◌++◌, length, drop}
-use Rattle.std.proofs.Common.{reverse, get_or, Some, slice_get, ap, refl, sym, ◌∙◌, arith, append_assoc}
+use Rattle.std.proofs.Common.{◌≡◌, ℕ, zero, suc, ◌+◌, ◌-◌, ◌^◌, ◌<◌, ◌≤◌, List, [], ◌∷◌, ◌++◌, length, drop}
+use Rattle.std.proofs.Common.{reverse, get_or, Some, slice_get, ap, sym, ◌∙◌, arith, append_assoc}
 use Rattle.std.proofs.lemmas.List.{drop_all, reverse-append}
 use Rattle.std.proofs.lemmas.Option.{slice_get-get_or}
 use Rattle.addr_map.specs.Places.{MapSizes}
@@ -12,11 +12,11 @@ use Rattle.tac_ir.specs.Temporaries.{temporaries}
 use Rattle.flat_meaning.specs.declared.instruction.FlatInstruction.{FlatInstruction}
 use Rattle.metadata_plan.specs.Registers.{most_temporaries}
 use Rattle.metadata_plan.specs.Blocks.{block}
-use Rattle.metadata_plan.specs.Laid.{begin_size, jumps, jump_count, laid_from, place_of, size_at, size_from}
+use Rattle.metadata_plan.specs.Laid.{begin_size, jumps, laid_from, place_of, size_at, size_from}
 use Rattle.metadata_expansion.specs.declared.layout.Places.{Places}
 use Rattle.metadata_expansion.specs.Operators.{operators}
-use Rattle.metadata_expansion.specs.Homes.{argument_count, most_arguments, free_count}
-use Rattle.metadata_expansion.specs.Numbers.{callee, greatest_callee, body_size, AreSmall}
+use Rattle.metadata_expansion.specs.Homes.{argument_count, most_arguments}
+use Rattle.metadata_expansion.specs.Numbers.{callee, greatest_callee, AreSmall}
 use Rattle.metadata_expansion.specs.Numbering.{IsAmong}
 use Rattle.metadata_expansion.specs.Layout.{ArePlaces}
 use Rattle.metadata_expansion.proofs.Lists.{nothing_behind}
@@ -73,12 +73,12 @@ size_rest : (m : MapSizes) (t : Tac) (c : CodeFunction) (k : ℕ) (is : List Ins
 size_rest m t c k is zero j e =
     let same : j ≡ k = omega arith in
     let sizes : size_from operators m t c j is ≡ size_from operators m t c k is =
-        ap (λ z. size_from operators m t c z is) same in
+    ap (λ z. size_from operators m t c z is) same in
     omega (arith, sizes)
 size_rest m t c k [] (suc n) j e = omega arith
 size_rest m t c k (i ∷ is) (suc n) j e =
     let here : size_from operators m t c j (drop n is) ≤ size_from operators m t c (suc k) is =
-        size_rest m t c (suc k) is n j (omega arith) in
+    size_rest m t c (suc k) is n j (omega arith) in
     omega (arith, here)
 
 pub node_fits : (m : MapSizes) (t : Tac) (c : CodeFunction) (n : ℕ) (i : Instruction) → AreSmall m t c
@@ -86,10 +86,10 @@ pub node_fits : (m : MapSizes) (t : Tac) (c : CodeFunction) (n : ℕ) (i : Instr
 unfolding place_of
 node_fits m t c n i small e =
     let whole : size_from operators m t c n (drop n c.code) ≤ size_from operators m t c 0 c.code =
-        size_rest m t c 0 c.code n n (omega arith) in
+    size_rest m t c 0 c.code n n (omega arith) in
     let parts : size_from operators m t c n (drop n c.code)
-            ≡ size_at operators m t c n i + size_from operators m t c (suc n) (drop (suc n) c.code) =
-        ap (λ is. size_from operators m t c n is) (drop_at c.code n i e) in
+    ≡ size_at operators m t c n i + size_from operators m t c (suc n) (drop (suc n) c.code) =
+    ap (λ is. size_from operators m t c n is) (drop_at c.code n i e) in
     let few = small.instructions in
     omega arith
 
@@ -132,19 +132,19 @@ one_placed m t c xs p b n i at e h =
     let next : n ≡ length c.code - (b + 1) = omega arith in
     let here : drop n c.code ≡ i ∷ drop (suc n) c.code = drop_at c.code n i e in
     let low : p ≡ begin_size operators m t c + size_from operators m t c (suc n) (drop (suc n) c.code) =
-        h.place ∙ ap (λ k. begin_size operators m t c + size_from operators m t c k (drop k c.code)) at in
+    h.place ∙ ap (λ k. begin_size operators m t c + size_from operators m t c k (drop k c.code)) at in
     let rest : reverse xs ≡ places_from m t c (suc n) (drop (suc n) c.code) =
-        h.list ∙ ap (λ k. places_from m t c k (drop k c.code)) at in
+    h.list ∙ ap (λ k. places_from m t c k (drop k c.code)) at in
     let list : reverse (xs ++ p ∷ []) ≡ places_from m t c n (drop n c.code) =
-        reverse-append xs (p ∷ [])
-        ∙ ap (λ ys. p ∷ ys) rest
-        ∙ ap (λ z. z ∷ places_from m t c (suc n) (drop (suc n) c.code)) low
-        ∙ ap (λ is. places_from m t c n is) (sym here) in
+    reverse-append xs (p ∷ [])
+    ∙ ap (λ ys. p ∷ ys) rest
+    ∙ ap (λ z. z ∷ places_from m t c (suc n) (drop (suc n) c.code)) low
+    ∙ ap (λ is. places_from m t c n is) (sym here) in
     let parts : size_from operators m t c n (drop n c.code)
-            ≡ size_at operators m t c n i + size_from operators m t c (suc n) (drop (suc n) c.code) =
-        ap (λ is. size_from operators m t c n is) here in
+    ≡ size_at operators m t c n i + size_from operators m t c (suc n) (drop (suc n) c.code) =
+    ap (λ is. size_from operators m t c n is) here in
     let place : p + size_at operators m t c n i
-            ≡ begin_size operators m t c + size_from operators m t c n (drop n c.code) = omega arith in
+    ≡ begin_size operators m t c + size_from operators m t c n (drop n c.code) = omega arith in
     record {
       list = list ∙ ap (λ k. places_from m t c k (drop k c.code)) next;
       place = place ∙ ap (λ k. begin_size operators m t c + size_from operators m t c k (drop k c.code)) next;
@@ -156,7 +156,7 @@ unfolding place_of
 all_placed m t c xs p b r le h same begin =
     let none : length c.code - b ≡ 0 = omega arith in
     let list : reverse r.descending ≡ places_from m t c 0 c.code =
-        ap (λ ys. reverse ys) same ∙ h.list ∙ ap (λ k. places_from m t c k (drop k c.code)) none in
+    ap (λ ys. reverse ys) same ∙ h.list ∙ ap (λ k. places_from m t c k (drop k c.code)) none in
     record {
       of = λ n.
           ap (λ ys. get_or ys n r.begin) list
@@ -193,7 +193,7 @@ one_put m t c before now after b n i at e h put =
     let next : n ≡ length c.code - (b + 1) = omega arith in
     let here : i ∷ drop (suc n) c.code ≡ drop n c.code = sym (drop_at c.code n i e) in
     let rest : now ≡ before ++ laid_from operators m t c (suc n) (drop (suc n) c.code) =
-        h.code ∙ ap (λ k. before ++ laid_from operators m t c k (drop k c.code)) at in
+    h.code ∙ ap (λ k. before ++ laid_from operators m t c k (drop k c.code)) at in
     record {
       code = put
           ∙ ap (λ is. is ++ node_code m t c n i) rest
@@ -222,7 +222,7 @@ unfolding place_of
 next_fits m t c xs p b n i at e small h =
     let fit = node_fits m t c n i small e in
     let low : p ≡ begin_size operators m t c + size_from operators m t c (suc n) (drop (suc n) c.code) =
-        h.place ∙ ap (λ k. begin_size operators m t c + size_from operators m t c k (drop k c.code)) at in
+    h.place ∙ ap (λ k. begin_size operators m t c + size_from operators m t c k (drop k c.code)) at in
     omega (arith, fit, low)
 
 pub one_placed_as : (m : MapSizes) (t : Tac) (c : CodeFunction) (xs ys : List ℕ) (p b n size : ℕ) (i : Instruction)
@@ -230,7 +230,7 @@ pub one_placed_as : (m : MapSizes) (t : Tac) (c : CodeFunction) (xs ys : List �
     → size ≡ size_at operators m t c n i → HavePlaces m t c ys (p + size) (b + 1)
 one_placed_as m t c xs ys p b n size i at e h list sized =
     let done : HavePlaces m t c (xs ++ p ∷ []) (p + size_at operators m t c n i) (b + 1) =
-        one_placed m t c xs p b n i at e h in
+    one_placed m t c xs p b n i at e h in
     record {
       list = ap (λ zs. reverse zs) list ∙ done.list;
       place = ap (λ z. p + z) sized ∙ done.place;

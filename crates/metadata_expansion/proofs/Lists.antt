@@ -1,5 +1,5 @@
 -- Lists that blocks are made of.
-use Rattle.std.proofs.Common.{◌≡◌, ℕ, zero, suc, ◌+◌, ◌*◌, ◌^◌, ◌<◌, ◌≤◌, max, List, [], ◌∷◌, ◌++◌, get_or, ap, refl, sym, ◌∙◌, append_assoc, arith}
+use Rattle.std.proofs.Common.{◌≡◌, ℕ, zero, suc, ◌+◌, ◌*◌, ◌^◌, ◌<◌, List, [], ◌∷◌, ◌++◌, get_or, ap, refl, sym, ◌∙◌, append_assoc, arith}
 use Rattle.c_tree.specs.declared.program.Variable.{Variable}
 use Rattle.tac_ir.specs.declared.function.CodeFunction.{CodeFunction}
 use Rattle.flat_meaning.specs.declared.instruction.FlatInstruction.{FlatInstruction}
@@ -63,7 +63,7 @@ registers_at r (v ∷ vs) zero d e = omega arith
 registers_at r (v ∷ vs) (suc x) d e =
     let same : d ≡ r + words_of v.kind + words_in vs = omega (arith, e) in
     let there : get_or (registers_from (r + words_of v.kind) vs) x d ≡ r + words_of v.kind + register_of vs x =
-        registers_at (r + words_of v.kind) vs x d same in
+    registers_at (r + words_of v.kind) vs x d same in
     there ∙ omega arith
 
 pub are_registers : (r : Registers) (c : CodeFunction) (behind : ℕ) → behind ≡ words_in c.parameters
@@ -73,19 +73,19 @@ pub are_registers : (r : Registers) (c : CodeFunction) (behind : ℕ) → behind
     → AreRegisters r c
 are_registers r c behind begin words variables count free small =
     let sum : words_in (all_variables c) ≡ words_in c.parameters + words_in c.variables =
-        words_append c.parameters c.variables in
+    words_append c.parameters c.variables in
     let total : r.words ≡ words_in (all_variables c) = omega arith in
     let from_zero : r.words ≡ 0 + words_in (all_variables c) = omega arith in
     let next : behind ≡ 0 + words_in c.parameters = omega arith in
     let list : r.variables ≡ registers_from 0 (all_variables c) =
-        variables
-        ∙ ap (λ z. registers_from 0 c.parameters ++ registers_from z c.variables) next
-        ∙ sym (registers_append 0 c.parameters c.variables) in
+    variables
+    ∙ ap (λ z. registers_from 0 c.parameters ++ registers_from z c.variables) next
+    ∙ sym (registers_append 0 c.parameters c.variables) in
     let at : r.free ≡ first_free c = omega arith in
     record {
       variables = λ x.
           let here : get_or (registers_from 0 (all_variables c)) x r.words ≡ 0 + register_of (all_variables c) x =
-              registers_at 0 (all_variables c) x r.words from_zero in
+          registers_at 0 (all_variables c) x r.words from_zero in
           ap (λ ns. get_or ns x r.words) list ∙ omega (arith, here);
       words = total;
       temporaries = count;
@@ -97,7 +97,7 @@ pub registers_few : (c : CodeFunction) → register_count c < 2 ^ 32
     → words_in c.parameters + words_in c.variables + 5 * most_temporaries c.code + 4 < 2 ^ 32
 registers_few c small =
     let total : words_in (all_variables c) ≡ words_in c.parameters + words_in c.variables =
-        words_append c.parameters c.variables in
+    words_append c.parameters c.variables in
     omega arith
 
 -- one more is put behind a list

@@ -1,28 +1,29 @@
 -- Whether the numbers of an expansion fit.
-use Rattle.std.proofs.Common.{◌≡◌, ℕ, zero, suc, ◌+◌, ◌*◌, ◌^◌, ◌<◌, ◌≤◌, List, [], ◌∷◌, drop, length, Some, slice_get, ap}
+use Rattle.std.proofs.Common.{◌≡◌, ℕ, zero, suc, ◌+◌, ◌^◌, ◌<◌, ◌≤◌, List, [], ◌∷◌, drop, length, Some, slice_get, ap}
 use Rattle.std.proofs.Common.{Bool, true, false, nat_lt, refl, sym, ◌∙◌, subst, arith}
 use Rattle.std.proofs.lemmas.Bool.{ltb-true, ltb-false}
 use Rattle.addr_map.specs.Places.{MapSizes}
 use Rattle.tac_ir.specs.declared.instruction.Instruction.{Instruction}
 use Rattle.tac_ir.specs.declared.function.CodeFunction.{CodeFunction}
 use Rattle.tac_ir.specs.declared.function.Tac.{Tac}
-use Rattle.metadata_plan.specs.Laid.{begin_size, size_at, size_from}
+use Rattle.metadata_plan.specs.Laid.{size_at, size_from}
 use Rattle.metadata_expansion.specs.Operators.{operators}
-use Rattle.metadata_expansion.specs.Numbers.{body_size, AreSmall, AreAllSmall}
+use Rattle.metadata_expansion.specs.Numbers.{AreSmall, AreAllSmall}
 use Rattle.metadata_expansion.proofs.Laid.{drop_at}
 
 -- the size so far, with that of the nodes from one on
 pub one_counted : (m : MapSizes) (t : Tac) (c : CodeFunction) (size more all n : ℕ) (i : Instruction)
-    → slice_get c.code n ≡ Some i → more ≡ size_at operators m t c n i → size + size_from operators m t c n (drop n c.code) ≡ all
+    → slice_get c.code n ≡ Some i → more ≡ size_at operators m t c n i
+    → size + size_from operators m t c n (drop n c.code) ≡ all
     → size + more + size_from operators m t c (n + 1) (drop (n + 1) c.code) ≡ all
 one_counted m t c size more all n i e sized h =
     let parts : size_from operators m t c n (drop n c.code)
-            ≡ size_at operators m t c n i + size_from operators m t c (suc n) (drop (suc n) c.code) =
-        ap (λ is. size_from operators m t c n is) (drop_at c.code n i e) in
+    ≡ size_at operators m t c n i + size_from operators m t c (suc n) (drop (suc n) c.code) =
+    ap (λ is. size_from operators m t c n is) (drop_at c.code n i e) in
     let next : suc n ≡ n + 1 = omega arith in
     let rest : size_from operators m t c (suc n) (drop (suc n) c.code)
-            ≡ size_from operators m t c (n + 1) (drop (n + 1) c.code) =
-        ap (λ k. size_from operators m t c k (drop k c.code)) next in
+    ≡ size_from operators m t c (n + 1) (drop (n + 1) c.code) =
+    ap (λ k. size_from operators m t c k (drop k c.code)) next in
     omega (arith, parts, rest, sized, h)
 
 -- ---- all functions

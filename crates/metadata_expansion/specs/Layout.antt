@@ -1,10 +1,9 @@
 -- A table of the places of the nodes of a function.
-use Rattle.std.specs.Prelude.{◌≡◌, ℕ, ◌+◌, suc, List, [], ◌∷◌, reverse, get_or}
+use Rattle.std.specs.Prelude.{◌≡◌, ℕ, reverse, get_or}
 use Rattle.addr_map.specs.Places.{MapSizes}
-use Rattle.tac_ir.specs.declared.instruction.Instruction.{Instruction}
 use Rattle.tac_ir.specs.declared.function.CodeFunction.{CodeFunction}
 use Rattle.tac_ir.specs.declared.function.Tac.{Tac}
-use Rattle.metadata_plan.specs.Laid.{begin_size, place_of}
+use Rattle.metadata_plan.specs.Laid.{place_of}
 use Rattle.metadata_expansion.specs.declared.layout.Places.{Places}
 use Rattle.metadata_expansion.specs.Operators.{operators}
 

@@ -31,7 +31,8 @@ fn put_kind(
     into: u32,
     from: u32,
 ) -> Result<(), AllocError>
-    ensures { OnOk result ((scratch : ℕ) → code.new.items ≡ code.old.items ++ conversion operators kind into from scratch) }
+    ensures { OnOk result ((scratch : ℕ) → code.new.items ≡ code.old.items
+        ++ conversion operators kind into from scratch) }
 {
     match kind {
         Kind::Scalar(Scalar::Integer(int_type)) => put_conversion(code, int_type, into, from),
@@ -168,7 +169,12 @@ pub fn put_block(
         Instruction::Case { from, word, .. } => {
             let left = registers.temporary(function, *from);
             put_constant(code, registers.free, *word)?;
-            put_branch(code, BranchOp::Beq, left, RightOperand::Register(registers.free))
+            put_branch(
+                code,
+                BranchOp::Beq,
+                left,
+                RightOperand::Register(registers.free),
+            )
         }
         Instruction::Turn { .. } => put(code, FlatInstruction::Turn),
         Instruction::Library {

@@ -69,10 +69,7 @@ fn put_zero_variables(
 }
 
 // Puts what a function begins with behind a list.
-fn put_prologue(
-    code: &mut Vec<FlatInstruction>,
-    function: &CodeFunction,
-) -> Result<(), AllocError>
+fn put_prologue(code: &mut Vec<FlatInstruction>, function: &CodeFunction) -> Result<(), AllocError>
     requires { words_in function.now.parameters + words_in function.now.variables < 2 ^ 32 }
     ensures { OnOk result (code.new.items ≡ code.old.items ++ prologue function.now) }
 {
@@ -148,7 +145,16 @@ fn put_node(
     put_block(code, sizes, program, function, registers, instruction)?;
     let size = code.len() - before;
     let place = places.of(sizes, program, function, node) + size as u32;
-    put_jumps(code, sizes, program, function, places, node, ways_of(instruction), place)
+    put_jumps(
+        code,
+        sizes,
+        program,
+        function,
+        places,
+        node,
+        ways_of(instruction),
+        place,
+    )
 }
 
 // Puts all nodes, the last first.
@@ -170,7 +176,16 @@ fn put_nodes(
     for behind in 0..count {
         let node = count - 1 - behind;
         let instruction = instruction_at(function, node);
-        put_node(code, sizes, program, function, registers, places, node, instruction)?;
+        put_node(
+            code,
+            sizes,
+            program,
+            function,
+            registers,
+            places,
+            node,
+            instruction,
+        )?;
     }
     Ok(())
 }

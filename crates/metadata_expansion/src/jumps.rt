@@ -76,20 +76,8 @@ pub fn jump_count(node: usize, ways: Ways) -> u32
 {
     match ways {
         Ways::Nowhere => 0,
-        Ways::To(next) => {
-            if follows(node, next) {
-                0
-            } else {
-                1
-            }
-        }
-        Ways::Either(first, _) => {
-            if follows(node, first) {
-                1
-            } else {
-                2
-            }
-        }
+        Ways::To(next) => { if follows(node, next) { 0 } else { 1 } }
+        Ways::Either(first, _) => { if follows(node, first) { 1 } else { 2 } }
     }
 }
 

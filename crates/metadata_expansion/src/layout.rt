@@ -74,13 +74,7 @@ pub struct Places {
 
 impl Places {
     /// The place of a node.
-    pub fn of(
-        &self,
-        sizes: &AddrMap,
-        program: &Tac,
-        function: &CodeFunction,
-        node: usize,
-    ) -> u32
+    pub fn of(&self, sizes: &AddrMap, program: &Tac, function: &CodeFunction, node: usize) -> u32
         requires { ArePlaces self.now sizes.now program.now function.now }
         ensures { result ≡ place_of operators sizes.now program.now function.now node }
     {
@@ -114,7 +108,15 @@ pub fn placed(
         let node = count - 1 - behind;
         descending.push(place)?;
         let instruction = instruction_at(function, node);
-        let size = node_size(alloc, sizes, program, function, registers, node, instruction)?;
+        let size = node_size(
+            alloc,
+            sizes,
+            program,
+            function,
+            registers,
+            node,
+            instruction,
+        )?;
         place += size as u32;
     }
     Ok(Places {

@@ -1,4 +1,7 @@
-//! From checked three-address code of integer programs to flat code: the expansion.
+//! From checked three-address code of integer programs to flat code: the expansion, in code.
+//!
+//! `metadata_plan` says what the expansion of a program is, and that it follows the program; here it is made, with the
+//! operators of `integer_operators` (`specs/Operators`) and homes for the virtual registers (`specs/Homes`).
 #![tactic(auto)]
 
 pub mod blocks;
@@ -12,3 +15,6 @@ pub mod numbers;
 pub mod program;
 pub mod registers;
 pub mod updates;
+
+pub use crate::numbers::fits;
+pub use crate::program::expand;

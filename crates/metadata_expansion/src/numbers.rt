@@ -94,7 +94,15 @@ fn is_short(
             return Ok(false);
         }
         let instruction = instruction_at(function, node);
-        size += node_size(alloc, sizes, program, function, &registers, node, instruction)?;
+        size += node_size(
+            alloc,
+            sizes,
+            program,
+            function,
+            &registers,
+            node,
+            instruction,
+        )?;
     }
     Ok(size < 1 << 31)
 }

@@ -66,7 +66,13 @@ fn put_entry(
     let main = program.main;
     put(code, FlatInstruction::Turn)?;
     put(code, FlatInstruction::Turn)?;
-    put_tests(code, sizes, room_of(program, main), line_of(program, main), 0)?;
+    put_tests(
+        code,
+        sizes,
+        room_of(program, main),
+        line_of(program, main),
+        0,
+    )?;
     put(
         code,
         FlatInstruction::Call {
@@ -79,11 +85,7 @@ fn put_entry(
 }
 
 // The function with which a run begins.
-fn entry_function(
-    alloc: Global,
-    sizes: &AddrMap,
-    program: &Tac,
-) -> Result<FlatFunction, AllocError>
+fn entry_function(alloc: Global, sizes: &AddrMap, program: &Tac) -> Result<FlatFunction, AllocError>
     requires main { program.now.main < length program.now.functions }
     requires small { program.now.main < 2 ^ 32 }
     ensures { IfOk result (λ f. f ≡ entry_of sizes.now program.now) }
@@ -119,8 +121,8 @@ fn put_functions(
     Ok(())
 }
 
-/// The expansion of a program in three-address code that has integers alone: its functions with their numbers, and behind them the one with which a run begins. It fails only for want of
-/// memory.
+/// The expansion of a program in three-address code that has integers alone: its functions with their numbers, and
+/// behind them the one with which a run begins. Whether its numbers fit tells `fits`. It fails only for want of memory.
 pub fn expand(alloc: Global, sizes: &AddrMap, program: &Tac) -> Result<FlatProgram, AllocError>
     requires { AreAllSmall sizes.now program.now }
     ensures { IfOk result (λ p. p ≡ program_of operators sizes.now program.now homes) }

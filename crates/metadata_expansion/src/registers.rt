@@ -111,19 +111,34 @@ fn temporaries(instruction: &Instruction) -> u128
         | Instruction::Take { to, from, .. }
         | Instruction::Read { to, from, .. } => greater(up_to(*to), up_to(*from)),
         Instruction::Binary {
-            to, left, right, ..
+            to,
+            left,
+            right,
+            ..
         }
         | Instruction::Offset {
-            to, left, right, ..
+            to,
+            left,
+            right,
+            ..
         }
         | Instruction::Difference {
-            to, left, right, ..
+            to,
+            left,
+            right,
+            ..
         } => greater(up_to(*to), greater(up_to(*left), up_to(*right))),
         Instruction::Write {
-            to, pointer, value, ..
+            to,
+            pointer,
+            value,
+            ..
         } => greater(up_to(*to), greater(up_to(*pointer), up_to(*value))),
         Instruction::Update {
-            to, pointer, right, ..
+            to,
+            pointer,
+            right,
+            ..
         } => greater(up_to(*to), greater(up_to(*pointer), right_count(*right))),
         Instruction::Library { first, count, .. }
         | Instruction::Print { first, count, .. }

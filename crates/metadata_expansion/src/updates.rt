@@ -87,12 +87,20 @@ fn put_kept(
     }
 }
 
+// An operator on integers of a type, at a line.
+#[derive(Clone, Copy)]
+struct Operation {
+    operator: BinaryOperator,
+    operands: IntType,
+    line: Line,
+}
+
 // Puts an update of a plain variable of an integer type by an operator on integers.
 fn put_arithmetic(
     code: &mut Vec<FlatInstruction>,
     function: &CodeFunction,
     registers: &Registers,
-    by: (BinaryOperator, IntType, Line),
+    operation: Operation,
     int_type: IntType,
     fixity: Fixity,
     to: usize,
@@ -103,10 +111,14 @@ fn put_arithmetic(
     requires into { to < most_temporaries function.now.code }
     requires right { right_count right ≤ most_temporaries function.now.code }
     ensures { OnOk result (code.new.items ≡ code.old.items
-        ++ update_code operators function.now (Arithmetic by.0 by.1) (Integer int_type) fixity by.2 to variable
-        right) }
+        ++ update_code operators function.now (Arithmetic operation.operator operation.operands) (Integer int_type) fixity
+        operation.line to variable right) }
 {
-    let (operator, operands, line) = by;
+    let Operation {
+        operator,
+        operands,
+        line,
+    } = operation;
     let scratch = registers.free;
     let from = registers.variable(function, variable);
     let into = registers.temporary(function, to);
@@ -149,8 +161,14 @@ pub fn put_update(
 {
     match (update, scalar) {
         (Update::Arithmetic(operator, operands), Scalar::Integer(int_type)) => {
-            let by = (operator, operands, line);
-            put_arithmetic(code, function, registers, by, int_type, fixity, to, variable, right)
+            let operation = Operation {
+                operator,
+                operands,
+                line,
+            };
+            put_arithmetic(
+                code, function, registers, operation, int_type, fixity, to, variable, right,
+            )
         }
         (Update::Forward(_) | Update::Back(_), _) | (_, Scalar::Pointer) => Ok(()),
     }

@@ -10,17 +10,17 @@ put_node-requires-clause-among c =
 pub put_node-requires-clause-small : goal.put_node-requires-clause-small
 put_node-requires-clause-small c =
     let fit = node_fits c.args.sizes.now c.args.program.now c.args.function.now
-            (length c.as_slice-count.result.now - 1 - c.loop-behind.behind)
-            c.instruction_at-instruction.result.now c.requires.small c.instruction_at-instruction.ensures in
+    (length c.as_slice-count.result.now - 1 - c.loop-behind.behind)
+    c.instruction_at-instruction.result.now c.requires.small c.instruction_at-instruction.ensures in
     omega (arith, fit)
 
 pub loop-behind-preserved : goal.loop-behind-preserved
 loop-behind-preserved c =
     let same : length c.as_slice-count.result.now ≡ length c.args.function.now.code =
-        ap (λ is. length is) c.as_slice-count.ensures in
+    ap (λ is. length is) c.as_slice-count.ensures in
     let below = c.loop-behind-test.true in
     let at : length c.args.function.now.code - c.loop-behind.behind
-            ≡ suc (length c.as_slice-count.result.now - 1 - c.loop-behind.behind) = omega (arith, same, below) in
+    ≡ suc (length c.as_slice-count.result.now - 1 - c.loop-behind.behind) = omega (arith, same, below) in
     one_put c.args.sizes.now c.args.program.now c.args.function.now c.args.code.now.items c.loop-behind.code.items
     c.put_node.new.code.items c.loop-behind.behind
     (length c.as_slice-count.result.now - 1 - c.loop-behind.behind) c.instruction_at-instruction.result.now at

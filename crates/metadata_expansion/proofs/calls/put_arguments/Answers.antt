@@ -1,4 +1,4 @@
-use Rattle.std.proofs.Common.{◌≡◌, ◌+◌, ◌∷◌, [], ◌++◌, ap, ◌∙◌}
+use Rattle.std.proofs.Common.{◌+◌, ◌∷◌, [], ◌++◌, ap, ◌∙◌}
 use Rattle.flat_meaning.specs.declared.instruction.FlatInstruction.TheVariants.{Move}
 use Rattle.metadata_expansion.proofs.Lists.{moves_put}
 use Rattle.metadata_expansion.proofs.calls.put_arguments.Goals as goal

@@ -10,33 +10,33 @@ node_size-requires-clause-among c =
 pub overflow_cast-place : goal.overflow_cast-place
 overflow_cast-place c =
     let fit = node_fits c.args.sizes.now c.args.program.now c.args.function.now
-            (length c.as_slice-count.result.now - 1 - c.loop-behind.behind)
-            c.instruction_at-instruction.result.now c.requires.small c.instruction_at-instruction.ensures in
+    (length c.as_slice-count.result.now - 1 - c.loop-behind.behind)
+    c.instruction_at-instruction.result.now c.requires.small c.instruction_at-instruction.ensures in
     let sized = c.in_ok-size.ensures.value in
     omega (arith, fit, sized)
 
 pub overflow_add-place : goal.overflow_add-place
 overflow_add-place c =
     let same : length c.as_slice-count.result.now ≡ length c.args.function.now.code =
-        ap (λ is. length is) c.as_slice-count.ensures in
+    ap (λ is. length is) c.as_slice-count.ensures in
     let below = c.loop-behind-test.true in
     let at : length c.args.function.now.code - c.loop-behind.behind
-            ≡ suc (length c.as_slice-count.result.now - 1 - c.loop-behind.behind) = omega (arith, same, below) in
+    ≡ suc (length c.as_slice-count.result.now - 1 - c.loop-behind.behind) = omega (arith, same, below) in
     let fit = next_fits c.args.sizes.now c.args.program.now c.args.function.now c.loop-behind.descending.items
-            c.loop-behind.place c.loop-behind.behind
-            (length c.as_slice-count.result.now - 1 - c.loop-behind.behind)
-            c.instruction_at-instruction.result.now at c.instruction_at-instruction.ensures c.requires.small
-            c.loop-behind.invariant in
+    c.loop-behind.place c.loop-behind.behind
+    (length c.as_slice-count.result.now - 1 - c.loop-behind.behind)
+    c.instruction_at-instruction.result.now at c.instruction_at-instruction.ensures c.requires.small
+    c.loop-behind.invariant in
     let sized = c.in_ok-size.ensures.value in
     omega (arith, fit, sized)
 
 pub loop-behind-preserved : goal.loop-behind-preserved
 loop-behind-preserved c =
     let same : length c.as_slice-count.result.now ≡ length c.args.function.now.code =
-        ap (λ is. length is) c.as_slice-count.ensures in
+    ap (λ is. length is) c.as_slice-count.ensures in
     let below = c.loop-behind-test.true in
     let at : length c.args.function.now.code - c.loop-behind.behind
-            ≡ suc (length c.as_slice-count.result.now - 1 - c.loop-behind.behind) = omega (arith, same, below) in
+    ≡ suc (length c.as_slice-count.result.now - 1 - c.loop-behind.behind) = omega (arith, same, below) in
     one_placed_as c.args.sizes.now c.args.program.now c.args.function.now c.loop-behind.descending.items
     c.push.new.self.items c.loop-behind.place c.loop-behind.behind
     (length c.as_slice-count.result.now - 1 - c.loop-behind.behind) c.in_ok-size.size
@@ -46,7 +46,7 @@ loop-behind-preserved c =
 pub returns : goal.returns
 returns c =
     let same : length c.as_slice-count.result.now ≡ length c.args.function.now.code =
-        ap (λ is. length is) c.as_slice-count.ensures in
+    ap (λ is. length is) c.as_slice-count.ensures in
     let past = c.loop-behind-test.false in
     let all : length c.args.function.now.code ≤ c.loop-behind.behind = omega (arith, same, past) in
     all_placed c.args.sizes.now c.args.program.now c.args.function.now c.loop-behind.descending.items

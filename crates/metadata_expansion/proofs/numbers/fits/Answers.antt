@@ -10,12 +10,13 @@ loop-number-preserved c =
 pub returns : goal.returns
 returns c =
     let same : length c.as_slice-functions.result.now ≡ length c.args.program.now.functions =
-        ap (λ fs. length fs) c.as_slice-functions.ensures in
+    ap (λ fs. length fs) c.as_slice-functions.ensures in
     let past = c.loop-number-test.false in
     let few = c.if-functions.false in
     let there = c.if-program-functions.false in
     let all : length c.args.program.now.functions ≤ c.loop-number.number = omega (arith, same, past) in
     let count : length c.args.program.now.functions < 2 ^ 32 = omega (arith, same, few) in
-    let main : c.args.program.now.main < length c.args.program.now.functions = omega (arith, same, there) in
-    ((λ _. all_small c.args.sizes.now c.args.program.now c.loop-number.number c.loop-number.invariant all count main),
-    (λ _. refl))
+    let main : c.args.program.now.main < length c.args.program.now.functions = omega (arith, same, there) in (
+      (λ _. all_small c.args.sizes.now c.args.program.now c.loop-number.number c.loop-number.invariant all count main),
+      (λ _. refl),
+    )

@@ -7,5 +7,5 @@ pub words_in-requires : goal.words_in-requires
 words_in-requires c =
     let few = registers_few c.args.function.now c.requires.registers in
     let same : words_in c.as_slice.result.now ≡ words_in c.args.function.now.parameters =
-        ap (λ vs. words_in vs) c.as_slice.ensures in
+    ap (λ vs. words_in vs) c.as_slice.ensures in
     omega (arith, few, same)

@@ -128,6 +128,10 @@ ROWS = {
         ("tag_of_a_parameter", ("int f(struct T{int a;}*p){struct T t;t.a=1;return t.a;}" + END,
                                 ok([], [fun(1, 0, [(8, False)], [(4, True)], ["other", "other"]), fun(1, 1, contents=[0])])), True),
         ("enumerators", ("int main(void){enum{A,B=5,C};return C;}", ok([], [fun(1, 0, contents=[6])])), True),
+        ("named_before_its_size", ("int a[];int f(void){return*a;}int a[3];" + END,
+                                   ok([obj(12)], [fun(1, 0, contents=["other"]), fun(1, 0, contents=[0])], valid=False)), True),
+        ("of_the_library", ("int main(void){putchar(65);return 0;}", ok([], [fun(1, 0, contents=["other", 0])])), None),
+        ("library_declared", ("int putchar(int);int main(void){return putchar(65);}", ok([], [fun(1, 0, contents=["other"])])), True),
     ]),
     "DeclarationFaults": ("Declarations that violate a rule (C99 6.7, 6.9).", [
         ("static_of_unknown_size", fault("static int a[];" + END, "Incomplete", 1), True),
@@ -137,6 +141,7 @@ ROWS = {
         ("other_type", fault("int x;\nchar x;" + END, "Redeclared", 2), True),
         ("other_qualifier", fault("const int x;\nint x;" + END, "Redeclared", 2), True),
         ("defined_twice", fault("int f(void){return 0;}\nint f(void){return 0;}" + END, "Redeclared", 2), True),
+        ("library_defined", fault("int\nputchar(int c){return c;}" + END, "Redeclared", 2), None),
         ("parameters_of_one_name", fault("int f(int x,\nint x){return x;}" + END, "Redeclared", 2), True),
         ("local_and_extern", fault("int x;int main(void){int x;\nextern int x;return 0;}", "Redeclared", 2), True),
         ("parameter_and_local", fault("int f(int x){\nint x;return x;}" + END, "Redeclared", 2), True),
@@ -146,7 +151,7 @@ ROWS = {
         ("result_is_incomplete", fault("struct S;\nstruct S f(void){}" + END, "Incomplete", 2), True),
         ("parameter_is_incomplete", fault("struct S;int f(struct S s){return 0;}" + END, "Incomplete", 1), True),
         ("no_size", fault("int n;int a[\nn];" + END, "NoConstant", 1), True),
-        ("large", fault("char a[4294967297];" + END, "LargeType", 1), None),
+        ("large_array", fault("char a[4294967297];" + END, "LargeType", 1), None),
         ("auto_in_a_file", fault("auto\nint x;" + END, "MisplacedStorage", 1), True),
         ("two_storages", fault("static extern\nint x;" + END, "MisplacedStorage", 1), True),
         ("extern_undefined", fault("extern int\nx;" + END, "MisplacedStorage", 2), None),
@@ -169,7 +174,7 @@ ROWS = {
                      ok([], [fun(1, 0), fun(1, 1, contents=[44]), fun(1, 2, contents=["other", "other"])])), True),
         ("tags_of_a_branch", fault("int main(void){if(sizeof(enum{A})){}return\nA;}", "Undeclared", 2), True),
         ("tags_of_a_body", fault("int main(void){do{int x;}while(\nx);return 0;}", "Undeclared", 2), True),
-        ("condition", fault("struct S{int a;}s;int main(void){\nif(\ns)return 1;return 0;}", "NoCondition", 2), True),
+        ("condition_of_a_structure", fault("struct S{int a;}s;int main(void){\nif(\ns)return 1;return 0;}", "NoCondition", 2), True),
         ("void_condition", fault("void f(void){}int main(void){\nwhile(\nf());return 0;}", "NoCondition", 2), True),
         ("do_before_its_body", fault("struct S{int a;}s;int main(void){\ndo\ny=1;while(\ns);return 0;}", "NoCondition", 2), True),
         ("body_before_the_condition", fault("int main(void){do\ny=1;while(\nz);return 0;}", "Undeclared", 2), True),
@@ -209,7 +214,7 @@ ROWS = {
         ("size_before_name", fault("int x;char\nx[\ny];" + END, "Undeclared", 3), True),
         ("specifiers_before_name", fault("int x;\nauto\nchar x;" + END, "MisplacedStorage", 2), True),
         ("lowest_at_a_name", fault("int x;\nvoid x;" + END, "Redeclared", 2), True),
-        ("incomplete_before_misplaced", fault("struct S;\nstruct S\nx[2](void);" + END, "MisplacedFunction", 3), True),
+        ("array_of_functions", fault("struct S;\nstruct S\nx[2](void);" + END, "MisplacedFunction", 3), True),
         ("body_before_the_next", fault("int f(void){return\ny;}\nint f(void){return 0;}" + END, "Undeclared", 2), True),
         ("declarator_before_body", fault("int f(void){return 0;}\nchar f(void){return\ny;}" + END, "Redeclared", 2), True),
         ("initializer_before_the_next", fault("int a[1]={1,\n2},b[\ny];", "MisplacedItem", 1), True),
@@ -261,7 +266,7 @@ use Rattle.c_call_rules.specs.Routines.{routine_words}
 use Rattle.c_scope.specs.Composite.{composite}
 use Rattle.c_scope.specs.Declaring.{judged}
 use Rattle.c_scope.specs.Start.{start}
-use Rattle.c_current_object.specs.CurrentObject.{reached, reached_in}
+use Rattle.c_current_object.specs.CurrentObject.{reached, reached_by, reached_in}
 use Rattle.c_current_object.specs.Subobjects.{element_number, member_number, number_behind, part}
 use Rattle.c_initializer_rules.specs.Initializing.{closed, opened, with_literal, with_value}
 use Rattle.c_initializer_rules.specs.Placed.{without}
@@ -273,7 +278,7 @@ OPAQUE = """balanced_type common_type fit is_signed mixed_type promoted rank siz
 constant_in constant_of greatest_of suffix_of typed types_of bytes_of_literal character_value characters_of escaped literal_step
 next_character extent_of array_size member_offsets structure_of union_of room is_valid_program constant_word binary assigned cast
 row_of comma combined unary dereferenced indexed size_of_words assignment compound stepped condition conditional switch_value called
-called_through routine_words composite judged start reached reached_in element_number member_number number_behind part closed opened
+called_through routine_words composite judged start reached reached_by reached_in element_number member_number number_behind part closed opened
 with_literal with_value without typed_unit"""
 
 

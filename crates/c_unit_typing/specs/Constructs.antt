@@ -1,21 +1,19 @@
 -- Statements whose parts are typed (C99 6.8), as the recursion over the syntax puts them together.
-use Rattle.std.specs.Prelude.{ℕ, Bool, true, false, ◌||◌, if◌then◌else◌, List, [], ◌∷◌, ◌++◌, Option, Some, None}
+use Rattle.std.specs.Prelude.{ℕ, Bool, true, false, if◌then◌else◌, List, [], ◌∷◌, ◌++◌, Option, Some, None}
 use Rattle.std.specs.Prelude.{Ok, Err}
 use Rattle.std.specs.List.{list_any}
 use Rattle.obj_memory.specs.declared.int_type.IntType.{IntType}
 use Rattle.obj_memory.specs.Integers.{fit}
-use Rattle.c_syntax.specs.declared.position.Position.{Position}
 use Rattle.c_syntax.specs.Statements as t
 use Rattle.c_syntax.specs.Tree.{Expression}
 use Rattle.c_tree.specs.declared.c_type.TypeWord.{TypeWord}
-use Rattle.c_tree.specs.declared.c_type.TypeWord.TheVariants as word
 use Rattle.c_tree.specs.declared.statement.CaseLabel.{CaseLabel}
 use Rattle.c_tree.specs.declared.statement.CaseLabel.TheVariants.{Case, Default}
 use Rattle.c_tree.specs.Statements.{First, Statement}
 use Rattle.c_tree.specs.Statements as tree
 use Rattle.c_tree.specs.Tree as typed_tree
 use Rattle.c_tree.specs.ValidProgram.{Inside, in_loop, in_switch, same_label}
-use Rattle.c_const.specs.Integers.{constant_word, type_of}
+use Rattle.c_const.specs.Integers.{constant_word}
 use Rattle.c_rules.specs.declared.fault.Fault.{Fault}
 use Rattle.c_rules.specs.declared.fault.Rule.TheVariants.{MisplacedLabel, MistakenReturn, NoConstant}
 use Rattle.c_rules.specs.Answer.{Answer, violates, ◌>>=◌}

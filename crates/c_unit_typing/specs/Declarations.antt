@@ -1,5 +1,5 @@
 -- The typing of declarations in blocks and files (C99 6.7, 6.8.5.3, 6.9.2), in the order of the tokens.
-use Rattle.std.specs.Prelude.{ℕ, Bool, true, false, not, ◌&&◌, ◌||◌, ◌==◌, if◌then◌else◌, List, [], ◌∷◌, ◌++◌}
+use Rattle.std.specs.Prelude.{ℕ, Bool, true, false, not, ◌&&◌, ◌||◌, if◌then◌else◌, List, [], ◌∷◌, ◌++◌}
 use Rattle.std.specs.Prelude.{Option, Some, None, is_none, is_some, option_map, Ok}
 use Rattle.c_syntax.specs.declared.position.Position.{Position}
 use Rattle.c_syntax.specs.Statements as t
@@ -8,7 +8,7 @@ use Rattle.c_tree.specs.declared.c_type.TypeWord.{TypeWord}
 use Rattle.c_tree.specs.declared.c_type.TypeWord.TheVariants as word
 use Rattle.c_tree.specs.declared.expression.Kind.{Kind}
 use Rattle.c_tree.specs.declared.program.Variable.{Variable}
-use Rattle.c_tree.specs.Extents.{TypeExtent, extent_of}
+use Rattle.c_tree.specs.Extents.{extent_of}
 use Rattle.c_tree.specs.Programs.{StaticObject}
 use Rattle.c_tree.specs.Statements as tree
 use Rattle.c_tree.specs.Statements.{Content, DeclaredVariable, Part}
@@ -28,14 +28,14 @@ use Rattle.c_scope.specs.Composite.{composite}
 use Rattle.c_scope.specs.Declaring.{Declaration, are_compatible, is_function, is_misplaced}
 use Rattle.c_scope.specs.Environment.{Environment, in_file, type_or, with_name}
 use Rattle.c_scope.specs.Names.{Name, bound, declared}
-use Rattle.c_initializer_rules.specs.Initializing.{Initializing, begun}
+use Rattle.c_initializer_rules.specs.Initializing.{begun}
 use Rattle.c_initializer_rules.specs.Placed.{count_of, parts_in}
 use Rattle.c_typing.specs.Declarators.{Shape, built_in, declaring}
 use Rattle.c_typing.specs.Primaries.{is_object, size_or_zero}
 use Rattle.c_typing.specs.Specifications.{Specification}
 use Rattle.c_typing.specs.State.{State, Typing, done, extents, judged, ◌>>>◌}
 use Rattle.c_expression_typing.specs.Typed.{shape, specification}
-use Rattle.c_unit_typing.specs.Files.{File, FileTyping, finished, in_state, ◌~>◌}
+use Rattle.c_unit_typing.specs.Files.{FileTyping, finished, in_state, ◌~>◌}
 use Rattle.c_unit_typing.specs.Initializers.{initialized}
 use Rattle.c_unit_typing.specs.Lines.{initializer_line}
 
@@ -46,7 +46,8 @@ stored_once spec s = if spec.has_two_storages then violates MisplacedStorage spe
 abbrev pub specified : (is_alone : Bool) → t.Declaration → Typing Specification
 specified is_alone d = specification is_alone d.specifiers >>> λ spec. judged (stored_once spec)
 
--- what a declarator declares, with the line of its initializer, if it has one
+-- What a declarator declares, with the line of its initializer, if it has one. An array of functions is no incomplete type
+-- (6.2.5 paragraph 1), though it has no size: it violates the rule on such types alone.
 
 abbrev pub line_or : Option ℕ → ℕ → ℕ
 line_or None line = line
@@ -61,7 +62,7 @@ declaration_of spec b name initializer = record {
   storage = spec.storage;
   type = b.type;
   type_rule = rule_of b.faults;
-  may_be_incomplete = false;
+  may_be_incomplete = b.faults.misplaced;
   has_initializer = is_some initializer;
   has_body = false;
 }
@@ -83,7 +84,7 @@ abbrev pub declared_as : (in_head : Bool) → Specification → Shape → (initi
 declared_as in_head spec sh initializer name s =
     if has_place in_head spec (built_in s spec sh).type
     then (declaring name (declaration_of spec (built_in s spec sh) name initializer) >>>
-        λ name. judged (λ s. Ok (declared name.0 s.environment.names.current))) s
+    λ name. judged (λ s. Ok (declared name.0 s.environment.names.current))) s
     else violates MisplacedStorage spec.line
 
 -- An array of unknown size has that of its initializer where this ends (6.7.8 paragraph 22). The size is judged at the

@@ -1,5 +1,5 @@
 -- What the typing of a file carries from token to token, beside what expressions and declarators need.
-use Rattle.std.specs.Prelude.{ℕ, Bool, List, [], Option, Ok}
+use Rattle.std.specs.Prelude.{ℕ, Bool, List, Option, Ok}
 use Rattle.c_tree.specs.declared.c_type.TypeWord.{TypeWord}
 use Rattle.c_tree.specs.declared.program.Variable.{Variable}
 use Rattle.c_tree.specs.Programs.{StaticObject}

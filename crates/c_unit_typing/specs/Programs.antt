@@ -25,12 +25,15 @@ use Rattle.c_unit_typing.specs.Files.{Definition, File}
 -- defined.
 
 abbrev pub literal_object : Literal → ℕ × StaticObject
-literal_object l = (l.number, record {
-  kind = kind.Array (length l.bytes);
-  is_literal = true;
-  function = l.function;
-  parts = record { offset = 0; content = literal_content l.bytes } ∷ [];
-})
+literal_object l = (
+  l.number,
+  record {
+    kind = kind.Array (length l.bytes);
+    is_literal = true;
+    function = l.function;
+    parts = record { offset = 0; content = literal_content l.bytes } ∷ [];
+  },
+)
 
 abbrev pub parts_of : (number : ℕ) → List (ℕ × List Part) → List Part
 parts_of n [] = []
@@ -42,12 +45,15 @@ final_type es (word.OpenArray ∷ element) = array_of 1 (extent_of es element) �
 final_type es type = type
 
 abbrev pub linked_object : File → (type : List TypeWord) → Designated → List (ℕ × StaticObject)
-linked_object f type (what.Object n) = (n, record {
-  kind = kind_in f.state (final_type (extents f.state) type);
-  is_literal = false;
-  function = None;
-  parts = parts_of n f.initializers;
-}) ∷ []
+linked_object f type (what.Object n) = (
+  n,
+  record {
+    kind = kind_in f.state (final_type (extents f.state) type);
+    is_literal = false;
+    function = None;
+    parts = parts_of n f.initializers;
+  },
+) ∷ []
 linked_object f type what = []
 
 abbrev pub linked_objects : File → Names Entity → List (ℕ × StaticObject)

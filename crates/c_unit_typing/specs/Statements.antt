@@ -1,5 +1,5 @@
 -- The typing of statements and blocks (C99 6.8), in the order of the tokens.
-use Rattle.std.specs.Prelude.{true, false, List, [], ◌∷◌, ◌++◌, Option, Some, None}
+use Rattle.std.specs.Prelude.{List, [], ◌++◌}
 use Rattle.obj_memory.specs.declared.int_type.IntType.{IntType}
 use Rattle.c_syntax.specs.Statements.{Block, BlockItem, BlockItems, Statement}
 use Rattle.c_syntax.specs.Statements as t

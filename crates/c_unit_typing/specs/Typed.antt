@@ -1,14 +1,14 @@
 -- What the typing of a file gives (C99 6.9): the typed program; the first rule that it violates; or, where it violates none
 -- and the initializer of each static object is constant (6.7.8 paragraph 4), what it has too much of and how much.
-use Rattle.std.specs.Prelude.{ℕ, ◌+◌, ◌^◌, Bool, true, false, ◌&&◌, nat_lt, if◌then◌else◌, List, [], ◌∷◌, length}
-use Rattle.std.specs.Prelude.{map, replicate, Option, Some, None, is_some, Result, Ok, Err}
+use Rattle.std.specs.Prelude.{ℕ, ◌+◌, Bool, true, nat_lt, if◌then◌else◌, List, [], ◌∷◌, length}
+use Rattle.std.specs.Prelude.{replicate, Option, Some, None, is_some, Ok, Err}
 use Rattle.std.specs.List.{list_all}
 use Rattle.obj_memory.specs.Heap.{rounded_up}
 use Rattle.c_syntax.specs.Statements.{Unit, External}
 use Rattle.c_tree.specs.Kinds.{size_of_kind}
 use Rattle.c_tree.specs.Programs.{Program, StaticObject}
 use Rattle.c_tree.specs.Statements.{Content, literal_content, value_content}
-use Rattle.c_tree.specs.Tree.{Expression, kind_of}
+use Rattle.c_tree.specs.Tree.{kind_of}
 use Rattle.c_const.specs.Addresses.{Pointers, untagged}
 use Rattle.c_const.specs.Contents.{constant_in}
 use Rattle.c_rules.specs.declared.fault.Fault.{Fault}

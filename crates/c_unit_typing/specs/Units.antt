@@ -34,7 +34,7 @@ use Rattle.c_typing.specs.State.{State, Typing, extents, judged, ◌>>>◌}
 use Rattle.c_expression_typing.specs.Typed.{shape, specification}
 use Rattle.c_unit_typing.specs.Constructs.{Around}
 use Rattle.c_unit_typing.specs.Declarations.{declaration, stored_once, variable_in}
-use Rattle.c_unit_typing.specs.Files.{Definition, File, FileTyping, finished, in_state, ◌~>◌}
+use Rattle.c_unit_typing.specs.Files.{File, FileTyping, finished, in_state, ◌~>◌}
 use Rattle.c_unit_typing.specs.Statements.{block_items}
 
 -- what a function that is defined gives is void or of a complete type (6.9.1 paragraph 3), judged at its name
@@ -69,7 +69,7 @@ abbrev pub defined_as : Specification → Shape → Name × ℕ → Typing (Opti
 defined_as spec sh name s =
     if is_typedef spec.storage then violates MisplacedStorage spec.line
     else (declaring name (definition_of (extents s) spec (built_in s spec sh) name) >>>
-        λ name. judged (λ s. Ok (declared name.0 s.environment.names.current))) s
+    λ name. judged (λ s. Ok (declared name.0 s.environment.names.current))) s
 
 -- The block of a function stands in the scope of its parameters, which have the first numbers of its variables.
 

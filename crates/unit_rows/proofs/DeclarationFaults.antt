@@ -1,6 +1,6 @@
 -- Declarations that violate a rule (C99 6.7, 6.9).
 -- gcc 12.2.0 (-std=c99 -pedantic-errors -fsyntax-only) accepts or refuses the texts of all rows but of these as they
--- do, which have a rule or limit that gcc has not: large, extern_undefined.
+-- do, which have a rule or limit that gcc has not: library_defined, large_array, extern_undefined.
 use Rattle.std.proofs.Common.{◌≡◌, true, false, [], ◌∷◌, Some, None, refl}
 use Rattle.std.specs.Prelude.{codes}
 use Rattle.c_lexer.specs.declared.keyword.Keyword.TheVariants as keyword
@@ -31,7 +31,7 @@ use Rattle.c_call_rules.specs.Routines.{routine_words}
 use Rattle.c_scope.specs.Composite.{composite}
 use Rattle.c_scope.specs.Declaring.{judged}
 use Rattle.c_scope.specs.Start.{start}
-use Rattle.c_current_object.specs.CurrentObject.{reached, reached_in}
+use Rattle.c_current_object.specs.CurrentObject.{reached, reached_by, reached_in}
 use Rattle.c_current_object.specs.Subobjects.{element_number, member_number, number_behind, part}
 use Rattle.c_initializer_rules.specs.Initializing.{closed, opened, with_literal, with_value}
 use Rattle.c_initializer_rules.specs.Placed.{without}
@@ -52,8 +52,8 @@ unfolding balanced_type common_type fit is_signed mixed_type promoted rank size_
     characters_of escaped literal_step next_character extent_of array_size member_offsets structure_of union_of room
     is_valid_program constant_word binary assigned cast row_of comma combined unary dereferenced indexed size_of_words
     assignment compound stepped condition conditional switch_value called called_through routine_words composite judged
-    start reached reached_in element_number member_number number_behind part closed opened with_literal with_value without
-    typed_unit
+    start reached reached_by reached_in element_number member_number number_behind part closed opened with_literal
+    with_value without typed_unit
 static_of_unknown_size = refl
 
 -- struct S s;int n=
@@ -62,8 +62,11 @@ not_yet_complete :
     (source ((s.declaration (declaration (t.specifiers (t.structure keyword.Struct (at 1) (spelled (codes "S") 1))
     t.no_specifiers) (Some (declarators (init_declarator (t.named (spelled (codes "s") 1)) None) [])) (at 1))) ∷
     (s.declaration (declaration (t.specifiers (word keyword.Int 1) t.no_specifiers) (Some (declarators
-    (init_declarator (t.named (spelled (codes "n") 1)) (Some ((at 1), (t.value (t.sizeof_expression (at 2)
-    (t.identifier (spelled (codes "s") 2))))))) [])) (at 2))) ∷ (s.declaration (declaration (t.specifiers
+    (init_declarator (t.named (spelled (codes "n") 1)) (Some (
+      (at 1),
+      (t.value (t.sizeof_expression (at 2)
+          (t.identifier (spelled (codes "s") 2)))),
+    ))) [])) (at 2))) ∷ (s.declaration (declaration (t.specifiers
     (t.structure_body keyword.Struct (at 2) (Some (spelled (codes "S") 2)) (at 2) (t.members (t.member_declaration
     (t.specifiers (word keyword.Int 2) t.no_specifiers) (t.named (spelled (codes "a") 2)) t.end_of_declarators (at 2))
     t.no_members) (at 2)) t.no_specifiers) None (at 2))) ∷ (s.definition (t.specifiers (word keyword.Int 2)
@@ -76,8 +79,8 @@ unfolding balanced_type common_type fit is_signed mixed_type promoted rank size_
     characters_of escaped literal_step next_character extent_of array_size member_offsets structure_of union_of room
     is_valid_program constant_word binary assigned cast row_of comma combined unary dereferenced indexed size_of_words
     assignment compound stepped condition conditional switch_value called called_through routine_words composite judged
-    start reached reached_in element_number member_number number_behind part closed opened with_literal with_value without
-    typed_unit
+    start reached reached_by reached_in element_number member_number number_behind part closed opened with_literal
+    with_value without typed_unit
 not_yet_complete = refl
 
 -- struct S s;int main(void){return 0;}
@@ -93,8 +96,8 @@ unfolding balanced_type common_type fit is_signed mixed_type promoted rank size_
     characters_of escaped literal_step next_character extent_of array_size member_offsets structure_of union_of room
     is_valid_program constant_word binary assigned cast row_of comma combined unary dereferenced indexed size_of_words
     assignment compound stepped condition conditional switch_value called called_through routine_words composite judged
-    start reached reached_in element_number member_number number_behind part closed opened with_literal with_value without
-    typed_unit
+    start reached reached_by reached_in element_number member_number number_behind part closed opened with_literal
+    with_value without typed_unit
 never_complete = refl
 
 -- int main(void){void
@@ -111,8 +114,8 @@ unfolding balanced_type common_type fit is_signed mixed_type promoted rank size_
     characters_of escaped literal_step next_character extent_of array_size member_offsets structure_of union_of room
     is_valid_program constant_word binary assigned cast row_of comma combined unary dereferenced indexed size_of_words
     assignment compound stepped condition conditional switch_value called called_through routine_words composite judged
-    start reached reached_in element_number member_number number_behind part closed opened with_literal with_value without
-    typed_unit
+    start reached reached_by reached_in element_number member_number number_behind part closed opened with_literal
+    with_value without typed_unit
 of_void = refl
 
 -- int x;
@@ -130,8 +133,8 @@ unfolding balanced_type common_type fit is_signed mixed_type promoted rank size_
     characters_of escaped literal_step next_character extent_of array_size member_offsets structure_of union_of room
     is_valid_program constant_word binary assigned cast row_of comma combined unary dereferenced indexed size_of_words
     assignment compound stepped condition conditional switch_value called called_through routine_words composite judged
-    start reached reached_in element_number member_number number_behind part closed opened with_literal with_value without
-    typed_unit
+    start reached reached_by reached_in element_number member_number number_behind part closed opened with_literal
+    with_value without typed_unit
 other_type = refl
 
 -- const int x;
@@ -150,8 +153,8 @@ unfolding balanced_type common_type fit is_signed mixed_type promoted rank size_
     characters_of escaped literal_step next_character extent_of array_size member_offsets structure_of union_of room
     is_valid_program constant_word binary assigned cast row_of comma combined unary dereferenced indexed size_of_words
     assignment compound stepped condition conditional switch_value called called_through routine_words composite judged
-    start reached reached_in element_number member_number number_behind part closed opened with_literal with_value without
-    typed_unit
+    start reached reached_by reached_in element_number member_number number_behind part closed opened with_literal
+    with_value without typed_unit
 other_qualifier = refl
 
 -- int f(void){return 0;}
@@ -171,9 +174,29 @@ unfolding balanced_type common_type fit is_signed mixed_type promoted rank size_
     characters_of escaped literal_step next_character extent_of array_size member_offsets structure_of union_of room
     is_valid_program constant_word binary assigned cast row_of comma combined unary dereferenced indexed size_of_words
     assignment compound stepped condition conditional switch_value called called_through routine_words composite judged
-    start reached reached_in element_number member_number number_behind part closed opened with_literal with_value without
-    typed_unit
+    start reached reached_by reached_in element_number member_number number_behind part closed opened with_literal
+    with_value without typed_unit
 defined_twice = refl
+
+-- int
+-- putchar(int c){return c;}int main(void){return 0;}
+library_defined :
+    (source ((s.definition (t.specifiers (word keyword.Int 1) t.no_specifiers) (t.function (t.named (spelled (codes
+    "putchar") 2)) (at 2) (t.parameters (t.typed (t.specifiers (word keyword.Int 2) t.no_specifiers) (t.named (spelled
+    (codes "c") 2))) t.end_of_parameters) (at 2)) (s.block (at 2) (s.items (s.inner (s.return (at 2) (Some
+    (t.identifier (spelled (codes "c") 2))) (at 2))) s.no_items) (at 2))) ∷ (s.definition (t.specifiers (word
+    keyword.Int 2) t.no_specifiers) (t.function (t.named (spelled (codes "main") 2)) (at 2) (t.void_parameters (at 2))
+    (at 2)) (s.block (at 2) (s.items (s.inner (s.return (at 2) (Some (t.integer (spelled (codes "0") 2))) (at 2)))
+    s.no_items) (at 2))) ∷ []) 2)
+    ≡ refused rule.Redeclared 2
+unfolding balanced_type common_type fit is_signed mixed_type promoted rank size_of unsigned_of binary_value
+    shift_amount unary_value constant_in constant_of greatest_of suffix_of typed types_of bytes_of_literal character_value
+    characters_of escaped literal_step next_character extent_of array_size member_offsets structure_of union_of room
+    is_valid_program constant_word binary assigned cast row_of comma combined unary dereferenced indexed size_of_words
+    assignment compound stepped condition conditional switch_value called called_through routine_words composite judged
+    start reached reached_by reached_in element_number member_number number_behind part closed opened with_literal
+    with_value without typed_unit
+library_defined = refl
 
 -- int f(int x,
 -- int x){return x;}int main(void){return 0;}
@@ -192,8 +215,8 @@ unfolding balanced_type common_type fit is_signed mixed_type promoted rank size_
     characters_of escaped literal_step next_character extent_of array_size member_offsets structure_of union_of room
     is_valid_program constant_word binary assigned cast row_of comma combined unary dereferenced indexed size_of_words
     assignment compound stepped condition conditional switch_value called called_through routine_words composite judged
-    start reached reached_in element_number member_number number_behind part closed opened with_literal with_value without
-    typed_unit
+    start reached reached_by reached_in element_number member_number number_behind part closed opened with_literal
+    with_value without typed_unit
 parameters_of_one_name = refl
 
 -- int x;int main(void){int x;
@@ -213,8 +236,8 @@ unfolding balanced_type common_type fit is_signed mixed_type promoted rank size_
     characters_of escaped literal_step next_character extent_of array_size member_offsets structure_of union_of room
     is_valid_program constant_word binary assigned cast row_of comma combined unary dereferenced indexed size_of_words
     assignment compound stepped condition conditional switch_value called called_through routine_words composite judged
-    start reached reached_in element_number member_number number_behind part closed opened with_literal with_value without
-    typed_unit
+    start reached reached_by reached_in element_number member_number number_behind part closed opened with_literal
+    with_value without typed_unit
 local_and_extern = refl
 
 -- int f(int x){
@@ -234,8 +257,8 @@ unfolding balanced_type common_type fit is_signed mixed_type promoted rank size_
     characters_of escaped literal_step next_character extent_of array_size member_offsets structure_of union_of room
     is_valid_program constant_word binary assigned cast row_of comma combined unary dereferenced indexed size_of_words
     assignment compound stepped condition conditional switch_value called called_through routine_words composite judged
-    start reached reached_in element_number member_number number_behind part closed opened with_literal with_value without
-    typed_unit
+    start reached reached_by reached_in element_number member_number number_behind part closed opened with_literal
+    with_value without typed_unit
 parameter_and_local = refl
 
 -- void f(void){extern char x;}
@@ -255,8 +278,8 @@ unfolding balanced_type common_type fit is_signed mixed_type promoted rank size_
     characters_of escaped literal_step next_character extent_of array_size member_offsets structure_of union_of room
     is_valid_program constant_word binary assigned cast row_of comma combined unary dereferenced indexed size_of_words
     assignment compound stepped condition conditional switch_value called called_through routine_words composite judged
-    start reached reached_in element_number member_number number_behind part closed opened with_literal with_value without
-    typed_unit
+    start reached reached_by reached_in element_number member_number number_behind part closed opened with_literal
+    with_value without typed_unit
 types_of_an_entity = refl
 
 -- struct S{int a;};
@@ -276,8 +299,8 @@ unfolding balanced_type common_type fit is_signed mixed_type promoted rank size_
     characters_of escaped literal_step next_character extent_of array_size member_offsets structure_of union_of room
     is_valid_program constant_word binary assigned cast row_of comma combined unary dereferenced indexed size_of_words
     assignment compound stepped condition conditional switch_value called called_through routine_words composite judged
-    start reached reached_in element_number member_number number_behind part closed opened with_literal with_value without
-    typed_unit
+    start reached reached_by reached_in element_number member_number number_behind part closed opened with_literal
+    with_value without typed_unit
 tag_of_another_kind = refl
 
 -- int f(void)[2];int main(void){return 0;}
@@ -294,8 +317,8 @@ unfolding balanced_type common_type fit is_signed mixed_type promoted rank size_
     characters_of escaped literal_step next_character extent_of array_size member_offsets structure_of union_of room
     is_valid_program constant_word binary assigned cast row_of comma combined unary dereferenced indexed size_of_words
     assignment compound stepped condition conditional switch_value called called_through routine_words composite judged
-    start reached reached_in element_number member_number number_behind part closed opened with_literal with_value without
-    typed_unit
+    start reached reached_by reached_in element_number member_number number_behind part closed opened with_literal
+    with_value without typed_unit
 result_is_an_array = refl
 
 -- struct S;
@@ -314,8 +337,8 @@ unfolding balanced_type common_type fit is_signed mixed_type promoted rank size_
     characters_of escaped literal_step next_character extent_of array_size member_offsets structure_of union_of room
     is_valid_program constant_word binary assigned cast row_of comma combined unary dereferenced indexed size_of_words
     assignment compound stepped condition conditional switch_value called called_through routine_words composite judged
-    start reached reached_in element_number member_number number_behind part closed opened with_literal with_value without
-    typed_unit
+    start reached reached_by reached_in element_number member_number number_behind part closed opened with_literal
+    with_value without typed_unit
 result_is_incomplete = refl
 
 -- struct S;int f(struct S s){return 0;}int main(void){return 0;}
@@ -334,8 +357,8 @@ unfolding balanced_type common_type fit is_signed mixed_type promoted rank size_
     characters_of escaped literal_step next_character extent_of array_size member_offsets structure_of union_of room
     is_valid_program constant_word binary assigned cast row_of comma combined unary dereferenced indexed size_of_words
     assignment compound stepped condition conditional switch_value called called_through routine_words composite judged
-    start reached reached_in element_number member_number number_behind part closed opened with_literal with_value without
-    typed_unit
+    start reached reached_by reached_in element_number member_number number_behind part closed opened with_literal
+    with_value without typed_unit
 parameter_is_incomplete = refl
 
 -- int n;int a[
@@ -354,12 +377,12 @@ unfolding balanced_type common_type fit is_signed mixed_type promoted rank size_
     characters_of escaped literal_step next_character extent_of array_size member_offsets structure_of union_of room
     is_valid_program constant_word binary assigned cast row_of comma combined unary dereferenced indexed size_of_words
     assignment compound stepped condition conditional switch_value called called_through routine_words composite judged
-    start reached reached_in element_number member_number number_behind part closed opened with_literal with_value without
-    typed_unit
+    start reached reached_by reached_in element_number member_number number_behind part closed opened with_literal
+    with_value without typed_unit
 no_size = refl
 
 -- char a[4294967297];int main(void){return 0;}
-large :
+large_array :
     (source ((s.declaration (declaration (t.specifiers (word keyword.Char 1) t.no_specifiers) (Some (declarators
     (init_declarator (t.array (t.named (spelled (codes "a") 1)) (at 1) (t.integer (spelled (codes "4294967297") 1))
     (at 1)) None) [])) (at 1))) ∷ (s.definition (t.specifiers (word keyword.Int 1) t.no_specifiers) (t.function
@@ -371,9 +394,9 @@ unfolding balanced_type common_type fit is_signed mixed_type promoted rank size_
     characters_of escaped literal_step next_character extent_of array_size member_offsets structure_of union_of room
     is_valid_program constant_word binary assigned cast row_of comma combined unary dereferenced indexed size_of_words
     assignment compound stepped condition conditional switch_value called called_through routine_words composite judged
-    start reached reached_in element_number member_number number_behind part closed opened with_literal with_value without
-    typed_unit
-large = refl
+    start reached reached_by reached_in element_number member_number number_behind part closed opened with_literal
+    with_value without typed_unit
+large_array = refl
 
 -- auto
 -- int x;int main(void){return 0;}
@@ -389,8 +412,8 @@ unfolding balanced_type common_type fit is_signed mixed_type promoted rank size_
     characters_of escaped literal_step next_character extent_of array_size member_offsets structure_of union_of room
     is_valid_program constant_word binary assigned cast row_of comma combined unary dereferenced indexed size_of_words
     assignment compound stepped condition conditional switch_value called called_through routine_words composite judged
-    start reached reached_in element_number member_number number_behind part closed opened with_literal with_value without
-    typed_unit
+    start reached reached_by reached_in element_number member_number number_behind part closed opened with_literal
+    with_value without typed_unit
 auto_in_a_file = refl
 
 -- static extern
@@ -407,8 +430,8 @@ unfolding balanced_type common_type fit is_signed mixed_type promoted rank size_
     characters_of escaped literal_step next_character extent_of array_size member_offsets structure_of union_of room
     is_valid_program constant_word binary assigned cast row_of comma combined unary dereferenced indexed size_of_words
     assignment compound stepped condition conditional switch_value called called_through routine_words composite judged
-    start reached reached_in element_number member_number number_behind part closed opened with_literal with_value without
-    typed_unit
+    start reached reached_by reached_in element_number member_number number_behind part closed opened with_literal
+    with_value without typed_unit
 two_storages = refl
 
 -- extern int
@@ -425,8 +448,8 @@ unfolding balanced_type common_type fit is_signed mixed_type promoted rank size_
     characters_of escaped literal_step next_character extent_of array_size member_offsets structure_of union_of room
     is_valid_program constant_word binary assigned cast row_of comma combined unary dereferenced indexed size_of_words
     assignment compound stepped condition conditional switch_value called called_through routine_words composite judged
-    start reached reached_in element_number member_number number_behind part closed opened with_literal with_value without
-    typed_unit
+    start reached reached_by reached_in element_number member_number number_behind part closed opened with_literal
+    with_value without typed_unit
 extern_undefined = refl
 
 -- int x;int main(void){extern int x=
@@ -436,8 +459,11 @@ extern_with_initializer :
     (init_declarator (t.named (spelled (codes "x") 1)) None) [])) (at 1))) ∷ (s.definition (t.specifiers (word
     keyword.Int 1) t.no_specifiers) (t.function (t.named (spelled (codes "main") 1)) (at 1) (t.void_parameters (at 1))
     (at 1)) (s.block (at 1) (s.items (s.local (declaration (t.specifiers (word keyword.Extern 1) (t.specifiers (word
-    keyword.Int 1) t.no_specifiers)) (Some (declarators (init_declarator (t.named (spelled (codes "x") 1)) (Some ((at
-    1), (t.value (t.integer (spelled (codes "1") 2)))))) [])) (at 2))) (s.items (s.inner (s.return (at 2) (Some
+    keyword.Int 1) t.no_specifiers)) (Some (declarators (init_declarator (t.named (spelled (codes "x") 1)) (Some (
+      (at
+          1),
+      (t.value (t.integer (spelled (codes "1") 2))),
+    ))) [])) (at 2))) (s.items (s.inner (s.return (at 2) (Some
     (t.integer (spelled (codes "0") 2))) (at 2))) s.no_items)) (at 2))) ∷ []) 2)
     ≡ refused rule.MisplacedStorage 2
 unfolding balanced_type common_type fit is_signed mixed_type promoted rank size_of unsigned_of binary_value
@@ -445,16 +471,19 @@ unfolding balanced_type common_type fit is_signed mixed_type promoted rank size_
     characters_of escaped literal_step next_character extent_of array_size member_offsets structure_of union_of room
     is_valid_program constant_word binary assigned cast row_of comma combined unary dereferenced indexed size_of_words
     assignment compound stepped condition conditional switch_value called called_through routine_words composite judged
-    start reached reached_in element_number member_number number_behind part closed opened with_literal with_value without
-    typed_unit
+    start reached reached_by reached_in element_number member_number number_behind part closed opened with_literal
+    with_value without typed_unit
 extern_with_initializer = refl
 
 -- typedef int T=
 -- 1;int main(void){return 0;}
 typedef_with_initializer :
     (source ((s.declaration (declaration (t.specifiers (word keyword.Typedef 1) (t.specifiers (word keyword.Int 1)
-    t.no_specifiers)) (Some (declarators (init_declarator (t.named (spelled (codes "T") 1)) (Some ((at 1), (t.value
-    (t.integer (spelled (codes "1") 2)))))) [])) (at 2))) ∷ (s.definition (t.specifiers (word keyword.Int 2)
+    t.no_specifiers)) (Some (declarators (init_declarator (t.named (spelled (codes "T") 1)) (Some (
+      (at 1),
+      (t.value
+          (t.integer (spelled (codes "1") 2))),
+    ))) [])) (at 2))) ∷ (s.definition (t.specifiers (word keyword.Int 2)
     t.no_specifiers) (t.function (t.named (spelled (codes "main") 2)) (at 2) (t.void_parameters (at 2)) (at 2))
     (s.block (at 2) (s.items (s.inner (s.return (at 2) (Some (t.integer (spelled (codes "0") 2))) (at 2))) s.no_items)
     (at 2))) ∷ []) 2)
@@ -464,8 +493,8 @@ unfolding balanced_type common_type fit is_signed mixed_type promoted rank size_
     characters_of escaped literal_step next_character extent_of array_size member_offsets structure_of union_of room
     is_valid_program constant_word binary assigned cast row_of comma combined unary dereferenced indexed size_of_words
     assignment compound stepped condition conditional switch_value called called_through routine_words composite judged
-    start reached reached_in element_number member_number number_behind part closed opened with_literal with_value without
-    typed_unit
+    start reached reached_by reached_in element_number member_number number_behind part closed opened with_literal
+    with_value without typed_unit
 typedef_with_initializer = refl
 
 -- int main(void){
@@ -484,8 +513,8 @@ unfolding balanced_type common_type fit is_signed mixed_type promoted rank size_
     characters_of escaped literal_step next_character extent_of array_size member_offsets structure_of union_of room
     is_valid_program constant_word binary assigned cast row_of comma combined unary dereferenced indexed size_of_words
     assignment compound stepped condition conditional switch_value called called_through routine_words composite judged
-    start reached reached_in element_number member_number number_behind part closed opened with_literal with_value without
-    typed_unit
+    start reached reached_by reached_in element_number member_number number_behind part closed opened with_literal
+    with_value without typed_unit
 static_function_in_a_block = refl
 
 -- typedef
@@ -503,8 +532,8 @@ unfolding balanced_type common_type fit is_signed mixed_type promoted rank size_
     characters_of escaped literal_step next_character extent_of array_size member_offsets structure_of union_of room
     is_valid_program constant_word binary assigned cast row_of comma combined unary dereferenced indexed size_of_words
     assignment compound stepped condition conditional switch_value called called_through routine_words composite judged
-    start reached reached_in element_number member_number number_behind part closed opened with_literal with_value without
-    typed_unit
+    start reached reached_by reached_in element_number member_number number_behind part closed opened with_literal
+    with_value without typed_unit
 typedef_of_a_definition = refl
 
 -- int main(void){for(
@@ -513,8 +542,11 @@ static_in_a_for :
     (source ((s.definition (t.specifiers (word keyword.Int 1) t.no_specifiers) (t.function (t.named (spelled (codes
     "main") 1)) (at 1) (t.void_parameters (at 1)) (at 1)) (s.block (at 1) (s.items (s.inner (s.for (at 1) (at 1)
     (s.declares (declaration (t.specifiers (word keyword.Static 2) (t.specifiers (word keyword.Int 2)
-    t.no_specifiers)) (Some (declarators (init_declarator (t.named (spelled (codes "i") 2)) (Some ((at 2), (t.value
-    (t.integer (spelled (codes "0") 2)))))) [])) (at 2))) None (at 2) None (at 2) (s.expression None (at 2))))
+    t.no_specifiers)) (Some (declarators (init_declarator (t.named (spelled (codes "i") 2)) (Some (
+      (at 2),
+      (t.value
+          (t.integer (spelled (codes "0") 2))),
+    ))) [])) (at 2))) None (at 2) None (at 2) (s.expression None (at 2))))
     s.no_items) (at 2))) ∷ []) 2)
     ≡ refused rule.MisplacedStorage 2
 unfolding balanced_type common_type fit is_signed mixed_type promoted rank size_of unsigned_of binary_value
@@ -522,8 +554,8 @@ unfolding balanced_type common_type fit is_signed mixed_type promoted rank size_
     characters_of escaped literal_step next_character extent_of array_size member_offsets structure_of union_of room
     is_valid_program constant_word binary assigned cast row_of comma combined unary dereferenced indexed size_of_words
     assignment compound stepped condition conditional switch_value called called_through routine_words composite judged
-    start reached reached_in element_number member_number number_behind part closed opened with_literal with_value without
-    typed_unit
+    start reached reached_by reached_in element_number member_number number_behind part closed opened with_literal
+    with_value without typed_unit
 static_in_a_for = refl
 
 -- int main(void){for(
@@ -540,6 +572,6 @@ unfolding balanced_type common_type fit is_signed mixed_type promoted rank size_
     characters_of escaped literal_step next_character extent_of array_size member_offsets structure_of union_of room
     is_valid_program constant_word binary assigned cast row_of comma combined unary dereferenced indexed size_of_words
     assignment compound stepped condition conditional switch_value called called_through routine_words composite judged
-    start reached reached_in element_number member_number number_behind part closed opened with_literal with_value without
-    typed_unit
+    start reached reached_by reached_in element_number member_number number_behind part closed opened with_literal
+    with_value without typed_unit
 function_in_a_for = refl

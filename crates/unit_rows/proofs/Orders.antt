@@ -32,7 +32,7 @@ use Rattle.c_call_rules.specs.Routines.{routine_words}
 use Rattle.c_scope.specs.Composite.{composite}
 use Rattle.c_scope.specs.Declaring.{judged}
 use Rattle.c_scope.specs.Start.{start}
-use Rattle.c_current_object.specs.CurrentObject.{reached, reached_in}
+use Rattle.c_current_object.specs.CurrentObject.{reached, reached_by, reached_in}
 use Rattle.c_current_object.specs.Subobjects.{element_number, member_number, number_behind, part}
 use Rattle.c_initializer_rules.specs.Initializing.{closed, opened, with_literal, with_value}
 use Rattle.c_initializer_rules.specs.Placed.{without}
@@ -45,10 +45,16 @@ use Rattle.unit_rows.proofs.Sources.{large, number, other, refused, source, spel
 -- int z=w;int main(void){return 0;}
 first_of_two :
     (source ((s.declaration (declaration (t.specifiers (word keyword.Int 1) t.no_specifiers) (Some (declarators
-    (init_declarator (t.named (spelled (codes "x") 1)) (Some ((at 1), (t.value (t.identifier (spelled (codes "y")
-    2)))))) [])) (at 2))) ∷ (s.declaration (declaration (t.specifiers (word keyword.Int 3) t.no_specifiers) (Some
-    (declarators (init_declarator (t.named (spelled (codes "z") 3)) (Some ((at 3), (t.value (t.identifier (spelled
-    (codes "w") 3)))))) [])) (at 3))) ∷ (s.definition (t.specifiers (word keyword.Int 3) t.no_specifiers) (t.function
+    (init_declarator (t.named (spelled (codes "x") 1)) (Some (
+      (at 1),
+      (t.value (t.identifier (spelled (codes "y")
+          2))),
+    ))) [])) (at 2))) ∷ (s.declaration (declaration (t.specifiers (word keyword.Int 3) t.no_specifiers) (Some
+    (declarators (init_declarator (t.named (spelled (codes "z") 3)) (Some (
+      (at 3),
+      (t.value (t.identifier (spelled
+          (codes "w") 3))),
+    ))) [])) (at 3))) ∷ (s.definition (t.specifiers (word keyword.Int 3) t.no_specifiers) (t.function
     (t.named (spelled (codes "main") 3)) (at 3) (t.void_parameters (at 3)) (at 3)) (s.block (at 3) (s.items (s.inner
     (s.return (at 3) (Some (t.integer (spelled (codes "0") 3))) (at 3))) s.no_items) (at 3))) ∷ []) 3)
     ≡ refused rule.Undeclared 2
@@ -57,8 +63,8 @@ unfolding balanced_type common_type fit is_signed mixed_type promoted rank size_
     characters_of escaped literal_step next_character extent_of array_size member_offsets structure_of union_of room
     is_valid_program constant_word binary assigned cast row_of comma combined unary dereferenced indexed size_of_words
     assignment compound stepped condition conditional switch_value called called_through routine_words composite judged
-    start reached reached_in element_number member_number number_behind part closed opened with_literal with_value without
-    typed_unit
+    start reached reached_by reached_in element_number member_number number_behind part closed opened with_literal
+    with_value without typed_unit
 first_of_two = refl
 
 -- int x;char
@@ -78,8 +84,8 @@ unfolding balanced_type common_type fit is_signed mixed_type promoted rank size_
     characters_of escaped literal_step next_character extent_of array_size member_offsets structure_of union_of room
     is_valid_program constant_word binary assigned cast row_of comma combined unary dereferenced indexed size_of_words
     assignment compound stepped condition conditional switch_value called called_through routine_words composite judged
-    start reached reached_in element_number member_number number_behind part closed opened with_literal with_value without
-    typed_unit
+    start reached reached_by reached_in element_number member_number number_behind part closed opened with_literal
+    with_value without typed_unit
 name_before_initializer = refl
 
 -- int x;char
@@ -99,8 +105,8 @@ unfolding balanced_type common_type fit is_signed mixed_type promoted rank size_
     characters_of escaped literal_step next_character extent_of array_size member_offsets structure_of union_of room
     is_valid_program constant_word binary assigned cast row_of comma combined unary dereferenced indexed size_of_words
     assignment compound stepped condition conditional switch_value called called_through routine_words composite judged
-    start reached reached_in element_number member_number number_behind part closed opened with_literal with_value without
-    typed_unit
+    start reached reached_by reached_in element_number member_number number_behind part closed opened with_literal
+    with_value without typed_unit
 size_before_name = refl
 
 -- int x;
@@ -120,8 +126,8 @@ unfolding balanced_type common_type fit is_signed mixed_type promoted rank size_
     characters_of escaped literal_step next_character extent_of array_size member_offsets structure_of union_of room
     is_valid_program constant_word binary assigned cast row_of comma combined unary dereferenced indexed size_of_words
     assignment compound stepped condition conditional switch_value called called_through routine_words composite judged
-    start reached reached_in element_number member_number number_behind part closed opened with_literal with_value without
-    typed_unit
+    start reached reached_by reached_in element_number member_number number_behind part closed opened with_literal
+    with_value without typed_unit
 specifiers_before_name = refl
 
 -- int x;
@@ -139,14 +145,14 @@ unfolding balanced_type common_type fit is_signed mixed_type promoted rank size_
     characters_of escaped literal_step next_character extent_of array_size member_offsets structure_of union_of room
     is_valid_program constant_word binary assigned cast row_of comma combined unary dereferenced indexed size_of_words
     assignment compound stepped condition conditional switch_value called called_through routine_words composite judged
-    start reached reached_in element_number member_number number_behind part closed opened with_literal with_value without
-    typed_unit
+    start reached reached_by reached_in element_number member_number number_behind part closed opened with_literal
+    with_value without typed_unit
 lowest_at_a_name = refl
 
 -- struct S;
 -- struct S
 -- x[2](void);int main(void){return 0;}
-incomplete_before_misplaced :
+array_of_functions :
     (source ((s.declaration (declaration (t.specifiers (t.structure keyword.Struct (at 1) (spelled (codes "S") 1))
     t.no_specifiers) None (at 1))) ∷ (s.declaration (declaration (t.specifiers (t.structure keyword.Struct (at 2)
     (spelled (codes "S") 2)) t.no_specifiers) (Some (declarators (init_declarator (t.function (t.array (t.named
@@ -160,9 +166,9 @@ unfolding balanced_type common_type fit is_signed mixed_type promoted rank size_
     characters_of escaped literal_step next_character extent_of array_size member_offsets structure_of union_of room
     is_valid_program constant_word binary assigned cast row_of comma combined unary dereferenced indexed size_of_words
     assignment compound stepped condition conditional switch_value called called_through routine_words composite judged
-    start reached reached_in element_number member_number number_behind part closed opened with_literal with_value without
-    typed_unit
-incomplete_before_misplaced = refl
+    start reached reached_by reached_in element_number member_number number_behind part closed opened with_literal
+    with_value without typed_unit
+array_of_functions = refl
 
 -- int f(void){return
 -- y;}
@@ -182,8 +188,8 @@ unfolding balanced_type common_type fit is_signed mixed_type promoted rank size_
     characters_of escaped literal_step next_character extent_of array_size member_offsets structure_of union_of room
     is_valid_program constant_word binary assigned cast row_of comma combined unary dereferenced indexed size_of_words
     assignment compound stepped condition conditional switch_value called called_through routine_words composite judged
-    start reached reached_in element_number member_number number_behind part closed opened with_literal with_value without
-    typed_unit
+    start reached reached_by reached_in element_number member_number number_behind part closed opened with_literal
+    with_value without typed_unit
 body_before_the_next = refl
 
 -- int f(void){return 0;}
@@ -204,8 +210,8 @@ unfolding balanced_type common_type fit is_signed mixed_type promoted rank size_
     characters_of escaped literal_step next_character extent_of array_size member_offsets structure_of union_of room
     is_valid_program constant_word binary assigned cast row_of comma combined unary dereferenced indexed size_of_words
     assignment compound stepped condition conditional switch_value called called_through routine_words composite judged
-    start reached reached_in element_number member_number number_behind part closed opened with_literal with_value without
-    typed_unit
+    start reached reached_by reached_in element_number member_number number_behind part closed opened with_literal
+    with_value without typed_unit
 declarator_before_body = refl
 
 -- int a[1]={1,
@@ -214,22 +220,27 @@ declarator_before_body = refl
 initializer_before_the_next :
     (source ((s.declaration (declaration (t.specifiers (word keyword.Int 1) t.no_specifiers) (Some (declarators
     (init_declarator (t.array (t.named (spelled (codes "a") 1)) (at 1) (t.integer (spelled (codes "1") 1)) (at 1))
-    (Some ((at 1), (t.braced (at 1) (t.item None (t.value (t.integer (spelled (codes "1") 1)))) (t.more_items (at 1)
-    (t.item None (t.value (t.integer (spelled (codes "2") 2)))) t.end_of_items) None (at 2))))) (((at 2),
-    (init_declarator (t.array (t.named (spelled (codes "b") 2)) (at 2) (t.identifier (spelled (codes "y") 3)) (at 3))
-    None)) ∷ []))) (at 3))) ∷ []) 3)
+    (Some (
+      (at 1),
+      (t.braced (at 1) (t.item None (t.value (t.integer (spelled (codes "1") 1)))) (t.more_items (at 1)
+          (t.item None (t.value (t.integer (spelled (codes "2") 2)))) t.end_of_items) None (at 2)),
+    ))) ((
+      (at 2),
+      (init_declarator (t.array (t.named (spelled (codes "b") 2)) (at 2) (t.identifier (spelled (codes "y") 3)) (at 3))
+          None),
+    ) ∷ []))) (at 3))) ∷ []) 3)
     ≡ refused rule.MisplacedItem 1
 unfolding balanced_type common_type fit is_signed mixed_type promoted rank size_of unsigned_of binary_value
     shift_amount unary_value constant_in constant_of greatest_of suffix_of typed types_of bytes_of_literal character_value
     characters_of escaped literal_step next_character extent_of array_size member_offsets structure_of union_of room
     is_valid_program constant_word binary assigned cast row_of comma combined unary dereferenced indexed size_of_words
     assignment compound stepped condition conditional switch_value called called_through routine_words composite judged
-    start reached reached_in element_number member_number number_behind part closed opened with_literal with_value without
-    typed_unit
+    start reached reached_by reached_in element_number member_number number_behind part closed opened with_literal
+    with_value without typed_unit
 initializer_before_the_next = refl
 
 -- int f(void){return 0;}
--- 
+--
 no_main :
     (source ((s.definition (t.specifiers (word keyword.Int 1) t.no_specifiers) (t.function (t.named (spelled (codes
     "f") 1)) (at 1) (t.void_parameters (at 1)) (at 1)) (s.block (at 1) (s.items (s.inner (s.return (at 1) (Some
@@ -240,12 +251,12 @@ unfolding balanced_type common_type fit is_signed mixed_type promoted rank size_
     characters_of escaped literal_step next_character extent_of array_size member_offsets structure_of union_of room
     is_valid_program constant_word binary assigned cast row_of comma combined unary dereferenced indexed size_of_words
     assignment compound stepped condition conditional switch_value called called_through routine_words composite judged
-    start reached reached_in element_number member_number number_behind part closed opened with_literal with_value without
-    typed_unit
+    start reached reached_by reached_in element_number member_number number_behind part closed opened with_literal
+    with_value without typed_unit
 no_main = refl
 
 -- void main(void){}
--- 
+--
 main_of_another_type :
     (source ((s.definition (t.specifiers (word keyword.Void 1) t.no_specifiers) (t.function (t.named (spelled (codes
     "main") 1)) (at 1) (t.void_parameters (at 1)) (at 1)) (s.block (at 1) s.no_items (at 1))) ∷ []) 2)
@@ -255,12 +266,12 @@ unfolding balanced_type common_type fit is_signed mixed_type promoted rank size_
     characters_of escaped literal_step next_character extent_of array_size member_offsets structure_of union_of room
     is_valid_program constant_word binary assigned cast row_of comma combined unary dereferenced indexed size_of_words
     assignment compound stepped condition conditional switch_value called called_through routine_words composite judged
-    start reached reached_in element_number member_number number_behind part closed opened with_literal with_value without
-    typed_unit
+    start reached reached_by reached_in element_number member_number number_behind part closed opened with_literal
+    with_value without typed_unit
 main_of_another_type = refl
 
 -- int main(void);
--- 
+--
 main_only_declared :
     (source ((s.declaration (declaration (t.specifiers (word keyword.Int 1) t.no_specifiers) (Some (declarators
     (init_declarator (t.function (t.named (spelled (codes "main") 1)) (at 1) (t.void_parameters (at 1)) (at 1)) None)
@@ -271,12 +282,12 @@ unfolding balanced_type common_type fit is_signed mixed_type promoted rank size_
     characters_of escaped literal_step next_character extent_of array_size member_offsets structure_of union_of room
     is_valid_program constant_word binary assigned cast row_of comma combined unary dereferenced indexed size_of_words
     assignment compound stepped condition conditional switch_value called called_through routine_words composite judged
-    start reached reached_in element_number member_number number_behind part closed opened with_literal with_value without
-    typed_unit
+    start reached reached_by reached_in element_number member_number number_behind part closed opened with_literal
+    with_value without typed_unit
 main_only_declared = refl
 
 -- int f(void);int g(void){return f();}
--- 
+--
 main_before_uses :
     (source ((s.declaration (declaration (t.specifiers (word keyword.Int 1) t.no_specifiers) (Some (declarators
     (init_declarator (t.function (t.named (spelled (codes "f") 1)) (at 1) (t.void_parameters (at 1)) (at 1)) None)
@@ -290,8 +301,8 @@ unfolding balanced_type common_type fit is_signed mixed_type promoted rank size_
     characters_of escaped literal_step next_character extent_of array_size member_offsets structure_of union_of room
     is_valid_program constant_word binary assigned cast row_of comma combined unary dereferenced indexed size_of_words
     assignment compound stepped condition conditional switch_value called called_through routine_words composite judged
-    start reached reached_in element_number member_number number_behind part closed opened with_literal with_value without
-    typed_unit
+    start reached reached_by reached_in element_number member_number number_behind part closed opened with_literal
+    with_value without typed_unit
 main_before_uses = refl
 
 -- int f(void);int g(void);int main(void){return
@@ -313,8 +324,8 @@ unfolding balanced_type common_type fit is_signed mixed_type promoted rank size_
     characters_of escaped literal_step next_character extent_of array_size member_offsets structure_of union_of room
     is_valid_program constant_word binary assigned cast row_of comma combined unary dereferenced indexed size_of_words
     assignment compound stepped condition conditional switch_value called called_through routine_words composite judged
-    start reached reached_in element_number member_number number_behind part closed opened with_literal with_value without
-    typed_unit
+    start reached reached_by reached_in element_number member_number number_behind part closed opened with_literal
+    with_value without typed_unit
 first_use = refl
 
 -- int f(void);int(*p)(void)=
@@ -334,8 +345,8 @@ unfolding balanced_type common_type fit is_signed mixed_type promoted rank size_
     characters_of escaped literal_step next_character extent_of array_size member_offsets structure_of union_of room
     is_valid_program constant_word binary assigned cast row_of comma combined unary dereferenced indexed size_of_words
     assignment compound stepped condition conditional switch_value called called_through routine_words composite judged
-    start reached reached_in element_number member_number number_behind part closed opened with_literal with_value without
-    typed_unit
+    start reached reached_by reached_in element_number member_number number_behind part closed opened with_literal
+    with_value without typed_unit
 use_in_an_initializer = refl
 
 -- int f(void);int main(void){return sizeof f();}
@@ -352,8 +363,8 @@ unfolding balanced_type common_type fit is_signed mixed_type promoted rank size_
     characters_of escaped literal_step next_character extent_of array_size member_offsets structure_of union_of room
     is_valid_program constant_word binary assigned cast row_of comma combined unary dereferenced indexed size_of_words
     assignment compound stepped condition conditional switch_value called called_through routine_words composite judged
-    start reached reached_in element_number member_number number_behind part closed opened with_literal with_value without
-    typed_unit
+    start reached reached_by reached_in element_number member_number number_behind part closed opened with_literal
+    with_value without typed_unit
 not_evaluated = refl
 
 -- char a[4194305];int main(void){return 0;}
@@ -369,8 +380,8 @@ unfolding balanced_type common_type fit is_signed mixed_type promoted rank size_
     characters_of escaped literal_step next_character extent_of array_size member_offsets structure_of union_of room
     is_valid_program constant_word binary assigned cast row_of comma combined unary dereferenced indexed size_of_words
     assignment compound stepped condition conditional switch_value called called_through routine_words composite judged
-    start reached reached_in element_number member_number number_behind part closed opened with_literal with_value without
-    typed_unit
+    start reached reached_by reached_in element_number member_number number_behind part closed opened with_literal
+    with_value without typed_unit
 globals = refl
 
 -- char a[4194304];int main(void){return 0;}
@@ -386,8 +397,8 @@ unfolding balanced_type common_type fit is_signed mixed_type promoted rank size_
     characters_of escaped literal_step next_character extent_of array_size member_offsets structure_of union_of room
     is_valid_program constant_word binary assigned cast row_of comma combined unary dereferenced indexed size_of_words
     assignment compound stepped condition conditional switch_value called called_through routine_words composite judged
-    start reached reached_in element_number member_number number_behind part closed opened with_literal with_value without
-    typed_unit
+    start reached reached_by reached_in element_number member_number number_behind part closed opened with_literal
+    with_value without typed_unit
 globals_that_fit = refl
 
 -- char a[4194289];char b;int main(void){return 0;}
@@ -405,8 +416,8 @@ unfolding balanced_type common_type fit is_signed mixed_type promoted rank size_
     characters_of escaped literal_step next_character extent_of array_size member_offsets structure_of union_of room
     is_valid_program constant_word binary assigned cast row_of comma combined unary dereferenced indexed size_of_words
     assignment compound stepped condition conditional switch_value called called_through routine_words composite judged
-    start reached reached_in element_number member_number number_behind part closed opened with_literal with_value without
-    typed_unit
+    start reached reached_by reached_in element_number member_number number_behind part closed opened with_literal
+    with_value without typed_unit
 rounded = refl
 
 -- char a[4194305];int f(void){return 1;}int x=f();int main(void){return 0;}
@@ -428,8 +439,8 @@ unfolding balanced_type common_type fit is_signed mixed_type promoted rank size_
     characters_of escaped literal_step next_character extent_of array_size member_offsets structure_of union_of room
     is_valid_program constant_word binary assigned cast row_of comma combined unary dereferenced indexed size_of_words
     assignment compound stepped condition conditional switch_value called called_through routine_words composite judged
-    start reached reached_in element_number member_number number_behind part closed opened with_literal with_value without
-    typed_unit
+    start reached reached_by reached_in element_number member_number number_behind part closed opened with_literal
+    with_value without typed_unit
 not_constant_first = refl
 
 -- int f(int,int,int,int,int,int,int,int,int,int,int,int,int,int,int,int,int,int,int,int,int,int,int,in ..
@@ -574,8 +585,8 @@ unfolding balanced_type common_type fit is_signed mixed_type promoted rank size_
     characters_of escaped literal_step next_character extent_of array_size member_offsets structure_of union_of room
     is_valid_program constant_word binary assigned cast row_of comma combined unary dereferenced indexed size_of_words
     assignment compound stepped condition conditional switch_value called called_through routine_words composite judged
-    start reached reached_in element_number member_number number_behind part closed opened with_literal with_value without
-    typed_unit
+    start reached reached_by reached_in element_number member_number number_behind part closed opened with_literal
+    with_value without typed_unit
 parameters = refl
 
 -- char a[4194305];int f(int,int,int,int,int,int,int,int,int,int,int,int,int,int,int,int,int,int,int,in ..
@@ -723,6 +734,6 @@ unfolding balanced_type common_type fit is_signed mixed_type promoted rank size_
     characters_of escaped literal_step next_character extent_of array_size member_offsets structure_of union_of room
     is_valid_program constant_word binary assigned cast row_of comma combined unary dereferenced indexed size_of_words
     assignment compound stepped condition conditional switch_value called called_through routine_words composite judged
-    start reached reached_in element_number member_number number_behind part closed opened with_literal with_value without
-    typed_unit
+    start reached reached_by reached_in element_number member_number number_behind part closed opened with_literal
+    with_value without typed_unit
 parameters_before_globals = refl

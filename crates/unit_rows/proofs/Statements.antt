@@ -31,7 +31,7 @@ use Rattle.c_call_rules.specs.Routines.{routine_words}
 use Rattle.c_scope.specs.Composite.{composite}
 use Rattle.c_scope.specs.Declaring.{judged}
 use Rattle.c_scope.specs.Start.{start}
-use Rattle.c_current_object.specs.CurrentObject.{reached, reached_in}
+use Rattle.c_current_object.specs.CurrentObject.{reached, reached_by, reached_in}
 use Rattle.c_current_object.specs.Subobjects.{element_number, member_number, number_behind, part}
 use Rattle.c_initializer_rules.specs.Initializing.{closed, opened, with_literal, with_value}
 use Rattle.c_initializer_rules.specs.Placed.{without}
@@ -65,8 +65,8 @@ unfolding balanced_type common_type fit is_signed mixed_type promoted rank size_
     characters_of escaped literal_step next_character extent_of array_size member_offsets structure_of union_of room
     is_valid_program constant_word binary assigned cast row_of comma combined unary dereferenced indexed size_of_words
     assignment compound stepped condition conditional switch_value called called_through routine_words composite judged
-    start reached reached_in element_number member_number number_behind part closed opened with_literal with_value without
-    typed_unit
+    start reached reached_by reached_in element_number member_number number_behind part closed opened with_literal
+    with_value without typed_unit
 loops = refl
 
 -- int main(void){int x=2;switch(x){case 1:case 2:x=5;break;default:{int y=7;x=y;}}return x;}
@@ -92,8 +92,8 @@ unfolding balanced_type common_type fit is_signed mixed_type promoted rank size_
     characters_of escaped literal_step next_character extent_of array_size member_offsets structure_of union_of room
     is_valid_program constant_word binary assigned cast row_of comma combined unary dereferenced indexed size_of_words
     assignment compound stepped condition conditional switch_value called called_through routine_words composite judged
-    start reached reached_in element_number member_number number_behind part closed opened with_literal with_value without
-    typed_unit
+    start reached reached_by reached_in element_number member_number number_behind part closed opened with_literal
+    with_value without typed_unit
 labels = refl
 
 -- int main(void){int x=2;while(x){switch(x){case 1:continue;case 3:break;}x--;}return x;}
@@ -115,8 +115,8 @@ unfolding balanced_type common_type fit is_signed mixed_type promoted rank size_
     characters_of escaped literal_step next_character extent_of array_size member_offsets structure_of union_of room
     is_valid_program constant_word binary assigned cast row_of comma combined unary dereferenced indexed size_of_words
     assignment compound stepped condition conditional switch_value called called_through routine_words composite judged
-    start reached reached_in element_number member_number number_behind part closed opened with_literal with_value without
-    typed_unit
+    start reached reached_by reached_in element_number member_number number_behind part closed opened with_literal
+    with_value without typed_unit
 jumps_of_a_switch = refl
 
 -- void f(void){return;}char g(void){return 300;}int main(void){f();return g();}
@@ -137,8 +137,8 @@ unfolding balanced_type common_type fit is_signed mixed_type promoted rank size_
     characters_of escaped literal_step next_character extent_of array_size member_offsets structure_of union_of room
     is_valid_program constant_word binary assigned cast row_of comma combined unary dereferenced indexed size_of_words
     assignment compound stepped condition conditional switch_value called called_through routine_words composite judged
-    start reached reached_in element_number member_number number_behind part closed opened with_literal with_value without
-    typed_unit
+    start reached reached_by reached_in element_number member_number number_behind part closed opened with_literal
+    with_value without typed_unit
 results = refl
 
 -- int main(void){if(sizeof(enum{A})){}return
@@ -156,8 +156,8 @@ unfolding balanced_type common_type fit is_signed mixed_type promoted rank size_
     characters_of escaped literal_step next_character extent_of array_size member_offsets structure_of union_of room
     is_valid_program constant_word binary assigned cast row_of comma combined unary dereferenced indexed size_of_words
     assignment compound stepped condition conditional switch_value called called_through routine_words composite judged
-    start reached reached_in element_number member_number number_behind part closed opened with_literal with_value without
-    typed_unit
+    start reached reached_by reached_in element_number member_number number_behind part closed opened with_literal
+    with_value without typed_unit
 tags_of_a_branch = refl
 
 -- int main(void){do{int x;}while(
@@ -175,14 +175,14 @@ unfolding balanced_type common_type fit is_signed mixed_type promoted rank size_
     characters_of escaped literal_step next_character extent_of array_size member_offsets structure_of union_of room
     is_valid_program constant_word binary assigned cast row_of comma combined unary dereferenced indexed size_of_words
     assignment compound stepped condition conditional switch_value called called_through routine_words composite judged
-    start reached reached_in element_number member_number number_behind part closed opened with_literal with_value without
-    typed_unit
+    start reached reached_by reached_in element_number member_number number_behind part closed opened with_literal
+    with_value without typed_unit
 tags_of_a_body = refl
 
 -- struct S{int a;}s;int main(void){
 -- if(
 -- s)return 1;return 0;}
-condition :
+condition_of_a_structure :
     (source ((s.declaration (declaration (t.specifiers (t.structure_body keyword.Struct (at 1) (Some (spelled (codes
     "S") 1)) (at 1) (t.members (t.member_declaration (t.specifiers (word keyword.Int 1) t.no_specifiers) (t.named
     (spelled (codes "a") 1)) t.end_of_declarators (at 1)) t.no_members) (at 1)) t.no_specifiers) (Some (declarators
@@ -197,9 +197,9 @@ unfolding balanced_type common_type fit is_signed mixed_type promoted rank size_
     characters_of escaped literal_step next_character extent_of array_size member_offsets structure_of union_of room
     is_valid_program constant_word binary assigned cast row_of comma combined unary dereferenced indexed size_of_words
     assignment compound stepped condition conditional switch_value called called_through routine_words composite judged
-    start reached reached_in element_number member_number number_behind part closed opened with_literal with_value without
-    typed_unit
-condition = refl
+    start reached reached_by reached_in element_number member_number number_behind part closed opened with_literal
+    with_value without typed_unit
+condition_of_a_structure = refl
 
 -- void f(void){}int main(void){
 -- while(
@@ -217,8 +217,8 @@ unfolding balanced_type common_type fit is_signed mixed_type promoted rank size_
     characters_of escaped literal_step next_character extent_of array_size member_offsets structure_of union_of room
     is_valid_program constant_word binary assigned cast row_of comma combined unary dereferenced indexed size_of_words
     assignment compound stepped condition conditional switch_value called called_through routine_words composite judged
-    start reached reached_in element_number member_number number_behind part closed opened with_literal with_value without
-    typed_unit
+    start reached reached_by reached_in element_number member_number number_behind part closed opened with_literal
+    with_value without typed_unit
 void_condition = refl
 
 -- struct S{int a;}s;int main(void){
@@ -241,8 +241,8 @@ unfolding balanced_type common_type fit is_signed mixed_type promoted rank size_
     characters_of escaped literal_step next_character extent_of array_size member_offsets structure_of union_of room
     is_valid_program constant_word binary assigned cast row_of comma combined unary dereferenced indexed size_of_words
     assignment compound stepped condition conditional switch_value called called_through routine_words composite judged
-    start reached reached_in element_number member_number number_behind part closed opened with_literal with_value without
-    typed_unit
+    start reached reached_by reached_in element_number member_number number_behind part closed opened with_literal
+    with_value without typed_unit
 do_before_its_body = refl
 
 -- int main(void){do
@@ -260,8 +260,8 @@ unfolding balanced_type common_type fit is_signed mixed_type promoted rank size_
     characters_of escaped literal_step next_character extent_of array_size member_offsets structure_of union_of room
     is_valid_program constant_word binary assigned cast row_of comma combined unary dereferenced indexed size_of_words
     assignment compound stepped condition conditional switch_value called called_through routine_words composite judged
-    start reached reached_in element_number member_number number_behind part closed opened with_literal with_value without
-    typed_unit
+    start reached reached_by reached_in element_number member_number number_behind part closed opened with_literal
+    with_value without typed_unit
 body_before_the_condition = refl
 
 -- int main(void){int x=1;do
@@ -281,8 +281,8 @@ unfolding balanced_type common_type fit is_signed mixed_type promoted rank size_
     characters_of escaped literal_step next_character extent_of array_size member_offsets structure_of union_of room
     is_valid_program constant_word binary assigned cast row_of comma combined unary dereferenced indexed size_of_words
     assignment compound stepped condition conditional switch_value called called_through routine_words composite judged
-    start reached reached_in element_number member_number number_behind part closed opened with_literal with_value without
-    typed_unit
+    start reached reached_by reached_in element_number member_number number_behind part closed opened with_literal
+    with_value without typed_unit
 body_alone = refl
 
 -- int main(void){do{}
@@ -299,8 +299,8 @@ unfolding balanced_type common_type fit is_signed mixed_type promoted rank size_
     characters_of escaped literal_step next_character extent_of array_size member_offsets structure_of union_of room
     is_valid_program constant_word binary assigned cast row_of comma combined unary dereferenced indexed size_of_words
     assignment compound stepped condition conditional switch_value called called_through routine_words composite judged
-    start reached reached_in element_number member_number number_behind part closed opened with_literal with_value without
-    typed_unit
+    start reached reached_by reached_in element_number member_number number_behind part closed opened with_literal
+    with_value without typed_unit
 condition_alone = refl
 
 -- struct S{int a;}s;int main(void){
@@ -323,8 +323,8 @@ unfolding balanced_type common_type fit is_signed mixed_type promoted rank size_
     characters_of escaped literal_step next_character extent_of array_size member_offsets structure_of union_of room
     is_valid_program constant_word binary assigned cast row_of comma combined unary dereferenced indexed size_of_words
     assignment compound stepped condition conditional switch_value called called_through routine_words composite judged
-    start reached reached_in element_number member_number number_behind part closed opened with_literal with_value without
-    typed_unit
+    start reached reached_by reached_in element_number member_number number_behind part closed opened with_literal
+    with_value without typed_unit
 do_before_a_break = refl
 
 -- struct S{int a;}s;int main(void){
@@ -347,8 +347,8 @@ unfolding balanced_type common_type fit is_signed mixed_type promoted rank size_
     characters_of escaped literal_step next_character extent_of array_size member_offsets structure_of union_of room
     is_valid_program constant_word binary assigned cast row_of comma combined unary dereferenced indexed size_of_words
     assignment compound stepped condition conditional switch_value called called_through routine_words composite judged
-    start reached reached_in element_number member_number number_behind part closed opened with_literal with_value without
-    typed_unit
+    start reached reached_by reached_in element_number member_number number_behind part closed opened with_literal
+    with_value without typed_unit
 nested_do = refl
 
 -- struct S{int a;}s;int main(void){
@@ -371,8 +371,8 @@ unfolding balanced_type common_type fit is_signed mixed_type promoted rank size_
     characters_of escaped literal_step next_character extent_of array_size member_offsets structure_of union_of room
     is_valid_program constant_word binary assigned cast row_of comma combined unary dereferenced indexed size_of_words
     assignment compound stepped condition conditional switch_value called called_through routine_words composite judged
-    start reached reached_in element_number member_number number_behind part closed opened with_literal with_value without
-    typed_unit
+    start reached reached_by reached_in element_number member_number number_behind part closed opened with_literal
+    with_value without typed_unit
 for_before_its_body = refl
 
 -- struct S{int a;}s;int main(void){for(;s;
@@ -393,8 +393,8 @@ unfolding balanced_type common_type fit is_signed mixed_type promoted rank size_
     characters_of escaped literal_step next_character extent_of array_size member_offsets structure_of union_of room
     is_valid_program constant_word binary assigned cast row_of comma combined unary dereferenced indexed size_of_words
     assignment compound stepped condition conditional switch_value called called_through routine_words composite judged
-    start reached reached_in element_number member_number number_behind part closed opened with_literal with_value without
-    typed_unit
+    start reached reached_by reached_in element_number member_number number_behind part closed opened with_literal
+    with_value without typed_unit
 step_before_for = refl
 
 -- struct S{int a;}s;int main(void){for(int i=
@@ -406,8 +406,11 @@ declaration_before_for :
     (init_declarator (t.named (spelled (codes "s") 1)) None) [])) (at 1))) ∷ (s.definition (t.specifiers (word
     keyword.Int 1) t.no_specifiers) (t.function (t.named (spelled (codes "main") 1)) (at 1) (t.void_parameters (at 1))
     (at 1)) (s.block (at 1) (s.items (s.inner (s.for (at 1) (at 1) (s.declares (declaration (t.specifiers (word
-    keyword.Int 1) t.no_specifiers) (Some (declarators (init_declarator (t.named (spelled (codes "i") 1)) (Some ((at
-    1), (t.value (t.identifier (spelled (codes "y") 2)))))) [])) (at 2))) (Some (t.identifier (spelled (codes "s")
+    keyword.Int 1) t.no_specifiers) (Some (declarators (init_declarator (t.named (spelled (codes "i") 1)) (Some (
+      (at
+          1),
+      (t.value (t.identifier (spelled (codes "y") 2))),
+    ))) [])) (at 2))) (Some (t.identifier (spelled (codes "s")
     2))) (at 2) None (at 2) (s.expression None (at 2)))) (s.items (s.inner (s.return (at 2) (Some (t.integer (spelled
     (codes "0") 2))) (at 2))) s.no_items)) (at 2))) ∷ []) 2)
     ≡ refused rule.Undeclared 2
@@ -416,8 +419,8 @@ unfolding balanced_type common_type fit is_signed mixed_type promoted rank size_
     characters_of escaped literal_step next_character extent_of array_size member_offsets structure_of union_of room
     is_valid_program constant_word binary assigned cast row_of comma combined unary dereferenced indexed size_of_words
     assignment compound stepped condition conditional switch_value called called_through routine_words composite judged
-    start reached reached_in element_number member_number number_behind part closed opened with_literal with_value without
-    typed_unit
+    start reached reached_by reached_in element_number member_number number_behind part closed opened with_literal
+    with_value without typed_unit
 declaration_before_for = refl
 
 -- int main(void){for(int i=0;i<1;i++);return
@@ -437,8 +440,8 @@ unfolding balanced_type common_type fit is_signed mixed_type promoted rank size_
     characters_of escaped literal_step next_character extent_of array_size member_offsets structure_of union_of room
     is_valid_program constant_word binary assigned cast row_of comma combined unary dereferenced indexed size_of_words
     assignment compound stepped condition conditional switch_value called called_through routine_words composite judged
-    start reached reached_in element_number member_number number_behind part closed opened with_literal with_value without
-    typed_unit
+    start reached reached_by reached_in element_number member_number number_behind part closed opened with_literal
+    with_value without typed_unit
 for_is_a_scope = refl
 
 -- int main(void){for(int i=0;i<1;i++){int i=2;i++;}return 0;}
@@ -461,8 +464,8 @@ unfolding balanced_type common_type fit is_signed mixed_type promoted rank size_
     characters_of escaped literal_step next_character extent_of array_size member_offsets structure_of union_of room
     is_valid_program constant_word binary assigned cast row_of comma combined unary dereferenced indexed size_of_words
     assignment compound stepped condition conditional switch_value called called_through routine_words composite judged
-    start reached reached_in element_number member_number number_behind part closed opened with_literal with_value without
-    typed_unit
+    start reached reached_by reached_in element_number member_number number_behind part closed opened with_literal
+    with_value without typed_unit
 body_of_for_is_a_scope = refl
 
 -- int main(void){int*p=0;
@@ -481,8 +484,8 @@ unfolding balanced_type common_type fit is_signed mixed_type promoted rank size_
     characters_of escaped literal_step next_character extent_of array_size member_offsets structure_of union_of room
     is_valid_program constant_word binary assigned cast row_of comma combined unary dereferenced indexed size_of_words
     assignment compound stepped condition conditional switch_value called called_through routine_words composite judged
-    start reached reached_in element_number member_number number_behind part closed opened with_literal with_value without
-    typed_unit
+    start reached reached_by reached_in element_number member_number number_behind part closed opened with_literal
+    with_value without typed_unit
 switch_of_a_pointer = refl
 
 -- int main(void){int x=0;switch(x){case 1:;
@@ -503,8 +506,8 @@ unfolding balanced_type common_type fit is_signed mixed_type promoted rank size_
     characters_of escaped literal_step next_character extent_of array_size member_offsets structure_of union_of room
     is_valid_program constant_word binary assigned cast row_of comma combined unary dereferenced indexed size_of_words
     assignment compound stepped condition conditional switch_value called called_through routine_words composite judged
-    start reached reached_in element_number member_number number_behind part closed opened with_literal with_value without
-    typed_unit
+    start reached reached_by reached_in element_number member_number number_behind part closed opened with_literal
+    with_value without typed_unit
 equal_labels = refl
 
 -- int main(void){int x=0;switch(x){case 0:;
@@ -524,8 +527,8 @@ unfolding balanced_type common_type fit is_signed mixed_type promoted rank size_
     characters_of escaped literal_step next_character extent_of array_size member_offsets structure_of union_of room
     is_valid_program constant_word binary assigned cast row_of comma combined unary dereferenced indexed size_of_words
     assignment compound stepped condition conditional switch_value called called_through routine_words composite judged
-    start reached reached_in element_number member_number number_behind part closed opened with_literal with_value without
-    typed_unit
+    start reached reached_by reached_in element_number member_number number_behind part closed opened with_literal
+    with_value without typed_unit
 equal_once_converted = refl
 
 -- int main(void){long x=0;switch(x){case 0:;case 4294967296:;}return 0;}
@@ -544,8 +547,8 @@ unfolding balanced_type common_type fit is_signed mixed_type promoted rank size_
     characters_of escaped literal_step next_character extent_of array_size member_offsets structure_of union_of room
     is_valid_program constant_word binary assigned cast row_of comma combined unary dereferenced indexed size_of_words
     assignment compound stepped condition conditional switch_value called called_through routine_words composite judged
-    start reached reached_in element_number member_number number_behind part closed opened with_literal with_value without
-    typed_unit
+    start reached reached_by reached_in element_number member_number number_behind part closed opened with_literal
+    with_value without typed_unit
 different_in_long = refl
 
 -- int main(void){int x=0;switch(x){default:;
@@ -565,8 +568,8 @@ unfolding balanced_type common_type fit is_signed mixed_type promoted rank size_
     characters_of escaped literal_step next_character extent_of array_size member_offsets structure_of union_of room
     is_valid_program constant_word binary assigned cast row_of comma combined unary dereferenced indexed size_of_words
     assignment compound stepped condition conditional switch_value called called_through routine_words composite judged
-    start reached reached_in element_number member_number number_behind part closed opened with_literal with_value without
-    typed_unit
+    start reached reached_by reached_in element_number member_number number_behind part closed opened with_literal
+    with_value without typed_unit
 two_defaults = refl
 
 -- int main(void){int x=0;switch(x){{
@@ -586,8 +589,8 @@ unfolding balanced_type common_type fit is_signed mixed_type promoted rank size_
     characters_of escaped literal_step next_character extent_of array_size member_offsets structure_of union_of room
     is_valid_program constant_word binary assigned cast row_of comma combined unary dereferenced indexed size_of_words
     assignment compound stepped condition conditional switch_value called called_through routine_words composite judged
-    start reached reached_in element_number member_number number_behind part closed opened with_literal with_value without
-    typed_unit
+    start reached reached_by reached_in element_number member_number number_behind part closed opened with_literal
+    with_value without typed_unit
 label_in_an_inner_block = refl
 
 -- int main(void){int x=0;switch(x){case 1:if(x)
@@ -607,8 +610,8 @@ unfolding balanced_type common_type fit is_signed mixed_type promoted rank size_
     characters_of escaped literal_step next_character extent_of array_size member_offsets structure_of union_of room
     is_valid_program constant_word binary assigned cast row_of comma combined unary dereferenced indexed size_of_words
     assignment compound stepped condition conditional switch_value called called_through routine_words composite judged
-    start reached reached_in element_number member_number number_behind part closed opened with_literal with_value without
-    typed_unit
+    start reached reached_by reached_in element_number member_number number_behind part closed opened with_literal
+    with_value without typed_unit
 label_in_a_branch = refl
 
 -- int main(void){
@@ -624,8 +627,8 @@ unfolding balanced_type common_type fit is_signed mixed_type promoted rank size_
     characters_of escaped literal_step next_character extent_of array_size member_offsets structure_of union_of room
     is_valid_program constant_word binary assigned cast row_of comma combined unary dereferenced indexed size_of_words
     assignment compound stepped condition conditional switch_value called called_through routine_words composite judged
-    start reached reached_in element_number member_number number_behind part closed opened with_literal with_value without
-    typed_unit
+    start reached reached_by reached_in element_number member_number number_behind part closed opened with_literal
+    with_value without typed_unit
 label_outside = refl
 
 -- int main(void){int x=0;switch(x){
@@ -645,8 +648,8 @@ unfolding balanced_type common_type fit is_signed mixed_type promoted rank size_
     characters_of escaped literal_step next_character extent_of array_size member_offsets structure_of union_of room
     is_valid_program constant_word binary assigned cast row_of comma combined unary dereferenced indexed size_of_words
     assignment compound stepped condition conditional switch_value called called_through routine_words composite judged
-    start reached reached_in element_number member_number number_behind part closed opened with_literal with_value without
-    typed_unit
+    start reached reached_by reached_in element_number member_number number_behind part closed opened with_literal
+    with_value without typed_unit
 label_no_constant = refl
 
 -- int main(void){int x=0;
@@ -664,8 +667,8 @@ unfolding balanced_type common_type fit is_signed mixed_type promoted rank size_
     characters_of escaped literal_step next_character extent_of array_size member_offsets structure_of union_of room
     is_valid_program constant_word binary assigned cast row_of comma combined unary dereferenced indexed size_of_words
     assignment compound stepped condition conditional switch_value called called_through routine_words composite judged
-    start reached reached_in element_number member_number number_behind part closed opened with_literal with_value without
-    typed_unit
+    start reached reached_by reached_in element_number member_number number_behind part closed opened with_literal
+    with_value without typed_unit
 label_of_two_rules = refl
 
 -- int main(void){case
@@ -681,8 +684,8 @@ unfolding balanced_type common_type fit is_signed mixed_type promoted rank size_
     characters_of escaped literal_step next_character extent_of array_size member_offsets structure_of union_of room
     is_valid_program constant_word binary assigned cast row_of comma combined unary dereferenced indexed size_of_words
     assignment compound stepped condition conditional switch_value called called_through routine_words composite judged
-    start reached reached_in element_number member_number number_behind part closed opened with_literal with_value without
-    typed_unit
+    start reached reached_by reached_in element_number member_number number_behind part closed opened with_literal
+    with_value without typed_unit
 label_undeclared = refl
 
 -- int main(void){
@@ -697,8 +700,8 @@ unfolding balanced_type common_type fit is_signed mixed_type promoted rank size_
     characters_of escaped literal_step next_character extent_of array_size member_offsets structure_of union_of room
     is_valid_program constant_word binary assigned cast row_of comma combined unary dereferenced indexed size_of_words
     assignment compound stepped condition conditional switch_value called called_through routine_words composite judged
-    start reached reached_in element_number member_number number_behind part closed opened with_literal with_value without
-    typed_unit
+    start reached reached_by reached_in element_number member_number number_behind part closed opened with_literal
+    with_value without typed_unit
 break_outside = refl
 
 -- int main(void){switch(1){case 1:
@@ -715,8 +718,8 @@ unfolding balanced_type common_type fit is_signed mixed_type promoted rank size_
     characters_of escaped literal_step next_character extent_of array_size member_offsets structure_of union_of room
     is_valid_program constant_word binary assigned cast row_of comma combined unary dereferenced indexed size_of_words
     assignment compound stepped condition conditional switch_value called called_through routine_words composite judged
-    start reached reached_in element_number member_number number_behind part closed opened with_literal with_value without
-    typed_unit
+    start reached reached_by reached_in element_number member_number number_behind part closed opened with_literal
+    with_value without typed_unit
 continue_in_a_switch = refl
 
 -- void f(void){
@@ -735,8 +738,8 @@ unfolding balanced_type common_type fit is_signed mixed_type promoted rank size_
     characters_of escaped literal_step next_character extent_of array_size member_offsets structure_of union_of room
     is_valid_program constant_word binary assigned cast row_of comma combined unary dereferenced indexed size_of_words
     assignment compound stepped condition conditional switch_value called called_through routine_words composite judged
-    start reached reached_in element_number member_number number_behind part closed opened with_literal with_value without
-    typed_unit
+    start reached reached_by reached_in element_number member_number number_behind part closed opened with_literal
+    with_value without typed_unit
 value_of_void = refl
 
 -- int f(void){
@@ -753,8 +756,8 @@ unfolding balanced_type common_type fit is_signed mixed_type promoted rank size_
     characters_of escaped literal_step next_character extent_of array_size member_offsets structure_of union_of room
     is_valid_program constant_word binary assigned cast row_of comma combined unary dereferenced indexed size_of_words
     assignment compound stepped condition conditional switch_value called called_through routine_words composite judged
-    start reached reached_in element_number member_number number_behind part closed opened with_literal with_value without
-    typed_unit
+    start reached reached_by reached_in element_number member_number number_behind part closed opened with_literal
+    with_value without typed_unit
 no_value = refl
 
 -- int*f(void){
@@ -773,6 +776,6 @@ unfolding balanced_type common_type fit is_signed mixed_type promoted rank size_
     characters_of escaped literal_step next_character extent_of array_size member_offsets structure_of union_of room
     is_valid_program constant_word binary assigned cast row_of comma combined unary dereferenced indexed size_of_words
     assignment compound stepped condition conditional switch_value called called_through routine_words composite judged
-    start reached reached_in element_number member_number number_behind part closed opened with_literal with_value without
-    typed_unit
+    start reached reached_by reached_in element_number member_number number_behind part closed opened with_literal
+    with_value without typed_unit
 no_result = refl

@@ -8,6 +8,7 @@ usage: python3 rows/units.py        writes the rows
 """
 
 import os
+import re
 import subprocess
 import sys
 
@@ -282,6 +283,19 @@ called_through routine_words composite judged start reached reached_by reached_i
 with_literal with_value without typed_unit"""
 
 
+def used(imports, body):
+    """The imports of which the body uses a name."""
+    words, out = set(re.findall(r"\w+|[≡∷]", body)), []
+    for line in imports.strip().split("\n"):
+        if "{" not in line:
+            out.append(line if line.split(" as ")[1] in words else None)
+            continue
+        path, names = line[:-1].split("{")
+        kept = [n for n in names.split(", ") if n.split(" as ")[-1].strip("◌[]") in words or n == "[]"]
+        out.append(f"{path}{{{', '.join(kept)}}}" if kept else None)
+    return "\n".join(line for line in out if line) + "\n"
+
+
 def rows_of(subject):
     about, rows = ROWS[subject]
     out = [f"-- {about}"]
@@ -296,7 +310,7 @@ def rows_of(subject):
         comment = "\n".join(line if line.startswith("--") else "-- " + line for line in ("-- " + comment).split("\n"))
         body.append(f"{comment}\n{name} :\n{wrapped(source_of(text), 4)}\n{wrapped('≡ ' + expected, 4)}\n"
                     f"{wrapped('unfolding ' + OPAQUE.replace(chr(10), ' '), 0).replace(chr(10), chr(10) + '    ')}\n{name} = refl\n")
-    return "\n".join(out) + "\n" + IMPORTS + "\n" + "\n".join(body)
+    return "\n".join(out) + "\n" + used(IMPORTS, "\n".join(body)) + "\n" + "\n".join(body)
 
 
 def compare():

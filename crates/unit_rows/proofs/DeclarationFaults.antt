@@ -1,14 +1,12 @@
 -- Declarations that violate a rule (C99 6.7, 6.9).
 -- gcc 12.2.0 (-std=c99 -pedantic-errors -fsyntax-only) accepts or refuses the texts of all rows but of these as they
 -- do, which have a rule or limit that gcc has not: library_defined, large_array, extern_undefined.
-use Rattle.std.proofs.Common.{◌≡◌, true, false, [], ◌∷◌, Some, None, refl}
+use Rattle.std.proofs.Common.{◌≡◌, [], ◌∷◌, Some, None, refl}
 use Rattle.std.specs.Prelude.{codes}
 use Rattle.c_lexer.specs.declared.keyword.Keyword.TheVariants as keyword
-use Rattle.c_lexer.specs.declared.punctuator.Punctuator.TheVariants as sign
 use Rattle.c_syntax.specs.Statements as s
 use Rattle.c_syntax.specs.Tree as t
 use Rattle.c_rules.specs.declared.fault.Rule.TheVariants as rule
-use Rattle.c_unit_typing.specs.declared.limits.Limited.TheVariants as limited
 use Rattle.obj_memory.specs.Integers.{balanced_type, common_type, fit, is_signed, mixed_type, promoted, rank, size_of}
 use Rattle.obj_memory.specs.Integers.{unsigned_of}
 use Rattle.obj_memory.specs.Operators.{binary_value, shift_amount, unary_value}
@@ -36,8 +34,8 @@ use Rattle.c_current_object.specs.Subobjects.{element_number, member_number, num
 use Rattle.c_initializer_rules.specs.Initializing.{closed, opened, with_literal, with_value}
 use Rattle.c_initializer_rules.specs.Placed.{without}
 use Rattle.c_unit_typing.specs.Typed.{typed_unit}
-use Rattle.unit_rows.proofs.Sources.{accepted, at, bytes, declaration, declarators, designation, function, init_declarator}
-use Rattle.unit_rows.proofs.Sources.{large, number, other, refused, source, spelled, word}
+use Rattle.unit_rows.proofs.Sources.{at, declaration, declarators, function, init_declarator}
+use Rattle.unit_rows.proofs.Sources.{refused, source, spelled, word}
 
 -- static int a[];int main(void){return 0;}
 static_of_unknown_size :

@@ -8,7 +8,6 @@ use Rattle.c_lexer.specs.declared.punctuator.Punctuator.TheVariants as sign
 use Rattle.c_syntax.specs.Statements as s
 use Rattle.c_syntax.specs.Tree as t
 use Rattle.c_rules.specs.declared.fault.Rule.TheVariants as rule
-use Rattle.c_unit_typing.specs.declared.limits.Limited.TheVariants as limited
 use Rattle.obj_memory.specs.Integers.{balanced_type, common_type, fit, is_signed, mixed_type, promoted, rank, size_of}
 use Rattle.obj_memory.specs.Integers.{unsigned_of}
 use Rattle.obj_memory.specs.Operators.{binary_value, shift_amount, unary_value}
@@ -37,7 +36,7 @@ use Rattle.c_initializer_rules.specs.Initializing.{closed, opened, with_literal,
 use Rattle.c_initializer_rules.specs.Placed.{without}
 use Rattle.c_unit_typing.specs.Typed.{typed_unit}
 use Rattle.unit_rows.proofs.Sources.{accepted, at, bytes, declaration, declarators, designation, function, init_declarator}
-use Rattle.unit_rows.proofs.Sources.{large, number, other, refused, source, spelled, word}
+use Rattle.unit_rows.proofs.Sources.{number, other, refused, source, spelled, word}
 
 -- int a[2][2]={1,2,3};int main(void){return 0;}
 elided :

@@ -2,7 +2,7 @@
 -- gcc 12.2.0 (-std=c99 -pedantic-errors -fsyntax-only) accepts or refuses the texts of all rows but of these as they
 -- do, which have a rule or limit that gcc has not: no_main, main_only_declared, main_before_uses, first_use,
 -- use_in_an_initializer, globals, rounded, not_constant_first, parameters, parameters_before_globals.
-use Rattle.std.proofs.Common.{◌≡◌, true, false, [], ◌∷◌, Some, None, refl}
+use Rattle.std.proofs.Common.{◌≡◌, true, [], ◌∷◌, Some, None, refl}
 use Rattle.std.specs.Prelude.{codes}
 use Rattle.c_lexer.specs.declared.keyword.Keyword.TheVariants as keyword
 use Rattle.c_lexer.specs.declared.punctuator.Punctuator.TheVariants as sign
@@ -37,7 +37,7 @@ use Rattle.c_current_object.specs.Subobjects.{element_number, member_number, num
 use Rattle.c_initializer_rules.specs.Initializing.{closed, opened, with_literal, with_value}
 use Rattle.c_initializer_rules.specs.Placed.{without}
 use Rattle.c_unit_typing.specs.Typed.{typed_unit}
-use Rattle.unit_rows.proofs.Sources.{accepted, at, bytes, declaration, declarators, designation, function, init_declarator}
+use Rattle.unit_rows.proofs.Sources.{accepted, at, declaration, declarators, function, init_declarator}
 use Rattle.unit_rows.proofs.Sources.{large, number, other, refused, source, spelled, word}
 
 -- int x=

@@ -3,17 +3,16 @@ use Rattle.std.proofs.Common.{ℕ, Bool, List, [], ◌∷◌, Option, Some, None
 use Rattle.c_lexer.specs.declared.keyword.Keyword.{Keyword}
 use Rattle.c_syntax.specs.declared.position.Position.{Position}
 use Rattle.c_syntax.specs.declared.position.Spelled.{Spelled}
-use Rattle.c_syntax.specs.Statements.{Declaration, External, InitDeclarator, InitDeclarators, Unit}
+use Rattle.c_syntax.specs.Statements.{Declaration, External, InitDeclarator, InitDeclarators}
 use Rattle.c_syntax.specs.Tree.{Declarator, Designation, Designator, Initializer, Specifier, Specifiers}
 use Rattle.c_syntax.specs.Tree as t
 use Rattle.c_tree.specs.declared.program.Variable.{Variable}
 use Rattle.c_tree.specs.Blocks.{each_contents}
 use Rattle.c_tree.specs.Kinds.{size_of_kind}
-use Rattle.c_tree.specs.Programs.{Function, Program, StaticObject}
-use Rattle.c_tree.specs.Statements.{Content, Part, literal_content, value_content}
+use Rattle.c_tree.specs.Programs.{Function, StaticObject}
+use Rattle.c_tree.specs.Statements.{Content, literal_content, value_content}
 use Rattle.c_tree.specs.ValidProgram.{is_valid_program}
 use Rattle.c_const.specs.Integers.{constant_word}
-use Rattle.c_rules.specs.declared.fault.Fault.{Fault}
 use Rattle.c_rules.specs.declared.fault.Rule.{Rule}
 use Rattle.c_unit_typing.specs.declared.limits.Limited.{Limited}
 use Rattle.c_unit_typing.specs.Typed.{TypedUnit, a_fault, a_program, too_large, typed_unit}

@@ -1,5 +1,5 @@
 -- Words for the trees of the rows, and what the rows look at.
-use Rattle.std.proofs.Common.{ℕ, Bool, List, [], ◌∷◌, Option, Some, None, map}
+use Rattle.std.proofs.Common.{ℕ, Bool, List, Option, Some, None, map}
 use Rattle.c_lexer.specs.declared.keyword.Keyword.{Keyword}
 use Rattle.c_syntax.specs.declared.position.Position.{Position}
 use Rattle.c_syntax.specs.declared.position.Spelled.{Spelled}

@@ -1,6 +1,6 @@
 -- What comes next in objects that are open, from the innermost outward; and what an elided brace reaches, level by
 -- level.
-use Rattle.std.proofs.Common.{◌≡◌, ℕ, suc, true, false, cond, List, [], ◌∷◌, ◌++◌, Option, Some, None}
+use Rattle.std.proofs.Common.{◌≡◌, ℕ, suc, true, false, List, [], ◌∷◌, ◌++◌, Option, Some, None}
 use Rattle.std.proofs.Common.{sym, ap, ◌∙◌}
 use Rattle.c_tree.specs.Extents.{TypeExtent}
 use Rattle.c_current_object.specs.declared.current.CurrentObject.{CurrentObject}
@@ -11,7 +11,7 @@ use Rattle.c_current_object.specs.Members.{MemberLists}
 use Rattle.c_current_object.specs.Subobjects.{part}
 use Rattle.c_current_object.specs.Types.{fills}
 use Rattle.c_current_object.specs.CurrentObject.{first_part, innermost, next_in, open_behind, part_next}
-use Rattle.c_current_object.specs.CurrentObject.{reached_in}
+use Rattle.c_current_object.specs.CurrentObject.{reached_by, reached_in}
 
 module _ (structures : List (Option TypeExtent)) (members : MemberLists) where
   abbrev next_of : Open → Option CurrentObject
@@ -35,22 +35,20 @@ module _ (structures : List (Option TypeExtent)) (members : MemberLists) where
     pub reached_below : (m n : ℕ) (c : CurrentObject) → m ≡ suc n → fills filler c.object.c_type ≡ false
         → reached_in structures members m filler c
         ≡ reached_in structures members n filler (first_part members c (part structures members c.object 0))
-    unfolding reached_in
+    unfolding reached_in reached_by
     reached_below m n c is fits =
         ap (λ k. reached_in structures members k filler c) is
-        ∙ ap (λ b. cond b c (reached_in structures members n filler
-        (first_part members c (part structures members c.object 0)))) fits
+        ∙ ap (λ b. reached_by structures members (suc n) filler b c) fits
 
     pub reached_here : (m n : ℕ) (c : CurrentObject) → m ≡ suc n → fills filler c.object.c_type ≡ true
         → reached_in structures members m filler c ≡ c
-    unfolding reached_in
+    unfolding reached_in reached_by
     reached_here m n c is fits =
         ap (λ k. reached_in structures members k filler c) is
-        ∙ ap (λ b. cond b c (reached_in structures members n filler
-        (first_part members c (part structures members c.object 0)))) fits
+        ∙ ap (λ b. reached_by structures members (suc n) filler b c) fits
 
     pub reached_end : (m : ℕ) (c : CurrentObject) → m ≡ 0 → reached_in structures members m filler c ≡ c
-    unfolding reached_in
+    unfolding reached_in reached_by
     reached_end m c is = ap (λ k. reached_in structures members k filler c) is
 
   -- of some that are open, of which the last was taken out

@@ -1,5 +1,5 @@
 -- The current object (C99 6.7.8 paragraphs 17, 18 and 20): the subobject that the next initializer is for.
-use Rattle.std.specs.Prelude.{ℕ, zero, suc, ◌^◌, if◌then◌else◌, List, [], ◌∷◌, ◌++◌, Option, Some, None, Ok}
+use Rattle.std.specs.Prelude.{ℕ, zero, suc, ◌^◌, Bool, true, false, List, [], ◌∷◌, ◌++◌, Option, Some, None, Ok}
 use Rattle.c_tree.specs.Extents.{TypeExtent}
 use Rattle.c_rules.specs.declared.fault.Rule.TheVariants.{MisplacedItem}
 use Rattle.c_rules.specs.Answer.{Answer, violates}
@@ -52,12 +52,22 @@ abbrev pub first_part : MemberLists → CurrentObject → Option Subobject → C
 first_part members c None = c
 first_part members c (Some part) = part_within members c 0 part
 
+abbrev pub below : List (Option TypeExtent) → MemberLists → CurrentObject → CurrentObject
+below structures members c = first_part members c (part structures members c.object 0)
+
+-- where it is asked whether the initializer fills the current object
+unfoldable pub reached_by : List (Option TypeExtent) → MemberLists → (levels : ℕ) → Filler → (is_filled : Bool)
+    → CurrentObject → CurrentObject
+reached_by structures members zero filler is_filled c = c
+reached_by structures members (suc n) filler true c = c
+reached_by structures members (suc n) filler false c =
+    reached_by structures members n filler (fills filler (below structures members c).object.c_type)
+    (below structures members c)
+
 unfoldable pub reached_in : List (Option TypeExtent) → MemberLists → (levels : ℕ) → Filler → CurrentObject
     → CurrentObject
-reached_in structures members zero filler c = c
-reached_in structures members (suc n) filler c =
-    if fills filler c.object.c_type then c
-    else reached_in structures members n filler (first_part members c (part structures members c.object 0))
+reached_in structures members n filler c =
+    reached_by structures members n filler (fills filler c.object.c_type) c
 
 unfoldable pub reached : List (Option TypeExtent) → MemberLists → Filler → CurrentObject → CurrentObject
 reached structures members filler c = reached_in structures members most_levels filler c

@@ -80,17 +80,21 @@ module _ (c : Context) (d n : ℕ) where
       let s1 = effect c (Operate op.Sll d d (Number 20)) s in
       let here : s1.values d ≡ shifted_left 64 u 20 = put_same s.values d m ∙ ap (λ x. shifted_left 64 x 20) is_u in
       let is_bits : low_bits 64 bits ≡ bits = omega arith in
-      then_gives (Operate op.Sll d d (Number 20)) (Operate op.Add d d (Number bits) ∷ []) m v s tt (one_set n d m _ s)
-      ((tt, tt), is_value n d (sum 64 (s1.values d) (low_bits 64 bits)) v s1 _
-      (ap (λ x. sum 64 x (low_bits 64 bits)) here ∙ ap (sum 64 (shifted_left 64 u 20)) is_bits ∙ e)
-      (one_set n d _ _ s1))
+      then_gives (Operate op.Sll d d (Number 20)) (Operate op.Add d d (Number bits) ∷ []) m v s tt (one_set n d m _ s) (
+        (tt, tt),
+        is_value n d (sum 64 (s1.values d) (low_bits 64 bits)) v s1 _
+            (ap (λ x. sum 64 x (low_bits 64 bits)) here ∙ ap (sum 64 (shifted_left 64 u 20)) is_bits ∙ e)
+            (one_set n d _ _ s1),
+      )
 
   -- two lists one behind the other
   both_give : (is js : List FlatInstruction) (u v : ℕ) (s : State) → Gives is s u → Gives js (effects c is s) v
       → Gives (is ++ js) s v
-  both_give is js u v s g h =
-      (both_all c is js s g.0 h.0, subst (HasResult d v n s) (sym (effects_append c is js s))
-      (set_again n d u v s (effects c is s) (effects c js (effects c is s)) g.1 h.1))
+  both_give is js u v s g h = (
+    both_all c is js s g.0 h.0,
+    subst (HasResult d v n s) (sym (effects_append c is js s))
+        (set_again n d u v s (effects c is s) (effects c js (effects c is s)) g.1 h.1),
+  )
 
   pub constant_gives : (s : State) (word : ℕ) → word < 2 ^ 64 → Gives (constant_code d word) s word
   unfolding constant_code

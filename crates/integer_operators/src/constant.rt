@@ -56,11 +56,7 @@ fn put_wide(code: &mut Vec<FlatInstruction>, into: u32, word: u64) -> Result<(),
 
 /// Puts what gets a word into a register behind a list. It fails only for want of memory.
 #[tactic(auto, unfolding(crate::specs::Operators::constant_code))]
-pub fn put_constant(
-    code: &mut Vec<FlatInstruction>,
-    into: u32,
-    word: u64,
-) -> Result<(), AllocError>
+pub fn put_constant(code: &mut Vec<FlatInstruction>, into: u32, word: u64) -> Result<(), AllocError>
     ensures { OnOk result (code.new.items ≡ code.old.items ++ constant_code into word) }
 {
     if is_short(word) {

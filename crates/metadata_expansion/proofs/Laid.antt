@@ -21,7 +21,8 @@ use Rattle.metadata_expansion.specs.Numbering.{IsAmong}
 use Rattle.metadata_expansion.specs.Layout.{ArePlaces}
 use Rattle.metadata_expansion.proofs.Lists.{nothing_behind}
 
-pub drop_at : (is : List Instruction) (n : ℕ) (i : Instruction) → slice_get is n ≡ Some i → drop n is ≡ i ∷ drop (suc n) is
+pub drop_at : (is : List Instruction) (n : ℕ) (i : Instruction) → slice_get is n ≡ Some i
+    → drop n is ≡ i ∷ drop (suc n) is
 drop_at [] n i e = cc
 drop_at (x ∷ is) zero i e = let same : x ≡ i = cc in ap (λ z. z ∷ is) same
 drop_at (x ∷ is) (suc n) i e = drop_at is n i e
@@ -122,7 +123,8 @@ none_placed m t c place e =
     let first : place ≡ begin_size operators m t c + 0 = omega arith in
     record {
       list = ap (λ is. places_from m t c (length c.code - 0) is) (sym none);
-      place = first ∙ ap (λ is. begin_size operators m t c + size_from operators m t c (length c.code - 0) is) (sym none);
+      place = first
+          ∙ ap (λ is. begin_size operators m t c + size_from operators m t c (length c.code - 0) is) (sym none);
     }
 
 pub one_placed : (m : MapSizes) (t : Tac) (c : CodeFunction) (xs : List ℕ) (p b n : ℕ) (i : Instruction)

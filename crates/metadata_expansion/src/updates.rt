@@ -111,8 +111,8 @@ fn put_arithmetic(
     requires into { to < most_temporaries function.now.code }
     requires right { right_count right ≤ most_temporaries function.now.code }
     ensures { OnOk result (code.new.items ≡ code.old.items
-        ++ update_code operators function.now (Arithmetic operation.operator operation.operands) (Integer int_type) fixity
-        operation.line to variable right) }
+        ++ update_code operators function.now (Arithmetic operation.operator operation.operands)
+        (Integer int_type) fixity operation.line to variable right) }
 {
     let Operation {
         operator,

@@ -3,6 +3,7 @@ use Rattle.std.proofs.Common.{◌≡◌, ◌⊎◌, inl, inr, ⊎_elim, ℕ, zer
 use Rattle.std.proofs.Common.{sym, ap, ◌∙◌, subst}
 use Rattle.std.specs.Prelude.{slice_get, ◌==◌, ◌||◌}
 use Rattle.std.proofs.lemmas.Bool.{eqb-true, eqb-false, or_cases}
+use Rattle.std.proofs.lemmas.Option.{same_Some}
 use Rattle.tac_ir.specs.declared.instruction.Instruction.{Instruction}
 use Rattle.tac_ir.specs.Edges.{LeadsTo}
 use Rattle.temporary_liveness.specs.Liveness.{LiveWithin, reads, writes}
@@ -17,13 +18,6 @@ None_of y = ⊥
 -- one more
 abbrev pub And : Temporaries → ℕ → Temporaries
 And P d y = P y ⊎ (y ≡ d)
-
-abbrev value_or : {A : Type 0} → A → Option A → A
-value_or x None = x
-value_or x (Some y) = y
-
-some_is : {A : Type 0} (x y : A) → Some x ≡ Some y → x ≡ y
-some_is x y e = ap (value_or x) e
 
 module _ (code : List Instruction) where
   -- only these may be live at a node within so many steps
@@ -47,7 +41,7 @@ module _ (code : List Instruction) where
       → ((m : ℕ) → LeadsTo i m → Only Q k m) → Only P (suc k) n
   unfolding LiveWithin
   stepped P Q i k n holds read kept on = record {
-    at = λ y l. let same : l.0 ≡ i = some_is l.0 i (sym l.1 ∙ holds) in
+    at = λ y l. let same : l.0 ≡ i = same_Some l.0 i (sym l.1 ∙ holds) in
         ⊎_elim (λ r. read y (subst (λ j. reads j y ≡ true) same r))
         (λ w. kept y ((on w.1 (subst (λ j. LeadsTo j w.1) same w.2)).at y w.3)
         (subst (λ j. writes j y ≡ false) same w.0)) l.2;

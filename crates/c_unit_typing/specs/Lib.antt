@@ -1,0 +1,10 @@
+pub mod Lines
+pub mod Initializers
+pub mod Files
+pub mod Declarations
+pub mod Constructs
+pub mod Statements
+pub mod Units
+pub mod Programs
+pub mod Counts
+pub mod Typed

@@ -1,0 +1,4 @@
+pub mod Safe
+pub mod Values
+pub mod Statements
+pub mod Programs

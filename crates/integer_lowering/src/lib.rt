@@ -1,0 +1,4 @@
+//! Programs of integers, lowered: laws alone.
+#![tactic(auto)]
+
+pub mod laws;

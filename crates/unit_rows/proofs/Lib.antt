@@ -1,0 +1,6 @@
+mod Sources
+mod Initializers
+mod Declarations
+mod DeclarationFaults
+mod Statements
+mod Orders

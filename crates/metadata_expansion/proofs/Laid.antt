@@ -14,7 +14,7 @@ use Rattle.metadata_plan.specs.Registers.{most_temporaries}
 use Rattle.metadata_plan.specs.Blocks.{block}
 use Rattle.metadata_plan.specs.Laid.{begin_size, jumps, laid_from, place_of, size_at, size_from}
 use Rattle.metadata_expansion.specs.declared.layout.Places.{Places}
-use Rattle.metadata_expansion.specs.Operators.{operators}
+use Rattle.integer_code.specs.Operators.{operators}
 use Rattle.metadata_expansion.specs.Homes.{argument_count, most_arguments}
 use Rattle.metadata_expansion.specs.Numbers.{callee, greatest_callee, AreSmall}
 use Rattle.metadata_expansion.specs.Numbering.{IsAmong}
@@ -171,7 +171,7 @@ all_placed m t c xs p b r le h same begin =
 abbrev pub node_code : MapSizes → Tac → CodeFunction → (node : ℕ) → Instruction → List FlatInstruction
 node_code m t c n i =
     block operators m t c i
-    ++ jumps (place_of operators m t c) n (place_of operators m t c n + length (block operators m t c i)) (successors i)
+    ++ jumps c (place_of operators m t c) n (place_of operators m t c n + length (block operators m t c i)) (successors i)
 
 -- the code of so many nodes stands, from the last down
 pub record HaveCode (m : MapSizes) (t : Tac) (c : CodeFunction) (before now : List FlatInstruction) (behind : ℕ)

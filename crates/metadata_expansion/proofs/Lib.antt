@@ -1,3 +1,4 @@
 pub mod Lists
 pub mod Laid
 pub mod Small
+pub mod Counting

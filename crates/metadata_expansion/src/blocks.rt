@@ -4,7 +4,7 @@ ghost use Rattle.std.specs.Prelude.{◌≡◌, ℕ, ◌+◌, ◌<◌, ◌≤◌,
 ghost use Rattle.flat_meaning.specs.declared.instruction.FlatInstruction.TheVariants.{Branch as Choice};
 ghost use Rattle.metadata_plan.specs.Blocks.{block, conversion, library_code};
 ghost use Rattle.metadata_expansion.specs.Numbering.{AreRegisters, IsAmong};
-ghost use Rattle.metadata_expansion.specs.Operators.{operators};
+ghost use Rattle.integer_code.specs.Operators.{operators};
 
 use crate::calls::put_call;
 use crate::list::put;

@@ -1,17 +1,20 @@
 //! The body of a function: the prologue, and the blocks with jumps between them, that of the last node first.
 
-ghost use Rattle.std.specs.Prelude.{◌≡◌, ◌+◌, ◌<◌, ◌≤◌, ◌^◌, ◌++◌, if◌then◌else◌, [], length, true, OnOk, IfOk};
+ghost use Rattle.std.specs.Prelude.{◌≡◌, ◌+◌, ◌<◌, ◌≤◌, ◌^◌, ◌++◌, if◌then◌else◌};
+ghost use Rattle.std.specs.Prelude.{[], length, true, OnOk, IfOk};
 ghost use Rattle.tac_ir.specs.Edges.{successors};
 ghost use Rattle.metadata_plan.specs.Registers.{words_of, words_in};
 ghost use Rattle.metadata_plan.specs.Blocks.{block, prologue, zero_variables, zeros};
 ghost use Rattle.metadata_plan.specs.Laid.{begin_code, body_of, jumps, laid_from, place_of};
 ghost use Rattle.metadata_expansion.specs.Numbering.{AreRegisters, IsAmong};
 ghost use Rattle.metadata_expansion.specs.Numbers.{AreSmall};
-ghost use Rattle.metadata_expansion.specs.Operators.{operators};
+ghost use Rattle.integer_code.specs.Operators.{operators};
+ghost use Rattle.metadata_expansion.specs.Joins.{AreJoins};
 ghost use Rattle.metadata_expansion.specs.Layout.{ArePlaces};
 ghost use Rattle.metadata_expansion.specs.Ways.{nodes_of};
 
 use crate::blocks::put_block;
+use crate::joins::Joins;
 use crate::jumps::{Ways, follows, jump, put_jump, ways_of};
 use crate::layout::{Places, instruction_at, placed};
 use crate::list::put;
@@ -94,26 +97,29 @@ fn put_jumps(
     program: &Tac,
     function: &CodeFunction,
     places: &Places,
+    joins: &Joins,
     node: usize,
     ways: Ways,
     place: u32,
 ) -> Result<(), AllocError>
     requires places { ArePlaces places.now sizes.now program.now function.now }
+    requires joins { AreJoins joins.now function.now }
+    requires inside { node ≤ length function.now.code }
     requires small { place + 1 < 2 ^ 32 }
     ensures { OnOk result (code.new.items ≡ code.old.items
-        ++ jumps (place_of operators sizes.now program.now function.now) node place (nodes_of ways)) }
+        ++ jumps function.now (place_of operators sizes.now program.now function.now) node place (nodes_of ways)) }
 {
     match ways {
         Ways::Nowhere => Ok(()),
         Ways::To(next) => {
             let to = places.of(sizes, program, function, next);
-            put_jump(code, node, next, place, to)
+            put_jump(code, joins.falls(function, node, next), place, to)
         }
         Ways::Either(first, second) => {
             let to = places.of(sizes, program, function, second);
             put(code, jump(place, to))?;
             let to = places.of(sizes, program, function, first);
-            put_jump(code, node, first, place + 1, to)
+            put_jump(code, joins.falls(function, node, first), place + 1, to)
         }
     }
 }
@@ -126,17 +132,20 @@ fn put_node(
     function: &CodeFunction,
     registers: &Registers,
     places: &Places,
+    joins: &Joins,
     node: usize,
     instruction: &Instruction,
 ) -> Result<(), AllocError>
     requires registers { AreRegisters registers.now function.now }
     requires among { IsAmong function.now instruction.now }
     requires places { ArePlaces places.now sizes.now program.now function.now }
+    requires joins { AreJoins joins.now function.now }
+    requires inside { node ≤ length function.now.code }
     requires small { place_of operators sizes.now program.now function.now node
         + length (block operators sizes.now program.now function.now instruction.now) < 2 ^ 31 }
     ensures { OnOk result (code.new.items ≡ code.old.items
         ++ (block operators sizes.now program.now function.now instruction.now
-        ++ jumps (place_of operators sizes.now program.now function.now) node
+        ++ jumps function.now (place_of operators sizes.now program.now function.now) node
         (place_of operators sizes.now program.now function.now node
         + length (block operators sizes.now program.now function.now instruction.now))
         (successors instruction.now))) }
@@ -151,6 +160,7 @@ fn put_node(
         program,
         function,
         places,
+        joins,
         node,
         ways_of(instruction),
         place,
@@ -165,9 +175,11 @@ fn put_nodes(
     function: &CodeFunction,
     registers: &Registers,
     places: &Places,
+    joins: &Joins,
 ) -> Result<(), AllocError>
     requires registers { AreRegisters registers.now function.now }
     requires small { AreSmall sizes.now program.now function.now }
+    requires joins { AreJoins joins.now function.now }
     requires places { ArePlaces places.now sizes.now program.now function.now }
     ensures { OnOk result (code.new.items ≡ code.old.items
         ++ laid_from operators sizes.now program.now function.now 0 function.now.code) }
@@ -183,6 +195,7 @@ fn put_nodes(
             function,
             registers,
             places,
+            joins,
             node,
             instruction,
         )?;
@@ -208,7 +221,7 @@ fn put_begin(
     put_prologue(code, function)?;
     let count = function.code.as_slice().len();
     let to = places.of(sizes, program, function, function.entry);
-    put_jump(code, count, function.entry, behind, to)
+    put_jump(code, follows(count, function.entry), behind, to)
 }
 
 /// Puts the body of a function behind a list. It fails only for want of memory.
@@ -225,10 +238,19 @@ pub fn put_body(
     ensures { OnOk result (code.new.items ≡ code.old.items
         ++ body_of operators sizes.now program.now function.now) }
 {
+    let joins = Joins::new(alloc, function)?;
     let behind = prologue_size(alloc, function)? as u32;
     let count = function.code.as_slice().len();
     let jumps = if follows(count, function.entry) { 0 } else { 1 };
-    let places = placed(alloc, sizes, program, function, registers, behind + jumps)?;
+    let places = placed(
+        alloc,
+        sizes,
+        program,
+        function,
+        registers,
+        &joins,
+        behind + jumps,
+    )?;
     put_begin(code, sizes, program, function, &places, behind)?;
-    put_nodes(code, sizes, program, function, registers, &places)
+    put_nodes(code, sizes, program, function, registers, &places, &joins)
 }

@@ -1,14 +1,17 @@
 //! What stands behind a block.
 
-ghost use Rattle.std.specs.Prelude.{◌≡◌, ◌+◌, ◌<◌, ◌≤◌, ◌^◌, ◌==◌, ◌++◌, [], ◌∷◌, length, OnOk};
+ghost use Rattle.std.specs.Prelude.{◌≡◌, ◌+◌, ◌==◌, ◌≤◌, ◌++◌};
+ghost use Rattle.std.specs.Prelude.{length, OnOk, if◌then◌else◌};
 ghost use Rattle.tac_ir.specs.Edges.{successors};
-ghost use Rattle.metadata_plan.specs.Laid.{jump, jump_unless_next, jump_count};
+ghost use Rattle.metadata_plan.specs.Laid.{jump, jump_unless, jump_count};
+ghost use Rattle.metadata_expansion.specs.Joins.{AreJoins};
 ghost use Rattle.metadata_expansion.specs.Ways.{nodes_of};
 
+use crate::joins::Joins;
 use crate::list::put;
 use flat_meaning::FlatInstruction;
 use std::alloc::AllocError;
-use tac_ir::Instruction;
+use tac_ir::{CodeFunction, Instruction};
 
 /// Where a run goes behind an instruction: the nodes that it leads to.
 #[derive(Clone, Copy)]
@@ -62,22 +65,31 @@ pub fn ways_of(instruction: &Instruction) -> Ways
     }
 }
 
-/// Whether the block of a node follows that of the node that comes next.
+/// Whether a node is the one behind another.
 pub fn follows(node: usize, next: usize) -> bool
     ensures { result ≡ (next + 1 == node) }
 {
     next as u128 + 1 == node as u128
 }
 
+// How many jumps stand where code falls or not.
+fn unless(fallen: bool) -> u32
+    ensures { result ≡ (if fallen then 0 else 1) }
+{
+    if fallen { 0 } else { 1 }
+}
+
 /// How many jumps stand behind the block of a node.
-pub fn jump_count(node: usize, ways: Ways) -> u32
-    ensures value { result ≡ jump_count node (nodes_of ways) }
+pub fn jump_count(function: &CodeFunction, joins: &Joins, node: usize, ways: Ways) -> u32
+    requires joins { AreJoins joins.now function.now }
+    requires inside { node ≤ length function.now.code }
+    ensures value { result ≡ jump_count function.now node (nodes_of ways) }
     ensures few { result ≤ 2 }
 {
     match ways {
         Ways::Nowhere => 0,
-        Ways::To(next) => { if follows(node, next) { 0 } else { 1 } }
-        Ways::Either(first, _) => { if follows(node, first) { 1 } else { 2 } }
+        Ways::To(next) => unless(joins.falls(function, node, next)),
+        Ways::Either(first, _) => 1 + unless(joins.falls(function, node, first)),
     }
 }
 
@@ -94,17 +106,16 @@ pub fn jump(from: u32, to: u32) -> FlatInstruction
     }
 }
 
-/// Puts a jump from a place to that of a node behind a list, unless the node's block follows that of the node before.
+/// Puts a jump from a place to another behind a list, unless code falls there.
 pub fn put_jump(
     code: &mut Vec<FlatInstruction>,
-    node: usize,
-    next: usize,
+    fallen: bool,
     from: u32,
     to: u32,
 ) -> Result<(), AllocError>
-    ensures { OnOk result (code.new.items ≡ code.old.items ++ jump_unless_next node next from to) }
+    ensures { OnOk result (code.new.items ≡ code.old.items ++ jump_unless fallen from to) }
 {
-    if follows(node, next) {
+    if fallen {
         return Ok(());
     }
     put(code, jump(from, to))

@@ -5,10 +5,12 @@ ghost use Rattle.metadata_plan.specs.Blocks.{block, prologue};
 ghost use Rattle.metadata_plan.specs.Laid.{begin_size, place_of, size_at, size_from};
 ghost use Rattle.metadata_expansion.specs.Numbering.{AreRegisters, IsAmong};
 ghost use Rattle.metadata_expansion.specs.Numbers.{AreSmall};
-ghost use Rattle.metadata_expansion.specs.Operators.{operators};
+ghost use Rattle.integer_code.specs.Operators.{operators};
+ghost use Rattle.metadata_expansion.specs.Joins.{AreJoins};
 ghost use Rattle.metadata_expansion.specs.Layout.{ArePlaces};
 
 use crate::blocks::put_block;
+use crate::joins::Joins;
 use crate::jumps::{jump_count, ways_of};
 use crate::registers::Registers;
 use addr_map::AddrMap;
@@ -50,17 +52,20 @@ pub(crate) fn node_size(
     program: &Tac,
     function: &CodeFunction,
     registers: &Registers,
+    joins: &Joins,
     node: usize,
     instruction: &Instruction,
 ) -> Result<u128, AllocError>
     requires registers { AreRegisters registers.now function.now }
+    requires joins { AreJoins joins.now function.now }
+    requires inside { node ≤ length function.now.code }
     requires among { IsAmong function.now instruction.now }
     ensures value { IfOk result
         (λ n. n ≡ size_at operators sizes.now program.now function.now node instruction.now) }
     ensures few { IfOk result (λ n. n < 2 ^ 65) }
 {
     let size = block_size(alloc, sizes, program, function, registers, instruction)?;
-    Ok(size as u128 + u128::from(jump_count(node, ways_of(instruction))))
+    Ok(size as u128 + u128::from(jump_count(function, joins, node, ways_of(instruction))))
 }
 
 /// The place of each node of a function.
@@ -94,9 +99,11 @@ pub fn placed(
     program: &Tac,
     function: &CodeFunction,
     registers: &Registers,
+    joins: &Joins,
     begin: u32,
 ) -> Result<Places, AllocError>
     requires registers { AreRegisters registers.now function.now }
+    requires joins { AreJoins joins.now function.now }
     requires small { AreSmall sizes.now program.now function.now }
     requires begin { begin ≡ begin_size operators sizes.now program.now function.now }
     ensures { IfOk result (λ places. ArePlaces places sizes.now program.now function.now) }
@@ -114,6 +121,7 @@ pub fn placed(
             program,
             function,
             registers,
+            joins,
             node,
             instruction,
         )?;

@@ -1,13 +1,14 @@
 //! From checked three-address code of integer programs to flat code: the expansion, in code.
 //!
 //! `metadata_plan` says what the expansion of a program is, and that it follows the program; here it is made, with the
-//! operators of `integer_operators` (`specs/Operators`) and homes for the virtual registers (`specs/Homes`).
+//! operators of `integer_code` and homes for the virtual registers (`specs/Homes`).
 #![tactic(auto)]
 
 pub mod blocks;
 pub mod body;
 pub mod calls;
 pub mod homes;
+pub mod joins;
 pub mod jumps;
 pub mod layout;
 mod list;

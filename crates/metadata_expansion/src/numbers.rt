@@ -1,6 +1,7 @@
 //! Whether the numbers of an expansion fit the instructions of flat code.
 
-ghost use Rattle.std.specs.Prelude.{◌≡◌, ℕ, ◌↔◌, max, ◌+◌, ◌*◌, ◌<◌, ◌≤◌, ◌^◌, length, Some, slice_get, IfOk, IsTrue};
+ghost use Rattle.std.specs.Prelude.{◌≡◌, ℕ, ◌↔◌, max, ◌+◌, ◌*◌, ◌<◌, ◌≤◌};
+ghost use Rattle.std.specs.Prelude.{◌^◌, length, Some, slice_get, IfOk, IsTrue};
 ghost use Rattle.metadata_plan.specs.Registers.{most_temporaries, words_in};
 ghost use Rattle.metadata_expansion.specs.Numbering.{AreRegisters};
 ghost use Rattle.metadata_expansion.specs.Numbers.{AreAllSmall, AreSmall, body_size, callee, greatest_callee};
@@ -8,6 +9,7 @@ ghost use Rattle.metadata_expansion.specs.Numbers.{register_count};
 
 use crate::body::prologue_size;
 use crate::homes::{free_count, greater};
+use crate::joins::Joins;
 use crate::jumps::follows;
 use crate::layout::{instruction_at, node_size};
 use crate::registers::{Registers, most_temporaries, words_of};
@@ -84,6 +86,7 @@ fn is_short(
         (λ short. IsTrue short ↔ (body_size sizes.now program.now function.now < 2 ^ 31)) }
 {
     let registers = Registers::new(alloc, function)?;
+    let joins = Joins::new(alloc, function)?;
     let count = function.code.as_slice().len();
     let mut size = prologue_size(alloc, function)? as u128;
     if !follows(count, function.entry) {
@@ -100,6 +103,7 @@ fn is_short(
             program,
             function,
             &registers,
+            &joins,
             node,
             instruction,
         )?;

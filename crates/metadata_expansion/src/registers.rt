@@ -1,6 +1,7 @@
 //! The numbers of the virtual registers of a function.
 
-ghost use Rattle.std.specs.Prelude.{◌≡◌, ℕ, ◌+◌, ◌*◌, ◌<◌, ◌≤◌, ◌^◌, ◌++◌, max, length, OnOk, IfOk};
+ghost use Rattle.std.specs.Prelude.{◌≡◌, ℕ, ◌+◌, ◌*◌, ◌<◌, ◌≤◌, ◌^◌};
+ghost use Rattle.std.specs.Prelude.{◌++◌, max, length, OnOk, IfOk};
 ghost use Rattle.tac_ir.specs.Temporaries.{temporaries, right_count, call_count};
 ghost use Rattle.metadata_plan.specs.Registers.{words_of, words_in, variable_register, temporary_register, first_free};
 ghost use Rattle.metadata_plan.specs.Registers.{all_variables, most_temporaries};

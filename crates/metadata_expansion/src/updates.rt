@@ -7,7 +7,7 @@ ghost use Rattle.tac_ir.specs.Temporaries.{right_count};
 ghost use Rattle.metadata_plan.specs.Registers.{most_temporaries};
 ghost use Rattle.metadata_plan.specs.Blocks.{kept_by, right_code, right_register, update_code};
 ghost use Rattle.metadata_expansion.specs.Numbering.{AreRegisters};
-ghost use Rattle.metadata_expansion.specs.Operators.{operators};
+ghost use Rattle.integer_code.specs.Operators.{operators};
 
 use crate::list::put;
 use crate::registers::Registers;

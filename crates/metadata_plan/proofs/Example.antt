@@ -45,7 +45,7 @@ use Rattle.metadata_plan.specs.Operators.{OperatorCode}
 use Rattle.metadata_plan.specs.Blocks.{entry_code}
 use Rattle.metadata_plan.specs.Expanded.{Falls, Forward, Back, IsPut, IsExpandedFunction, ExpandsAt}
 use Rattle.metadata_plan.specs.Expanded.{IsExpanded}
-use Rattle.metadata_plan.specs.Laid.{place_of, body_of}
+use Rattle.metadata_plan.specs.Laid.{falls, place_of, body_of}
 use Rattle.tac_ir.specs.Edges.{IsAmong, successors}
 use Rattle.std.proofs.lemmas.Option.{same_Some, none-some}
 use Rattle.metadata_plan.specs.Part.{SafeWithin, IsIntegerFunction, IsIntegerCode, is_integer_instruction}
@@ -137,6 +137,7 @@ flat_main = record {
   body = flat.Constant 0 0
       ∷ flat.Constant 1 0
       ∷ flat.Move 0 1
+      ∷ flat.JumpForward 0
       ∷ flat.Move 1 0
       ∷ flat.Constant 6 4
       ∷ flat.Operate Xor 1 1 (Register 6)
@@ -189,7 +190,7 @@ expansion = record { functions = flat_main ∷ flat_next ∷ entry ∷ []; entry
 
 -- the place of each node
 abbrev address : (function node : ℕ) → ℕ
-address zero n = get_or (26 ∷ 25 ∷ 19 ∷ 18 ∷ 12 ∷ 11 ∷ 10 ∷ 8 ∷ 5 ∷ 4 ∷ 3 ∷ 2 ∷ 1 ∷ []) n 1
+address zero n = get_or (27 ∷ 26 ∷ 20 ∷ 19 ∷ 13 ∷ 12 ∷ 11 ∷ 9 ∷ 6 ∷ 5 ∷ 4 ∷ 2 ∷ 1 ∷ []) n 1
 address (suc u) n = get_or (3 ∷ 2 ∷ 1 ∷ 0 ∷ []) n 0
 
 -- ---- what the law asks
@@ -302,7 +303,7 @@ main_put = (
                     (
                       record { has = (refl, tt); leads = Falls refl },
                       (
-                        record { has = (refl, tt); leads = Falls refl },
+                        record { has = (refl, tt); leads = Forward 0 refl refl },
                         (
                           record { has = (refl, tt); leads = Falls refl },
                           tt,
@@ -371,14 +372,14 @@ is_expanded = record {
 
 -- the blocks laid one behind the other are these
 main_laid : body_of operators setting.sizes program main ≡ flat_main.body
-unfolding place_of
+unfolding place_of falls
 main_laid = refl
 
 next_laid : body_of operators setting.sizes program next ≡ flat_next.body
-unfolding place_of
+unfolding place_of falls
 next_laid = refl
 
--- ---- both runs, by computation: `main` gives 4, for 40 and 119 units of work
+-- ---- both runs, by computation: `main` gives 4, for 40 and 120 units of work
 
 abbrev ended : (turns work : ℕ) → Moment
 ended turns work = record {
@@ -391,6 +392,6 @@ tac_run : tac_meaning program default_sizes [] 40 ≡ ended 5 40
 unfolding int_wrap binary_value fit region_size region_start
 tac_run = refl
 
-flat_run : flat_meaning setting.sizes expansion (λ a. 0) [] 90 ≡ ended 7 119
+flat_run : flat_meaning setting.sizes expansion (λ a. 0) [] 90 ≡ ended 7 120
 unfolding put rooms branch_taken reg_result reg32_result region_size
 flat_run = refl

@@ -1,8 +1,8 @@
 -- Blocks that are laid one behind the other make an expansion.
 use Rattle.std.proofs.Common.{◌≡◌, ℕ, zero, suc, ◌+◌, ◌-◌, ◌<◌, ◌≤◌, refl, sym, ap, ◌∙◌, subst, arith, Bool, true, false}
 use Rattle.std.proofs.Common.{List, [], ◌∷◌, ◌++◌, length, length-append, append_assoc, append-nil, drop, Some}
-use Rattle.std.proofs.Common.{ltb-true, ltb-false, eq-eqb}
-use Rattle.std.specs.Prelude.{slice_get, nat_lt, ◌==◌, if◌then◌else◌}
+use Rattle.std.proofs.Common.{ltb-true, ltb-false}
+use Rattle.std.specs.Prelude.{slice_get, nat_lt, ◌==◌, not, ◌&&◌, if◌then◌else◌}
 use Rattle.std.proofs.Math.Seq.{get_or-append_seam}
 use Rattle.std.proofs.lemmas.Option.{slice_get-get_or}
 use Rattle.std.proofs.lemmas.Bool.{eqb-true}
@@ -20,8 +20,8 @@ use Rattle.metadata_plan.specs.Operators.{OperatorCode}
 use Rattle.metadata_plan.specs.Blocks.{block, prologue}
 use Rattle.metadata_plan.specs.Expanded.{Leads, Falls, Forward, Back, LeadOn, IsPut, IsExpandedFunction, ExpandsAt}
 use Rattle.metadata_plan.specs.Expanded.{EntersAt, IsExpanded}
-use Rattle.metadata_plan.specs.Laid.{jump, jump_unless_next, jumps, jump_count, size_at, size_from, begin_size, place_of}
-use Rattle.metadata_plan.specs.Laid.{laid_from, begin_code, body_of, function_of, functions_of, entry_of, address_of}
+use Rattle.metadata_plan.specs.Laid.{jump, jump_unless, falls, is_join, jumps, jump_count, size_at, size_from}
+use Rattle.metadata_plan.specs.Laid.{begin_size, place_of, laid_from, begin_code, body_of, function_of, functions_of, entry_of, address_of}
 use Rattle.metadata_plan.specs.Laid.{place_in, program_of}
 
 -- ---- what stands in a list
@@ -46,27 +46,30 @@ jump_leads body p q at = by (nat_lt p q) refl
     by false e = let le = ltb-false p q e in
         Back (p - q) (at ∙ ap (λ b. Some (if b then JumpForward (q - (p + 1)) else JumpBack (p - q))) e) (omega arith)
 
+falls_to_next : (c : CodeFunction) (n next : ℕ) → falls c n next ≡ true → next + 1 ≡ n
+unfolding falls
+falls_to_next c n next e = by (next + 1 == n) refl e
+  where
+    by : (b : Bool) → (next + 1 == n) ≡ b → (b && not (is_join c next)) ≡ true → next + 1 ≡ n
+    by true e fallen = eqb-true (next + 1) n e
+    by false e fallen = cc
+
 -- to the next node the code falls, or a jump leads there
-unless_leads : (body : List FlatInstruction) (n next p q : ℕ) → HasAt body p (jump_unless_next n next p q)
-    → (next + 1 ≡ n → p ≡ q) → Leads body p q
-unless_leads body n next p q has falls = by (next + 1 == n) refl
-  where
-    by : (b : Bool) → (next + 1 == n) ≡ b → Leads body p q
-    by true e = Falls (falls (eqb-true (next + 1) n e))
-    by false e = jump_leads body p q (subst (λ z. HasAt body p (if z then [] else jump p q ∷ [])) e has).0
+unless_leads : (body : List FlatInstruction) (fallen : Bool) (p q : ℕ) → HasAt body p (jump_unless fallen p q)
+    → (fallen ≡ true → p ≡ q) → Leads body p q
+unless_leads body true p q has there = Falls (there refl)
+unless_leads body false p q has there = jump_leads body p q has.0
 
-unless_length : (n next p q : ℕ) → length (jump_unless_next n next p q) ≡ (if next + 1 == n then 0 else 1)
-unless_length n next p q = by (next + 1 == n)
-  where
-    by : (b : Bool) → length (if b then [] else jump p q ∷ []) ≡ (if b then 0 else 1)
-    by true = refl
-    by false = refl
+unless_length : (fallen : Bool) (p q : ℕ) → length (jump_unless fallen p q) ≡ (if fallen then 0 else 1)
+unless_length true p q = refl
+unless_length false p q = refl
 
-jumps_length : (address : ℕ → ℕ) (n pc : ℕ) (ns : List ℕ) → length (jumps address n pc ns) ≡ jump_count n ns
-jumps_length address n pc [] = refl
-jumps_length address n pc (x ∷ []) = unless_length n x pc (address x)
-jumps_length address n pc (x ∷ y ∷ ns) =
-    let e = unless_length n x (pc + 1) (address x) in
+jumps_length : (c : CodeFunction) (address : ℕ → ℕ) (n pc : ℕ) (ns : List ℕ)
+    → length (jumps c address n pc ns) ≡ jump_count c n ns
+jumps_length c address n pc [] = refl
+jumps_length c address n pc (x ∷ []) = unless_length (falls c n x) pc (address x)
+jumps_length c address n pc (x ∷ y ∷ ns) =
+    let e = unless_length (falls c n x) (pc + 1) (address x) in
     omega arith
 
 drop_past : (is : List Instruction) (n : ℕ) → length is ≤ n → drop n is ≡ []
@@ -83,9 +86,6 @@ drop_at (x ∷ is) (suc n) i e = drop_at is n i e
 abbrev one_unless : Bool → ℕ
 one_unless b = if b then 0 else 1
 
-none_between : (a b : ℕ) → a ≡ b → one_unless (a == b) ≡ 0
-none_between a b e = ap one_unless (eq-eqb a b e)
-
 module _ (o : OperatorCode) (m : MapSizes) (t : Tac) (c : CodeFunction) where
   abbrev place : ℕ → ℕ
   place = place_of o m t c
@@ -93,13 +93,13 @@ module _ (o : OperatorCode) (m : MapSizes) (t : Tac) (c : CodeFunction) where
   abbrev part_of : (node : ℕ) → Instruction → List FlatInstruction
   part_of n i =
       block o m t c i
-      ++ jumps (place_of o m t c) n (place_of o m t c n + length (block o m t c i)) (successors i)
+      ++ jumps c (place_of o m t c) n (place_of o m t c n + length (block o m t c i)) (successors i)
 
   part_length : (n : ℕ) (i : Instruction) → length (part_of n i) ≡ size_at o m t c n i
   part_length n i =
       let b = block o m t c i in
-      let js = jumps (place_of o m t c) n (place_of o m t c n + length b) (successors i) in
-      omega (arith, length-append b js, jumps_length (place_of o m t c) n (place_of o m t c n + length b) (successors i))
+      let js = jumps c (place_of o m t c) n (place_of o m t c n + length b) (successors i) in
+      omega (arith, length-append b js, jumps_length c (place_of o m t c) n (place_of o m t c n + length b) (successors i))
 
   laid_length : (n : ℕ) (is : List Instruction) → length (laid_from o m t c n is) ≡ size_from o m t c n is
   laid_length n [] = refl
@@ -196,32 +196,32 @@ module _ (o : OperatorCode) (m : MapSizes) (t : Tac) (c : CodeFunction) where
 
   leads : (n : ℕ) (i : Instruction) → slice_get c.code n ≡ Some i → (ns : List ℕ) → successors i ≡ ns
       → HasAt (body_of o m t c) (place_of o m t c n + length (block o m t c i))
-      (jumps (place_of o m t c) n (place_of o m t c n + length (block o m t c i)) ns)
+      (jumps c (place_of o m t c) n (place_of o m t c n + length (block o m t c i)) ns)
       → LeadOn (body_of o m t c) (place_of o m t c) (place_of o m t c n + length (block o m t c i)) ns
   leads n i e [] is has = tt
   leads n i e (x ∷ []) is has =
-      unless_leads (body_of o m t c) n x (place_of o m t c n + length (block o m t c i)) (place_of o m t c x) has
-      (λ next. falls next (next_place n i e x next))
+      unless_leads (body_of o m t c) (falls c n x) (place_of o m t c n + length (block o m t c i)) (place_of o m t c x) has
+      (λ fallen. behind fallen (next_place n i e x (falls_to_next c n x fallen)))
     where
-      falls : x + 1 ≡ n → place_of o m t c x ≡ place_of o m t c n + size_at o m t c n i
+      behind : falls c n x ≡ true → place_of o m t c x ≡ place_of o m t c n + size_at o m t c n i
           → place_of o m t c n + length (block o m t c i) ≡ place_of o m t c x
-      falls next at =
-          let count : jump_count n (successors i) ≡ (if x + 1 == n then 0 else 1) = ap (jump_count n) is in
-          let none = none_between (x + 1) n next in
-          let size : size_at o m t c n i ≡ length (block o m t c i) + jump_count n (successors i) = refl in
+      behind fallen at =
+          let count : jump_count c n (successors i) ≡ one_unless (falls c n x) = ap (jump_count c n) is in
+          let none = ap one_unless fallen in
+          let size : size_at o m t c n i ≡ length (block o m t c i) + jump_count c n (successors i) = refl in
           omega (arith, at, count, none, size)
   leads n i e (x ∷ y ∷ ns) is has = (
     jump_leads (body_of o m t c) (place_of o m t c n + length (block o m t c i)) (place_of o m t c y) has.0,
-    unless_leads (body_of o m t c) n x (place_of o m t c n + length (block o m t c i) + 1) (place_of o m t c x) has.1
-        (λ next. falls next (next_place n i e x next)),
+    unless_leads (body_of o m t c) (falls c n x) (place_of o m t c n + length (block o m t c i) + 1) (place_of o m t c x)
+        has.1 (λ fallen. behind fallen (next_place n i e x (falls_to_next c n x fallen))),
   )
     where
-      falls : x + 1 ≡ n → place_of o m t c x ≡ place_of o m t c n + size_at o m t c n i
+      behind : falls c n x ≡ true → place_of o m t c x ≡ place_of o m t c n + size_at o m t c n i
           → place_of o m t c n + length (block o m t c i) + 1 ≡ place_of o m t c x
-      falls next at =
-          let count : jump_count n (successors i) ≡ 1 + (if x + 1 == n then 0 else 1) = ap (jump_count n) is in
-          let none = none_between (x + 1) n next in
-          let size : size_at o m t c n i ≡ length (block o m t c i) + jump_count n (successors i) = refl in
+      behind fallen at =
+          let count : jump_count c n (successors i) ≡ 1 + one_unless (falls c n x) = ap (jump_count c n) is in
+          let none = ap one_unless fallen in
+          let size : size_at o m t c n i ≡ length (block o m t c i) + jump_count c n (successors i) = refl in
           omega (arith, at, count, none, size)
 
   is_put : (n : ℕ) (i : Instruction) → slice_get c.code n ≡ Some i
@@ -229,7 +229,7 @@ module _ (o : OperatorCode) (m : MapSizes) (t : Tac) (c : CodeFunction) where
   is_put n i e =
       let b = block o m t c i in
       let pc = place_of o m t c n in
-      let js = jumps (place_of o m t c) n (pc + length b) (successors i) in
+      let js = jumps c (place_of o m t c) n (pc + length b) (successors i) in
       let stands = part_stands n i e in
       record {
         has = has_front (body_of o m t c) pc b js stands;

@@ -1,6 +1,6 @@
 -- Where the blocks of a function lie: that of the last node first, since code that comes later has lower nodes.
-use Rattle.std.specs.Prelude.{ℕ, suc, ◌+◌, ◌-◌, true, false, ◌==◌, nat_lt, if◌then◌else◌, List, [], ◌∷◌, ◌++◌}
-use Rattle.std.specs.Prelude.{drop, length, Option, Some, None, slice_get}
+use Rattle.std.specs.Prelude.{ℕ, suc, ◌+◌, ◌-◌, Bool, true, false, not, ◌&&◌, ◌==◌, nat_lt, if◌then◌else◌, List, [], ◌∷◌}
+use Rattle.std.specs.Prelude.{◌++◌, drop, length, Option, Some, None, slice_get}
 use Rattle.addr_map.specs.Places.{MapSizes}
 use Rattle.tac_ir.specs.declared.instruction.Instruction.{Instruction}
 use Rattle.tac_ir.specs.declared.function.CodeFunction.{CodeFunction}
@@ -18,25 +18,45 @@ use Rattle.metadata_plan.specs.Blocks.{block, prologue, entry_code}
 abbrev pub jump : (from to : ℕ) → FlatInstruction
 jump p q = if nat_lt p q then JumpForward (q - (p + 1)) else JumpBack (p - q)
 
--- a jump, unless the block of the node that comes next is the next one
-abbrev pub jump_unless_next : (node next from to : ℕ) → List FlatInstruction
-jump_unless_next n next p q = if next + 1 == n then [] else jump p q ∷ []
+-- how many edges of a graph lead to a node
+abbrev pub times_in : (node : ℕ) → List ℕ → ℕ
+times_in n [] = 0
+times_in n (m ∷ ms) = (if m == n then 1 else 0) + times_in n ms
+
+abbrev pub edges_to : List Instruction → (node : ℕ) → ℕ
+edges_to [] n = 0
+edges_to (i ∷ is) n = times_in n (successors i) + edges_to is n
+
+-- how many ways lead to a node: the edges, and to the entry that behind the prologue
+abbrev pub ways_to : CodeFunction → (node : ℕ) → ℕ
+ways_to c n = times_in n (c.entry ∷ []) + edges_to c.code n
+
+abbrev pub is_join : CodeFunction → (node : ℕ) → Bool
+is_join c n = nat_lt 1 (ways_to c n)
+
+-- Code falls from a node into the next one, which lies behind it, unless that is a join. There a jump stands, so that the
+-- result of a block, which nothing may read, is not needed where other code leads.
+unfoldable pub falls : CodeFunction → (node next : ℕ) → Bool
+falls c n next = (next + 1 == n) && not (is_join c next)
 
 -- what stands behind the block of a node, from a place on
-abbrev pub jumps : (address : ℕ → ℕ) → (node place : ℕ) → (nodes : List ℕ) → List FlatInstruction
-jumps address n pc [] = []
-jumps address n pc (m ∷ []) = jump_unless_next n m pc (address m)
-jumps address n pc (x ∷ y ∷ ms) = jump pc (address y) ∷ jump_unless_next n x (pc + 1) (address x)
+abbrev pub jump_unless : Bool → (from to : ℕ) → List FlatInstruction
+jump_unless fallen p q = if fallen then [] else jump p q ∷ []
 
-abbrev pub jump_count : (node : ℕ) → (nodes : List ℕ) → ℕ
-jump_count n [] = 0
-jump_count n (m ∷ []) = if m + 1 == n then 0 else 1
-jump_count n (x ∷ y ∷ ms) = 1 + (if x + 1 == n then 0 else 1)
+abbrev pub jumps : CodeFunction → (address : ℕ → ℕ) → (node place : ℕ) → (nodes : List ℕ) → List FlatInstruction
+jumps c address n pc [] = []
+jumps c address n pc (m ∷ []) = jump_unless (falls c n m) pc (address m)
+jumps c address n pc (x ∷ y ∷ ms) = jump pc (address y) ∷ jump_unless (falls c n x) (pc + 1) (address x)
+
+abbrev pub jump_count : CodeFunction → (node : ℕ) → (nodes : List ℕ) → ℕ
+jump_count c n [] = 0
+jump_count c n (m ∷ []) = if falls c n m then 0 else 1
+jump_count c n (x ∷ y ∷ ms) = 1 + (if falls c n x then 0 else 1)
 
 module _ (o : OperatorCode) (m : MapSizes) (t : Tac) (c : CodeFunction) where
   -- how many instructions a node has, and the nodes from one on
   abbrev pub size_at : (node : ℕ) → Instruction → ℕ
-  size_at n i = length (block o m t c i) + jump_count n (successors i)
+  size_at n i = length (block o m t c i) + jump_count c n (successors i)
 
   abbrev pub size_from : (node : ℕ) → List Instruction → ℕ
   size_from n [] = 0
@@ -54,7 +74,7 @@ module _ (o : OperatorCode) (m : MapSizes) (t : Tac) (c : CodeFunction) where
   laid_from n [] = []
   laid_from n (i ∷ is) =
       laid_from (suc n) is
-      ++ (block o m t c i ++ jumps place_of n (place_of n + length (block o m t c i)) (successors i))
+      ++ (block o m t c i ++ jumps c place_of n (place_of n + length (block o m t c i)) (successors i))
 
   abbrev pub begin_code : List FlatInstruction
   begin_code =

@@ -6,5 +6,4 @@ pub mod Constructs
 pub mod Statements
 pub mod Units
 pub mod Programs
-pub mod Counts
 pub mod Typed

@@ -13,9 +13,10 @@ use Rattle.c_const.specs.Addresses.{Pointers, untagged}
 use Rattle.c_const.specs.Contents.{constant_in}
 use Rattle.c_rules.specs.declared.fault.Fault.{Fault}
 use Rattle.c_rules.specs.Answer.{Answer}
+use Rattle.c_counts.specs.Counts.{Count, counts_of}
+use Rattle.c_counts.specs.Excess.{first_above, members_among, most_members, most_parameters, parameters_among}
 use Rattle.c_unit_typing.specs.declared.limits.Limited.{Limited}
 use Rattle.c_unit_typing.specs.declared.limits.Limited.TheVariants as limited
-use Rattle.c_unit_typing.specs.Counts.{Count, externals, of_members, of_parameters}
 use Rattle.c_unit_typing.specs.Files.{File}
 use Rattle.c_unit_typing.specs.Programs.{program_of}
 use Rattle.c_unit_typing.specs.Units.{file_in}
@@ -48,28 +49,8 @@ are_constant p = list_all (has_constants (any_pointers p)) p.statics
 abbrev pub most_functions : ℕ
 most_functions = 4096
 
-abbrev pub most_parameters : ℕ
-most_parameters = 127
-
-abbrev pub most_members : ℕ
-most_members = 1024
-
 abbrev pub most_bytes : ℕ
 most_bytes = 4194304
-
-abbrev pub first_above : (most : ℕ) → List ℕ → Option ℕ
-first_above most [] = None
-first_above most (n ∷ ns) = if nat_lt most n then Some n else first_above most ns
-
-abbrev pub parameters_among : List Count → List ℕ
-parameters_among [] = []
-parameters_among (of_parameters n ∷ cs) = n ∷ parameters_among cs
-parameters_among (of_members n ∷ cs) = parameters_among cs
-
-abbrev pub members_among : List Count → List ℕ
-members_among [] = []
-members_among (of_parameters n ∷ cs) = members_among cs
-members_among (of_members n ∷ cs) = n ∷ members_among cs
 
 -- static objects stand in their order, each at the next multiple of 16, and all of them take whole pages
 abbrev pub end_behind : (place : ℕ) → List StaticObject → ℕ
@@ -92,7 +73,7 @@ limited_program counts p =
 
 -- that an initializer is not constant is said where the program is lowered
 abbrev pub within_limits : List External → Program → TypedUnit
-within_limits es p = if are_constant p then limited_program (externals es) p else a_program p
+within_limits es p = if are_constant p then limited_program (counts_of es) p else a_program p
 
 abbrev pub typed_as : List External → Answer File → TypedUnit
 typed_as es (Err f) = a_fault f

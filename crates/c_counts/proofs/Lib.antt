@@ -1,0 +1,2 @@
+mod Excesses
+mod Members

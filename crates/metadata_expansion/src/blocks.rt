@@ -199,6 +199,6 @@ pub fn put_block(
             let from = registers.temporary(function, *from);
             put(code, FlatInstruction::Return { from })
         }
-        _ => Ok(()),
+        _ => put(code, FlatInstruction::End(Ending::Abort(Line::first()))),
     }
 }

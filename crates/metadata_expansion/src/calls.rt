@@ -1,8 +1,11 @@
 //! Calls, and what stands before them.
 
-ghost use Rattle.std.specs.Prelude.{◌≡◌, ◌+◌, ◌*◌, ◌<◌, ◌≤◌, ◌^◌, ◌++◌, OnOk};
+ghost use Rattle.std.specs.Prelude.{◌≡◌, ◌+◌, ◌*◌, ◌<◌, ◌≤◌, ◌^◌, ◌++◌, ◌∷◌, [], if◌then◌else◌, OnOk};
+ghost use Rattle.sb_base.specs.declared.ending.Ending.TheVariants.{Abort};
 ghost use Rattle.tac_ir.specs.Meaning.{function_in};
+ghost use Rattle.flat_meaning.specs.declared.instruction.FlatInstruction.TheVariants.{End};
 ghost use Rattle.metadata_plan.specs.Registers.{most_temporaries};
+ghost use Rattle.metadata_plan.specs.Part.{takes};
 ghost use Rattle.metadata_plan.specs.Blocks.{argument_moves, call_code, call_tests, room_in};
 ghost use Rattle.metadata_expansion.specs.Homes.{free_count};
 ghost use Rattle.metadata_expansion.specs.Numbering.{AreRegisters};
@@ -74,7 +77,18 @@ pub fn put_arguments(
     Ok(())
 }
 
-/// Puts a call of a function of the program behind a list.
+// Whether the function with a number takes so many arguments.
+fn takes(program: &Tac, function: usize, count: usize) -> bool
+    ensures { result ≡ takes (function_in program.now function) count }
+{
+    match program.functions.as_slice().get(function) {
+        Some(called) => called.parameters.as_slice().len() == count,
+        None => false,
+    }
+}
+
+/// Puts a call of a function of the program behind a list; where that takes another number of arguments, what ends the
+/// run.
 pub fn put_call(
     code: &mut Vec<FlatInstruction>,
     sizes: &AddrMap,
@@ -92,8 +106,13 @@ pub fn put_call(
     requires arguments { count ≤ free_count function.now }
     requires callee { called < 2 ^ 32 }
     ensures { OnOk result (code.new.items ≡ code.old.items
-        ++ call_code sizes.now program.now function.now called line first count) }
+        ++ (if takes (function_in program.now called) count
+        then call_code sizes.now program.now function.now called line first count
+        else End (Abort line) ∷ [])) }
 {
+    if !takes(program, called, count) {
+        return put(code, FlatInstruction::End(Ending::Abort(line)));
+    }
     put_tests(code, sizes, room_of(program, called), line, registers.free)?;
     put_arguments(code, function, registers, first, count)?;
     let into = registers.temporary(function, first);

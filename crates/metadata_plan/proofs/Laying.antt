@@ -26,7 +26,7 @@ use Rattle.metadata_plan.specs.Laid.{place_in, program_of}
 
 -- ---- what stands in a list
 
-has_all : (is pre : List FlatInstruction) → HasAt (pre ++ is) (length pre) is
+pub has_all : (is pre : List FlatInstruction) → HasAt (pre ++ is) (length pre) is
 has_all [] pre = tt
 has_all (i ∷ is) pre =
     let within : length pre < length (pre ++ i ∷ is) = omega (arith, length-append pre (i ∷ is)) in
@@ -46,7 +46,7 @@ jump_leads body p q at = by (nat_lt p q) refl
     by false e = let le = ltb-false p q e in
         Back (p - q) (at ∙ ap (λ b. Some (if b then JumpForward (q - (p + 1)) else JumpBack (p - q))) e) (omega arith)
 
-falls_to_next : (c : CodeFunction) (n next : ℕ) → falls c n next ≡ true → next + 1 ≡ n
+pub falls_to_next : (c : CodeFunction) (n next : ℕ) → falls c n next ≡ true → next + 1 ≡ n
 unfolding falls
 falls_to_next c n next e = by (next + 1 == n) refl e
   where
@@ -64,7 +64,7 @@ unless_length : (fallen : Bool) (p q : ℕ) → length (jump_unless fallen p q) 
 unless_length true p q = refl
 unless_length false p q = refl
 
-jumps_length : (c : CodeFunction) (address : ℕ → ℕ) (n pc : ℕ) (ns : List ℕ)
+pub jumps_length : (c : CodeFunction) (address : ℕ → ℕ) (n pc : ℕ) (ns : List ℕ)
     → length (jumps c address n pc ns) ≡ jump_count c n ns
 jumps_length c address n pc [] = refl
 jumps_length c address n pc (x ∷ []) = unless_length (falls c n x) pc (address x)
@@ -72,13 +72,13 @@ jumps_length c address n pc (x ∷ y ∷ ns) =
     let e = unless_length (falls c n x) (pc + 1) (address x) in
     omega arith
 
-drop_past : (is : List Instruction) (n : ℕ) → length is ≤ n → drop n is ≡ []
+pub drop_past : (is : List Instruction) (n : ℕ) → length is ≤ n → drop n is ≡ []
 drop_past [] zero le = refl
 drop_past [] (suc n) le = refl
 drop_past (x ∷ is) zero le = absurd (omega arith)
 drop_past (x ∷ is) (suc n) le = drop_past is n (omega arith)
 
-drop_at : (is : List Instruction) (n : ℕ) (i : Instruction) → slice_get is n ≡ Some i → drop n is ≡ i ∷ drop (suc n) is
+pub drop_at : (is : List Instruction) (n : ℕ) (i : Instruction) → slice_get is n ≡ Some i → drop n is ≡ i ∷ drop (suc n) is
 drop_at [] n i e = cc
 drop_at (x ∷ is) zero i e = let same : x ≡ i = cc in ap (λ z. z ∷ is) same
 drop_at (x ∷ is) (suc n) i e = drop_at is n i e
@@ -90,18 +90,18 @@ module _ (o : OperatorCode) (m : MapSizes) (t : Tac) (c : CodeFunction) where
   abbrev place : ℕ → ℕ
   place = place_of o m t c
 
-  abbrev part_of : (node : ℕ) → Instruction → List FlatInstruction
+  abbrev pub part_of : (node : ℕ) → Instruction → List FlatInstruction
   part_of n i =
       block o m t c i
       ++ jumps c (place_of o m t c) n (place_of o m t c n + length (block o m t c i)) (successors i)
 
-  part_length : (n : ℕ) (i : Instruction) → length (part_of n i) ≡ size_at o m t c n i
+  pub part_length : (n : ℕ) (i : Instruction) → length (part_of n i) ≡ size_at o m t c n i
   part_length n i =
       let b = block o m t c i in
       let js = jumps c (place_of o m t c) n (place_of o m t c n + length b) (successors i) in
       omega (arith, length-append b js, jumps_length c (place_of o m t c) n (place_of o m t c n + length b) (successors i))
 
-  laid_length : (n : ℕ) (is : List Instruction) → length (laid_from o m t c n is) ≡ size_from o m t c n is
+  pub laid_length : (n : ℕ) (is : List Instruction) → length (laid_from o m t c n is) ≡ size_from o m t c n is
   laid_length n [] = refl
   laid_length n (i ∷ is) =
       omega (arith, length-append (laid_from o m t c (suc n) is) (part_of n i), laid_length (suc n) is, part_length n i)
@@ -137,13 +137,13 @@ module _ (o : OperatorCode) (m : MapSizes) (t : Tac) (c : CodeFunction) where
             ∙ ap (λ z. laid_from o m t c (suc z) (drop (suc n) is) ++ (part_of z i ++ (h.rest ++ part_of first x))) at;
       }
 
-  begin_jump : List FlatInstruction
+  pub begin_jump : List FlatInstruction
   begin_jump =
       if c.entry + 1 == length c.code
       then []
       else jump (length (prologue c)) (place_of o m t c c.entry) ∷ []
 
-  jump_length : length begin_jump ≡ one_unless (c.entry + 1 == length c.code)
+  pub jump_length : length begin_jump ≡ one_unless (c.entry + 1 == length c.code)
   unfolding begin_jump
   jump_length = by (c.entry + 1 == length c.code)
     where
@@ -152,19 +152,19 @@ module _ (o : OperatorCode) (m : MapSizes) (t : Tac) (c : CodeFunction) where
       by true = refl
       by false = refl
 
-  begin_is : begin_code o m t c ≡ prologue c ++ begin_jump
+  pub begin_is : begin_code o m t c ≡ prologue c ++ begin_jump
   unfolding begin_jump
   begin_is = refl
 
-  begin_length : length (begin_code o m t c) ≡ begin_size o m t c
+  pub begin_length : length (begin_code o m t c) ≡ begin_size o m t c
   begin_length =
       ap length begin_is ∙ length-append (prologue c) begin_jump ∙ ap (λ z. length (prologue c) + z) jump_length
 
-  place_is : (n : ℕ) → place_of o m t c n ≡ begin_size o m t c + size_from o m t c (suc n) (drop (suc n) c.code)
+  pub place_is : (n : ℕ) → place_of o m t c n ≡ begin_size o m t c + size_from o m t c (suc n) (drop (suc n) c.code)
   unfolding place_of
   place_is n = refl
 
-  part_stands : (n : ℕ) (i : Instruction) → slice_get c.code n ≡ Some i
+  pub part_stands : (n : ℕ) (i : Instruction) → slice_get c.code n ≡ Some i
       → HasAt (body_of o m t c) (place_of o m t c n) (part_of n i)
   part_stands n i e =
       let h = splits 0 n c.code i e in
@@ -186,7 +186,7 @@ module _ (o : OperatorCode) (m : MapSizes) (t : Tac) (c : CodeFunction) where
       (subst (λ z. HasAt z (length (begin ++ before)) own) (sym whole) there))
 
   -- the next node stands behind all that a node has
-  next_place : (n : ℕ) (i : Instruction) → slice_get c.code n ≡ Some i → (next : ℕ) → next + 1 ≡ n
+  pub next_place : (n : ℕ) (i : Instruction) → slice_get c.code n ≡ Some i → (next : ℕ) → next + 1 ≡ n
       → place_of o m t c next ≡ place_of o m t c n + size_at o m t c n i
   next_place n i e next is_next =
       let at : suc next ≡ n = omega arith in
@@ -279,14 +279,14 @@ module _ (o : OperatorCode) (m : MapSizes) (t : Tac) (c : CodeFunction) where
   }
 
 module _ (o : OperatorCode) (m : MapSizes) (t : Tac) (homes : CodeFunction → List ℕ) where
-  functions_at : (cs : List CodeFunction) (last : List FlatFunction) (u : ℕ) (c : CodeFunction)
+  pub functions_at : (cs : List CodeFunction) (last : List FlatFunction) (u : ℕ) (c : CodeFunction)
       → slice_get cs u ≡ Some c
       → slice_get (functions_of o m t homes cs ++ last) u ≡ Some (function_of o m t c (homes c))
   functions_at [] last u c e = cc
   functions_at (x ∷ cs) last zero c e = let same : x ≡ c = cc in ap (λ z. Some (function_of o m t z (homes z))) same
   functions_at (x ∷ cs) last (suc u) c e = functions_at cs last u c e
 
-  entry_at : (cs : List CodeFunction) (f : FlatFunction)
+  pub entry_at : (cs : List CodeFunction) (f : FlatFunction)
       → slice_get (functions_of o m t homes cs ++ (f ∷ [])) (length cs) ≡ Some f
   entry_at [] f = refl
   entry_at (x ∷ cs) f = entry_at cs f

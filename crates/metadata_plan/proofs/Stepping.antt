@@ -1,14 +1,14 @@
 -- Calls and returns of three-address code, and the start of a run.
 use Rattle.std.proofs.Common.{inl}
 use Rattle.std.proofs.Common.{⊎_elim, ◌≡◌, ℕ, ◌+◌, ◌*◌, ◌%◌, ◌^◌, ◌<◌, ◌≤◌, refl, sym, ap, ◌∙◌, subst}
-use Rattle.std.proofs.Common.{arith, true, false, List, [], ◌∷◌, ◌++◌, Option, Some, None}
+use Rattle.std.proofs.Common.{arith, Bool, true, false, List, [], ◌∷◌, ◌++◌, Option, Some, None}
 use Rattle.std.proofs.Common.{length, length-append}
-use Rattle.std.specs.Prelude.{slice_get}
+use Rattle.std.specs.Prelude.{slice_get, if◌then◌else◌}
 use Rattle.std.proofs.lemmas.Bool.{eqb-true, cases_lt}
 use Rattle.behaviours.specs.Steps.{run}
 use Rattle.behaviours.proofs.Running.{run_add}
 use Rattle.addr_map.specs.Places.{MapSizes}
-use Rattle.sb_base.specs.declared.ending.Ending.TheVariants.{Exit as ExitWith}
+use Rattle.sb_base.specs.declared.ending.Ending.TheVariants.{Exit as ExitWith, Abort as AbortAt}
 use Rattle.source_meaning.specs.State.{State, Rvalue, Setting}
 use Rattle.source_meaning.specs.Actions.{integer, int_of}
 use Rattle.source_meaning.specs.Structures.{rvalue}
@@ -33,7 +33,7 @@ use Rattle.flat_routines.proofs.Steps.{has_front, has_back}
 use Rattle.flat_objects.specs.StandsFor.{Views, StandsFor}
 use Rattle.metadata_plan.specs.Registers.{most_temporaries, temporary_register, first_free}
 use Rattle.metadata_plan.specs.Operators.{OperatorCode, AreOperators}
-use Rattle.metadata_plan.specs.Blocks.{call_tests, argument_moves, room_in}
+use Rattle.metadata_plan.specs.Blocks.{call_tests, argument_moves, call_code, room_in}
 use Rattle.metadata_plan.specs.Expanded.{Leads, IsExpanded}
 use Rattle.metadata_plan.specs.Part.{takes, IsIntegerCode}
 use Rattle.metadata_plan.specs.Matching.{IsAlike, WaitsAs, AllWait, IsAt, IsFirst, MatchesBy}
@@ -94,6 +94,16 @@ module _ (o : OperatorCode) (views : Views) (g : Setting) (t : Tac) (address : (
           (tac.Call f line d count next)
       known = node o views g t address p ops ex part u h.code n (tac.Call f line d count next) h.there h.safe at
 
+      -- what stands where the callee takes so many arguments, or not
+      abbrev block_by : Bool → List FlatInstruction
+      block_by b = if b then call_code m t h.code f line d count else flat_code.End (AbortAt line) ∷ []
+
+      stood : HasAt body pc (call_code m t h.code f line d count)
+          × Leads body (pc + length (call_code m t h.code f line d count)) (address u next)
+      stood =
+          subst (λ b. HasAt body pc (block_by b) × Leads body (pc + length (block_by b)) (address u next)) known.part
+          (known.put.has, known.put.leads)
+
       called_is : Takes (code_in t f) count
       called_is = takes_is (code_in t f) count known.part
 
@@ -114,7 +124,7 @@ module _ (o : OperatorCode) (views : Views) (g : Setting) (t : Tac) (address : (
       by_callee k is takes =
           let tests = call_tests m k.room line free in
           let whole : HasAt body pc (tests ++ (moves ++ calls)) =
-          subst (λ z. HasAt body pc (call_tests m (room_in z) line free ++ (moves ++ calls))) is known.put.has in
+          subst (λ z. HasAt body pc (call_tests m (room_in z) line free ++ (moves ++ calls))) is stood.0 in
           let has_tests = has_front body pc tests (moves ++ calls) whole in
           let rest = has_back body pc tests (moves ++ calls) whole in
           let has_moves = has_front body (pc + 4) moves calls rest in
@@ -150,7 +160,7 @@ module _ (o : OperatorCode) (views : Views) (g : Setting) (t : Tac) (address : (
             function = refl;
             code = c;
             there = h.there;
-            leads = subst (λ z. Leads body z (address u next)) (sym place) known.put.leads;
+            leads = subst (λ z. Leads body z (address u next)) (sym place) stood.1;
             low = lows.0;
             into = refl;
             holds = holds_free c parts.variables temps s.plain v.values given.values h.holds same;

@@ -28,6 +28,7 @@ use Rattle.flat_meaning.specs.declared.instruction.FlatInstruction.TheVariants.{
 use Rattle.flat_meaning.specs.declared.instruction.FlatInstruction.TheVariants.{Return, Get, Put, Exit, End, Charged}
 use Rattle.c_tree.specs.declared.program.Variable.{Variable}
 use Rattle.metadata_plan.specs.Registers.{words_of, words_in, variable_register, temporary_register, first_free}
+use Rattle.metadata_plan.specs.Part.{takes}
 use Rattle.metadata_plan.specs.Operators.{OperatorCode}
 
 -- a value converted to a kind; one of void has a word of 0
@@ -87,6 +88,8 @@ call_code m t c f line d n =
     call_tests m (room_in (function_in t f)) line s
     ++ (argument_moves c s d n ++ (Call f s (temporary_register c d) ∷ []))
 
+-- An instruction that is not covered is never reached, and no call that hands over another number of arguments than its
+-- callee takes: their blocks end the run, so that code never falls through them.
 abbrev pub block : OperatorCode → MapSizes → Tac → CodeFunction → Instruction → List FlatInstruction
 block o m t c (tac.Constant d w next) = o.constant (temporary_register c d) w (first_free c)
 block o m t c (tac.GetPlain d x next) = Move (temporary_register c d) (variable_register c x) ∷ []
@@ -105,9 +108,10 @@ block o m t c (tac.Case a w x y) =
     ++ (Branch Beq (temporary_register c a) (Register (first_free c)) 1 ∷ [])
 block o m t c (tac.Turn counted next) = Turn ∷ []
 block o m t c (tac.Library r line d n next) = library_code o r line (temporary_register c d) (first_free c)
-block o m t c (tac.Call f line d n next) = call_code m t c f line d n
+block o m t c (tac.Call f line d n next) =
+    if takes (function_in t f) n then call_code m t c f line d n else End (AbortAt line) ∷ []
 block o m t c (tac.Return a) = Return (temporary_register c a) ∷ []
-block o m t c _ = []
+block o m t c _ = End (AbortAt 1) ∷ []
 
 -- so many registers become 0
 abbrev pub zeros : (register count : ℕ) → List FlatInstruction

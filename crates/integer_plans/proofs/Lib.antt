@@ -1,3 +1,5 @@
 pub mod Flow
 pub mod Paths
 pub mod Operators
+pub mod Roles
+pub mod Blocks

@@ -50,6 +50,11 @@ none_has y e =
     let b = ltb-true y 0 h.1 in
     absurd (omega arith)
 
+pub reads_nothing : (y : ℕ) → is_read (two none none) y ≡ true → ⊥
+reads_nothing y e =
+    ⊎_elim (none_has y) (λ h. ⊎_elim (none_has y) (none_has y) (or_cases (is_among none y) (is_among none y) h))
+    (or_cases (is_among none y) (is_among none y || is_among none y) e)
+
 -- ---- registers
 
 abbrev pub Registers : Type 1
@@ -160,7 +165,7 @@ module _ (p : FlatProgram) (f : ℕ) (gives : results_of (function_in p f) ≡ 1
   of_first R x y r e = of_three R (one x) none none y (of_one R x y r) (of_none R y) (of_none R y) e
 
   of_nothing : (R : Registers) (y : ℕ) → is_read (two none none) y ≡ true → R y
-  of_nothing R y e = of_three R none none none y (of_none R y) (of_none R y) (of_none R y) e
+  of_nothing R y e = absurd (reads_nothing y e)
 
   of_many : (R : Registers) (x n y : ℕ) → ((j : ℕ) → j < n → R (x + j))
       → is_read (record { left = none; right = none; others = many x n }) y ≡ true → R y

@@ -3,3 +3,5 @@ pub mod Paths
 pub mod Operators
 pub mod Roles
 pub mod Blocks
+pub mod Places
+pub mod Predecessors

@@ -5,3 +5,4 @@ pub mod Roles
 pub mod Blocks
 pub mod Places
 pub mod Predecessors
+pub mod Live

@@ -67,7 +67,7 @@ needs_role c (tac.Call f line d n next) low = λ j lt. temporary_role c (d + j) 
 needs_role c (tac.Return a) low = temporary_role c a (omega arith)
 needs_role c _ low = tt
 
-arguments_at : (is : List Instruction) (n : ℕ) (i : Instruction) → slice_get is n ≡ Some i
+pub arguments_at : (is : List Instruction) (n : ℕ) (i : Instruction) → slice_get is n ≡ Some i
     → argument_count i ≤ most_arguments is
 arguments_at [] n i e = absurd (none-some i e)
 arguments_at (x ∷ is) zero i e =
@@ -96,7 +96,7 @@ silent_end m t c p tac.Reserved e = silent_one p _ none_has
 silent_end m t c p (tac.Return a) e = silent_one p _ none_has
 silent_end m t c p _ e = absurd (let l = ap length e in omega arith)
 
-two_ways : (i : Instruction) → Last i → (x : ℕ) × (y : ℕ) × (successors i ≡ x ∷ y ∷ [])
+pub two_ways : (i : Instruction) → Last i → (x : ℕ) × (y : ℕ) × (successors i ≡ x ∷ y ∷ [])
 two_ways (tac.Branch a x y) l = (x, y, refl)
 two_ways (tac.Case a w x y) l = (x, y, refl)
 two_ways _ l = absurd l
@@ -168,6 +168,22 @@ module _ (m : MapSizes) (t : Tac) (c : CodeFunction) (p : FlatProgram) (f : ℕ)
           let z : length (prologue c) ≡ pc = omega (arith, at) in
           Enters (sym (same_Some _ x e) ∙ ap (λ k. jump k (place_of operators m t c c.entry)) z)
       by false (suc j) at e = absurd (none-some x e)
+
+  -- the prologue stands at the front
+  pub zero_at : (pc : ℕ) → pc < length c.variables
+      → slice_get (body_of operators m t c) pc ≡ Some (flat.Constant (length c.parameters + pc) 0)
+  zero_at pc lt =
+      let own = integers_back c.parameters c.variables integers in
+      let words = integers_words c.parameters (integers_front c.parameters c.variables integers) in
+      let long = zeroed_length c.variables (words_in c.parameters) own in
+      let here = slice_get-get_or (prologue c) pc flat.Turn (omega (arith, long, lt)) in
+      let is = (zeroed_at c.variables (words_in c.parameters) pc _ own here).1 in
+      let front = get_left (prologue c)
+      (if c.entry + 1 == length c.code
+      then []
+      else jump (length (prologue c)) (place_of operators m t c c.entry) ∷ []) pc _ here in
+      get_left (begin_code operators m t c) (laid_from operators m t c 0 c.code) pc _ front
+      ∙ ap Some (is ∙ ap (λ n. flat.Constant (n + pc) 0) words)
 
   -- the variables of a function with their registers
   count : words_in (all_variables c) ≡ length c.parameters + length c.variables

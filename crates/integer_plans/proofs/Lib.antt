@@ -6,3 +6,5 @@ pub mod Blocks
 pub mod Places
 pub mod Predecessors
 pub mod Live
+pub mod Homes
+pub mod Functions

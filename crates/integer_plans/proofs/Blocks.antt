@@ -77,7 +77,7 @@ module _ (c : CodeFunction) where
   Needs R _ = Unit {0}
 
 module _ (m : MapSizes) (t : Tac) (c : CodeFunction) (p : FlatProgram) (f : ℕ)
-    (gives : results_of (function_in p f) ≡ 1)
+    (gives : results_of (function_in p f) ≤ 1)
     (callees : (g n : ℕ) → takes (code_in t g) n ≡ true
     → (parameters_of (function_in p g) ≡ n) × (results_of (function_in p g) ≡ 1)) where
   abbrev s : ℕ

@@ -82,7 +82,7 @@ PassesEnd T [] = T
 PassesEnd T (End e ∷ is) = Unit {0}
 PassesEnd T _ = ⊥
 
-module _ (p : FlatProgram) (f : ℕ) (gives : results_of (function_in p f) ≡ 1) where
+module _ (p : FlatProgram) (f : ℕ) (gives : results_of (function_in p f) ≤ 1) where
   -- what an instruction reads is among some registers. Code of integers has no jumps but behind its blocks, no accesses
   -- and no calls of addresses
   abbrev pub Sources : Registers → FlatInstruction → Type 0
@@ -188,7 +188,7 @@ module _ (p : FlatProgram) (f : ℕ) (gives : results_of (function_in p f) ≡ 1
   sources_read R (CallAddress a first n x r) y s e = absurd s
   sources_read R (Return a) y s e =
       of_many R a (results_of (function_in p f)) y
-      (λ j lt. let z : a + j ≡ a = omega (arith, gives) in subst R (sym z) s) e
+      (λ j lt. let z : a + j ≡ a = omega (arith, gives, lt) in subst R (sym z) s) e
   sources_read R (Get x) y s e = of_nothing R y e
   sources_read R (Put x) y s e = of_first R x y s e
   sources_read R (Exit x) y s e = of_first R x y s e

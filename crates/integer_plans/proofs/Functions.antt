@@ -35,7 +35,7 @@ use Rattle.integer_plans.proofs.Predecessors.{named_at, one_predecessor, zero_at
 use Rattle.integer_plans.proofs.Live.{none_read}
 
 module _ (m : MapSizes) (t : Tac) (c : CodeFunction) (p : FlatProgram) (f : ℕ)
-    (gives : results_of (function_in p f) ≡ 1)
+    (gives : results_of (function_in p f) ≤ 1)
     (callees : (g n : ℕ) → takes (code_in t g) n ≡ true
     → (parameters_of (function_in p g) ≡ n) × (results_of (function_in p g) ≡ 1))
     (part : IsIntegerFunction t c) where

@@ -8,3 +8,5 @@ pub mod Predecessors
 pub mod Live
 pub mod Homes
 pub mod Functions
+pub mod Entry
+pub mod Programs

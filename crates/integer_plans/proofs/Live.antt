@@ -125,7 +125,7 @@ module _ (t : Tac) (c : CodeFunction) (integers : are_integers (all_variables c)
 
 -- ---- the blocks of such instructions
 
-makes_some : (p : FlatProgram) (f : ℕ) (gives : results_of (function_in p f) ≡ 1) (is : List FlatInstruction) (y : ℕ)
+makes_some : (p : FlatProgram) (f : ℕ) (gives : results_of (function_in p f) ≤ 1) (is : List FlatInstruction) (y : ℕ)
     → Makes p f gives is y → 0 < length is
 makes_some p f gives [] y m = absurd m
 makes_some p f gives (i ∷ is) y m = omega arith
@@ -137,12 +137,12 @@ IsLast (tac.Library Exit line d n next) = Unit {0}
 IsLast (tac.Library Abort line d n next) = Unit {0}
 IsLast _ = ⊥
 
-zeros_flow : (p : FlatProgram) (f : ℕ) (gives : results_of (function_in p f) ≡ 1) (R : Registers) (r n : ℕ)
+zeros_flow : (p : FlatProgram) (f : ℕ) (gives : results_of (function_in p f) ≤ 1) (R : Registers) (r n : ℕ)
     → Flow p f gives ⊥ (λ y. Unit {0}) R (zeros r n)
 zeros_flow p f gives R r zero = tt
 zeros_flow p f gives R r (suc n) = (tt, tt, tt, zeros_flow p f gives (λ y. R y ⊎ (y ≡ r)) (r + 1) n)
 
-prologue_flow : (p : FlatProgram) (f : ℕ) (gives : results_of (function_in p f) ≡ 1) (R : Registers) (r : ℕ)
+prologue_flow : (p : FlatProgram) (f : ℕ) (gives : results_of (function_in p f) ≤ 1) (R : Registers) (r : ℕ)
     (vs : List Variable) → Flow p f gives ⊥ (λ y. Unit {0}) R (zero_variables r vs)
 prologue_flow p f gives R r [] = tt
 prologue_flow p f gives R r (v ∷ vs) =
@@ -155,7 +155,7 @@ prologue_flow p f gives R r (v ∷ vs) =
     by false = zeros_flow p f gives R r (words_of v.kind)
 
 module _ (m : MapSizes) (t : Tac) (c : CodeFunction) (p : FlatProgram) (f : ℕ)
-    (gives : results_of (function_in p f) ≡ 1)
+    (gives : results_of (function_in p f) ≤ 1)
     (callees : (g n : ℕ) → takes (code_in t g) n ≡ true
     → (parameters_of (function_in p g) ≡ n) × (results_of (function_in p g) ≡ 1))
     (integers : are_integers (all_variables c) ≡ true) where

@@ -1,5 +1,5 @@
 -- Paths through code: to where a register is read that none on the way makes.
-use Rattle.std.proofs.Common.{◌≡◌, ◌⊎◌, inl, inr, ⊎_elim, ℕ, zero, suc, ◌+◌, ◌<◌, sym, ap, ◌∙◌, subst, arith}
+use Rattle.std.proofs.Common.{◌≡◌, ◌⊎◌, inl, inr, ⊎_elim, ℕ, zero, suc, ◌+◌, ◌<◌, ◌≤◌, sym, ap, ◌∙◌, subst, arith}
 use Rattle.std.proofs.Common.{Bool, true, false, List, [], ◌∷◌, length, Option, Some, None}
 use Rattle.std.specs.Prelude.{slice_get}
 use Rattle.std.proofs.lemmas.Bool.{both_ways}
@@ -14,7 +14,7 @@ use Rattle.reg_plan.specs.Effects.{read_by, is_read, made_by, is_among, next_of,
 use Rattle.integer_plans.proofs.Flow.{Registers, PassesEnd, Flow, Makes, Behind, Sources, Guards, sources_read}
 use Rattle.integer_plans.proofs.Flow.{behind_made, onward, end_first}
 
-module _ (p : FlatProgram) (f : ℕ) (gives : results_of (function_in p f) ≡ 1) (body : List FlatInstruction) where
+module _ (p : FlatProgram) (f : ℕ) (gives : results_of (function_in p f) ≤ 1) (body : List FlatInstruction) where
   -- within so many steps a register is read that none on the way makes
   abbrev pub ReadWithin : (steps place y : ℕ) → Type 0
   ReadWithin zero pc y = ⊥

@@ -134,7 +134,7 @@ zeroed_length (v ∷ vs) r e =
     ∙ ap suc (zeroed_length vs (r + 1) h.2)
 
 module _ (m : MapSizes) (t : Tac) (c : CodeFunction) (p : FlatProgram) (f : ℕ)
-    (gives : results_of (function_in p f) ≡ 1)
+    (gives : results_of (function_in p f) ≤ 1)
     (callees : (g n : ℕ) → takes (code_in t g) n ≡ true
     → (parameters_of (function_in p g) ≡ n) × (results_of (function_in p g) ≡ 1))
     (integers : are_integers (all_variables c) ≡ true) where

@@ -50,6 +50,11 @@ none_has y e =
     let b = ltb-true y 0 h.1 in
     absurd (omega arith)
 
+pub reads_nothing : (y : ℕ) → is_read (two none none) y ≡ true → ⊥
+reads_nothing y e =
+    ⊎_elim (none_has y) (λ h. ⊎_elim (none_has y) (none_has y) (or_cases (is_among none y) (is_among none y) h))
+    (or_cases (is_among none y) (is_among none y || is_among none y) e)
+
 -- ---- registers
 
 abbrev pub Registers : Type 1
@@ -77,7 +82,7 @@ PassesEnd T [] = T
 PassesEnd T (End e ∷ is) = Unit {0}
 PassesEnd T _ = ⊥
 
-module _ (p : FlatProgram) (f : ℕ) (gives : results_of (function_in p f) ≡ 1) where
+module _ (p : FlatProgram) (f : ℕ) (gives : results_of (function_in p f) ≤ 1) where
   -- what an instruction reads is among some registers. Code of integers has no jumps but behind its blocks, no accesses
   -- and no calls of addresses
   abbrev pub Sources : Registers → FlatInstruction → Type 0
@@ -160,7 +165,7 @@ module _ (p : FlatProgram) (f : ℕ) (gives : results_of (function_in p f) ≡ 1
   of_first R x y r e = of_three R (one x) none none y (of_one R x y r) (of_none R y) (of_none R y) e
 
   of_nothing : (R : Registers) (y : ℕ) → is_read (two none none) y ≡ true → R y
-  of_nothing R y e = of_three R none none none y (of_none R y) (of_none R y) (of_none R y) e
+  of_nothing R y e = absurd (reads_nothing y e)
 
   of_many : (R : Registers) (x n y : ℕ) → ((j : ℕ) → j < n → R (x + j))
       → is_read (record { left = none; right = none; others = many x n }) y ≡ true → R y
@@ -183,7 +188,7 @@ module _ (p : FlatProgram) (f : ℕ) (gives : results_of (function_in p f) ≡ 1
   sources_read R (CallAddress a first n x r) y s e = absurd s
   sources_read R (Return a) y s e =
       of_many R a (results_of (function_in p f)) y
-      (λ j lt. let z : a + j ≡ a = omega (arith, gives) in subst R (sym z) s) e
+      (λ j lt. let z : a + j ≡ a = omega (arith, gives, lt) in subst R (sym z) s) e
   sources_read R (Get x) y s e = of_nothing R y e
   sources_read R (Put x) y s e = of_first R x y s e
   sources_read R (Exit x) y s e = of_first R x y s e

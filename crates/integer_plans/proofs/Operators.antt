@@ -1,5 +1,5 @@
 -- The code of the operators on integers: what it reads and makes.
-use Rattle.std.proofs.Common.{◌≡◌, ◌⊎◌, inl, inr, ℕ, ◌-◌, ◌/◌, ◌%◌, ◌^◌, refl, Bool, true, false, List, [], ◌∷◌, ◌++◌}
+use Rattle.std.proofs.Common.{◌≡◌, ◌⊎◌, inl, inr, ℕ, ◌≤◌, ◌-◌, ◌/◌, ◌%◌, ◌^◌, refl, Bool, true, false, List, [], ◌∷◌, ◌++◌}
 use Rattle.std.specs.Prelude.{◌==◌, if◌then◌else◌}
 use Rattle.rv_isa.specs.declared.instruction.RegOp.{RegOp}
 use Rattle.rv_isa.specs.declared.instruction.RegOp.TheVariants as op
@@ -28,7 +28,7 @@ use Rattle.integer_operators.specs.Operators.{wrapping_code, shift_left_code, sh
 use Rattle.integer_operators.specs.Operators.{binary_code, less_op}
 use Rattle.integer_plans.proofs.Flow.{Registers, With, Flow, Makes, one_has}
 
-module _ (p : FlatProgram) (f : ℕ) (gives : results_of (function_in p f) ≡ 1) (P : Registers) where
+module _ (p : FlatProgram) (f : ℕ) (gives : results_of (function_in p f) ≤ 1) (P : Registers) where
   -- code that reads none but some registers, and makes one
   pub record Gives (R : Registers) (is : List FlatInstruction) (d : ℕ) : Type 0 where
     pub flow : Flow p f gives ⊥ P R is

@@ -1,5 +1,5 @@
 -- Paths through code: to where a register is read that none on the way makes.
-use Rattle.std.proofs.Common.{◌≡◌, ◌⊎◌, inl, inr, ⊎_elim, ℕ, zero, suc, ◌+◌, sym, ap, ◌∙◌, subst, arith}
+use Rattle.std.proofs.Common.{◌≡◌, ◌⊎◌, inl, inr, ⊎_elim, ℕ, zero, suc, ◌+◌, ◌<◌, ◌≤◌, sym, ap, ◌∙◌, subst, arith}
 use Rattle.std.proofs.Common.{Bool, true, false, List, [], ◌∷◌, length, Option, Some, None}
 use Rattle.std.specs.Prelude.{slice_get}
 use Rattle.std.proofs.lemmas.Bool.{both_ways}
@@ -14,7 +14,7 @@ use Rattle.reg_plan.specs.Effects.{read_by, is_read, made_by, is_among, next_of,
 use Rattle.integer_plans.proofs.Flow.{Registers, PassesEnd, Flow, Makes, Behind, Sources, Guards, sources_read}
 use Rattle.integer_plans.proofs.Flow.{behind_made, onward, end_first}
 
-module _ (p : FlatProgram) (f : ℕ) (gives : results_of (function_in p f) ≡ 1) (body : List FlatInstruction) where
+module _ (p : FlatProgram) (f : ℕ) (gives : results_of (function_in p f) ≤ 1) (body : List FlatInstruction) where
   -- within so many steps a register is read that none on the way makes
   abbrev pub ReadWithin : (steps place y : ℕ) → Type 0
   ReadWithin zero pc y = ⊥
@@ -23,7 +23,7 @@ module _ (p : FlatProgram) (f : ℕ) (gives : results_of (function_in p f) ≡ 1
       × ((is_read (read_by p f i) y ≡ true)
       ⊎ ((is_among (made_by p i) y ≡ false) × (q : ℕ) × Leads i pc q × ReadWithin k q y))
 
-  longer : (k pc y : ℕ) → ReadWithin k pc y → ReadWithin (suc k) pc y
+  pub longer : (k pc y : ℕ) → ReadWithin k pc y → ReadWithin (suc k) pc y
   longer zero pc y h = absurd h
   longer (suc k) pc y h = (h.0, h.1, ⊎_elim inl (λ r. inr (r.0, r.1, r.2, longer k r.1 y r.3)) h.2)
 
@@ -91,9 +91,10 @@ module _ (p : FlatProgram) (f : ℕ) (gives : results_of (function_in p f) ≡ 1
       (through T P (Behind p f gives R i) is k (pc + 1) y h.3 has.1 (inl path.1))
 
   -- one step at least is taken
-  pub through_some : (T : Type 0) (P R : Registers) (i : FlatInstruction) (is : List FlatInstruction) (k pc y : ℕ)
-      → Flow p f gives T P R (i ∷ is) → HasAt body pc (i ∷ is) → ReadWithin (suc k) pc y → Gets T R (i ∷ is) k pc y
-  through_some T P R i is k pc y h has path =
+  pub through_list : (T : Type 0) (P R : Registers) (is : List FlatInstruction) → 0 < length is → (k pc y : ℕ)
+      → Flow p f gives T P R is → HasAt body pc is → ReadWithin (suc k) pc y → Gets T R is k pc y
+  through_list T P R [] some k pc y h has path = absurd (omega arith)
+  through_list T P R (i ∷ is) some k pc y h has path =
       step T P R i is k pc y h has.0 (λ S g r. through T P S is k (pc + 1) y g has.1 r) path
 
   pub through_all : (T : Type 0) (P R : Registers) (is : List FlatInstruction) (k pc y : ℕ) → Flow p f gives T P R is

@@ -1,5 +1,5 @@
 -- An image does what its program means.
-use Rattle.std.proofs.Common.{◌≡◌, ℕ, ◌<◌, List, [], ◌∷◌, Some, true, refl, sym, subst, arith}
+use Rattle.std.proofs.Common.{◌≡◌, ℕ, ◌<◌, ◌≤◌, List, [], ◌∷◌, length, Some, true, refl, sym, ap, ◌∙◌, subst, arith}
 use Rattle.std.proofs.lemmas.Bool.{false≢true}
 use Rattle.std.specs.List.{All, list_all}
 use Rattle.behaviours.specs.Behaviour.{Behaviour, Follows, IsSource, IsMachine, Faithful}
@@ -33,7 +33,10 @@ use Rattle.rv_sim.specs.Start.{start_of}
 use Rattle.rv_view.specs.Segments.{Hold}
 use Rattle.rv_follows.specs.Matching.{object_bytes, space_bytes}
 use Rattle.elf_image.specs.Layout.{content_of}
-use Rattle.rv_image.specs.Image.{IsImage, ImageFollows, filled, data_memory}
+use Rattle.elf_image.proofs.Pages.{length-image_bytes}
+use Rattle.rv_segments.specs.Segments.{table_words, code_words}
+use Rattle.rv_segments.proofs.Parts.{bytes_length}
+use Rattle.rv_image.specs.Image.{written, IsImage, ImageFollows, filled, data_memory}
 use Rattle.integer_images.specs.Images.{HaveFewParameters, sizes_of, IsChecked, DoesWhatIsMeant}
 use Rattle.integer_images.proofs.Instructions.{IsFit}
 use Rattle.integer_images.proofs.Programs.{instruction_fit, encodable, startable}
@@ -41,21 +44,39 @@ use Rattle.integer_images.proofs.Following.{sizes_same, from_any, runs_from_any}
 
 -- ---- a program of integers has a map
 
-no_bytes : (os : List StaticObject) → has_no_statics os ≡ true → statics_end os 0 ≡ 0
-no_bytes [] e = refl
-no_bytes (o ∷ os) e = absurd (false≢true e)
+pub no_statics : (p : Program) → is_integer_program p ≡ true → p.statics ≡ []
+unfolding is_integer_program
+no_statics p ints =
+    none p.statics (three (has_no_statics p.statics) (list_all gives_no_pointer p.function_types)
+    (list_all is_integer_function p.functions) ints).0
+  where
+    none : (os : List StaticObject) → has_no_statics os ≡ true → os ≡ []
+    none [] e = refl
+    none (o ∷ os) e = absurd (false≢true e)
+
+pub no_bytes : (p : Program) → is_integer_program p ≡ true → statics_end p.statics 0 ≡ 0
+no_bytes p ints = ap (λ os. statics_end os 0) (no_statics p ints)
 
 pub integers_mapped : (p : Program) (budgets : BudgetSizes) → is_integer_program p ≡ true → AreInRange budgets
     → AreMapped (sizes_of p budgets)
-unfolding is_integer_program
 integers_mapped p budgets ints range =
-    let h = three (has_no_statics p.statics) (list_all gives_no_pointer p.function_types)
-    (list_all is_integer_function p.functions) ints in
-    let none = no_bytes p.statics h.0 in
-    record { budgets = range; globals = omega (arith, none) }
+    let none = no_bytes p ints in record { budgets = range; globals = omega (arith, none) }
 
 pub no_data : All (λ b. b < 256) []
 no_data k d below = absurd (omega arith)
+
+-- ---- the file
+
+file_small : (m : MapSizes) (code : FlatProgram) (plans : List FunctionPlan) (file : List ℕ)
+    → IsImage m code plans [] [] file → length file ≤ 67108864
+unfolding written
+file_small m code plans file image =
+    let size = ap length image.file_is ∙ length-image_bytes (written m code plans [] []) in
+    let table = bytes_length (table_words m code plans) in
+    let compiled = bytes_length (code_words m code plans) in
+    let table_fits = image.fits.table in
+    let code_fits = image.fits.code in
+    omega (arith, size, table, compiled, table_fits, code_fits)
 
 -- ---- the image
 
@@ -117,6 +138,7 @@ module _ (p : Program) (budgets : BudgetSizes) (mapped : AreMapped (sizes_of p b
         → ((c : ℕ) (x y : Behaviour) → Follows c x y → IsSource x → IsMachine y → Faithful c x y)
         → DoesWhatIsMeant p budgets file
     does_what_is_meant machine faithful = record {
+      size = file_small m code plans file image;
       readable = image.passes;
       follows = image_follows;
       faithful = λ input. faithful 1008 (meaning p budgets input) (behaviour (start_of (content_of file)) input)

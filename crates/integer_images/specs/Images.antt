@@ -48,8 +48,13 @@ pub record IsFlat (p : Program) (m : MapSizes) (code : FlatProgram) : Type 0 whe
 abbrev pub cost : ℕ
 cost = 1008
 
+-- the largest image that is read, in bytes
+abbrev pub most_bytes : ℕ
+most_bytes = 67108864
+
 -- The image can be read, and its machine shows what the program means, on each input.
 pub record DoesWhatIsMeant (p : Program) (budgets : BudgetSizes) (file : List ℕ) : Type 0 where
+  pub size : length file ≤ most_bytes
   pub readable : image_fault file ≡ None
   pub follows : (input : List ℕ)
       → Follows cost (meaning p budgets input) (behaviour (start_of (content_of file)) input)

@@ -170,7 +170,7 @@ halves (v ∷ vs) ws e =
 -- ---- code with checks
 
 -- an instruction of integers stands as it is
-stands : (t : Tac) (k : ℕ) (code : List Instruction) (n : ℕ) (i : Instruction)
+pub stands : (t : Tac) (k : ℕ) (code : List Instruction) (n : ℕ) (i : Instruction)
     → is_integer_instruction t k i ≡ true → StandsFor code n i → Has code n i
 stands t k code n (tac.Read kind mode line key d a m) e s = never e
 stands t k code n (tac.Write kind mode line key d a b m) e s = never e
@@ -265,15 +265,16 @@ module _ (q : Program) (t r : Tac) (valid : is_valid_program q ≡ true) (ints :
       three (p.has_no_statics q.statics) (list_all p.gives_no_pointer q.function_types)
       (list_all p.is_integer_function q.functions) ints
 
-  headers : map header_of_code r.functions ≡ map header_of q.functions
+  pub headers : map header_of_code r.functions ≡ map header_of q.functions
   headers = ins.headers ∙ low.headers
 
   -- what validity says of a function by its number
   pub record IsValidFunction (n : ℕ) (f : Function) : Type 0 where
     pub parameters : are_parameters f.parameters (signature_at q f.type_number).parameters ≡ true
     pub body : are_statements (function_scope q f) (record { may_break = false; may_continue = false }) f.body ≡ true
+    pub room_is : f.room ≡ room q.statics n (signature_at q f.type_number).result f
 
-  valid_function : (u : ℕ) (f : Function) → function_at q.functions u ≡ Some f → IsValidFunction u f
+  pub valid_function : (u : ℕ) (f : Function) → function_at q.functions u ≡ Some f → IsValidFunction u f
   valid_function u f at =
       let h = six (has_number q.function_types f.type_number)
       (are_parameters f.parameters (signature_at q f.type_number).parameters)
@@ -281,7 +282,13 @@ module _ (q : Program) (t r : Tac) (valid : is_valid_program q ≡ true) (ints :
       (are_statements (function_scope q f) (record { may_break = false; may_continue = false }) f.body)
       (f.room == room q.statics (0 + u) (signature_at q f.type_number).result f)
       (valid_at q q.functions 0 u f functions_valid.0 at) in
-      record { parameters = h.1; body = h.4 }
+      let z : 0 + u ≡ u = omega arith in
+      record {
+        parameters = h.1;
+        body = h.4;
+        room_is = eqb-true f.room (room q.statics (0 + u) (signature_at q f.type_number).result f) h.5
+            ∙ ap (λ k. room q.statics k (signature_at q f.type_number).result f) z;
+      }
 
   takes_at : (u : ℕ) → nat_lt u (length (map (λ (f : Function). signature_at q f.type_number) q.functions)) ≡ true
       → takes (function_in r u)
@@ -310,10 +317,10 @@ module _ (q : Program) (t r : Tac) (valid : is_valid_program q ≡ true) (ints :
       record { named = omega (arith, a, b, o, n); all = refl; functions = takes_at }
 
   module _ (u : ℕ) (c' : CodeFunction) (at : slice_get r.functions u ≡ Some c') where
-    abbrev function_is : (f : Function) × (function_at q.functions u ≡ Some f) × (header_of_code c' ≡ header_of f)
+    abbrev pub function_is : (f : Function) × (function_at q.functions u ≡ Some f) × (header_of_code c' ≡ header_of f)
     function_is = same_at r.functions q.functions headers u c' at
 
-    abbrev f : Function
+    abbrev pub f : Function
     f = function_is.0
 
     integer : (list_all p.is_integer_variable (all_of f) ≡ true) × (p.are_integer_statements f.body ≡ true)
@@ -321,7 +328,7 @@ module _ (q : Program) (t r : Tac) (valid : is_valid_program q ≡ true) (ints :
         both (list_all p.is_integer_variable (all_of f)) (p.are_integer_statements f.body)
         (integers_at q.functions u f functions_integer.2 function_is.1)
 
-    variables_same : all_variables c' ≡ all_of f
+    pub variables_same : all_variables c' ≡ all_of f
     variables_same = ap (λ (h : Header). h.parameters ++ h.variables) function_is.2
 
     pub integer_variables : are_integers (all_variables c') ≡ true
@@ -334,16 +341,23 @@ module _ (q : Program) (t r : Tac) (valid : is_valid_program q ≡ true) (ints :
         (none_opened (block_variables f.body) (length f.parameters) f.variables (map closed f.variables) h.1
         (none_closed f.variables h.1))
 
-    pub safe : (k : ℕ)
-        → SafeWithin (is_integer_instruction r (length (all_variables c'))) c'.code k c'.entry
-    safe k =
-        let i = inserted_some (slice_get t.functions u) (slice_get r.functions u) c' (ins.functions u) at in
-        let c = i.0 in
-        let l = lowered_at t.texts (result_in t.results) (height_in q.statics u) (function_at q.functions u)
-        (slice_get t.functions u) f c (low.functions u) function_is.1 i.1 in
+    -- the function before its checks are put in
+    pub lowered : (c : CodeFunction) × (slice_get t.functions u ≡ Some c) × FunctionIn c c'
+    lowered = inserted_some (slice_get t.functions u) (slice_get r.functions u) c' (ins.functions u) at
+
+    pub lowers : LowersFunction t.texts (result_in t.results (Some f)) (height_in q.statics u (Some f)) f lowered.0
+    lowers =
+        lowered_at t.texts (result_in t.results) (height_in q.statics u) (function_at q.functions u)
+        (slice_get t.functions u) f lowered.0 (low.functions u) function_is.1 lowered.1
+
+    -- its code is safe
+    pub safe_before : (k : ℕ)
+        → SafeWithin (is_integer_instruction r (length (all_of f))) lowered.0.code k lowered.0.entry
+    safe_before k =
+        let c = lowered.0 in
         let n = length (all_of f) in
         let w = placed_in t.texts f c in
-        let b = l.body in
+        let b = lowers.body in
         let none : HaveNone r n w = record {
           none = λ numbers. none_has (block_objects (all_of f) numbers)
               (none_opened numbers 0 (all_of f) (map closed (all_of f)) integer.0 (none_closed (all_of f) integer.0));
@@ -353,13 +367,18 @@ module _ (q : Program) (t r : Tac) (valid : is_valid_program q ≡ true) (ints :
         (no_pointer_at q.function_types f.type_number functions_integer.1) in
         let returns = at_return r n w k b.1 b.4 in
         let ends = along (is_integer_instruction r n) w.code _ k b.0 b.1 b.3 kind (λ x l. l) returns in
-        let body = of_statements r n w none f.body (function_scope q f) (scope_of f)
+        of_statements r n w none f.body (function_scope q f) (scope_of f)
         (record { may_break = false; may_continue = false }) k c.entry (function_exits b.0 b.1)
         (valid_function u f function_is.1).body integer.1 b.2
-        (record { next = ends; breaks = ends; continues = ends; returns = returns }) in
+        (record { next = ends; breaks = ends; continues = ends; returns = returns })
+
+    pub safe : (k : ℕ)
+        → SafeWithin (is_integer_instruction r (length (all_variables c'))) c'.code k c'.entry
+    safe k =
+        let n = length (all_of f) in
         subst (λ vs. SafeWithin (is_integer_instruction r (length vs)) c'.code k c'.entry) (sym variables_same)
-        (subst (λ m. SafeWithin (is_integer_instruction r n) c'.code k m) (sym i.2.entry)
-        (safe_inserted r n c c' i.2 k c.entry body))
+        (subst (λ m. SafeWithin (is_integer_instruction r n) c'.code k m) (sym lowered.2.entry)
+        (safe_inserted r n lowered.0 c' lowered.2 k lowered.0.entry (safe_before k)))
 
   -- ---- the program
 

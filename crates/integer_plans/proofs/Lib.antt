@@ -1,0 +1,12 @@
+pub mod Flow
+pub mod Paths
+pub mod Operators
+pub mod Roles
+pub mod Blocks
+pub mod Places
+pub mod Predecessors
+pub mod Live
+pub mod Homes
+pub mod Functions
+pub mod Entry
+pub mod Programs

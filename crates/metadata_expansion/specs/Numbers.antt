@@ -1,4 +1,4 @@
--- The numbers of an expansion that have to fit an instruction of flat code.
+-- The numbers of an expansion that have to fit an instruction of flat code: most in 32 bits, the words of constants in 64.
 use Rattle.std.specs.Prelude.{◌≡◌, ℕ, ◌+◌, ◌^◌, ◌<◌, max, List, [], ◌∷◌, length, Some, slice_get}
 use Rattle.addr_map.specs.Places.{MapSizes}
 use Rattle.tac_ir.specs.declared.instruction.Instruction.{Instruction}
@@ -19,6 +19,16 @@ abbrev pub greatest_callee : List Instruction → ℕ
 greatest_callee [] = 0
 greatest_callee (i ∷ is) = max (callee i) (greatest_callee is)
 
+-- the word that an instruction gives, or with which it compares
+abbrev pub word_in : Instruction → ℕ
+word_in (tac.Constant d w next) = w
+word_in (tac.Case a w x y) = w
+word_in _ = 0
+
+abbrev pub greatest_word : List Instruction → ℕ
+greatest_word [] = 0
+greatest_word (i ∷ is) = max (word_in i) (greatest_word is)
+
 -- how many virtual registers a function has
 abbrev pub register_count : CodeFunction → ℕ
 register_count c = first_free c + free_count c
@@ -32,6 +42,7 @@ pub record AreSmall (m : MapSizes) (t : Tac) (c : CodeFunction) : Type 0 where
   pub instructions : body_size m t c < 2 ^ 31
   pub room : c.room < 2 ^ 32
   pub callees : greatest_callee c.code < 2 ^ 32
+  pub words : greatest_word c.code < 2 ^ 64
 
 pub record AreAllSmall (m : MapSizes) (t : Tac) : Type 0 where
   pub functions : (u : ℕ) (c : CodeFunction) → slice_get t.functions u ≡ Some c → AreSmall m t c

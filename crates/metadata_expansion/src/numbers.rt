@@ -5,7 +5,7 @@ ghost use Rattle.std.specs.Prelude.{◌^◌, length, Some, slice_get, IfOk, IsTr
 ghost use Rattle.metadata_plan.specs.Registers.{most_temporaries, words_in};
 ghost use Rattle.metadata_expansion.specs.Numbering.{AreRegisters};
 ghost use Rattle.metadata_expansion.specs.Numbers.{AreAllSmall, AreSmall, body_size, callee, greatest_callee};
-ghost use Rattle.metadata_expansion.specs.Numbers.{register_count};
+ghost use Rattle.metadata_expansion.specs.Numbers.{greatest_word, register_count, word_in};
 
 use crate::body::prologue_size;
 use crate::homes::{free_count, greater};
@@ -52,19 +52,29 @@ fn has_few_registers(function: &CodeFunction) -> bool
     register_total(function, temporaries) < 1 << 32
 }
 
-// The number of the function that an instruction calls.
+// The number of the function that an instruction calls. A word that it gives, or with which it compares, has 64 bits.
 fn callee(instruction: &Instruction) -> usize
-    ensures { result ≡ callee instruction.now }
+    ensures value { result ≡ callee instruction.now }
+    ensures word { word_in instruction.now < 2 ^ 64 }
 {
     match instruction {
         Instruction::Call { function, .. } => *function,
+        Instruction::Constant { word, .. } => {
+            let _word = *word;
+            0
+        }
+        Instruction::Case { word, .. } => {
+            let _word = *word;
+            0
+        }
         _ => 0,
     }
 }
 
-// The greatest number of a function that instructions call.
+// The greatest number of a function that instructions call. All their words have 64 bits.
 fn greatest_callee(instructions: &[Instruction]) -> usize
-    ensures { result ≡ greatest_callee instructions.now }
+    ensures value { result ≡ greatest_callee instructions.now }
+    ensures words { greatest_word instructions.now < 2 ^ 64 }
 {
     let mut greatest = 0;
     for instruction in instructions {

@@ -1,0 +1,107 @@
+-- What is built of lowered code is built of the program.
+use Rattle.std.proofs.Common.{◌≡◌, ℕ, List, [], length, map, true, Some, refl, sym, ap, ◌∙◌, subst}
+use Rattle.std.specs.Prelude.{Result, Ok, Err, IfOk, IfErr}
+use Rattle.std.proofs.lemmas.Option.{none-some}
+use Rattle.std.proofs.lemmas.List.{length-map}
+use Rattle.sb_base.specs.Budgets.{BudgetSizes}
+use Rattle.addr_map.specs.Places.{MapSizes}
+use Rattle.c_tree.specs.Programs.{Program}
+use Rattle.source_meaning.specs.Calls.{header_of}
+use Rattle.tac_ir.specs.declared.function.Tac.{Tac}
+use Rattle.tac_ir.specs.Meaning.{header_of_code}
+use Rattle.c_lower.specs.Programs.{IsLowered}
+use Rattle.check_insert.specs.Inserted.{Inserted}
+use Rattle.integer_programs.specs.Programs.{is_integer_program}
+use Rattle.static_data.specs.Data.{first_fault, program_pointers}
+use Rattle.flat_meaning.specs.declared.function.FlatProgram.{FlatProgram}
+use Rattle.reg_plan.specs.declared.plan.FunctionPlan.{FunctionPlan}
+use Rattle.reg_plan.specs.Tests.{AreAccepted}
+use Rattle.rv_image.specs.Image.{IsImage}
+use Rattle.integer_images.specs.Images.{sizes_of, IsChecked, IsFlat, DoesWhatIsMeant}
+use Rattle.integer_images.proofs.Images.{no_statics, no_bytes}
+use Rattle.integer_compiler.specs.declared.error.CompileError.{CompileError}
+use Rattle.integer_compiler.specs.declared.error.CompileError.TheVariants.{NumbersTooLarge, TooLarge, RuntimeTooLarge}
+use Rattle.integer_compiler.specs.declared.error.CompileError.TheVariants.{FunctionTooLong, Memory}
+use Rattle.integer_compiler.specs.declared.compiler.Built.{Built}
+use Rattle.integer_compiler.specs.Built.{flat_code, IsBuilt, IsRefused, UnlessMemory}
+use Rattle.integer_compiler.proofs.Images.{accepted}
+
+-- as many functions as the text has, with checks or without
+pub lowered_count : (p : Program) (t : Tac) → IsLowered p t → length t.functions ≡ length p.functions
+lowered_count p t low =
+    sym (length-map t.functions header_of_code) ∙ ap length low.headers ∙ length-map p.functions header_of
+
+pub checked_count : (t r : Tac) → Inserted t r → length r.functions ≡ length t.functions
+checked_count t r ins =
+    sym (length-map r.functions header_of_code) ∙ ap length ins.headers ∙ length-map t.functions header_of_code
+
+-- the map of a program without static objects
+pub sizes_are : (p : Program) (budgets : BudgetSizes) (m : MapSizes) → is_integer_program p ≡ true
+    → m ≡ record { budgets = budgets; global_bytes = 0 } → m ≡ sizes_of p budgets
+sizes_are p budgets m ints e =
+    e ∙ ap {B = MapSizes} (λ n. record { budgets = budgets; global_bytes = n }) (sym (no_bytes p ints))
+
+checked_of : (p : Program) (t r : Tac) → IsLowered p t → Inserted t r → IsChecked p r
+checked_of p t r low ins = record { lowered = t; is_lowered = low; inserted = ins }
+
+pub built_for : (p : Program) (t : Tac) (m n : MapSizes) (b : Built) → IsLowered p t → m ≡ n
+    → IsBuilt (Inserted t) m b → IsBuilt (IsChecked p) n b
+built_for p t m n b low same h =
+    subst (λ k. IsBuilt (IsChecked p) k b) same
+    (record { checked = h.checked; is = checked_of p t h.checked low h.is; image = h.image; checks_are = h.checks_are })
+
+refused_one : (p : Program) (t : Tac) (m n : MapSizes) (e : CompileError) → IsLowered p t → m ≡ n
+    → IsRefused (Inserted t) m e → IsRefused (IsChecked p) n e
+refused_one p t m n e low same h =
+    subst (λ k. IsRefused (IsChecked p) k e) same
+    (record { checked = h.checked; is = checked_of p t h.checked low h.is; refuses = h.refuses })
+
+pub refused_for : (p : Program) (t : Tac) (m n : MapSizes) (e : CompileError) → IsLowered p t → m ≡ n
+    → UnlessMemory e (IsRefused (Inserted t) m e) → UnlessMemory e (IsRefused (IsChecked p) n e)
+refused_for p t m n NumbersTooLarge low same h = refused_one p t m n NumbersTooLarge low same h
+refused_for p t m n (TooLarge bytes) low same h = refused_one p t m n (TooLarge bytes) low same h
+refused_for p t m n (RuntimeTooLarge bytes) low same h = refused_one p t m n (RuntimeTooLarge bytes) low same h
+refused_for p t m n (FunctionTooLong number) low same h = refused_one p t m n (FunctionTooLong number) low same h
+refused_for p t m n Memory low same h = tt
+
+-- the flat code of what is built
+pub flat_of : (p : Program) (m : MapSizes) (b : Built) (h : IsBuilt (IsChecked p) m b)
+    → IsFlat p m (flat_code m h.checked)
+flat_of p m b h = record {
+  checked = h.checked;
+  is_checked = h.is;
+  small = h.image.small;
+  expanded = refl;
+}
+
+-- ---- what `built_of` answers
+
+pub built_result : (p : Program) (t : Tac) (m n : MapSizes) (r : Result Built CompileError) → IsLowered p t → m ≡ n
+    → IfOk r (λ b. IsBuilt (Inserted t) m b) → IfOk r (λ b. IsBuilt (IsChecked p) n b)
+built_result p t m n (Ok b) low same h = built_for p t m n b low same h
+built_result p t m n (Err e) low same h = tt
+
+pub refused_result : (p : Program) (t : Tac) (m n : MapSizes) (r : Result Built CompileError) → IsLowered p t → m ≡ n
+    → IfErr r (λ e. UnlessMemory e (IsRefused (Inserted t) m e))
+    → IfErr r (λ e. UnlessMemory e (IsRefused (IsChecked p) n e))
+refused_result p t m n (Ok b) low same h = tt
+refused_result p t m n (Err e) low same h = refused_for p t m n e low same h
+
+pub does_result : (p : Program) (budgets : BudgetSizes) (r : Result Built CompileError)
+    → ((code : FlatProgram) → IsFlat p (sizes_of p budgets) code → (plans : List FunctionPlan) → AreAccepted code plans
+    → (file : List ℕ) → IsImage (sizes_of p budgets) code plans [] [] file → DoesWhatIsMeant p budgets file)
+    → IfOk r (λ b. IsBuilt (IsChecked p) (sizes_of p budgets) b)
+    → IfOk r (λ b. DoesWhatIsMeant p budgets b.image.items)
+does_result p budgets (Ok b) law h =
+    let m = sizes_of p budgets in
+    let code = flat_code m h.checked in
+    let image = h.image.image in
+    law code (flat_of p m b h) image.plans (accepted code image.plans image.planned) b.image.items image.image
+does_result p budgets (Err e) law h = tt
+
+-- ---- without static objects no initializer is at fault
+
+pub never_faulty : (p : Program) (line : ℕ) → is_integer_program p ≡ true
+    → first_fault (program_pointers p) p.statics ≡ Some line → ⊥
+never_faulty p line ints e =
+    none-some line (sym (ap (first_fault (program_pointers p)) (no_statics p ints)) ∙ e)

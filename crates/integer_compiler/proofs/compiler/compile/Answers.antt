@@ -1,0 +1,39 @@
+use Rattle.std.proofs.Common.{◌≡◌, subst}
+use Rattle.sb_base.specs.Budgets.{AreInRange}
+use Rattle.addr_map.specs.Places.{MapSizes}
+use Rattle.c_tree.specs.View.{program_of}
+use Rattle.integer_images.specs.Images.{sizes_of}
+use Rattle.integer_compiler.proofs.Compiled.{sizes_are, built_result, refused_result, does_result}
+use Rattle.integer_compiler.proofs.compiler.compile.Goals as goal
+
+pub built_of-requires-clause-plannable : goal.built_of-requires-clause-plannable
+built_of-requires-clause-plannable c = λ r inserted small.
+    c.requires.plannable c.in_ok-lowered.lowered r c.map_of-sizes.result c.in_ok-lowered.ensures inserted small
+
+pub returns-clause-built : goal.returns-clause-built
+returns-clause-built c =
+    let p = program_of c.args.program.now in
+    built_result p c.in_ok-lowered.lowered c.map_of-sizes.result (sizes_of p c.args.budgets.now) c.built_of.result
+    c.in_ok-lowered.ensures
+    (sizes_are p c.args.budgets.now c.map_of-sizes.result c.requires.integers c.map_of-sizes.ensures)
+    c.built_of.ensures.built
+
+pub returns-clause-does : goal.returns-clause-does
+returns-clause-does c =
+    let p = program_of c.args.program.now in
+    let budgets = c.args.budgets.now in
+    let same = sizes_are p budgets c.map_of-sizes.result c.requires.integers c.map_of-sizes.ensures in
+    let range : AreInRange budgets = subst (λ (m : MapSizes). AreInRange m.budgets) same
+    c.sizes_are_in_range.ensures.budgets in
+    does_result p budgets c.built_of.result
+    (c.images_do_what_is_meant.ensures p budgets c.requires.valid c.requires.integers c.requires.parameters range)
+    (built_result p c.in_ok-lowered.lowered c.map_of-sizes.result (sizes_of p budgets) c.built_of.result
+    c.in_ok-lowered.ensures same c.built_of.ensures.built)
+
+pub returns-clause-refused : goal.returns-clause-refused
+returns-clause-refused c =
+    let p = program_of c.args.program.now in
+    refused_result p c.in_ok-lowered.lowered c.map_of-sizes.result (sizes_of p c.args.budgets.now) c.built_of.result
+    c.in_ok-lowered.ensures
+    (sizes_are p c.args.budgets.now c.map_of-sizes.result c.requires.integers c.map_of-sizes.ensures)
+    c.built_of.ensures.refused

@@ -1,0 +1,80 @@
+-- What is built of a program, and when nothing is.
+use Rattle.std.specs.Prelude.{◌≡◌, ℕ, ◌-◌, ◌^◌, min, List, [], length}
+use Rattle.addr_map.specs.Places.{MapSizes}
+use Rattle.tac_ir.specs.declared.function.Tac.{Tac}
+use Rattle.check_insert.specs.Counting.{checks}
+use Rattle.metadata_plan.specs.Laid.{program_of}
+use Rattle.integer_code.specs.Operators.{operators}
+use Rattle.metadata_expansion.specs.Homes.{homes}
+use Rattle.metadata_expansion.specs.Numbers.{AreAllSmall}
+use Rattle.flat_meaning.specs.declared.function.FlatProgram.{FlatProgram}
+use Rattle.reg_plan.specs.declared.plan.FunctionPlan.{FunctionPlan}
+use Rattle.reg_plan.specs.Planned.{ArePlanned, IsPlanOfRegisters}
+use Rattle.rv_codegen.specs.declared.code.GenerateError.{GenerateError}
+use Rattle.rv_codegen.specs.declared.code.GenerateError.TheVariants as generate
+use Rattle.rv_codegen.specs.Generated.{IsCause}
+use Rattle.rv_image.specs.Image.{IsImage}
+use Rattle.integer_compiler.specs.declared.error.CompileError.{CompileError}
+use Rattle.integer_compiler.specs.declared.error.CompileError.TheVariants.{NumbersTooLarge, TooLarge, RuntimeTooLarge}
+use Rattle.integer_compiler.specs.declared.error.CompileError.TheVariants.{FunctionTooLong, Memory}
+use Rattle.integer_compiler.specs.declared.compiler.Built.{Built}
+
+-- the flat code that checked code expands to
+abbrev pub flat_code : MapSizes → Tac → FlatProgram
+flat_code m r = program_of operators m r homes
+
+-- the plans that give out registers, for all functions of a program
+abbrev pub ArePlans : FlatProgram → List FunctionPlan → Type 0
+ArePlans code plans = ArePlanned code plans (length code.functions) (IsPlanOfRegisters code)
+
+-- the image of flat code under such plans, with no data at the start
+pub record IsPlannedImage (m : MapSizes) (code : FlatProgram) (file : List ℕ) : Type 0 where
+  pub plans : List FunctionPlan
+  pub planned : ArePlans code plans
+  pub image : IsImage m code plans [] [] file
+
+-- that of checked code
+pub record IsImageOf (m : MapSizes) (r : Tac) (file : List ℕ) : Type 0 where
+  pub small : AreAllSmall m r
+  pub image : IsPlannedImage m (flat_code m r) file
+
+-- no machine code is generated for flat code under such plans, for a cause
+pub record HasCause (m : MapSizes) (code : FlatProgram) (e : GenerateError) : Type 0 where
+  pub plans : List FunctionPlan
+  pub planned : ArePlans code plans
+  pub cause : IsCause m code plans e
+
+-- memory may be wanting before there are plans
+abbrev pub IsNotGenerated : MapSizes → FlatProgram → GenerateError → Type 0
+IsNotGenerated m code generate.Memory = Unit {0}
+IsNotGenerated m code e = HasCause m code e
+
+-- none is generated for checked code
+pub record HasNoCode (m : MapSizes) (r : Tac) (e : GenerateError) : Type 0 where
+  pub small : AreAllSmall m r
+  pub cause : HasCause m (flat_code m r) e
+
+-- when each error comes of checked code
+abbrev pub Refuses : MapSizes → Tac → CompileError → Type 0
+Refuses m r NumbersTooLarge = AreAllSmall m r → ⊥
+Refuses m r (TooLarge bytes) = HasNoCode m r (generate.TooLarge bytes)
+Refuses m r (RuntimeTooLarge bytes) = HasNoCode m r (generate.RuntimeTooLarge bytes)
+Refuses m r (FunctionTooLong number) = HasNoCode m r (generate.FunctionTooLong number)
+Refuses m r Memory = Unit {0}
+
+-- what is built of some checked code
+pub record IsBuilt (Is : Tac → Type 0) (m : MapSizes) (built : Built) : Type 0 where
+  pub checked : Tac
+  pub is : Is checked
+  pub image : IsImageOf m checked built.image.items
+  pub checks_are : built.checks ≡ min (2 ^ 64 - 1) (checks checked)
+
+-- or why nothing is
+pub record IsRefused (Is : Tac → Type 0) (m : MapSizes) (e : CompileError) : Type 0 where
+  pub checked : Tac
+  pub is : Is checked
+  pub refuses : Refuses m checked e
+
+abbrev pub UnlessMemory : CompileError → Type 0 → Type 0
+UnlessMemory Memory P = Unit {0}
+UnlessMemory _ P = P

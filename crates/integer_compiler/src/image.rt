@@ -1,0 +1,70 @@
+//! Images of flat code and of checked code.
+
+ghost use Rattle.std.specs.Prelude.{◌≡◌, ◌<◌, ◌≤◌, ◌^◌, length, Ok, Err, MatchResult, IfOk};
+ghost use Rattle.reg_plan.specs.Planned.{ArePlannable};
+ghost use Rattle.rv_codegen.specs.declared.code.GenerateError.{GenerateError};
+ghost use Rattle.metadata_expansion.specs.Numbers.{AreAllSmall};
+ghost use Rattle.integer_compiler.specs.declared.error.CompileError.{CompileError};
+ghost use Rattle.integer_compiler.specs.Errors.{IsErrorOf};
+ghost use Rattle.integer_compiler.specs.Built.{flat_code, IsPlannedImage, IsNotGenerated, IsImageOf, Refuses};
+
+use crate::error::CompileError;
+use addr_map::AddrMap;
+use flat_meaning::FlatProgram;
+use metadata_expansion::{expand, fits};
+use reg_plan::planned::registers;
+use rv_codegen::GenerateError;
+use rv_image::image_of;
+use std::alloc::Global;
+use tac_ir::Tac;
+
+/// The image of flat code under the plans that give out registers, with no data at the start; or why there is none.
+pub fn image_of_flat(
+    alloc: Global,
+    sizes: &AddrMap,
+    code: &FlatProgram,
+) -> Result<Vec<u8>, GenerateError>
+    requires count { length code.now.functions < 2 ^ 32 }
+    requires plannable { ArePlannable code.now }
+    ensures { MatchResult result (λ file. IsPlannedImage sizes.now code.now file.items)
+        (IsNotGenerated sizes.now code.now) }
+{
+    let plan = registers(alloc, code)?;
+    image_of(
+        alloc,
+        sizes,
+        code,
+        &plan.functions,
+        Vec::new(alloc),
+        Vec::new(alloc),
+    )
+}
+
+// A file that was generated, or the error that its cause is here.
+fn compiled(generated: Result<Vec<u8>, GenerateError>) -> Result<Vec<u8>, CompileError>
+    ensures ok { IfOk result (λ file. generated ≡ Ok file) }
+    ensures err { (e : CompileError) → result ≡ Err e → IsErrorOf generated e }
+{
+    match generated {
+        Ok(file) => Ok(file),
+        Err(cause) => Err(CompileError::from(cause)),
+    }
+}
+
+/// The image of checked code, whose expansion can be planned; or why there is none.
+pub fn image_of_checked(
+    alloc: Global,
+    sizes: &AddrMap,
+    checked: &Tac,
+) -> Result<Vec<u8>, CompileError>
+    requires count { length checked.now.functions ≤ 4096 }
+    requires plannable { AreAllSmall sizes.now checked.now → ArePlannable (flat_code sizes.now checked.now) }
+    ensures { MatchResult result (λ file. IsImageOf sizes.now checked.now file.items)
+        (Refuses sizes.now checked.now) }
+{
+    if !fits(alloc, sizes, checked)? {
+        return Err(CompileError::NumbersTooLarge);
+    }
+    let code = expand(alloc, sizes, checked)?;
+    compiled(image_of_flat(alloc, sizes, &code))
+}

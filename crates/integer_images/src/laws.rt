@@ -1,0 +1,67 @@
+//! Laws of images of programs of integers, each as the contract of a function that does nothing.
+
+ghost use Rattle.std.specs.Prelude.{◌≡◌, ℕ, List, [], true};
+ghost use Rattle.addr_map.specs.Places.{AreMapped};
+ghost use Rattle.sb_base.specs.Budgets.{BudgetSizes, AreInRange};
+ghost use Rattle.c_tree.specs.Programs.{Program};
+ghost use Rattle.c_tree.specs.ValidProgram.{is_valid_program};
+ghost use Rattle.tac_ir.specs.declared.function.Tac.{Tac};
+ghost use Rattle.tac_ir.specs.Meaning.{setting_of_code};
+ghost use Rattle.integer_programs.specs.Programs.{is_integer_program};
+ghost use Rattle.flat_meaning.specs.declared.function.FlatProgram.{FlatProgram};
+ghost use Rattle.reg_plan.specs.declared.plan.FunctionPlan.{FunctionPlan};
+ghost use Rattle.reg_plan.specs.Tests.{AreAccepted};
+ghost use Rattle.rv_follows.specs.Code.{IsEncodable};
+ghost use Rattle.rv_follows.specs.Start.{IsStartable};
+ghost use Rattle.rv_image.specs.Image.{IsImage};
+ghost use Rattle.integer_images.specs.Images.{HaveFewParameters, sizes_of, IsChecked, IsFlat, DoesWhatIsMeant};
+
+use behaviours::following_is_faithful;
+use c_lower::laws::lowered_code_follows_its_program;
+use check_insert::laws::checked_code_is_never_stuck;
+use flat_meaning::laws::steps_begin_at_most_one_turn;
+use integer_code::laws::operators_compute;
+use integer_lowering::laws::lowered_integers_are_integer_code;
+use rv_image::laws::{data_is_held, images_follow};
+use rv_sim::laws::machine_is_machine;
+use source_meaning::laws::running_has_begun_all_turns;
+
+/// The code of a program with its checks put in has the sizes of the program.
+pub fn code_has_the_sizes_of_its_program()
+    ensures { (p : Program) (r : Tac) → IsChecked p r → (budgets : BudgetSizes)
+        → (setting_of_code r budgets).sizes ≡ sizes_of p budgets }
+{}
+
+/// The expansion of checked code has instructions of the machine: its numbers are short, its reports are bytes, and it
+/// makes no access of memory.
+pub fn expansions_are_encodable()
+    ensures { (p : Program) (budgets : BudgetSizes) → is_valid_program p ≡ true → HaveFewParameters p
+        → AreMapped (sizes_of p budgets) → (code : FlatProgram) → IsFlat p (sizes_of p budgets) code → IsEncodable code }
+{}
+
+/// And the machine can begin it.
+pub fn expansions_are_startable()
+    ensures { (p : Program) (budgets : BudgetSizes) (code : FlatProgram)
+        → IsFlat p (sizes_of p budgets) code → IsStartable (sizes_of p budgets) code }
+{}
+
+/// An image of a valid program of integers, made of its flat code under accepted plans, with no data at the start, does
+/// what the program means: it shows just what the program does, with at most 1008 instructions for each unit of the
+/// program's work.
+pub fn images_do_what_is_meant()
+    ensures { (p : Program) (budgets : BudgetSizes) → is_valid_program p ≡ true → is_integer_program p ≡ true
+        → HaveFewParameters p → AreInRange budgets → (code : FlatProgram) → IsFlat p (sizes_of p budgets) code
+        → (plans : List FunctionPlan) → AreAccepted code plans → (file : List ℕ)
+        → IsImage (sizes_of p budgets) code plans [] [] file → DoesWhatIsMeant p budgets file }
+{
+    running_has_begun_all_turns();
+    lowered_code_follows_its_program();
+    checked_code_is_never_stuck();
+    lowered_integers_are_integer_code();
+    operators_compute();
+    steps_begin_at_most_one_turn();
+    images_follow();
+    data_is_held();
+    machine_is_machine();
+    following_is_faithful();
+}

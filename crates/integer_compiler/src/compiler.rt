@@ -1,7 +1,6 @@
 //! From a typed program to its image.
 
 ghost use Rattle.std.specs.Prelude.{◌≡◌, ◌≤◌, ◌-◌, ◌^◌, true, length, min, Ok, Err, IfOk, IfErr};
-ghost use Rattle.addr_map.specs.Places.{MapSizes};
 ghost use Rattle.c_tree.specs.View.{program_of};
 ghost use Rattle.c_tree.specs.ValidProgram.{is_valid_program};
 ghost use Rattle.tac_ir.specs.declared.function.Tac.{Tac};
@@ -22,6 +21,7 @@ use c_const::contents::InitialFault;
 use c_tree::Program;
 use check_insert::{checks, insert};
 use integer_images::laws::images_do_what_is_meant;
+use integer_plans::laws::expansions_are_plannable;
 use program_lowering::lower;
 use sb_base::Budgets;
 use std::alloc::{AllocError, Global};
@@ -94,14 +94,13 @@ pub fn compile(alloc: Global, budgets: &Budgets, program: &Program) -> Result<Bu
     requires integers { is_integer_program (program_of program.now) ≡ true }
     requires few { length (program_of program.now).functions ≤ 4096 }
     requires parameters { HaveFewParameters (program_of program.now) }
-    requires plannable { (t r : Tac) (m : MapSizes) → IsLowered (program_of program.now) t → Inserted t r
-        → AreAllSmall m r → ArePlannable (flat_code m r) }
     ensures built { IfOk result (λ built. IsBuilt (IsChecked (program_of program.now))
         (sizes_of (program_of program.now) budgets.now) built) }
     ensures does { IfOk result (λ built. DoesWhatIsMeant (program_of program.now) budgets.now built.image.items) }
     ensures refused { IfErr result (λ e. UnlessMemory e (IsRefused (IsChecked (program_of program.now))
         (sizes_of (program_of program.now) budgets.now) e)) }
 {
+    expansions_are_plannable();
     images_do_what_is_meant();
     let sizes = map_of(budgets);
     sizes_are_in_range(&sizes);

@@ -81,8 +81,9 @@ file_small m code plans file image =
 -- ---- the image
 
 module _ (p : Program) (budgets : BudgetSizes) (mapped : AreMapped (sizes_of p budgets))
-    (valid : is_valid_program p ≡ true) (few : HaveFewParameters p) (r : Tac) (checked : IsChecked p r)
-    (small : AreAllSmall (sizes_of p budgets) r) (ops : AreOperators operators) (part : IsIntegerCode r)
+    (valid : is_valid_program p ≡ true) (ints : is_integer_program p ≡ true) (few : HaveFewParameters p) (r : Tac)
+    (checked : IsChecked p r) (small : AreAllSmall (sizes_of p budgets) r) (ops : AreOperators operators)
+    (part : IsIntegerCode r)
     (source : (input : List ℕ) → IsSource (meaning p budgets input))
     (lowered : (input : List ℕ) → Follows 8 (meaning p budgets input) (tac_meaning r budgets input))
     (steps : (m : MapSizes) (q : FlatProgram) → IsStepping (step m q) seen (λ (x : Stage). x ≡ Stuck)) where
@@ -131,7 +132,7 @@ module _ (p : Program) (budgets : BudgetSizes) (mapped : AreMapped (sizes_of p b
     image_follows input =
         follows_trans 168 6 (meaning p budgets input) (flat_meaning m code memory input)
         (behaviour (start_of (content_of file)) input) (code_follows memory input)
-        (follows.follows memory input accepted (encodable p m r mapped valid few checked small) (startable m r) held bytes
+        (follows.follows memory input accepted (encodable p m r mapped valid ints few checked small) (startable m r) held bytes
         (code_runs memory input))
 
     pub does_what_is_meant : ((s : MachineState) (input : List ℕ) → IsMachine (behaviour s input))

@@ -40,7 +40,8 @@ use Rattle.metadata_plan.specs.Laid.{entry_of, program_of}
 use Rattle.integer_code.specs.Operators.{operators}
 use Rattle.metadata_expansion.specs.Homes.{homes}
 use Rattle.metadata_expansion.specs.Numbers.{greatest_word, AreAllSmall}
-use Rattle.integer_lowering.proofs.Programs.{same_at, valid_at}
+use Rattle.integer_programs.specs.Programs.{is_integer_program}
+use Rattle.integer_lowering.proofs.Programs.{valid_function, function_is}
 use Rattle.integer_images.specs.Images.{HaveFewParameters, IsChecked}
 use Rattle.integer_images.proofs.Instructions.{IsFit, AreFit, fit_append, fit_at, fit_if, stack_fit, short}
 use Rattle.integer_images.proofs.Blocks.{block_fit, zero_variables_fit, jump_fit, jumps_fit}
@@ -62,40 +63,29 @@ some_room : (p : Program) (n : ℕ) (k : Kind) (f : Function) → 8 ≤ room p.s
 unfolding room
 some_room p n k f = omega arith
 
-module _ (p : Program) (r : Tac) (valid : is_valid_program p ≡ true) (few : HaveFewParameters p)
-    (checked : IsChecked p r) where
-  functions_valid : are_functions p 0 p.functions ≡ true
-  unfolding is_valid_program
-  functions_valid =
-      (five (list_all (is_function_type p) p.function_types) (are_all_different p.function_types)
-      (list_all (is_static_object p) p.statics) (are_functions p 0 p.functions) (is_main p) valid).3
+module _ (p : Program) (r : Tac) (valid : is_valid_program p ≡ true) (ints : is_integer_program p ≡ true)
+    (few : HaveFewParameters p) (checked : IsChecked p r) (u : ℕ) (c : CodeFunction)
+    (at : slice_get r.functions u ≡ Some c) where
+  abbrev source : (f : Function) × (function_at p.functions u ≡ Some f) × (header_of_code c ≡ header_of f)
+  source = function_is p checked.lowered r valid ints checked.is_lowered checked.inserted u c at
 
-  module _ (u : ℕ) (c : CodeFunction) (at : slice_get r.functions u ≡ Some c) where
-    abbrev source : (f : Function) × (function_at p.functions u ≡ Some f) × (header_of_code c ≡ header_of f)
-    source = same_at r.functions p.functions (checked.inserted.headers ∙ checked.is_lowered.headers) u c at
+  abbrev f : Function
+  f = source.0
 
-    abbrev f : Function
-    f = source.0
+  pub has_room : 8 ≤ c.room
+  has_room =
+      let is =
+      (valid_function p checked.lowered r valid ints checked.is_lowered checked.inserted u f source.1).room_is in
+      let same = ap (λ (h : Header). h.room) source.2 in
+      let some = some_room p u (signature_at p f.type_number).result f in
+      omega (arith, same, is, some)
 
-    pub has_room : 8 ≤ c.room
-    has_room =
-        let h = six (has_number p.function_types f.type_number)
-        (are_parameters f.parameters (signature_at p f.type_number).parameters) (list_all is_variable (all_of f))
-        (declares_all f)
-        (are_statements (function_scope p f) (record { may_break = false; may_continue = false }) f.body)
-        (f.room == room p.statics (0 + u) (signature_at p f.type_number).result f)
-        (valid_at p p.functions 0 u f functions_valid source.1) in
-        let same = ap (λ (h : Header). h.room) source.2 in
-        let is = eqb-true f.room (room p.statics (0 + u) (signature_at p f.type_number).result f) h.5 in
-        let some = some_room p (0 + u) (signature_at p f.type_number).result f in
-        omega (arith, same, is, some)
-
-    pub has_few : words_in c.parameters ≤ 1024
-    has_few =
-        let same = ap (λ (h : Header). length h.parameters) source.2 in
-        let count = few.each u f source.1 in
-        let words = words_few c.parameters in
-        omega (arith, same, count, words)
+  pub has_few : words_in c.parameters ≤ 1024
+  has_few =
+      let same = ap (λ (h : Header). length h.parameters) source.2 in
+      let count = few.each u f source.1 in
+      let words = words_few c.parameters in
+      omega (arith, same, count, words)
 
 -- ---- the functions of an expansion
 
@@ -196,7 +186,8 @@ module _ (m : MapSizes) (t : Tac) where
 -- ---- expansions are encodable
 
 module _ (p : Program) (m : MapSizes) (t : Tac) (mapped : AreMapped m) (valid : is_valid_program p ≡ true)
-    (few : HaveFewParameters p) (checked : IsChecked p t) (small : AreAllSmall m t) where
+    (ints : is_integer_program p ≡ true) (few : HaveFewParameters p) (checked : IsChecked p t)
+    (small : AreAllSmall m t) where
   fit : (u pc : ℕ) (i : FlatInstruction) → instruction_at (program_of operators m t homes) u pc ≡ Some i → IsFit i
   fit = instruction_fit m t mapped.budgets.calls.greatest small
 
@@ -217,7 +208,7 @@ module _ (p : Program) (m : MapSizes) (t : Tac) (mapped : AreMapped m) (valid : 
     branch = λ u pc op y z past e. fit u pc (flat.Branch op y z past) e;
     report = λ u pc ending e. (fit u pc (flat.End ending) e).0;
     status = λ u pc ending e. (fit u pc (flat.End ending) e).1;
-    rooms = of_each (λ (g : FlatFunction). 8 ≤ g.room) (omega arith) (has_room p t valid few checked);
-    parameters = of_each (λ (g : FlatFunction). g.parameters ≤ 1024) (omega arith) (has_few p t valid few checked);
+    rooms = of_each (λ (g : FlatFunction). 8 ≤ g.room) (omega arith) (has_room p t valid ints few checked);
+    parameters = of_each (λ (g : FlatFunction). g.parameters ≤ 1024) (omega arith) (has_few p t valid ints few checked);
     results = of_each (λ (g : FlatFunction). g.results ≤ 1024) (omega arith) (λ u c at. omega arith);
   }

@@ -35,8 +35,9 @@ pub fn code_has_the_sizes_of_its_program()
 /// The expansion of checked code has instructions of the machine: its numbers are short, its reports are bytes, and it
 /// makes no access of memory.
 pub fn expansions_are_encodable()
-    ensures { (p : Program) (budgets : BudgetSizes) → is_valid_program p ≡ true → HaveFewParameters p
-        → AreMapped (sizes_of p budgets) → (code : FlatProgram) → IsFlat p (sizes_of p budgets) code → IsEncodable code }
+    ensures { (p : Program) (budgets : BudgetSizes) → is_valid_program p ≡ true → is_integer_program p ≡ true
+        → HaveFewParameters p → AreMapped (sizes_of p budgets) → (code : FlatProgram)
+        → IsFlat p (sizes_of p budgets) code → IsEncodable code }
 {}
 
 /// And the machine can begin it.

@@ -70,7 +70,7 @@ code_at (x ∷ cs) (y ∷ fs) e (suc u) below =
     code_at cs fs (ap (drop 1) e) u
     (let b = ltb-true (suc u) (suc (length fs)) below in lt-ltb u (length fs) (omega arith))
 
-pub valid_at : (q : Program) (fs : List Function) (n u : ℕ) (f : Function) → are_functions q n fs ≡ true
+valid_at : (q : Program) (fs : List Function) (n u : ℕ) (f : Function) → are_functions q n fs ≡ true
     → function_at fs u ≡ Some f → is_function q (n + u) f ≡ true
 valid_at q [] n u f e at = absurd (none-some f at)
 valid_at q (x ∷ fs) n zero f e at =

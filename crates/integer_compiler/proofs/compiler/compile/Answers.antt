@@ -1,4 +1,4 @@
-use Rattle.std.proofs.Common.{◌≡◌, subst}
+use Rattle.std.proofs.Common.{subst}
 use Rattle.sb_base.specs.Budgets.{AreInRange}
 use Rattle.addr_map.specs.Places.{MapSizes}
 use Rattle.c_tree.specs.View.{program_of}
@@ -8,7 +8,8 @@ use Rattle.integer_compiler.proofs.compiler.compile.Goals as goal
 
 pub built_of-requires-clause-plannable : goal.built_of-requires-clause-plannable
 built_of-requires-clause-plannable c = λ r inserted small.
-    c.requires.plannable c.in_ok-lowered.lowered r c.map_of-sizes.result c.in_ok-lowered.ensures inserted small
+    c.expansions_are_plannable.ensures (program_of c.args.program.now) c.in_ok-lowered.lowered r c.map_of-sizes.result
+    c.requires.valid c.requires.integers c.in_ok-lowered.ensures inserted small
 
 pub returns-clause-built : goal.returns-clause-built
 returns-clause-built c =

@@ -5,6 +5,6 @@ use Rattle.integer_images.proofs.Programs.{encodable}
 use Rattle.integer_images.proofs.laws.expansions_are_encodable.Goals as goal
 
 pub returns : goal.returns
-returns c = λ p budgets valid few mapped code flat.
+returns c = λ p budgets valid ints few mapped code flat.
     subst IsEncodable (sym flat.expanded)
-    (encodable p (sizes_of p budgets) flat.checked mapped valid few flat.is_checked flat.small)
+    (encodable p (sizes_of p budgets) flat.checked mapped valid ints few flat.is_checked flat.small)

@@ -1,36 +1,34 @@
 -- A function of integers can be planned.
-use Rattle.std.proofs.Common.{◌≡◌, ◌⊎◌, inl, inr, ⊎_elim, ℕ, zero, suc, ◌+◌, ◌*◌, ◌^◌, ◌<◌, ◌≤◌, max, refl, sym, ap, ◌∙◌}
-use Rattle.std.proofs.Common.{subst, arith, Bool, true, false, List, [], ◌∷◌, ◌++◌, length, length-append, Option, Some, None}
+use Rattle.std.proofs.Common.{◌≡◌, ◌⊎◌, inl, inr, ⊎_elim, ℕ, suc, ◌+◌, ◌<◌, ◌≤◌, sym, ◌∙◌}
+use Rattle.std.proofs.Common.{subst, arith, true, List, length, length-append, Some}
 use Rattle.std.specs.Prelude.{slice_get}
 use Rattle.std.proofs.lemmas.Bool.{cases_lt, cases_Bool}
-use Rattle.std.proofs.lemmas.Option.{same_Some, none-some, slice_get-get_or}
+use Rattle.std.proofs.lemmas.Option.{same_Some}
 use Rattle.addr_map.specs.Places.{MapSizes}
 use Rattle.tac_ir.specs.declared.function.CodeFunction.{CodeFunction}
 use Rattle.tac_ir.specs.declared.function.Tac.{Tac}
 use Rattle.tac_ir.specs.Meaning.{function_in as code_in}
 use Rattle.flat_meaning.specs.declared.instruction.FlatInstruction.{FlatInstruction}
 use Rattle.flat_meaning.specs.declared.instruction.FlatInstruction.TheVariants as flat
-use Rattle.flat_meaning.specs.declared.function.FlatFunction.{FlatFunction}
 use Rattle.flat_meaning.specs.declared.function.FlatProgram.{FlatProgram}
 use Rattle.flat_meaning.specs.Calls.{function_in}
 use Rattle.flat_meaning.specs.Meaning.{parameters_of, results_of}
-use Rattle.metadata_plan.specs.Registers.{words_in, all_variables, most_temporaries}
-use Rattle.metadata_plan.specs.Part.{takes, are_integers, IsIntegerFunction}
-use Rattle.metadata_plan.specs.Laid.{begin_size, size_from, begin_code, laid_from, body_of, function_of}
-use Rattle.metadata_plan.proofs.Numbers.{integers_words, integers_front, integers_back}
+use Rattle.metadata_plan.specs.Registers.{words_in, all_variables}
+use Rattle.metadata_plan.specs.Part.{takes, IsIntegerFunction}
+use Rattle.metadata_plan.specs.Laid.{begin_code, laid_from, body_of, function_of}
+use Rattle.metadata_plan.proofs.Numbers.{integers_words, integers_front}
 use Rattle.metadata_plan.proofs.Laying.{begin_length, laid_length}
 use Rattle.integer_code.specs.Operators.{operators}
-use Rattle.metadata_expansion.specs.Homes.{free_count, homes}
-use Rattle.metadata_expansion.specs.Numbers.{AreSmall, body_size, register_count}
-use Rattle.reg_plan.specs.Effects.{read_by, is_read, made_by, is_among, one, Leads}
+use Rattle.metadata_expansion.specs.Homes.{homes}
+use Rattle.metadata_expansion.specs.Numbers.{AreSmall, body_size}
+use Rattle.reg_plan.specs.Effects.{read_by, is_read, made_by, is_among}
 use Rattle.reg_plan.specs.Needs.{ReadsAt, MakesAt, LeadsAt, IsNeeded, Read, Made, Before}
-use Rattle.reg_plan.specs.Accepted.{HasHome}
 use Rattle.reg_plan.specs.Planned.{IsPlannable}
 use Rattle.temporary_liveness.specs.Liveness.{IsLive}
 use Rattle.integer_plans.proofs.Flow.{one_is, one_has, reads_nothing, maker_onward}
 use Rattle.integer_plans.proofs.Paths.{ReadWithin}
 use Rattle.integer_plans.proofs.Roles.{Role}
-use Rattle.integer_plans.proofs.Homes.{homes_length, word, home_at, word_low, role_low, words_differ}
+use Rattle.integer_plans.proofs.Homes.{homes_length, word, home_at, word_low, role_low, words_differ, HasRoom}
 use Rattle.integer_plans.proofs.Predecessors.{named_at, one_predecessor, zero_at}
 use Rattle.integer_plans.proofs.Live.{none_read}
 
@@ -58,12 +56,19 @@ module _ (m : MapSizes) (t : Tac) (c : CodeFunction) (p : FlatProgram) (f : ℕ)
   needed_by _ _ (Made pc q y l r) high = inr (pc, l, r)
   needed_by _ _ (Before pc q y l h not_made) high =
       ⊎_elim
-      (λ path. inl (suc path.0, (l.0, l.1, inr (
-        ⊎_elim (λ e. absurd (not_made (l.0, l.1, e))) (λ e. e) (cases_Bool (is_among (made_by p l.0) y)),
-        q,
-        l.2,
-        path.1,
-      ))))
+      (λ path. inl (
+        suc path.0,
+        (
+          l.0,
+          l.1,
+          inr (
+            ⊎_elim (λ e. absurd (not_made (l.0, l.1, e))) (λ e. e) (cases_Bool (is_among (made_by p l.0) y)),
+            q,
+            l.2,
+            path.1,
+          ),
+        ),
+      ))
       (λ maker.
       let same = one_predecessor m t c p f gives callees part.variables pc maker.0 q y high maker.1 maker.2 l in
       absurd (not_made (subst (λ z. MakesAt p (body_of operators m t c) z y) (sym same) maker.2)))
@@ -152,11 +157,7 @@ module _ (m : MapSizes) (t : Tac) (c : CodeFunction) (p : FlatProgram) (f : ℕ)
       let l = laid_length operators m t c 0 c.code in
       omega (arith, a, b, l)
 
-  -- every home lies within the activation record
-  abbrev pub HasRoom : Type 0
-  HasRoom = 8 * (words_in (all_variables c) + most_temporaries c.code + free_count c) + 8 ≤ c.room
-
-  pub plannable : AreSmall m t c → ((z : ℕ) → IsLive c.code c.entry z → ⊥) → HasRoom
+  pub plannable : AreSmall m t c → ((z : ℕ) → IsLive c.code c.entry z → ⊥) → HasRoom c
       → IsPlannable p f (function_of operators m t c (homes c))
   plannable small none room = record {
     count = let n = body_length in let s = small.instructions in omega (arith, n, s);

@@ -1,7 +1,7 @@
 -- A path through flat code to where a temporary's register is read follows one through three-address code.
-use Rattle.std.proofs.Common.{◌≡◌, ◌⊎◌, inl, inr, ⊎_elim, ℕ, zero, suc, ◌+◌, ◌<◌, ◌≤◌, max, refl, sym, ap, ◌∙◌, subst}
-use Rattle.std.proofs.Common.{arith, Bool, true, false, List, [], ◌∷◌, ◌++◌, length, Option, Some, None, length-append}
-use Rattle.std.specs.Prelude.{slice_get, nat_lt, nat_le, ◌==◌, ◌&&◌, ◌||◌, if◌then◌else◌}
+use Rattle.std.proofs.Common.{◌≡◌, ◌⊎◌, inl, inr, ⊎_elim, ℕ, zero, suc, ◌+◌, ◌<◌, ◌≤◌, refl, sym, ap, ◌∙◌, subst}
+use Rattle.std.proofs.Common.{arith, Bool, true, false, List, [], ◌∷◌, length, Some, length-append}
+use Rattle.std.specs.Prelude.{slice_get, nat_lt, nat_le, ◌==◌, if◌then◌else◌}
 use Rattle.std.proofs.lemmas.Bool.{ltb-true, lt-ltb, le-leb, eqb-true, eq-eqb, and_parts, and_from, or_left, or_right}
 use Rattle.std.proofs.lemmas.Bool.{cases_Bool, false≢true}
 use Rattle.std.proofs.lemmas.Option.{same_Some, none-some}
@@ -26,23 +26,23 @@ use Rattle.flat_meaning.specs.declared.instruction.FlatInstruction.TheVariants a
 use Rattle.flat_meaning.specs.declared.function.FlatProgram.{FlatProgram}
 use Rattle.flat_meaning.specs.Calls.{function_in}
 use Rattle.flat_meaning.specs.Meaning.{parameters_of, results_of}
-use Rattle.flat_routines.specs.Routine.{HasAt}
 use Rattle.metadata_plan.specs.Registers.{words_of, words_in, all_variables, most_temporaries, variable_register}
 use Rattle.metadata_plan.specs.Registers.{temporary_register, first_free}
-use Rattle.metadata_plan.specs.Part.{takes, are_integers, is_integer_instruction, is_integer_update, SafeWithin, IsSafeFrom}
+use Rattle.metadata_plan.specs.Part.{takes, are_integers, is_integer_instruction, is_integer_update, SafeWithin}
+use Rattle.metadata_plan.specs.Part.{IsSafeFrom}
 use Rattle.metadata_plan.specs.Blocks.{block, prologue, zeros, zero_variables}
 use Rattle.metadata_plan.specs.Expanded as expanded
 use Rattle.metadata_plan.specs.Laid.{place_of, body_of}
 use Rattle.metadata_plan.proofs.Numbers.{integers_words, integers_register, most_at}
 use Rattle.metadata_plan.proofs.Laying.{function_expands}
 use Rattle.integer_code.specs.Operators.{operators}
-use Rattle.metadata_expansion.specs.Homes.{argument_count, most_arguments, free_count}
-use Rattle.reg_plan.specs.Effects.{read_by, is_read, made_by, is_among, next_of, taken_of, Leads}
-use Rattle.temporary_liveness.specs.Liveness.{is_right, reads, writes, LiveWithin, IsLive}
-use Rattle.integer_plans.proofs.Flow.{Registers, Flow, Sources, Makes, reads_nothing, one_has, sources_read, flow_append}
+use Rattle.metadata_expansion.specs.Homes.{argument_count, free_count}
+use Rattle.reg_plan.specs.Effects.{read_by, is_read, Leads}
+use Rattle.temporary_liveness.specs.Liveness.{reads, writes, LiveWithin, IsLive}
+use Rattle.integer_plans.proofs.Flow.{Registers, Flow, Sources, Makes, reads_nothing, sources_read, flow_append}
 use Rattle.integer_plans.proofs.Paths.{ReadWithin, longer, Gets, through_list, through_all}
 use Rattle.integer_plans.proofs.Roles.{Role}
-use Rattle.integer_plans.proofs.Blocks.{Last, Needs, NeedsRight, NeedsArgument, IsPassedBy, IsPassed, block_flow, block_makes}
+use Rattle.integer_plans.proofs.Blocks.{Last, Needs, NeedsRight, NeedsArgument, IsPassed, block_flow, block_makes}
 use Rattle.integer_plans.proofs.Predecessors.{arguments_at, two_ways}
 
 -- ---- an instruction that a path of integers comes to
@@ -86,8 +86,11 @@ module _ (t : Tac) (c : CodeFunction) (integers : are_integers (all_variables c)
       first : (n == 1) ≡ true → ReadBy c (tac.Library r line d n next) (temporary_register c d)
       first e =
           let one = eqb-true n 1 e in
-          inr (d, and_from (nat_le d d) (nat_lt d (d + n)) (le-leb d d (omega arith)) (lt-ltb d (d + n) (omega arith)),
-          refl)
+          inr (
+            d,
+            and_from (nat_le d d) (nat_lt d (d + n)) (le-leb d d (omega arith)) (lt-ltb d (d + n) (omega arith)),
+            refl,
+          )
 
       by : (q : Routine) → is_integer_instruction t (length (all_variables c)) (tac.Library q line d n next) ≡ true
           → NeedsArgument c (ReadBy c (tac.Library r line d n next)) q d
@@ -95,8 +98,12 @@ module _ (t : Tac) (c : CodeFunction) (integers : are_integers (all_variables c)
       by Exit e = first e
       by _ e = tt
   needs_read (tac.Call f line d n next) e =
-      λ j lt. inr (d + j, and_from (nat_le d (d + j)) (nat_lt (d + j) (d + n)) (le-leb d (d + j) (omega arith))
-      (lt-ltb (d + j) (d + n) (omega arith)), refl)
+      λ j lt. inr (
+        d + j,
+        and_from (nat_le d (d + j)) (nat_lt (d + j) (d + n)) (le-leb d (d + j) (omega arith))
+            (lt-ltb (d + j) (d + n) (omega arith)),
+        refl,
+      )
   needs_read (tac.Return a) e = inr (a, eq-eqb a a refl, refl)
   needs_read (tac.Constant d w next) e = tt
   needs_read (tac.ZeroOf kind d next) e = tt

@@ -1,6 +1,6 @@
 -- Behind what makes a register of a temporary or one for a block's own use the code comes from there alone.
-use Rattle.std.proofs.Common.{◌≡◌, ◌⊎◌, inl, inr, ⊎_elim, ℕ, zero, suc, ◌+◌, ◌-◌, ◌<◌, ◌≤◌, max, refl, sym, ap, ◌∙◌}
-use Rattle.std.proofs.Common.{subst, arith, Bool, true, false, List, [], ◌∷◌, ◌++◌, length, drop, Option, Some, None}
+use Rattle.std.proofs.Common.{◌≡◌, ⊎_elim, ℕ, zero, suc, ◌+◌, ◌<◌, ◌≤◌, refl, sym, ap, ◌∙◌}
+use Rattle.std.proofs.Common.{subst, arith, Bool, true, false, List, [], ◌∷◌, ◌++◌, length, Some}
 use Rattle.std.proofs.Common.{length-append}
 use Rattle.std.specs.Prelude.{slice_get, ◌==◌, if◌then◌else◌}
 use Rattle.std.proofs.lemmas.Bool.{cases_lt}
@@ -17,30 +17,32 @@ use Rattle.tac_ir.specs.declared.function.CodeFunction.{CodeFunction}
 use Rattle.tac_ir.specs.declared.function.Tac.{Tac}
 use Rattle.tac_ir.specs.Meaning.{function_in as code_in}
 use Rattle.tac_ir.specs.Edges.{successors}
-use Rattle.tac_ir.specs.Temporaries.{temporaries, right_count, call_count}
+use Rattle.tac_ir.specs.Temporaries.{temporaries, right_count}
 use Rattle.flat_meaning.specs.declared.instruction.FlatInstruction.{FlatInstruction}
 use Rattle.flat_meaning.specs.declared.instruction.FlatInstruction.TheVariants as flat
 use Rattle.flat_meaning.specs.declared.function.FlatProgram.{FlatProgram}
 use Rattle.flat_meaning.specs.Calls.{function_in}
 use Rattle.flat_meaning.specs.Meaning.{parameters_of, results_of}
 use Rattle.metadata_plan.specs.Registers.{words_of, words_in, all_variables, most_temporaries}
-use Rattle.metadata_plan.specs.Registers.{variable_register, temporary_register, first_free}
 use Rattle.metadata_plan.specs.Part.{takes, are_integers}
 use Rattle.metadata_plan.specs.Blocks.{block, prologue, zeros, zero_variables}
-use Rattle.metadata_plan.specs.Laid.{jump, times_in, falls, jumps, jump_count, size_at, size_from, place_of, begin_code, body_of}
-use Rattle.metadata_plan.specs.Laid.{begin_size, laid_from}
+use Rattle.metadata_plan.specs.Laid.{jump, times_in, falls, jumps, jump_count, size_at, size_from, place_of}
+use Rattle.metadata_plan.specs.Laid.{begin_code, body_of}
+use Rattle.metadata_plan.specs.Laid.{laid_from}
 use Rattle.metadata_plan.proofs.Numbers.{is_integer_variable, integers_words, integers_back, integers_front, most_at}
 use Rattle.metadata_plan.proofs.Laying.{part_of, part_stands, next_place, begin_length, place_is, falls_to_next}
 use Rattle.metadata_plan.proofs.Laying.{drop_past}
 use Rattle.integer_code.specs.Operators.{operators}
-use Rattle.metadata_expansion.specs.Homes.{argument_count, most_arguments, free_count}
-use Rattle.reg_plan.specs.Effects.{read_by, is_read, made_by, is_among, one, Leads}
-use Rattle.reg_plan.specs.Needs.{ReadsAt, MakesAt, LeadsAt}
-use Rattle.integer_plans.proofs.Flow.{Flow, one_is, one_has, reads_nothing, none_has, maker_onward, flow_names, flow_leads}
+use Rattle.metadata_expansion.specs.Homes.{argument_count, most_arguments}
+use Rattle.reg_plan.specs.Effects.{read_by, is_read, made_by, is_among, Leads}
+use Rattle.reg_plan.specs.Needs.{MakesAt, LeadsAt}
+use Rattle.integer_plans.proofs.Flow.{Flow, one_is, one_has, reads_nothing, none_has, maker_onward, flow_names}
+use Rattle.integer_plans.proofs.Flow.{flow_leads}
 use Rattle.integer_plans.proofs.Roles.{Role, OfVariable, variable_role, temporary_role}
 use Rattle.integer_plans.proofs.Blocks.{Last, Needs, NeedsRight, NeedsArgument, block_flow}
 use Rattle.integer_plans.proofs.Places.{get_append, get_left, get_right, has_get, jump_onward, jump_makes, jump_reads}
-use Rattle.integer_plans.proofs.Places.{IsWay, jumps_at, IsJumped, entry_jumped, way_jumped, IsOfNode, body_at, part_has}
+use Rattle.integer_plans.proofs.Places.{IsWay, jumps_at, IsJumped, entry_jumped, way_jumped, IsOfNode, body_at}
+use Rattle.integer_plans.proofs.Places.{part_has}
 
 -- ---- what an instruction needs
 
@@ -54,7 +56,8 @@ needs_role c (tac.UpdatePlain w k f line d x right next) low = (variable_role c 
     by One low = tt
 needs_role c (tac.Convert kind d a next) low = temporary_role c a (omega arith)
 needs_role c (tac.Unary op ty d a next) low = temporary_role c a (omega arith)
-needs_role c (tac.Binary op ty line d a b next) low = (temporary_role c a (omega arith), temporary_role c b (omega arith))
+needs_role c (tac.Binary op ty line d a b next) low =
+    (temporary_role c a (omega arith), temporary_role c b (omega arith))
 needs_role c (tac.Branch a x y) low = temporary_role c a (omega arith)
 needs_role c (tac.Case a w x y) low = temporary_role c a (omega arith)
 needs_role c (tac.Library r line d n next) low = by r
@@ -276,7 +279,8 @@ module _ (m : MapSizes) (t : Tac) (c : CodeFunction) (p : FlatProgram) (f : ℕ)
       of_node : IsOfNode m t c pc x → LeadsTo pc q
       of_node h = by (stands_at h.node h.instruction h.offset pc x h.place_is h.at)
         where
-          whole : (z : FlatInstruction) → slice_get (part_of operators m t c h.node h.instruction) (suc h.offset) ≡ Some z
+          whole : (z : FlatInstruction)
+              → slice_get (part_of operators m t c h.node h.instruction) (suc h.offset) ≡ Some z
               → slice_get (body_of operators m t c) (pc + 1) ≡ Some z
           whole z at =
               let place : place_of operators m t c h.node + suc h.offset ≡ pc + 1 = omega (arith, h.place_is) in
@@ -354,8 +358,7 @@ module _ (m : MapSizes) (t : Tac) (c : CodeFunction) (p : FlatProgram) (f : ℕ)
       last_of_all r size =
           let next = next_place operators m t c (suc w) i there w (omega arith) in
           let place : pc ≡ place_of operators m t c (suc w) + r = omega (arith, next, size, behind) in
-          let z = part_has m t c (suc w) i r there (omega (arith, size)) in
-          (
+          let z = part_has m t c (suc w) i r there (omega (arith, size)) in (
             z.0,
             stands_at (suc w) i r pc z.0 place z.1,
             ap (slice_get (body_of operators m t c)) place ∙ z.2,

@@ -1,9 +1,9 @@
 -- What the virtual registers of a function are for.
-use Rattle.std.proofs.Common.{◌≡◌, ⊎_elim, ℕ, zero, suc, ◌+◌, ◌*◌, ◌<◌, ◌≤◌, max, List, [], ◌∷◌, length, arith}
+use Rattle.std.proofs.Common.{◌≡◌, ⊎_elim, ℕ, zero, suc, ◌+◌, ◌<◌, ◌≤◌, List, [], ◌∷◌, arith}
 use Rattle.std.proofs.lemmas.Bool.{cases_lt}
 use Rattle.c_tree.specs.declared.program.Variable.{Variable}
 use Rattle.tac_ir.specs.declared.function.CodeFunction.{CodeFunction}
-use Rattle.metadata_plan.specs.Registers.{words_of, words_in, register_of, all_variables, most_temporaries}
+use Rattle.metadata_plan.specs.Registers.{words_in, register_of, all_variables, most_temporaries}
 use Rattle.metadata_plan.specs.Registers.{variable_register, temporary_register, first_free}
 use Rattle.metadata_expansion.specs.Homes.{free_count}
 

@@ -41,7 +41,7 @@ module _ (m : MapSizes) (t : Tac) (c : CodeFunction) (p : FlatProgram) (f : ℕ)
   body = body_of operators m t c
 
   -- what is needed is named
-  needed_role : (pc y : ℕ) → IsNeeded p f (body_of operators m t c) pc y → Role c y
+  needed_role : (pc y : ℕ) → IsNeeded p f body pc y → Role c y
   needed_role _ _ (Read pc y r) = (named_at m t c p f gives callees part.variables pc r.0 y r.1).read r.2
   needed_role _ _ (Made pc q y l r) = (named_at m t c p f gives callees part.variables pc r.0 y r.1).made r.2
   needed_role _ _ (Before pc q y l h not_made) = needed_role q y h
@@ -49,9 +49,9 @@ module _ (m : MapSizes) (t : Tac) (c : CodeFunction) (p : FlatProgram) (f : ℕ)
   -- ---- registers behind those of the variables
 
   -- a path leads to where it is read, or the one way there is from where it is made
-  needed_by : (pc y : ℕ) → IsNeeded p f (body_of operators m t c) pc y → words_in (all_variables c) ≤ y
-      → ((k : ℕ) × ReadWithin p f gives (body_of operators m t c) k pc y)
-      ⊎ ((q : ℕ) × LeadsAt (body_of operators m t c) q pc × MakesAt p (body_of operators m t c) q y)
+  needed_by : (pc y : ℕ) → IsNeeded p f body pc y → words_in (all_variables c) ≤ y
+      → ((k : ℕ) × ReadWithin p f gives body k pc y)
+      ⊎ ((q : ℕ) × LeadsAt body q pc × MakesAt p body q y)
   needed_by _ _ (Read pc y r) high = inl (1, (r.0, r.1, inl r.2))
   needed_by _ _ (Made pc q y l r) high = inr (pc, l, r)
   needed_by _ _ (Before pc q y l h not_made) high =
@@ -71,11 +71,11 @@ module _ (m : MapSizes) (t : Tac) (c : CodeFunction) (p : FlatProgram) (f : ℕ)
       ))
       (λ maker.
       let same = one_predecessor m t c p f gives callees part.variables pc maker.0 q y high maker.1 maker.2 l in
-      absurd (not_made (subst (λ z. MakesAt p (body_of operators m t c) z y) (sym same) maker.2)))
+      absurd (not_made (subst (λ z. MakesAt p body z y) (sym same) maker.2)))
       (needed_by q y h high)
 
   none_behind : ((z : ℕ) → IsLive c.code c.entry z → ⊥) → (y : ℕ) → words_in (all_variables c) ≤ y
-      → IsNeeded p f (body_of operators m t c) 0 y → ⊥
+      → IsNeeded p f body 0 y → ⊥
   none_behind none y high h =
       ⊎_elim (λ path. none_read m t c p f gives callees part.variables none part.safe path.0 y high path.1)
       (λ maker.
@@ -92,38 +92,38 @@ module _ (m : MapSizes) (t : Tac) (c : CodeFunction) (p : FlatProgram) (f : ℕ)
   count = integers_words (all_variables c) part.variables ∙ length-append c.parameters c.variables
 
   -- what makes one of them 0 reads nothing
-  zeroed : (pc : ℕ) (x : FlatInstruction) → pc < length c.variables → slice_get (body_of operators m t c) pc ≡ Some x
+  zeroed : (pc : ℕ) (x : FlatInstruction) → pc < length c.variables → slice_get body pc ≡ Some x
       → x ≡ flat.Constant (length c.parameters + pc) 0
   zeroed pc x lt e =
       same_Some x (flat.Constant (length c.parameters + pc) 0)
       (sym e ∙ zero_at m t c p f gives callees part.variables pc lt)
 
-  zeroed_reads : (pc y : ℕ) → pc < length c.variables → ReadsAt p f (body_of operators m t c) pc y → ⊥
+  zeroed_reads : (pc y : ℕ) → pc < length c.variables → ReadsAt p f body pc y → ⊥
   zeroed_reads pc y lt r =
       reads_nothing y (subst (λ z. is_read (read_by p f z) y ≡ true) (zeroed pc r.0 lt r.1) r.2)
 
   zeroed_makes : (pc : ℕ) → pc < length c.variables
-      → MakesAt p (body_of operators m t c) pc (length c.parameters + pc)
+      → MakesAt p body pc (length c.parameters + pc)
   zeroed_makes pc lt = (
     flat.Constant (length c.parameters + pc) 0,
     zero_at m t c p f gives callees part.variables pc lt,
     one_has (length c.parameters + pc),
   )
 
-  zeroed_leads : (pc q : ℕ) → pc < length c.variables → LeadsAt (body_of operators m t c) pc q → q ≡ pc + 1
+  zeroed_leads : (pc q : ℕ) → pc < length c.variables → LeadsAt body pc q → q ≡ pc + 1
   zeroed_leads pc q lt l =
       let same = zeroed pc l.0 lt l.1 in
       let n = length c.parameters + pc in
       maker_onward p f gives l.0 n pc q (subst (λ z. is_among (made_by p z) n ≡ true) (sym same) (one_has n)) l.2
 
-  made_next : (pc q y : ℕ) → LeadsAt (body_of operators m t c) pc q → MakesAt p (body_of operators m t c) pc y
+  made_next : (pc q y : ℕ) → LeadsAt body pc q → MakesAt p body pc y
       → q ≡ pc + 1
   made_next pc q y l r =
       let same = same_Some r.0 l.0 (sym r.1 ∙ l.1) in
       maker_onward p f gives l.0 y pc q (subst (λ z. is_among (made_by p z) y ≡ true) same r.2) l.2
 
   -- a variable that is no parameter is not needed before it is 0
-  needed_behind : (pc y : ℕ) → IsNeeded p f (body_of operators m t c) pc y → length c.parameters ≤ y
+  needed_behind : (pc y : ℕ) → IsNeeded p f body pc y → length c.parameters ≤ y
       → y < words_in (all_variables c) → y < length c.parameters + pc
   needed_behind _ _ (Read pc y r) le lt =
       ⊎_elim (λ h. h)
@@ -145,12 +145,12 @@ module _ (m : MapSizes) (t : Tac) (c : CodeFunction) (p : FlatProgram) (f : ℕ)
       let early : pc < length c.variables = omega (arith, count, lt, h) in
       let next = zeroed_leads pc q early l in
       let same : length c.parameters + pc ≡ y = omega (arith, next, behind, h) in
-      absurd (not_made (subst (MakesAt p (body_of operators m t c) pc) same (zeroed_makes pc early))))
+      absurd (not_made (subst (MakesAt p body pc) same (zeroed_makes pc early))))
       (cases_lt y (length c.parameters + pc))
 
   -- ---- the function
 
-  body_length : length (body_of operators m t c) ≡ body_size m t c
+  body_length : length body ≡ body_size m t c
   body_length =
       let a = length-append (begin_code operators m t c) (laid_from operators m t c 0 c.code) in
       let b = begin_length operators m t c in

@@ -166,8 +166,11 @@ module _ (m : MapSizes) (t : Tac) (c : CodeFunction) (p : FlatProgram) (f : ℕ)
     (callees : (g n : ℕ) → takes (code_in t g) n ≡ true
     → (parameters_of (function_in p g) ≡ n) × (results_of (function_in p g) ≡ 1))
     (integers : are_integers (all_variables c) ≡ true) where
+  abbrev body : List FlatInstruction
+  body = body_of operators m t c
+
   abbrev Path : (steps place y : ℕ) → Type 0
-  Path = ReadWithin p f gives (body_of operators m t c)
+  Path = ReadWithin p f gives body
 
   abbrev place : ℕ → ℕ
   place = place_of operators m t c
@@ -177,16 +180,16 @@ module _ (m : MapSizes) (t : Tac) (c : CodeFunction) (p : FlatProgram) (f : ℕ)
 
   -- ---- jumps and ends
 
-  along_jump : (x : FlatInstruction) (k pc q y : ℕ) → slice_get (body_of operators m t c) pc ≡ Some x
+  along_jump : (x : FlatInstruction) (k pc q y : ℕ) → slice_get body pc ≡ Some x
       → (is_read (read_by p f x) y ≡ true → ⊥) → ((z : ℕ) → Leads x pc z → z ≡ q) → Path k pc y → Path k q y
   along_jump x zero pc q y at none to path = absurd path
   along_jump x (suc k) pc q y at none to path =
       let same = same_Some path.0 x (sym path.1 ∙ at) in
       ⊎_elim (λ e. absurd (none (subst (λ z. is_read (read_by p f z) y ≡ true) same e)))
-      (λ on. longer p f gives (body_of operators m t c) k q y
+      (λ on. longer p f gives body k q y
       (subst (λ z. Path k z y) (to on.1 (subst (λ z. Leads z pc on.1) same on.2)) on.3)) path.2
 
-  along : (k pc q y : ℕ) → expanded.Leads (body_of operators m t c) pc q → Path k pc y → Path k q y
+  along : (k pc q y : ℕ) → expanded.Leads body pc q → Path k pc y → Path k q y
   along k pc q y (expanded.Falls e) path = subst (λ z. Path k z y) e path
   along k pc q y (expanded.Forward past at e) path =
       along_jump (flat.JumpForward past) k pc q y at (reads_nothing y)
@@ -196,7 +199,7 @@ module _ (m : MapSizes) (t : Tac) (c : CodeFunction) (p : FlatProgram) (f : ℕ)
       (λ z l. ⊎_elim (λ h. sym (same_Some _ z h) ∙ e) (λ h. absurd (none-some z h)) l) path
 
   -- a path that begins with an instruction which leads nowhere is to what it reads
-  halted : (R : Registers) (x : FlatInstruction) (k pc y : ℕ) → slice_get (body_of operators m t c) pc ≡ Some x
+  halted : (R : Registers) (x : FlatInstruction) (k pc y : ℕ) → slice_get body pc ≡ Some x
       → Sources p f gives R x → ((z : ℕ) → Leads x pc z → ⊥) → Path k pc y → R y
   halted R x zero pc y at sources nowhere path = absurd path
   halted R x (suc k) pc y at sources nowhere path =
@@ -207,7 +210,7 @@ module _ (m : MapSizes) (t : Tac) (c : CodeFunction) (p : FlatProgram) (f : ℕ)
   -- ---- a node
 
   put : (n : ℕ) (i : Instruction) → slice_get c.code n ≡ Some i
-      → expanded.IsPut operators m t c (body_of operators m t c) place (place n) i
+      → expanded.IsPut operators m t c body place (place n) i
   put n i e = (function_expands operators m t c []).blocks n i e
 
   -- a path from a node: it is to a temporary that the instruction reads, or goes on from a node behind
@@ -243,7 +246,7 @@ module _ (m : MapSizes) (t : Tac) (c : CodeFunction) (p : FlatProgram) (f : ℕ)
 
     -- behind the block
     behind : IsPassed m t c p f gives callees i → (k : ℕ) → ((successors i ≡ []) → ⊥)
-        → Gets p f gives (body_of operators m t c) (Last i) (ReadBy c i) (block operators m t c i) k (place n) y
+        → Gets p f gives body (Last i) (ReadBy c i) (block operators m t c i) k (place n) y
         → StepsOn i k y
     behind passed k some (inl r) = no_variable i k y high r
     behind passed k some (inr g) = by (successors i) refl (put n i there).leads
@@ -260,17 +263,17 @@ module _ (m : MapSizes) (t : Tac) (c : CodeFunction) (p : FlatProgram) (f : ℕ)
         among : (v : ℕ) (ns : List ℕ) → successors i ≡ ns → IsAmong v ns → LeadsTo i v
         among v ns e h = subst (IsAmong v) (sym e) h
 
-        by : (ns : List ℕ) → successors i ≡ ns → expanded.LeadOn (body_of operators m t c) place
+        by : (ns : List ℕ) → successors i ≡ ns → expanded.LeadOn body place
             (place n + length (block operators m t c i)) (successors i) → StepsOn i k y
         by [] e leads = absurd (some e)
         by (v ∷ []) e leads =
-            let lead = subst (expanded.LeadOn (body_of operators m t c) place
+            let lead = subst (expanded.LeadOn body place
             (place n + length (block operators m t c i))) e leads in
             ⊎_elim
             (λ path. inr (not_written passed g.0, v, among v (v ∷ []) e (inl refl), along k end (place v) y lead path))
             (λ path. absurd (no_two v e path.0)) g.1
         by (v ∷ w ∷ ns) e leads =
-            let lead = subst (expanded.LeadOn (body_of operators m t c) place
+            let lead = subst (expanded.LeadOn body place
             (place n + length (block operators m t c i))) e leads in
             ⊎_elim
             (λ path. inr (
@@ -356,7 +359,7 @@ module _ (m : MapSizes) (t : Tac) (c : CodeFunction) (p : FlatProgram) (f : ℕ)
   step_node n i k y there part high path =
       ⊎_elim (λ last. last_step i n k y last there part high path)
       (λ on. behind n i there part y high on.0 k on.1
-      (through_list p f gives (body_of operators m t c) (Last i) (Role c) (ReadBy c i) (block operators m t c i)
+      (through_list p f gives body (Last i) (Role c) (ReadBy c i) (block operators m t c i)
       (block_some i part (low n i there part y high) (few n i there part y high)) k (place n) y
       (list_flow n i there part y high) (put n i there).has path))
       (goes_on i part)
@@ -386,7 +389,7 @@ module _ (m : MapSizes) (t : Tac) (c : CodeFunction) (p : FlatProgram) (f : ℕ)
       let z : 0 + length (prologue c) ≡ length (prologue c) = omega arith in
       along k (length (prologue c)) (place c.entry) y h.begins (subst (λ w. Path k w y) z on))
       (λ e. absurd e.0) g.1)
-      (through_all p f gives (body_of operators m t c) ⊥ (λ y. Unit {0}) (λ y. ⊥) (prologue c) k 0 y
+      (through_all p f gives body ⊥ (λ y. Unit {0}) (λ y. ⊥) (prologue c) k 0 y
       (prologue_flow p f gives (λ y. ⊥) (words_in c.parameters) c.variables) h.zeroed path)
 
   -- no register but a variable's is read on a path from the entry that does not make it, where no temporary is live

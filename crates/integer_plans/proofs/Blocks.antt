@@ -78,6 +78,16 @@ module _ (c : CodeFunction) where
   Needs R (tac.Return a) = R (temporary_register c a)
   Needs R _ = Unit {0}
 
+-- a run goes through the block
+abbrev pub IsPassedBy : Routine → Type 0
+IsPassedBy Exit = ⊥
+IsPassedBy Abort = ⊥
+IsPassedBy _ = Unit {0}
+
+abbrev pub IsPassed : Instruction → Type 0
+IsPassed (tac.Library r line d n next) = IsPassedBy r
+IsPassed _ = Unit {0}
+
 -- what stands before a call
 pub tests_flow : (m : MapSizes) (p : FlatProgram) (f : ℕ) (gives : results_of (function_in p f) ≤ 1) (P R : Registers)
     (room line s : ℕ) (rest : List FlatInstruction) → P s → Flow p f gives ⊥ P (With R s) rest
@@ -307,16 +317,6 @@ module _ (m : MapSizes) (t : Tac) (c : CodeFunction) (p : FlatProgram) (f : ℕ)
   block_flow R _ low few h = (tt, tt, tt, tt)
 
   -- ---- what blocks make
-
-  -- a run goes through the block
-  abbrev pub IsPassedBy : Routine → Type 0
-  IsPassedBy Exit = ⊥
-  IsPassedBy Abort = ⊥
-  IsPassedBy _ = Unit {0}
-
-  abbrev pub IsPassed : Instruction → Type 0
-  IsPassed (tac.Library r line d n next) = IsPassedBy r
-  IsPassed _ = Unit {0}
 
   same_made : (is : List FlatInstruction) (d z : ℕ) → Makes p f gives is (temporary_register c d) → (z == d) ≡ true
       → Makes p f gives is (temporary_register c z)

@@ -27,7 +27,7 @@ use Rattle.reg_plan.specs.Planned.{IsPlannable}
 use Rattle.temporary_liveness.specs.Liveness.{IsLive}
 use Rattle.integer_plans.proofs.Flow.{one_is, one_has, reads_nothing, maker_onward}
 use Rattle.integer_plans.proofs.Paths.{ReadWithin}
-use Rattle.integer_plans.proofs.Roles.{Role}
+use Rattle.integer_plans.proofs.Roles.{Role, variable_count}
 use Rattle.integer_plans.proofs.Homes.{homes_length, word, home_at, word_low, role_low, words_differ, HasRoom}
 use Rattle.integer_plans.proofs.Predecessors.{named_at, one_predecessor, zero_at}
 use Rattle.integer_plans.proofs.Live.{none_read}
@@ -88,9 +88,6 @@ module _ (m : MapSizes) (t : Tac) (c : CodeFunction) (p : FlatProgram) (f : ℕ)
 
   -- ---- registers of variables
 
-  count : words_in (all_variables c) ≡ length c.parameters + length c.variables
-  count = integers_words (all_variables c) part.variables ∙ length-append c.parameters c.variables
-
   -- what makes one of them 0 reads nothing
   zeroed : (pc : ℕ) (x : FlatInstruction) → pc < length c.variables → slice_get body pc ≡ Some x
       → x ≡ flat.Constant (length c.parameters + pc) 0
@@ -127,13 +124,13 @@ module _ (m : MapSizes) (t : Tac) (c : CodeFunction) (p : FlatProgram) (f : ℕ)
       → y < words_in (all_variables c) → y < length c.parameters + pc
   needed_behind _ _ (Read pc y r) le lt =
       ⊎_elim (λ h. h)
-      (λ h. absurd (zeroed_reads pc y (omega (arith, count, le, lt, h)) r))
+      (λ h. absurd (zeroed_reads pc y (omega (arith, variable_count c part.variables, le, lt, h)) r))
       (cases_lt y (length c.parameters + pc))
   needed_behind _ _ (Made pc q y l r) le lt =
       let next = made_next pc q y l r in
       ⊎_elim (λ h. h)
       (λ h.
-      let early : pc < length c.variables = omega (arith, count, lt, h, next) in
+      let early : pc < length c.variables = omega (arith, variable_count c part.variables, lt, h, next) in
       let is = one_is (length c.parameters + pc) y
       (subst (λ z. is_among (made_by p z) y ≡ true) (zeroed pc r.0 early r.1) r.2) in
       omega (arith, is, next))
@@ -142,7 +139,7 @@ module _ (m : MapSizes) (t : Tac) (c : CodeFunction) (p : FlatProgram) (f : ℕ)
       let behind = needed_behind q y n le lt in
       ⊎_elim (λ h. h)
       (λ h.
-      let early : pc < length c.variables = omega (arith, count, lt, h) in
+      let early : pc < length c.variables = omega (arith, variable_count c part.variables, lt, h) in
       let next = zeroed_leads pc q early l in
       let same : length c.parameters + pc ≡ y = omega (arith, next, behind, h) in
       absurd (not_made (subst (MakesAt p body pc) same (zeroed_makes pc early))))

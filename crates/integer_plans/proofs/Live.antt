@@ -236,7 +236,7 @@ module _ (m : MapSizes) (t : Tac) (c : CodeFunction) (p : FlatProgram) (f : ℕ)
     list_flow : Flow p f gives (Last i) (Role c) (ReadBy c i) (block operators m t c i)
     list_flow = block_flow m t c p f gives callees (ReadBy c i) i low few (needs_read t c integers i part)
 
-    not_written : IsPassed m t c p f gives callees i → (Makes p f gives (block operators m t c i) y → ⊥) → (z : ℕ)
+    not_written : IsPassed i → (Makes p f gives (block operators m t c i) y → ⊥) → (z : ℕ)
         → y ≡ temporary_register c z → writes i z ≡ false
     not_written passed none z same =
         ⊎_elim
@@ -245,7 +245,7 @@ module _ (m : MapSizes) (t : Tac) (c : CodeFunction) (p : FlatProgram) (f : ℕ)
         (λ e. e) (cases_Bool (writes i z))
 
     -- behind the block
-    behind : IsPassed m t c p f gives callees i → (k : ℕ) → ((successors i ≡ []) → ⊥)
+    behind : IsPassed i → (k : ℕ) → ((successors i ≡ []) → ⊥)
         → Gets p f gives body (Last i) (ReadBy c i) (block operators m t c i) k (place n) y
         → StepsOn i k y
     behind passed k some (inl r) = no_variable i k y high r
@@ -289,7 +289,7 @@ module _ (m : MapSizes) (t : Tac) (c : CodeFunction) (p : FlatProgram) (f : ℕ)
               along k (end + 1) (place v) y lead.1 path.1,
             )) g.1
 
-  made_some : (i : Instruction) (d : ℕ) → Part i → IsPassed m t c p f gives callees i
+  made_some : (i : Instruction) (d : ℕ) → Part i → IsPassed i
       → temporaries i ≤ most_temporaries c.code → argument_count i ≤ free_count c → writes i d ≡ true
       → 0 < length (block operators m t c i)
   made_some i d part passed low few e =
@@ -328,7 +328,7 @@ module _ (m : MapSizes) (t : Tac) (c : CodeFunction) (p : FlatProgram) (f : ℕ)
 
   -- it ends the run or returns, or the code goes on behind it
   goes_on : (i : Instruction) → Part i
-      → IsLast i ⊎ (IsPassed m t c p f gives callees i × ((successors i ≡ []) → ⊥))
+      → IsLast i ⊎ (IsPassed i × ((successors i ≡ []) → ⊥))
   goes_on (tac.Return a) e = inl tt
   goes_on (tac.Library Exit line d n next) e = inl tt
   goes_on (tac.Library Abort line d n next) e = inl tt

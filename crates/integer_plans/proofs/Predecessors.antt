@@ -1,7 +1,6 @@
 -- Behind what makes a register of a temporary or one for a block's own use the code comes from there alone.
 use Rattle.std.proofs.Common.{◌≡◌, ⊎_elim, ℕ, zero, suc, ◌+◌, ◌<◌, ◌≤◌, refl, sym, ap, ◌∙◌}
 use Rattle.std.proofs.Common.{subst, arith, Bool, true, false, List, [], ◌∷◌, ◌++◌, length, Some}
-use Rattle.std.proofs.Common.{length-append}
 use Rattle.std.specs.Prelude.{slice_get, ◌==◌, if◌then◌else◌}
 use Rattle.std.proofs.lemmas.Bool.{cases_lt}
 use Rattle.std.proofs.lemmas.Option.{same_Some, none-some, slice_get_within, slice_get-get_or}
@@ -38,7 +37,7 @@ use Rattle.reg_plan.specs.Effects.{read_by, is_read, made_by, is_among, Leads}
 use Rattle.reg_plan.specs.Needs.{MakesAt, LeadsAt}
 use Rattle.integer_plans.proofs.Flow.{Flow, one_is, one_has, reads_nothing, none_has, maker_onward, flow_names}
 use Rattle.integer_plans.proofs.Flow.{flow_leads}
-use Rattle.integer_plans.proofs.Roles.{Role, OfVariable, variable_role, temporary_role}
+use Rattle.integer_plans.proofs.Roles.{Role, OfVariable, variable_role, temporary_role, variable_count}
 use Rattle.integer_plans.proofs.Blocks.{Last, Needs, NeedsRight, NeedsArgument, block_flow}
 use Rattle.integer_plans.proofs.Places.{get_append, get_left, get_right, has_get, jump_onward, jump_makes, jump_reads}
 use Rattle.integer_plans.proofs.Places.{IsWay, jumps_at, IsJumped, entry_jumped, way_jumped, IsOfNode, body_at}
@@ -191,10 +190,6 @@ module _ (m : MapSizes) (t : Tac) (c : CodeFunction) (p : FlatProgram) (f : ℕ)
       get_left (begin_code operators m t c) (laid_from operators m t c 0 c.code) pc _ front
       ∙ ap Some (is ∙ ap (λ n. flat.Constant (n + pc) 0) words)
 
-  -- the variables of a function with their registers
-  count : words_in (all_variables c) ≡ length c.parameters + length c.variables
-  count = integers_words (all_variables c) integers ∙ length-append c.parameters c.variables
-
   -- ---- an instruction of a node: one of its block, or a jump behind it
 
   pub data Stands (n : ℕ) (i : Instruction) (r pc : ℕ) (x : FlatInstruction) : Type 0 where
@@ -242,7 +237,7 @@ module _ (m : MapSizes) (t : Tac) (c : CodeFunction) (p : FlatProgram) (f : ℕ)
       begins (Zeroes lt h) = record {
         read = λ r. absurd (reads_nothing y (subst (λ z. is_read (read_by p f z) y ≡ true) h r));
         made = λ r. let is = one_is (length c.parameters + pc) y (subst (λ z. is_among (made_by p z) y ≡ true) h r) in
-            OfVariable (omega (arith, is, lt, count));
+            OfVariable (omega (arith, is, lt, variable_count c integers));
       }
 
       of_node : IsOfNode m t c pc x → Names x y
@@ -352,7 +347,7 @@ module _ (m : MapSizes) (t : Tac) (c : CodeFunction) (p : FlatProgram) (f : ℕ)
             (subst (λ z. is_among (made_by p z) y ≡ true) h makes)
         by (Zeroes lt h) =
             let is = one_is (length c.parameters + pc) y (subst (λ z. is_among (made_by p z) y ≡ true) h makes) in
-            absurd (omega (arith, is, lt, count, high))
+            absurd (omega (arith, is, lt, variable_count c integers, high))
 
     module _ (i : Instruction) (there : slice_get c.code (suc w) ≡ Some i) where
       -- the place is the last of the node before

@@ -1,6 +1,6 @@
 -- What is lowered of a program of integers, and has its checks put in, has an expansion that can be planned.
 use Rattle.std.proofs.Common.{◌≡◌, inl, inr, ⊎_elim, ℕ, zero, suc, ◌+◌, ◌*◌, ◌<◌, ◌≤◌, max, refl, sym, ap, ◌∙◌, subst}
-use Rattle.std.proofs.Common.{arith, true, false, List, [], ◌∷◌, ◌++◌, length, length-append, Option, Some, None}
+use Rattle.std.proofs.Common.{arith, true, false, List, [], ◌∷◌, ◌++◌, length, Option, Some, None}
 use Rattle.std.specs.Prelude.{slice_get}
 use Rattle.std.proofs.lemmas.Bool.{eqb-true, cases_lt, false≢true}
 use Rattle.std.proofs.lemmas.Option.{same_Some, slice_get_within}
@@ -36,6 +36,7 @@ use Rattle.integer_lowering.proofs.Programs.{stands, valid_function, function_is
 use Rattle.integer_lowering.proofs.Programs.{integer_code}
 use Rattle.temporary_liveness.specs.Liveness.{reads, writes, LiveWithin, IsLive}
 use Rattle.temporary_liveness.proofs.Statements.{none_is_live}
+use Rattle.integer_plans.proofs.Roles.{variable_count}
 use Rattle.integer_plans.proofs.Homes.{HasRoom}
 use Rattle.integer_plans.proofs.Functions.{plannable}
 use Rattle.integer_plans.proofs.Entry.{entry_plannable}
@@ -154,15 +155,14 @@ module _ (q : Program) (t r : Tac) (valid : is_valid_program q ≡ true) (ints :
         let bound = (lowers q t r valid ints low ins u c at).homes h.node h.other h.has in
         omega (arith, h.most, bound)) in
         let arguments_few = most_arguments_low c.code in
-        let words = integers_words (all_variables c) (part.functions u c at).variables in
-        let variables = length-append c.parameters c.variables in
+        let words = variable_count c (part.functions u c at).variables in
         let parameters_same = ap (λ (h : Header). length h.parameters) name.2 in
         let variables_same = ap (λ (h : Header). length h.variables) name.2 in
         let room_same = ap (λ (h : Header). h.room) name.2 in
         let fine = (valid_function q t r valid ints low ins u name.0 name.1).room_is in
         let enough = room_enough q.statics u (signature_at q name.0.type_number).result name.0 in
         let count : words_in (all_variables c) ≡ length name.0.parameters + length name.0.variables =
-        omega (arith, words, variables, parameters_same, variables_same) in
+        omega (arith, words, parameters_same, variables_same) in
         let all : 96 + 40 * (words_in (all_variables c) + height) ≤ c.room =
         omega (arith, count, room_same, fine, enough) in
         words_fit (words_in (all_variables c)) (most_temporaries c.code) (most_arguments c.code) height c.room

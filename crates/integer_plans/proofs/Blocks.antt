@@ -38,8 +38,8 @@ use Rattle.integer_operators.specs.Operators.{constant_code, conversion_code, bi
 use Rattle.metadata_plan.specs.Registers.{most_temporaries, variable_register, temporary_register, first_free}
 use Rattle.metadata_plan.specs.Part.{takes, is_integer_instruction, is_integer_update, is_integer_routine}
 use Rattle.metadata_plan.specs.Part.{has_no_pointer}
-use Rattle.metadata_plan.specs.Blocks.{block, kept_by, right_code, right_register, argument_moves, call_tests, call_code}
-use Rattle.metadata_plan.specs.Blocks.{room_in}
+use Rattle.metadata_plan.specs.Blocks.{block, kept_by, right_code, right_register, argument_moves}
+use Rattle.metadata_plan.specs.Blocks.{call_tests, call_code, room_in}
 use Rattle.integer_code.specs.Operators.{operators}
 use Rattle.metadata_expansion.specs.Homes.{argument_count, free_count}
 use Rattle.temporary_liveness.specs.Liveness.{writes}

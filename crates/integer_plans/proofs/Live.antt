@@ -43,7 +43,8 @@ use Rattle.integer_plans.proofs.Flow.{Registers, Flow, Sources, Makes, reads_not
 use Rattle.integer_plans.proofs.Paths.{ReadWithin, longer, Gets, through_list, through_all}
 use Rattle.integer_plans.proofs.Roles.{Role}
 use Rattle.integer_plans.proofs.Blocks.{Last, Needs, NeedsRight, NeedsArgument, IsPassed, block_flow, block_makes}
-use Rattle.integer_plans.proofs.Predecessors.{arguments_at, two_ways}
+use Rattle.metadata_expansion.proofs.Laid.{arguments_few}
+use Rattle.integer_plans.proofs.Predecessors.{two_ways}
 
 -- ---- an instruction that a path of integers comes to
 
@@ -231,7 +232,7 @@ module _ (m : MapSizes) (t : Tac) (c : CodeFunction) (p : FlatProgram) (f : ℕ)
     low = most_at c.code n i there
 
     few : argument_count i ≤ free_count c
-    few = let h = arguments_at c.code n i there in omega (arith, h)
+    few = let h = arguments_few c.code n i there in omega (arith, h)
 
     list_flow : Flow p f gives (Last i) (Role c) (ReadBy c i) (block operators m t c i)
     list_flow = block_flow m t c p f gives callees (ReadBy c i) i low few (needs_read t c integers i part)

@@ -32,7 +32,7 @@ use Rattle.metadata_plan.proofs.Numbers.{is_integer_variable, integers_words, in
 use Rattle.metadata_plan.proofs.Laying.{part_of, part_stands, next_place, begin_length, place_is, falls_to_next}
 use Rattle.metadata_plan.proofs.Laying.{drop_past}
 use Rattle.integer_code.specs.Operators.{operators}
-use Rattle.metadata_expansion.specs.Homes.{argument_count, most_arguments}
+use Rattle.metadata_expansion.proofs.Laid.{arguments_few}
 use Rattle.reg_plan.specs.Effects.{read_by, is_read, made_by, is_among, Leads}
 use Rattle.reg_plan.specs.Needs.{MakesAt, LeadsAt}
 use Rattle.integer_plans.proofs.Flow.{Flow, one_is, one_has, reads_nothing, none_has, maker_onward, flow_names}
@@ -68,16 +68,6 @@ needs_role c (tac.Library r line d n next) low = by r
 needs_role c (tac.Call f line d n next) low = λ j lt. temporary_role c (d + j) (omega arith)
 needs_role c (tac.Return a) low = temporary_role c a (omega arith)
 needs_role c _ low = tt
-
-pub arguments_at : (is : List Instruction) (n : ℕ) (i : Instruction) → slice_get is n ≡ Some i
-    → argument_count i ≤ most_arguments is
-arguments_at [] n i e = absurd (none-some i e)
-arguments_at (x ∷ is) zero i e =
-    let same = ap argument_count (same_Some x i e) in
-    omega (arith, same)
-arguments_at (x ∷ is) (suc n) i e =
-    let rest = arguments_at is n i e in
-    omega (arith, rest)
 
 -- an instruction with no successor: its block is not empty, and what stands in it makes nothing
 pub record IsSilent (p : FlatProgram) (is : List FlatInstruction) : Type 0 where
@@ -214,7 +204,7 @@ module _ (m : MapSizes) (t : Tac) (c : CodeFunction) (p : FlatProgram) (f : ℕ)
       → Flow p f gives (Last i) (Role c) (Role c) (block operators m t c i)
   flow n i e =
       let low = most_at c.code n i e in
-      let few = arguments_at c.code n i e in
+      let few = arguments_few c.code n i e in
       block_flow m t c p f gives callees (Role c) i low (omega (arith, few)) (needs_role c i low)
 
   -- ---- the registers that are named

@@ -96,7 +96,7 @@ module _ (m : MapSizes) (t : Tac) where
   which (c ∷ cs) last zero g e = inl (c, refl, same_Some (function_of operators m t c (homes c)) g e)
   which (c ∷ cs) last (suc u) g e = which cs last u g e
 
-  last_at : (cs : List CodeFunction) (last : FlatFunction)
+  pub last_at : (cs : List CodeFunction) (last : FlatFunction)
       → slice_get (functions_of operators m t homes cs ++ (last ∷ [])) (length cs) ≡ Some last
   last_at [] last = refl
   last_at (c ∷ cs) last = last_at cs last

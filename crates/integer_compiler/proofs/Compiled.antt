@@ -15,15 +15,18 @@ use Rattle.integer_programs.specs.Programs.{is_integer_program}
 use Rattle.static_data.specs.Data.{first_fault, program_pointers}
 use Rattle.flat_meaning.specs.declared.function.FlatProgram.{FlatProgram}
 use Rattle.reg_plan.specs.declared.plan.FunctionPlan.{FunctionPlan}
+use Rattle.metadata_expansion.specs.Numbers.{AreAllSmall}
+use Rattle.reg_plan.specs.Planned.{ArePlannable}
 use Rattle.reg_plan.specs.Tests.{AreAccepted}
+use Rattle.rv_follows.specs.Code.{IsEncodable}
 use Rattle.rv_image.specs.Image.{IsImage}
 use Rattle.integer_images.specs.Images.{sizes_of, IsChecked, IsFlat, DoesWhatIsMeant}
 use Rattle.integer_images.proofs.Images.{no_statics, no_bytes}
 use Rattle.integer_compiler.specs.declared.error.CompileError.{CompileError}
-use Rattle.integer_compiler.specs.declared.error.CompileError.TheVariants.{NumbersTooLarge, TooLarge, RuntimeTooLarge}
-use Rattle.integer_compiler.specs.declared.error.CompileError.TheVariants.{FunctionTooLong, Memory}
+use Rattle.integer_compiler.specs.declared.error.CompileError.TheVariants.{NumbersTooLarge, TooLarge, FunctionTooLong}
+use Rattle.integer_compiler.specs.declared.error.CompileError.TheVariants.{Memory}
 use Rattle.integer_compiler.specs.declared.compiler.Built.{Built}
-use Rattle.integer_compiler.specs.Built.{flat_code, IsBuilt, IsRefused, UnlessMemory}
+use Rattle.integer_compiler.specs.Built.{flat_code, IsExpandable, IsBuilt, IsRefused, UnlessMemory}
 use Rattle.integer_compiler.proofs.Images.{accepted}
 
 -- as many functions as the text has, with checks or without
@@ -60,7 +63,6 @@ pub refused_for : (p : Program) (t : Tac) (m n : MapSizes) (e : CompileError) �
     → UnlessMemory e (IsRefused (Inserted t) m e) → UnlessMemory e (IsRefused (IsChecked p) n e)
 refused_for p t m n NumbersTooLarge low same h = refused_one p t m n NumbersTooLarge low same h
 refused_for p t m n (TooLarge bytes) low same h = refused_one p t m n (TooLarge bytes) low same h
-refused_for p t m n (RuntimeTooLarge bytes) low same h = refused_one p t m n (RuntimeTooLarge bytes) low same h
 refused_for p t m n (FunctionTooLong number) low same h = refused_one p t m n (FunctionTooLong number) low same h
 refused_for p t m n Memory low same h = tt
 
@@ -72,6 +74,23 @@ flat_of p m b h = record {
   is_checked = h.is;
   small = h.image.small;
   expanded = refl;
+}
+
+-- what is asked of code with its checks put in
+pub expandable : (p : Program) (budgets : BudgetSizes) (t : Tac) (m : MapSizes) → m ≡ sizes_of p budgets → IsLowered p t
+    → ((r : Tac) → Inserted t r → AreAllSmall m r → ArePlannable (flat_code m r))
+    → ((code : FlatProgram) → IsFlat p (sizes_of p budgets) code → IsEncodable code) → (r : Tac) → Inserted t r
+    → IsExpandable m r
+expandable p budgets t m same low plannable encodable r ins = record {
+  plannable = plannable r ins;
+  encodable = λ small.
+      subst (λ k. IsEncodable (flat_code k r)) (sym same)
+      (encodable (flat_code (sizes_of p budgets) r) (record {
+        checked = r;
+        is_checked = checked_of p t r low ins;
+        small = subst (λ k. AreAllSmall k r) same small;
+        expanded = refl;
+      }));
 }
 
 -- ---- what `built_of` answers

@@ -1,14 +1,11 @@
 -- Flat code and its plans.
-use Rattle.std.proofs.Common.{◌≡◌, ℕ, zero, suc, ◌+◌, ◌^◌, ◌<◌, List, [], ◌∷◌, length, length-append, Some, refl, sym, ap, ◌∙◌, subst}
+use Rattle.std.proofs.Common.{◌≡◌, ℕ, zero, suc, ◌+◌, ◌^◌, ◌<◌, List, [], ◌∷◌, length, Some, sym, ap, ◌∙◌, subst}
 use Rattle.std.proofs.Common.{arith}
-use Rattle.std.specs.Prelude.{slice_get}
+use Rattle.std.specs.Prelude.{◌≤◌, slice_get, Vec, Result, Ok, Err, MatchResult}
+use Rattle.std.specs.Global.{Global}
 use Rattle.std.proofs.lemmas.Option.{same_Some}
-use Rattle.addr_map.specs.Places.{MapSizes}
-use Rattle.tac_ir.specs.declared.function.CodeFunction.{CodeFunction}
+use Rattle.addr_map.specs.Places.{MapSizes, functions_begin, code_begin}
 use Rattle.tac_ir.specs.declared.function.Tac.{Tac}
-use Rattle.metadata_plan.specs.Laid.{functions_of, entry_of}
-use Rattle.integer_code.specs.Operators.{operators}
-use Rattle.metadata_expansion.specs.Homes.{homes}
 use Rattle.metadata_expansion.specs.Numbers.{AreAllSmall}
 use Rattle.flat_meaning.specs.declared.function.FlatFunction.{FlatFunction}
 use Rattle.flat_meaning.specs.declared.function.FlatProgram.{FlatProgram}
@@ -18,9 +15,11 @@ use Rattle.reg_plan.specs.Planned.{ArePlannable}
 use Rattle.reg_plan.specs.Tests.{AreAccepted}
 use Rattle.rv_codegen.specs.declared.code.GenerateError.{GenerateError}
 use Rattle.rv_codegen.specs.declared.code.GenerateError.TheVariants as generate
+use Rattle.rv_segments.specs.Segments.{table_bytes}
 use Rattle.rv_codegen.specs.Generated.{IsReady}
-use Rattle.integer_compiler.specs.Errors.{error_of}
-use Rattle.integer_compiler.specs.Built.{flat_code, ArePlans, IsNotGenerated, Refuses}
+use Rattle.integer_compiler.specs.declared.error.CompileError.{CompileError}
+use Rattle.integer_compiler.specs.Built.{flat_code, ArePlans, IsPlannedImage, HasCause, IsNotGenerated, IsImageOf}
+use Rattle.integer_compiler.specs.Built.{HasNoCode, Refuses, IsErrorOf, IsCompiled}
 
 -- plans are what code is generated from
 pub ready : (code : FlatProgram) (plans others : List FunctionPlan) → others ≡ plans → ArePlans code plans
@@ -45,20 +44,47 @@ accepted code plans planned = record {
       subst (IsAccepted code k f) (same_Some one.0 plan (sym one.1 ∙ planned_at)) one.2.least.accepted;
 }
 
--- one function more than the code has
-count_of : (m : MapSizes) (r : Tac) (cs : List CodeFunction) → length (functions_of operators m r homes cs) ≡ length cs
-count_of m r [] = refl
-count_of m r (c ∷ cs) = ap suc (count_of m r cs)
+-- ---- what was generated of checked code
 
-pub flat_count : (m : MapSizes) (r : Tac) → length (flat_code m r).functions ≡ length r.functions + 1
-flat_count m r =
-    length-append (functions_of operators m r homes r.functions) (entry_of m r ∷ [])
-    ∙ ap (λ n. n + 1) (count_of m r r.functions)
+module _ (m : MapSizes) (r : Tac) (small : AreAllSmall m r) where
+  -- the error of a cause
+  refuses_by : (g : GenerateError) (e : CompileError) → IsNotGenerated m (flat_code m r) g → IsErrorOf g e
+      → Refuses m r e
+  refuses_by (generate.TooLarge n) e h is =
+      let no_code : HasNoCode m r (generate.TooLarge n) = record { small = small; cause = h } in
+      subst (Refuses m r) (sym is) no_code
+  refuses_by (generate.RuntimeTooLarge n) e h is = absurd is
+  refuses_by (generate.FunctionTooLong n) e h is =
+      let no_code : HasNoCode m r (generate.FunctionTooLong n) = record { small = small; cause = h } in
+      subst (Refuses m r) (sym is) no_code
+  refuses_by generate.Memory e h is = subst (Refuses m r) (sym is) tt
 
--- the error of a cause
-pub refuses_by : (m : MapSizes) (r : Tac) (g : GenerateError) → AreAllSmall m r → IsNotGenerated m (flat_code m r) g
-    → Refuses m r (error_of g)
-refuses_by m r (generate.TooLarge n) small h = record { small = small; cause = h }
-refuses_by m r (generate.RuntimeTooLarge n) small h = record { small = small; cause = h }
-refuses_by m r (generate.FunctionTooLong n) small h = record { small = small; cause = h }
-refuses_by m r generate.Memory small h = tt
+  pub compiled_result : (code : FlatProgram) (generated : Result (Vec ℕ Global) GenerateError)
+      (result : Result (Vec ℕ Global) CompileError) → code ≡ flat_code m r → IsCompiled generated result
+      → MatchResult generated (λ file. IsPlannedImage m code file.items) (IsNotGenerated m code)
+      → MatchResult result (λ file. IsImageOf m r file.items) (Refuses m r)
+  compiled_result code (Ok file) (Ok other) same is h = record {
+    small = small;
+    image = subst (λ (f : Vec ℕ Global). IsPlannedImage m (flat_code m r) f.items) (sym is)
+        (subst (λ k. IsPlannedImage m k file.items) same h);
+  }
+  compiled_result code (Err g) (Err e) same is h =
+      refuses_by g e (subst (λ k. IsNotGenerated m k g) same h) is
+  compiled_result code (Ok file) (Err e) same is h = absurd is
+  compiled_result code (Err g) (Ok file) same is h = absurd is
+
+  -- there is room before compiled code
+  pub never_runtime : (code : FlatProgram) (generated : Result (Vec ℕ Global) GenerateError) (bytes : ℕ)
+      → ((plans : List FunctionPlan) → ArePlans (flat_code m r) plans
+      → functions_begin + table_bytes m (flat_code m r) plans ≤ code_begin)
+      → code ≡ flat_code m r
+      → MatchResult generated (λ file. IsPlannedImage m code file.items) (IsNotGenerated m code)
+      → generated ≡ Err (generate.RuntimeTooLarge bytes) → ⊥
+  never_runtime code generated bytes room same h e =
+      let failed : HasCause m code (generate.RuntimeTooLarge bytes) =
+      subst (λ (q : Result (Vec ℕ Global) GenerateError).
+      MatchResult q (λ file. IsPlannedImage m code file.items) (IsNotGenerated m code)) e h in
+      let cause = subst (λ k. HasCause m k (generate.RuntimeTooLarge bytes)) same failed in
+      let fits = room cause.plans cause.planned in
+      let above = cause.cause.2 in
+      omega (arith, fits, above)

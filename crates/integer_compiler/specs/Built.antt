@@ -1,5 +1,5 @@
 -- What is built of a program, and when nothing is.
-use Rattle.std.specs.Prelude.{◌≡◌, ℕ, ◌-◌, ◌^◌, min, List, [], length}
+use Rattle.std.specs.Prelude.{◌≡◌, ℕ, ◌-◌, ◌^◌, min, List, [], length, Result, Ok, Err}
 use Rattle.addr_map.specs.Places.{MapSizes}
 use Rattle.tac_ir.specs.declared.function.Tac.{Tac}
 use Rattle.check_insert.specs.Counting.{checks}
@@ -9,19 +9,25 @@ use Rattle.metadata_expansion.specs.Homes.{homes}
 use Rattle.metadata_expansion.specs.Numbers.{AreAllSmall}
 use Rattle.flat_meaning.specs.declared.function.FlatProgram.{FlatProgram}
 use Rattle.reg_plan.specs.declared.plan.FunctionPlan.{FunctionPlan}
-use Rattle.reg_plan.specs.Planned.{ArePlanned, IsPlanOfRegisters}
+use Rattle.reg_plan.specs.Planned.{ArePlannable, ArePlanned, IsPlanOfRegisters}
+use Rattle.rv_follows.specs.Code.{IsEncodable}
 use Rattle.rv_codegen.specs.declared.code.GenerateError.{GenerateError}
 use Rattle.rv_codegen.specs.declared.code.GenerateError.TheVariants as generate
 use Rattle.rv_codegen.specs.Generated.{IsCause}
 use Rattle.rv_image.specs.Image.{IsImage}
 use Rattle.integer_compiler.specs.declared.error.CompileError.{CompileError}
-use Rattle.integer_compiler.specs.declared.error.CompileError.TheVariants.{NumbersTooLarge, TooLarge, RuntimeTooLarge}
-use Rattle.integer_compiler.specs.declared.error.CompileError.TheVariants.{FunctionTooLong, Memory}
+use Rattle.integer_compiler.specs.declared.error.CompileError.TheVariants.{NumbersTooLarge, TooLarge, FunctionTooLong}
+use Rattle.integer_compiler.specs.declared.error.CompileError.TheVariants.{Memory}
 use Rattle.integer_compiler.specs.declared.compiler.Built.{Built}
 
 -- the flat code that checked code expands to
 abbrev pub flat_code : MapSizes → Tac → FlatProgram
 flat_code m r = program_of operators m r homes
+
+-- what is asked of checked code: its flat code can be planned, and is of instructions that the machine has
+pub record IsExpandable (m : MapSizes) (r : Tac) : Type 0 where
+  pub plannable : AreAllSmall m r → ArePlannable (flat_code m r)
+  pub encodable : AreAllSmall m r → IsEncodable (flat_code m r)
 
 -- the plans that give out registers, for all functions of a program
 abbrev pub ArePlans : FlatProgram → List FunctionPlan → Type 0
@@ -58,9 +64,20 @@ pub record HasNoCode (m : MapSizes) (r : Tac) (e : GenerateError) : Type 0 where
 abbrev pub Refuses : MapSizes → Tac → CompileError → Type 0
 Refuses m r NumbersTooLarge = AreAllSmall m r → ⊥
 Refuses m r (TooLarge bytes) = HasNoCode m r (generate.TooLarge bytes)
-Refuses m r (RuntimeTooLarge bytes) = HasNoCode m r (generate.RuntimeTooLarge bytes)
 Refuses m r (FunctionTooLong number) = HasNoCode m r (generate.FunctionTooLong number)
 Refuses m r Memory = Unit {0}
+
+-- what was generated, with an error of its own; want of room before compiled code is none
+abbrev pub IsErrorOf : GenerateError → CompileError → Type 0
+IsErrorOf (generate.TooLarge bytes) e = e ≡ TooLarge bytes
+IsErrorOf (generate.RuntimeTooLarge bytes) e = ⊥
+IsErrorOf (generate.FunctionTooLong number) e = e ≡ FunctionTooLong number
+IsErrorOf generate.Memory e = e ≡ Memory
+
+abbrev pub IsCompiled : {A : Type 0} → Result A GenerateError → Result A CompileError → Type 0
+IsCompiled (Ok file) (Ok same) = same ≡ file
+IsCompiled (Err g) (Err e) = IsErrorOf g e
+IsCompiled _ _ = ⊥
 
 -- what is built of some checked code
 pub record IsBuilt (Is : Tac → Type 0) (m : MapSizes) (built : Built) : Type 0 where

@@ -7,11 +7,9 @@ ghost use Rattle.tac_ir.specs.declared.function.Tac.{Tac};
 ghost use Rattle.c_lower.specs.Programs.{IsLowered};
 ghost use Rattle.check_insert.specs.Inserted.{Inserted};
 ghost use Rattle.integer_programs.specs.Programs.{is_integer_program};
-ghost use Rattle.reg_plan.specs.Planned.{ArePlannable};
-ghost use Rattle.metadata_expansion.specs.Numbers.{AreAllSmall};
 ghost use Rattle.integer_images.specs.Images.{HaveFewParameters, sizes_of, IsChecked, DoesWhatIsMeant};
 ghost use Rattle.integer_compiler.specs.declared.error.CompileError.{CompileError};
-ghost use Rattle.integer_compiler.specs.Built.{flat_code, IsBuilt, IsRefused, UnlessMemory};
+ghost use Rattle.integer_compiler.specs.Built.{IsExpandable, IsBuilt, IsRefused, UnlessMemory};
 
 use crate::error::CompileError;
 use crate::image::image_of_checked;
@@ -20,7 +18,7 @@ use addr_map::laws::sizes_are_in_range;
 use c_const::contents::InitialFault;
 use c_tree::Program;
 use check_insert::{checks, insert};
-use integer_images::laws::images_do_what_is_meant;
+use integer_images::laws::{expansions_are_encodable, images_do_what_is_meant};
 use integer_plans::laws::expansions_are_plannable;
 use program_lowering::lower;
 use sb_base::Budgets;
@@ -51,8 +49,7 @@ fn with_checks(image: Result<Vec<u8>, CompileError>, checks: u64) -> Result<Buil
 // What is built of lowered code, in which the checks are put in; or why nothing is.
 fn built_of(alloc: Global, sizes: &AddrMap, lowered: &Tac) -> Result<Built, CompileError>
     requires count { length lowered.now.functions ≤ 4096 }
-    requires plannable { (r : Tac) → Inserted lowered.now r → AreAllSmall sizes.now r
-        → ArePlannable (flat_code sizes.now r) }
+    requires expandable { (r : Tac) → Inserted lowered.now r → IsExpandable sizes.now r }
     ensures built { IfOk result (λ built. IsBuilt (Inserted lowered.now) sizes.now built) }
     ensures refused { IfErr result (λ e. UnlessMemory e (IsRefused (Inserted lowered.now) sizes.now e)) }
 {
@@ -101,6 +98,7 @@ pub fn compile(alloc: Global, budgets: &Budgets, program: &Program) -> Result<Bu
         (sizes_of (program_of program.now) budgets.now) e)) }
 {
     expansions_are_plannable();
+    expansions_are_encodable();
     images_do_what_is_meant();
     let sizes = map_of(budgets);
     sizes_are_in_range(&sizes);

@@ -1,16 +1,15 @@
 //! Images of flat code and of checked code.
 
-ghost use Rattle.std.specs.Prelude.{◌≡◌, ◌<◌, ◌≤◌, ◌^◌, length, Ok, Err, MatchResult, IfOk};
+ghost use Rattle.std.specs.Prelude.{◌≡◌, ℕ, ◌<◌, ◌≤◌, ◌^◌, length, Err, MatchResult};
 ghost use Rattle.reg_plan.specs.Planned.{ArePlannable};
-ghost use Rattle.rv_codegen.specs.declared.code.GenerateError.{GenerateError};
-ghost use Rattle.metadata_expansion.specs.Numbers.{AreAllSmall};
-ghost use Rattle.integer_compiler.specs.declared.error.CompileError.{CompileError};
-ghost use Rattle.integer_compiler.specs.Errors.{IsErrorOf};
-ghost use Rattle.integer_compiler.specs.Built.{flat_code, IsPlannedImage, IsNotGenerated, IsImageOf, Refuses};
+ghost use Rattle.rv_codegen.specs.declared.code.GenerateError.TheVariants.{RuntimeTooLarge};
+ghost use Rattle.integer_compiler.specs.Built.{IsExpandable, IsPlannedImage, IsNotGenerated, IsImageOf, Refuses};
+ghost use Rattle.integer_compiler.specs.Built.{IsCompiled};
 
 use crate::error::CompileError;
 use addr_map::AddrMap;
 use flat_meaning::FlatProgram;
+use integer_images::laws::runtimes_have_room;
 use metadata_expansion::{expand, fits};
 use reg_plan::planned::registers;
 use rv_codegen::GenerateError;
@@ -42,26 +41,30 @@ pub fn image_of_flat(
 
 // A file that was generated, or the error that its cause is here.
 fn compiled(generated: Result<Vec<u8>, GenerateError>) -> Result<Vec<u8>, CompileError>
-    ensures ok { IfOk result (λ file. generated ≡ Ok file) }
-    ensures err { (e : CompileError) → result ≡ Err e → IsErrorOf generated e }
+    requires { (bytes : ℕ) → generated ≡ Err (RuntimeTooLarge bytes) → ⊥ }
+    ensures { IsCompiled generated result }
 {
     match generated {
         Ok(file) => Ok(file),
-        Err(cause) => Err(CompileError::from(cause)),
+        Err(GenerateError::TooLarge(bytes)) => Err(CompileError::TooLarge(bytes)),
+        Err(GenerateError::RuntimeTooLarge(_)) => unreachable!(),
+        Err(GenerateError::FunctionTooLong(number)) => Err(CompileError::FunctionTooLong(number)),
+        Err(GenerateError::Memory) => Err(CompileError::Memory),
     }
 }
 
-/// The image of checked code, whose expansion can be planned; or why there is none.
+/// The image of checked code, whose expansion can be planned and encoded; or why there is none.
 pub fn image_of_checked(
     alloc: Global,
     sizes: &AddrMap,
     checked: &Tac,
 ) -> Result<Vec<u8>, CompileError>
     requires count { length checked.now.functions ≤ 4096 }
-    requires plannable { AreAllSmall sizes.now checked.now → ArePlannable (flat_code sizes.now checked.now) }
+    requires expandable { IsExpandable sizes.now checked.now }
     ensures { MatchResult result (λ file. IsImageOf sizes.now checked.now file.items)
         (Refuses sizes.now checked.now) }
 {
+    runtimes_have_room();
     if !fits(alloc, sizes, checked)? {
         return Err(CompileError::NumbersTooLarge);
     }

@@ -78,6 +78,16 @@ file_small m code plans file image =
     let code_fits = image.fits.code in
     omega (arith, size, table, compiled, table_fits, code_fits)
 
+-- ---- costs
+
+-- what is within the cost is within the one that is promised
+within_promised : (x y : Behaviour) → Follows 1008 x y → Follows 1024 x y
+within_promised x y f = record {
+  at = λ n.
+      let h = f.at n in
+      (h.0, record { shown = h.1.shown; turns = h.1.turns; work = let few = h.1.work in omega (arith, few) });
+}
+
 -- ---- the image
 
 module _ (p : Program) (budgets : BudgetSizes) (mapped : AreMapped (sizes_of p budgets))
@@ -142,6 +152,8 @@ module _ (p : Program) (budgets : BudgetSizes) (mapped : AreMapped (sizes_of p b
       size = file_small m code plans file image;
       readable = image.passes;
       follows = image_follows;
-      faithful = λ input. faithful 1008 (meaning p budgets input) (behaviour (start_of (content_of file)) input)
-          (image_follows input) (source input) (machine (start_of (content_of file)) input);
+      faithful = λ input.
+          faithful 1024 (meaning p budgets input) (behaviour (start_of (content_of file)) input)
+          (within_promised (meaning p budgets input) (behaviour (start_of (content_of file)) input)
+          (image_follows input)) (source input) (machine (start_of (content_of file)) input);
     }

@@ -6,3 +6,4 @@ pub mod Memories
 pub mod Starting
 pub mod Following
 pub mod Images
+pub mod Runtime

@@ -1,9 +1,7 @@
 -- Expansions are encodable and startable.
 use Rattle.std.proofs.Common.{◌≡◌, ◌⊎◌, inl, inr, ⊎_elim, ℕ, zero, suc, ◌+◌, ◌-◌, ◌*◌, ◌^◌, ◌<◌, ◌≤◌, true, false}
-use Rattle.std.proofs.Common.{◌==◌, List, [], ◌∷◌, ◌++◌, length, Option, Some, None, refl, sym, ap, ◌∙◌, subst, arith}
+use Rattle.std.proofs.Common.{◌==◌, List, [], ◌∷◌, ◌++◌, length, Option, Some, None, refl, sym, ap, subst, arith}
 use Rattle.std.specs.Prelude.{if◌then◌else◌, slice_get}
-use Rattle.std.specs.List.{list_all}
-use Rattle.std.proofs.lemmas.Bool.{eqb-true}
 use Rattle.std.proofs.lemmas.Option.{same_Some, none-some}
 use Rattle.addr_map.specs.Places.{MapSizes, AreMapped, region_size}
 use Rattle.c_tree.specs.declared.expression.Kind.{Kind}
@@ -11,15 +9,11 @@ use Rattle.c_tree.specs.declared.expression.Kind.TheVariants.{Void, Scalar as Of
 use Rattle.obj_memory.specs.declared.value.Scalar.TheVariants.{Integer, Pointer}
 use Rattle.c_tree.specs.declared.program.Variable.{Variable}
 use Rattle.c_tree.specs.Programs.{Function, Program}
-use Rattle.c_tree.specs.Blocks.{all_of}
-use Rattle.c_tree.specs.Valid.{has_number}
-use Rattle.c_tree.specs.ValidProgram.{is_valid_program, are_functions, are_parameters, function_scope}
-use Rattle.c_tree.specs.ValidProgram.{is_function_type, are_all_different, is_static_object, is_variable, declares_all}
-use Rattle.c_tree.specs.ValidProgram.{signature_at, are_statements, is_main}
+use Rattle.c_tree.specs.ValidProgram.{is_valid_program}
+use Rattle.c_tree.specs.ValidProgram.{signature_at}
 use Rattle.c_tree.specs.Room.{room}
 use Rattle.source_meaning.specs.State.{Header}
 use Rattle.source_meaning.specs.Calls.{header_of, function_at}
-use Rattle.source_meaning.proofs.ValidNames.{five, six}
 use Rattle.tac_ir.specs.declared.instruction.Instruction.{Instruction}
 use Rattle.tac_ir.specs.declared.function.CodeFunction.{CodeFunction}
 use Rattle.tac_ir.specs.declared.function.Tac.{Tac}
@@ -102,7 +96,7 @@ module _ (m : MapSizes) (t : Tac) where
   which (c ∷ cs) last zero g e = inl (c, refl, same_Some (function_of operators m t c (homes c)) g e)
   which (c ∷ cs) last (suc u) g e = which cs last u g e
 
-  last_at : (cs : List CodeFunction) (last : FlatFunction)
+  pub last_at : (cs : List CodeFunction) (last : FlatFunction)
       → slice_get (functions_of operators m t homes cs ++ (last ∷ [])) (length cs) ≡ Some last
   last_at [] last = refl
   last_at (c ∷ cs) last = last_at cs last

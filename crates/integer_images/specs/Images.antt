@@ -48,6 +48,10 @@ pub record IsFlat (p : Program) (m : MapSizes) (code : FlatProgram) : Type 0 whe
 abbrev pub cost : ℕ
 cost = 1008
 
+-- and how many are promised of every image
+abbrev pub promised_cost : ℕ
+promised_cost = 1024
+
 -- the largest image that is read, in bytes
 abbrev pub most_bytes : ℕ
 most_bytes = 67108864
@@ -59,4 +63,4 @@ pub record DoesWhatIsMeant (p : Program) (budgets : BudgetSizes) (file : List �
   pub follows : (input : List ℕ)
       → Follows cost (meaning p budgets input) (behaviour (start_of (content_of file)) input)
   pub faithful : (input : List ℕ)
-      → Faithful cost (meaning p budgets input) (behaviour (start_of (content_of file)) input)
+      → Faithful promised_cost (meaning p budgets input) (behaviour (start_of (content_of file)) input)

@@ -1,18 +1,24 @@
 //! Laws of images of programs of integers, each as the contract of a function that does nothing.
 
-ghost use Rattle.std.specs.Prelude.{◌≡◌, ℕ, List, [], true};
-ghost use Rattle.addr_map.specs.Places.{AreMapped};
+ghost use Rattle.std.specs.Prelude.{◌≡◌, ℕ, ◌+◌, ◌≤◌, List, [], length, true};
+ghost use Rattle.addr_map.specs.Places.{MapSizes, AreMapped, functions_begin, code_begin};
 ghost use Rattle.sb_base.specs.Budgets.{BudgetSizes, AreInRange};
 ghost use Rattle.c_tree.specs.Programs.{Program};
 ghost use Rattle.c_tree.specs.ValidProgram.{is_valid_program};
 ghost use Rattle.tac_ir.specs.declared.function.Tac.{Tac};
 ghost use Rattle.tac_ir.specs.Meaning.{setting_of_code};
 ghost use Rattle.integer_programs.specs.Programs.{is_integer_program};
+ghost use Rattle.metadata_plan.specs.Laid.{program_of};
+ghost use Rattle.integer_code.specs.Operators.{operators};
+ghost use Rattle.metadata_expansion.specs.Homes.{homes};
+ghost use Rattle.metadata_expansion.specs.Numbers.{AreAllSmall};
 ghost use Rattle.flat_meaning.specs.declared.function.FlatProgram.{FlatProgram};
 ghost use Rattle.reg_plan.specs.declared.plan.FunctionPlan.{FunctionPlan};
+ghost use Rattle.reg_plan.specs.Planned.{ArePlannable, ArePlanned, IsPlanOfRegisters};
 ghost use Rattle.reg_plan.specs.Tests.{AreAccepted};
 ghost use Rattle.rv_follows.specs.Code.{IsEncodable};
 ghost use Rattle.rv_follows.specs.Start.{IsStartable};
+ghost use Rattle.rv_segments.specs.Segments.{table_bytes};
 ghost use Rattle.rv_image.specs.Image.{IsImage};
 ghost use Rattle.integer_images.specs.Images.{HaveFewParameters, sizes_of, IsChecked, IsFlat, DoesWhatIsMeant};
 
@@ -44,6 +50,17 @@ pub fn expansions_are_encodable()
 pub fn expansions_are_startable()
     ensures { (p : Program) (budgets : BudgetSizes) (code : FlatProgram)
         → IsFlat p (sizes_of p budgets) code → IsStartable (sizes_of p budgets) code }
+{}
+
+/// What stands before compiled code has room there: the jump table of at most 4096 functions, the start, and the function
+/// with which a run begins, under plans that give out registers.
+pub fn runtimes_have_room()
+    ensures { (m : MapSizes) (r : Tac) → AreAllSmall m r → length r.functions ≤ 4096
+        → ArePlannable (program_of operators m r homes) → IsEncodable (program_of operators m r homes)
+        → (plans : List FunctionPlan)
+        → ArePlanned (program_of operators m r homes) plans (length (program_of operators m r homes).functions)
+        (IsPlanOfRegisters (program_of operators m r homes))
+        → functions_begin + table_bytes m (program_of operators m r homes) plans ≤ code_begin }
 {}
 
 /// An image of a valid program of integers, made of its flat code under accepted plans, with no data at the start, does

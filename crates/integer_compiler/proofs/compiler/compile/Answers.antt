@@ -1,15 +1,23 @@
 use Rattle.std.proofs.Common.{subst}
 use Rattle.sb_base.specs.Budgets.{AreInRange}
-use Rattle.addr_map.specs.Places.{MapSizes}
+use Rattle.addr_map.specs.Places.{MapSizes, AreMapped}
 use Rattle.c_tree.specs.View.{program_of}
 use Rattle.integer_images.specs.Images.{sizes_of}
-use Rattle.integer_compiler.proofs.Compiled.{sizes_are, built_result, refused_result, does_result}
+use Rattle.integer_compiler.proofs.Compiled.{sizes_are, expandable, built_result, refused_result, does_result}
 use Rattle.integer_compiler.proofs.compiler.compile.Goals as goal
 
-pub built_of-requires-clause-plannable : goal.built_of-requires-clause-plannable
-built_of-requires-clause-plannable c = λ r inserted small.
-    c.expansions_are_plannable.ensures (program_of c.args.program.now) c.in_ok-lowered.lowered r c.map_of-sizes.result
-    c.requires.valid c.requires.integers c.in_ok-lowered.ensures inserted small
+pub built_of-requires-clause-expandable : goal.built_of-requires-clause-expandable
+built_of-requires-clause-expandable c =
+    let p = program_of c.args.program.now in
+    let budgets = c.args.budgets.now in
+    let m = c.map_of-sizes.result in
+    let t = c.in_ok-lowered.lowered in
+    let same = sizes_are p budgets m c.requires.integers c.map_of-sizes.ensures in
+    let mapped = subst AreMapped same c.sizes_are_in_range.ensures in
+    expandable p budgets t m same c.in_ok-lowered.ensures
+    (λ r inserted small. c.expansions_are_plannable.ensures p t r m c.requires.valid c.requires.integers
+    c.in_ok-lowered.ensures inserted small)
+    (c.expansions_are_encodable.ensures p budgets c.requires.valid c.requires.integers c.requires.parameters mapped)
 
 pub returns-clause-built : goal.returns-clause-built
 returns-clause-built c =

@@ -10,7 +10,7 @@ ghost use Rattle.c_expression_typing.specs.Typed.{typed};
 ghost use Rattle.c_unit_typing.specs.Initializers.{by_index, designated, designated_by};
 
 use crate::steps::{with_index, with_name};
-use crate::values::index;
+use crate::values::{index_of, value};
 use c_initializer_rules::Initializing;
 use c_rules::Refusal;
 use c_syntax::Expression;
@@ -29,8 +29,8 @@ fn by_index<'a>(
         ((valued (typed false (expression_of tree.now)) >>> λ v. by_index line (initializing_of begun.old) v)
         (state_of typer.old)) }
 {
-    let index = index(typer, tree)?;
-    with_index(typer, begun, line, index)
+    let value = value(typer, false, tree)?;
+    with_index(typer, begun, line, index_of(value))
 }
 
 // A designator.

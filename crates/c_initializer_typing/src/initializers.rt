@@ -14,8 +14,8 @@ use crate::values::value;
 use c_expression_typing::constructs::literal_alone;
 use c_initializer_rules::Initializing;
 use c_rules::Refusal;
-use c_syntax::{Expression, Position};
 use c_syntax::declaration::{Initializer, InitializerItem};
+use c_syntax::{Expression, Position};
 use c_typing::Typer;
 use c_unit_typing::lines::expression_line;
 

@@ -2,6 +2,7 @@
 #![tactic(auto)]
 
 pub mod designators;
+pub mod dropping;
 pub mod initializers;
 pub mod steps;
 pub mod values;

@@ -24,13 +24,7 @@ pub fn with_index(
         (member_lists (state_of typer.now)) line index (initializing_of begun.old)) }
 {
     let structures = &typer.environment.structures;
-    begun.designate_index(
-        typer.alloc,
-        structures.extents(),
-        structures,
-        line,
-        index,
-    )
+    begun.designate_index(typer.alloc, structures.extents(), structures, line, index)
 }
 
 /// A designator `.name`, by `Initializing::designate_member`.
@@ -44,13 +38,7 @@ pub fn with_name(
         (member_lists (state_of typer.now)) line name.now (initializing_of begun.old)) }
 {
     let structures = &typer.environment.structures;
-    begun.designate_member(
-        typer.alloc,
-        structures.extents(),
-        structures,
-        line,
-        name,
-    )
+    begun.designate_member(typer.alloc, structures.extents(), structures, line, name)
 }
 
 /// A value, by `Initializing::store`.
@@ -64,13 +52,7 @@ pub fn with_value(
         (member_lists (state_of typer.now)) line (value_of value) (initializing_of begun.old)) }
 {
     let structures = &typer.environment.structures;
-    begun.store(
-        typer.alloc,
-        structures.extents(),
-        structures,
-        line,
-        value,
-    )
+    begun.store(typer.alloc, structures.extents(), structures, line, value)
 }
 
 /// A string literal, by `Initializing::store_literal`.
@@ -84,13 +66,7 @@ pub fn with_literal(
         (member_lists (state_of typer.now)) line spelled.items (initializing_of begun.old)) }
 {
     let structures = &typer.environment.structures;
-    begun.store_literal(
-        typer.alloc,
-        structures.extents(),
-        structures,
-        line,
-        spelled,
-    )
+    begun.store_literal(typer.alloc, structures.extents(), structures, line, spelled)
 }
 
 /// `{`, by `Initializing::open_brace`.

@@ -2,13 +2,13 @@
 
 ghost use Rattle.std.specs.Prelude.{◌≡◌};
 ghost use Rattle.c_syntax.specs.View.{expression_of};
-ghost use Rattle.c_tree.specs.View as tree;
 ghost use Rattle.c_rules.specs.Values.{value_of};
-ghost use Rattle.c_typing.specs.State.{Types, done, state_of, ◌>>>◌};
+ghost use Rattle.c_typing.specs.State.{Types, state_of};
 ghost use Rattle.c_expression_typing.specs.Constructs.{valued};
 ghost use Rattle.c_expression_typing.specs.Typed.{typed};
 ghost use Rattle.c_unit_typing.specs.Initializers.{index_in, is_index};
 
+use crate::dropping::let_go;
 use c_const::constant_word;
 use c_rules::{Refusal, TypedValue};
 use c_syntax::Expression;
@@ -35,7 +35,8 @@ fn is_index(has_sign: bool, word: u64) -> bool
     !has_sign || word < 1 << 63
 }
 
-/// The word of a value, where it is an integer constant expression that is not negative.
+/// The index that the value of the expression of `[ ]` gives (C99 6.7.8 paragraph 6), where that is an integer constant
+/// expression that is not negative.
 pub fn index_in(value: &TypedValue) -> Option<u64>
     ensures { result ≡ index_in (value_of value.now) }
 {
@@ -45,27 +46,11 @@ pub fn index_in(value: &TypedValue) -> Option<u64>
     }
 }
 
-// The same of a value that is of no more use.
-fn index_of(value: TypedValue) -> Option<u64>
+/// The same of a value that is of no more use.
+pub(crate) fn index_of(value: TypedValue) -> Option<u64>
     ensures { result ≡ index_in (value_of value) }
 {
     let index = index_in(&value);
     let_go(value);
     index
-}
-
-// Lets a value go. The function is generic, since the proof of a drop writes out the whole type unless the type is a
-// parameter.
-fn let_go<T: Drop>(value: T) {
-    let _ = value;
-}
-
-/// The index that the expression of `[ ]` gives (C99 6.7.8 paragraph 6), where it is an integer constant expression that
-/// is not negative. Refusals as of `expression`.
-pub fn index<'a>(typer: &mut Typer<'a>, tree: &Expression<'a>) -> Result<Option<u64>, Refusal>
-    ensures { Types (λ index. index) (state_of typer.new) result
-        ((valued (typed false (expression_of tree.now)) >>> λ v. done (index_in v)) (state_of typer.old)) }
-{
-    let value = value(typer, false, tree)?;
-    Ok(index_of(value))
 }

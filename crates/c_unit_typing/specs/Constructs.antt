@@ -76,6 +76,10 @@ scope_closed f = record f { state = record f.state { environment = without_block
 abbrev pub in_scope : {A : Type 0} → FileTyping A → FileTyping A
 in_scope typed f = typed (scope_opened f) >>= λ r. Ok (scope_closed r.0, r.1)
 
+-- a statement that another controls
+abbrev pub controlled : FileTyping Labelled → FileTyping Statement
+controlled statement = in_scope (without_labels statement)
+
 -- labels of a switch (6.8.1, 6.8.4.2): a constant converted to the type of its value, different from all others
 
 abbrev pub added : (line : ℕ) → CaseLabel → Labels → Answer Labels
@@ -130,7 +134,23 @@ expression_typed (Some e) = evaluated e >>> λ e. done (tree.expression_statemen
 abbrev pub declaration_typed : t.Declaration → FileTyping Statement
 declaration_typed d = declaration false d ~> λ vs. finished (tree.declaration vs)
 
--- `do S while (E);` (6.8.5): the rule on conditions is judged at its word, before all that S violates. E stands in the
+-- `if`, `switch` and `while` (6.8.4, 6.8.5.1), by what types the statements that they control
+
+abbrev pub if_typed : (line : ℕ) → Expression → (body : FileTyping Statement) → FileTyping Statement
+if_typed line e body = in_scope (in_state (controlling line e) ~> λ c. body ~> λ s. finished (tree.if_then c s))
+
+abbrev pub if_else_typed : (line : ℕ) → Expression → (body other : FileTyping Statement) → FileTyping Statement
+if_else_typed line e body other =
+    in_scope (in_state (controlling line e) ~> λ c. body ~> λ s. other ~> λ other.
+    finished (tree.if_else c s other))
+
+abbrev pub switch_typed : (line : ℕ) → Expression → (block : Value → FileTyping Statement) → FileTyping Statement
+switch_typed line e block = in_scope (in_state (switching_on line e) ~> block)
+
+abbrev pub while_typed : (line : ℕ) → Expression → (body : FileTyping Statement) → FileTyping Statement
+while_typed line e body = in_scope (in_state (controlling line e) ~> λ c. body ~> λ s. finished (tree.while_do c s))
+
+-- `do S while (E);` (6.8.5.2): the rule on conditions is judged at its word, before all that S violates. E stands in the
 -- scope around S, so that it has its type also where S violates a rule.
 
 abbrev pub fault_or : {A B : Type 0} → Fault → Answer A → Answer B
@@ -147,7 +167,7 @@ do_behind line e before (Ok r) =
 do_behind line e before (Err f) = fault_before line f (valued (typed true e) before.state)
 
 abbrev pub do_typed : (line : ℕ) → (body : FileTyping Statement) → Expression → FileTyping Statement
-do_typed line body e f = do_behind line e f (body f)
+do_typed line body e = in_scope (λ f. do_behind line e f (body f))
 
 -- `for` (6.8.5.3): all three parts of its head are typed before the rule on conditions is judged at the word
 
@@ -177,6 +197,12 @@ behind_first line condition step first =
 abbrev pub head_typed : (line : ℕ) → t.ForInit → (condition step : Option Expression) → FileTyping Head
 head_typed line first condition step =
     first_typed first ~> λ first. in_state (behind_first line condition step first)
+
+abbrev pub for_typed : (line : ℕ) → t.ForInit → (condition step : Option Expression) → (body : FileTyping Statement)
+    → FileTyping Statement
+for_typed line first condition step body =
+    in_scope (head_typed line first condition step ~> λ h. body ~> λ s.
+    finished (tree.for line h.first h.condition h.step s))
 
 -- `break` and `continue` (6.8.6.2, 6.8.6.3)
 abbrev pub jump : (may_stand : Bool) → (line : ℕ) → Statement → State → Answer Statement

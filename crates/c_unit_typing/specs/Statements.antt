@@ -9,10 +9,10 @@ use Rattle.c_tree.specs.Tree.{kind_of}
 use Rattle.c_const.specs.Integers.{type_of}
 use Rattle.c_rules.specs.Values.{Value}
 use Rattle.c_typing.specs.State.{judged}
-use Rattle.c_unit_typing.specs.Constructs.{Around, Labelled, Labels, case_label, controlling, declaration_typed}
-use Rattle.c_unit_typing.specs.Constructs.{default_label, do_typed, expression_typed, head_typed, in_scope, jump}
-use Rattle.c_unit_typing.specs.Constructs.{labelled, labels_on, looping, no_labels, returned, switching, switching_on}
-use Rattle.c_unit_typing.specs.Constructs.{without_labels}
+use Rattle.c_unit_typing.specs.Constructs.{Around, Labelled, Labels, case_label, controlled, declaration_typed}
+use Rattle.c_unit_typing.specs.Constructs.{default_label, do_typed, expression_typed, for_typed, if_else_typed}
+use Rattle.c_unit_typing.specs.Constructs.{if_typed, in_scope, jump, labelled, labels_on, looping, no_labels, returned}
+use Rattle.c_unit_typing.specs.Constructs.{switch_typed, switching, while_typed, without_labels}
 use Rattle.c_unit_typing.specs.Files.{FileTyping, finished, in_state, ◌~>◌}
 
 abbrev mutual
@@ -20,24 +20,17 @@ abbrev mutual
   pub statement : Around → Labels → Statement → FileTyping Labelled
   statement a ls (t.compound b) = labelled ls (block a b)
   statement a ls (t.expression e at) = labelled ls (in_state (expression_typed e))
-  statement a ls (t.if_then at l e r s) =
-      labelled ls (in_scope (in_state (controlling at.line e) ~> λ c.
-      without_labels (in_scope (statement a no_labels s)) ~> λ s. finished (tree.if_then c s)))
+  statement a ls (t.if_then at l e r s) = labelled ls (if_typed at.line e (controlled (statement a no_labels s)))
   statement a ls (t.if_else at l e r s word other) =
-      labelled ls (in_scope (in_state (controlling at.line e) ~> λ c.
-      without_labels (in_scope (statement a no_labels s)) ~> λ s.
-      without_labels (in_scope (statement a no_labels other)) ~> λ other. finished (tree.if_else c s other)))
-  statement a ls (t.switch at l e r b) =
-      labelled ls (in_scope (in_state (switching_on at.line e) ~> λ v. switch_block (switching a) v b))
+      labelled ls (if_else_typed at.line e (controlled (statement a no_labels s))
+      (controlled (statement a no_labels other)))
+  statement a ls (t.switch at l e r b) = labelled ls (switch_typed at.line e (λ v. switch_block (switching a) v b))
   statement a ls (t.while_do at l e r s) =
-      labelled ls (in_scope (in_state (controlling at.line e) ~> λ c.
-      without_labels (in_scope (statement (looping a) no_labels s)) ~> λ s. finished (tree.while_do c s)))
+      labelled ls (while_typed at.line e (controlled (statement (looping a) no_labels s)))
   statement a ls (t.do_while at s word l e r end) =
-      labelled ls (in_scope (do_typed at.line (without_labels (in_scope (statement (looping a) no_labels s))) e))
+      labelled ls (do_typed at.line (controlled (statement (looping a) no_labels s)) e)
   statement a ls (t.for at l first condition semicolon step r s) =
-      labelled ls (in_scope (head_typed at.line first condition step ~> λ h.
-      without_labels (in_scope (statement (looping a) no_labels s)) ~> λ s.
-      finished (tree.for at.line h.first h.condition h.step s)))
+      labelled ls (for_typed at.line first condition step (controlled (statement (looping a) no_labels s)))
   statement a ls (t.case at e colon s) = in_state (case_label ls at.line e) ~> λ ls. statement a ls s
   statement a ls (t.default at colon s) = in_state (judged (default_label ls at.line)) ~> λ ls. statement a ls s
   statement a ls (t.break at end) = labelled ls (in_state (judged (jump a.inside.may_break at.line tree.break)))

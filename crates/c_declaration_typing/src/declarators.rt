@@ -4,6 +4,7 @@ ghost use Rattle.std.specs.Prelude.{◌≡◌, Some, is_some, map, option_copied
 ghost use Rattle.c_syntax.specs.StatementsView as views;
 ghost use Rattle.c_tree.specs.View.{declared_of};
 ghost use Rattle.c_scope.specs.declared.meaning.Designated.TheVariants as what;
+ghost use Rattle.c_scope.specs.declared.meaning.Meaning.TheVariants as meaning;
 ghost use Rattle.c_typing.specs.Declarators.{located, shape_of};
 ghost use Rattle.c_typing.specs.Specifications.{specification_of};
 ghost use Rattle.c_unit_state.specs.FileState.{FileTypes, file_of};
@@ -87,24 +88,59 @@ fn with_linkage<'a>(
     with_parts(file, number, tree.is_some(), object)
 }
 
+// What a name designates, with its initializer, if it has one.
+fn designated<'a>(
+    file: &mut FileTyper<'a>,
+    name: &LocatedName<'a>,
+    tree: Option<&Initializer<'a>>,
+    what: Designated,
+    c_type: &CType,
+) -> Result<Vec<DeclaredVariable>, Refusal>
+    ensures { FileTypes (λ vs. map declared_of vs.items) (file_of file.new) result (declared_with (located name.now)
+        (option_map views.initializer_of (option_copied tree.entry)) (Some (meaning.Named what c_type.now))
+        (file_of file.old)) }
+{
+    match what {
+        Designated::Variable(number) => variable(file, name, tree, number, c_type),
+        Designated::Static(number) => without_linkage(file, name, tree, number, c_type),
+        Designated::Object(number) => with_linkage(file, name, tree, number, c_type),
+        _ => Ok(Vec::new(file.typer.alloc)),
+    }
+}
+
 // What a declarator declared, with its initializer, if it has one.
 fn declared_with<'a>(
     file: &mut FileTyper<'a>,
     name: &LocatedName<'a>,
     tree: Option<&Initializer<'a>>,
-    meaning: &Option<Meaning>,
+    meaning: &Meaning,
 ) -> Result<Vec<DeclaredVariable>, Refusal>
     ensures { FileTypes (λ vs. map declared_of vs.items) (file_of file.new) result (declared_with (located name.now)
-        (option_map views.initializer_of (option_copied tree.entry)) meaning.now (file_of file.old)) }
+        (option_map views.initializer_of (option_copied tree.entry)) (Some meaning.now) (file_of file.old)) }
 {
     match meaning {
-        Some(Meaning::Named(what, c_type)) => match what {
-            Designated::Variable(number) => variable(file, name, tree, *number, c_type),
-            Designated::Static(number) => without_linkage(file, name, tree, *number, c_type),
-            Designated::Object(number) => with_linkage(file, name, tree, *number, c_type),
-            _ => Ok(Vec::new(file.typer.alloc)),
-        },
+        Meaning::Named(what, c_type) => designated(file, name, tree, *what, c_type),
         _ => Ok(Vec::new(file.typer.alloc)),
+    }
+}
+
+// The same where a declarator may have declared nothing.
+fn declared_if<'a>(
+    file: &mut FileTyper<'a>,
+    name: &LocatedName<'a>,
+    tree: Option<&Initializer<'a>>,
+    meaning: Option<Meaning>,
+) -> Result<Vec<DeclaredVariable>, Refusal>
+    ensures { FileTypes (λ vs. map declared_of vs.items) (file_of file.new) result (declared_with (located name.now)
+        (option_map views.initializer_of (option_copied tree.entry)) meaning (file_of file.old)) }
+{
+    match meaning {
+        Some(meaning) => {
+            let variables = declared_with(file, name, tree, &meaning);
+            let_go(meaning);
+            variables
+        }
+        None => Ok(Vec::new(file.typer.alloc)),
     }
 }
 
@@ -133,7 +169,7 @@ fn named<'a>(
 {
     let line = line_of(tree);
     let meaning = declared_as(&mut file.typer, in_head, specification, shape, line, name)?;
-    declared_with(file, name, tree, &meaning)
+    declared_if(file, name, tree, meaning)
 }
 
 fn named_by<'a>(

@@ -1,8 +1,7 @@
 //! Lists that grow. The functions are generic, since the proof of a drop writes out the whole type unless the type is a
 //! parameter.
 
-ghost use Rattle.std.specs.Prelude.{◌≡◌, ◌++◌, ◌∷◌, [], IfErr, IfOk, OnOk, false};
-ghost use Rattle.c_declaration_typing.specs.Lists.{has_one};
+ghost use Rattle.std.specs.Prelude.{◌≡◌, ◌==◌, ◌++◌, ◌∷◌, [], IfErr, IfOk, OnOk, false, length};
 
 use std::alloc::{AllocError, Global};
 
@@ -36,8 +35,8 @@ pub(crate) fn joined<T: Drop>(before: Vec<T>, more: Vec<T>) -> Result<Vec<T>, Al
 /// The item of a list that has no other one; the list where it has none or several.
 pub(crate) fn single<T: Drop>(items: Vec<T>) -> Result<T, Vec<T>>
     ensures one { IfOk result (λ item. items.items ≡ item ∷ []) }
-    ensures other { IfErr result (λ others. others ≡ items) }
-    ensures several { IfErr result (λ others. has_one others.items ≡ false) }
+    ensures other { IfErr result (λ others. others.items ≡ items.items) }
+    ensures several { IfErr result (λ others. (length others.items == 1) ≡ false) }
 {
     let mut items = items;
     if items.len() != 1 {

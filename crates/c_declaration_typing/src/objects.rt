@@ -1,7 +1,7 @@
 //! Objects with their initializers: automatic variables, static objects without linkage, and objects with linkage (C99
 //! 6.2.2, 6.2.4).
 
-ghost use Rattle.std.specs.Prelude.{◌≡◌, ◌∷◌, [], IfOk, map, option_map};
+ghost use Rattle.std.specs.Prelude.{◌≡◌, ◌++◌, ◌∷◌, [], if◌then◌else◌, IfOk, OnOk, map, option_map};
 ghost use Rattle.c_tree.specs.View.{content_of, declared_of, initializer_of, part_of, static_of};
 ghost use Rattle.c_typing.specs.State.{state_of};
 ghost use Rattle.c_unit_state.specs.FileState.{FileTypes, file_of};
@@ -58,6 +58,7 @@ fn content_initializer(alloc: Global, part: Part) -> Result<Initializer, AllocEr
 }
 
 // The initializer of a variable that has one: of a plain variable the only part is its value.
+#[tactic(auto, using(crate::proofs::Parts::several))]
 fn parts_initializer(
     alloc: Global,
     is_object: bool,
@@ -133,6 +134,26 @@ pub(crate) fn with_static<'a>(
     Ok(Vec::new(file.typer.alloc))
 }
 
+// Keeps the parts of an initializer, where there is one.
+fn keep_parts<'a>(
+    file: &mut FileTyper<'a>,
+    number: usize,
+    has_initializer: bool,
+    parts: Vec<Part>,
+) -> Result<(), AllocError>
+    ensures { OnOk result (file_of file.new ≡ (if has_initializer then record (file_of file.old) {
+      initializers = (file_of file.old).initializers ++ (number, map part_of parts.items) ∷ [];
+    } else file_of file.old)) }
+{
+    if has_initializer {
+        let parts = Items::from_vec(parts);
+        put(&mut file.initializers, LinkedInitializer { number, parts })
+    } else {
+        let_go(parts);
+        Ok(())
+    }
+}
+
 /// An object with linkage, whose initializer is kept.
 pub(crate) fn with_parts<'a>(
     file: &mut FileTyper<'a>,
@@ -144,11 +165,6 @@ pub(crate) fn with_parts<'a>(
         (with_parts number has_initializer (initialized_of object) (file_of file.old)) }
 {
     let Initialized { c_type: _, parts } = object;
-    if has_initializer {
-        let parts = Items::from_vec(parts);
-        put(&mut file.initializers, LinkedInitializer { number, parts })?;
-    } else {
-        let_go(parts);
-    }
+    keep_parts(file, number, has_initializer, parts)?;
     Ok(Vec::new(file.typer.alloc))
 }

@@ -28,8 +28,7 @@ use c_typing::Typer;
 use c_typing::shape::LocatedName;
 use std::alloc::{AllocError, Global};
 
-/// An object with its initializer.
-#[derive(Drop)]
+/// An object with its initializer. It is taken apart wherever it goes, so nothing lets it go, and no proof writes out how.
 pub struct Initialized {
     /// Its type.
     pub c_type: CType,
@@ -104,10 +103,13 @@ fn with_size<'a>(
     ensures { OnOk result (environment_of environment.new
         ≡ with_size what name.now words.now (environment_of environment.old)) }
 {
-    if let Designated::Object(_) = what {
-        with_entity(environment, alloc, name, words)?;
+    match what {
+        Designated::Object(_) => {
+            with_entity(environment, alloc, name, words)?;
+            with_name(environment, alloc, what, name, words)
+        }
+        _ => with_name(environment, alloc, what, name, words),
     }
-    with_name(environment, alloc, what, name, words)
 }
 
 fn is_of_type(words: &[TypeWord], entity: Option<&Entity>) -> bool

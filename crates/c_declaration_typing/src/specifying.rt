@@ -1,13 +1,13 @@
 //! The specifiers of a declaration (C99 6.7.1), and what they allow where it stands.
 
-ghost use Rattle.std.specs.Prelude.{◌≡◌, [], Err};
+ghost use Rattle.std.specs.Prelude.{◌≡◌, [], if◌then◌else◌, Ok, Err};
 ghost use Rattle.c_syntax.specs.StatementsView as views;
 ghost use Rattle.c_rules.specs.declared.fault.Refusal.TheVariants.{Fault as OfFault};
 ghost use Rattle.c_rules.specs.declared.fault.Rule.TheVariants.{MisplacedStorage};
-ghost use Rattle.c_rules.specs.Answer.{Gives};
+ghost use Rattle.c_rules.specs.Answer.{Gives, violates};
 ghost use Rattle.c_typing.specs.Specifications.{specification_of};
-ghost use Rattle.c_typing.specs.State.{State, Types, state_of};
-ghost use Rattle.c_unit_typing.specs.Declarations.{alone_in, has_place, is_automatic, specified, stored_once};
+ghost use Rattle.c_typing.specs.State.{Types, state_of};
+ghost use Rattle.c_unit_typing.specs.Declarations.{alone_in, has_place, is_automatic, specified};
 
 use c_rules::holding::beside;
 use c_rules::{Fault, Refusal, Rule};
@@ -29,8 +29,9 @@ pub(crate) fn misplaced<T>(line: Line) -> Result<T, Refusal>
 
 // There is at most one storage-class specifier (6.7.1 paragraph 2).
 fn stored_once(specification: &Specification) -> Result<(), Refusal>
-    ensures { (s : State) → Gives (λ done. specification_of specification.now) result
-        (stored_once (specification_of specification.now) s) }
+    ensures { Gives (λ done. specification_of specification.now) result
+        (if specification.now.has_two_storages then violates MisplacedStorage specification.now.line
+        else Ok (specification_of specification.now)) }
 {
     if specification.has_two_storages {
         misplaced(specification.line)

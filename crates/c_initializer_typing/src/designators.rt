@@ -1,6 +1,6 @@
 //! Designators (C99 6.7.8 paragraphs 6 and 7).
 
-ghost use Rattle.std.specs.Prelude.{◌∷◌, []};
+ghost use Rattle.std.specs.Prelude.{◌∷◌, [], false};
 ghost use Rattle.c_syntax.specs.StatementsView.{designation_of, designator_of, designators_in};
 ghost use Rattle.c_syntax.specs.View.{expression_of};
 ghost use Rattle.c_initializer_rules.specs.Initializing.{initializing_of};
@@ -53,6 +53,7 @@ fn designated_once<'a>(
 }
 
 // Designators from left to right.
+#[tactic(auto, using(crate::proofs::Designating::fails_behind))]
 fn designated<'a>(
     typer: &mut Typer<'a>,
     begun: &mut Initializing,

@@ -1,10 +1,10 @@
 //! Declarators with their initializers, and declarations (C99 6.7), in the order of the tokens.
 
-ghost use Rattle.std.specs.Prelude.{◌≡◌, Some, is_some, map, option_copied, option_map};
+ghost use Rattle.std.specs.Prelude.{◌≡◌, Some, is_none, is_some, map, option_copied, option_map};
 ghost use Rattle.c_syntax.specs.StatementsView as views;
 ghost use Rattle.c_tree.specs.View.{declared_of};
-ghost use Rattle.c_scope.specs.declared.meaning.Designated.TheVariants as what;
-ghost use Rattle.c_scope.specs.declared.meaning.Meaning.TheVariants as meaning;
+ghost use Rattle.c_scope.specs.declared.meaning.Designated.TheVariants as kinds;
+ghost use Rattle.c_scope.specs.declared.meaning.Meaning.TheVariants as meanings;
 ghost use Rattle.c_typing.specs.Declarators.{located, shape_of};
 ghost use Rattle.c_typing.specs.Specifications.{specification_of};
 ghost use Rattle.c_unit_state.specs.FileState.{FileTypes, file_of};
@@ -33,6 +33,15 @@ use c_unit_state::FileTyper;
 use c_unit_typing::lines::initializer_line;
 use sb_base::Line;
 
+fn has_initializer(tree: Option<&Initializer>) -> bool
+    ensures { result ≡ is_some (option_map views.initializer_of (option_copied tree.entry)) }
+{
+    match tree {
+        None => false,
+        Some(_) => true,
+    }
+}
+
 // An automatic variable with its initializer, if it has one.
 fn variable<'a>(
     file: &mut FileTyper<'a>,
@@ -42,14 +51,14 @@ fn variable<'a>(
     c_type: &CType,
 ) -> Result<Vec<DeclaredVariable>, Refusal>
     ensures { FileTypes (λ vs. map declared_of vs.items) (file_of file.new) result
-        ((in_state (initialized_if (what.Variable number) (located name.now) c_type.now
+        ((in_state (initialized_if (kinds.Variable number) (located name.now) c_type.now
         (option_map views.initializer_of (option_copied tree.entry)))
         ~> with_variable number (is_some (option_map views.initializer_of (option_copied tree.entry))))
         (file_of file.old)) }
 {
     let what = Designated::Variable(number);
     let object = initialized_if(&mut file.typer, what, name, c_type.words(), tree)?;
-    with_variable(file, number, tree.is_some(), object)
+    with_variable(file, number, has_initializer(tree), object)
 }
 
 // A static object without linkage with its initializer, if it has one.
@@ -61,7 +70,7 @@ fn without_linkage<'a>(
     c_type: &CType,
 ) -> Result<Vec<DeclaredVariable>, Refusal>
     ensures { FileTypes (λ vs. map declared_of vs.items) (file_of file.new) result
-        ((in_state (initialized_if (what.Static number) (located name.now) c_type.now
+        ((in_state (initialized_if (kinds.Static number) (located name.now) c_type.now
         (option_map views.initializer_of (option_copied tree.entry))) ~> with_static number) (file_of file.old)) }
 {
     let what = Designated::Static(number);
@@ -78,14 +87,14 @@ fn with_linkage<'a>(
     c_type: &CType,
 ) -> Result<Vec<DeclaredVariable>, Refusal>
     ensures { FileTypes (λ vs. map declared_of vs.items) (file_of file.new) result
-        ((in_state (initialized_if (what.Object number) (located name.now) c_type.now
+        ((in_state (initialized_if (kinds.Object number) (located name.now) c_type.now
         (option_map views.initializer_of (option_copied tree.entry)))
         ~> with_parts number (is_some (option_map views.initializer_of (option_copied tree.entry))))
         (file_of file.old)) }
 {
     let what = Designated::Object(number);
     let object = initialized_if(&mut file.typer, what, name, c_type.words(), tree)?;
-    with_parts(file, number, tree.is_some(), object)
+    with_parts(file, number, has_initializer(tree), object)
 }
 
 // What a name designates, with its initializer, if it has one.
@@ -97,7 +106,7 @@ fn designated<'a>(
     c_type: &CType,
 ) -> Result<Vec<DeclaredVariable>, Refusal>
     ensures { FileTypes (λ vs. map declared_of vs.items) (file_of file.new) result (declared_with (located name.now)
-        (option_map views.initializer_of (option_copied tree.entry)) (Some (meaning.Named what c_type.now))
+        (option_map views.initializer_of (option_copied tree.entry)) (Some (meanings.Named what c_type.now))
         (file_of file.old)) }
 {
     match what {
@@ -265,6 +274,16 @@ fn with_declarators<'a>(
     }
 }
 
+// Whether a declaration has no declarators.
+fn is_alone(tree: &Declaration) -> bool
+    ensures { result ≡ is_none (views.declaration_of tree.now).declarators }
+{
+    match &tree.declarators {
+        None => true,
+        Some(_) => false,
+    }
+}
+
 /// Types a declaration (C99 6.7), which stands in the head of a `for` (6.8.5.3) or not: its automatic variables, in order.
 /// The refusal is that of the first rule that is violated, in the order of the tokens, or that there is no memory.
 pub fn declaration<'a>(
@@ -275,7 +294,7 @@ pub fn declaration<'a>(
     ensures { FileTypes (λ vs. map declared_of vs.items) (file_of file.new) result
         (declaration in_head (views.declaration_of tree.now) (file_of file.old)) }
 {
-    let specification = specified(&mut file.typer, tree.declarators.is_none(), tree)?;
+    let specification = specified(&mut file.typer, is_alone(tree), tree)?;
     let variables = with_declarators(file, in_head, &specification, &tree.declarators);
     let_go(specification);
     variables

@@ -1,13 +1,13 @@
 //! Designators (C99 6.7.8 paragraphs 6 and 7).
 
-ghost use Rattle.std.specs.Prelude.{◌∷◌, [], false};
+ghost use Rattle.std.specs.Prelude.{false};
 ghost use Rattle.c_syntax.specs.StatementsView.{designation_of, designator_of, designators_in};
 ghost use Rattle.c_syntax.specs.View.{expression_of};
 ghost use Rattle.c_initializer_rules.specs.Initializing.{initializing_of};
 ghost use Rattle.c_typing.specs.State.{Types, state_of, ◌>>>◌};
 ghost use Rattle.c_expression_typing.specs.Constructs.{valued};
 ghost use Rattle.c_expression_typing.specs.Typed.{typed};
-ghost use Rattle.c_unit_typing.specs.Initializers.{by_index, designated, designated_by};
+ghost use Rattle.c_unit_typing.specs.Initializers.{by_index, designated, designated_by, designated_once};
 
 use crate::steps::{with_index, with_name};
 use crate::values::{index_of, value};
@@ -40,7 +40,7 @@ fn designated_once<'a>(
     tree: &Designator<'a>,
 ) -> Result<(), Refusal>
     ensures { Types (λ done. initializing_of begun.new) (state_of typer.new) result
-        (designated (designator_of tree.now ∷ []) (initializing_of begun.old) (state_of typer.old)) }
+        (designated_once (designator_of tree.now) (initializing_of begun.old) (state_of typer.old)) }
 {
     match tree {
         Designator::Element(opening, tree, _) => {
@@ -53,7 +53,6 @@ fn designated_once<'a>(
 }
 
 // Designators from left to right.
-#[tactic(auto, using(crate::proofs::Designating::fails_behind))]
 fn designated<'a>(
     typer: &mut Typer<'a>,
     begun: &mut Initializing,

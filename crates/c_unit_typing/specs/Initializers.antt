@@ -42,11 +42,13 @@ by_index line i v = stepped (λ es ms. with_index es ms line (index_in v)) i
 abbrev pub by_name : (line : ℕ) → Name → Initializing → Typing Initializing
 by_name line name i = stepped (λ es ms. with_name es ms line name) i
 
+abbrev pub designated_once : Designator → Initializing → Typing Initializing
+designated_once (t.element l e r) i = valued (typed false e) >>> λ v. by_index l.line i v
+designated_once (t.member_named at x) i = by_name at.line (name_of x) i
+
 abbrev pub designated : List Designator → Initializing → Typing Initializing
 designated [] i = done i
-designated (t.element l e r ∷ ds) i =
-    valued (typed false e) >>> λ v. by_index l.line i v >>> λ i. designated ds i
-designated (t.member_named at x ∷ ds) i = by_name at.line (name_of x) i >>> λ i. designated ds i
+designated (d ∷ ds) i = designated_once d i >>> λ i. designated ds i
 
 abbrev pub designated_by : Option Designation → Initializing → Typing Initializing
 designated_by None i = done i

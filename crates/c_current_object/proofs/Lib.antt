@@ -1,2 +1,2 @@
-pub mod MemberLookups
+pub mod Starts
 pub mod Levels

@@ -7,7 +7,8 @@ use Rattle.c_current_object.specs.declared.current.CurrentObject.{CurrentObject}
 use Rattle.c_current_object.specs.declared.current.Open.{Open}
 use Rattle.c_current_object.specs.declared.filler.Filler.{Filler}
 use Rattle.c_current_object.specs.declared.subobject.Subobject.{Subobject}
-use Rattle.c_current_object.specs.Members.{MemberLists, Name}
+use Rattle.c_current_object.specs.Members.{MemberLists}
+use Rattle.c_scope.specs.Names.{Name}
 use Rattle.c_current_object.specs.Subobjects.{element_number, member_number, number_behind, part}
 use Rattle.c_current_object.specs.Types.{fills}
 

@@ -1,52 +1,35 @@
 -- The members of structures and unions in the order of their declarations (C99 6.7.2.1).
-use Rattle.std.specs.Prelude.{ℕ, ◌==◌, if◌then◌else◌, Bool, List, [], ◌∷◌, map, nat_eq, position, Option, Some, None}
-use Rattle.std.specs.Cmp.Lexicographic.{pointwise}
+use Rattle.std.specs.Prelude.{ℕ, ◌==◌, Bool, true, Option, Some, None, option_map}
+use Rattle.std.specs.List.{list_all}
 use Rattle.c_place_rules.specs.declared.place.Member.{Member}
-use Rattle.c_current_object.specs.declared.members.MemberList as code
-use Rattle.c_current_object.specs.declared.members.MemberLists as code_lists
-
--- a name is the list of its bytes
-abbrev pub Name : Type 0
-Name = List ℕ
-
-abbrev pub is_name : Name → Name → Bool
-is_name m n = pointwise nat_eq m n
+use Rattle.c_scope.specs.declared.structures.Structures as code
+use Rattle.c_scope.specs.Names.{Names}
+use Rattle.c_scope.specs.Structures.{Structures, members_of, structures_of}
 
 -- the members of a structure or union, with their names
 pub record MemberList : Type 0 where
   pub is_union : Bool
-  pub members : List (Name × Member)
+  pub members : Names Member
 
-abbrev pub list_of : code.MemberList → MemberList
-list_of l = record { is_union = l.is_union; members = map (λ e. (e.0.now, e.1)) l.members.entries }
+-- All members of a union lie at 0 (6.7.2.1 paragraph 14), and of a structure the first alone (paragraph 13): one with a
+-- single member is initialized as a union with it is.
 
-abbrev pub no_members : (is_union : Bool) → MemberList
-no_members is_union = record { is_union = is_union; members = [] }
+abbrev pub lies_at_start : Option Member → Bool
+lies_at_start None = true
+lies_at_start (Some m) = m.offset == 0
 
--- one more member behind the others; a name that is there already keeps its place
-abbrev pub added : Name → Member → List (Name × Member) → List (Name × Member)
-added name m [] = (name, m) ∷ []
-added name m (e ∷ es) = if is_name name e.0 then (e.0, m) ∷ es else e ∷ added name m es
+abbrev pub is_union : Names Member → Bool
+is_union members = list_all (λ m. lies_at_start (Some m.1)) members
 
-abbrev pub with_member : Name → Member → MemberList → MemberList
-with_member name m l = record l { members = added name m l.members }
-
--- the number of the member with a name, from 0 on
-abbrev pub number_named : Name → List (Name × Member) → Option ℕ
-number_named name members = position (is_name name) (map (λ m. m.0) members)
+abbrev pub list_in : Names Member → MemberList
+list_in members = record { is_union = is_union members; members = members }
 
 -- those of the structures and unions that are complete, by the numbers of these
 abbrev pub MemberLists : Type 0
-MemberLists = List (ℕ × MemberList)
+MemberLists = ℕ → Option MemberList
 
-abbrev pub lists_of : code_lists.MemberLists → MemberLists
-lists_of s = map (λ e. (e.0, list_of e.1)) s.lists.entries
+abbrev pub lists_in : Structures → MemberLists
+lists_in s n = option_map list_in (members_of n s)
 
-abbrev pub list_at : ℕ → MemberLists → Option MemberList
-list_at n [] = None
-list_at n (e ∷ es) = if n == e.0 then Some e.1 else list_at n es
-
--- a structure or union that is complete now
-abbrev pub completed : ℕ → MemberList → MemberLists → MemberLists
-completed n list [] = (n, list) ∷ []
-completed n list (e ∷ es) = if n == e.0 then (e.0, list) ∷ es else e ∷ completed n list es
+abbrev pub lists_of : code.Structures → MemberLists
+lists_of s = lists_in (structures_of s)

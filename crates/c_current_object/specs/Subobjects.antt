@@ -10,7 +10,8 @@ use Rattle.c_place_rules.specs.declared.place.Member.{Member}
 use Rattle.c_rules.specs.Types.{unqualified}
 use Rattle.c_current_object.specs.declared.subobject.Step.{Step}
 use Rattle.c_current_object.specs.declared.subobject.Subobject.{Subobject}
-use Rattle.c_current_object.specs.Members.{MemberList, MemberLists, Name, list_at, number_named}
+use Rattle.c_current_object.specs.Members.{MemberList, MemberLists}
+use Rattle.c_scope.specs.Names.{Name, number_named}
 
 -- the whole object of a type
 abbrev pub whole : List TypeWord → Subobject
@@ -44,7 +45,7 @@ abbrev pub part_as : List (Option TypeExtent) → MemberLists → (unqualified_t
 part_as structures members (Array count bytes ∷ element) o n =
     if nat_lt n count then Some (element_in structures o element n) else None
 part_as structures members (OpenArray ∷ element) o n = Some (element_in structures o element n)
-part_as structures members (Structure s ∷ behind) o n = member_of o n (list_at s members)
+part_as structures members (Structure s ∷ behind) o n = member_of o n (members s)
 part_as structures members [] o n = None
 part_as structures members type o n = if n == 0 then Some o else None
 
@@ -60,7 +61,7 @@ member_behind None n = following n
 member_behind (Some l) n = if l.is_union then length l.members else following n
 
 abbrev pub number_behind_as : MemberLists → (unqualified_type : List TypeWord) → ℕ → ℕ
-number_behind_as members (Structure s ∷ behind) n = member_behind (list_at s members) n
+number_behind_as members (Structure s ∷ behind) n = member_behind (members s) n
 number_behind_as members type n = following n
 
 unfoldable pub number_behind : MemberLists → List TypeWord → ℕ → ℕ
@@ -82,7 +83,7 @@ number_in name None = None
 number_in name (Some l) = number_named name l.members
 
 abbrev pub member_number_as : MemberLists → (unqualified_type : List TypeWord) → Name → Option ℕ
-member_number_as members (Structure s ∷ behind) name = number_in name (list_at s members)
+member_number_as members (Structure s ∷ behind) name = number_in name (members s)
 member_number_as members type name = None
 
 unfoldable pub member_number : MemberLists → List TypeWord → Name → Option ℕ

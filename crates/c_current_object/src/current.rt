@@ -5,10 +5,10 @@ ghost use Rattle.c_current_object.specs.CurrentObject.{next_in, open_behind};
 ghost use Rattle.c_current_object.specs.Members.{lists_of};
 
 use crate::filler::Filler;
-use crate::members::MemberLists;
 use crate::subobject::{Subobject, element_number, member_number, number_behind};
 use c_place_rules::refusal::refused;
 use c_rules::{Refusal, Rule};
+use c_scope::structures::Structures;
 use c_tree::Extent;
 use sb_base::Line;
 use std::alloc::{AllocError, Global};
@@ -57,7 +57,7 @@ impl CurrentObject {
     /// A part of it, which has this number.
     pub fn part_within(
         self,
-        members: &MemberLists,
+        members: &Structures,
         number: u64,
         part: Subobject,
     ) -> Result<CurrentObject, AllocError>
@@ -76,7 +76,7 @@ impl CurrentObject {
         self,
         alloc: Global,
         structures: &[Option<Extent>],
-        members: &MemberLists,
+        members: &Structures,
     ) -> Result<CurrentObject, AllocError>
         ensures { IfOk result (λ c. c ≡ first_part (lists_of members.now) self
             (part structures.now (lists_of members.now) self.object 0)) }
@@ -94,7 +94,7 @@ impl CurrentObject {
         self,
         alloc: Global,
         structures: &[Option<Extent>],
-        members: &MemberLists,
+        members: &Structures,
         filler: Filler,
     ) -> Result<CurrentObject, AllocError>
         ensures { IfOk result (λ c. c ≡ reached structures.now (lists_of members.now) filler self) }
@@ -114,7 +114,7 @@ impl CurrentObject {
         self,
         alloc: Global,
         structures: &[Option<Extent>],
-        members: &MemberLists,
+        members: &Structures,
         line: Line,
         number: Option<u64>,
     ) -> Result<CurrentObject, Refusal>
@@ -135,7 +135,7 @@ impl CurrentObject {
         self,
         alloc: Global,
         structures: &[Option<Extent>],
-        members: &MemberLists,
+        members: &Structures,
         line: Line,
         index: Option<u64>,
     ) -> Result<CurrentObject, Refusal>
@@ -150,7 +150,7 @@ impl CurrentObject {
         self,
         alloc: Global,
         structures: &[Option<Extent>],
-        members: &MemberLists,
+        members: &Structures,
         line: Line,
         name: &[u8],
     ) -> Result<CurrentObject, Refusal>
@@ -163,7 +163,7 @@ impl CurrentObject {
 
 // Objects that are open, and one more in them, whose part with a number is initialized.
 fn with_open(
-    members: &MemberLists,
+    members: &Structures,
     levels: Vec<Open>,
     object: Subobject,
     number: u64,
@@ -181,7 +181,7 @@ fn with_open(
 pub fn next_in(
     alloc: Global,
     structures: &[Option<Extent>],
-    members: &MemberLists,
+    members: &Structures,
     levels: Vec<Open>,
 ) -> Result<Option<CurrentObject>, AllocError>
     ensures { IfOk result (λ c. c ≡ next_in structures.now (lists_of members.now) levels.items) }

@@ -10,5 +10,4 @@ pub mod subobject;
 
 pub use crate::current::{CurrentObject, Open};
 pub use crate::filler::{Filler, is_character_array};
-pub use crate::members::{MemberList, MemberLists};
 pub use crate::subobject::{Step, Subobject};

@@ -3,13 +3,16 @@
 
 ghost use Rattle.std.specs.Prelude.{◌≡◌, ◌++◌, ◌∷◌, [], ◌≤◌, ◌+◌, ◌^◌, IfOk, option_copied, option_map};
 ghost use Rattle.c_tree.specs.Extents.{extent_of};
-ghost use Rattle.c_current_object.specs.Members.{list_at, list_of, lists_of};
+ghost use Rattle.c_current_object.specs.Members.{list_in, lists_of};
+ghost use Rattle.c_scope.specs.Names.{names_of};
 ghost use Rattle.c_current_object.specs.Subobjects.{element_number, following, member_behind, member_number};
 ghost use Rattle.c_current_object.specs.Subobjects.{number_behind, number_in, size_or_0};
 
-use crate::members::{MemberList, MemberLists};
+use crate::members::is_union;
 use c_place_rules::Member;
 use c_rules::value::unqualified;
+use c_scope::names::Names;
+use c_scope::structures::Structures;
 use c_tree::{CType, Extent, MAX_SIZE, TypeWord, array_size};
 use std::alloc::{AllocError, Global};
 use tree_containers::Items;
@@ -36,7 +39,7 @@ pub struct Subobject {
 
 impl Subobject {
     ghost use Rattle.std.specs.Prelude.{◌≡◌, IfOk, option_copied, slice_get};
-    ghost use Rattle.c_current_object.specs.Members.{list_at, list_of, lists_of};
+    ghost use Rattle.c_current_object.specs.Members.{lists_of};
     ghost use Rattle.c_current_object.specs.Subobjects.{element_in, member_in, member_of, part, part_at, whole};
 
     /// The whole object of a type.
@@ -112,15 +115,15 @@ impl Subobject {
     fn member_of(
         &self,
         alloc: Global,
-        members: &MemberLists,
+        members: &Structures,
         structure: usize,
         number: u64,
     ) -> Result<Option<Subobject>, AllocError>
         ensures { IfOk result
-            (λ object. object ≡ member_of self.now number (list_at structure (lists_of members.now))) }
+            (λ object. object ≡ member_of self.now number (lists_of members.now structure)) }
     {
-        match members.get(structure) {
-            Some(list) => self.member(alloc, list.is_union(), number, list.member(number)),
+        match members.members(structure) {
+            Some(list) => self.member(alloc, is_union(list), number, list.at(number as usize)),
             None => Ok(None),
         }
     }
@@ -131,7 +134,7 @@ impl Subobject {
         &self,
         alloc: Global,
         structures: &[Option<Extent>],
-        members: &MemberLists,
+        members: &Structures,
         number: u64,
     ) -> Result<Option<Subobject>, AllocError>
         ensures { IfOk result (λ object. object ≡ part structures.now (lists_of members.now) self.now number) }
@@ -181,20 +184,20 @@ fn size_or_0(structures: &[Option<Extent>], words: &[TypeWord]) -> u64
 
 /// The number of the part behind that with a number, of an object of a type. Of a union no part stands behind one.
 #[tactic(auto, unfolding(crate::specs::Subobjects::number_behind))]
-pub fn number_behind(members: &MemberLists, words: &[TypeWord], number: u64) -> u64
+pub fn number_behind(members: &Structures, words: &[TypeWord], number: u64) -> u64
     ensures { result ≡ number_behind (lists_of members.now) words.now number }
 {
     match unqualified(words) {
-        [TypeWord::Structure(structure), ..] => member_behind(members.get(*structure), number),
+        [TypeWord::Structure(structure), ..] => member_behind(members.members(*structure), number),
         _ => number.saturating_add(1),
     }
 }
 
-fn member_behind(list: Option<&MemberList>, number: u64) -> u64
-    ensures { result ≡ member_behind (option_map list_of (option_copied list.entry)) number }
+fn member_behind(list: Option<&Names<Member>>, number: u64) -> u64
+    ensures { result ≡ member_behind (option_map (λ l. list_in (names_of l)) (option_copied list.entry)) number }
 {
     match list {
-        Some(list) if list.is_union() => list.len() as u64,
+        Some(list) if is_union(list) => list.len() as u64,
         _ => number.saturating_add(1),
     }
 }
@@ -213,17 +216,17 @@ pub fn element_number(words: &[TypeWord], index: Option<u64>) -> Option<u64>
 
 /// The number of the member that `.name` names in an object of a type, if it has one.
 #[tactic(auto, unfolding(crate::specs::Subobjects::member_number))]
-pub fn member_number(members: &MemberLists, words: &[TypeWord], name: &[u8]) -> Option<u64>
+pub fn member_number(members: &Structures, words: &[TypeWord], name: &[u8]) -> Option<u64>
     ensures { result ≡ member_number (lists_of members.now) words.now name.now }
 {
     match unqualified(words) {
-        [TypeWord::Structure(structure), ..] => number_in(name, members.get(*structure)),
+        [TypeWord::Structure(structure), ..] => number_in(name, members.members(*structure)),
         _ => None,
     }
 }
 
-fn number_in(name: &[u8], list: Option<&MemberList>) -> Option<u64>
-    ensures { result ≡ number_in name.now (option_map list_of (option_copied list.entry)) }
+fn number_in(name: &[u8], list: Option<&Names<Member>>) -> Option<u64>
+    ensures { result ≡ number_in name.now (option_map (λ l. list_in (names_of l)) (option_copied list.entry)) }
 {
     match list {
         Some(list) => Some(list.number(name)? as u64),

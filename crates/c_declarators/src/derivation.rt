@@ -142,7 +142,8 @@ fn array(
     with_word(alloc, word, inner, faults)
 }
 
-fn array_of(count: u64, element: Option<Extent>) -> TypeWord
+/// An array of elements of this size, of which no more than 2^32 + 1 bytes are counted; none where they have no size.
+pub fn array_of(count: u64, element: Option<Extent>) -> TypeWord
     ensures { result ≡ array_of count element }
 {
     match element {
@@ -151,7 +152,8 @@ fn array_of(count: u64, element: Option<Extent>) -> TypeWord
     }
 }
 
-fn is_large(word: TypeWord) -> bool
+/// Whether an array has more than 2^32 bytes.
+pub fn is_large(word: TypeWord) -> bool
     ensures { result ≡ is_large word }
 {
     match word {

@@ -15,7 +15,8 @@ use Rattle.c_current_object.specs.declared.filler.Filler.{Filler}
 use Rattle.c_current_object.specs.declared.filler.Filler.TheVariants as filler
 use Rattle.c_current_object.specs.declared.subobject.Subobject.{Subobject}
 use Rattle.c_current_object.specs.CurrentObject.{alone, by_index, by_name, next_in, part_within, reached}
-use Rattle.c_current_object.specs.Members.{MemberLists, Name}
+use Rattle.c_current_object.specs.Members.{MemberLists}
+use Rattle.c_scope.specs.Names.{Name}
 use Rattle.c_current_object.specs.Subobjects.{part, whole}
 use Rattle.c_current_object.specs.Types.{filler_of, is_character_array}
 use Rattle.c_initializer_rules.specs.declared.initializing.Braces.{Braces}

@@ -12,10 +12,11 @@ use crate::literal::{filling, is_too_long};
 use crate::parts::Parts;
 use crate::placed::PlacedPart;
 use c_current_object::current::next_in;
-use c_current_object::{CurrentObject, Filler, MemberLists, Open, Subobject, is_character_array};
+use c_current_object::{CurrentObject, Filler, Open, Subobject, is_character_array};
 use c_rules::conversion::assigned;
 use c_rules::holding::beside;
 use c_rules::{Fault, Refusal, Rule, TypedValue};
+use c_scope::structures::Structures;
 use c_tree::{Content, Extent, Part, TypeWord};
 use sb_base::Line;
 use std::alloc::{AllocError, Global};
@@ -101,7 +102,7 @@ impl Initializing {
         &mut self,
         alloc: Global,
         structures: &[Option<Extent>],
-        members: &MemberLists,
+        members: &Structures,
         line: Line,
         index: Option<u64>,
     ) -> Result<(), Refusal>
@@ -128,7 +129,7 @@ impl Initializing {
         &mut self,
         alloc: Global,
         structures: &[Option<Extent>],
-        members: &MemberLists,
+        members: &Structures,
         line: Line,
         name: &[u8],
     ) -> Result<(), Refusal>
@@ -155,7 +156,7 @@ impl Initializing {
         &self,
         alloc: Global,
         structures: &[Option<Extent>],
-        members: &MemberLists,
+        members: &Structures,
         filler: Filler,
         next: Next,
     ) -> Result<CurrentObject, AllocError>
@@ -178,7 +179,7 @@ impl Initializing {
         &mut self,
         alloc: Global,
         structures: &[Option<Extent>],
-        members: &MemberLists,
+        members: &Structures,
         content: Content,
         current: CurrentObject,
     ) -> Result<(), AllocError>
@@ -202,7 +203,7 @@ impl Initializing {
         &mut self,
         alloc: Global,
         structures: &[Option<Extent>],
-        members: &MemberLists,
+        members: &Structures,
         line: Line,
         value: TypedValue,
         current: CurrentObject,
@@ -229,7 +230,7 @@ impl Initializing {
         &mut self,
         alloc: Global,
         structures: &[Option<Extent>],
-        members: &MemberLists,
+        members: &Structures,
         line: Line,
         value: TypedValue,
     ) -> Result<(), Refusal>
@@ -251,7 +252,7 @@ impl Initializing {
         &mut self,
         alloc: Global,
         structures: &[Option<Extent>],
-        members: &MemberLists,
+        members: &Structures,
         line: Line,
         spelled: Vec<u8>,
         current: CurrentObject,
@@ -277,7 +278,7 @@ impl Initializing {
         &mut self,
         alloc: Global,
         structures: &[Option<Extent>],
-        members: &MemberLists,
+        members: &Structures,
         line: Line,
         spelled: Vec<u8>,
     ) -> Result<bool, Refusal>
@@ -314,7 +315,7 @@ impl Initializing {
         &mut self,
         alloc: Global,
         structures: &[Option<Extent>],
-        members: &MemberLists,
+        members: &Structures,
     ) -> Result<(), AllocError>
         ensures { OnOk result (initializing_of self.new
             ≡ opened structures.now (lists_of members.now) (initializing_of self.old)) }
@@ -342,7 +343,7 @@ impl Initializing {
         &mut self,
         alloc: Global,
         structures: &[Option<Extent>],
-        members: &MemberLists,
+        members: &Structures,
         line: Line,
     ) -> Result<(), Refusal>
         ensures { Leaves (initializing_of self.new) result
@@ -427,7 +428,7 @@ fn from_whole_list(alloc: Global, object: Option<&Subobject>) -> Result<Option<N
 fn place_in_list(
     alloc: Global,
     structures: &[Option<Extent>],
-    members: &MemberLists,
+    members: &Structures,
     list: Option<&Subobject>,
     filler: Filler,
     current: CurrentObject,
@@ -452,7 +453,7 @@ fn is_literal(filler: Filler) -> bool
 fn next_behind(
     alloc: Global,
     structures: &[Option<Extent>],
-    members: &MemberLists,
+    members: &Structures,
     levels: Items<Open>,
 ) -> Result<Option<Next>, AllocError>
     ensures { IfOk result (λ next. next ≡ next_behind structures.now (lists_of members.now) levels) }
@@ -467,7 +468,7 @@ fn next_behind(
 fn first_of(
     alloc: Global,
     structures: &[Option<Extent>],
-    members: &MemberLists,
+    members: &Structures,
     object: &Subobject,
 ) -> Result<Option<Next>, AllocError>
     ensures { IfOk result (λ next. next ≡ first_of (lists_of members.now) object.now

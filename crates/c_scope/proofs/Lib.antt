@@ -1,3 +1,4 @@
 mod Scoping
 mod Changing
 mod Compositing
+mod Numbering

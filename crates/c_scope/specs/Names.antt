@@ -1,6 +1,6 @@
 -- Names and the scopes in which they are declared (C99 6.2.1).
 use Rattle.std.specs.Prelude.{ℕ, Bool, true, false, List, [], ◌∷◌, ◌++◌, map, Option, Some, None}
-use Rattle.std.specs.Prelude.{if◌then◌else◌, nat_eq}
+use Rattle.std.specs.Prelude.{if◌then◌else◌, nat_eq, position}
 use Rattle.std.specs.Cmp.Lexicographic.{pointwise}
 use Rattle.c_scope.specs.declared.names.Names as code
 use Rattle.c_scope.specs.declared.names.Scopes as code_scopes
@@ -22,6 +22,10 @@ names_of names = map (λ e. (e.0.now, e.1)) names.entries.entries
 abbrev pub declared : {A : Type 0} → Name → Names A → Option A
 declared name [] = None
 declared name (e ∷ es) = if is_name name e.0 then Some e.1 else declared name es
+
+-- the number of a name, from 0 on
+abbrev pub number_named : {A : Type 0} → Name → Names A → Option ℕ
+number_named name es = position (is_name name) (map (λ e. e.0) es)
 
 -- a name that is declared again keeps its place
 abbrev pub bound : {A : Type 0} → Name → A → Names A → Names A

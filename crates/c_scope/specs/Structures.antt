@@ -1,6 +1,6 @@
 -- The structures and unions of a source (C99 6.7.2.1), by number in the order of their declarations.
 use Rattle.std.specs.Prelude.{ℕ, zero, suc, Bool, true, false, List, [], ◌∷◌, ◌++◌, map, Option, Some, None}
-use Rattle.std.specs.Prelude.{option_copied, slice_get}
+use Rattle.std.specs.Prelude.{if◌then◌else◌, option_copied, slice_get}
 use Rattle.c_tree.specs.Extents.{TypeExtent}
 use Rattle.c_place_rules.specs.declared.place.Member.{Member}
 use Rattle.c_scope.specs.declared.structures.Body as code
@@ -82,6 +82,15 @@ member_of n name bodies = member_in name (slice_get bodies n)
 abbrev pub is_known : Option (Option TypeExtent) → Bool
 is_known (Some (Some extent)) = true
 is_known _ = false
+
+-- the members of one that is complete, in the order of their declarations
+
+abbrev pub members_in : Option Body → Option (Names Member)
+members_in None = None
+members_in (Some b) = Some b.members
+
+abbrev pub members_of : ℕ → Structures → Option (Names Member)
+members_of n s = if is_known (slice_get s.extents n) then members_in (slice_get s.bodies n) else None
 
 abbrev pub file_tag_of : Option Body → Option Name
 file_tag_of None = None

@@ -228,7 +228,8 @@ fn is_extern(storage: Storage) -> bool
     matches!(storage, Storage::Extern)
 }
 
-fn is_misplaced(in_file: bool, of_function: bool, storage: Storage) -> bool
+/// Whether a storage-class specifier is out of place (6.7.1, 6.9 paragraph 2).
+pub fn is_misplaced(in_file: bool, of_function: bool, storage: Storage) -> bool
     ensures { result ≡ is_misplaced in_file of_function storage }
 {
     match storage {

@@ -1,8 +1,8 @@
 //! Names and the scopes in which they are declared (C99 6.2.1). A name is the list of its bytes.
 
-ghost use Rattle.std.specs.Prelude.{◌≡◌, [], length, map, OnOk, option_copied};
+ghost use Rattle.std.specs.Prelude.{◌≡◌, [], length, map, OnOk, option_copied, slice_get};
 ghost use Rattle.c_scope.specs.Names.{bound, closed, declared, entered, found, is_file_scope, left, meaning};
-ghost use Rattle.c_scope.specs.Names.{names_of, opened, scopes_of};
+ghost use Rattle.c_scope.specs.Names.{names_of, number_named, opened, scopes_of};
 
 use indexmap::IndexMap;
 use std::alloc::{AllocError, Global};
@@ -36,6 +36,21 @@ impl<'a, T: Drop> Names<'a, T> {
         ensures { result ≡ length (names_of self.now) }
     {
         self.entries.len()
+    }
+
+    /// What stands for the name with a number in their order, from 0 on.
+    pub fn at(&self, number: usize) -> Option<&T>
+        ensures { option_copied result ≡ slice_get (map (λ e. e.1) (names_of self.now)) number }
+    {
+        let (_, what) = self.entries.get_index(number)?;
+        Some(what)
+    }
+
+    /// The number of a name in their order, from 0 on.
+    pub fn number(&self, name: &[u8]) -> Option<usize>
+        ensures { result ≡ number_named name.now (names_of self.now) }
+    {
+        self.entries.get_index_of(name)
     }
 
     /// A name stands for something from now on. One that is declared again keeps its place.

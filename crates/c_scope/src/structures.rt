@@ -25,9 +25,9 @@ pub struct Structures<'a> {
 }
 
 impl<'a> Structures<'a> {
-    ghost use Rattle.std.specs.Prelude.{◌≡◌, ◌++◌, ◌∷◌, [], IfOk, OnOk, option_copied, length, slice_get};
+    ghost use Rattle.std.specs.Prelude.{◌≡◌, ◌++◌, ◌∷◌, [], IfOk, OnOk, option_copied, option_map, length, slice_get};
     ghost use Rattle.c_scope.specs.Structures.{begun, completed, declared_structure, file_tag_of, is_begun, is_known};
-    ghost use Rattle.c_scope.specs.Structures.{member_of, none};
+    ghost use Rattle.c_scope.specs.Structures.{member_of, members_in, members_of, none};
     ghost use Rattle.c_scope.specs.Structures.{structures_of};
     ghost use Rattle.c_scope.specs.Structures.{with_constness, with_extent, with_members};
     ghost use Rattle.c_scope.specs.Names.{names_of};
@@ -152,6 +152,28 @@ impl<'a> Structures<'a> {
     {
         if number < self.bodies.len() {
             self.bodies[number].members = members;
+        }
+    }
+
+    /// The members of this one, in the order of their declarations, where it is complete.
+    pub fn members(&self, number: usize) -> Option<&Names<'a, Member>>
+        ensures { option_map names_of (option_copied result) ≡ members_of number (structures_of self.now) }
+    {
+        if self.is_complete(number) {
+            self.members_listed(number)
+        } else {
+            None
+        }
+    }
+
+    // The members that are listed of this one.
+    fn members_listed(&self, number: usize) -> Option<&Names<'a, Member>>
+        ensures { option_map names_of (option_copied result)
+            ≡ members_in (slice_get (structures_of self.now).bodies number) }
+    {
+        match self.bodies.get(number) {
+            Some(body) => Some(&body.members),
+            None => None,
         }
     }
 

@@ -159,8 +159,8 @@ fn function_named(
     Ok(Operand::Function(TypedValue { c_type, tree }))
 }
 
-// The kind of an object of a type.
-fn kind_of_place(extents: &[Option<Extent>], words: &[TypeWord]) -> Kind
+/// The kind of an object of a type, of which the bytes are counted where it is complete.
+pub fn kind_of_place(extents: &[Option<Extent>], words: &[TypeWord]) -> Kind
     ensures { result ≡ object_kind (size_or_zero (extent_of extents.now words.now)) words.now }
 {
     object_kind(size_or_zero(Extent::of_type(extents, words)), words)
@@ -322,7 +322,9 @@ impl<'a> Typer<'a> {
         }
     }
 
-    fn is_object(&self, is_evaluated: bool, number: usize, words: &[TypeWord]) -> bool
+    /// Whether a variable is an object: the text takes its address, or it is an array or a structure. What `sizeof` does not
+    /// evaluate needs no plain variables.
+    pub fn is_object(&self, is_evaluated: bool, number: usize, words: &[TypeWord]) -> bool
         ensures { result ≡ is_object is_evaluated (state_of self.now) number words.now }
     {
         !is_evaluated || is_aggregate(words) || self.is_marked(number)

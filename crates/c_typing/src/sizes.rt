@@ -50,8 +50,8 @@ fn successor(word: u64) -> Option<u64>
     }
 }
 
-// Whether the type of an expression is signed.
-fn has_sign(tree: &Expression) -> bool
+/// Whether the type of an expression is signed.
+pub fn has_sign(tree: &Expression) -> bool
     ensures { result ≡ has_sign (expression_of tree.now) }
 {
     match tree.kind {

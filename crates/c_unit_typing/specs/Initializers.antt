@@ -9,7 +9,7 @@ use Rattle.c_rules.specs.Answer.{Answer}
 use Rattle.c_rules.specs.Values.{Value}
 use Rattle.c_scope.specs.Names.{Name}
 use Rattle.c_scope.specs.Structures.{Body}
-use Rattle.c_current_object.specs.Members.{MemberList, MemberLists}
+use Rattle.c_current_object.specs.Members.{MemberLists, lists_in}
 use Rattle.c_initializer_rules.specs.Initializing.{Initializing, closed, designation_begun, opened, with_index}
 use Rattle.c_initializer_rules.specs.Initializing.{with_literal, with_name, with_value}
 use Rattle.c_typing.specs.Primaries.{spelled_bytes}
@@ -20,21 +20,8 @@ use Rattle.c_expression_typing.specs.Lines.{name_of}
 use Rattle.c_expression_typing.specs.Typed.{typed}
 use Rattle.c_unit_typing.specs.Lines.{expression_line}
 
--- The members of the structures and unions that are complete, in the order of their declarations. All members of a union
--- lie at 0 (6.7.2.1 paragraph 14), and of a structure the first alone (paragraph 13): one with a single member is
--- initialized as a union with it is.
-
-abbrev pub list_in : Body → MemberList
-list_in b = record { is_union = list_all (λ m. m.1.offset == 0) b.members; members = b.members }
-
-abbrev pub lists_from : (number : ℕ) → List (Option TypeExtent) → List Body → MemberLists
-lists_from n [] bodies = []
-lists_from n (e ∷ es) [] = []
-lists_from n (None ∷ es) (b ∷ bs) = lists_from (suc n) es bs
-lists_from n (Some e ∷ es) (b ∷ bs) = (n, list_in b) ∷ lists_from (suc n) es bs
-
 abbrev pub member_lists : State → MemberLists
-member_lists s = lists_from 0 (extents s) s.environment.structures.bodies
+member_lists s = lists_in s.environment.structures
 
 -- a step among the structures and unions so far
 abbrev pub stepped : (List (Option TypeExtent) → MemberLists → Initializing → Answer Initializing) → Initializing
@@ -55,11 +42,13 @@ by_index line i v = stepped (λ es ms. with_index es ms line (index_in v)) i
 abbrev pub by_name : (line : ℕ) → Name → Initializing → Typing Initializing
 by_name line name i = stepped (λ es ms. with_name es ms line name) i
 
+abbrev pub designated_once : Designator → Initializing → Typing Initializing
+designated_once (t.element l e r) i = valued (typed false e) >>> λ v. by_index l.line i v
+designated_once (t.member_named at x) i = by_name at.line (name_of x) i
+
 abbrev pub designated : List Designator → Initializing → Typing Initializing
 designated [] i = done i
-designated (t.element l e r ∷ ds) i =
-    valued (typed false e) >>> λ v. by_index l.line i v >>> λ i. designated ds i
-designated (t.member_named at x ∷ ds) i = by_name at.line (name_of x) i >>> λ i. designated ds i
+designated (d ∷ ds) i = designated_once d i >>> λ i. designated ds i
 
 abbrev pub designated_by : Option Designation → Initializing → Typing Initializing
 designated_by None i = done i

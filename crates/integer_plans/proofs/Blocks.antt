@@ -1,10 +1,10 @@
 -- The blocks of three-address code: what they read and make.
-use Rattle.std.proofs.Common.{◌≡◌, ◌⊎◌, inl, inr, ⊎_elim, ℕ, zero, suc, ◌+◌, ◌*◌, ◌<◌, ◌≤◌, max, refl, sym, ap, ◌∙◌, subst}
-use Rattle.std.proofs.Common.{arith, Bool, true, false, List, [], ◌∷◌, ◌++◌, length, Option, Some, None}
-use Rattle.std.specs.Prelude.{◌==◌, ◌&&◌, nat_lt, if◌then◌else◌}
+use Rattle.std.proofs.Common.{◌≡◌, inl, inr, ℕ, zero, suc, ◌+◌, ◌<◌, ◌≤◌, refl, sym, subst}
+use Rattle.std.proofs.Common.{arith, Bool, true, false, List, [], ◌∷◌, ◌++◌}
+use Rattle.std.specs.Prelude.{◌==◌, nat_lt, if◌then◌else◌}
 use Rattle.std.proofs.lemmas.Bool.{eqb-true, false≢true, and_parts}
 use Rattle.addr_map.specs.Places.{MapSizes}
-use Rattle.sb_base.specs.declared.ending.Ending.TheVariants.{Stack, Abort as AbortAt}
+use Rattle.sb_base.specs.declared.ending.Ending.TheVariants.{Abort as AbortAt}
 use Rattle.obj_memory.specs.declared.int_type.IntType.{IntType}
 use Rattle.obj_memory.specs.declared.int_type.IntType.TheVariants.{UnsignedChar}
 use Rattle.obj_memory.specs.declared.operator.BinaryOperator.{BinaryOperator}
@@ -25,9 +25,9 @@ use Rattle.tac_ir.specs.declared.instruction.Instruction.TheVariants as tac
 use Rattle.tac_ir.specs.declared.function.CodeFunction.{CodeFunction}
 use Rattle.tac_ir.specs.declared.function.Tac.{Tac}
 use Rattle.tac_ir.specs.Meaning.{function_in as code_in}
-use Rattle.tac_ir.specs.Temporaries.{temporaries, right_count, call_count}
-use Rattle.rv_isa.specs.declared.instruction.BranchOp.TheVariants.{Beq, Bne, Bltu}
-use Rattle.flat_meaning.specs.declared.instruction.RightOperand.TheVariants.{Register, Number}
+use Rattle.tac_ir.specs.Temporaries.{temporaries}
+use Rattle.rv_isa.specs.declared.instruction.BranchOp.TheVariants.{Beq}
+use Rattle.flat_meaning.specs.declared.instruction.RightOperand.TheVariants.{Register}
 use Rattle.flat_meaning.specs.declared.instruction.FlatInstruction.{FlatInstruction}
 use Rattle.flat_meaning.specs.declared.instruction.FlatInstruction.TheVariants as flat
 use Rattle.flat_meaning.specs.declared.function.FlatProgram.{FlatProgram}
@@ -36,12 +36,14 @@ use Rattle.flat_meaning.specs.Meaning.{parameters_of, results_of}
 use Rattle.reg_plan.specs.Effects.{is_among, one, many}
 use Rattle.integer_operators.specs.Operators.{constant_code, conversion_code, binary_code}
 use Rattle.metadata_plan.specs.Registers.{most_temporaries, variable_register, temporary_register, first_free}
-use Rattle.metadata_plan.specs.Part.{takes, is_integer_instruction, is_integer_update, is_integer_routine, has_no_pointer}
-use Rattle.metadata_plan.specs.Blocks.{block, kept_by, right_code, right_register, argument_moves, call_code, room_in}
+use Rattle.metadata_plan.specs.Part.{takes, is_integer_instruction, is_integer_update, is_integer_routine}
+use Rattle.metadata_plan.specs.Part.{has_no_pointer}
+use Rattle.metadata_plan.specs.Blocks.{block, kept_by, right_code, right_register, argument_moves}
+use Rattle.metadata_plan.specs.Blocks.{call_tests, call_code, room_in}
 use Rattle.integer_code.specs.Operators.{operators}
 use Rattle.metadata_expansion.specs.Homes.{argument_count, free_count}
 use Rattle.temporary_liveness.specs.Liveness.{writes}
-use Rattle.integer_plans.proofs.Flow.{Registers, With, Flow, Makes, one_has, flow_append, makes_left, makes_right}
+use Rattle.integer_plans.proofs.Flow.{Registers, With, Flow, Makes, one_has, flow_append, makes_right}
 use Rattle.integer_plans.proofs.Operators.{Gives, constant_gives, conversion_gives, unary_gives, binary_gives}
 use Rattle.integer_plans.proofs.Roles.{Role, Scratch, variable_role, temporary_role, scratch_role}
 
@@ -76,6 +78,23 @@ module _ (c : CodeFunction) where
   Needs R (tac.Return a) = R (temporary_register c a)
   Needs R _ = Unit {0}
 
+-- a run goes through the block
+abbrev pub IsPassedBy : Routine → Type 0
+IsPassedBy Exit = ⊥
+IsPassedBy Abort = ⊥
+IsPassedBy _ = Unit {0}
+
+abbrev pub IsPassed : Instruction → Type 0
+IsPassed (tac.Library r line d n next) = IsPassedBy r
+IsPassed _ = Unit {0}
+
+-- what stands before a call
+pub tests_flow : (m : MapSizes) (p : FlatProgram) (f : ℕ) (gives : results_of (function_in p f) ≤ 1) (P R : Registers)
+    (room line s : ℕ) (rest : List FlatInstruction) → P s → Flow p f gives ⊥ P (With R s) rest
+    → Flow p f gives ⊥ P R (call_tests m room line s ++ rest)
+tests_flow m p f gives P R room line s rest low h =
+    (tt, tt, tt, (tt, low, tt, ((inr refl, tt), tt, (refl, tt), (tt, tt, tt, h))))
+
 module _ (m : MapSizes) (t : Tac) (c : CodeFunction) (p : FlatProgram) (f : ℕ)
     (gives : results_of (function_in p f) ≤ 1)
     (callees : (g n : ℕ) → takes (code_in t g) n ≡ true
@@ -95,7 +114,8 @@ module _ (m : MapSizes) (t : Tac) (c : CodeFunction) (p : FlatProgram) (f : ℕ)
         (variable_role c x (omega arith)) in
         let move = flat.Move (temporary_register c d) (variable_register c x) ∷ [] in
         record {
-          flow = flow_append p f gives ⊥ (Role c) S (conversion_code k (variable_register c x) (first_free c)) move g.flow
+          flow = flow_append p f gives ⊥ (Role c) S (conversion_code k (variable_register c x) (first_free c)) move
+              g.flow
               (λ R keeps makes. (makes (variable_register c x) g.made, temporary_role c d low, tt, tt));
           made = makes_right p f gives (conversion_code k (variable_register c x) (first_free c)) move
               (temporary_register c d) (inl (one_has (temporary_register c d)));
@@ -123,8 +143,8 @@ module _ (m : MapSizes) (t : Tac) (c : CodeFunction) (p : FlatProgram) (f : ℕ)
         let code = binary_code op ty line (first_free c) (first_free c) right (first_free c + 2) in
         let kept = kept_by operators fixity k (variable_register c x) (temporary_register c d) (first_free c)
         (first_free c + 2) in
-        let g = binary_gives p f gives (Role c) S op ty line (first_free c) (first_free c) right (first_free c + 2) value
-        r (scratch_role c 0 (first_free c) (omega arith) (omega arith))
+        let g = binary_gives p f gives (Role c) S op ty line (first_free c) (first_free c) right (first_free c + 2)
+        value r (scratch_role c 0 (first_free c) (omega arith) (omega arith))
         (scratch_role c 2 (first_free c + 2) (omega arith) refl) in
         record {
           flow = flow_append p f gives ⊥ (Role c) S code kept g.flow
@@ -162,8 +182,8 @@ module _ (m : MapSizes) (t : Tac) (c : CodeFunction) (p : FlatProgram) (f : ℕ)
                 tt,
                 scratch_role c 1 (first_free c + 1) (omega arith) refl,
                 tt,
-                (rest_gives (With S (first_free c + 1)) (first_free c + 1) (inl (makes (first_free c) g.made)) (inr refl)
-                    (inl (keeps (variable_register c x) variable))).flow,
+                (rest_gives (With S (first_free c + 1)) (first_free c + 1) (inl (makes (first_free c) g.made))
+                    (inr refl) (inl (keeps (variable_register c x) variable))).flow,
               ));
           made = makes_right p f gives code after (temporary_register c d)
               (inr (rest_gives (λ y. Unit {0}) (first_free c + 1) tt tt tt).made);
@@ -199,21 +219,18 @@ module _ (m : MapSizes) (t : Tac) (c : CodeFunction) (p : FlatProgram) (f : ℕ)
       let free = first_free c in
       let moves = argument_moves c free d n in
       let call = flat.Call g free (temporary_register c d) ∷ [] in
+      let handed : Flow p f gives ⊥ (Role c) (With R free) (moves ++ call) =
+      flow_append p f gives ⊥ (Role c) (With R free) moves call
+      (moves_flow (With R free) free d n (λ j lt. inl (have j lt)) (λ j lt. Scratch j (omega arith) refl))
+      (λ S keeps makes. (
+        (λ j lt. makes (free + j) (moves_made free d n j (free + j) (omega (arith, k.0)) refl)),
+        (k.1, temporary_role c d low),
+        tt,
+        tt,
+      )) in
       record {
-        flow = (
-          tt, tt, tt,
-          (tt, scratch_role c 0 free (omega arith) (omega arith), tt,
-          ((inr refl, tt), tt, (refl, tt),
-          (tt, tt, tt,
-          flow_append p f gives ⊥ (Role c) (With R free) moves call
-              (moves_flow (With R free) free d n (λ j lt. inl (have j lt)) (λ j lt. Scratch j (omega arith) refl))
-              (λ S keeps makes. (
-                (λ j lt. makes (free + j) (moves_made free d n j (free + j) (omega (arith, k.0)) refl)),
-                (k.1, temporary_role c d low),
-                tt,
-                tt,
-              ))))),
-        );
+        flow = tests_flow m p f gives (Role c) R (room_in (code_in t g)) line free (moves ++ call)
+            (scratch_role c 0 free (omega arith) (omega arith)) handed;
         made = inr (inr (inr (inr (makes_right p f gives moves call (temporary_register c d)
             (inl (subst (λ z. is_among (many (temporary_register c d) z) (temporary_register c d) ≡ true) (sym k.1)
             (one_has (temporary_register c d))))))));
@@ -301,16 +318,6 @@ module _ (m : MapSizes) (t : Tac) (c : CodeFunction) (p : FlatProgram) (f : ℕ)
 
   -- ---- what blocks make
 
-  -- a run goes through the block
-  abbrev pub IsPassedBy : Routine → Type 0
-  IsPassedBy Exit = ⊥
-  IsPassedBy Abort = ⊥
-  IsPassedBy _ = Unit {0}
-
-  abbrev pub IsPassed : Instruction → Type 0
-  IsPassed (tac.Library r line d n next) = IsPassedBy r
-  IsPassed _ = Unit {0}
-
   same_made : (is : List FlatInstruction) (d z : ℕ) → Makes p f gives is (temporary_register c d) → (z == d) ≡ true
       → Makes p f gives is (temporary_register c z)
   same_made is d z made e = subst (λ x. Makes p f gives is (temporary_register c x)) (sym (eqb-true z d e)) made
@@ -318,8 +325,8 @@ module _ (m : MapSizes) (t : Tac) (c : CodeFunction) (p : FlatProgram) (f : ℕ)
   conversion_made : (kind : Kind) (d a : ℕ) → has_no_pointer kind ≡ true
       → Makes p f gives (block operators m t c (tac.Convert kind d a 0)) (temporary_register c d)
   conversion_made (OfScalar (Integer ty)) d a e =
-      (conversion_gives p f gives (λ y. Unit {0}) (λ y. Unit {0}) ty (temporary_register c d) (temporary_register c a) tt
-      tt).made
+      (conversion_gives p f gives (λ y. Unit {0}) (λ y. Unit {0}) ty (temporary_register c d) (temporary_register c a)
+      tt tt).made
   conversion_made Void d a e = inl (one_has (temporary_register c d))
   conversion_made _ d a e = absurd (false≢true e)
 

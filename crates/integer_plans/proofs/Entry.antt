@@ -1,6 +1,6 @@
 -- The function with which a run begins can be planned.
-use Rattle.std.proofs.Common.{◌≡◌, ◌⊎◌, inl, inr, ⊎_elim, ℕ, zero, suc, ◌+◌, ◌*◌, ◌<◌, ◌≤◌, ◌^◌, refl, sym, ap, ◌∙◌, subst}
-use Rattle.std.proofs.Common.{arith, Bool, true, false, List, [], ◌∷◌, ◌++◌, length, Option, Some, None}
+use Rattle.std.proofs.Common.{◌≡◌, ◌⊎◌, inr, ⊎_elim, ℕ, zero, suc, ◌+◌, ◌<◌, ◌≤◌, refl, sym, ◌∙◌, subst}
+use Rattle.std.proofs.Common.{arith, true, [], ◌∷◌, Some}
 use Rattle.std.specs.Prelude.{slice_get}
 use Rattle.std.proofs.lemmas.Option.{same_Some, none-some}
 use Rattle.addr_map.specs.Places.{MapSizes}
@@ -11,11 +11,12 @@ use Rattle.flat_meaning.specs.declared.instruction.FlatInstruction.TheVariants a
 use Rattle.flat_meaning.specs.declared.function.FlatProgram.{FlatProgram}
 use Rattle.flat_meaning.specs.Calls.{function_in}
 use Rattle.flat_meaning.specs.Meaning.{parameters_of, results_of}
-use Rattle.metadata_plan.specs.Blocks.{entry_code, room_in}
+use Rattle.metadata_plan.specs.Blocks.{room_in, entry_code}
 use Rattle.metadata_plan.specs.Laid.{entry_of}
-use Rattle.reg_plan.specs.Effects.{read_by, is_read, made_by, is_among, one, next_of, taken_of, Leads}
+use Rattle.reg_plan.specs.Effects.{read_by, is_read, made_by, is_among, one, Leads}
 use Rattle.reg_plan.specs.Needs.{ReadsAt, MakesAt, LeadsAt, IsNeeded, Read, Made, Before}
 use Rattle.reg_plan.specs.Planned.{IsPlannable}
+use Rattle.integer_plans.proofs.Blocks.{tests_flow}
 use Rattle.integer_plans.proofs.Flow.{Registers, Flow, none_has, one_has, reads_nothing, maker_onward, flow_names}
 
 -- its one register
@@ -25,16 +26,21 @@ IsFirst y = y < 1
 module _ (m : MapSizes) (t : Tac) (p : FlatProgram) (f : ℕ) (gives : results_of (function_in p f) ≤ 1)
     (takes_none : parameters_of (function_in p t.main) ≡ 0) (gives_one : results_of (function_in p t.main) ≡ 1) where
   entry_flow : Flow p f gives ⊥ IsFirst (λ y. ⊥) (entry_code m t)
-  entry_flow = (
-    tt, tt, tt,
-    (tt, tt, tt,
-    (tt, tt, tt,
-    (tt, omega arith, tt,
-    ((inr refl, tt), tt, (refl, tt),
-    (tt, tt, tt,
-    ((λ j lt. absurd (omega (arith, lt, takes_none))), (gives_one, omega arith), tt,
-    (inr refl, tt, tt, tt))))))),
-  )
+  entry_flow =
+      let none : (j : ℕ) → j < parameters_of (function_in p t.main) → ⊥ ⊎ (0 + j ≡ 0) =
+      λ j lt. absurd (omega (arith, lt, takes_none)) in
+      let first : IsFirst 0 = omega arith in (
+        tt,
+        tt,
+        tt,
+        (
+          tt,
+          tt,
+          tt,
+          tests_flow m p f gives IsFirst (λ y. ⊥) (room_in (code_in t t.main)) (line_in (code_in t t.main)) 0
+              (flat.Call t.main 0 0 ∷ flat.Exit 0 ∷ []) first (none, (gives_one, first), tt, (inr refl, tt, tt, tt)),
+        ),
+      )
 
   named : (pc : ℕ) (x : FlatInstruction) (y : ℕ) → slice_get (entry_code m t) pc ≡ Some x
       → (is_read (read_by p f x) y ≡ true → y < 1) × (is_among (made_by p x) y ≡ true → y < 1)

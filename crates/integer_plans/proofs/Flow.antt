@@ -1,8 +1,8 @@
 -- Code without loops: what it reads that it has not made itself, and where it leads.
-use Rattle.std.proofs.Common.{◌≡◌, ◌⊎◌, inl, inr, ⊎_elim, ℕ, zero, suc, ◌+◌, ◌-◌, ◌<◌, ◌≤◌, refl, sym, ap, ◌∙◌, subst, arith}
-use Rattle.std.proofs.Common.{Bool, true, false, List, [], ◌∷◌, ◌++◌, length, Option, Some, None}
-use Rattle.std.specs.Prelude.{slice_get, ◌&&◌, ◌||◌, nat_le, nat_lt}
-use Rattle.std.proofs.lemmas.Bool.{and_parts, and_from, or_cases, ltb-true, lt-ltb, leb-true, le-leb, cases_Bool, both_ways}
+use Rattle.std.proofs.Common.{◌≡◌, ◌⊎◌, inl, inr, ⊎_elim, ℕ, zero, suc, ◌+◌, ◌-◌, ◌<◌, ◌≤◌, refl, sym, ap, subst, arith}
+use Rattle.std.proofs.Common.{true, List, [], ◌∷◌, ◌++◌, length, Some}
+use Rattle.std.specs.Prelude.{slice_get, ◌||◌, nat_le, nat_lt}
+use Rattle.std.proofs.lemmas.Bool.{and_parts, and_from, or_cases, ltb-true, lt-ltb, leb-true, le-leb}
 use Rattle.std.proofs.lemmas.Option.{same_Some, none-some}
 use Rattle.flat_meaning.specs.declared.instruction.RightOperand.{RightOperand}
 use Rattle.flat_meaning.specs.declared.instruction.RightOperand.TheVariants.{Register, Number}
@@ -14,10 +14,8 @@ use Rattle.flat_meaning.specs.declared.instruction.FlatInstruction.TheVariants.{
 use Rattle.flat_meaning.specs.declared.function.FlatProgram.{FlatProgram}
 use Rattle.flat_meaning.specs.Calls.{function_in}
 use Rattle.flat_meaning.specs.Meaning.{parameters_of, results_of}
-use Rattle.flat_routines.specs.Routine.{HasAt}
 use Rattle.reg_plan.specs.declared.effects.Span.{Span}
-use Rattle.reg_plan.specs.declared.effects.Reads.{Reads}
-use Rattle.reg_plan.specs.Effects.{read_by, is_read, made_by, is_among, one, none, many, two, operand, next_of, taken_of, Leads}
+use Rattle.reg_plan.specs.Effects.{read_by, is_read, made_by, is_among, one, none, many, two, operand, Leads}
 
 -- ---- spans
 
@@ -173,7 +171,8 @@ module _ (p : FlatProgram) (f : ℕ) (gives : results_of (function_in p f) ≤ 1
       of_three R none none (many x n) y (of_none R y) (of_none R y)
       (λ h. let a = many_is x n y h in subst R (sym a.2) (r a.0 a.1)) e
 
-  pub sources_read : (R : Registers) (i : FlatInstruction) (y : ℕ) → Sources R i → is_read (read_by p f i) y ≡ true → R y
+  pub sources_read : (R : Registers) (i : FlatInstruction) (y : ℕ) → Sources R i → is_read (read_by p f i) y ≡ true
+      → R y
   sources_read R (Constant x n) y s e = of_nothing R y e
   sources_read R (Move x z) y s e = of_first R z y s e
   sources_read R (Operate op x a z) y s e = of_two R a z y s.0 s.1 e
@@ -196,8 +195,8 @@ module _ (p : FlatProgram) (f : ℕ) (gives : results_of (function_in p f) ≤ 1
   sources_read R (Charged x) y s e = of_nothing R y e
 
   -- a call makes one register
-  called_one : (g x y : ℕ) → results_of (function_in p g) ≡ 1 → is_among (many x (results_of (function_in p g))) y ≡ true
-      → y ≡ x
+  called_one : (g x y : ℕ) → results_of (function_in p g) ≡ 1
+      → is_among (many x (results_of (function_in p g))) y ≡ true → y ≡ x
   called_one g x y n e =
       let h = many_is x (results_of (function_in p g)) y e in
       omega (arith, n, h.1, h.2)
@@ -306,10 +305,6 @@ module _ (p : FlatProgram) (f : ℕ) (gives : results_of (function_in p f) ≤ 1
         (λ y m. ⊎_elim (λ e. keeps y (made_behind P R i y h.0 h.1 e).1) (makes y) m)),
   )
 
-  pub makes_left : (is js : List FlatInstruction) (y : ℕ) → Makes is y → Makes (is ++ js) y
-  makes_left [] js y m = absurd m
-  makes_left (i ∷ is) js y m = ⊎_elim inl (λ h. inr (makes_left is js y h)) m
-
   pub makes_right : (is js : List FlatInstruction) (y : ℕ) → Makes js y → Makes (is ++ js) y
   makes_right [] js y m = m
   makes_right (i ∷ is) js y m = inr (makes_right is js y m)
@@ -342,9 +337,9 @@ module _ (p : FlatProgram) (f : ℕ) (gives : results_of (function_in p f) ≤ 1
       → (is_read (read_by p f x) y ≡ true → P y) × (is_among (made_by p x) y ≡ true → P y)
   flow_names T P R [] r x low h e y = absurd (none-some x e)
   flow_names T P R (i ∷ is) zero x low h e y =
-      let same = same_Some i x e in
-      (
-        λ m. sources_read P i y (sources_more R P i low h.0) (subst (λ z. is_read (read_by p f z) y ≡ true) (sym same) m),
+      let same = same_Some i x e in (
+        λ m. sources_read P i y (sources_more R P i low h.0)
+            (subst (λ z. is_read (read_by p f z) y ≡ true) (sym same) m),
         λ m. (made_behind P R i y h.0 h.1 (subst (λ z. is_among (made_by p z) y ≡ true) (sym same) m)).0,
       )
   flow_names T P R (i ∷ is) (suc r) x low h e y =

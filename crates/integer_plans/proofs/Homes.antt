@@ -1,11 +1,10 @@
 -- The homes of registers that are named: within the activation record, and apart.
-use Rattle.std.proofs.Common.{◌≡◌, ◌⊎◌, inl, inr, ⊎_elim, ℕ, zero, suc, ◌+◌, ◌-◌, ◌*◌, ◌<◌, ◌≤◌, max, refl, sym, ap, ◌∙◌}
-use Rattle.std.proofs.Common.{subst, arith, List, [], ◌∷◌, ◌++◌, length, length-append, Option, Some, None}
+use Rattle.std.proofs.Common.{◌≡◌, ⊎_elim, ℕ, zero, suc, ◌+◌, ◌*◌, ◌<◌, ◌≤◌, refl, ap, ◌∙◌}
+use Rattle.std.proofs.Common.{arith, List, [], ◌∷◌, ◌++◌, length, length-append, Some}
 use Rattle.std.specs.Prelude.{slice_get}
-use Rattle.std.proofs.lemmas.Bool.{cases_lt, cases_order}
-use Rattle.std.proofs.lemmas.Option.{same_Some, none-some}
+use Rattle.std.proofs.lemmas.Bool.{cases_lt}
 use Rattle.tac_ir.specs.declared.function.CodeFunction.{CodeFunction}
-use Rattle.metadata_plan.specs.Registers.{words_in, all_variables, most_temporaries, temporary_register, first_free}
+use Rattle.metadata_plan.specs.Registers.{words_in, all_variables, most_temporaries}
 use Rattle.metadata_expansion.specs.Homes.{free_count, words_from, temporary_homes, homes}
 use Rattle.metadata_expansion.specs.Numbers.{register_count}
 use Rattle.integer_plans.proofs.Roles.{Role, OfVariable, OfTemporary, Scratch}
@@ -57,11 +56,18 @@ module _ (c : CodeFunction) where
   abbrev count : ℕ
   count = most_temporaries c.code
 
+  -- the homes of variables, of temporaries, and of the registers behind them
+  abbrev front : List ℕ
+  front = words_from 0 variables
+
+  abbrev middle : List ℕ
+  middle = temporary_homes variables count
+
+  abbrev back : List ℕ
+  back = words_from (variables + count) (free_count c)
+
   pub homes_length : length (homes c) ≡ register_count c
   homes_length =
-      let front = words_from 0 variables in
-      let middle = temporary_homes variables count in
-      let back = words_from (variables + count) (free_count c) in
       let a = length-append front (middle ++ back) in
       let b = length-append middle back in
       let d = words_length 0 variables in
@@ -78,23 +84,20 @@ module _ (c : CodeFunction) where
   pub home_at : (y : ℕ) (r : Role c y) → slice_get (homes c) y ≡ Some (word y r)
   unfolding word
   home_at y (OfVariable lt) =
-      get_left (words_from 0 variables) (temporary_homes variables count ++ words_from (variables + count) (free_count c))
-      y y (words_at 0 variables y lt ∙ ap Some (let z : 0 + y ≡ y = omega arith in z))
+      let z : 0 + y ≡ y = omega arith in
+      get_left front (middle ++ back) y y (words_at 0 variables y lt ∙ ap Some z)
   home_at y (OfTemporary z lt e) =
-      let front = words_length 0 variables in
-      let seam : y ≡ length (words_from 0 variables) + 5 * z = omega (arith, front, e) in
-      get_right (words_from 0 variables) (temporary_homes variables count ++ words_from (variables + count) (free_count c))
-      y (5 * z) seam
-      ∙ get_left (temporary_homes variables count) (words_from (variables + count) (free_count c)) (5 * z) (variables + z)
-      (temporaries_at variables count z lt)
+      let long = words_length 0 variables in
+      let seam : y ≡ length front + 5 * z = omega (arith, long, e) in
+      get_right front (middle ++ back) y (5 * z) seam
+      ∙ get_left middle back (5 * z) (variables + z) (temporaries_at variables count z lt)
   home_at y (Scratch j lt e) =
-      let front = words_length 0 variables in
-      let middle = temporaries_length variables count in
-      let seam : y ≡ length (words_from 0 variables) + (5 * count + j) = omega (arith, front, e) in
-      let seam' : 5 * count + j ≡ length (temporary_homes variables count) + j = omega (arith, middle) in
-      get_right (words_from 0 variables) (temporary_homes variables count ++ words_from (variables + count) (free_count c))
-      y (5 * count + j) seam
-      ∙ get_right (temporary_homes variables count) (words_from (variables + count) (free_count c)) (5 * count + j) j seam'
+      let long = words_length 0 variables in
+      let long' = temporaries_length variables count in
+      let seam : y ≡ length front + (5 * count + j) = omega (arith, long, e) in
+      let seam' : 5 * count + j ≡ length middle + j = omega (arith, long') in
+      get_right front (middle ++ back) y (5 * count + j) seam
+      ∙ get_right middle back (5 * count + j) j seam'
       ∙ words_at (variables + count) (free_count c) j lt
 
   pub word_low : (y : ℕ) (r : Role c y) → word y r < words_in (all_variables c) + most_temporaries c.code + free_count c
@@ -119,3 +122,7 @@ module _ (c : CodeFunction) where
   words_differ x y (Scratch j lt a) (OfVariable lt') e = absurd (omega (arith, lt', e))
   words_differ x y (Scratch j lt a) (OfTemporary z lt' b) e = absurd (omega (arith, lt', e))
   words_differ x y (Scratch j lt a) (Scratch j' lt' b) e = omega (arith, a, b, e)
+
+  -- every home lies within the activation record
+  abbrev pub HasRoom : Type 0
+  HasRoom = 8 * (words_in (all_variables c) + most_temporaries c.code + free_count c) + 8 ≤ c.room

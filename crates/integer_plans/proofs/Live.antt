@@ -1,7 +1,7 @@
 -- A path through flat code to where a temporary's register is read follows one through three-address code.
-use Rattle.std.proofs.Common.{◌≡◌, ◌⊎◌, inl, inr, ⊎_elim, ℕ, zero, suc, ◌+◌, ◌<◌, ◌≤◌, max, refl, sym, ap, ◌∙◌, subst}
-use Rattle.std.proofs.Common.{arith, Bool, true, false, List, [], ◌∷◌, ◌++◌, length, Option, Some, None, length-append}
-use Rattle.std.specs.Prelude.{slice_get, nat_lt, nat_le, ◌==◌, ◌&&◌, ◌||◌, if◌then◌else◌}
+use Rattle.std.proofs.Common.{◌≡◌, ◌⊎◌, inl, inr, ⊎_elim, ℕ, zero, suc, ◌+◌, ◌<◌, ◌≤◌, refl, sym, ap, ◌∙◌, subst}
+use Rattle.std.proofs.Common.{arith, Bool, true, false, List, [], ◌∷◌, length, Some, length-append}
+use Rattle.std.specs.Prelude.{slice_get, nat_lt, nat_le, ◌==◌, if◌then◌else◌}
 use Rattle.std.proofs.lemmas.Bool.{ltb-true, lt-ltb, le-leb, eqb-true, eq-eqb, and_parts, and_from, or_left, or_right}
 use Rattle.std.proofs.lemmas.Bool.{cases_Bool, false≢true}
 use Rattle.std.proofs.lemmas.Option.{same_Some, none-some}
@@ -26,24 +26,25 @@ use Rattle.flat_meaning.specs.declared.instruction.FlatInstruction.TheVariants a
 use Rattle.flat_meaning.specs.declared.function.FlatProgram.{FlatProgram}
 use Rattle.flat_meaning.specs.Calls.{function_in}
 use Rattle.flat_meaning.specs.Meaning.{parameters_of, results_of}
-use Rattle.flat_routines.specs.Routine.{HasAt}
 use Rattle.metadata_plan.specs.Registers.{words_of, words_in, all_variables, most_temporaries, variable_register}
 use Rattle.metadata_plan.specs.Registers.{temporary_register, first_free}
-use Rattle.metadata_plan.specs.Part.{takes, are_integers, is_integer_instruction, is_integer_update, SafeWithin, IsSafeFrom}
+use Rattle.metadata_plan.specs.Part.{takes, are_integers, is_integer_instruction, is_integer_update, SafeWithin}
+use Rattle.metadata_plan.specs.Part.{IsSafeFrom}
 use Rattle.metadata_plan.specs.Blocks.{block, prologue, zeros, zero_variables}
 use Rattle.metadata_plan.specs.Expanded as expanded
 use Rattle.metadata_plan.specs.Laid.{place_of, body_of}
 use Rattle.metadata_plan.proofs.Numbers.{integers_words, integers_register, most_at}
 use Rattle.metadata_plan.proofs.Laying.{function_expands}
 use Rattle.integer_code.specs.Operators.{operators}
-use Rattle.metadata_expansion.specs.Homes.{argument_count, most_arguments, free_count}
-use Rattle.reg_plan.specs.Effects.{read_by, is_read, made_by, is_among, next_of, taken_of, Leads}
-use Rattle.temporary_liveness.specs.Liveness.{is_right, reads, writes, LiveWithin, IsLive}
-use Rattle.integer_plans.proofs.Flow.{Registers, Flow, Sources, Makes, reads_nothing, one_has, sources_read, flow_append}
+use Rattle.metadata_expansion.specs.Homes.{argument_count, free_count}
+use Rattle.reg_plan.specs.Effects.{read_by, is_read, Leads}
+use Rattle.temporary_liveness.specs.Liveness.{reads, writes, LiveWithin, IsLive}
+use Rattle.integer_plans.proofs.Flow.{Registers, Flow, Sources, Makes, reads_nothing, sources_read, flow_append}
 use Rattle.integer_plans.proofs.Paths.{ReadWithin, longer, Gets, through_list, through_all}
 use Rattle.integer_plans.proofs.Roles.{Role}
-use Rattle.integer_plans.proofs.Blocks.{Last, Needs, NeedsRight, NeedsArgument, IsPassedBy, IsPassed, block_flow, block_makes}
-use Rattle.integer_plans.proofs.Predecessors.{arguments_at, two_ways}
+use Rattle.integer_plans.proofs.Blocks.{Last, Needs, NeedsRight, NeedsArgument, IsPassed, block_flow, block_makes}
+use Rattle.metadata_expansion.proofs.Laid.{arguments_few}
+use Rattle.integer_plans.proofs.Predecessors.{two_ways}
 
 -- ---- an instruction that a path of integers comes to
 
@@ -86,8 +87,11 @@ module _ (t : Tac) (c : CodeFunction) (integers : are_integers (all_variables c)
       first : (n == 1) ≡ true → ReadBy c (tac.Library r line d n next) (temporary_register c d)
       first e =
           let one = eqb-true n 1 e in
-          inr (d, and_from (nat_le d d) (nat_lt d (d + n)) (le-leb d d (omega arith)) (lt-ltb d (d + n) (omega arith)),
-          refl)
+          inr (
+            d,
+            and_from (nat_le d d) (nat_lt d (d + n)) (le-leb d d (omega arith)) (lt-ltb d (d + n) (omega arith)),
+            refl,
+          )
 
       by : (q : Routine) → is_integer_instruction t (length (all_variables c)) (tac.Library q line d n next) ≡ true
           → NeedsArgument c (ReadBy c (tac.Library r line d n next)) q d
@@ -95,8 +99,12 @@ module _ (t : Tac) (c : CodeFunction) (integers : are_integers (all_variables c)
       by Exit e = first e
       by _ e = tt
   needs_read (tac.Call f line d n next) e =
-      λ j lt. inr (d + j, and_from (nat_le d (d + j)) (nat_lt (d + j) (d + n)) (le-leb d (d + j) (omega arith))
-      (lt-ltb (d + j) (d + n) (omega arith)), refl)
+      λ j lt. inr (
+        d + j,
+        and_from (nat_le d (d + j)) (nat_lt (d + j) (d + n)) (le-leb d (d + j) (omega arith))
+            (lt-ltb (d + j) (d + n) (omega arith)),
+        refl,
+      )
   needs_read (tac.Return a) e = inr (a, eq-eqb a a refl, refl)
   needs_read (tac.Constant d w next) e = tt
   needs_read (tac.ZeroOf kind d next) e = tt
@@ -159,8 +167,11 @@ module _ (m : MapSizes) (t : Tac) (c : CodeFunction) (p : FlatProgram) (f : ℕ)
     (callees : (g n : ℕ) → takes (code_in t g) n ≡ true
     → (parameters_of (function_in p g) ≡ n) × (results_of (function_in p g) ≡ 1))
     (integers : are_integers (all_variables c) ≡ true) where
+  abbrev body : List FlatInstruction
+  body = body_of operators m t c
+
   abbrev Path : (steps place y : ℕ) → Type 0
-  Path = ReadWithin p f gives (body_of operators m t c)
+  Path = ReadWithin p f gives body
 
   abbrev place : ℕ → ℕ
   place = place_of operators m t c
@@ -170,16 +181,16 @@ module _ (m : MapSizes) (t : Tac) (c : CodeFunction) (p : FlatProgram) (f : ℕ)
 
   -- ---- jumps and ends
 
-  along_jump : (x : FlatInstruction) (k pc q y : ℕ) → slice_get (body_of operators m t c) pc ≡ Some x
+  along_jump : (x : FlatInstruction) (k pc q y : ℕ) → slice_get body pc ≡ Some x
       → (is_read (read_by p f x) y ≡ true → ⊥) → ((z : ℕ) → Leads x pc z → z ≡ q) → Path k pc y → Path k q y
   along_jump x zero pc q y at none to path = absurd path
   along_jump x (suc k) pc q y at none to path =
       let same = same_Some path.0 x (sym path.1 ∙ at) in
       ⊎_elim (λ e. absurd (none (subst (λ z. is_read (read_by p f z) y ≡ true) same e)))
-      (λ on. longer p f gives (body_of operators m t c) k q y
+      (λ on. longer p f gives body k q y
       (subst (λ z. Path k z y) (to on.1 (subst (λ z. Leads z pc on.1) same on.2)) on.3)) path.2
 
-  along : (k pc q y : ℕ) → expanded.Leads (body_of operators m t c) pc q → Path k pc y → Path k q y
+  along : (k pc q y : ℕ) → expanded.Leads body pc q → Path k pc y → Path k q y
   along k pc q y (expanded.Falls e) path = subst (λ z. Path k z y) e path
   along k pc q y (expanded.Forward past at e) path =
       along_jump (flat.JumpForward past) k pc q y at (reads_nothing y)
@@ -189,7 +200,7 @@ module _ (m : MapSizes) (t : Tac) (c : CodeFunction) (p : FlatProgram) (f : ℕ)
       (λ z l. ⊎_elim (λ h. sym (same_Some _ z h) ∙ e) (λ h. absurd (none-some z h)) l) path
 
   -- a path that begins with an instruction which leads nowhere is to what it reads
-  halted : (R : Registers) (x : FlatInstruction) (k pc y : ℕ) → slice_get (body_of operators m t c) pc ≡ Some x
+  halted : (R : Registers) (x : FlatInstruction) (k pc y : ℕ) → slice_get body pc ≡ Some x
       → Sources p f gives R x → ((z : ℕ) → Leads x pc z → ⊥) → Path k pc y → R y
   halted R x zero pc y at sources nowhere path = absurd path
   halted R x (suc k) pc y at sources nowhere path =
@@ -200,7 +211,7 @@ module _ (m : MapSizes) (t : Tac) (c : CodeFunction) (p : FlatProgram) (f : ℕ)
   -- ---- a node
 
   put : (n : ℕ) (i : Instruction) → slice_get c.code n ≡ Some i
-      → expanded.IsPut operators m t c (body_of operators m t c) place (place n) i
+      → expanded.IsPut operators m t c body place (place n) i
   put n i e = (function_expands operators m t c []).blocks n i e
 
   -- a path from a node: it is to a temporary that the instruction reads, or goes on from a node behind
@@ -221,12 +232,12 @@ module _ (m : MapSizes) (t : Tac) (c : CodeFunction) (p : FlatProgram) (f : ℕ)
     low = most_at c.code n i there
 
     few : argument_count i ≤ free_count c
-    few = let h = arguments_at c.code n i there in omega (arith, h)
+    few = let h = arguments_few c.code n i there in omega (arith, h)
 
     list_flow : Flow p f gives (Last i) (Role c) (ReadBy c i) (block operators m t c i)
     list_flow = block_flow m t c p f gives callees (ReadBy c i) i low few (needs_read t c integers i part)
 
-    not_written : IsPassed m t c p f gives callees i → (Makes p f gives (block operators m t c i) y → ⊥) → (z : ℕ)
+    not_written : IsPassed i → (Makes p f gives (block operators m t c i) y → ⊥) → (z : ℕ)
         → y ≡ temporary_register c z → writes i z ≡ false
     not_written passed none z same =
         ⊎_elim
@@ -235,8 +246,8 @@ module _ (m : MapSizes) (t : Tac) (c : CodeFunction) (p : FlatProgram) (f : ℕ)
         (λ e. e) (cases_Bool (writes i z))
 
     -- behind the block
-    behind : IsPassed m t c p f gives callees i → (k : ℕ) → ((successors i ≡ []) → ⊥)
-        → Gets p f gives (body_of operators m t c) (Last i) (ReadBy c i) (block operators m t c i) k (place n) y
+    behind : IsPassed i → (k : ℕ) → ((successors i ≡ []) → ⊥)
+        → Gets p f gives body (Last i) (ReadBy c i) (block operators m t c i) k (place n) y
         → StepsOn i k y
     behind passed k some (inl r) = no_variable i k y high r
     behind passed k some (inr g) = by (successors i) refl (put n i there).leads
@@ -253,17 +264,17 @@ module _ (m : MapSizes) (t : Tac) (c : CodeFunction) (p : FlatProgram) (f : ℕ)
         among : (v : ℕ) (ns : List ℕ) → successors i ≡ ns → IsAmong v ns → LeadsTo i v
         among v ns e h = subst (IsAmong v) (sym e) h
 
-        by : (ns : List ℕ) → successors i ≡ ns → expanded.LeadOn (body_of operators m t c) place
+        by : (ns : List ℕ) → successors i ≡ ns → expanded.LeadOn body place
             (place n + length (block operators m t c i)) (successors i) → StepsOn i k y
         by [] e leads = absurd (some e)
         by (v ∷ []) e leads =
-            let lead = subst (expanded.LeadOn (body_of operators m t c) place
+            let lead = subst (expanded.LeadOn body place
             (place n + length (block operators m t c i))) e leads in
             ⊎_elim
             (λ path. inr (not_written passed g.0, v, among v (v ∷ []) e (inl refl), along k end (place v) y lead path))
             (λ path. absurd (no_two v e path.0)) g.1
         by (v ∷ w ∷ ns) e leads =
-            let lead = subst (expanded.LeadOn (body_of operators m t c) place
+            let lead = subst (expanded.LeadOn body place
             (place n + length (block operators m t c i))) e leads in
             ⊎_elim
             (λ path. inr (
@@ -279,7 +290,7 @@ module _ (m : MapSizes) (t : Tac) (c : CodeFunction) (p : FlatProgram) (f : ℕ)
               along k (end + 1) (place v) y lead.1 path.1,
             )) g.1
 
-  made_some : (i : Instruction) (d : ℕ) → Part i → IsPassed m t c p f gives callees i
+  made_some : (i : Instruction) (d : ℕ) → Part i → IsPassed i
       → temporaries i ≤ most_temporaries c.code → argument_count i ≤ free_count c → writes i d ≡ true
       → 0 < length (block operators m t c i)
   made_some i d part passed low few e =
@@ -318,7 +329,7 @@ module _ (m : MapSizes) (t : Tac) (c : CodeFunction) (p : FlatProgram) (f : ℕ)
 
   -- it ends the run or returns, or the code goes on behind it
   goes_on : (i : Instruction) → Part i
-      → IsLast i ⊎ (IsPassed m t c p f gives callees i × ((successors i ≡ []) → ⊥))
+      → IsLast i ⊎ (IsPassed i × ((successors i ≡ []) → ⊥))
   goes_on (tac.Return a) e = inl tt
   goes_on (tac.Library Exit line d n next) e = inl tt
   goes_on (tac.Library Abort line d n next) e = inl tt
@@ -349,7 +360,7 @@ module _ (m : MapSizes) (t : Tac) (c : CodeFunction) (p : FlatProgram) (f : ℕ)
   step_node n i k y there part high path =
       ⊎_elim (λ last. last_step i n k y last there part high path)
       (λ on. behind n i there part y high on.0 k on.1
-      (through_list p f gives (body_of operators m t c) (Last i) (Role c) (ReadBy c i) (block operators m t c i)
+      (through_list p f gives body (Last i) (Role c) (ReadBy c i) (block operators m t c i)
       (block_some i part (low n i there part y high) (few n i there part y high)) k (place n) y
       (list_flow n i there part y high) (put n i there).has path))
       (goes_on i part)
@@ -379,7 +390,7 @@ module _ (m : MapSizes) (t : Tac) (c : CodeFunction) (p : FlatProgram) (f : ℕ)
       let z : 0 + length (prologue c) ≡ length (prologue c) = omega arith in
       along k (length (prologue c)) (place c.entry) y h.begins (subst (λ w. Path k w y) z on))
       (λ e. absurd e.0) g.1)
-      (through_all p f gives (body_of operators m t c) ⊥ (λ y. Unit {0}) (λ y. ⊥) (prologue c) k 0 y
+      (through_all p f gives body ⊥ (λ y. Unit {0}) (λ y. ⊥) (prologue c) k 0 y
       (prologue_flow p f gives (λ y. ⊥) (words_in c.parameters) c.variables) h.zeroed path)
 
   -- no register but a variable's is read on a path from the entry that does not make it, where no temporary is live

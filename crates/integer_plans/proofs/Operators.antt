@@ -1,10 +1,10 @@
 -- The code of the operators on integers: what it reads and makes.
-use Rattle.std.proofs.Common.{◌≡◌, ◌⊎◌, inl, inr, ℕ, ◌≤◌, ◌-◌, ◌/◌, ◌%◌, ◌^◌, refl, Bool, true, false, List, [], ◌∷◌, ◌++◌}
+use Rattle.std.proofs.Common.{inl, inr, ℕ, ◌/◌, ◌%◌, ◌^◌, ◌≤◌, refl, Bool, true, false, List, [], ◌∷◌, ◌++◌}
 use Rattle.std.specs.Prelude.{◌==◌, if◌then◌else◌}
 use Rattle.rv_isa.specs.declared.instruction.RegOp.{RegOp}
 use Rattle.rv_isa.specs.declared.instruction.RegOp.TheVariants as op
 use Rattle.rv_isa.specs.declared.instruction.RegOp32.{RegOp32}
-use Rattle.rv_isa.specs.declared.instruction.RegOp32.TheVariants.{Addw, Subw, Mulw, Sllw}
+use Rattle.rv_isa.specs.declared.instruction.RegOp32.TheVariants.{Addw, Subw, Mulw}
 use Rattle.obj_memory.specs.declared.int_type.IntType.{IntType}
 use Rattle.obj_memory.specs.declared.int_type.IntType.TheVariants.{Char, SignedChar, UnsignedChar, Short}
 use Rattle.obj_memory.specs.declared.int_type.IntType.TheVariants.{UnsignedShort, Int, UnsignedInt, Long}
@@ -19,13 +19,13 @@ use Rattle.obj_memory.specs.declared.operator.BinaryOperator.TheVariants.{Greate
 use Rattle.obj_memory.specs.Integers.{is_signed, size_of}
 use Rattle.flat_meaning.specs.declared.instruction.RightOperand.TheVariants.{Register, Number}
 use Rattle.flat_meaning.specs.declared.instruction.FlatInstruction.{FlatInstruction}
-use Rattle.flat_meaning.specs.declared.instruction.FlatInstruction.TheVariants.{Operate, Operate32}
+use Rattle.flat_meaning.specs.declared.instruction.FlatInstruction.TheVariants.{Operate}
 use Rattle.flat_meaning.specs.declared.function.FlatProgram.{FlatProgram}
 use Rattle.flat_meaning.specs.Calls.{function_in}
 use Rattle.flat_meaning.specs.Meaning.{results_of}
-use Rattle.integer_operators.specs.Operators.{is_short, wide_code, constant_code, two_shifts, conversion_code, converted}
-use Rattle.integer_operators.specs.Operators.{wrapping_code, shift_left_code, shift_right_code, divided_code, unary_code}
-use Rattle.integer_operators.specs.Operators.{binary_code, less_op}
+use Rattle.integer_operators.specs.Operators.{is_short, appended, wide_code, constant_code, two_shifts}
+use Rattle.integer_operators.specs.Operators.{conversion_code, converted, wrapping_code, shift_left_code}
+use Rattle.integer_operators.specs.Operators.{shift_right_code, divided_code, unary_code, binary_code, less_op}
 use Rattle.integer_plans.proofs.Flow.{Registers, With, Flow, Makes, one_has}
 
 module _ (p : FlatProgram) (f : ℕ) (gives : results_of (function_in p f) ≤ 1) (P : Registers) where
@@ -39,21 +39,21 @@ module _ (p : FlatProgram) (f : ℕ) (gives : results_of (function_in p f) ≤ 1
   either R d true is js g h = g
   either R d false is js g h = h
 
+  appended_flow : (R : Registers) (d n : ℕ) (rest : List FlatInstruction) → R d → P d
+      → Flow p f gives ⊥ P (With (With R d) d) rest → Flow p f gives ⊥ P R (appended d n ++ rest)
+  appended_flow R d n rest r t h = ((r, tt), t, tt, ((inr refl, tt), t, tt, h))
+
+  wide_flow : (R : Registers) (d w : ℕ) → P d → Flow p f gives ⊥ P R (wide_code d w)
+  wide_flow R d w t =
+      let again = appended_flow (With (With (With R d) d) d) d (w % 2 ^ 20) [] (inr refl) t tt in
+      (tt, t, tt, appended_flow (With R d) d (w / 2 ^ 20 % 2 ^ 20) (appended d (w % 2 ^ 20)) (inr refl) t again)
+
   pub constant_gives : (R : Registers) (d w : ℕ) → P d → Gives R (constant_code d w) d
   unfolding constant_code
   constant_gives R d w t =
       either R d (is_short w) _ (wide_code d w)
       (record { flow = (tt, t, tt, tt); made = inl (one_has d) })
-      (record {
-        flow = (
-          tt, t, tt,
-          ((inr refl, tt), t, tt,
-          ((inr refl, tt), t, tt,
-          ((inr refl, tt), t, tt,
-          ((inr refl, tt), t, tt, tt)))),
-        );
-        made = inl (one_has d);
-      })
+      (record { flow = wide_flow R d w t; made = inl (one_has d) })
 
   shifted : (R : Registers) (back : RegOp) (n d x : ℕ) → R x → P d → Gives R (two_shifts back n d x) d
   shifted R back n d x r t = record {

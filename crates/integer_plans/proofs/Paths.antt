@@ -1,17 +1,16 @@
 -- Paths through code: to where a register is read that none on the way makes.
-use Rattle.std.proofs.Common.{◌≡◌, ◌⊎◌, inl, inr, ⊎_elim, ℕ, zero, suc, ◌+◌, ◌<◌, ◌≤◌, sym, ap, ◌∙◌, subst, arith}
-use Rattle.std.proofs.Common.{Bool, true, false, List, [], ◌∷◌, length, Option, Some, None}
+use Rattle.std.proofs.Common.{◌≡◌, ◌⊎◌, inl, inr, ⊎_elim, ℕ, zero, suc, ◌+◌, ◌<◌, ◌≤◌, sym, ◌∙◌, subst, arith}
+use Rattle.std.proofs.Common.{true, false, List, [], ◌∷◌, length, Some}
 use Rattle.std.specs.Prelude.{slice_get}
 use Rattle.std.proofs.lemmas.Bool.{both_ways}
-use Rattle.std.proofs.lemmas.Option.{same_Some, none-some}
+use Rattle.std.proofs.lemmas.Option.{same_Some}
 use Rattle.flat_meaning.specs.declared.instruction.FlatInstruction.{FlatInstruction}
 use Rattle.flat_meaning.specs.declared.function.FlatProgram.{FlatProgram}
 use Rattle.flat_meaning.specs.Calls.{function_in}
 use Rattle.flat_meaning.specs.Meaning.{results_of}
 use Rattle.flat_routines.specs.Routine.{HasAt}
-use Rattle.metadata_plan.specs.Expanded as expanded
-use Rattle.reg_plan.specs.Effects.{read_by, is_read, made_by, is_among, next_of, taken_of, Leads}
-use Rattle.integer_plans.proofs.Flow.{Registers, PassesEnd, Flow, Makes, Behind, Sources, Guards, sources_read}
+use Rattle.reg_plan.specs.Effects.{read_by, is_read, made_by, is_among, Leads}
+use Rattle.integer_plans.proofs.Flow.{Registers, PassesEnd, Flow, Makes, Behind, sources_read}
 use Rattle.integer_plans.proofs.Flow.{behind_made, onward, end_first}
 
 module _ (p : FlatProgram) (f : ℕ) (gives : results_of (function_in p f) ≤ 1) (body : List FlatInstruction) where
@@ -36,8 +35,11 @@ module _ (p : FlatProgram) (f : ℕ) (gives : results_of (function_in p f) ≤ 1
   gets_longer : (T : Type 0) (R : Registers) (is : List FlatInstruction) (k pc y : ℕ) → Gets T R is k pc y
       → Gets T R is (suc k) pc y
   gets_longer T R is k pc y h =
-      ⊎_elim inl (λ g. inr (g.0, ⊎_elim (λ r. inl (longer k (pc + length is) y r))
-      (λ r. inr (r.0, longer k (pc + length is + 1) y r.1)) g.1)) h
+      ⊎_elim inl (λ g. inr (
+        g.0,
+        ⊎_elim (λ r. inl (longer k (pc + length is) y r))
+            (λ r. inr (r.0, longer k (pc + length is + 1) y r.1)) g.1,
+      )) h
 
   behind : (T : Type 0) (P R : Registers) (i : FlatInstruction) (is : List FlatInstruction) (k pc y : ℕ)
       → Flow p f gives T P R (i ∷ is) → (is_among (made_by p i) y ≡ true → ⊥)

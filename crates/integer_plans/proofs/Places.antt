@@ -1,9 +1,9 @@
 -- Which instruction stands at a place of a function's code, and where its jumps lead.
 use Rattle.std.proofs.Common.{◌≡◌, ◌⊎◌, inl, inr, ⊎_elim, ℕ, zero, suc, ◌+◌, ◌-◌, ◌<◌, ◌≤◌, refl, sym, ap, ◌∙◌, subst}
-use Rattle.std.proofs.Common.{arith, Bool, true, false, List, [], ◌∷◌, ◌++◌, length, drop, Option, Some, None}
-use Rattle.std.specs.Prelude.{slice_get, nat_lt, ◌==◌, ◌&&◌, not, if◌then◌else◌}
+use Rattle.std.proofs.Common.{arith, Bool, true, false, List, [], ◌∷◌, ◌++◌, length, drop, Some}
+use Rattle.std.specs.Prelude.{slice_get, nat_lt, ◌==◌, not, if◌then◌else◌}
 use Rattle.std.proofs.lemmas.Bool.{ltb-true, ltb-false, lt-ltb, eq-eqb, and_parts, cases_eq, both_ways, false≢true}
-use Rattle.std.proofs.lemmas.Option.{same_Some, none-some, slice_get_within, slice_get-get_or}
+use Rattle.std.proofs.lemmas.Option.{same_Some, none-some, slice_get-get_or}
 use Rattle.addr_map.specs.Places.{MapSizes}
 use Rattle.tac_ir.specs.declared.instruction.Instruction.{Instruction}
 use Rattle.tac_ir.specs.declared.function.CodeFunction.{CodeFunction}
@@ -13,12 +13,11 @@ use Rattle.flat_meaning.specs.declared.instruction.FlatInstruction.{FlatInstruct
 use Rattle.flat_meaning.specs.declared.instruction.FlatInstruction.TheVariants.{JumpForward, JumpBack}
 use Rattle.flat_meaning.specs.declared.function.FlatProgram.{FlatProgram}
 use Rattle.flat_routines.specs.Routine.{HasAt}
-use Rattle.metadata_plan.specs.Blocks.{block}
-use Rattle.metadata_plan.specs.Laid.{jump, jump_unless, times_in, edges_to, ways_to, is_join, falls, jumps, jump_count}
-use Rattle.metadata_plan.specs.Laid.{size_at, size_from, begin_size, place_of, laid_from, begin_code, body_of}
+use Rattle.metadata_plan.specs.Laid.{jump, jump_unless, times_in, edges_to, ways_to, is_join, falls, jumps}
+use Rattle.metadata_plan.specs.Laid.{size_at, size_from, place_of, laid_from, begin_code, body_of}
 use Rattle.metadata_plan.proofs.Laying.{part_of, part_length, laid_length, begin_length, place_is, part_stands}
 use Rattle.integer_code.specs.Operators.{operators}
-use Rattle.reg_plan.specs.Effects.{read_by, is_read, made_by, is_among, next_of, taken_of, Leads}
+use Rattle.reg_plan.specs.Effects.{read_by, is_read, made_by, is_among, Leads}
 use Rattle.integer_plans.proofs.Flow.{none_has, reads_nothing}
 
 -- ---- what stands in lists
@@ -101,8 +100,7 @@ jumps_at c address n pc (v ∷ []) j x e =
     let z : pc ≡ pc + j = omega (arith, h.1) in
     (v, h.2 ∙ ap (λ k. jump k (address v)) z, record { is = once v v [] refl; unfallen = λ s. h.0 })
 jumps_at c address n pc (v ∷ w ∷ ms) zero x e =
-    let z : pc ≡ pc + 0 = omega arith in
-    (
+    let z : pc ≡ pc + 0 = omega arith in (
       w,
       sym (same_Some (jump pc (address w)) x e) ∙ ap (λ k. jump k (address w)) z,
       record {
@@ -112,8 +110,7 @@ jumps_at c address n pc (v ∷ w ∷ ms) zero x e =
     )
 jumps_at c address n pc (v ∷ w ∷ ms) (suc j) x e =
     let h = unless_at (falls c n v) (pc + 1) (address v) j x e in
-    let z : pc + 1 ≡ pc + suc j = omega (arith, h.1) in
-    (
+    let z : pc + 1 ≡ pc + suc j = omega (arith, h.1) in (
       v,
       h.2 ∙ ap (λ k. jump k (address v)) z,
       record { is = once v v (w ∷ ms) refl; unfallen = λ s. absurd (let l = ap length s in omega arith) },
@@ -264,8 +261,7 @@ module _ (m : MapSizes) (t : Tac) (c : CodeFunction) where
           × (slice_get (body_of operators m t c) (place_of operators m t c n + r) ≡ Some z)
       by is same =
           let long = part_length operators m t c n i in
-          let z = at_place (part_of operators m t c n i) (omega (arith, long, lt)) in
-          (
+          let z = at_place (part_of operators m t c n i) (omega (arith, long, lt)) in (
             z.0,
             z.1,
             has_get (body_of operators m t c) (part_of operators m t c n i) (place_of operators m t c n) r z.0

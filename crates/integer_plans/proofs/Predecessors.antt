@@ -1,7 +1,6 @@
 -- Behind what makes a register of a temporary or one for a block's own use the code comes from there alone.
-use Rattle.std.proofs.Common.{◌≡◌, ◌⊎◌, inl, inr, ⊎_elim, ℕ, zero, suc, ◌+◌, ◌-◌, ◌<◌, ◌≤◌, max, refl, sym, ap, ◌∙◌}
-use Rattle.std.proofs.Common.{subst, arith, Bool, true, false, List, [], ◌∷◌, ◌++◌, length, drop, Option, Some, None}
-use Rattle.std.proofs.Common.{length-append}
+use Rattle.std.proofs.Common.{◌≡◌, ⊎_elim, ℕ, zero, suc, ◌+◌, ◌<◌, ◌≤◌, refl, sym, ap, ◌∙◌}
+use Rattle.std.proofs.Common.{subst, arith, Bool, true, false, List, [], ◌∷◌, ◌++◌, length, Some}
 use Rattle.std.specs.Prelude.{slice_get, ◌==◌, if◌then◌else◌}
 use Rattle.std.proofs.lemmas.Bool.{cases_lt}
 use Rattle.std.proofs.lemmas.Option.{same_Some, none-some, slice_get_within, slice_get-get_or}
@@ -17,30 +16,32 @@ use Rattle.tac_ir.specs.declared.function.CodeFunction.{CodeFunction}
 use Rattle.tac_ir.specs.declared.function.Tac.{Tac}
 use Rattle.tac_ir.specs.Meaning.{function_in as code_in}
 use Rattle.tac_ir.specs.Edges.{successors}
-use Rattle.tac_ir.specs.Temporaries.{temporaries, right_count, call_count}
+use Rattle.tac_ir.specs.Temporaries.{temporaries, right_count}
 use Rattle.flat_meaning.specs.declared.instruction.FlatInstruction.{FlatInstruction}
 use Rattle.flat_meaning.specs.declared.instruction.FlatInstruction.TheVariants as flat
 use Rattle.flat_meaning.specs.declared.function.FlatProgram.{FlatProgram}
 use Rattle.flat_meaning.specs.Calls.{function_in}
 use Rattle.flat_meaning.specs.Meaning.{parameters_of, results_of}
 use Rattle.metadata_plan.specs.Registers.{words_of, words_in, all_variables, most_temporaries}
-use Rattle.metadata_plan.specs.Registers.{variable_register, temporary_register, first_free}
 use Rattle.metadata_plan.specs.Part.{takes, are_integers}
 use Rattle.metadata_plan.specs.Blocks.{block, prologue, zeros, zero_variables}
-use Rattle.metadata_plan.specs.Laid.{jump, times_in, falls, jumps, jump_count, size_at, size_from, place_of, begin_code, body_of}
-use Rattle.metadata_plan.specs.Laid.{begin_size, laid_from}
+use Rattle.metadata_plan.specs.Laid.{jump, times_in, falls, jumps, jump_count, size_at, size_from, place_of}
+use Rattle.metadata_plan.specs.Laid.{begin_code, body_of}
+use Rattle.metadata_plan.specs.Laid.{laid_from}
 use Rattle.metadata_plan.proofs.Numbers.{is_integer_variable, integers_words, integers_back, integers_front, most_at}
 use Rattle.metadata_plan.proofs.Laying.{part_of, part_stands, next_place, begin_length, place_is, falls_to_next}
 use Rattle.metadata_plan.proofs.Laying.{drop_past}
 use Rattle.integer_code.specs.Operators.{operators}
-use Rattle.metadata_expansion.specs.Homes.{argument_count, most_arguments, free_count}
-use Rattle.reg_plan.specs.Effects.{read_by, is_read, made_by, is_among, one, Leads}
-use Rattle.reg_plan.specs.Needs.{ReadsAt, MakesAt, LeadsAt}
-use Rattle.integer_plans.proofs.Flow.{Flow, one_is, one_has, reads_nothing, none_has, maker_onward, flow_names, flow_leads}
-use Rattle.integer_plans.proofs.Roles.{Role, OfVariable, variable_role, temporary_role}
+use Rattle.metadata_expansion.proofs.Laid.{arguments_few}
+use Rattle.reg_plan.specs.Effects.{read_by, is_read, made_by, is_among, Leads}
+use Rattle.reg_plan.specs.Needs.{MakesAt, LeadsAt}
+use Rattle.integer_plans.proofs.Flow.{Flow, one_is, one_has, reads_nothing, none_has, maker_onward, flow_names}
+use Rattle.integer_plans.proofs.Flow.{flow_leads}
+use Rattle.integer_plans.proofs.Roles.{Role, OfVariable, variable_role, temporary_role, variable_count}
 use Rattle.integer_plans.proofs.Blocks.{Last, Needs, NeedsRight, NeedsArgument, block_flow}
 use Rattle.integer_plans.proofs.Places.{get_append, get_left, get_right, has_get, jump_onward, jump_makes, jump_reads}
-use Rattle.integer_plans.proofs.Places.{IsWay, jumps_at, IsJumped, entry_jumped, way_jumped, IsOfNode, body_at, part_has}
+use Rattle.integer_plans.proofs.Places.{IsWay, jumps_at, IsJumped, entry_jumped, way_jumped, IsOfNode, body_at}
+use Rattle.integer_plans.proofs.Places.{part_has}
 
 -- ---- what an instruction needs
 
@@ -54,7 +55,8 @@ needs_role c (tac.UpdatePlain w k f line d x right next) low = (variable_role c 
     by One low = tt
 needs_role c (tac.Convert kind d a next) low = temporary_role c a (omega arith)
 needs_role c (tac.Unary op ty d a next) low = temporary_role c a (omega arith)
-needs_role c (tac.Binary op ty line d a b next) low = (temporary_role c a (omega arith), temporary_role c b (omega arith))
+needs_role c (tac.Binary op ty line d a b next) low =
+    (temporary_role c a (omega arith), temporary_role c b (omega arith))
 needs_role c (tac.Branch a x y) low = temporary_role c a (omega arith)
 needs_role c (tac.Case a w x y) low = temporary_role c a (omega arith)
 needs_role c (tac.Library r line d n next) low = by r
@@ -66,16 +68,6 @@ needs_role c (tac.Library r line d n next) low = by r
 needs_role c (tac.Call f line d n next) low = λ j lt. temporary_role c (d + j) (omega arith)
 needs_role c (tac.Return a) low = temporary_role c a (omega arith)
 needs_role c _ low = tt
-
-pub arguments_at : (is : List Instruction) (n : ℕ) (i : Instruction) → slice_get is n ≡ Some i
-    → argument_count i ≤ most_arguments is
-arguments_at [] n i e = absurd (none-some i e)
-arguments_at (x ∷ is) zero i e =
-    let same = ap argument_count (same_Some x i e) in
-    omega (arith, same)
-arguments_at (x ∷ is) (suc n) i e =
-    let rest = arguments_at is n i e in
-    omega (arith, rest)
 
 -- an instruction with no successor: its block is not empty, and what stands in it makes nothing
 pub record IsSilent (p : FlatProgram) (is : List FlatInstruction) : Type 0 where
@@ -141,10 +133,13 @@ module _ (m : MapSizes) (t : Tac) (c : CodeFunction) (p : FlatProgram) (f : ℕ)
   abbrev body : List FlatInstruction
   body = body_of operators m t c
 
+  abbrev address : ℕ → ℕ
+  address = place_of operators m t c
+
   -- an instruction before all nodes: one of the prologue, or the jump to the entry
   pub data Begins (pc : ℕ) (x : FlatInstruction) : Type 0 where
     Zeroes : pc < length c.variables → x ≡ flat.Constant (length c.parameters + pc) 0 → Begins pc x
-    Enters : x ≡ jump pc (place_of operators m t c c.entry) → Begins pc x
+    Enters : x ≡ jump pc (address c.entry) → Begins pc x
 
   pub begins_at : (pc : ℕ) (x : FlatInstruction) → slice_get (begin_code operators m t c) pc ≡ Some x → Begins pc x
   begins_at pc x e =
@@ -158,20 +153,20 @@ module _ (m : MapSizes) (t : Tac) (c : CodeFunction) (p : FlatProgram) (f : ℕ)
       (get_append (prologue c)
       (if c.entry + 1 == length c.code
       then []
-      else jump (length (prologue c)) (place_of operators m t c c.entry) ∷ []) pc x e)
+      else jump (length (prologue c)) (address c.entry) ∷ []) pc x e)
     where
       by : (b : Bool) (j : ℕ) → pc ≡ length (prologue c) + j
-          → slice_get (if b then [] else jump (length (prologue c)) (place_of operators m t c c.entry) ∷ []) j ≡ Some x
+          → slice_get (if b then [] else jump (length (prologue c)) (address c.entry) ∷ []) j ≡ Some x
           → Begins pc x
       by true j at e = absurd (none-some x e)
       by false zero at e =
           let z : length (prologue c) ≡ pc = omega (arith, at) in
-          Enters (sym (same_Some _ x e) ∙ ap (λ k. jump k (place_of operators m t c c.entry)) z)
+          Enters (sym (same_Some _ x e) ∙ ap (λ k. jump k (address c.entry)) z)
       by false (suc j) at e = absurd (none-some x e)
 
   -- the prologue stands at the front
   pub zero_at : (pc : ℕ) → pc < length c.variables
-      → slice_get (body_of operators m t c) pc ≡ Some (flat.Constant (length c.parameters + pc) 0)
+      → slice_get body pc ≡ Some (flat.Constant (length c.parameters + pc) 0)
   zero_at pc lt =
       let own = integers_back c.parameters c.variables integers in
       let words = integers_words c.parameters (integers_front c.parameters c.variables integers) in
@@ -181,39 +176,35 @@ module _ (m : MapSizes) (t : Tac) (c : CodeFunction) (p : FlatProgram) (f : ℕ)
       let front = get_left (prologue c)
       (if c.entry + 1 == length c.code
       then []
-      else jump (length (prologue c)) (place_of operators m t c c.entry) ∷ []) pc _ here in
+      else jump (length (prologue c)) (address c.entry) ∷ []) pc _ here in
       get_left (begin_code operators m t c) (laid_from operators m t c 0 c.code) pc _ front
       ∙ ap Some (is ∙ ap (λ n. flat.Constant (n + pc) 0) words)
-
-  -- the variables of a function with their registers
-  count : words_in (all_variables c) ≡ length c.parameters + length c.variables
-  count = integers_words (all_variables c) integers ∙ length-append c.parameters c.variables
 
   -- ---- an instruction of a node: one of its block, or a jump behind it
 
   pub data Stands (n : ℕ) (i : Instruction) (r pc : ℕ) (x : FlatInstruction) : Type 0 where
     InBlock : slice_get (block operators m t c i) r ≡ Some x → Stands n i r pc x
-    Jumps : length (block operators m t c i) ≤ r → (w : ℕ) → x ≡ jump pc (place_of operators m t c w)
+    Jumps : length (block operators m t c i) ≤ r → (w : ℕ) → x ≡ jump pc (address w)
         → IsWay c n (successors i) w → Stands n i r pc x
 
-  pub stands_at : (n : ℕ) (i : Instruction) (r pc : ℕ) (x : FlatInstruction) → pc ≡ place_of operators m t c n + r
+  pub stands_at : (n : ℕ) (i : Instruction) (r pc : ℕ) (x : FlatInstruction) → pc ≡ address n + r
       → slice_get (part_of operators m t c n i) r ≡ Some x → Stands n i r pc x
   stands_at n i r pc x place e =
       ⊎_elim InBlock
       (λ h.
-      let w = jumps_at c (place_of operators m t c) n
-      (place_of operators m t c n + length (block operators m t c i)) (successors i) h.0 x h.2 in
-      let z : place_of operators m t c n + length (block operators m t c i) + h.0 ≡ pc = omega (arith, h.1, place) in
-      Jumps (omega (arith, h.1)) w.0 (w.1 ∙ ap (λ k. jump k (place_of operators m t c w.0)) z) w.2)
+      let w = jumps_at c address n
+      (address n + length (block operators m t c i)) (successors i) h.0 x h.2 in
+      let z : address n + length (block operators m t c i) + h.0 ≡ pc = omega (arith, h.1, place) in
+      Jumps (omega (arith, h.1)) w.0 (w.1 ∙ ap (λ k. jump k (address w.0)) z) w.2)
       (get_append (block operators m t c i)
-      (jumps c (place_of operators m t c) n (place_of operators m t c n + length (block operators m t c i))
+      (jumps c address n (address n + length (block operators m t c i))
       (successors i)) r x e)
 
   flow : (n : ℕ) (i : Instruction) → slice_get c.code n ≡ Some i
       → Flow p f gives (Last i) (Role c) (Role c) (block operators m t c i)
   flow n i e =
       let low = most_at c.code n i e in
-      let few = arguments_at c.code n i e in
+      let few = arguments_few c.code n i e in
       block_flow m t c p f gives callees (Role c) i low (omega (arith, few)) (needs_role c i low)
 
   -- ---- the registers that are named
@@ -228,15 +219,15 @@ module _ (m : MapSizes) (t : Tac) (c : CodeFunction) (p : FlatProgram) (f : ℕ)
     made = λ h. absurd (jump_makes p a b y (subst (λ z. is_among (made_by p z) y ≡ true) e h));
   }
 
-  pub named_at : (pc : ℕ) (x : FlatInstruction) (y : ℕ) → slice_get (body_of operators m t c) pc ≡ Some x → Names x y
+  pub named_at : (pc : ℕ) (x : FlatInstruction) (y : ℕ) → slice_get body pc ≡ Some x → Names x y
   named_at pc x y e = ⊎_elim (λ h. begins (begins_at pc x h)) (λ h. of_node h) (body_at m t c pc x e)
     where
       begins : Begins pc x → Names x y
-      begins (Enters h) = names_jump pc (place_of operators m t c c.entry) y x h
+      begins (Enters h) = names_jump pc (address c.entry) y x h
       begins (Zeroes lt h) = record {
         read = λ r. absurd (reads_nothing y (subst (λ z. is_read (read_by p f z) y ≡ true) h r));
         made = λ r. let is = one_is (length c.parameters + pc) y (subst (λ z. is_among (made_by p z) y ≡ true) h r) in
-            OfVariable (omega (arith, is, lt, count));
+            OfVariable (omega (arith, is, lt, variable_count c integers));
       }
 
       of_node : IsOfNode m t c pc x → Names x y
@@ -247,22 +238,22 @@ module _ (m : MapSizes) (t : Tac) (c : CodeFunction) (p : FlatProgram) (f : ℕ)
               let g = flow_names p f gives (Last h.instruction) (Role c) (Role c)
               (block operators m t c h.instruction) h.offset x (λ z r. r) (flow h.node h.instruction h.there) at y in
               record { read = g.0; made = g.1 }
-          by (Jumps le w is way) = names_jump pc (place_of operators m t c w) y x is
+          by (Jumps le w is way) = names_jump pc (address w) y x is
 
   -- ---- where instructions lead
 
   pub data LeadsTo (pc q : ℕ) : Type 0 where
     Next : q ≡ pc + 1 → LeadsTo pc q
-    Past : (z : FlatInstruction) → q ≡ pc + 2 → slice_get (body_of operators m t c) (pc + 1) ≡ Some z
+    Past : (z : FlatInstruction) → q ≡ pc + 2 → slice_get body (pc + 1) ≡ Some z
         → ((y : ℕ) → is_among (made_by p z) y ≡ true → ⊥) → LeadsTo pc q
-    To : (w : ℕ) → q ≡ place_of operators m t c w → IsJumped c w → LeadsTo pc q
+    To : (w : ℕ) → q ≡ address w → IsJumped c w → LeadsTo pc q
 
-  leads_jump : (pc q w : ℕ) (x : FlatInstruction) → IsJumped c w → x ≡ jump pc (place_of operators m t c w)
+  leads_jump : (pc q w : ℕ) (x : FlatInstruction) → IsJumped c w → x ≡ jump pc (address w)
       → Leads x pc q → LeadsTo pc q
   leads_jump pc q w x jumped e l =
-      To w (jump_onward pc (place_of operators m t c w) q (subst (λ z. Leads z pc q) e l)) jumped
+      To w (jump_onward pc (address w) q (subst (λ z. Leads z pc q) e l)) jumped
 
-  pub leads_at : (pc q : ℕ) (x : FlatInstruction) → slice_get (body_of operators m t c) pc ≡ Some x → Leads x pc q
+  pub leads_at : (pc q : ℕ) (x : FlatInstruction) → slice_get body pc ≡ Some x → Leads x pc q
       → LeadsTo pc q
   leads_at pc q x e l = ⊎_elim (λ h. begins (begins_at pc x h)) (λ h. of_node h) (body_at m t c pc x e)
     where
@@ -276,36 +267,37 @@ module _ (m : MapSizes) (t : Tac) (c : CodeFunction) (p : FlatProgram) (f : ℕ)
       of_node : IsOfNode m t c pc x → LeadsTo pc q
       of_node h = by (stands_at h.node h.instruction h.offset pc x h.place_is h.at)
         where
-          whole : (z : FlatInstruction) → slice_get (part_of operators m t c h.node h.instruction) (suc h.offset) ≡ Some z
-              → slice_get (body_of operators m t c) (pc + 1) ≡ Some z
+          whole : (z : FlatInstruction)
+              → slice_get (part_of operators m t c h.node h.instruction) (suc h.offset) ≡ Some z
+              → slice_get body (pc + 1) ≡ Some z
           whole z at =
-              let place : place_of operators m t c h.node + suc h.offset ≡ pc + 1 = omega (arith, h.place_is) in
-              ap (slice_get (body_of operators m t c)) (sym place)
-              ∙ has_get (body_of operators m t c) (part_of operators m t c h.node h.instruction)
-              (place_of operators m t c h.node) (suc h.offset) z
+              let place : address h.node + suc h.offset ≡ pc + 1 = omega (arith, h.place_is) in
+              ap (slice_get body) (sym place)
+              ∙ has_get body (part_of operators m t c h.node h.instruction)
+              (address h.node) (suc h.offset) z
               (part_stands operators m t c h.node h.instruction h.there) at
 
           by : Stands h.node h.instruction h.offset pc x → LeadsTo pc q
           by (Jumps le w is way) = leads_jump pc q w x (way_jumped c h.node w h.instruction h.there way) is l
           by (InBlock at) =
               let list = block operators m t c h.instruction in
-              let behind = place_of operators m t c h.node + length list in
+              let behind = address h.node + length list in
               ⊎_elim Next
               (λ two. ⊎_elim
               (λ passed. Past passed.0 two.0
               (whole passed.0 (get_left list
-              (jumps c (place_of operators m t c) h.node behind (successors h.instruction)) (suc h.offset) passed.0
+              (jumps c address h.node behind (successors h.instruction)) (suc h.offset) passed.0
               passed.1)) passed.2)
               (λ last.
               let ways = two_ways h.instruction last.0 in
-              let to = place_of operators m t c ways.1 in
-              let first : slice_get (jumps c (place_of operators m t c) h.node behind (successors h.instruction)) 0
+              let to = address ways.1 in
+              let first : slice_get (jumps c address h.node behind (successors h.instruction)) 0
               ≡ Some (jump behind to) =
-              ap (λ ns. slice_get (jumps c (place_of operators m t c) h.node behind ns) 0) ways.2 in
+              ap (λ ns. slice_get (jumps c address h.node behind ns) 0) ways.2 in
               let seam : suc h.offset ≡ length list + 0 = omega (arith, last.1) in
               Past (jump behind to) two.0
               (whole (jump behind to) (get_right list
-              (jumps c (place_of operators m t c) h.node behind (successors h.instruction)) (suc h.offset) 0 seam
+              (jumps c address h.node behind (successors h.instruction)) (suc h.offset) 0 seam
               ∙ first)) (jump_makes p behind to))
               two.1)
               (flow_leads p f gives (Last h.instruction) (Role c) (Role c) list h.offset x
@@ -320,11 +312,11 @@ module _ (m : MapSizes) (t : Tac) (c : CodeFunction) (p : FlatProgram) (f : ℕ)
     pub one : successors instruction ≡ w ∷ []
     pub fallen : falls c (suc w) w ≡ true
 
-  module _ (w pc : ℕ) (x : FlatInstruction) (y : ℕ) (behind : place_of operators m t c w ≡ pc + 1)
-      (at : slice_get (body_of operators m t c) pc ≡ Some x) (makes : is_among (made_by p x) y ≡ true)
+  module _ (w pc : ℕ) (x : FlatInstruction) (y : ℕ) (behind : address w ≡ pc + 1)
+      (at : slice_get body pc ≡ Some x) (makes : is_among (made_by p x) y ≡ true)
       (high : words_in (all_variables c) ≤ y) where
     -- at this place none stands that makes nothing
-    not_silent : (z : FlatInstruction) → slice_get (body_of operators m t c) pc ≡ Some z
+    not_silent : (z : FlatInstruction) → slice_get body pc ≡ Some z
         → (is_among (made_by p z) y ≡ true → ⊥) → ⊥
     not_silent z e none =
         none (subst (λ i. is_among (made_by p i) y ≡ true) (same_Some x z (sym at ∙ e)) makes)
@@ -341,24 +333,23 @@ module _ (m : MapSizes) (t : Tac) (c : CodeFunction) (p : FlatProgram) (f : ℕ)
       where
         by : Begins pc x → ⊥
         by (Enters h) =
-            jump_makes p pc (place_of operators m t c c.entry) y
+            jump_makes p pc (address c.entry) y
             (subst (λ z. is_among (made_by p z) y ≡ true) h makes)
         by (Zeroes lt h) =
             let is = one_is (length c.parameters + pc) y (subst (λ z. is_among (made_by p z) y ≡ true) h makes) in
-            absurd (omega (arith, is, lt, count, high))
+            absurd (omega (arith, is, lt, variable_count c integers, high))
 
     module _ (i : Instruction) (there : slice_get c.code (suc w) ≡ Some i) where
       -- the place is the last of the node before
       last_of_all : (r : ℕ) → size_at operators m t c (suc w) i ≡ suc r → (z : FlatInstruction)
-          × Stands (suc w) i r pc z × (slice_get (body_of operators m t c) pc ≡ Some z)
+          × Stands (suc w) i r pc z × (slice_get body pc ≡ Some z)
       last_of_all r size =
           let next = next_place operators m t c (suc w) i there w (omega arith) in
-          let place : pc ≡ place_of operators m t c (suc w) + r = omega (arith, next, size, behind) in
-          let z = part_has m t c (suc w) i r there (omega (arith, size)) in
-          (
+          let place : pc ≡ address (suc w) + r = omega (arith, next, size, behind) in
+          let z = part_has m t c (suc w) i r there (omega (arith, size)) in (
             z.0,
             stands_at (suc w) i r pc z.0 place z.1,
-            ap (slice_get (body_of operators m t c)) place ∙ z.2,
+            ap (slice_get body) place ∙ z.2,
           )
 
       -- a jump stands there
@@ -367,13 +358,13 @@ module _ (m : MapSizes) (t : Tac) (c : CodeFunction) (p : FlatProgram) (f : ℕ)
           let z = last_of_all r size in
           by z.0 z.1 z.2
         where
-          by : (z : FlatInstruction) → Stands (suc w) i r pc z → slice_get (body_of operators m t c) pc ≡ Some z → ⊥
+          by : (z : FlatInstruction) → Stands (suc w) i r pc z → slice_get body pc ≡ Some z → ⊥
           by z (InBlock e) there =
               let lt = slice_get_within (block operators m t c i) r z e in
               absurd (omega (arith, lt, le))
           by z (Jumps le' v is way) there =
               not_silent z there
-              (λ h. jump_makes p pc (place_of operators m t c v) y (subst (λ j. is_among (made_by p j) y ≡ true) is h))
+              (λ h. jump_makes p pc (address v) y (subst (λ j. is_among (made_by p j) y ≡ true) is h))
 
       -- a block that ends the run or returns stands there
       no_end : successors i ≡ [] → ⊥
@@ -383,7 +374,7 @@ module _ (m : MapSizes) (t : Tac) (c : CodeFunction) (p : FlatProgram) (f : ℕ)
           silent = silent_end m t c p i none
 
           only : (r : ℕ) (z : FlatInstruction) → Stands (suc w) i r pc z
-              → slice_get (body_of operators m t c) pc ≡ Some z → ⊥
+              → slice_get body pc ≡ Some z → ⊥
           only r z (InBlock e) there = not_silent z there (silent.all r z y e)
           only r z (Jumps le v is way) there =
               let no : 1 ≤ times_in v [] = subst (λ ns. 1 ≤ times_in v ns) none way.is in
@@ -433,8 +424,8 @@ module _ (m : MapSizes) (t : Tac) (c : CodeFunction) (p : FlatProgram) (f : ℕ)
 
   -- ---- only one way leads there
 
-  pub one_predecessor : (pc pc' q y : ℕ) → words_in (all_variables c) ≤ y → LeadsAt (body_of operators m t c) pc' q
-      → MakesAt p (body_of operators m t c) pc' y → LeadsAt (body_of operators m t c) pc q → pc ≡ pc'
+  pub one_predecessor : (pc pc' q y : ℕ) → words_in (all_variables c) ≤ y → LeadsAt body pc' q
+      → MakesAt p body pc' y → LeadsAt body pc q → pc ≡ pc'
   one_predecessor pc pc' q y high leads makes other =
       let same = same_Some makes.0 leads.0 (sym makes.1 ∙ leads.1) in
       let made : is_among (made_by p leads.0) y ≡ true =
@@ -446,7 +437,7 @@ module _ (m : MapSizes) (t : Tac) (c : CodeFunction) (p : FlatProgram) (f : ℕ)
       by next made (Next e) = omega (arith, next, e)
       by next made (Past z e at none) =
           let place : pc + 1 ≡ pc' = omega (arith, next, e) in
-          let same = same_Some leads.0 z (sym leads.1 ∙ ap (slice_get (body_of operators m t c)) (sym place) ∙ at) in
+          let same = same_Some leads.0 z (sym leads.1 ∙ ap (slice_get body) (sym place) ∙ at) in
           absurd (none y (subst (λ i. is_among (made_by p i) y ≡ true) same made))
       by next made (To w e jumped) =
           let h = before w pc' leads.0 y (sym e ∙ next) leads.1 made high in

@@ -1,13 +1,12 @@
 -- What is lowered of a program of integers, and has its checks put in, has an expansion that can be planned.
-use Rattle.std.proofs.Common.{◌≡◌, ◌⊎◌, inl, inr, ⊎_elim, ℕ, zero, suc, ◌+◌, ◌*◌, ◌<◌, ◌≤◌, max, refl, sym, ap, ◌∙◌, subst}
-use Rattle.std.proofs.Common.{arith, Bool, true, false, List, [], ◌∷◌, ◌++◌, length, length-append, Option, Some, None}
+use Rattle.std.proofs.Common.{◌≡◌, inl, inr, ⊎_elim, ℕ, zero, suc, ◌+◌, ◌*◌, ◌<◌, ◌≤◌, max, refl, sym, ap, ◌∙◌, subst}
+use Rattle.std.proofs.Common.{arith, true, false, List, [], ◌∷◌, ◌++◌, length, Option, Some, None}
 use Rattle.std.specs.Prelude.{slice_get}
 use Rattle.std.proofs.lemmas.Bool.{eqb-true, cases_lt, false≢true}
-use Rattle.std.proofs.lemmas.Option.{same_Some, none-some, slice_get_within}
+use Rattle.std.proofs.lemmas.Option.{same_Some, slice_get_within}
 use Rattle.addr_map.specs.Places.{MapSizes}
 use Rattle.c_tree.specs.declared.expression.Kind.{Kind}
 use Rattle.c_tree.specs.Programs.{Function, StaticObject, Program}
-use Rattle.c_tree.specs.Kinds.{Signature}
 use Rattle.c_tree.specs.Room.{function_height, room}
 use Rattle.c_tree.specs.ValidProgram.{is_valid_program, signature_at}
 use Rattle.source_meaning.specs.State.{Header}
@@ -15,29 +14,31 @@ use Rattle.tac_ir.specs.declared.instruction.Instruction.{Instruction}
 use Rattle.tac_ir.specs.declared.instruction.Instruction.TheVariants as tac
 use Rattle.tac_ir.specs.declared.function.CodeFunction.{CodeFunction}
 use Rattle.tac_ir.specs.declared.function.Tac.{Tac}
-use Rattle.tac_ir.specs.Meaning.{function_in as code_in, header_of_code}
+use Rattle.tac_ir.specs.Meaning.{function_in as code_in}
 use Rattle.tac_ir.specs.Edges.{LeadsTo}
 use Rattle.tac_ir.specs.Temporaries.{temporaries}
 use Rattle.flat_meaning.specs.declared.function.FlatFunction.{FlatFunction}
-use Rattle.flat_meaning.specs.declared.function.FlatProgram.{FlatProgram}
 use Rattle.flat_meaning.specs.Calls.{function_in}
 use Rattle.flat_meaning.specs.Meaning.{parameters_of, results_of}
-use Rattle.c_lower.specs.Programs.{IsLowered, LowersFunction}
-use Rattle.check_insert.specs.Inserted.{Inserted, FunctionIn, Has}
+use Rattle.c_lower.specs.Programs.{IsLowered}
+use Rattle.check_insert.specs.Inserted.{Inserted, FunctionIn}
 use Rattle.integer_programs.specs.Programs.{is_integer_program}
 use Rattle.metadata_plan.specs.Registers.{words_in, all_variables, most_temporaries}
-use Rattle.metadata_plan.specs.Part.{takes, is_integer_instruction, SafeWithin, IsIntegerCode, IsIntegerFunction}
+use Rattle.metadata_plan.specs.Part.{takes, is_integer_instruction, SafeWithin, IsIntegerCode}
 use Rattle.metadata_plan.specs.Laid.{function_of, functions_of, entry_of, program_of}
 use Rattle.metadata_plan.proofs.Numbers.{integers_words, integers_front}
 use Rattle.metadata_plan.proofs.Laying.{functions_at, entry_at}
 use Rattle.integer_code.specs.Operators.{operators}
-use Rattle.metadata_expansion.specs.Homes.{argument_count, most_arguments, free_count, homes}
-use Rattle.metadata_expansion.specs.Numbers.{AreSmall, AreAllSmall}
+use Rattle.metadata_expansion.specs.Homes.{argument_count, most_arguments, homes}
+use Rattle.metadata_expansion.specs.Numbers.{AreAllSmall}
 use Rattle.reg_plan.specs.Planned.{IsPlannable, ArePlannable}
-use Rattle.integer_lowering.proofs.Programs.{stands, valid_function, function_is, lowered, lowers, safe_before, integer_code}
+use Rattle.integer_lowering.proofs.Programs.{stands, valid_function, function_is, lowered, lowers, safe_before}
+use Rattle.integer_lowering.proofs.Programs.{integer_code}
 use Rattle.temporary_liveness.specs.Liveness.{reads, writes, LiveWithin, IsLive}
 use Rattle.temporary_liveness.proofs.Statements.{none_is_live}
-use Rattle.integer_plans.proofs.Functions.{HasRoom, plannable}
+use Rattle.integer_plans.proofs.Roles.{variable_count}
+use Rattle.integer_plans.proofs.Homes.{HasRoom}
+use Rattle.integer_plans.proofs.Functions.{plannable}
 use Rattle.integer_plans.proofs.Entry.{entry_plannable}
 
 -- ---- liveness where checks are put in
@@ -49,8 +50,7 @@ unfolding SafeWithin LiveWithin
 live_before t variables c c' f zero n z s l = absurd l
 live_before t variables c c' f (suc k) n z s l =
     let here = stands t variables c'.code n s.0 s.2 (f.code n s.0 s.1) in
-    let same : l.0 ≡ s.0 = same_Some l.0 s.0 (sym l.1 ∙ here) in
-    (
+    let same : l.0 ≡ s.0 = same_Some l.0 s.0 (sym l.1 ∙ here) in (
       s.0,
       s.1,
       ⊎_elim (λ e. inl (subst (λ i. reads i z ≡ true) same e))
@@ -106,9 +106,6 @@ function_below (c ∷ cs) (suc k) lt = function_below cs k (omega arith)
 
 module _ (q : Program) (t r : Tac) (valid : is_valid_program q ≡ true) (ints : is_integer_program q ≡ true)
     (low : IsLowered q t) (ins : Inserted t r) (m : MapSizes) (small : AreAllSmall m r) where
-  abbrev p : FlatProgram
-  p = program_of operators m r homes
-
   part : IsIntegerCode r
   part = integer_code q t r valid ints low ins
 
@@ -131,14 +128,11 @@ module _ (q : Program) (t r : Tac) (valid : is_valid_program q ≡ true) (ints :
           (integers_front k.parameters k.variables (part.functions g k s).variables) in
           (ap parameters_of at ∙ words ∙ eqb-true (length k.parameters) n e, ap results_of at)
 
+  gives_one : (u : ℕ) (c : CodeFunction) → slice_get r.functions u ≡ Some c
+      → results_of (function_in (program_of operators m r homes) u) ≤ 1
+  gives_one u c e = let h = ap results_of (there u c e) in omega (arith, h)
+
   module _ (u : ℕ) (c : CodeFunction) (at : slice_get r.functions u ≡ Some c) where
-    -- the function of the text, and its code before its checks were put in
-    abbrev f : Function
-    f = (function_is q t r valid ints low ins u c at).0
-
-    abbrev before : (d : CodeFunction) × (slice_get t.functions u ≡ Some d) × FunctionIn d c
-    before = lowered q t r valid ints low ins u c at
-
     none_live : (z : ℕ) → IsLive c.code c.entry z → ⊥
     none_live z live =
         let d = (lowered q t r valid ints low ins u c at).0 in
@@ -149,8 +143,7 @@ module _ (q : Program) (t r : Tac) (valid : is_valid_program q ≡ true) (ints :
         none_is_live _ _ _ _ d z (lowers q t r valid ints low ins u c at)
         (record { steps = live.steps; within = within })
 
-    has_room : HasRoom m r c (program_of operators m r homes) u (let h = ap results_of (there u c at) in omega (arith, h))
-        callees (part.functions u c at)
+    has_room : HasRoom c
     has_room =
         let name = function_is q t r valid ints low ins u c at in
         let d = (lowered q t r valid ints low ins u c at).0 in
@@ -162,15 +155,14 @@ module _ (q : Program) (t r : Tac) (valid : is_valid_program q ≡ true) (ints :
         let bound = (lowers q t r valid ints low ins u c at).homes h.node h.other h.has in
         omega (arith, h.most, bound)) in
         let arguments_few = most_arguments_low c.code in
-        let words = integers_words (all_variables c) (part.functions u c at).variables in
-        let variables = length-append c.parameters c.variables in
+        let words = variable_count c (part.functions u c at).variables in
         let parameters_same = ap (λ (h : Header). length h.parameters) name.2 in
         let variables_same = ap (λ (h : Header). length h.variables) name.2 in
         let room_same = ap (λ (h : Header). h.room) name.2 in
         let fine = (valid_function q t r valid ints low ins u name.0 name.1).room_is in
         let enough = room_enough q.statics u (signature_at q name.0.type_number).result name.0 in
         let count : words_in (all_variables c) ≡ length name.0.parameters + length name.0.variables =
-        omega (arith, words, variables, parameters_same, variables_same) in
+        omega (arith, words, parameters_same, variables_same) in
         let all : 96 + 40 * (words_in (all_variables c) + height) ≤ c.room =
         omega (arith, count, room_same, fine, enough) in
         words_fit (words_in (all_variables c)) (most_temporaries c.code) (most_arguments c.code) height c.room
@@ -178,8 +170,8 @@ module _ (q : Program) (t r : Tac) (valid : is_valid_program q ≡ true) (ints :
 
     function_plannable : IsPlannable (program_of operators m r homes) u (function_of operators m r c (homes c))
     function_plannable =
-        plannable m r c (program_of operators m r homes) u (let h = ap results_of (there u c at) in omega (arith, h))
-        callees (part.functions u c at) (small.functions u c at) none_live has_room
+        plannable m r c (program_of operators m r homes) u (gives_one u c at) callees
+        (part.functions u c at) (small.functions u c at) none_live has_room
 
   main_called : (parameters_of (function_in (program_of operators m r homes) r.main) ≡ 0)
       × (results_of (function_in (program_of operators m r homes) r.main) ≡ 1)

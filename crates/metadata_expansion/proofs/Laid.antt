@@ -39,7 +39,7 @@ temporaries_few (x ∷ is) (suc n) i e =
     let rest : temporaries i ≤ most_temporaries is = temporaries_few is n i e in
     omega arith
 
-arguments_few : (is : List Instruction) (n : ℕ) (i : Instruction) → slice_get is n ≡ Some i
+pub arguments_few : (is : List Instruction) (n : ℕ) (i : Instruction) → slice_get is n ≡ Some i
     → argument_count i ≤ most_arguments is
 arguments_few [] n i e = cc
 arguments_few (x ∷ is) zero i e =

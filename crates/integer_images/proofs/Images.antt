@@ -119,14 +119,15 @@ module _ (p : Program) (budgets : BudgetSizes) (mapped : AreMapped (sizes_of p b
   code_follows : (b : Bytes) (input : List ℕ) → Follows 168 (meaning p budgets input) (flat_meaning m code b input)
   code_follows b input =
       subst (λ n. Follows 168 (meaning p budgets input) (flat_meaning n (program_of operators n r homes) b input)) same
-      (from_any r budgets mapped_code ops part (meaning p budgets input) (source input) 8 input (lowered input) steps fit b)
+      (from_any r budgets mapped_code ops part (meaning p budgets input) (source input) 8 input (lowered input) steps
+      fit b)
 
   code_runs : (b : Bytes) (input : List ℕ) (k : ℕ) → run (step m code) k (started code b input) ≡ Stuck → ⊥
   code_runs b input =
       subst (λ n. (k : ℕ) → run (step n (program_of operators n r homes)) k
       (started (program_of operators n r homes) b input) ≡ Stuck → ⊥) same
-      (runs_from_any r budgets mapped_code ops part (meaning p budgets input) (source input) 8 input (lowered input) steps
-      fit b)
+      (runs_from_any r budgets mapped_code ops part (meaning p budgets input) (source input) 8 input (lowered input)
+      steps fit b)
 
   module _ (plans : List FunctionPlan) (file : List ℕ) (accepted : AreAccepted code plans)
       (image : IsImage m code plans [] [] file) (follows : ImageFollows m code plans [] [] file)
@@ -142,8 +143,8 @@ module _ (p : Program) (budgets : BudgetSizes) (mapped : AreMapped (sizes_of p b
     image_follows input =
         follows_trans 168 6 (meaning p budgets input) (flat_meaning m code memory input)
         (behaviour (start_of (content_of file)) input) (code_follows memory input)
-        (follows.follows memory input accepted (encodable p m r mapped valid ints few checked small) (startable m r) held bytes
-        (code_runs memory input))
+        (follows.follows memory input accepted (encodable p m r mapped valid ints few checked small) (startable m r)
+        held bytes (code_runs memory input))
 
     pub does_what_is_meant : ((s : MachineState) (input : List ℕ) → IsMachine (behaviour s input))
         → ((c : ℕ) (x y : Behaviour) → Follows c x y → IsSource x → IsMachine y → Faithful c x y)

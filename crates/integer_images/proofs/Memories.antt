@@ -12,9 +12,9 @@ use Rattle.flat_meaning.specs.declared.function.FlatProgram.{FlatProgram}
 use Rattle.flat_meaning.specs.Memory.{Bytes}
 use Rattle.flat_meaning.specs.State.{State, Frame, Stage, Stands, Over, Stuck, seen}
 use Rattle.flat_meaning.specs.Calls.{function_in}
-use Rattle.flat_meaning.specs.Meaning.{Context, Local, Goes, Ends, Leaves, Fails, local, received, context, cost, has_room}
-use Rattle.flat_meaning.specs.Meaning.{enters, parameters_of, results_of, returns, waiting, leaves, goes_to, at_instruction}
-use Rattle.flat_meaning.specs.Meaning.{instruction_at, step, started, flat_meaning}
+use Rattle.flat_meaning.specs.Meaning.{Context, Local, Goes, Ends, Leaves, Fails, local, received, context, cost}
+use Rattle.flat_meaning.specs.Meaning.{has_room, enters, parameters_of, results_of, returns, waiting, leaves, goes_to}
+use Rattle.flat_meaning.specs.Meaning.{at_instruction, instruction_at, step, started, flat_meaning}
 use Rattle.integer_images.proofs.Instructions.{IsFit}
 
 -- with another memory

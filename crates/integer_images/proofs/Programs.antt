@@ -112,7 +112,8 @@ module _ (m : MapSizes) (t : Tac) where
         let place = place_of operators m t c in
         let js = jumps c place n (place n + length b) (successors i) in
         fit_append (laid_from operators m t c (suc n) is) (b ++ js) (laid_fit c (suc n) is (omega arith))
-        (fit_append b js (block_fit m t c i few (omega arith)) (jumps_fit c place n (place n + length b) (successors i)))
+        (fit_append b js (block_fit m t c i few (omega arith))
+        (jumps_fit c place n (place n + length b) (successors i)))
 
     begin_fit : (c : CodeFunction) → AreFit (begin_code operators m t c)
     begin_fit c =

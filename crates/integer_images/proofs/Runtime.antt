@@ -1,6 +1,7 @@
 -- What stands before compiled code has room: the jump table, the start, and the function with which a run begins.
-use Rattle.std.proofs.Common.{◌≡◌, ℕ, zero, suc, ◌+◌, ◌-◌, ◌*◌, ◌/◌, ◌%◌, ◌==◌, ◌<◌, ◌≤◌, Bool, true, false, not, ◌&&◌, nat_lt, List}
-use Rattle.std.proofs.Common.{[], ◌∷◌, ◌++◌, map, length, length-append, Option, Some, None, refl, sym, ap, ◌∙◌, subst, arith}
+use Rattle.std.proofs.Common.{◌≡◌, ℕ, zero, suc, ◌+◌, ◌-◌, ◌*◌, ◌/◌, ◌%◌, ◌==◌, ◌<◌, ◌≤◌, Bool, true, false, not}
+use Rattle.std.proofs.Common.{◌&&◌, nat_lt, List, [], ◌∷◌, ◌++◌, map, length, length-append, Option, Some, None, refl}
+use Rattle.std.proofs.Common.{sym, ap, ◌∙◌, subst, arith}
 use Rattle.std.specs.Prelude.{if◌then◌else◌, slice_get, codes, decimal}
 use Rattle.std.specs.Fmt.{digits, digits_onto, digit_glyph}
 use Rattle.std.proofs.lemmas.Bool.{and_parts}
@@ -202,7 +203,8 @@ digits_most zero n acc = omega arith
 digits_most (suc k) n acc =
     let more = digit_glyph false (n % 10) ∷ acc in
     let rest = digits_most k (n / 10) more in
-    most_if (n / 10 == 0) more (digits_onto k 10 false (n / 10) more) (suc k + length acc) (omega arith) (omega (arith, rest))
+    most_if (n / 10 == 0) more (digits_onto k 10 false (n / 10) more) (suc k + length acc) (omega arith)
+    (omega (arith, rest))
 
 decimal_most : (n : ℕ) → length (decimal n) ≤ 64
 unfolding digits

@@ -52,8 +52,8 @@ pub fn expansions_are_startable()
         → IsFlat p (sizes_of p budgets) code → IsStartable (sizes_of p budgets) code }
 {}
 
-/// What stands before compiled code has room there: the jump table of at most 4096 functions, the start, and the function
-/// with which a run begins, under plans that give out registers.
+/// What stands before compiled code has room there: the jump table of at most 4096 functions, the start, and the
+/// function with which a run begins, under plans that give out registers.
 pub fn runtimes_have_room()
     ensures { (m : MapSizes) (r : Tac) → AreAllSmall m r → length r.functions ≤ 4096
         → ArePlannable (program_of operators m r homes) → IsEncodable (program_of operators m r homes)

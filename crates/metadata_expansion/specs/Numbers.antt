@@ -1,4 +1,5 @@
--- The numbers of an expansion that have to fit an instruction of flat code: most in 32 bits, the words of constants in 64.
+-- The numbers of an expansion that have to fit an instruction of flat code: the words of constants have 64 bits, and all
+-- others 32.
 use Rattle.std.specs.Prelude.{◌≡◌, ℕ, ◌+◌, ◌^◌, ◌<◌, max, List, [], ◌∷◌, length, Some, slice_get}
 use Rattle.addr_map.specs.Places.{MapSizes}
 use Rattle.tac_ir.specs.declared.instruction.Instruction.{Instruction}

@@ -28,8 +28,8 @@ returns c = λ p budgets valid ints few range code flat plans accepted file imag
     flat.is_checked.inserted in
     let accepted' = subst (λ k. AreAccepted k plans) flat.expanded accepted in
     let image' = subst (λ k. IsImage m k plans [] [] file) flat.expanded image in
-    does_what_is_meant p budgets mapped valid ints few r flat.is_checked flat.small c.operators_compute.ensures part source
-    lowered c.steps_begin_at_most_one_turn.ensures plans file accepted' image'
+    does_what_is_meant p budgets mapped valid ints few r flat.is_checked flat.small c.operators_compute.ensures part
+    source lowered c.steps_begin_at_most_one_turn.ensures plans file accepted' image'
     (c.images_follow.ensures m (program_of operators m r homes) plans [] [] file mapped image')
     (c.data_is_held.ensures.held m [] [] mapped (omega arith) (omega arith))
     (c.data_is_held.ensures.bytes [] [] (object_bytes m) (space_bytes m) no_data no_data)

@@ -28,7 +28,7 @@ use c_typing::Typer;
 use c_typing::shape::LocatedName;
 use std::alloc::{AllocError, Global};
 
-/// An object with its initializer. It is taken apart wherever it goes, so nothing lets it go, and no proof writes out how.
+/// An object with its initializer. It is taken apart wherever it goes, so that no proof writes out how it is let go.
 pub struct Initialized {
     /// Its type.
     pub c_type: CType,
@@ -68,7 +68,8 @@ fn with_entity<'a>(
     name: &'a [u8],
     words: &[TypeWord],
 ) -> Result<(), AllocError>
-    ensures { OnOk result (environment_of environment.new ≡ with_entity name.now (option_map (entity_with_type words.now)
+    ensures { OnOk result (environment_of environment.new
+        ≡ with_entity name.now (option_map (entity_with_type words.now)
         (declared name.now (environment_of environment.old).entities)) (environment_of environment.old)) }
 {
     let entity = match environment.entities.get(name) {

@@ -67,8 +67,8 @@ fn designated<'a>(
     Ok(())
 }
 
-/// The designators of an item, if it has any: the object that they name is the next one. The rule on items is violated at
-/// the `[` or `.` of a designator that names no part.
+/// The designators of an item, if it has any: the object that they name is the next one. The rule on items is violated
+/// at the `[` or `.` of a designator that names no part.
 pub fn designated_by<'a>(
     typer: &mut Typer<'a>,
     begun: &mut Initializing,

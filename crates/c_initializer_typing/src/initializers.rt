@@ -65,8 +65,8 @@ fn by_expression<'a>(
     }
 }
 
-/// An initializer of what comes next in one that has begun. The refusal is that of the first rule that is violated, in the
-/// order of the tokens, or that there is no memory.
+/// An initializer of what comes next in one that has begun. The refusal is that of the first rule that is violated, in
+/// the order of the tokens, or that there is no memory.
 #[cycle(initializers)]
 #[tactic(auto, using(c_syntax::proofs::StatementViews::braced_view))]
 pub fn initialized<'a>(

@@ -1,14 +1,12 @@
 -- The typing of initializers (C99 6.7.8), in the order of the tokens.
-use Rattle.std.specs.Prelude.{ℕ, suc, ◌^◌, Bool, true, false, not, ◌||◌, ◌==◌, nat_lt, if◌then◌else◌, List, [], ◌∷◌, Option, Some}
+use Rattle.std.specs.Prelude.{ℕ, ◌^◌, Bool, true, false, not, ◌||◌, nat_lt, if◌then◌else◌, List, [], ◌∷◌, Option, Some}
 use Rattle.std.specs.Prelude.{None, Ok}
-use Rattle.std.specs.List.{list_all}
 use Rattle.c_syntax.specs.Tree.{Designation, Designator, Expression, Initializer, InitializerItem, MoreItems}
 use Rattle.c_syntax.specs.Tree as t
 use Rattle.c_tree.specs.Extents.{TypeExtent}
 use Rattle.c_rules.specs.Answer.{Answer}
 use Rattle.c_rules.specs.Values.{Value}
 use Rattle.c_scope.specs.Names.{Name}
-use Rattle.c_scope.specs.Structures.{Body}
 use Rattle.c_current_object.specs.Members.{MemberLists, lists_in}
 use Rattle.c_initializer_rules.specs.Initializing.{Initializing, closed, designation_begun, opened, with_index}
 use Rattle.c_initializer_rules.specs.Initializing.{with_literal, with_name, with_value}

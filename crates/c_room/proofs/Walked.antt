@@ -40,7 +40,7 @@ are_beside d h b _ _ _ is none = same is (omega arith) (omega arith)
 are_beside d h b _ _ _ is (one e h' b' ds hs bs is' rest) =
     same (are_beside (beside d e) (max h h') (b + b') ds hs bs (is_beside is is') rest) (omega arith) (omega arith)
 
-is_value : (bytes : ℕ) → IsDemand (value bytes) 1 bytes
+pub is_value : (bytes : ℕ) → IsDemand (value bytes) 1 bytes
 unfolding value
 is_value bytes = record { height = sym (below 1 (omega arith)); passed = refl }
 

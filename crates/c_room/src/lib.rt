@@ -4,11 +4,11 @@
 
 pub mod demand;
 pub mod expression;
+pub mod function;
 pub mod number;
-
-
-
+pub mod statement;
+pub mod statics;
 
 pub use crate::demand::Demand;
-
-
+pub use crate::function::{room, rooms};
+pub use crate::statics::static_heights;

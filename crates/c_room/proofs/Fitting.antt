@@ -20,6 +20,9 @@ gone n p = ap (λ b. if b then Some n else None) p
 pub below : (n : ℕ) → n < 2 ^ 64 → fitting n ≡ Some n
 below n low = there n (lt-ltb n (2 ^ 64) low)
 
+pub known_fits : (n : ℕ) → n < 2 ^ 64 → Some n ≡ fitting n
+known_fits n low = sym (below n low)
+
 pub above : (n : ℕ) → 2 ^ 64 ≤ n → fitting n ≡ None
 above n high = gone n (le-ltb n (2 ^ 64) high)
 

@@ -10,7 +10,7 @@ ghost use Rattle.c_room.specs.Rooms.{rooms};
 
 use crate::demand::Demand;
 use crate::expression::structure_bytes;
-use crate::number::{greater, plus, times};
+use crate::number::{greater, known, plus, times};
 use crate::statement::statements;
 use crate::statics::static_heights;
 use c_tree::{Function, Kind, Statement, StaticObject, Variable};
@@ -31,12 +31,13 @@ pub fn room(
         → statics ≡ fitting (greatest_height (static_contents os n)) → result ≡ fitting (room os n returned f) }
 {
     let demand = statements(Demand::nothing(), body);
-    let taken = Some(parameters.len() as u64);
-    let named = plus(taken, Some(variables.len() as u64));
-    let homes = times(40, plus(named, greater(demand.height, statics)));
-    let tags = times(32, plus(Some(1), taken));
+    let taken = known(parameters.len() as u64);
+    let own = known(variables.len() as u64);
+    let height = greater(demand.height, statics);
+    let homes = times(40, plus(plus(taken, own), height));
+    let tags = times(32, plus(known(1), taken));
     let structures = times(5, plus(structure_bytes(returned), demand.passed));
-    plus(plus(plus(Some(96), homes), tags), structures)
+    plus(plus(plus(known(96), homes), tags), structures)
 }
 
 /// The bytes of the budget `calls` that a call of each function takes, `None` where these are 2^64 or more, of functions
@@ -54,21 +55,21 @@ pub fn rooms(
     let heights = static_heights(alloc, statics, functions.len())?;
     let mut all = Vec::new(alloc);
     for i in 0..functions.len() {
-        all.push(room_of(&functions[i], heights[i], results[i]))?;
+        all.push(room_of(&functions[i], heights[i], &results[i]))?;
     }
     Ok(all)
 }
 
 // Of a function with the height of its static objects.
-fn room_of(function: &Function, statics: Option<u64>, returned: Kind) -> Option<u64>
+fn room_of(function: &Function, statics: Option<u64>, returned: &Kind) -> Option<u64>
     ensures { (os : List programs.StaticObject) (n : ℕ) → statics ≡ fitting (greatest_height (static_contents os n))
-        → result ≡ fitting (room os n returned (function_of function.now)) }
+        → result ≡ fitting (room os n returned.now (function_of function.now)) }
 {
     room(
         function.parameters.as_slice(),
         function.variables.as_slice(),
         function.body.as_slice(),
         statics,
-        returned,
+        *returned,
     )
 }

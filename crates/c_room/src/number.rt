@@ -1,7 +1,15 @@
 //! Sums and products that are known where they are below 2^64.
 
 ghost use Rattle.std.specs.Prelude.{◌≡◌};
-ghost use Rattle.c_room.specs.Numbers.{greater, plus, times};
+ghost use Rattle.c_room.specs.Numbers.{fitting, greater, plus, times};
+
+/// A number that is below 2^64.
+#[tactic(auto, using(crate::proofs::Fitting::known_fits))]
+pub(crate) fn known(number: u64) -> Option<u64>
+    ensures { result ≡ fitting number }
+{
+    Some(number)
+}
 
 /// The sum of two numbers, where both and the sum are below 2^64.
 #[tactic(auto, unfolding(crate::specs::Numbers::plus), using(crate::proofs::Fitting::checked))]

@@ -1,6 +1,6 @@
 -- The room of a call, of its parts.
 use Rattle.std.proofs.Common.{◌≡◌, ℕ, suc, ◌+◌, ◌*◌, ◌<◌, ◌≤◌, sym, ap, ◌∙◌, List, [], ◌∷◌, length, map, drop, get_or}
-use Rattle.std.proofs.Common.{◌++◌, refl, Option, Some, arith}
+use Rattle.std.proofs.Common.{◌++◌, refl, Option, arith}
 use Rattle.std.specs.Prelude.{max}
 use Rattle.std.proofs.lemmas.List.{append_assoc, drop_more}
 use Rattle.std.proofs.lemmas.Option.{slice_get_read}
@@ -43,31 +43,31 @@ room_is os n k f ps vs b p q r =
     ∙ ap (room_by os n k f.parameters f.variables) (sym r)
 
 rooms_next : (os : List StaticObject) (fs : List ru.Function) (ks : List Kind) (i : ℕ) (f : ru.Function) (k : Kind)
-    → i < length fs → f ≡ get_or fs i f → i < length ks → k ≡ get_or ks i k
+    → i < length fs → f ≡ get_or fs i f → i < length ks
     → rooms os i (map function_of (drop i fs)) (drop i ks)
-    ≡ fitting (room os i k (function_of f)) ∷ rooms os (i + 1) (map function_of (drop (i + 1) fs)) (drop (i + 1) ks)
-rooms_next os fs ks i f k low is low' is' =
+    ≡ fitting (room os i (get_or ks i k) (function_of f))
+    ∷ rooms os (i + 1) (map function_of (drop (i + 1) fs)) (drop (i + 1) ks)
+rooms_next os fs ks i f k low is low' =
     let first = drop_more fs i f low ∙ ap (λ z. z ∷ drop (i + 1) fs) (sym is) in
-    let second = drop_more ks i k low' ∙ ap (λ z. z ∷ drop (i + 1) ks) (sym is') in
+    let here = fitting (room os i (get_or ks i k) (function_of f)) in
     let further : suc i ≡ i + 1 = omega arith in
     ap (λ z. rooms os i (map function_of z) (drop i ks)) first
-    ∙ ap (λ z. rooms os i (map function_of (f ∷ drop (i + 1) fs)) z) second
-    ∙ ap (λ n. fitting (room os i k (function_of f)) ∷ rooms os n (map function_of (drop (i + 1) fs)) (drop (i + 1) ks))
-    further
+    ∙ ap (λ z. rooms os i (map function_of (f ∷ drop (i + 1) fs)) z) (drop_more ks i k low')
+    ∙ ap (λ n. here ∷ rooms os n (map function_of (drop (i + 1) fs)) (drop (i + 1) ks)) further
 
+-- one function more, where its kind is read with any other
 pub rooms_more : (os : List StaticObject) (fs : List ru.Function) (ks : List Kind) (i : ℕ) (f : ru.Function) (k : Kind)
     (heights : List (Option ℕ)) (h r : Option ℕ) (done more all : List (Option ℕ)) → length ks ≡ length fs
-    → i < length fs → f ≡ get_or fs i f → k ≡ get_or ks i k → AreHeights os (length fs) heights
-    → h ≡ get_or heights i h
+    → i < length fs → f ≡ get_or fs i f → AreHeights os (length fs) heights → h ≡ get_or heights i h
     → ((os' : List StaticObject) (n : ℕ) → h ≡ fitting (greatest_height (static_contents os' n))
-    → r ≡ fitting (room os' n k (function_of f)))
+    → r ≡ fitting (room os' n (get_or ks i k) (function_of f)))
     → more ≡ done ++ r ∷ [] → done ++ rooms os i (map function_of (drop i fs)) (drop i ks) ≡ all
     → more ++ rooms os (i + 1) (map function_of (drop (i + 1) fs)) (drop (i + 1) ks) ≡ all
-rooms_more os fs ks i f k heights h r done more all sizes low is is' table read law longer so_far =
+rooms_more os fs ks i f k heights h r done more all sizes low is table read law longer so_far =
     let inside : i < length heights = let size = table.size in omega (arith, low, size) in
     let at = slice_get_read heights (length heights) i h refl inside read in
     let low' : i < length ks = omega (arith, low, sizes) in
     let rest = rooms os (i + 1) (map function_of (drop (i + 1) fs)) (drop (i + 1) ks) in
     ap (λ z. z ++ rest) longer ∙ append_assoc done (r ∷ []) rest
     ∙ ap (λ z. done ++ (z ∷ rest)) (law os i (table.each i h at))
-    ∙ ap (λ z. done ++ z) (sym (rooms_next os fs ks i f k low is low' is')) ∙ so_far
+    ∙ ap (λ z. done ++ z) (sym (rooms_next os fs ks i f k low is low')) ∙ so_far

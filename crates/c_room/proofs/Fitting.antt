@@ -74,7 +74,7 @@ pub structures_fit : (b : ℕ) (ks : List Kind)
 structures_fit b [] = let e : b ≡ b + 0 = omega arith in ap fitting e
 structures_fit b (k ∷ ks) =
     let e : (b + structure_bytes k) + sum_of (map structure_bytes ks)
-        ≡ b + (structure_bytes k + sum_of (map structure_bytes ks)) = omega arith in
+    ≡ b + (structure_bytes k + sum_of (map structure_bytes ks)) = omega arith in
     ap (λ z. with_structures z ks) (plus_fits b (structure_bytes k)) ∙ structures_fit (b + structure_bytes k) ks
     ∙ ap fitting e
 

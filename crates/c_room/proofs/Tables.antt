@@ -7,7 +7,7 @@ use Rattle.std.proofs.lemmas.Option.{same_Some, slice_get_within, slice_get-get_
 use Rattle.std.proofs.lemmas.Bool.{eqb-true, eqb-false, lt-ltb, le-ltb, ltb-true, ltb-false, ne_eqb}
 use Rattle.c_tree.specs.Programs.{StaticObject}
 use Rattle.c_tree.specs.Statements.{Content}
-use Rattle.c_tree.specs.Room.{content_height, greatest_height, is_number, static_contents}
+use Rattle.c_tree.specs.Room.{greatest_height, is_number, static_contents}
 use Rattle.c_room.specs.Contents.{with_contents}
 use Rattle.c_room.specs.Demands.{nothing}
 use Rattle.c_room.specs.Numbers.{fitting, greater}

@@ -1,7 +1,6 @@
 -- What expressions demand of the room of a call: their height and the bytes of the structures that they pass, from the
 -- operands up.
 use Rattle.std.specs.Prelude.{◌≡◌, ℕ, ◌+◌, List, [], ◌∷◌, Option, Some, None}
-use Rattle.c_tree.specs.declared.expression.Kind.{Kind}
 use Rattle.c_tree.specs.Tree.{Expression, binary, offset_by, difference, assign, assign_plain, compound, change_plain}
 use Rattle.c_tree.specs.Tree.{call, call_through, library, printf, index}
 use Rattle.c_tree.specs.Walk.{Visited, visited, visited_lvalue, walk, sum_of}

@@ -122,9 +122,8 @@ fn lvalue_demand(p: &Lvalue) -> Demand
 {
     match &p.node {
         LvalueNode::Automatic(_) | LvalueNode::Static(_) => Demand::value(),
-        LvalueNode::Deref(a)
-        | LvalueNode::Arrow(a, _, _)
-        | LvalueNode::MemberOfValue(a, _, _) => Demand::value().beside(demand(a.get())),
+        LvalueNode::Deref(a) | LvalueNode::Arrow(a, _, _) | LvalueNode::MemberOfValue(a, _, _) =>
+            Demand::value().beside(demand(a.get())),
         LvalueNode::Index(_, _, a, b) => {
             let first = InTurn::start(0).next(demand(a.get()));
             first.next(demand(b.get())).demand

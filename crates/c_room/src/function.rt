@@ -55,21 +55,21 @@ pub fn rooms(
     let heights = static_heights(alloc, statics, functions.len())?;
     let mut all = Vec::new(alloc);
     for i in 0..functions.len() {
-        all.push(room_of(&functions[i], heights[i], &results[i]))?;
+        all.push(room_of(&functions[i], heights[i], results[i]))?;
     }
     Ok(all)
 }
 
 // Of a function with the height of its static objects.
-fn room_of(function: &Function, statics: Option<u64>, returned: &Kind) -> Option<u64>
+fn room_of(function: &Function, statics: Option<u64>, returned: Kind) -> Option<u64>
     ensures { (os : List programs.StaticObject) (n : ℕ) → statics ≡ fitting (greatest_height (static_contents os n))
-        → result ≡ fitting (room os n returned.now (function_of function.now)) }
+        → result ≡ fitting (room os n returned (function_of function.now)) }
 {
     room(
         function.parameters.as_slice(),
         function.variables.as_slice(),
         function.body.as_slice(),
         statics,
-        *returned,
+        returned,
     )
 }

@@ -9,6 +9,6 @@ pub mod number;
 pub mod statement;
 pub mod statics;
 
-pub use crate::demand::Demand;
+pub use crate::expression::{height, passed_bytes, structure_bytes};
 pub use crate::function::{room, rooms};
 pub use crate::statics::static_heights;

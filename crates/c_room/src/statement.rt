@@ -10,7 +10,9 @@ ghost use Rattle.c_room.specs.Items.{item_of};
 
 use crate::demand::Demand;
 use crate::expression::demand;
-use c_tree::{Content, DeclaredVariable, Expression, First, Initializer, Part, Statement, SwitchItem};
+use c_tree::{
+    Content, DeclaredVariable, Expression, First, Initializer, Part, Statement, SwitchItem,
+};
 
 fn content(tree: &Content) -> Demand
     ensures { result ≡ content_demand (content_of tree.now) }

@@ -1,0 +1,5 @@
+mod Fitting
+mod Gathered
+mod Composed
+mod Tables
+mod Walked

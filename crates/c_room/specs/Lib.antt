@@ -1,0 +1,5 @@
+pub mod Contents
+pub mod Demands
+pub mod Items
+pub mod Numbers
+pub mod Rooms

@@ -1,0 +1,14 @@
+//! The bytes of the budget `calls` that a call of a function takes: the height of its expressions, and the bytes of the
+//! structures that calls pass.
+#![tactic(auto)]
+
+pub mod demand;
+pub mod expression;
+pub mod function;
+pub mod number;
+pub mod statement;
+pub mod statics;
+
+pub use crate::expression::{height, passed_bytes, structure_bytes};
+pub use crate::function::{room, rooms};
+pub use crate::statics::static_heights;

@@ -14,4 +14,5 @@ loop-kinds-preserved c =
     parameter_next c.args.structures.now c.loop-kinds.rest.now _ c.behind_parameter-rest.result.now _
     c.loop-kinds.kinds.items _ _ (ap (option_map (λ type. type.now)) (sym c.in-Some.is) ∙ c.behind_takes.ensures)
     c.behind_parameter-rest.ensures
-    (c.kind_or_void.ensures ∙ ap kind_or_void c.kind_of_type.ensures) c.in_ok-push-in-Some.ensures.items c.loop-kinds.invariant
+    (c.kind_or_void.ensures ∙ ap kind_or_void c.kind_of_type.ensures)
+    c.in_ok-push-in-Some.ensures.items c.loop-kinds.invariant

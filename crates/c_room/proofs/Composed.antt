@@ -31,7 +31,9 @@ product_is {r} {a} k n is factor most = is ∙ ap (times k) factor ∙ times_fit
 
 abbrev pub room_by : List StaticObject → (number : ℕ) → Kind → (parameters variables : List Variable) → Statements → ℕ
 room_by os n k ps vs b =
-    96 + 40 * ((length ps + length vs) + max (greatest_height (each_contents b)) (greatest_height (static_contents os n)))
+    96
+    + 40 * ((length ps + length vs)
+    + max (greatest_height (each_contents b)) (greatest_height (static_contents os n)))
     + 32 * (1 + length ps)
     + 5 * (structure_bytes k + sum_of (map content_bytes (each_contents b)))
 

@@ -31,14 +31,16 @@ raised_nowhere t f h past =
 raised_is : (t : List (Option ℕ)) (f : ℕ) (h : Option ℕ) → f < length t
     → raised t f h ≡ slice_set t f (greater (get_or t f None) h)
 raised_is t f h inside =
-    sym (raised_there t f h (get_or t f None) (greater (get_or t f None) h) inside (slice_get-get_or t f None inside) refl)
+    sym (raised_there t f h (get_or t f None) (greater (get_or t f None) h) inside (slice_get-get_or t f None inside)
+    refl)
 
 raised_same : (t : List (Option ℕ)) (f : ℕ) (h a : Option ℕ) → f < length t → slice_get t f ≡ Some a
     → slice_get (raised t f h) f ≡ Some (greater a h)
 raised_same t f h a inside at =
     let r = greater a h in
     let within : f < length (slice_set t f r) = let size = length-set t f r in omega (arith, size, inside) in
-    ap (λ z. slice_get z f) (sym (raised_there t f h a r inside at refl)) ∙ slice_get-get_or (slice_set t f r) f None within
+    ap (λ z. slice_get z f) (sym (raised_there t f h a r inside at refl))
+    ∙ slice_get-get_or (slice_set t f r) f None within
     ∙ ap Some (get_or-set_same t f r None inside)
 
 raised_other : (t : List (Option ℕ)) (f : ℕ) (h : Option ℕ) (n : ℕ) → f < length t → n < length t → n ≢ f
@@ -73,7 +75,8 @@ raised_at t f h n a at = by (nat_lt f (length t)) refl
         ∙ ap (λ b. Some (if b then greater a h else a)) (sym q)
     among inside false q =
         let other = eqb-false f n q in
-        raised_other t f h n inside low (λ e. other (sym e)) ∙ at ∙ ap (λ b. Some (if b then greater a h else a)) (sym q)
+        raised_other t f h n inside low (λ e. other (sym e)) ∙ at
+        ∙ ap (λ b. Some (if b then greater a h else a)) (sym q)
 
     by : (b : Bool) → nat_lt f (length t) ≡ b → slice_get (raised t f h) n ≡ Some (if f == n then greater a h else a)
     by true p = among (ltb-true f (length t) p) (f == n) refl
@@ -115,7 +118,8 @@ further : (b : Bool) (a : Option ℕ) (cs es : List Content)
     ≡ greater a (fitting (greatest_height ((if b then cs else []) ++ es)))
 further true a cs es =
     greater_of_three a (fitting (greatest_height cs)) (fitting (greatest_height es))
-    ∙ ap (greater a) (greater_fits (greatest_height cs) (greatest_height es) ∙ ap fitting (sym (greatest_of_both cs es)))
+    ∙ ap (greater a) (greater_fits (greatest_height cs) (greatest_height es)
+    ∙ ap fitting (sym (greatest_of_both cs es)))
 further false a cs es = refl
 
 statics_at : (os : List StaticObject) (t : List (Option ℕ)) (n : ℕ) (a : Option ℕ) → slice_get t n ≡ Some a

@@ -55,7 +55,8 @@ is_next : (t : InTurn) (d : Demand) (k h b h' b' : ℕ) → t.kept ≡ fitting k
 unfolding next
 is_next t d k h b h' b' kept first second = record {
   height = ap (λ z. greater z (plus t.kept d.height)) first.height
-      ∙ ap (λ z. greater (fitting h) (plus z d.height)) kept ∙ ap (λ z. greater (fitting h) (plus (fitting k) z)) second.height
+      ∙ ap (λ z. greater (fitting h) (plus z d.height)) kept
+      ∙ ap (λ z. greater (fitting h) (plus (fitting k) z)) second.height
       ∙ ap (greater (fitting h)) (plus_fits k h') ∙ greater_fits h (k + h');
   passed = ap (λ z. plus z d.passed) first.passed ∙ ap (plus (fitting b)) second.passed ∙ plus_fits b b';
 }
@@ -120,7 +121,8 @@ mutual
   is_demand (expression kind line node) = node_demand kind node
 
   node_demand : (kind : Kind) (n : Node)
-      → Demands (visited kind n) (walk_operands demand_made n) (walk_operands height_made n) (walk_operands passed_made n)
+      → Demands (visited kind n) (walk_operands demand_made n) (walk_operands height_made n)
+      (walk_operands passed_made n)
   node_demand kind (constant w) = highest 0 _ _ _ none
   node_demand kind (function f) = highest 0 _ _ _ none
   node_demand kind (plain x) = highest 0 _ _ _ none

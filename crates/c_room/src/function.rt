@@ -17,8 +17,8 @@ use c_tree::{Function, Kind, Statement, StaticObject, Variable};
 use std::alloc::{AllocError, Global};
 
 /// The bytes of the budget `calls` that a call of a function takes, from its parameters, its automatic variables, its
-/// block, the greatest height of the static objects there, and the kind of what it gives. `None` where these are 2^64 or
-/// more.
+/// block, the greatest height of the static objects there, and the kind of what it gives. `None` where these are 2^64
+/// or more.
 pub fn room(
     parameters: &[Variable],
     variables: &[Variable],
@@ -40,8 +40,8 @@ pub fn room(
     plus(plus(plus(known(96), homes), tags), structures)
 }
 
-/// The bytes of the budget `calls` that a call of each function takes, `None` where these are 2^64 or more, of functions
-/// in order with the kinds of what they give.
+/// The bytes of the budget `calls` that a call of each function takes, `None` where these are 2^64 or more, of
+/// functions in order with the kinds of what they give.
 pub fn rooms(
     alloc: Global,
     statics: &[StaticObject],

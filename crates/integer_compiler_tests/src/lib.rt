@@ -1,5 +1,5 @@
-//! A program of integers on the whole way from its typed tree to its run: lowered, checked, expanded, planned, generated and
-//! begun by the simulator. What it writes and gives is worked out by hand.
+//! A program of integers on the whole way from its typed tree to its run: lowered, checked, expanded, planned, generated
+//! and begun by the simulator. What it writes and gives is worked out by hand.
 #![tactic(auto)]
 
 pub mod nodes;

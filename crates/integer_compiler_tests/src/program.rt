@@ -6,8 +6,8 @@ ghost use Rattle.c_tree.specs.Tree as tree;
 ghost use Rattle.c_tree.specs.Statements.{block, statements_in, while_do};
 ghost use Rattle.c_tree.specs.View.{function_of, function_type_of, program_of, statement_of};
 ghost use Rattle.elf_image.specs.Tests.{image_fault};
-ghost use Rattle.integer_compiler_tests.specs.Doubling.{a_variable, doubling, int_node, loop_body, main, main_body, twice};
-ghost use Rattle.integer_compiler_tests.specs.Doubling.{twice_body, type_of_main, type_of_twice};
+ghost use Rattle.integer_compiler_tests.specs.Doubling.{a_variable, doubling, int_node, loop_body, main, main_body};
+ghost use Rattle.integer_compiler_tests.specs.Doubling.{twice, twice_body, type_of_main, type_of_twice};
 
 use crate::nodes::{INT, binary, call, constant, plain, putchar, set};
 use c_tree::{
@@ -145,7 +145,7 @@ pub fn doubling(alloc: Global) -> Result<Program, AllocError>
 }
 
 /// What is built of it, with the budgets that a build has if none are given: an image that can be read.
-#[tactic(auto, using(crate::proofs::Valid::is_valid, crate::proofs::Valid::has_integers, crate::proofs::Valid::is_small, crate::proofs::Valid::has_few))]
+#[tactic(auto, using(crate::proofs::Valid::is_valid, crate::proofs::Valid::has_integers, crate::proofs::Valid::is_small))]
 pub fn built(alloc: Global) -> Result<Built, CompileError>
     ensures { IfOk result (λ built. image_fault built.image.items ≡ None) }
 {

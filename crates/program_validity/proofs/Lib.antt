@@ -1,0 +1,7 @@
+mod Printed
+mod Opened
+mod Looked
+mod Parts
+mod Numbered
+mod Types
+mod Functions

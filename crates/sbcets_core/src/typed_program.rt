@@ -1,5 +1,5 @@
 //! What is tested of a typed program before it is compiled.
-ghost use Rattle.std.specs.Prelude.{◌≡◌, ℕ, None, Ok, Err, IfOk, IfErr, OnOk, is_some, map};
+ghost use Rattle.std.specs.Prelude.{◌≡◌, ◌^◌, nat_lt, true, None, Ok, Err, IfOk, IfErr, OnOk, is_some, map};
 ghost use Rattle.std.specs.List.{list_all};
 ghost use Rattle.c_tree.specs.View.{content_of, expression_of, function_of, part_of, program_of, static_of};
 ghost use Rattle.c_const.specs.Addresses.{untagged};
@@ -96,12 +96,18 @@ fn constant_fault(alloc: Global, program: &Program) -> Result<Option<Line>, Allo
     Ok(statics_fault(&pointers, objects))
 }
 
-// The room of each function is below 2^64 bytes.
+// The room of a function is below 2^64 bytes.
+fn room_is_a_number(function: &Function)
+    ensures { nat_lt (function_of function.now).room (2 ^ 64) ≡ true }
+{
+    let _room = function.room;
+}
+
 fn rooms_are_numbers(functions: &[Function])
-    ensures { (n : ℕ) → first_without_room n (map function_of functions.now) ≡ None }
+    ensures { first_without_room 0 (map function_of functions.now) ≡ None }
 {
     for function in functions {
-        let _room = function.room;
+        room_is_a_number(function);
     }
 }
 

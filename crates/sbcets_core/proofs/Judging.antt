@@ -11,7 +11,8 @@ use Rattle.c_grammar.proofs.Exact.{what_is_read}
 use Rattle.c_grammar.proofs.Refused.{none_where_refused}
 use Rattle.c_grammar.proofs.Unique.{one_tree}
 use Rattle.c_tree.specs.Programs.{Program}
-use Rattle.c_unit_typing.specs.Typed.{typed_unit}
+use Rattle.c_unit_typing.specs.Typed.{TypedUnit, typed_unit}
+use Rattle.c_typer.specs.Refused.{IsWithoutRoom}
 use Rattle.c_parser.specs.declared.unsupported.UnsupportedWord.{UnsupportedWord}
 use Rattle.c_parser.specs.Unsupported.{told_as, first_unsupported}
 use Rattle.c_parser.specs.Parsed.{IsTreeOf, IsRefusedAt, line_at, is_nested_too_deep}
@@ -20,7 +21,8 @@ use Rattle.sbcets_core.specs.declared.refusal.SourceRefusal.TheVariants.{Lex, Pr
 use Rattle.sbcets_core.specs.declared.refusal.SourceRefusal.TheVariants.{Typing, Const, TooLarge, Uncompiled}
 use Rattle.sbcets_core.specs.declared.refusal.SourceRefusal.TheVariants.{RoomTooLarge, NumbersTooLarge}
 use Rattle.sbcets_core.specs.declared.refusal.SourceRefusal.TheVariants.{FunctionTooLong, Memory}
-use Rattle.sbcets_core.specs.Programs.{Judged, judged_program, judged_unit}
+use Rattle.sbcets_core.specs.Programs.{Judged, constant_fault, unless_large, unless_fault, if_compiled}
+use Rattle.sbcets_core.specs.Programs.{judged_program, judged_unit}
 use Rattle.sbcets_core.specs.Accepted.{Readable, expanded_tokens, unless_unsupported, with_support, of_readable}
 use Rattle.sbcets_core.specs.Accepted.{supported_tokens, RefusesTokens, IsTyped, HasProgram, JudgesTokens}
 use Rattle.sbcets_core.specs.Accepted.{JudgesReadable, Judges, UnlessMemory}
@@ -98,6 +100,14 @@ pub tree_refused : (list : TokenList) (u : Tree) (refusal : SourceRefusal) → f
     → IsTreeOf list.tokens u → UnlessMemory refusal (judged_unit list.end (typed_unit list.end u) ≡ Err refusal)
     → UnlessMemory refusal (JudgesReadable (with_support list) (Err refusal))
 tree_refused list u refusal none t r = unless_memory refusal _ _ (tree_judged list u (Err refusal) none t) r
+
+pub room_refused : (end : ℕ) (typed : TypedUnit) (number : ℕ) → IsWithoutRoom number typed
+    → judged_unit end typed ≡ Err (RoomTooLarge number)
+unfolding judged_program
+room_refused end typed number w =
+    let p = w.program in
+    ap (judged_unit end) w.is_program
+    ∙ ap (λ room. unless_large room (unless_fault (constant_fault p) (if_compiled end p))) w.is_first
 
 pub program_judged : (list : TokenList) (p : Program) (judged : Judged) → HasProgram list p
     → judged_program list.end p ≡ judged → JudgesReadable (with_support list) judged

@@ -5,8 +5,7 @@ ghost use Rattle.c_syntax.specs.StatementsView.{unit_of};
 ghost use Rattle.c_parser.specs.Parsed.{IsSupported, IsTreeOf, Parses};
 ghost use Rattle.c_parser.specs.Unsupported.{first_unsupported};
 ghost use Rattle.c_tree.specs.View.{program_of};
-ghost use Rattle.c_typer.specs.Refused.{IsCauseOf};
-ghost use Rattle.c_typer.specs.Refused.UnlessMemory as UnlessUntyped;
+ghost use Rattle.c_typer.specs.Refused.{IsCauseOf, UnlessMemory as UnlessUntyped};
 ghost use Rattle.c_unit_typing.specs.Typed.{TypedUnit};
 ghost use Rattle.sbcets_core.specs.Accepted.{Compiles, HasProgram, JudgesReadable, Judges, UnlessMemory, IsOfSize};
 ghost use Rattle.sbcets_core.specs.Accepted.{expanded_tokens, with_support};
@@ -30,6 +29,7 @@ pub const MAX_SOURCE: u64 = 1_048_576;
 
 /// The image of a source, which does what the source means with these budgets, and the number of its checks; or why the
 /// source is refused, for the first of the causes in the order of `SourceRefusal`.
+#[tactic(auto, using(crate::proofs::Typing::accepted_is_fine))]
 pub fn compile(
     alloc: Global,
     source: &[u8],
@@ -63,6 +63,7 @@ fn size_refusal(error: CompileError) -> SourceRefusal
 }
 
 // The program of a source that is accepted.
+#[tactic(auto, using(crate::proofs::Judging::source_judged, crate::proofs::Judging::source_refused, crate::proofs::Judging::refused_early))]
 fn accepted(alloc: Global, source: &[u8]) -> Result<Program, SourceRefusal>
     ensures ok { IfOk result (λ program. Judges source.now (Ok (program_of program))) }
     ensures err { IfErr result (λ refusal. UnlessMemory refusal (Judges source.now (Err refusal))) }
@@ -100,6 +101,7 @@ fn expanded_tokens<'a>(alloc: Global, source: &'a [u8]) -> Result<Tokens<'a>, So
 }
 
 // The program of expanded tokens that are accepted.
+#[tactic(auto, using(crate::proofs::Judging::program_judged, crate::proofs::Judging::program_refused))]
 fn accepted_of(alloc: Global, tokens: &Tokens) -> Result<Program, SourceRefusal>
     ensures ok { IfOk result (λ program. JudgesReadable (with_support tokens.now) (Ok (program_of program))) }
     ensures err { IfErr result
@@ -132,6 +134,7 @@ fn typed_of(alloc: Global, tokens: &Tokens) -> Result<Program, SourceRefusal>
 }
 
 // The refusal of a file that has no typed program.
+#[tactic(auto, using(crate::proofs::Judging::room_refused))]
 fn typing_refusal(refusal: UnitRefusal) -> SourceRefusal
     ensures { (end : ℕ) (typed : TypedUnit) → UnlessUntyped refusal (IsCauseOf refusal typed) →
         UnlessMemory result (judged_unit end typed ≡ Err result) }

@@ -9,6 +9,8 @@ use Rattle.sbcets_core.specs.declared.outcome.Outcome.{Outcome}
 use Rattle.sbcets_core.specs.declared.outcome.Outcome.TheVariants.{Exited, Built, Usage, WriteFault, InputFault, Memory}
 use Rattle.sbcets_core.specs.declared.outcome.Outcome.TheVariants.{Limit, Refused, ImageRefused, Trap}
 use Rattle.sbcets_core.specs.declared.outcome.Outcome.TheVariants as outcomes
+use Rattle.sb_base.specs.Budgets.{BudgetSizes}
+use Rattle.integer_compiler.specs.declared.compiler.Built.{Built as BuiltImage}
 use Rattle.sbcets_core.specs.Outcomes.{max_source, max_image_file}
 use Rattle.sbcets_core.specs.Counting.{Counts, CommandCounts, StopCounts}
 use Rattle.sb_outside.specs.Faults.{next_count}
@@ -19,48 +21,49 @@ use Rattle.sbcets_core.specs.Commands.{IsBuiltOf, ReadCounts, RunsImage, outcome
 use Rattle.sbcets_core.proofs.Running.{never_traps}
 
 -- a command that got nothing does nothing
-pub unbuilt_goes : (name : List ℕ) (limit : ℕ) (outcome : Outcome) (image : List ℕ) (before after : Outside)
-    → DoesNothing image before after → IsUnbuilt name outcome before.files → Goes name limit outcome image before after
-unbuilt_goes name limit (outcomes.ReadFault reads.Failed) image before after d u = d
-unbuilt_goes name limit (outcomes.ReadFault (TooLong n most)) image before after d u = (u, d)
-unbuilt_goes name limit Memory image before after d u = d
-unbuilt_goes name limit (Refused refusal) image before after d u = (u, d)
-unbuilt_goes name limit (Exited code) image before after d u = absurd u
-unbuilt_goes name limit Built image before after d u = absurd u
-unbuilt_goes name limit Usage image before after d u = absurd u
-unbuilt_goes name limit WriteFault image before after d u = absurd u
-unbuilt_goes name limit InputFault image before after d u = absurd u
-unbuilt_goes name limit (Limit n) image before after d u = absurd u
-unbuilt_goes name limit (ImageRefused fault) image before after d u = absurd u
-unbuilt_goes name limit (Trap kind pc) image before after d u = absurd u
+pub unbuilt_goes : (name : List ℕ) (budgets : BudgetSizes) (limit : ℕ) (outcome : Outcome) (image : List ℕ) (before after : Outside)
+    → DoesNothing image before after → IsUnbuilt name budgets outcome before.files → Goes name budgets limit outcome image before after
+unbuilt_goes name budgets limit (outcomes.ReadFault reads.Failed) image before after d u = d
+unbuilt_goes name budgets limit (outcomes.ReadFault (TooLong n most)) image before after d u = (u, d)
+unbuilt_goes name budgets limit Memory image before after d u = d
+unbuilt_goes name budgets limit (Refused refusal) image before after d u = (u, d)
+unbuilt_goes name budgets limit (Exited code) image before after d u = absurd u
+unbuilt_goes name budgets limit Built image before after d u = absurd u
+unbuilt_goes name budgets limit Usage image before after d u = absurd u
+unbuilt_goes name budgets limit WriteFault image before after d u = absurd u
+unbuilt_goes name budgets limit InputFault image before after d u = absurd u
+unbuilt_goes name budgets limit (Limit n) image before after d u = absurd u
+unbuilt_goes name budgets limit (ImageRefused fault) image before after d u = absurd u
+unbuilt_goes name budgets limit (Trap kind pc) image before after d u = absurd u
 
-pub unbuilt_builds : (name target : List ℕ) (outcome : Outcome) (image : List ℕ) (before after : Outside)
-    → DoesNothing image before after → IsUnbuilt name outcome before.files
-    → Builds name target outcome image before after
-unbuilt_builds name target (outcomes.ReadFault reads.Failed) image before after d u = d
-unbuilt_builds name target (outcomes.ReadFault (TooLong n most)) image before after d u = (u, d)
-unbuilt_builds name target Memory image before after d u = d
-unbuilt_builds name target (Refused refusal) image before after d u = (u, d)
-unbuilt_builds name target (Exited code) image before after d u = absurd u
-unbuilt_builds name target Built image before after d u = absurd u
-unbuilt_builds name target Usage image before after d u = absurd u
-unbuilt_builds name target WriteFault image before after d u = absurd u
-unbuilt_builds name target InputFault image before after d u = absurd u
-unbuilt_builds name target (Limit n) image before after d u = absurd u
-unbuilt_builds name target (ImageRefused fault) image before after d u = absurd u
-unbuilt_builds name target (Trap kind pc) image before after d u = absurd u
+pub unbuilt_builds : (name target : List ℕ) (budgets : BudgetSizes) (outcome : Outcome) (image : List ℕ) (before after : Outside)
+    → DoesNothing image before after → IsUnbuilt name budgets outcome before.files
+    → Builds name target budgets outcome image before after
+unbuilt_builds name target budgets (outcomes.ReadFault reads.Failed) image before after d u = d
+unbuilt_builds name target budgets (outcomes.ReadFault (TooLong n most)) image before after d u = (u, d)
+unbuilt_builds name target budgets Memory image before after d u = d
+unbuilt_builds name target budgets (Refused refusal) image before after d u = (u, d)
+unbuilt_builds name target budgets (Exited code) image before after d u = absurd u
+unbuilt_builds name target budgets Built image before after d u = absurd u
+unbuilt_builds name target budgets Usage image before after d u = absurd u
+unbuilt_builds name target budgets WriteFault image before after d u = absurd u
+unbuilt_builds name target budgets InputFault image before after d u = absurd u
+unbuilt_builds name target budgets (Limit n) image before after d u = absurd u
+unbuilt_builds name target budgets (ImageRefused fault) image before after d u = absurd u
+unbuilt_builds name target budgets (Trap kind pc) image before after d u = absurd u
 
-pub unwritten_builds : (name target image : List ℕ) (before after : Outside) → IsBuiltOf name image before.files
-    → Writes {T = Unit {0}} before.files after.files target image (Err record {})
+pub unwritten_builds : (name target : List ℕ) (budgets : BudgetSizes) (built : BuiltImage) (before after : Outside)
+    → IsBuiltOf name budgets built before.files
+    → Writes {T = Unit {0}} before.files after.files target built.image.items (Err record {})
     → after.writes ≡ next_count before.writes → after.streams ≡ before.streams
-    → Builds name target WriteFault [] before after
-unwritten_builds name target image before after b w once same =
+    → Builds name target budgets WriteFault [] before after
+unwritten_builds name target budgets built before after b w once same =
     inl (record {
       into = record {
         source = b.source;
         read = b.read;
-        bytes = image;
-        built = b.built;
+        built = built;
+        is_built = b.is_built;
         writes = w;
         once = once;
         input = ap (λ s. s.input) same;
@@ -86,38 +89,47 @@ unread_runs name limit (Limit n) image before after d u = absurd u
 unread_runs name limit (ImageRefused fault) image before after d u = absurd u
 unread_runs name limit (Trap kind pc) image before after d u = absurd u
 
-pub unread_unbuilt : (name : List ℕ) (outcome : Outcome) (held : Option (List ℕ → Option (List ℕ)))
-    → IsUnread name max_source outcome held → IsUnbuilt name outcome held
-unread_unbuilt name (outcomes.ReadFault reads.Failed) held u = u
-unread_unbuilt name (outcomes.ReadFault (TooLong n most)) held u = u
-unread_unbuilt name Memory held u = u
-unread_unbuilt name (Refused refusal) held u = absurd u
-unread_unbuilt name (Exited code) held u = absurd u
-unread_unbuilt name Built held u = absurd u
-unread_unbuilt name Usage held u = absurd u
-unread_unbuilt name WriteFault held u = absurd u
-unread_unbuilt name InputFault held u = absurd u
-unread_unbuilt name (Limit n) held u = absurd u
-unread_unbuilt name (ImageRefused fault) held u = absurd u
-unread_unbuilt name (Trap kind pc) held u = absurd u
+pub unread_unbuilt : (name : List ℕ) (budgets : BudgetSizes) (outcome : Outcome) (held : Option (List ℕ → Option (List ℕ)))
+    → IsUnread name max_source outcome held → IsUnbuilt name budgets outcome held
+unread_unbuilt name budgets (outcomes.ReadFault reads.Failed) held u = u
+unread_unbuilt name budgets (outcomes.ReadFault (TooLong n most)) held u = u
+unread_unbuilt name budgets Memory held u = u
+unread_unbuilt name budgets (Refused refusal) held u = absurd u
+unread_unbuilt name budgets (Exited code) held u = absurd u
+unread_unbuilt name budgets Built held u = absurd u
+unread_unbuilt name budgets Usage held u = absurd u
+unread_unbuilt name budgets WriteFault held u = absurd u
+unread_unbuilt name budgets InputFault held u = absurd u
+unread_unbuilt name budgets (Limit n) held u = absurd u
+unread_unbuilt name budgets (ImageRefused fault) held u = absurd u
+unread_unbuilt name budgets (Trap kind pc) held u = absurd u
 
 -- a run, by how it ended
-went_by : (name : List ℕ) (limit : ℕ) (image : List ℕ) (stop : Stop) (before after : Outside)
-    → Went name limit image stop before after → Goes name limit (outcome_of stop limit) image before after
-went_by name limit image (stops.Exited code) before after w = w
-went_by name limit image (stops.Trap kind pc) before after w = never_traps w.source image limit kind pc before.streams
-    after.streams w.built w.run
-went_by name limit image stops.Limit before after w = (refl, w)
-went_by name limit image stops.InputFault before after w = w
-went_by name limit image stops.OutputFault before after w = w
+went_by : (name : List ℕ) (budgets : BudgetSizes) (limit : ℕ) (image : List ℕ) (stop : Stop) (before after : Outside)
+    → Went name budgets limit image stop before after → Goes name budgets limit (outcome_of stop limit) image before after
+went_by name budgets limit image (stops.Exited code) before after w = w
+went_by name budgets limit image (stops.Trap kind pc) before after w =
+    never_traps w.source budgets w.built limit kind pc before.streams after.streams w.is_built w.run
+went_by name budgets limit image stops.Limit before after w = (refl, w)
+went_by name budgets limit image stops.InputFault before after w = w
+went_by name budgets limit image stops.OutputFault before after w = w
 
-pub went_goes : (name : List ℕ) (limit : ℕ) (image : List ℕ) (stop : Stop) (before after : Outside)
-    → IsBuiltOf name image before.files → RunsImage image limit stop before.streams after.streams
-    → after.files ≡ before.files → after.writes ≡ before.writes
-    → Goes name limit (outcome_of stop limit) image before after
-went_goes name limit image stop before after b r files unwritten =
-    went_by name limit image stop before after
-    (record { source = b.source; read = b.read; built = b.built; run = r; files = files; unwritten = unwritten })
+pub went_goes : (name : List ℕ) (budgets : BudgetSizes) (limit : ℕ) (built : BuiltImage) (stop : Stop)
+    (before after : Outside) → IsBuiltOf name budgets built before.files
+    → RunsImage built.image.items limit stop before.streams after.streams → after.files ≡ before.files
+    → after.writes ≡ before.writes → Goes name budgets limit (outcome_of stop limit) built.image.items before after
+went_goes name budgets limit built stop before after b r files unwritten =
+    went_by name budgets limit built.image.items stop before after
+    (record {
+      source = b.source;
+      read = b.read;
+      built = built;
+      is_built = b.is_built;
+      image_is = refl;
+      run = r;
+      files = files;
+      unwritten = unwritten;
+    })
 
 pub ran_runs : (name : List ℕ) (limit : ℕ) (image : List ℕ) (stop : Stop) (before after : Outside)
     → RanFile name limit stop image before after → Runs name limit (outcome_of stop limit) image before after
@@ -146,23 +158,23 @@ unread_counts name max (Limit n) held before after same u c = absurd u
 unread_counts name max (ImageRefused fault) held before after same u c = absurd u
 unread_counts name max (Trap kind pc) held before after same u c = absurd u
 
-pub unbuilt_counts : (name : List ℕ) (outcome : Outcome) (held : Option (List ℕ → Option (List ℕ)))
-    (before after : Counts) → after ≡ record before { reads = after.reads } → IsUnbuilt name outcome held
+pub unbuilt_counts : (name : List ℕ) (budgets : BudgetSizes) (outcome : Outcome) (held : Option (List ℕ → Option (List ℕ)))
+    (before after : Counts) → after ≡ record before { reads = after.reads } → IsUnbuilt name budgets outcome held
     → ReadCounts outcome before.reads after.reads → CommandCounts outcome before after
-unbuilt_counts name (outcomes.ReadFault reads.Failed) held before after same u c = same
+unbuilt_counts name budgets (outcomes.ReadFault reads.Failed) held before after same u c = same
     ∙ ap (λ r. record before { reads = r }) c
-unbuilt_counts name (outcomes.ReadFault (TooLong n most)) held before after same u c = same
+unbuilt_counts name budgets (outcomes.ReadFault (TooLong n most)) held before after same u c = same
     ∙ ap (λ r. record before { reads = r }) c
-unbuilt_counts name Memory held before after same u c = same ∙ ap (λ r. record before { reads = r }) c
-unbuilt_counts name (Refused refusal) held before after same u c = same ∙ ap (λ r. record before { reads = r }) c
-unbuilt_counts name (Exited code) held before after same u c = absurd u
-unbuilt_counts name Built held before after same u c = absurd u
-unbuilt_counts name Usage held before after same u c = absurd u
-unbuilt_counts name WriteFault held before after same u c = absurd u
-unbuilt_counts name InputFault held before after same u c = absurd u
-unbuilt_counts name (Limit n) held before after same u c = absurd u
-unbuilt_counts name (ImageRefused fault) held before after same u c = absurd u
-unbuilt_counts name (Trap kind pc) held before after same u c = absurd u
+unbuilt_counts name budgets Memory held before after same u c = same ∙ ap (λ r. record before { reads = r }) c
+unbuilt_counts name budgets (Refused refusal) held before after same u c = same ∙ ap (λ r. record before { reads = r }) c
+unbuilt_counts name budgets (Exited code) held before after same u c = absurd u
+unbuilt_counts name budgets Built held before after same u c = absurd u
+unbuilt_counts name budgets Usage held before after same u c = absurd u
+unbuilt_counts name budgets WriteFault held before after same u c = absurd u
+unbuilt_counts name budgets InputFault held before after same u c = absurd u
+unbuilt_counts name budgets (Limit n) held before after same u c = absurd u
+unbuilt_counts name budgets (ImageRefused fault) held before after same u c = absurd u
+unbuilt_counts name budgets (Trap kind pc) held before after same u c = absurd u
 
 -- the counts of a run
 pub stop_counts : (stop : Stop) (state : MachineState) (i i' o o' e e' : ℕ) → CountsInput (Some stop) state i i'

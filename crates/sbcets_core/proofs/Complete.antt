@@ -1,5 +1,5 @@
 -- What keeps a command from its end, where its file is there and is what it has to be.
-use Rattle.std.proofs.Common.{◌≡◌, ◌≤◌, ℕ, List, length, Option, Some, None, Err, subst, arith}
+use Rattle.std.proofs.Common.{◌≡◌, ◌≤◌, ℕ, List, length, Option, Some, None, Err, ⊎_elim, sym, subst, arith}
 use Rattle.std.specs.Prelude.{IfSome}
 use Rattle.sbcets_core.specs.declared.outcome.ReadFault.TheVariants.{TooLong}
 use Rattle.sbcets_core.specs.declared.outcome.ReadFault.TheVariants as reads
@@ -12,8 +12,12 @@ use Rattle.sbcets_core.specs.Outcomes.{max_source, max_image_file}
 use Rattle.sbcets_core.specs.declared.refusal.SourceRefusal.{SourceRefusal}
 use Rattle.elf_image.specs.declared.fault.ImageFault.{ImageFault}
 use Rattle.sbcets_core.specs.Commands.{Outside, IsRead, IsTooLong, RefusesSource, RefusesImage, Goes, Runs, Builds}
-use Rattle.sbcets_core.specs.Accepted.{Judges}
-use Rattle.sbcets_core.specs.Top.{Does, IsAcceptedFile, IsReadableFile, IsOfRun, IsOfBuild, IsComplete}
+use Rattle.sb_base.specs.Budgets.{BudgetSizes}
+use Rattle.integer_compiler.specs.declared.error.CompileError.{CompileError}
+use Rattle.integer_compiler.specs.declared.error.CompileError.TheVariants as compile
+use Rattle.sbcets_core.specs.Accepted.{Judges, IsOfSize}
+use Rattle.sbcets_core.specs.Top.{Does, IsAcceptedFile, IsReadableFile, IsOfRun, IsOfGo, IsOfBuild, IsComplete}
+use Rattle.sbcets_core.specs.Top.{IsRefusalBySize}
 use Rattle.sbcets_core.proofs.Judging.{not_both}
 
 -- what is read is what the file of the name holds
@@ -34,11 +38,22 @@ not_too_long held files name bytes max n most told there short t =
     let more = t.more in
     omega (arith, more, at_bytes, short)
 
-not_refused : (held : Option (List ℕ → Option (List ℕ))) (name : List ℕ) (refusal : SourceRefusal)
-    → IsAcceptedFile held name → RefusesSource name refusal held → ⊥
-not_refused held name refusal f r =
+-- a refusal of what is built is one by size
+by_size : (e : CompileError) (refusal : SourceRefusal) → IsOfSize e refusal → IsRefusalBySize refusal
+by_size compile.NumbersTooLarge refusal is = subst IsRefusalBySize (sym is) tt
+by_size (compile.TooLarge bytes) refusal is = subst IsRefusalBySize (sym is) tt
+by_size (compile.FunctionTooLong number) refusal is = subst IsRefusalBySize (sym is) tt
+by_size compile.Memory refusal is = absurd is
+
+refused_by_size : (held : Option (List ℕ → Option (List ℕ))) (name : List ℕ) (budgets : BudgetSizes)
+    (refusal : SourceRefusal) → IsAcceptedFile held name → RefusesSource name budgets refusal held
+    → IsRefusalBySize refusal
+refused_by_size held name budgets refusal f r =
     let same = read_is held f.files name f.source r.source max_source f.told f.there r.read in
-    not_both f.source f.program refusal f.accepts (subst (λ s. Judges s (Err refusal)) same r.refused)
+    ⊎_elim
+    (λ j. absurd (not_both f.source f.program refusal f.accepts (subst (λ s. Judges s (Err refusal)) same j)))
+    (λ t. by_size t.error refusal t.is)
+    r.refused
 
 not_image_refused : (held : Option (List ℕ → Option (List ℕ))) (name : List ℕ) (fault : ImageFault)
     → IsReadableFile held name → RefusesImage name fault held → ⊥
@@ -48,21 +63,21 @@ not_image_refused held name fault f r =
     let refused = r.refused in
     cc (same, readable, refused)
 
-go_ends : (name : List ℕ) (limit : ℕ) (outcome : Outcome) (image : List ℕ) (before after : Outside)
-    → IsAcceptedFile before.files name → Goes name limit outcome image before after → IsOfRun outcome
-go_ends name limit (Exited code) image before after f d = tt
-go_ends name limit (Limit n) image before after f d = tt
-go_ends name limit Memory image before after f d = tt
-go_ends name limit WriteFault image before after f d = tt
-go_ends name limit InputFault image before after f d = tt
-go_ends name limit (Trap kind pc) image before after f d = absurd d
-go_ends name limit (outcomes.ReadFault reads.Failed) image before after f d = tt
-go_ends name limit (outcomes.ReadFault (TooLong n most)) image before after f d = absurd
+go_ends : (name : List ℕ) (budgets : BudgetSizes) (limit : ℕ) (outcome : Outcome) (image : List ℕ) (before after : Outside)
+    → IsAcceptedFile before.files name → Goes name budgets limit outcome image before after → IsOfGo outcome
+go_ends name budgets limit (Exited code) image before after f d = tt
+go_ends name budgets limit (Limit n) image before after f d = tt
+go_ends name budgets limit Memory image before after f d = tt
+go_ends name budgets limit WriteFault image before after f d = tt
+go_ends name budgets limit InputFault image before after f d = tt
+go_ends name budgets limit (Trap kind pc) image before after f d = absurd d
+go_ends name budgets limit (outcomes.ReadFault reads.Failed) image before after f d = tt
+go_ends name budgets limit (outcomes.ReadFault (TooLong n most)) image before after f d = absurd
     (not_too_long before.files f.files name f.source max_source n most f.told f.there f.short d.0)
-go_ends name limit (Refused refusal) image before after f d = absurd (not_refused before.files name refusal f d.0)
-go_ends name limit (ImageRefused fault) image before after f d = absurd d
-go_ends name limit Built image before after f d = absurd d
-go_ends name limit Usage image before after f d = absurd d
+go_ends name budgets limit (Refused refusal) image before after f d = refused_by_size before.files name budgets refusal f d.0
+go_ends name budgets limit (ImageRefused fault) image before after f d = absurd d
+go_ends name budgets limit Built image before after f d = absurd d
+go_ends name budgets limit Usage image before after f d = absurd d
 
 run_ends : (name : List ℕ) (limit : ℕ) (outcome : Outcome) (image : List ℕ) (before after : Outside)
     → IsReadableFile before.files name → Runs name limit outcome image before after → IsOfRun outcome
@@ -81,27 +96,28 @@ run_ends name limit (ImageRefused fault) image before after f d = absurd
 run_ends name limit Built image before after f d = absurd d
 run_ends name limit Usage image before after f d = absurd d
 
-build_ends : (name target : List ℕ) (outcome : Outcome) (image : List ℕ) (before after : Outside)
-    → IsAcceptedFile before.files name → Builds name target outcome image before after → IsOfBuild outcome
-build_ends name target (Exited code) image before after f d = absurd d
-build_ends name target (Limit n) image before after f d = absurd d
-build_ends name target Memory image before after f d = tt
-build_ends name target WriteFault image before after f d = tt
-build_ends name target InputFault image before after f d = absurd d
-build_ends name target (Trap kind pc) image before after f d = absurd d
-build_ends name target (outcomes.ReadFault reads.Failed) image before after f d = tt
-build_ends name target (outcomes.ReadFault (TooLong n most)) image before after f d = absurd
+build_ends : (name target : List ℕ) (budgets : BudgetSizes) (outcome : Outcome) (image : List ℕ) (before after : Outside)
+    → IsAcceptedFile before.files name → Builds name target budgets outcome image before after → IsOfBuild outcome
+build_ends name target budgets (Exited code) image before after f d = absurd d
+build_ends name target budgets (Limit n) image before after f d = absurd d
+build_ends name target budgets Memory image before after f d = tt
+build_ends name target budgets WriteFault image before after f d = tt
+build_ends name target budgets InputFault image before after f d = absurd d
+build_ends name target budgets (Trap kind pc) image before after f d = absurd d
+build_ends name target budgets (outcomes.ReadFault reads.Failed) image before after f d = tt
+build_ends name target budgets (outcomes.ReadFault (TooLong n most)) image before after f d = absurd
     (not_too_long before.files f.files name f.source max_source n most f.told f.there f.short d.0)
-build_ends name target (Refused refusal) image before after f d = absurd (not_refused before.files name refusal f d.0)
-build_ends name target (ImageRefused fault) image before after f d = absurd d
-build_ends name target Built image before after f d = tt
-build_ends name target Usage image before after f d = absurd d
+build_ends name target budgets (Refused refusal) image before after f d =
+    refused_by_size before.files name budgets refusal f d.0
+build_ends name target budgets (ImageRefused fault) image before after f d = absurd d
+build_ends name target budgets Built image before after f d = tt
+build_ends name target budgets Usage image before after f d = absurd d
 
 pub complete : (command : Option Asked) (outcome : Outcome) (image : List ℕ) (before after : Outside)
     → Does command outcome image before after → IsComplete command outcome before.files
-complete (Some (go name budgets limit)) outcome image before after d = λ f. go_ends name limit outcome image before
-    after f d
+complete (Some (go name budgets limit)) outcome image before after d = λ f. go_ends name budgets limit outcome image
+    before after f d
 complete (Some (run name limit)) outcome image before after d = λ f. run_ends name limit outcome image before after f d
-complete (Some (build name target budgets)) outcome image before after d = λ f. build_ends name target outcome image
+complete (Some (build name target budgets)) outcome image before after d = λ f. build_ends name target budgets outcome image
     before after f d
 complete None outcome image before after d = tt

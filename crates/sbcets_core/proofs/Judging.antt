@@ -1,25 +1,30 @@
 -- How the steps of the compiler make up the judgement of a source.
 use Rattle.std.proofs.Common.{arith, ◌≡◌, ℕ, suc, ◌-◌, Bool, true, false, List, [], ◌∷◌, take, drop, length, Option}
-use Rattle.std.proofs.Common.{Some, None, Ok, Err, refl, sym, ap, ◌∙◌, subst}
+use Rattle.std.proofs.Common.{Some, None, Ok, Err, refl, sym, ap, ◌∙◌, subst, inl, inr, ⊎_elim}
 use Rattle.c_lexer.specs.declared.token.Token.{Token}
 use Rattle.c_lexer.specs.Spelled.{TokenList}
-use Rattle.c_syntax.specs.Statements as statements
+use Rattle.c_syntax.specs.Statements.{Unit as Tree}
 use Rattle.c_syntax.specs.Words.{Words, positioned}
 use Rattle.c_grammar.specs.Reader.{Outcome}
 use Rattle.c_grammar.specs.UnitReader.{unit_from}
 use Rattle.c_grammar.proofs.Exact.{what_is_read}
 use Rattle.c_grammar.proofs.Refused.{none_where_refused}
+use Rattle.c_grammar.proofs.Unique.{one_tree}
+use Rattle.c_tree.specs.Programs.{Program}
+use Rattle.c_unit_typing.specs.Typed.{TypedUnit, typed_unit}
+use Rattle.c_typer.specs.Refused.{IsWithoutRoom}
 use Rattle.c_parser.specs.declared.unsupported.UnsupportedWord.{UnsupportedWord}
 use Rattle.c_parser.specs.Unsupported.{told_as, first_unsupported}
 use Rattle.c_parser.specs.Parsed.{IsTreeOf, IsRefusedAt, line_at, is_nested_too_deep}
 use Rattle.sbcets_core.specs.declared.refusal.SourceRefusal.{SourceRefusal}
 use Rattle.sbcets_core.specs.declared.refusal.SourceRefusal.TheVariants.{Lex, Pre, Unsupported, Syntax, Nesting}
-use Rattle.sbcets_core.specs.declared.refusal.SourceRefusal.TheVariants.{TooLarge, Memory}
-use Rattle.sbcets_core.specs.Source.{SourceProgram}
-use Rattle.sbcets_core.specs.Part.{Parted, program_of}
-use Rattle.sbcets_core.specs.Parting.{IsUnfit}
-use Rattle.sbcets_core.specs.Accepted.{Judged, Readable, HasTree, unsupported, of_part, expanded_tokens}
-use Rattle.sbcets_core.specs.Accepted.{unless_unsupported, with_support, of_readable, supported_tokens, JudgesTokens}
+use Rattle.sbcets_core.specs.declared.refusal.SourceRefusal.TheVariants.{Typing, Const, TooLarge, Uncompiled}
+use Rattle.sbcets_core.specs.declared.refusal.SourceRefusal.TheVariants.{RoomTooLarge, NumbersTooLarge}
+use Rattle.sbcets_core.specs.declared.refusal.SourceRefusal.TheVariants.{FunctionTooLong, Memory}
+use Rattle.sbcets_core.specs.Programs.{Judged, constant_fault, unless_large, unless_fault, if_compiled}
+use Rattle.sbcets_core.specs.Programs.{judged_program, judged_unit}
+use Rattle.sbcets_core.specs.Accepted.{Readable, expanded_tokens, unless_unsupported, with_support, of_readable}
+use Rattle.sbcets_core.specs.Accepted.{supported_tokens, RefusesTokens, IsTyped, HasProgram, JudgesTokens}
 use Rattle.sbcets_core.specs.Accepted.{JudgesReadable, Judges, UnlessMemory}
 
 -- what follows from the one follows of a refusal too
@@ -29,19 +34,14 @@ unless_memory (Pre fault) A B f a = f a
 unless_memory (Unsupported word line) A B f a = f a
 unless_memory (Syntax at line) A B f a = f a
 unless_memory (Nesting at line) A B f a = f a
+unless_memory (Typing fault) A B f a = f a
+unless_memory (Const line) A B f a = f a
 unless_memory (TooLarge which n) A B f a = f a
+unless_memory (Uncompiled line) A B f a = f a
+unless_memory (RoomTooLarge number) A B f a = f a
+unless_memory NumbersTooLarge A B f a = f a
+unless_memory (FunctionTooLong number) A B f a = f a
 unless_memory Memory A B f a = tt
-
--- the part refuses the token at which it stood
-pub part_refused : (refusal : SourceRefusal) (list : TokenList) (at : ℕ) → IsUnfit list.tokens at
-    → UnlessMemory refusal (refusal ≡ unsupported list.end (drop at list.tokens))
-    → UnlessMemory refusal (of_part list.end (program_of list.tokens) ≡ Err refusal)
-part_refused refusal list at unfit r =
-    unless_memory refusal _ _ (λ e. ap (of_part list.end) unfit.unfit ∙ ap Err (sym e)) r
-
-judged : (source : List ℕ) (list : TokenList) (answer : Judged) → supported_tokens source ≡ Ok list
-    → JudgesTokens list answer → Judges source answer
-judged source list answer e j = subst (λ r. JudgesReadable r answer) (sym e) j
 
 -- what is known of the expanded tokens of a source
 supported : (source : List ℕ) (list : TokenList) → expanded_tokens source ≡ Ok list
@@ -53,13 +53,15 @@ none_unsupported : (list : TokenList) → first_unsupported list.tokens ≡ None
 unfolding with_support
 none_unsupported list none = ap (unless_unsupported list) none
 
-pub accepts : (source : List ℕ) (list : TokenList) (u : statements.Unit) (program : SourceProgram)
-    → expanded_tokens source ≡ Ok list
-    → first_unsupported list.tokens ≡ None → IsTreeOf list.tokens u → program_of list.tokens ≡ Ok program
-    → Judges source (Ok program)
-accepts source list u program e none t p =
-    judged source list (Ok program) (supported source list e ∙ none_unsupported list none)
-    ((u, t), sym (ap (of_part list.end) p))
+-- the expanded tokens are judged, and so the source is
+pub source_judged : (source : List ℕ) (list : TokenList) (judged : Judged) → expanded_tokens source ≡ Ok list
+    → JudgesReadable (with_support list) judged → Judges source judged
+source_judged source list judged e j = subst (λ r. JudgesReadable r judged) (sym (supported source list e)) j
+
+pub source_refused : (source : List ℕ) (list : TokenList) (refusal : SourceRefusal) → expanded_tokens source ≡ Ok list
+    → UnlessMemory refusal (JudgesReadable (with_support list) (Err refusal))
+    → UnlessMemory refusal (Judges source (Err refusal))
+source_refused source list refusal e r = unless_memory refusal _ _ (source_judged source list (Err refusal) e) r
 
 early_refused : (source : List ℕ) (refusal : SourceRefusal) → expanded_tokens source ≡ Err refusal
     → Judges source (Err refusal)
@@ -69,13 +71,6 @@ early_refused source refusal e = subst (λ s. JudgesReadable (of_readable s) (Er
 pub refused_early : (source : List ℕ) (refusal : SourceRefusal)
     → UnlessMemory refusal (expanded_tokens source ≡ Err refusal) → UnlessMemory refusal (Judges source (Err refusal))
 refused_early source refusal r = unless_memory refusal _ _ (early_refused source refusal) r
-
--- the parser refuses: a word that is not supported, or tokens that have no tree
-pub refused_unparsed : (source : List ℕ) (list : TokenList) (refusal : SourceRefusal) → expanded_tokens source ≡ Ok list
-    → UnlessMemory refusal (JudgesReadable (with_support list) (Err refusal))
-    → UnlessMemory refusal (Judges source (Err refusal))
-refused_unparsed source list refusal e r =
-    unless_memory refusal _ _ (λ j. subst (λ s. JudgesReadable s (Err refusal)) (sym (supported source list e)) j) r
 
 pub judged_supported : (list : TokenList) (answer : Judged) → first_unsupported list.tokens ≡ None
     → JudgesTokens list answer → JudgesReadable (with_support list) answer
@@ -88,60 +83,78 @@ unfolding with_support
 judged_unsupported list word line found = subst
     (λ o. JudgesReadable (unless_unsupported list o) (Err (Unsupported (told_as word) line))) (sym found) refl
 
--- the part refuses with Unsupported alone
-unsupported_no_syntax : (end : ℕ) (unfit : List Token) (at line : ℕ) → unsupported end unfit ≡ Syntax at line → ⊥
-unsupported_no_syntax end [] at line e = cc
-unsupported_no_syntax end (t ∷ ts) at line e = cc
+-- tokens with a tree are judged as it is typed
 
-unsupported_no_nesting : (end : ℕ) (unfit : List Token) (at line : ℕ) → unsupported end unfit ≡ Nesting at line → ⊥
-unsupported_no_nesting end [] at line e = cc
-unsupported_no_nesting end (t ∷ ts) at line e = cc
+typed_tokens : (list : TokenList) (judged : Judged) → IsTyped list judged → JudgesTokens list judged
+typed_tokens list (Ok p) t = t
+typed_tokens list (Err refusal) t = inr t
+
+pub tree_judged : (list : TokenList) (u : Tree) (judged : Judged) → first_unsupported list.tokens ≡ None
+    → IsTreeOf list.tokens u → judged_unit list.end (typed_unit list.end u) ≡ judged
+    → JudgesReadable (with_support list) judged
+tree_judged list u judged none t e =
+    judged_supported list judged none
+    (typed_tokens list judged (record { tree = u; written = t; as_typed = sym e }))
+
+pub tree_refused : (list : TokenList) (u : Tree) (refusal : SourceRefusal) → first_unsupported list.tokens ≡ None
+    → IsTreeOf list.tokens u → UnlessMemory refusal (judged_unit list.end (typed_unit list.end u) ≡ Err refusal)
+    → UnlessMemory refusal (JudgesReadable (with_support list) (Err refusal))
+tree_refused list u refusal none t r = unless_memory refusal _ _ (tree_judged list u (Err refusal) none t) r
+
+pub room_refused : (end : ℕ) (typed : TypedUnit) (number : ℕ) → IsWithoutRoom number typed
+    → judged_unit end typed ≡ Err (RoomTooLarge number)
+unfolding judged_program
+room_refused end typed number w =
+    let p = w.program in
+    ap (judged_unit end) w.is_program
+    ∙ ap (λ room. unless_large room (unless_fault (constant_fault p) (if_compiled end p))) w.is_first
+
+pub program_judged : (list : TokenList) (p : Program) (judged : Judged) → HasProgram list p
+    → judged_program list.end p ≡ judged → JudgesReadable (with_support list) judged
+program_judged list p judged h e =
+    tree_judged list h.tree judged h.supported h.written (ap (judged_unit list.end) h.typed ∙ e)
+
+pub program_refused : (list : TokenList) (p : Program) (refusal : SourceRefusal) → HasProgram list p
+    → UnlessMemory refusal (judged_program list.end p ≡ Err refusal)
+    → UnlessMemory refusal (JudgesReadable (with_support list) (Err refusal))
+program_refused list p refusal h r = unless_memory refusal _ _ (program_judged list p (Err refusal) h) r
 
 pub refusal_is : (a b : SourceRefusal) → ◌≡◌ {A = Judged} (Err a) (Err b) → a ≡ b
 refusal_is a b e = cc
 
-part_no_syntax : (end : ℕ) (o : Parted) (at line : ℕ) → of_part end o ≡ Err (Syntax at line) → ⊥
-part_no_syntax end (Ok program) at line e = cc
-part_no_syntax end (Err unfit) at line e = unsupported_no_syntax end unfit at line
-    (refusal_is (unsupported end unfit) (Syntax at line) e)
+-- tokens are judged by their tree, or where the reader of files refuses them
 
-part_no_nesting : (end : ℕ) (o : Parted) (at line : ℕ) → of_part end o ≡ Err (Nesting at line) → ⊥
-part_no_nesting end (Ok program) at line e = cc
-part_no_nesting end (Err unfit) at line e = unsupported_no_nesting end unfit at line
-    (refusal_is (unsupported end unfit) (Nesting at line) e)
+unparsed_by : (list : TokenList) (refusal : SourceRefusal) (Holds : Judged → Type 0)
+    → ((at line : ℕ) → IsRefusedAt list at line false → Holds (Err (Syntax at line)))
+    → ((at line : ℕ) → IsRefusedAt list at line true → Holds (Err (Nesting at line)))
+    → RefusesTokens list refusal → Holds (Err refusal)
+unparsed_by list (Syntax at line) Holds syntax nesting r = syntax at line r
+unparsed_by list (Nesting at line) Holds syntax nesting r = nesting at line r
+unparsed_by list (Lex fault) Holds syntax nesting r = absurd r
+unparsed_by list (Pre fault) Holds syntax nesting r = absurd r
+unparsed_by list (Unsupported word line) Holds syntax nesting r = absurd r
+unparsed_by list (Typing fault) Holds syntax nesting r = absurd r
+unparsed_by list (Const line) Holds syntax nesting r = absurd r
+unparsed_by list (TooLarge which n) Holds syntax nesting r = absurd r
+unparsed_by list (Uncompiled line) Holds syntax nesting r = absurd r
+unparsed_by list (RoomTooLarge number) Holds syntax nesting r = absurd r
+unparsed_by list NumbersTooLarge Holds syntax nesting r = absurd r
+unparsed_by list (FunctionTooLong number) Holds syntax nesting r = absurd r
+unparsed_by list Memory Holds syntax nesting r = absurd r
 
-by_part : (list : TokenList) (refusal : SourceRefusal) → HasTree list.tokens
-    → of_part list.end (program_of list.tokens) ≡ Err refusal → JudgesTokens list (Err refusal)
-by_part list (Syntax at line) t e = absurd (part_no_syntax list.end (program_of list.tokens) at line e)
-by_part list (Nesting at line) t e = absurd (part_no_nesting list.end (program_of list.tokens) at line e)
-by_part list (Lex fault) t e = (t, sym e)
-by_part list (Pre fault) t e = (t, sym e)
-by_part list (Unsupported word line) t e = (t, sym e)
-by_part list (TooLarge which n) t e = (t, sym e)
-by_part list Memory t e = (t, sym e)
-
-pub refused_by_part : (source : List ℕ) (list : TokenList) (u : statements.Unit) (refusal : SourceRefusal)
-    → expanded_tokens source ≡ Ok list → first_unsupported list.tokens ≡ None → IsTreeOf list.tokens u
-    → UnlessMemory refusal (of_part list.end (program_of list.tokens) ≡ Err refusal)
-    → UnlessMemory refusal (Judges source (Err refusal))
-refused_by_part source list u refusal e none t r =
-    unless_memory refusal _ _
-    (λ p. judged source list (Err refusal) (supported source list e ∙ none_unsupported list none)
-    (by_part list refusal (u, t) p)) r
-
--- tokens are judged by their tree and the part, or where the reader of files refuses them
 pub by_judgement : (list : TokenList) (answer : Judged) (Holds : Judged → Type 0) → JudgesTokens list answer
-    → (HasTree list.tokens → answer ≡ of_part list.end (program_of list.tokens) → Holds answer)
+    → (IsTyped list answer → Holds answer)
     → ((at line : ℕ) → IsRefusedAt list at line false → Holds (Err (Syntax at line)))
     → ((at line : ℕ) → IsRefusedAt list at line true → Holds (Err (Nesting at line))) → Holds answer
-by_judgement list (Err (Syntax at line)) Holds j parted syntax nesting = syntax at line j
-by_judgement list (Err (Nesting at line)) Holds j parted syntax nesting = nesting at line j
-by_judgement list (Err (Lex fault)) Holds j parted syntax nesting = parted j.0 j.1
-by_judgement list (Err (Pre fault)) Holds j parted syntax nesting = parted j.0 j.1
-by_judgement list (Err (Unsupported word line)) Holds j parted syntax nesting = parted j.0 j.1
-by_judgement list (Err (TooLarge which n)) Holds j parted syntax nesting = parted j.0 j.1
-by_judgement list (Err Memory) Holds j parted syntax nesting = parted j.0 j.1
-by_judgement list (Ok program) Holds j parted syntax nesting = parted j.0 j.1
+by_judgement list (Ok p) Holds j typed syntax nesting = typed j
+by_judgement list (Err refusal) Holds j typed syntax nesting =
+    ⊎_elim (unparsed_by list refusal Holds syntax nesting) typed j
+
+-- one tree has the words of the tokens, and so they are judged once
+typed_once : (list : TokenList) (a b : Judged) → IsTyped list a → IsTyped list b → a ≡ b
+typed_once list a b t u =
+    let same = one_tree t.tree u.tree t.written.formed u.written.formed (t.written.same ∙ sym u.written.same) in
+    t.as_typed ∙ ap (λ x. judged_unit list.end (typed_unit list.end x)) same ∙ sym u.as_typed
 
 -- the reader stands at one token
 one_place : (list : TokenList) (at to line on : ℕ) (is_nesting other : Bool) → IsRefusedAt list at line is_nesting
@@ -166,17 +179,17 @@ one_kind list at to line on is_nesting other a b =
 tokens_once : (list : TokenList) (a b : Judged) → JudgesTokens list a → JudgesTokens list b → a ≡ b
 tokens_once list a b j k =
     by_judgement list a (λ x. x ≡ b) j
-    (λ t e. by_judgement list b (λ y. a ≡ y) k
-    (λ u f. e ∙ sym f)
-    (λ at line r. absurd (r.no_tree t.0 t.1))
-    (λ at line r. absurd (r.no_tree t.0 t.1)))
+    (λ t. by_judgement list b (λ y. a ≡ y) k
+    (typed_once list a b t)
+    (λ at line r. absurd (r.no_tree t.tree t.written))
+    (λ at line r. absurd (r.no_tree t.tree t.written)))
     (λ at line r. by_judgement list b (λ y. Err (Syntax at line) ≡ y) k
-    (λ u f. absurd (r.no_tree u.0 u.1))
+    (λ u. absurd (r.no_tree u.tree u.written))
     (λ to on q. let p = one_place list at to line on false false r q in let l = one_line list at to line on false false
     r q in cc (p, l))
     (λ to on q. absurd (cc (one_kind list at to line on false true r q))))
     (λ at line r. by_judgement list b (λ y. Err (Nesting at line) ≡ y) k
-    (λ u f. absurd (r.no_tree u.0 u.1))
+    (λ u. absurd (r.no_tree u.tree u.written))
     (λ to on q. absurd (cc (one_kind list at to line on true false r q)))
     (λ to on q. let p = one_place list at to line on true true r q in let l = one_line list at to line on true true r q
     in cc (p, l)))
@@ -188,12 +201,6 @@ readable_once (Ok list) a b j k = tokens_once list a b j k
 -- a source is judged in one way
 pub judged_once : (source : List ℕ) (a b : Judged) → Judges source a → Judges source b → a ≡ b
 judged_once source a b j k = readable_once (supported_tokens source) a b j k
-
--- tokens with a tree are judged as a text of the part
-parted : (list : TokenList) (answer : Judged) → HasTree list.tokens → answer ≡ of_part list.end (program_of list.tokens)
-    → JudgesTokens list answer
-parted list (Ok program) t e = (t, e)
-parted list (Err refusal) t e = by_part list refusal t (sym e)
 
 -- tokens that the reader of files refuses are judged by where it does
 refused_there : (list : TokenList) (r : Words) (is_nesting : Bool) → unit_from (positioned list.tokens) ≡ Err r
@@ -212,22 +219,21 @@ by_kind : (list : TokenList) (r : Words) (is_nesting : Bool) → unit_from (posi
     → (answer : Judged) × JudgesTokens list answer
 by_kind list r false e kind = (
   Err (Syntax (length list.tokens - length r) (line_at list (length list.tokens - length r))),
-  refused_there list r
-      false e kind,
+  inl (refused_there list r false e kind),
 )
 by_kind list r true e kind = (
   Err (Nesting (length list.tokens - length r) (line_at list (length list.tokens - length r))),
-  refused_there list r
-      true e kind,
+  inl (refused_there list r true e kind),
 )
 
-by_reader : (list : TokenList) (o : Outcome statements.Unit) → unit_from (positioned list.tokens) ≡ o
+by_reader : (list : TokenList) (o : Outcome Tree) → unit_from (positioned list.tokens) ≡ o
     → (answer : Judged) × JudgesTokens list answer
 by_reader list (Ok (u, r)) e =
-    let tree = what_is_read (positioned list.tokens) u r e in (
-      of_part list.end (program_of list.tokens),
-      parted list (of_part list.end (program_of list.tokens))
-          (u, record { formed = tree.1; same = tree.2 }) refl,
+    let tree = what_is_read (positioned list.tokens) u r e in
+    let judged = judged_unit list.end (typed_unit list.end u) in (
+      judged,
+      typed_tokens list judged
+          (record { tree = u; written = record { formed = tree.1; same = tree.2 }; as_typed = refl }),
     )
 by_reader list (Err r) e = by_kind list r (is_nested_too_deep (take (suc (length list.tokens - length r)) list.tokens))
     e refl
@@ -241,6 +247,6 @@ pub some_judgement : (source : List ℕ) → (answer : Judged) × Judges source 
 some_judgement source = some_readable (supported_tokens source)
 
 -- no source is both accepted and refused
-pub not_both : (source : List ℕ) (program : SourceProgram) (refusal : SourceRefusal) → Judges source (Ok program)
+pub not_both : (source : List ℕ) (program : Program) (refusal : SourceRefusal) → Judges source (Ok program)
     → Judges source (Err refusal) → ⊥
 not_both source program refusal a r = let same = judged_once source (Ok program) (Err refusal) a r in cc same

@@ -16,10 +16,12 @@ use Rattle.rv_sim.specs.Behaviour.{begun, behaviour, end_of}
 use Rattle.sb_outside.specs.Rest.{ForEveryInput}
 use Rattle.sb_outside.proofs.Gains.{gained_nil}
 use Rattle.sb_outside.proofs.Takings.{gives_some, map_inputs}
-use Rattle.sbcets_core.specs.Source.{SourceProgram}
-use Rattle.sb_base.specs.Budgets.{default_sizes}
-use Rattle.sbcets_core.proofs.TypedTrees.{tree_of, is_typed_tree, defaults_in_range, ends_no_fault}
-use Rattle.sbcets_core.specs.Faithful.{IsFaithfulImage}
+use Rattle.sb_base.specs.Budgets.{BudgetSizes}
+use Rattle.c_tree.specs.Programs.{Program}
+use Rattle.source_meaning.specs.State.{Rvalue, Outcome, Gives, Ended, Paused}
+use Rattle.source_meaning.specs.Meaning.{outcome, moment_of}
+use Rattle.integer_images.specs.Images.{DoesWhatIsMeant}
+use Rattle.integer_compiler.specs.declared.compiler.Built.{Built}
 use Rattle.sbcets_core.specs.Accepted.{IsBuiltFrom}
 use Rattle.sbcets_core.specs.Commands.{Streams, RunsImage}
 
@@ -66,22 +68,27 @@ runs_image image content machine state limit stop before after readable same loa
       run = from_start (start_of (content_of image)) state limit stop before after told_of;
     }
 
-no_trap : (program : SourceProgram) (image input : List ℕ) (n : ℕ) (kind : TrapKind) (pc : ℕ)
-    → IsFaithfulImage program image → (runs n (begun (start_of (content_of image)) input)).1 ≡ Some (stops.Trap kind pc)
-    → ⊥
+-- no program ends by a trap
+ends_no_fault : (o : Outcome Rvalue) → (moment_of o).shown.ending ≡ Some Fault → ⊥
+ends_no_fault (Gives v s) e = cc
+ends_no_fault (Ended ending s) e = cc
+ends_no_fault (Paused s) e = cc
+
+no_trap : (p : Program) (budgets : BudgetSizes) (image input : List ℕ) (n : ℕ) (kind : TrapKind) (pc : ℕ)
+    → DoesWhatIsMeant p budgets image
+    → (runs n (begun (start_of (content_of image)) input)).1 ≡ Some (stops.Trap kind pc) → ⊥
 unfolding behaviour
-no_trap program image input n kind pc f e =
+no_trap p budgets image input n kind pc f e =
     let s = start_of (content_of image) in
     let ended : (behaviour s input n).shown.ending ≡ Some Fault = ap end_of e in
-    ends_no_fault program input n
-    (ap (λ (x : Shown). x.ending)
-    ((f.faithful (tree_of program) default_sizes (is_typed_tree program) defaults_in_range input).ends_as_source n
-    Fault ended) ∙ ended)
+    ends_no_fault (outcome p budgets input n)
+    (ap (λ (x : Shown). x.ending) ((f.faithful input).ends_as_source n Fault ended) ∙ ended)
 
 -- an image that was built never traps
-pub never_traps : (source image : List ℕ) (limit : ℕ) (kind : TrapKind) (pc : ℕ) (before after : Streams)
-    → IsBuiltFrom source image → RunsImage image limit (stops.Trap kind pc) before after → ⊥
-never_traps source image limit kind pc before after b r =
+pub never_traps : (source : List ℕ) (budgets : BudgetSizes) (built : Built) (limit : ℕ) (kind : TrapKind) (pc : ℕ)
+    (before after : Streams) → IsBuiltFrom source budgets built
+    → RunsImage built.image.items limit (stops.Trap kind pc) before after → ⊥
+never_traps source budgets built limit kind pc before after b r =
     let given = gives_some after.input in
-    no_trap b.program image (r.run.taken ++ given.bytes) limit kind pc b.faithful
+    no_trap b.program budgets built.image.items (r.run.taken ++ given.bytes) limit kind pc b.means
     (r.run.holds given.bytes given.given).0

@@ -1,6 +1,6 @@
 -- The trees of sources that were judged.
 use Rattle.std.proofs.Common.{◌≡◌, ℕ, Bool, true, false, List, [], ◌∷◌, length, Option, Some, None, Result, Ok, Err}
-use Rattle.std.proofs.Common.{refl, sym, ap, ◌∙◌, subst}
+use Rattle.std.proofs.Common.{refl, sym, ap, ◌∙◌, subst, ⊎_elim}
 use Rattle.std.specs.Prelude.{nat_lt, if◌then◌else◌}
 use Rattle.c_lexer.specs.declared.lexer.LexFault.{LexFault}
 use Rattle.c_lexer.specs.declared.token.Token.{Token}
@@ -14,11 +14,15 @@ use Rattle.c_parser.specs.declared.unsupported.UnsupportedWord.{UnsupportedWord}
 use Rattle.c_parser.specs.Unsupported.{first_unsupported}
 use Rattle.c_grammar.proofs.Unique.{one_tree}
 use Rattle.sbcets_core.specs.declared.refusal.SourceRefusal.{SourceRefusal}
-use Rattle.sbcets_core.specs.declared.refusal.SourceRefusal.TheVariants.{Syntax, Nesting, TooLarge}
+use Rattle.sbcets_core.specs.declared.refusal.SourceRefusal.TheVariants.{Syntax, Nesting, TooLarge, Uncompiled}
 use Rattle.sbcets_core.specs.declared.refusal.Counted.TheVariants.{Source}
 use Rattle.sbcets_core.specs.Outcomes.{max_source}
-use Rattle.sbcets_core.specs.Source.{SourceProgram}
-use Rattle.sbcets_core.specs.Accepted.{Judged, Readable, expanded_tokens, supported_tokens, with_support}
+use Rattle.c_tree.specs.Programs.{Program}
+use Rattle.c_typer.specs.Refused.{first_without_room}
+use Rattle.c_unit_typing.specs.Typed.{TypedUnit, a_program, a_fault, too_large, typed_unit}
+use Rattle.sbcets_core.specs.Programs.{Judged, constant_fault, is_compiled, unless_large, unless_fault, judged_program}
+use Rattle.sbcets_core.specs.Programs.{judged_unit}
+use Rattle.sbcets_core.specs.Accepted.{Readable, RefusesTokens, IsTyped, expanded_tokens, supported_tokens, with_support}
 use Rattle.sbcets_core.specs.Accepted.{unless_unsupported, of_readable, of_expanded, of_tokens, JudgesTokens}
 use Rattle.sbcets_core.specs.Accepted.{JudgesReadable, Judges}
 use Rattle.sbcets_core.proofs.Judging.{refusal_is, by_judgement}
@@ -35,12 +39,12 @@ one_of_tokens source list u e t = record {
   only = λ other o. one_tree other u o.formed t.formed (o.same ∙ sym t.same);
 }
 
-accepted_from : (source : List ℕ) (readable : Readable) (program : SourceProgram) → supported_tokens source ≡ readable
+accepted_from : (source : List ℕ) (readable : Readable) (program : Program) → supported_tokens source ≡ readable
     → JudgesReadable readable (Ok program) → HasOneTree source
 accepted_from source (Err early) program e j = absurd (cc (j))
-accepted_from source (Ok list) program e j = one_of_tokens source list j.0.0 e j.0.1
+accepted_from source (Ok list) program e j = one_of_tokens source list j.tree e j.written
 
-pub one_of_accepted : (source : List ℕ) (program : SourceProgram) → Judges source (Ok program) → HasOneTree source
+pub one_of_accepted : (source : List ℕ) (program : Program) → Judges source (Ok program) → HasOneTree source
 one_of_accepted source program j = accepted_from source (supported_tokens source) program refl j
 
 -- before the parser no source is refused by the parser
@@ -77,26 +81,48 @@ early source =
     (early_if (nat_lt max_source (length source)) (Err (TooLarge Source (length source))) (of_tokens (tokens source)) tt
     (early_tokens (tokens source)))
 
+-- no tree is typed as the parser refuses
+typed_late : (end : ℕ) (t : TypedUnit) → IsUnparsed (judged_unit end t) → ⊥
+unfolding judged_program
+typed_late end (a_program p) i = by (first_without_room 0 p.functions) (constant_fault p) (is_compiled p) i
+  where
+    by : (room fault : Option ℕ) (b : Bool)
+        → IsUnparsed (unless_large room (unless_fault fault (if b then Ok p else Err (Uncompiled end)))) → ⊥
+    by (Some n) fault b i = i
+    by None (Some line) b i = i
+    by None None false i = i
+    by None None true i = i
+typed_late end (a_fault f) i = i
+typed_late end (too_large which n) i = i
+
+not_typed : (list : TokenList) (judged : Judged) → IsUnparsed judged → IsTyped list judged → ⊥
+not_typed list judged i t = typed_late list.end (typed_unit list.end t.tree) (subst IsUnparsed t.as_typed i)
+
 -- a refusal of the parser comes of tokens
 alone_from : (source : List ℕ) (readable : Readable) (refusal : SourceRefusal) → supported_tokens source ≡ readable
-    → (IsEarly (Err refusal) → ⊥) → ((list : TokenList) → JudgesTokens list (Err refusal) → HasNoTree list.tokens)
+    → (IsEarly (Err refusal) → ⊥) → IsUnparsed (Err refusal)
+    → ((list : TokenList) → RefusesTokens list refusal → HasNoTree list.tokens)
     → JudgesReadable readable (Err refusal) → HasTokensAlone source
-alone_from source (Err other) refusal e late none j = absurd
+alone_from source (Err other) refusal e late unparsed none j = absurd
     (late (subst IsEarly (e ∙ ap Err (sym (refusal_is refusal other j))) (early source)))
-alone_from source (Ok list) refusal e late none j = record { list = list; expands = e; no_tree = none list j }
+alone_from source (Ok list) refusal e late unparsed none j = record {
+  list = list;
+  expands = e;
+  no_tree = ⊎_elim (none list) (λ t. absurd (not_typed list (Err refusal) unparsed t)) j;
+}
 
 pub alone_of_syntax : (source : List ℕ) (at line : ℕ) → Judges source (Err (Syntax at line)) → HasTokensAlone source
-alone_of_syntax source at line j = alone_from source (supported_tokens source) (Syntax at line) refl (λ i. i)
-    (λ list r. r.no_tree) j
+alone_of_syntax source at line j =
+    alone_from source (supported_tokens source) (Syntax at line) refl (λ i. i) tt (λ list r. r.no_tree) j
 
 pub alone_of_nesting : (source : List ℕ) (at line : ℕ) → Judges source (Err (Nesting at line)) → HasTokensAlone source
-alone_of_nesting source at line j = alone_from source (supported_tokens source) (Nesting at line) refl (λ i. i)
-    (λ list r. r.no_tree) j
+alone_of_nesting source at line j =
+    alone_from source (supported_tokens source) (Nesting at line) refl (λ i. i) tt (λ list r. r.no_tree) j
 
 -- tokens without a tree are refused for want of one, and so judged
 unparsed_tokens : (list : TokenList) (judged : Judged) → HasNoTree list.tokens → JudgesTokens list judged
     → IsUnparsed judged
-unparsed_tokens list judged none j = by_judgement list judged IsUnparsed j (λ t e. absurd (none t.0 t.1))
+unparsed_tokens list judged none j = by_judgement list judged IsUnparsed j (λ t. absurd (none t.tree t.written))
     (λ at line r. tt) (λ at line r. tt)
 
 pub unparsed : (source : List ℕ) (judged : Judged) → HasTokensAlone source → Judges source judged → IsUnparsed judged

@@ -1,38 +1,35 @@
 -- The program of an accepted source, or why the source is refused.
-use Rattle.std.specs.Prelude.{◌≡◌, ℕ, nat_lt, true, false, List, [], ◌∷◌, length, Option, Some, None, Result, Ok, Err}
-use Rattle.std.specs.Prelude.{if◌then◌else◌, Vec}
-use Rattle.std.specs.declared.alloc.Global.{Global}
+use Rattle.std.specs.Prelude.{◌≡◌, ◌⊎◌, ℕ, nat_lt, true, false, List, length, Option, Some}
+use Rattle.std.specs.Prelude.{None, Result, Ok, Err, if◌then◌else◌}
 use Rattle.c_lexer.specs.declared.lexer.LexFault.{LexFault}
 use Rattle.c_lexer.specs.declared.token.Token.{Token}
 use Rattle.c_lexer.specs.Spelled.{TokenList}
 use Rattle.c_lexer.specs.Text.{tokens}
 use Rattle.c_pre.specs.declared.fault.PreFault.{PreFault}
 use Rattle.c_pre.specs.Reading.{expanded}
-use Rattle.c_syntax.specs.Statements as statements
+use Rattle.c_syntax.specs.Statements.{Unit as Tree}
 use Rattle.c_parser.specs.declared.unsupported.UnsupportedWord.{UnsupportedWord}
 use Rattle.c_parser.specs.Unsupported.{told_as, first_unsupported}
 use Rattle.c_parser.specs.Parsed.{IsTreeOf, IsRefusedAt}
-use Rattle.sbcets_core.specs.declared.refusal.Counted.TheVariants.{Source}
+use Rattle.sb_base.specs.Budgets.{BudgetSizes}
+use Rattle.c_tree.specs.Programs.{Program}
+use Rattle.c_unit_typing.specs.Typed.{a_program, typed_unit}
+use Rattle.integer_images.specs.Images.{sizes_of, IsChecked, DoesWhatIsMeant}
+use Rattle.integer_compiler.specs.declared.compiler.Built.{Built}
+use Rattle.integer_compiler.specs.declared.error.CompileError.{CompileError}
+use Rattle.integer_compiler.specs.declared.error.CompileError.TheVariants as compile
+use Rattle.integer_compiler.specs.Built.{IsBuilt, IsRefused}
+use Rattle.sbcets_core.specs.declared.refusal.Counted.TheVariants.{Source, Code}
 use Rattle.sbcets_core.specs.declared.refusal.SourceRefusal.{SourceRefusal}
 use Rattle.sbcets_core.specs.declared.refusal.SourceRefusal.TheVariants.{Lex, Pre, Unsupported, Syntax, Nesting}
-use Rattle.sbcets_core.specs.declared.refusal.SourceRefusal.TheVariants.{TooLarge, Memory}
+use Rattle.sbcets_core.specs.declared.refusal.SourceRefusal.TheVariants.{TooLarge, NumbersTooLarge, FunctionTooLong}
+use Rattle.sbcets_core.specs.declared.refusal.SourceRefusal.TheVariants.{Memory}
 use Rattle.sbcets_core.specs.Outcomes.{max_source}
-use Rattle.sbcets_core.specs.Source.{SourceProgram}
-use Rattle.sbcets_core.specs.Refused.{refused_bytes}
-use Rattle.sbcets_core.specs.Part.{Parted, program_of}
-use Rattle.sbcets_core.specs.Faithful.{IsFaithfulImage}
-
-abbrev pub Judged : Type 0
-Judged = Result SourceProgram SourceRefusal
+use Rattle.sbcets_core.specs.Programs.{Judged, judged_unit}
 
 -- the expanded tokens of a source, or why it is refused before it is parsed
 abbrev pub Readable : Type 0
 Readable = Result TokenList SourceRefusal
-
--- the refusal at the first of these tokens, or at the end of the text, on this line
-abbrev pub unsupported : (end : ℕ) → List Token → SourceRefusal
-unsupported end [] = Unsupported [] end
-unsupported end (t ∷ ts) = Unsupported (refused_bytes t.kind) t.line
 
 abbrev pub of_expanded : Result TokenList PreFault → Readable
 of_expanded (Err fault) = Err (Pre fault)
@@ -63,20 +60,28 @@ of_readable (Ok list) = with_support list
 unfoldable pub supported_tokens : List ℕ → Readable
 supported_tokens source = of_readable (expanded_tokens source)
 
--- a well-formed file is written with these tokens (C99 6.9)
-abbrev pub HasTree : List Token → Type 0
-HasTree tokens = (u : statements.Unit) × IsTreeOf tokens u
+-- tokens without a tree are refused, at a token that is told
+abbrev pub RefusesTokens : TokenList → SourceRefusal → Type 0
+RefusesTokens list (Syntax at line) = IsRefusedAt list at line false
+RefusesTokens list (Nesting at line) = IsRefusedAt list at line true
+RefusesTokens list refusal = ⊥
 
--- the program of the tokens, where they are a text of the part
-abbrev pub of_part : (end : ℕ) → Parted → Judged
-of_part end (Err unfit) = Err (unsupported end unfit)
-of_part end (Ok program) = Ok program
+-- those that have one (C99 6.9) are judged as it is typed
+pub record IsTyped (list : TokenList) (judged : Judged) : Type 0 where
+  pub tree : Tree
+  pub written : IsTreeOf list.tokens tree
+  pub as_typed : judged ≡ judged_unit list.end (typed_unit list.end tree)
 
--- tokens without a tree are refused, at a token that is told; those that have one are judged as a text of the part
+-- none of the tokens is unsupported, and a tree of them is typed as this program
+pub record HasProgram (list : TokenList) (program : Program) : Type 0 where
+  pub supported : first_unsupported list.tokens ≡ None
+  pub tree : Tree
+  pub written : IsTreeOf list.tokens tree
+  pub typed : typed_unit list.end tree ≡ a_program program
+
 abbrev pub JudgesTokens : TokenList → Judged → Type 0
-JudgesTokens list (Err (Syntax at line)) = IsRefusedAt list at line false
-JudgesTokens list (Err (Nesting at line)) = IsRefusedAt list at line true
-JudgesTokens list judged = HasTree list.tokens × (judged ≡ of_part list.end (program_of list.tokens))
+JudgesTokens list (Ok program) = IsTyped list (Ok program)
+JudgesTokens list (Err refusal) = RefusesTokens list refusal ⊎ IsTyped list (Err refusal)
 
 abbrev pub JudgesReadable : Readable → Judged → Type 0
 JudgesReadable (Err refusal) judged = judged ≡ Err refusal
@@ -86,11 +91,32 @@ JudgesReadable (Ok list) judged = JudgesTokens list judged
 abbrev pub Judges : List ℕ → Judged → Type 0
 Judges source judged = JudgesReadable (supported_tokens source) judged
 
--- the source is accepted, and the image is faithful to it
-pub record IsBuiltFrom (source image : List ℕ) : Type 0 where
-  pub program : SourceProgram
+-- what the compiler of programs of integers refuses for its size
+abbrev pub IsOfSize : CompileError → SourceRefusal → Type 0
+IsOfSize compile.NumbersTooLarge refusal = refusal ≡ NumbersTooLarge
+IsOfSize (compile.TooLarge bytes) refusal = refusal ≡ TooLarge Code bytes
+IsOfSize (compile.FunctionTooLong number) refusal = refusal ≡ FunctionTooLong number
+IsOfSize compile.Memory refusal = ⊥
+
+-- A source is accepted, and some checked code of its program under some plans of registers is too large. (Which plans
+-- are made is not determined by the source.)
+pub record IsTooLarge (source : List ℕ) (budgets : BudgetSizes) (refusal : SourceRefusal) : Type 0 where
+  pub program : Program
   pub accepts : Judges source (Ok program)
-  pub faithful : IsFaithfulImage program image
+  pub error : CompileError
+  pub is : IsOfSize error refusal
+  pub refused : IsRefused (IsChecked program) (sizes_of program budgets) error
+
+-- why a source has no image
+abbrev pub Refuses : List ℕ → BudgetSizes → SourceRefusal → Type 0
+Refuses source budgets refusal = Judges source (Err refusal) ⊎ IsTooLarge source budgets refusal
+
+-- the source is accepted, and what was built does what it means: the image, which has so many checks
+pub record IsBuiltFrom (source : List ℕ) (budgets : BudgetSizes) (built : Built) : Type 0 where
+  pub program : Program
+  pub accepts : Judges source (Ok program)
+  pub means : DoesWhatIsMeant program budgets built.image.items
+  pub is_built : IsBuilt (IsChecked program) (sizes_of program budgets) built
 
 -- this holds, unless the refusal is want of memory
 abbrev pub UnlessMemory : SourceRefusal → Type 0 → Type 0
@@ -98,6 +124,6 @@ UnlessMemory Memory holds = Unit {0}
 UnlessMemory refusal holds = holds
 
 -- what the compiler answers: for want of memory nothing is said
-abbrev pub Compiles : List ℕ → Result (Vec ℕ Global) SourceRefusal → Type 0
-Compiles source (Ok image) = IsBuiltFrom source image.items
-Compiles source (Err refusal) = UnlessMemory refusal (Judges source (Err refusal))
+abbrev pub Compiles : List ℕ → BudgetSizes → Result Built SourceRefusal → Type 0
+Compiles source budgets (Ok built) = IsBuiltFrom source budgets built
+Compiles source budgets (Err refusal) = UnlessMemory refusal (Refuses source budgets refusal)

@@ -5,6 +5,7 @@ use Rattle.sb_outside.specs.declared.source.Failed.{Failed}
 use Rattle.sb_outside.specs.Content.{gained, GainsPart, Writes}
 use Rattle.sb_outside.specs.Faults.{Rose, next_count}
 use Rattle.sb_outside.specs.Rest.{Rest, ForEveryInput}
+use Rattle.sb_base.specs.Budgets.{BudgetSizes}
 use Rattle.elf_image.specs.declared.fault.ImageFault.{ImageFault}
 use Rattle.elf_image.specs.Tests.{image_fault}
 use Rattle.elf_image.specs.Layout.{content_of}
@@ -14,6 +15,7 @@ use Rattle.rv_sim.specs.State.{MachineState}
 use Rattle.rv_sim.specs.Seen.{IsRun}
 use Rattle.rv_sim.specs.Start.{start_of}
 use Rattle.rv_sim.specs.Behaviour.{begun}
+use Rattle.integer_compiler.specs.declared.compiler.Built.{Built as BuiltImage}
 use Rattle.sbcets_core.specs.declared.refusal.SourceRefusal.{SourceRefusal}
 use Rattle.sbcets_core.specs.declared.outcome.ReadFault.TheVariants.{TooLong}
 use Rattle.sbcets_core.specs.declared.outcome.ReadFault.TheVariants as reads
@@ -22,7 +24,7 @@ use Rattle.sbcets_core.specs.declared.outcome.Outcome.TheVariants.{Exited, Built
 use Rattle.sbcets_core.specs.declared.outcome.Outcome.TheVariants.{Limit, Refused, ImageRefused, Trap}
 use Rattle.sbcets_core.specs.declared.outcome.Outcome.TheVariants as outcomes
 use Rattle.sbcets_core.specs.Outcomes.{max_source, max_image_file}
-use Rattle.sbcets_core.specs.Accepted.{Judges, IsBuiltFrom}
+use Rattle.sbcets_core.specs.Accepted.{Refuses, IsBuiltFrom}
 
 -- what the files hold, by their names, where they tell it
 abbrev pub Held : Type 0
@@ -76,36 +78,40 @@ pub record IsTooLong (name : List ℕ) (max n most : ℕ) (held : Option (List �
   pub length_is : IfSome held (λ files. IfSome (files name) (λ bytes. length bytes ≡ n))
 
 -- GO. A source was read, is accepted, and the image that was built from it ran
-pub record Went (name : List ℕ) (limit : ℕ) (image : List ℕ) (stop : Stop) (before after : Outside) : Type 0 where
+pub record Went (name : List ℕ) (budgets : BudgetSizes) (limit : ℕ) (image : List ℕ) (stop : Stop)
+    (before after : Outside) : Type 0 where
   pub source : List ℕ
   pub read : IsRead before.files name max_source source
-  pub built : IsBuiltFrom source image
-  pub run : RunsImage image limit stop before.streams after.streams
+  pub built : BuiltImage
+  pub is_built : IsBuiltFrom source budgets built
+  pub image_is : image ≡ built.image.items
+  pub run : RunsImage built.image.items limit stop before.streams after.streams
   pub files : after.files ≡ before.files
   pub unwritten : after.writes ≡ before.writes
 
 -- a source was read and refused
-pub record RefusesSource (name : List ℕ) (refusal : SourceRefusal) (held : Option (List ℕ → Option (List ℕ))) : Type
-    0 where
+pub record RefusesSource (name : List ℕ) (budgets : BudgetSizes) (refusal : SourceRefusal)
+    (held : Option (List ℕ → Option (List ℕ))) : Type 0 where
   pub source : List ℕ
   pub read : IsRead held name max_source source
-  pub refused : Judges source (Err refusal)
+  pub refused : Refuses source budgets refusal
 
-abbrev pub Goes : (name : List ℕ) (limit : ℕ) → Outcome → List ℕ → Outside → Outside → Type 0
-Goes name limit (Exited code) image before after = Went name limit image (stops.Exited code) before after
-Goes name limit (Limit n) image before after = (n ≡ limit) × Went name limit image stops.Limit before after
-Goes name limit WriteFault image before after = Went name limit image stops.OutputFault before after
-Goes name limit InputFault image before after = Went name limit image stops.InputFault before after
-Goes name limit (Trap kind pc) image before after = ⊥
-Goes name limit (Refused refusal) image before after = RefusesSource name refusal before.files
-    × DoesNothing image before after
-Goes name limit (outcomes.ReadFault reads.Failed) image before after = DoesNothing image before after
-Goes name limit (outcomes.ReadFault (TooLong n most)) image before after = IsTooLong name max_source n most before.files
-    × DoesNothing image before after
-Goes name limit Memory image before after = DoesNothing image before after
-Goes name limit Usage image before after = ⊥
-Goes name limit Built image before after = ⊥
-Goes name limit (ImageRefused fault) image before after = ⊥
+abbrev pub Goes : (name : List ℕ) → BudgetSizes → (limit : ℕ) → Outcome → List ℕ → Outside → Outside → Type 0
+Goes name budgets limit (Exited code) image before after = Went name budgets limit image (stops.Exited code) before after
+Goes name budgets limit (Limit n) image before after =
+    (n ≡ limit) × Went name budgets limit image stops.Limit before after
+Goes name budgets limit WriteFault image before after = Went name budgets limit image stops.OutputFault before after
+Goes name budgets limit InputFault image before after = Went name budgets limit image stops.InputFault before after
+Goes name budgets limit (Trap kind pc) image before after = ⊥
+Goes name budgets limit (Refused refusal) image before after =
+    RefusesSource name budgets refusal before.files × DoesNothing image before after
+Goes name budgets limit (outcomes.ReadFault reads.Failed) image before after = DoesNothing image before after
+Goes name budgets limit (outcomes.ReadFault (TooLong n most)) image before after =
+    IsTooLong name max_source n most before.files × DoesNothing image before after
+Goes name budgets limit Memory image before after = DoesNothing image before after
+Goes name budgets limit Usage image before after = ⊥
+Goes name budgets limit Built image before after = ⊥
+Goes name budgets limit (ImageRefused fault) image before after = ⊥
 
 -- RUN. An image was read and ran
 pub record RanFile (name : List ℕ) (limit : ℕ) (stop : Stop) (image : List ℕ) (before after : Outside) : Type 0 where
@@ -144,46 +150,52 @@ built_line checks dropped = decimal checks ++ (codes " checks, " ++ (decimal dro
 
 -- a source was read, is accepted, and by one write the file now holds the image that was built from it, or a part of
 -- that
-pub record BuiltInto (name target : List ℕ) (written : Result (Unit {0}) Failed) (image : List ℕ)
-    (before after : Outside) : Type 0 where
+pub record BuiltInto (name target : List ℕ) (budgets : BudgetSizes) (written : Result (Unit {0}) Failed)
+    (image : List ℕ) (before after : Outside) : Type 0 where
   pub source : List ℕ
   pub read : IsRead before.files name max_source source
-  pub bytes : List ℕ
-  pub built : IsBuiltFrom source bytes
-  pub writes : Writes before.files after.files target bytes written
+  pub built : BuiltImage
+  pub is_built : IsBuiltFrom source budgets built
+  pub writes : Writes before.files after.files target built.image.items written
   pub once : after.writes ≡ next_count before.writes
   pub input : after.streams.input ≡ before.streams.input
   pub errors : after.streams.errors ≡ before.streams.errors
   pub none : image ≡ []
 
 -- the file's write failed, and nothing was printed
-pub record FileFails (name target : List ℕ) (image : List ℕ) (before after : Outside) : Type 0 where
-  pub into : BuiltInto name target (Err record {}) image before after
+pub record FileFails (name target : List ℕ) (budgets : BudgetSizes) (image : List ℕ) (before after : Outside) : Type 0
+    where
+  pub into : BuiltInto name target budgets (Err record {}) image before after
   pub output : after.streams.output ≡ before.streams.output
 
 -- the file holds the image, and the line was printed in part
-pub record LineFails (name target : List ℕ) (image : List ℕ) (before after : Outside) : Type 0 where
-  pub into : BuiltInto name target (Ok tt) image before after
-  pub output : GainsPart before.streams.output after.streams.output (built_line 0 0)
+pub record LineFails (name target : List ℕ) (budgets : BudgetSizes) (image : List ℕ) (before after : Outside) : Type 0
+    where
+  pub into : BuiltInto name target budgets (Ok tt) image before after
+  pub output : GainsPart before.streams.output after.streams.output (built_line into.built.checks 0)
 
-abbrev pub Builds : (name target : List ℕ) → Outcome → List ℕ → Outside → Outside → Type 0
-Builds name target Built image before after =
-    BuiltInto name target (Ok tt) image before after
-    × (after.streams.output ≡ gained before.streams.output (built_line 0 0))
-Builds name target WriteFault image before after = FileFails name target image before after
-    ⊎ LineFails name target image before after
-Builds name target (Refused refusal) image before after = RefusesSource name refusal before.files
-    × DoesNothing image before after
-Builds name target (outcomes.ReadFault reads.Failed) image before after = DoesNothing image before after
-Builds name target (outcomes.ReadFault (TooLong n most)) image before after = IsTooLong name max_source n most
-    before.files × DoesNothing image before after
-Builds name target Memory image before after = DoesNothing image before after
-Builds name target Usage image before after = ⊥
-Builds name target (Exited code) image before after = ⊥
-Builds name target (Limit n) image before after = ⊥
-Builds name target InputFault image before after = ⊥
-Builds name target (ImageRefused fault) image before after = ⊥
-Builds name target (Trap kind pc) image before after = ⊥
+-- the file holds the image, and the line was printed
+pub record IsBuiltAndTold (name target : List ℕ) (budgets : BudgetSizes) (image : List ℕ) (before after : Outside) : Type
+    0 where
+  pub into : BuiltInto name target budgets (Ok tt) image before after
+  pub output : after.streams.output ≡ gained before.streams.output (built_line into.built.checks 0)
+
+abbrev pub Builds : (name target : List ℕ) → BudgetSizes → Outcome → List ℕ → Outside → Outside → Type 0
+Builds name target budgets Built image before after = IsBuiltAndTold name target budgets image before after
+Builds name target budgets WriteFault image before after =
+    FileFails name target budgets image before after ⊎ LineFails name target budgets image before after
+Builds name target budgets (Refused refusal) image before after =
+    RefusesSource name budgets refusal before.files × DoesNothing image before after
+Builds name target budgets (outcomes.ReadFault reads.Failed) image before after = DoesNothing image before after
+Builds name target budgets (outcomes.ReadFault (TooLong n most)) image before after =
+    IsTooLong name max_source n most before.files × DoesNothing image before after
+Builds name target budgets Memory image before after = DoesNothing image before after
+Builds name target budgets Usage image before after = ⊥
+Builds name target budgets (Exited code) image before after = ⊥
+Builds name target budgets (Limit n) image before after = ⊥
+Builds name target budgets InputFault image before after = ⊥
+Builds name target budgets (ImageRefused fault) image before after = ⊥
+Builds name target budgets (Trap kind pc) image before after = ⊥
 
 -- the outcome of a run
 abbrev pub outcome_of : Stop → ℕ → Outcome
@@ -201,18 +213,19 @@ IsUnread name max Memory held = Unit {0}
 IsUnread name max outcome held = ⊥
 
 -- the outcomes of a command that got no image of a source
-abbrev pub IsUnbuilt : (name : List ℕ) → Outcome → Held → Type 0
-IsUnbuilt name (outcomes.ReadFault reads.Failed) held = Unit {0}
-IsUnbuilt name (outcomes.ReadFault (TooLong n most)) held = IsTooLong name max_source n most held
-IsUnbuilt name Memory held = Unit {0}
-IsUnbuilt name (Refused refusal) held = RefusesSource name refusal held
-IsUnbuilt name outcome held = ⊥
+abbrev pub IsUnbuilt : (name : List ℕ) → BudgetSizes → Outcome → Held → Type 0
+IsUnbuilt name budgets (outcomes.ReadFault reads.Failed) held = Unit {0}
+IsUnbuilt name budgets (outcomes.ReadFault (TooLong n most)) held = IsTooLong name max_source n most held
+IsUnbuilt name budgets Memory held = Unit {0}
+IsUnbuilt name budgets (Refused refusal) held = RefusesSource name budgets refusal held
+IsUnbuilt name budgets outcome held = ⊥
 
--- an image that was built from the source of this name
-pub record IsBuiltOf (name image : List ℕ) (held : Option (List ℕ → Option (List ℕ))) : Type 0 where
+-- what was built from the source of this name
+pub record IsBuiltOf (name : List ℕ) (budgets : BudgetSizes) (built : BuiltImage)
+    (held : Option (List ℕ → Option (List ℕ))) : Type 0 where
   pub source : List ℕ
   pub read : IsRead held name max_source source
-  pub built : IsBuiltFrom source image
+  pub is_built : IsBuiltFrom source budgets built
 
 -- the counts of the files beside a command that got nothing: reads rise with their own fault alone
 abbrev pub ReadCounts : Outcome → ℕ → ℕ → Type 0

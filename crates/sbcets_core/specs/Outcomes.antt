@@ -6,16 +6,20 @@ use Rattle.c_pre.specs.Faults.{number_of}
 use Rattle.elf_image.specs.Tests.{fault_number}
 use Rattle.rv_sim.specs.declared.trap.TrapKind.{TrapKind}
 use Rattle.rv_sim.specs.declared.trap.TrapKind.TheVariants.{Illegal, Access, Jump, Break, Call}
-use Rattle.sbcets_core.specs.declared.refusal.Counted.TheVariants.{Source}
+use Rattle.sbcets_core.specs.declared.refusal.Counted.{Counted}
+use Rattle.sbcets_core.specs.declared.refusal.Counted.TheVariants as counted
 use Rattle.sbcets_core.specs.declared.refusal.SourceRefusal.{SourceRefusal}
 use Rattle.sbcets_core.specs.declared.refusal.SourceRefusal.TheVariants.{Lex, Pre, Unsupported, Syntax, Nesting}
-use Rattle.sbcets_core.specs.declared.refusal.SourceRefusal.TheVariants.{TooLarge}
+use Rattle.sbcets_core.specs.declared.refusal.SourceRefusal.TheVariants.{Typing, Const, TooLarge, Uncompiled}
+use Rattle.sbcets_core.specs.declared.refusal.SourceRefusal.TheVariants.{RoomTooLarge, NumbersTooLarge}
+use Rattle.sbcets_core.specs.declared.refusal.SourceRefusal.TheVariants.{FunctionTooLong}
 use Rattle.sbcets_core.specs.declared.refusal.SourceRefusal.TheVariants as refusals
 use Rattle.sbcets_core.specs.declared.outcome.ReadFault.TheVariants.{Failed, TooLong}
 use Rattle.sbcets_core.specs.declared.outcome.Outcome.{Outcome}
 use Rattle.sbcets_core.specs.declared.outcome.Outcome.TheVariants.{Exited, Built, Usage, WriteFault, InputFault, Memory}
 use Rattle.sbcets_core.specs.declared.outcome.Outcome.TheVariants.{Limit, Refused, ImageRefused, Trap}
 use Rattle.sbcets_core.specs.declared.outcome.Outcome.TheVariants as outcomes
+use Rattle.sbcets_core.specs.Rules.{rule_number}
 
 abbrev pub status_of : Outcome → ℕ
 status_of (Exited code) = code
@@ -70,6 +74,9 @@ plain_line text = line_of text [] [] []
 abbrev pub numbered_line : List ℕ → ℕ → List ℕ → List ℕ
 numbered_line front n behind = line_of front (decimal n) behind []
 
+abbrev pub at_line : List ℕ → (line : ℕ) → List ℕ
+at_line front line = line_of front (codes " at line ") (decimal line) []
+
 abbrev pub trap_name : TrapKind → List ℕ
 trap_name Illegal = codes "illegal"
 trap_name Access = codes "access"
@@ -77,14 +84,29 @@ trap_name Jump = codes "jump"
 trap_name Break = codes "break"
 trap_name Call = codes "call"
 
+abbrev pub counted_name : Counted → List ℕ
+counted_name counted.Source = codes "source"
+counted_name counted.Functions = codes "functions"
+counted_name counted.Parameters = codes "parameters"
+counted_name counted.Members = codes "members"
+counted_name counted.Globals = codes "globals"
+counted_name counted.Code = codes "code"
+
 abbrev pub refusal_line : SourceRefusal → List ℕ
-refusal_line (Lex fault) = numbered_line (codes "lexical fault at line ") fault.line []
+refusal_line (Lex fault) = at_line (codes "lexical fault") fault.line
 refusal_line (Pre fault) = line_of (codes "directive fault ") (decimal (number_of fault.kind)) (codes " at line ")
     (decimal fault.line)
 refusal_line (Unsupported word line) = line_of (codes "unsupported ") word (codes " at line ") (decimal line)
-refusal_line (Syntax at line) = numbered_line (codes "syntax at line ") line []
-refusal_line (Nesting at line) = numbered_line (codes "nesting at line ") line []
-refusal_line (TooLarge Source n) = numbered_line (codes "source of ") n (codes " is too large")
+refusal_line (Syntax at line) = at_line (codes "syntax") line
+refusal_line (Nesting at line) = at_line (codes "nesting") line
+refusal_line (Typing fault) = line_of (codes "type rule ") (decimal (rule_number fault.rule)) (codes " at line ")
+    (decimal fault.line)
+refusal_line (Const line) = at_line (codes "not constant") line
+refusal_line (TooLarge which n) = line_of (counted_name which) (codes " of ") (decimal n) (codes " is too large")
+refusal_line (Uncompiled line) = at_line (codes "unsupported program") line
+refusal_line (RoomTooLarge number) = numbered_line (codes "room of function ") number (codes " is too large")
+refusal_line NumbersTooLarge = plain_line (codes "numbers of the code are too large")
+refusal_line (FunctionTooLong number) = numbered_line (codes "function ") number (codes " is too long")
 refusal_line refusals.Memory = plain_line (codes "out of memory")
 
 -- all but a program's own end, a build and a fault of writing have a line of the tool

@@ -2,14 +2,17 @@
 use Rattle.std.specs.Prelude.{◌≡◌, ◌⊎◌, ℕ, ◌≤◌, List, length, Option, Some, None, Ok}
 use Rattle.sb_outside.specs.Content.{gained, GainsPart}
 use Rattle.sb_outside.specs.Faults.{Rose}
+use Rattle.c_tree.specs.Programs.{Program}
 use Rattle.elf_image.specs.Tests.{image_fault}
+use Rattle.sbcets_core.specs.declared.refusal.Counted.TheVariants.{Code}
+use Rattle.sbcets_core.specs.declared.refusal.SourceRefusal.{SourceRefusal}
+use Rattle.sbcets_core.specs.declared.refusal.SourceRefusal.TheVariants.{NumbersTooLarge, TooLarge, FunctionTooLong}
 use Rattle.sbcets_core.specs.declared.outcome.ReadFault.TheVariants.{TooLong}
 use Rattle.sbcets_core.specs.declared.outcome.ReadFault.TheVariants as reads
 use Rattle.sbcets_core.specs.declared.outcome.Outcome.{Outcome}
 use Rattle.sbcets_core.specs.declared.outcome.Outcome.TheVariants.{Exited, Built, Usage, WriteFault, InputFault, Memory}
 use Rattle.sbcets_core.specs.declared.outcome.Outcome.TheVariants.{Limit, Refused, ImageRefused, Trap}
 use Rattle.sbcets_core.specs.declared.outcome.Outcome.TheVariants as outcomes
-use Rattle.sbcets_core.specs.Source.{SourceProgram}
 use Rattle.sbcets_core.specs.Outcomes.{max_source, max_image_file, HasLine, tool_line}
 use Rattle.sbcets_core.specs.Accepted.{Judges}
 use Rattle.command_line.specs.Asked.{Asked, build, run, go}
@@ -20,9 +23,10 @@ use Rattle.sbcets_core.specs.Commands.{Held, Outside, DoesNothing, Goes, Runs, B
 -- may
 -- keep them from being read.
 abbrev pub Does : Option Asked → Outcome → List ℕ → Outside → Outside → Type 0
-Does (Some (go name budgets limit)) outcome image before after = Goes name limit outcome image before after
+Does (Some (go name budgets limit)) outcome image before after = Goes name budgets limit outcome image before after
 Does (Some (run name limit)) outcome image before after = Runs name limit outcome image before after
-Does (Some (build name target budgets)) outcome image before after = Builds name target outcome image before after
+Does (Some (build name target budgets)) outcome image before after =
+    Builds name target budgets outcome image before after
 Does None outcome image before after = ((outcome ≡ Usage) ⊎ (outcome ≡ Memory)) × DoesNothing image before after
 
 -- all that is outside, with the counts of faults
@@ -74,7 +78,15 @@ Answers command WriteFault image before after =
     AnswersInFull command WriteFault image before after ⊎ AnswersInPart command image before after
 Answers command outcome image before after = AnswersInFull command outcome image before after
 
--- what a run can come to, and a build; the counts tell when a fault may come
+-- the refusals of an accepted source that is too large to be built
+abbrev pub IsRefusalBySize : SourceRefusal → Type 0
+IsRefusalBySize NumbersTooLarge = Unit {0}
+IsRefusalBySize (TooLarge Code bytes) = Unit {0}
+IsRefusalBySize (FunctionTooLong number) = Unit {0}
+IsRefusalBySize refusal = ⊥
+
+-- what a run of an image can come to, that of an accepted source, and a build of it; the counts tell when a fault may
+-- come
 abbrev pub IsOfRun : Outcome → Type 0
 IsOfRun (Exited code) = Unit {0}
 IsOfRun (Limit n) = Unit {0}
@@ -85,7 +97,12 @@ IsOfRun (Trap kind pc) = Unit {0}
 IsOfRun (outcomes.ReadFault reads.Failed) = Unit {0}
 IsOfRun outcome = ⊥
 
+abbrev pub IsOfGo : Outcome → Type 0
+IsOfGo (Refused refusal) = IsRefusalBySize refusal
+IsOfGo outcome = IsOfRun outcome
+
 abbrev pub IsOfBuild : Outcome → Type 0
+IsOfBuild (Refused refusal) = IsRefusalBySize refusal
 IsOfBuild Built = Unit {0}
 IsOfBuild Memory = Unit {0}
 IsOfBuild WriteFault = Unit {0}
@@ -99,7 +116,7 @@ pub record IsAcceptedFile (held : Option (List ℕ → Option (List ℕ))) (name
   pub source : List ℕ
   pub there : files name ≡ Some source
   pub short : length source ≤ max_source
-  pub program : SourceProgram
+  pub program : Program
   pub accepts : Judges source (Ok program)
 
 -- a file that is told, is there, not too long, and a readable image
@@ -111,9 +128,9 @@ pub record IsReadableFile (held : Option (List ℕ → Option (List ℕ))) (name
   pub short : length image ≤ max_image_file
   pub readable : image_fault image ≡ None
 
--- THE ANSWER IS COMPLETE: nothing but a fault or want of memory keeps a command from its end
+-- THE ANSWER IS COMPLETE: nothing but a fault, want of memory or a refusal by size keeps a command from its end
 abbrev pub IsComplete : Option Asked → Outcome → Held → Type 0
-IsComplete (Some (go name budgets limit)) outcome held = IsAcceptedFile held name → IsOfRun outcome
+IsComplete (Some (go name budgets limit)) outcome held = IsAcceptedFile held name → IsOfGo outcome
 IsComplete (Some (run name limit)) outcome held = IsReadableFile held name → IsOfRun outcome
 IsComplete (Some (build name target budgets)) outcome held = IsAcceptedFile held name → IsOfBuild outcome
 IsComplete None outcome held = Unit {0}

@@ -4,7 +4,8 @@ use Rattle.c_lexer.specs.Spelled.{TokenList}
 use Rattle.c_syntax.specs.Statements as statements
 use Rattle.c_parser.specs.Parsed.{IsTreeOf, HasNoTree}
 use Rattle.sbcets_core.specs.declared.refusal.SourceRefusal.TheVariants.{Syntax, Nesting}
-use Rattle.sbcets_core.specs.Accepted.{Judged, supported_tokens}
+use Rattle.sbcets_core.specs.Programs.{Judged}
+use Rattle.sbcets_core.specs.Accepted.{supported_tokens}
 
 -- the source has expanded tokens, none of them unsupported, and no well-formed file is written with them
 pub record HasTokensAlone (source : List ℕ) : Type 0 where

@@ -14,26 +14,29 @@ use crate::outcome::{Outcome, ReadFault};
 use crate::refusal::SourceRefusal;
 use crate::report::put_pieces;
 use elf_image::{Image, ReadError};
+use integer_compiler::Built;
 use itoa::Buffer;
 use rv_sim::{Machine, Stop};
+use sb_base::Budgets;
 use sb_outside::{Failed, FileFault, Files, Sink, Source};
 use std::alloc::Global;
 
 // The largest image that is read, in bytes.
 const MAX_IMAGE: u64 = 67_108_864;
 
-/// `go`: reads a source, compiles it, and runs the image, at most `limit` instructions of it.
+/// `go`: reads a source, compiles it with these budgets, and runs the image, at most `limit` instructions of it.
 #[tactic(auto, using(crate::proofs::Cases::unbuilt_goes, crate::proofs::Cases::went_goes, crate::proofs::Cases::unbuilt_counts, crate::proofs::Cases::ran_counts))]
 pub fn go<F: Files, I: Source, O: Sink, E: Sink>(
     alloc: Global,
     name: &str,
+    budgets: &Budgets,
     limit: u64,
     files: &mut F,
     input: &mut I,
     output: &mut O,
     errors: &mut E,
 ) -> (Outcome, Vec<u8>)
-    ensures goes { Goes name.now limit result.0 result.1.items
+    ensures goes { Goes name.now budgets.now limit result.0 result.1.items
         (outside_of (F.held files.old) (F.writes files.old) (I.rest input.old)
         (O.taken output.old) (E.taken errors.old))
         (outside_of (F.held files.new) (F.writes files.new) (I.rest input.new)
@@ -44,12 +47,12 @@ pub fn go<F: Files, I: Source, O: Sink, E: Sink>(
         (counts_of (F.read_faults files.new) (F.write_faults files.new) (I.faults input.new)
         (O.faults output.new) (E.faults errors.new)) }
 {
-    let image = match built_of(alloc, name, files) {
-        Ok(image) => image,
+    let built = match built_of(alloc, name, budgets, files) {
+        Ok(built) => built,
         Err(outcome) => return (outcome, Vec::new(alloc)),
     };
-    match run_image(alloc, &image, limit, input, output, errors) {
-        Ok(stop) => (outcome_of(stop, limit), image),
+    match run_image(alloc, &built.image, limit, input, output, errors) {
+        Ok(stop) => (outcome_of(stop, limit), built.image),
         Err(ReadError::Memory) => (Outcome::Memory, Vec::new(alloc)),
         Err(ReadError::Fault(_)) => unreachable!(),
     }
@@ -88,31 +91,32 @@ pub fn run<F: Files, I: Source, O: Sink, E: Sink>(
     }
 }
 
-/// `build`: reads a source, compiles it, writes the image into a file, and prints the numbers of
-/// checks, none in this stage.
+/// `build`: reads a source, compiles it with these budgets, writes the image into a file, and prints how many checks it
+/// has; none is dropped yet.
 #[tactic(auto, using(crate::proofs::Cases::unbuilt_builds, crate::proofs::Cases::unbuilt_counts))]
 pub fn build<F: Files, O: Sink>(
     alloc: Global,
     name: &str,
     target: &str,
+    budgets: &Budgets,
     files: &mut F,
     output: &mut O,
 ) -> Outcome
-    ensures builds { (input : Rest) (errors : Option (List ℕ)) → Builds name.now target.now result []
+    ensures builds { (input : Rest) (errors : Option (List ℕ)) → Builds name.now target.now budgets.now result []
         (outside_of (F.held files.old) (F.writes files.old) input (O.taken output.old) errors)
         (outside_of (F.held files.new) (F.writes files.new) input (O.taken output.new) errors) }
     ensures counts { (input errors : ℕ) → CommandCounts result
         (counts_of (F.read_faults files.old) (F.write_faults files.old) input (O.faults output.old) errors)
         (counts_of (F.read_faults files.new) (F.write_faults files.new) input (O.faults output.new) errors) }
 {
-    let image = match built_of(alloc, name, files) {
-        Ok(image) => image,
+    let built = match built_of(alloc, name, budgets, files) {
+        Ok(built) => built,
         Err(outcome) => return outcome,
     };
-    if let Err(Failed) = files.write(target, &image) {
+    if let Err(Failed) = files.write(target, &built.image) {
         return Outcome::WriteFault;
     }
-    match put_built_line(output, 0, 0) {
+    match put_built_line(output, built.checks, 0) {
         Ok(()) => Outcome::Built,
         Err(_) => Outcome::WriteFault,
     }
@@ -137,11 +141,16 @@ fn read_of<F: Files>(alloc: Global, name: &str, max: u64, files: &mut F) -> Resu
     }
 }
 
-// The image that is built from the source of a name, or the outcome without it.
+// What is built from the source of a name, or the outcome without it.
 #[tactic(auto, using(crate::proofs::Cases::unread_unbuilt))]
-fn built_of<F: Files>(alloc: Global, name: &str, files: &mut F) -> Result<Vec<u8>, Outcome>
-    ensures built { IfOk result (λ image. IsBuiltOf name.now image.items (F.held files.old)) }
-    ensures unbuilt { IfErr result (λ outcome. IsUnbuilt name.now outcome (F.held files.old)) }
+fn built_of<F: Files>(
+    alloc: Global,
+    name: &str,
+    budgets: &Budgets,
+    files: &mut F,
+) -> Result<Built, Outcome>
+    ensures built { IfOk result (λ built. IsBuiltOf name.now budgets.now built (F.held files.old)) }
+    ensures unbuilt { IfErr result (λ outcome. IsUnbuilt name.now budgets.now outcome (F.held files.old)) }
     ensures files { F.held files.new ≡ F.held files.old }
     ensures ok_counts { OnOk result (F.read_faults files.new ≡ F.read_faults files.old) }
     ensures err_counts { IfErr result
@@ -153,8 +162,8 @@ fn built_of<F: Files>(alloc: Global, name: &str, files: &mut F) -> Result<Vec<u8
         Ok(source) => source,
         Err(outcome) => return Err(outcome),
     };
-    match compile(alloc, &source) {
-        Ok(image) => Ok(image),
+    match compile(alloc, &source, budgets) {
+        Ok(built) => Ok(built),
         Err(SourceRefusal::Memory) => Err(Outcome::Memory),
         Err(refusal) => Err(Outcome::Refused(refusal)),
     }

@@ -1,61 +1,91 @@
 //! From a source text to an image.
-ghost use Rattle.std.specs.Prelude.{◌≡◌, ◌≤◌, length, None, Ok, Err, IfOk, IfErr, OnOk};
+ghost use Rattle.std.specs.Prelude.{◌≡◌, ℕ, None, Ok, Err, IfOk, IfErr, OnOk};
 ghost use Rattle.c_lexer.specs.Spelled.{TokenList};
 ghost use Rattle.c_syntax.specs.StatementsView.{unit_of};
 ghost use Rattle.c_parser.specs.Parsed.{IsSupported, IsTreeOf, Parses};
 ghost use Rattle.c_parser.specs.Unsupported.{first_unsupported};
-ghost use Rattle.sbcets_core.specs.Accepted.{Compiles, JudgesReadable, UnlessMemory, expanded_tokens, with_support};
+ghost use Rattle.c_tree.specs.View.{program_of};
+ghost use Rattle.c_typer.specs.Refused.{IsCauseOf, UnlessMemory as UnlessUntyped};
+ghost use Rattle.c_unit_typing.specs.Typed.{TypedUnit};
+ghost use Rattle.sbcets_core.specs.Accepted.{Compiles, HasProgram, JudgesReadable, Judges, UnlessMemory, IsOfSize};
+ghost use Rattle.sbcets_core.specs.Accepted.{expanded_tokens, with_support};
+ghost use Rattle.sbcets_core.specs.Programs.{counted_as, judged_unit};
 
-use crate::generator::image_of;
 use crate::refusal::{Counted, RefusedWord, SourceRefusal};
-use crate::support::part_of;
+use crate::typed_program::test;
 use c_lexer::{LexError, Tokens, lex};
 use c_parser::{ParseFault, parse};
 use c_pre::{PreError, expand};
 use c_syntax::Unit;
+use c_tree::Program;
+use c_typer::{UnitRefusal, type_unit};
+use c_unit_typing::limits::Limited;
+use integer_compiler::{Built, CompileError};
+use sb_base::{Budgets, Line};
 use std::alloc::Global;
 
 /// The largest source that is read, in bytes.
 pub const MAX_SOURCE: u64 = 1_048_576;
 
-/// The image of a source, faithful to what the source means; or why the source is refused: it is too
-/// large, else it has no tokens, else a directive is at fault, else a word of it is unsupported, else it has no tree,
-/// else a word of
-/// it is not supported.
-#[tactic(auto, using(crate::proofs::Judging::accepts, crate::proofs::Judging::refused_early, crate::proofs::Judging::refused_unparsed, crate::proofs::Judging::refused_by_part))]
-pub fn compile(alloc: Global, source: &[u8]) -> Result<Vec<u8>, SourceRefusal>
-    ensures { Compiles source.now result }
+/// The image of a source, which does what the source means with these budgets, and the number of its checks; or why the
+/// source is refused, for the first of the causes in the order of `SourceRefusal`.
+#[tactic(auto, using(crate::proofs::Typing::accepted_is_fine))]
+pub fn compile(
+    alloc: Global,
+    source: &[u8],
+    budgets: &Budgets,
+) -> Result<Built, SourceRefusal>
+    ensures { Compiles source.now budgets.now result }
+{
+    let program = match accepted(alloc, source) {
+        Ok(program) => program,
+        Err(refusal) => return Err(refusal),
+    };
+    match integer_compiler::compile(alloc, budgets, &program) {
+        Ok(built) => Ok(built),
+        Err(error) => Err(size_refusal(error)),
+    }
+}
+
+// The refusal of what is too large to be built.
+fn size_refusal(error: CompileError) -> SourceRefusal
+    ensures { UnlessMemory result (IsOfSize error result) }
+{
+    match error {
+        CompileError::NumbersTooLarge => SourceRefusal::NumbersTooLarge,
+        CompileError::TooLarge(count) => SourceRefusal::TooLarge {
+            which: Counted::Code,
+            count,
+        },
+        CompileError::FunctionTooLong(number) => SourceRefusal::FunctionTooLong(number),
+        CompileError::Memory => SourceRefusal::Memory,
+    }
+}
+
+// The program of a source that is accepted.
+#[tactic(auto, using(crate::proofs::Judging::source_judged, crate::proofs::Judging::source_refused, crate::proofs::Judging::refused_early))]
+fn accepted(alloc: Global, source: &[u8]) -> Result<Program, SourceRefusal>
+    ensures ok { IfOk result (λ program. Judges source.now (Ok (program_of program))) }
+    ensures err { IfErr result (λ refusal. UnlessMemory refusal (Judges source.now (Err refusal))) }
 {
     let tokens = match expanded_tokens(alloc, source) {
         Ok(tokens) => tokens,
         Err(refusal) => return Err(refusal),
     };
-    let _tree = match tree_of(alloc, &tokens) {
-        Ok(tree) => tree,
-        Err(refusal) => return Err(refusal),
-    };
-    let program = match part_of(alloc, &tokens) {
-        Ok(program) => program,
-        Err(refusal) => return Err(refusal),
-    };
-    match image_of(alloc, &program) {
-        Ok(image) => Ok(image),
-        Err(_) => Err(SourceRefusal::Memory),
-    }
+    accepted_of(alloc, &tokens)
 }
 
 // The expanded tokens of a source.
 #[tactic(auto, unfolding(crate::specs::Accepted::expanded_tokens))]
 fn expanded_tokens<'a>(alloc: Global, source: &'a [u8]) -> Result<Tokens<'a>, SourceRefusal>
     ensures ok { IfOk result (λ tokens. expanded_tokens source.now ≡ Ok tokens) }
-    ensures few { IfOk result (λ tokens. length tokens.tokens ≤ 1048576) }
     ensures err { IfErr result (λ refusal. UnlessMemory refusal (expanded_tokens source.now ≡ Err refusal)) }
 {
     let count = source.len() as u64;
     if count > MAX_SOURCE {
         return Err(SourceRefusal::TooLarge {
             which: Counted::Source,
-            count,
+            count: u128::from(count),
         });
     }
     let tokens = match lex(alloc, source) {
@@ -70,6 +100,67 @@ fn expanded_tokens<'a>(alloc: Global, source: &'a [u8]) -> Result<Tokens<'a>, So
     }
 }
 
+// The program of expanded tokens that are accepted.
+#[tactic(auto, using(crate::proofs::Judging::program_judged, crate::proofs::Judging::program_refused))]
+fn accepted_of(alloc: Global, tokens: &Tokens) -> Result<Program, SourceRefusal>
+    ensures ok { IfOk result (λ program. JudgesReadable (with_support tokens.now) (Ok (program_of program))) }
+    ensures err { IfErr result
+        (λ refusal. UnlessMemory refusal (JudgesReadable (with_support tokens.now) (Err refusal))) }
+{
+    let program = match typed_of(alloc, tokens) {
+        Ok(program) => program,
+        Err(refusal) => return Err(refusal),
+    };
+    match test(alloc, tokens.end(), &program) {
+        Ok(()) => Ok(program),
+        Err(refusal) => Err(refusal),
+    }
+}
+
+// The typed program of expanded tokens.
+fn typed_of(alloc: Global, tokens: &Tokens) -> Result<Program, SourceRefusal>
+    ensures ok { IfOk result (λ program. HasProgram tokens.now (program_of program)) }
+    ensures err { IfErr result
+        (λ refusal. UnlessMemory refusal (JudgesReadable (with_support tokens.now) (Err refusal))) }
+{
+    let tree = match tree_of(alloc, tokens) {
+        Ok(tree) => tree,
+        Err(refusal) => return Err(refusal),
+    };
+    match type_unit(alloc, tokens.end(), &tree) {
+        Ok(program) => Ok(program),
+        Err(refusal) => Err(typing_refusal(refusal)),
+    }
+}
+
+// The refusal of a file that has no typed program.
+#[tactic(auto, using(crate::proofs::Judging::room_refused))]
+fn typing_refusal(refusal: UnitRefusal) -> SourceRefusal
+    ensures { (end : ℕ) (typed : TypedUnit) → UnlessUntyped refusal (IsCauseOf refusal typed) →
+        UnlessMemory result (judged_unit end typed ≡ Err result) }
+{
+    match refusal {
+        UnitRefusal::Fault(fault) => SourceRefusal::Typing(fault),
+        UnitRefusal::TooLarge(which, count) => SourceRefusal::TooLarge {
+            which: counted_as(which),
+            count,
+        },
+        UnitRefusal::RoomTooLarge(number) => SourceRefusal::RoomTooLarge(number),
+        UnitRefusal::Memory => SourceRefusal::Memory,
+    }
+}
+
+fn counted_as(which: Limited) -> Counted
+    ensures { result ≡ counted_as which }
+{
+    match which {
+        Limited::Functions => Counted::Functions,
+        Limited::Parameters => Counted::Parameters,
+        Limited::Members => Counted::Members,
+        Limited::Globals => Counted::Globals,
+    }
+}
+
 // The tree of the tokens, of which none is unsupported.
 fn tree_of<'a>(alloc: Global, tokens: &Tokens<'a>) -> Result<Unit<'a>, SourceRefusal>
     ensures ok { IfOk result (λ tree. IsTreeOf tokens.now.tokens (unit_of tree)) }
@@ -79,13 +170,13 @@ fn tree_of<'a>(alloc: Global, tokens: &Tokens<'a>) -> Result<Unit<'a>, SourceRef
 {
     match parse(alloc, tokens) {
         Ok(tree) => Ok(tree),
-        Err(fault) => Err(refusal_of(alloc, fault)),
+        Err(fault) => Err(parse_refusal(alloc, fault)),
     }
 }
 
 // The refusal of a text that the parser refuses.
 #[tactic(auto, using(crate::proofs::Judging::judged_supported, crate::proofs::Judging::judged_unsupported))]
-fn refusal_of(alloc: Global, fault: ParseFault) -> SourceRefusal
+fn parse_refusal(alloc: Global, fault: ParseFault) -> SourceRefusal
     ensures { (list : TokenList) → Parses list (Err fault) → IsSupported list (Err fault) →
         UnlessMemory result (JudgesReadable (with_support list) (Err result)) }
 {

@@ -1,6 +1,7 @@
 //! Why a source is refused.
 use c_lexer::LexFault;
 use c_pre::PreFault;
+use c_rules::Fault;
 use sb_base::Line;
 use std::alloc::{AllocError, Global};
 use std::marker::Model;
@@ -9,8 +10,18 @@ use thiserror::Error;
 /// What there is too much of.
 #[derive(Clone, Copy, Debug, PartialEq, Eq)]
 pub enum Counted {
-    /// Bytes of the source.
+    /// Bytes of the source, at most 1048576.
     Source,
+    /// Functions that are defined, at most 4096.
+    Functions,
+    /// Parameters of a function declarator, at most 127.
+    Parameters,
+    /// Members of a structure or union, at most 1024.
+    Members,
+    /// Bytes of the static objects, in whole pages of 4096, at most 4194304.
+    Globals,
+    /// Bytes of the compiled code, at most 8388608.
+    Code,
 }
 
 /// The word of a refusal: a copy of the bytes that spell a token. Contracts see the list of the bytes.
@@ -47,8 +58,10 @@ impl RefusedWord {
     }
 }
 
-/// Why a source is refused. First comes `TooLarge`; then a lexical fault, a fault of a directive, an unsupported word
-/// (`Unsupported`), `Syntax` or `Nesting`, and last what is of no part that is compiled (`Unsupported` again).
+/// Why a source is refused. First comes `TooLarge` of the source's bytes; then a lexical fault, a fault of a directive,
+/// an unsupported word, `Syntax` or `Nesting`; then a violated rule of typing (or `RoomTooLarge`), an initializer that is
+/// not constant, `TooLarge` of functions, parameters, members or globals, in this order; then `Uncompiled`, and last what
+/// is too large to be built.
 #[derive(Debug, Drop, Error)]
 pub enum SourceRefusal {
     /// The first place where no token stands.
@@ -58,15 +71,8 @@ pub enum SourceRefusal {
     #[error("a directive of the source is at fault")]
     Pre(PreFault),
     /// The first of the expanded tokens that is of no part of C that is compiled: `float`, `double`, `_Bool`,
-    /// `_Complex`,
-    /// `_Imaginary`, `volatile`, `restrict`, `goto`, `...` or a wide literal (the word `L`). Or, in a source without
-    /// such a
-    /// word that has a tree, the first with which the tokens so far begin no text of the part; no word, and the line of
-    /// the
-    /// end, where the text ends too early. (A text of the part that ends too early has no tree, so the last does not
-    /// come;
-    /// no clause says so.)
-    #[error("the source is not of the part that is compiled")]
+    /// `_Complex`, `_Imaginary`, `volatile`, `restrict`, `goto`, `...` or a wide literal (the word `L`).
+    #[error("the source has a word that is not supported")]
     Unsupported(RefusedWord, Line),
     /// No well-formed tree of at most 200 levels has the expanded tokens (C99 6.5 to 6.9), and those up to the one
     /// where the
@@ -86,12 +92,32 @@ pub enum SourceRefusal {
         /// The line of that token, or that on which the text ends.
         line: Line,
     },
+    /// The first typing rule that is violated, in the order of the tokens, with the line of the token at which it is.
+    #[error("the source violates a rule of typing")]
+    Typing(Fault),
+    /// The first expression that the initializer of a static object stores and that is not constant (C99 6.7.8
+    /// paragraph 4) is on this line.
+    #[error("an initializer of the source is not constant")]
+    Const(Line),
     /// There is more of something than its limit, and how much there is.
     #[error("there is too much of something in the source")]
     TooLarge {
         which: Counted,
-        count: u64,
+        count: u128,
     },
+    /// The source is typed, but no valid program of integers alone: it has an object, a pointer, a structure or a
+    /// library function other than `putchar`, `getchar`, `exit` and `abort`. The text ends on this line.
+    #[error("the program of the source is not compiled yet")]
+    Uncompiled(Line),
+    /// The function with this number has a room of 2^64 bytes or more.
+    #[error("a function of the source has too much room")]
+    RoomTooLarge(usize),
+    /// A function has 2^32 virtual registers or more, or 2^31 instructions or more, or a room of 2^32 bytes or more.
+    #[error("the numbers of a function are too large")]
+    NumbersTooLarge,
+    /// The function with this number has 2^28 words of code or more, if each branch and jump has its longest form.
+    #[error("a function of the source is too long")]
+    FunctionTooLong(u32),
     /// There was no memory to compile it.
     #[error("out of memory")]
     Memory,

@@ -1,15 +1,18 @@
 //! The tool's own line, put without memory.
-ghost use Rattle.std.specs.Prelude.{◌≡◌, ◌<◌, ◌≤◌, ◌++◌, [], ◌==◌, drop, length, flat_map, decimal, OnOk, OnErr};
+ghost use Rattle.std.specs.Prelude.{◌≡◌, ◌<◌, ◌≤◌, ◌++◌, [], ◌==◌, drop, length, flat_map, decimal};
+ghost use Rattle.std.specs.Prelude.{OnOk, OnErr};
 ghost use Rattle.std.specs.List.{prefix_len};
 ghost use Rattle.sb_outside.specs.Content.{gained, GainsPart};
 ghost use Rattle.sb_outside.specs.Faults.{CountsFaults};
 ghost use Rattle.sbcets_core.specs.Outcomes.{HasLine, tool_line, refusal_line, trap_name, line_of, plain_line};
-ghost use Rattle.sbcets_core.specs.Outcomes.{numbered_line, hexadecimal, sixteen_digits, zeros_in_front, digit_at};
-ghost use Rattle.sbcets_core.specs.Outcomes.{hexadecimal_digit};
+ghost use Rattle.sbcets_core.specs.Outcomes.{at_line, numbered_line, hexadecimal, sixteen_digits, zeros_in_front};
+ghost use Rattle.sbcets_core.specs.Outcomes.{digit_at, hexadecimal_digit, counted_name};
+ghost use Rattle.sbcets_core.specs.Rules.{rule_number};
 
 use crate::outcome::{Outcome, ReadFault};
 use crate::refusal::{Counted, SourceRefusal};
 use c_pre::PreFault;
+use c_rules::{Fault, Rule};
 use itoa::Buffer;
 use rv_sim::TrapKind;
 use sb_base::Line;
@@ -27,14 +30,14 @@ pub fn report<S: Sink>(sink: &mut S, outcome: &Outcome) -> Result<(), Failed>
         Outcome::Usage => put_plain(sink, b"usage"),
         Outcome::ReadFault(ReadFault::Failed) => put_plain(sink, b"cannot read"),
         Outcome::ReadFault(ReadFault::TooLong { max, .. }) => {
-            put_numbered(sink, b"file of more than ", *max, b" bytes")
+            put_numbered(sink, b"file of more than ", u128::from(*max), b" bytes")
         }
         Outcome::InputFault => put_plain(sink, b"cannot read input"),
         Outcome::Memory => put_plain(sink, b"out of memory"),
-        Outcome::Limit(n) => put_numbered(sink, b"limit of ", *n, b" instructions"),
+        Outcome::Limit(n) => put_numbered(sink, b"limit of ", u128::from(*n), b" instructions"),
         Outcome::Refused(refusal) => report_refusal(sink, refusal),
         Outcome::ImageRefused(fault) => {
-            put_numbered(sink, b"image fault ", u64::from(fault.number()), b"")
+            put_numbered(sink, b"image fault ", u128::from(fault.number()), b"")
         }
         Outcome::Trap { kind, pc } => report_trap(sink, *kind, *pc),
     }
@@ -46,27 +49,27 @@ fn report_refusal<S: Sink>(sink: &mut S, refusal: &SourceRefusal) -> Result<(), 
     ensures cause { CountsFaults (S.faults sink.old) (S.faults sink.new) result }
 {
     match refusal {
-        SourceRefusal::Lex(fault) => {
-            let line = u64::from(fault.line.number());
-            put_numbered(sink, b"lexical fault at line ", line, b"")
-        }
-        SourceRefusal::Pre(fault) => report_fault(sink, *fault),
+        SourceRefusal::Lex(fault) => put_at_line(sink, b"lexical fault", fault.line),
+        SourceRefusal::Pre(fault) => report_directive(sink, *fault),
         SourceRefusal::Unsupported(word, line) => report_word(sink, word.bytes(), *line),
-        SourceRefusal::Syntax { line, .. } => {
-            put_numbered(sink, b"syntax at line ", u64::from(line.number()), b"")
+        SourceRefusal::Syntax { line, .. } => put_at_line(sink, b"syntax", *line),
+        SourceRefusal::Nesting { line, .. } => put_at_line(sink, b"nesting", *line),
+        SourceRefusal::Typing(fault) => report_rule(sink, *fault),
+        SourceRefusal::Const(line) => put_at_line(sink, b"not constant", *line),
+        SourceRefusal::TooLarge { which, count } => report_count(sink, *which, *count),
+        SourceRefusal::Uncompiled(line) => put_at_line(sink, b"unsupported program", *line),
+        SourceRefusal::RoomTooLarge(number) => {
+            put_numbered(sink, b"room of function ", *number as u128, b" is too large")
         }
-        SourceRefusal::Nesting { line, .. } => {
-            put_numbered(sink, b"nesting at line ", u64::from(line.number()), b"")
+        SourceRefusal::NumbersTooLarge => put_plain(sink, b"numbers of the code are too large"),
+        SourceRefusal::FunctionTooLong(number) => {
+            put_numbered(sink, b"function ", u128::from(*number), b" is too long")
         }
-        SourceRefusal::TooLarge {
-            which: Counted::Source,
-            count,
-        } => { put_numbered(sink, b"source of ", *count, b" is too large") }
         SourceRefusal::Memory => put_plain(sink, b"out of memory"),
     }
 }
 
-fn report_fault<S: Sink>(sink: &mut S, fault: PreFault) -> Result<(), Failed>
+fn report_directive<S: Sink>(sink: &mut S, fault: PreFault) -> Result<(), Failed>
     ensures ok { OnOk result (S.taken sink.new ≡ gained (S.taken sink.old) (refusal_line (SourceRefusal.Pre fault))) }
     ensures err { OnErr result
         (GainsPart (S.taken sink.old) (S.taken sink.new) (refusal_line (SourceRefusal.Pre fault))) }
@@ -89,6 +92,32 @@ fn report_word<S: Sink>(sink: &mut S, word: &[u8], line: Line) -> Result<(), Fai
     let mut digits = Buffer::new();
     let line = digits.format(u64::from(line.number())).as_bytes();
     put_line(sink, b"unsupported ", word, b" at line ", line)
+}
+
+fn report_rule<S: Sink>(sink: &mut S, fault: Fault) -> Result<(), Failed>
+    ensures ok { OnOk result
+        (S.taken sink.new ≡ gained (S.taken sink.old) (refusal_line (SourceRefusal.Typing fault))) }
+    ensures err { OnErr result
+        (GainsPart (S.taken sink.old) (S.taken sink.new) (refusal_line (SourceRefusal.Typing fault))) }
+    ensures cause { CountsFaults (S.faults sink.old) (S.faults sink.new) result }
+{
+    let mut rule = Buffer::new();
+    let mut line = Buffer::new();
+    let rule = rule.format(rule_number(fault.rule)).as_bytes();
+    let line = line.format(fault.line.number()).as_bytes();
+    put_line(sink, b"type rule ", rule, b" at line ", line)
+}
+
+fn report_count<S: Sink>(sink: &mut S, which: Counted, count: u128) -> Result<(), Failed>
+    ensures ok { OnOk result
+        (S.taken sink.new ≡ gained (S.taken sink.old) (refusal_line (SourceRefusal.TooLarge which count))) }
+    ensures err { OnErr result
+        (GainsPart (S.taken sink.old) (S.taken sink.new) (refusal_line (SourceRefusal.TooLarge which count))) }
+    ensures cause { CountsFaults (S.faults sink.old) (S.faults sink.new) result }
+{
+    let mut digits = Buffer::new();
+    let count = digits.format(count).as_bytes();
+    put_line(sink, counted_name(which), b" of ", count, b" is too large")
 }
 
 #[tactic(auto, unfolding(crate::specs::Outcomes::hexadecimal))]
@@ -119,6 +148,55 @@ fn trap_name(kind: TrapKind) -> &'static [u8]
     }
 }
 
+fn counted_name(which: Counted) -> &'static [u8]
+    ensures { result.now ≡ counted_name which }
+{
+    match which {
+        Counted::Source => b"source",
+        Counted::Functions => b"functions",
+        Counted::Parameters => b"parameters",
+        Counted::Members => b"members",
+        Counted::Globals => b"globals",
+        Counted::Code => b"code",
+    }
+}
+
+// The number of a rule, 0 to 27.
+fn rule_number(rule: Rule) -> u8
+    ensures { result ≡ rule_number rule }
+{
+    match rule {
+        Rule::NoMain => 0,
+        Rule::UndefinedFunction => 1,
+        Rule::Undeclared => 2,
+        Rule::Redeclared => 3,
+        Rule::MistakenTag => 4,
+        Rule::Incomplete => 5,
+        Rule::MisplacedFunction => 6,
+        Rule::NoConstant => 7,
+        Rule::LargeType => 8,
+        Rule::RepeatedMember => 9,
+        Rule::NoMember => 10,
+        Rule::NoTarget => 11,
+        Rule::NoAddress => 12,
+        Rule::NotAssignable => 13,
+        Rule::Operands => 14,
+        Rule::NoConversion => 15,
+        Rule::NoCast => 16,
+        Rule::NoCallee => 17,
+        Rule::ArgumentCount => 18,
+        Rule::NoCondition => 19,
+        Rule::MistakenReturn => 20,
+        Rule::MisplacedLabel => 21,
+        Rule::MisplacedItem => 22,
+        Rule::LibraryName => 23,
+        Rule::MistakenFormat => 24,
+        Rule::StructureValue => 25,
+        Rule::MisplacedStorage => 26,
+        Rule::ArrayOfValue => 27,
+    }
+}
+
 fn put_plain<S: Sink>(sink: &mut S, text: &[u8]) -> Result<(), Failed>
     ensures ok { OnOk result (S.taken sink.new ≡ gained (S.taken sink.old) (plain_line text.now)) }
     ensures err { OnErr result (GainsPart (S.taken sink.old) (S.taken sink.new) (plain_line text.now)) }
@@ -130,7 +208,7 @@ fn put_plain<S: Sink>(sink: &mut S, text: &[u8]) -> Result<(), Failed>
 fn put_numbered<S: Sink>(
     sink: &mut S,
     front: &[u8],
-    number: u64,
+    number: u128,
     behind: &[u8],
 ) -> Result<(), Failed>
     ensures ok { OnOk result
@@ -142,6 +220,16 @@ fn put_numbered<S: Sink>(
     let mut buffer = Buffer::new();
     let digits = buffer.format(number);
     put_line(sink, front, digits.as_bytes(), behind, b"")
+}
+
+fn put_at_line<S: Sink>(sink: &mut S, front: &[u8], line: Line) -> Result<(), Failed>
+    ensures ok { OnOk result (S.taken sink.new ≡ gained (S.taken sink.old) (at_line front.now line)) }
+    ensures err { OnErr result (GainsPart (S.taken sink.old) (S.taken sink.new) (at_line front.now line)) }
+    ensures cause { CountsFaults (S.faults sink.old) (S.faults sink.new) result }
+{
+    let mut buffer = Buffer::new();
+    let digits = buffer.format(line.number()).as_bytes();
+    put_line(sink, front, b" at line ", digits, b"")
 }
 
 #[tactic(auto, unfolding(crate::specs::Outcomes::line_of))]

@@ -14,7 +14,7 @@ use sb_outside::{Files, Sink, Source};
 use std::alloc::Global;
 
 /// Does all that the program does. `words` are those after the program's name: `build SRC IMAGE`
-/// compiles the file SRC and leaves the image in the file IMAGE; `run IMAGE` runs an image; `go SRC`
+/// compiles the file SRC with some budgets and leaves the image in the file IMAGE; `run IMAGE` runs an image; `go SRC`
 /// compiles and runs. The bytes that are returned are the image that `go` built and ran, else there
 /// are none.
 ///
@@ -48,7 +48,8 @@ pub fn sbcets<F: Files, I: Source, O: Sink, E: Sink>(
               (O.faults output.new) (E.faults errors.new);
         }) }
 
-    // An accepted source is built and runs, and a readable image runs, where nothing fails and memory is there.
+    // An accepted source is built and runs, unless it is too large to be built, and a readable image runs, where nothing
+    // fails and memory is there.
     ensures complete { IsComplete (commanded words.now) result.0 (F.held files.old) }
 {
     let (outcome, image) = do_command(alloc, words, files, input, output, errors);
@@ -89,16 +90,23 @@ fn do_command<F: Files, I: Source, O: Sink, E: Sink>(
         (O.faults output.new) (E.faults errors.new)) }
 {
     match command(alloc, words) {
-        Ok(Command::Build { source, image, .. }) => {
-            (build(alloc, source, image, files, output), Vec::new(alloc))
-        }
+        Ok(Command::Build {
+            source,
+            image,
+            budgets,
+        }) => (
+            build(alloc, source, image, &budgets, files, output),
+            Vec::new(alloc),
+        ),
         Ok(Command::Run { image, limit }) => {
             let outcome = run(alloc, image, limit, files, input, output, errors);
             (outcome, Vec::new(alloc))
         }
-        Ok(Command::Go { source, limit, .. }) => {
-            go(alloc, source, limit, files, input, output, errors)
-        }
+        Ok(Command::Go {
+            source,
+            budgets,
+            limit,
+        }) => go(alloc, source, &budgets, limit, files, input, output, errors),
         Err(WordsFault::Usage) => (Outcome::Usage, Vec::new(alloc)),
         Err(WordsFault::Memory) => (Outcome::Memory, Vec::new(alloc)),
     }

@@ -2,7 +2,7 @@
 ghost use Rattle.std.specs.Prelude.{◌≡◌, ◌≤◌, ◌<◌, length, IfOk};
 ghost use Rattle.elf_image.specs.Writing.{SegmentsFit};
 
-use crate::outside::{HI, Left, SOUND, Shown, Streams, call, files_of};
+use crate::outside::{HI, Left, SOUND, Shown, Streams, budgets, call, files_of};
 use elf_image::{Image, NewImage, NewSegment};
 use rv_isa::{Imm12, Imm20, ImmOp, Instr, JumpOffset, LoadOp, Reg, encode};
 use sb_outside::{Files, MemFiles};
@@ -135,7 +135,7 @@ const BUDGETS: [Budget; 5] = [
 ];
 
 #[test]
-fn budgets(rt: HostRuntime) -> Result<(), Fail> {
+fn ranges_of_budgets(rt: HostRuntime) -> Result<(), Fail> {
     let alloc = rt.alloc();
     let mut files = sound_files(alloc, b"")?;
     for (option, taken, refused) in BUDGETS {
@@ -179,7 +179,7 @@ fn build_and_then_run(rt: HostRuntime) -> Result<(), Fail> {
 }
 
 // Words, the reads and the writes that fail, how much the output takes, what is shown, and how many bytes of the
-// image `hi.img` holds behind it.
+// image `hi.img` holds behind it at most.
 type Failing = (
     &'static str,
     &'static [u64],
@@ -194,16 +194,15 @@ const FAILING: [Failing; 6] = [
     ("build hi.c hi.img", &[0], &[], 64, UNREAD, 0),
     ("run hi.img", &[0], &[], 64, UNREAD, 0),
     ("build hi.c hi.img", &[], &[(0, 5)], 64, UNWRITTEN, 5),
-    ("build hi.c hi.img", &[], &[], 0, UNWRITTEN, 12_288),
+    ("build hi.c hi.img", &[], &[], 0, UNWRITTEN, usize::MAX),
     // One write is made, so that the second never fails.
-    ("build hi.c hi.img", &[], &[(1, 5)], 64, BUILT, 12_288),
+    ("build hi.c hi.img", &[], &[(1, 5)], 64, BUILT, usize::MAX),
 ];
 
 #[test]
 fn files_and_output_that_fail(rt: HostRuntime) -> Result<(), Fail> {
     let alloc = rt.alloc();
-    let image = compile(alloc, HI)?;
-    assert_eq!(rt; image.len(), 12_288);
+    let image = compile(alloc, HI, &budgets()?)?.image;
     for (line, read_fails, write_fails, output_room, shown, kept) in FAILING.iter() {
         let held: [(&str, &[u8]); 2] = [("hi.c", HI), ("hi.img", b"")];
         let mut files = files_of(alloc, &held, read_fails, write_fails)?;
@@ -326,12 +325,22 @@ fn images_that_trap(rt: HostRuntime) -> Result<(), Fail> {
     Ok(())
 }
 
+// Where the content of the second segment begins in an image, by the offset in its program header: the headers are 56
+// bytes each, from byte 64 on, and have the offset in bytes 8 to 15.
+fn code_place(image: &[u8]) -> usize {
+    let mut place = 0;
+    for byte in image.iter().skip(64 + 56 + 8).take(8).rev() {
+        place = place << 8 & 0xffff_ffff | usize::from(*byte);
+    }
+    place
+}
+
 // Of the image of `hi.c`: its first 100 bytes, and with the first word of the code 0. The code is the second executable
-// segment, at 0x100000. The rows before it have 32 bytes at 4096 of the file, so it begins at 8192.
+// segment, at 0x100000.
 #[test]
 fn damaged_images(rt: HostRuntime) -> Result<(), Fail> {
     let alloc = rt.alloc();
-    let mut image = compile(alloc, HI)?;
+    let mut image = compile(alloc, HI, &budgets()?)?.image;
     let cut = Shown {
         status: 111,
         output: b"",
@@ -339,10 +348,9 @@ fn damaged_images(rt: HostRuntime) -> Result<(), Fail> {
     };
     let first: Vec<u8> = image.iter().copied().take(100).collect(alloc)?;
     assert_eq!(rt; run(alloc, &first, &SOUND)?.shown(), cut);
-    for place in 8192..8196 {
-        if let Some(byte) = image.get_mut(place) {
-            *byte = 0;
-        }
+    let code = code_place(&image);
+    for byte in image.iter_mut().skip(code).take(4) {
+        *byte = 0;
     }
     let line = b"sbcets: error: trap illegal at 0x100000\n";
     let left = run(alloc, &image, &SOUND)?;

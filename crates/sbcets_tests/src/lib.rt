@@ -4,9 +4,13 @@
 #[cfg(test)]
 mod commands;
 #[cfg(test)]
-mod first_path;
-#[cfg(test)]
 mod outside;
+#[cfg(test)]
+mod programs;
+#[cfg(test)]
+mod rows;
+#[cfg(test)]
+mod sources;
 
 /// How many bytes the sinks of the tests can take.
-pub const ROOM: u64 = 64;
+pub const ROOM: u64 = 4096;

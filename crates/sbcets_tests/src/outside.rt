@@ -1,15 +1,17 @@
 //! A call of the program over an outside in memory, and what it shows.
 use crate::ROOM;
 use sb_outside::{MemFiles, MemSink, MemSource};
+use sb_base::Budgets;
+use sb_base::budget::{DEFAULT_BLOCKS, DEFAULT_CALLS, DEFAULT_HEAP, DEFAULT_KEYS, DEFAULT_STACK};
 use sbcets_core::{Outcome, sbcets};
 use std::alloc::Global;
 use std::test::Fail;
 
-/// A source that puts `Hi` and returns 7. Its image has 12288 bytes.
+/// A source that puts `Hi` and returns 7.
 pub const HI: &[u8] = b"int main(void){putchar(72);putchar(105);return 7;}";
 
 // How many bytes each file can take.
-const FILE_ROOM: u64 = 16_384;
+const FILE_ROOM: u64 = 262_144;
 
 /// The streams of a call. The calls with the listed numbers, counted from 0, fail; with each call of a
 /// sink stands how many bytes it keeps.
@@ -30,6 +32,18 @@ pub const SOUND: Streams<'static> = Streams {
     output_fails: &[],
     error_fails: &[],
 };
+
+/// The budgets where none are asked for.
+pub fn budgets() -> Result<Budgets, Fail> {
+    let budgets = Budgets::new(
+        DEFAULT_HEAP,
+        DEFAULT_STACK,
+        DEFAULT_CALLS,
+        DEFAULT_BLOCKS,
+        DEFAULT_KEYS,
+    )?;
+    Ok(budgets)
+}
 
 /// What a call comes to, as its caller sees it. Status and line tell one outcome from another.
 #[derive(Clone, Copy, Debug, PartialEq, Eq)]

@@ -1,6 +1,6 @@
-// The first path through `sbcets`: every outcome, every line of the tool's own, every fault of the outside in turn.
-// Outputs, lines and statuses are those that the documents state (docs/LANGUAGE.md, docs/FORMATS.md).
-use crate::outside::{HI, Left, SOUND, Shown, Streams, call, files_of};
+// Sources that are accepted and refused, and every line of the tool's own for these. Outputs, lines and statuses are those
+// that the documents state (docs/LANGUAGE.md, docs/FORMATS.md).
+use crate::outside::{HI, Left, SOUND, Shown, Streams, budgets, call, files_of};
 use sbcets_core::{Counted, SourceRefusal, compile};
 use std::alloc::Global;
 use std::test::Fail;
@@ -18,7 +18,7 @@ fn call_on(
 }
 
 // A source, its status and its output.
-const ACCEPTED: [(&[u8], u8, &[u8]); 9] = [
+const ACCEPTED: [(&[u8], u8, &[u8]); 10] = [
     (HI, 7, b"Hi"),
     (b"int main(void){putchar(321);return 300;}", 44, b"A"),
     (b"\tint\nmain ( void )\r\n{ return\x0b0 ; }\x0c", 0, b""),
@@ -28,6 +28,7 @@ const ACCEPTED: [(&[u8], u8, &[u8]); 9] = [
         0,
         b"Hi",
     ),
+    (b"int main(void){\nif(1)return 3;return 1;}", 3, b""),
     (b"int/**/main(void){//\nputchar(\\\n72);return 0;}", 0, b"H"),
     (
         b"#define N 72\nint main(void){putchar(N);return 0;}",
@@ -58,8 +59,7 @@ fn accepted_sources(rt: HostRuntime) -> Result<(), Fail> {
 }
 
 // A source that is refused, and its line.
-const REFUSED: [(&[u8], &[u8]); 25] = [
-    (b"int main(void){return x;}", b"unsupported x at line 1"),
+const REFUSED: [(&[u8], &[u8]); 22] = [
     // A file has at least one declaration or definition (C99 6.9).
     (b"", b"syntax at line 1"),
     // A text that ends too early ends on the line behind its last newline.
@@ -70,19 +70,9 @@ const REFUSED: [(&[u8], &[u8]); 25] = [
     (b"T*x;", b"syntax at line 1"),
     // An unsupported word comes before a fault of syntax that stands before it.
     (b"T*x;\nfloat f;", b"unsupported float at line 2"),
-    // A fault of syntax comes before what the part refuses, wherever they stand.
+    // A fault of syntax comes before a violated rule, wherever they stand.
     (b"int x;\nT*x;", b"syntax at line 2"),
-    (b"int x;\n\nint main(void){return 0}", b"syntax at line 3"),
-    // Texts that have a tree, but are none of the part.
-    (b"int\nx;", b"unsupported x at line 2"),
-    (
-        b"int main(void){\nif(1)return 0;return 1;}",
-        b"unsupported if at line 2",
-    ),
-    (
-        b"int main(void){return 0;}\nint x;",
-        b"unsupported int at line 2",
-    ),
+    (b"int x=y;\n\nint main(void){return 0}", b"syntax at line 3"),
     (
         b"float f;int main(void){return 0;}",
         b"unsupported float at line 1",
@@ -109,6 +99,69 @@ const REFUSED: [(&[u8], &[u8]); 25] = [
     (b"float f;\n#endif\n", b"directive fault 4 at line 2"),
     // Faults of directives come before faults of syntax too.
     (b"T*x;\n#endif\n", b"directive fault 4 at line 2"),
+    // An unsupported word comes before a violated rule.
+    (b"int main(void){return x;}\nfloat f;", b"unsupported float at line 2"),
+];
+
+// A source that violates a rule of typing, which its line tells (docs/LANGUAGE.md).
+const VIOLATING: [(&[u8], &[u8]); 24] = [
+    // Rules 0 and 1 are judged at the end.
+    (b"int\nx;", b"type rule 0 at line 2"),
+    (b"int f(void){return 0;}", b"type rule 0 at line 1"),
+    (b"int f(void);int main(void){\nreturn f();}\n", b"type rule 1 at line 2"),
+    (b"int main(void){return x;}", b"type rule 2 at line 1"),
+    // A token of a macro's text is on the line of the macro's use.
+    (b"#define N x\nint main(void){\nreturn N;}", b"type rule 2 at line 3"),
+    (b"int main(void){int a;\nint a;return 0;}", b"type rule 3 at line 2"),
+    (b"int main(void){return 0;}\nlong main(void){return 0;}", b"type rule 3 at line 2"),
+    (b"struct s{int a;};\nunion s;int main(void){return 0;}", b"type rule 4 at line 2"),
+    (b"int main(void){void\nx;return 0;}", b"type rule 5 at line 2"),
+    (b"int main(void){int a=1;switch(a){\ncase a:return 1;}return 0;}", b"type rule 7 at line 2"),
+    (b"int main(void){return\n*1;}", b"type rule 11 at line 2"),
+    (b"int main(void){return &\n1;}", b"type rule 12 at line 1"),
+    (b"int main(void){1\n=2;return 0;}", b"type rule 13 at line 2"),
+    (b"void f(void){}int main(void){return 1\n+f();}", b"type rule 14 at line 2"),
+    (b"int main(void){return (void(*)(void))0;}", b"type rule 15 at line 1"),
+    (b"int main(void){int a=1;return a\n();}", b"type rule 17 at line 2"),
+    (b"int f(int a){return a;}int main(void){return\nf();}", b"type rule 18 at line 2"),
+    (b"void f(void){}int main(void){\nif(f())return 1;return 0;}", b"type rule 19 at line 2"),
+    (b"void f(void){\nreturn 1;}int main(void){return 0;}", b"type rule 20 at line 2"),
+    (b"int main(void){\nbreak;}", b"type rule 21 at line 2"),
+    (b"int main(void){switch(1){case 1:\ncase 1:;}return 0;}", b"type rule 21 at line 2"),
+    (b"int main(void){\nputchar;return 0;}", b"type rule 23 at line 2"),
+    (b"int main(void){extern int a=1;return 0;}", b"type rule 26 at line 1"),
+    // The violated rule whose token stands first is told.
+    (b"int main(void){int a;\nreturn b;}\nint f(void){return c;}", b"type rule 2 at line 2"),
+];
+
+// A source that is typed and refused, and its line.
+const UNBUILT: [(&[u8], &[u8]); 8] = [
+    (
+        b"int f(void){return 1;}int x=f();int main(void){return x;}",
+        b"not constant at line 1",
+    ),
+    // The first expression that is not constant, in the order in which the names of the objects stand.
+    (
+        b"int f(void){return 1;}int x=1;int y=\nf\n();int z=f();int main(void){return 0;}",
+        b"not constant at line 3",
+    ),
+    // A violated rule comes before an initializer that is not constant, and this before a count.
+    (
+        b"int f(void){return 1;}int x=f();int main(void){return y;}",
+        b"type rule 2 at line 1",
+    ),
+    (
+        b"int f(void){return 1;}char a[4194305];int x=f();int main(void){return 0;}",
+        b"not constant at line 1",
+    ),
+    (
+        b"char a[4194305];int main(void){return 0;}",
+        b"globals of 4198400 is too large",
+    ),
+    // Objects, pointers and strings are not compiled yet: the line is that of the end.
+    (b"int x;int main(void){return x;}\n", b"unsupported program at line 2"),
+    (b"int main(void){int a[2];return 0;}", b"unsupported program at line 1"),
+    (b"int main(void){puts(\"hi\");return 0;}", b"unsupported program at line 1"),
 ];
 
 // The tool's own line with this text.
@@ -131,21 +184,95 @@ fn refused(line: &[u8]) -> Shown<'_> {
 #[test]
 fn refused_sources(rt: HostRuntime) -> Result<(), Fail> {
     let alloc = rt.alloc();
-    for (source, text) in REFUSED.iter() {
-        let left = call_on(alloc, &["go", "hi.c"], source, &[], &SOUND)?;
-        let line = tool_line(alloc, text)?;
-        assert_eq!(rt; left.shown(), refused(&line));
+    for rows in [&REFUSED, VIOLATING.as_slice(), &UNBUILT] {
+        for (row, (source, text)) in rows.iter().enumerate() {
+            let left = call_on(alloc, &["go", "hi.c"], source, &[], &SOUND)?;
+            let line = tool_line(alloc, text)?;
+            assert_eq!(rt; left.shown(), refused(&line), "row {row}");
+        }
+    }
+    Ok(())
+}
+
+// `front`, so many times `each` with numbers from 0 on behind it, and `last`.
+fn repeated(
+    alloc: Global,
+    front: &[u8],
+    each: (&[u8], &[u8]),
+    count: usize,
+    last: &[u8],
+) -> Result<Vec<u8>, Fail> {
+    let mut source = Vec::from_slice(alloc, front)?;
+    for i in 0..count {
+        source.extend_from_slice(each.0)?;
+        source.extend_from_slice(format!(in alloc; "{i}")?.as_bytes())?;
+        source.extend_from_slice(each.1)?;
+    }
+    source.extend_from_slice(last)?;
+    Ok(source)
+}
+
+// A repeated source, and its line: none where it is accepted and gives 0.
+type Counted = (
+    &'static [u8],
+    (&'static [u8], &'static [u8]),
+    usize,
+    &'static [u8],
+    &'static [u8],
+);
+
+const MAIN: &[u8] = b"int main(void){return 0;}";
+
+// As many functions, parameters and members as there may be, and one more.
+const COUNTED: [Counted; 6] = [
+    (MAIN, (b"int f", b"(void){return 0;}"), 4095, b"", b""),
+    (
+        MAIN,
+        (b"int f", b"(void){return 0;}"),
+        4096,
+        b"",
+        b"functions of 4097 is too large",
+    ),
+    (b"int f(int b", (b",int a", b""), 126, b");int main(void){return 0;}", b""),
+    (
+        b"int f(int b",
+        (b",int a", b""),
+        127,
+        b");int main(void){return 0;}",
+        b"parameters of 128 is too large",
+    ),
+    (b"struct s{", (b"int a", b";"), 1024, b"};int main(void){return 0;}", b""),
+    (
+        b"struct s{",
+        (b"int a", b";"),
+        1025,
+        b"};int main(void){return 0;}",
+        b"members of 1025 is too large",
+    ),
+];
+
+#[test]
+fn counted_sources(rt: HostRuntime) -> Result<(), Fail> {
+    let alloc = rt.alloc();
+    for (row, (front, each, count, last, text)) in COUNTED.iter().enumerate() {
+        let source = repeated(alloc, front, *each, *count, last)?;
+        let left = call_on(alloc, &["go", "hi.c"], &source, &[], &SOUND)?;
+        if text.is_empty() {
+            assert_eq!(rt; left.shown().status, 0, "row {row}");
+        } else {
+            let line = tool_line(alloc, text)?;
+            assert_eq!(rt; left.shown(), refused(&line), "row {row}");
+        }
     }
     Ok(())
 }
 
 // How many pairs of parentheses stand around `0` behind `return`, what stands before each `(` and `0`, and the line of
-// the
-// refusal. Each pair is a level (c_syntax/specs/Levels.antt), of which 200 are read; the part has no parentheses there.
+// the refusal, if there is one. Each pair is a level (c_syntax/specs/Levels.antt), of which 200 are read.
 const NESTED: [(usize, &[u8], &[u8]); 4] = [
-    (200, b"", b"unsupported ( at line 1"),
+    (200, b"", b""),
     (201, b"", b"nesting at line 1"),
-    (200, b"\n", b"unsupported ( at line 2"),
+    (200, b"\n", b""),
     (201, b"\n", b"nesting at line 202"),
 ];
 
@@ -169,8 +296,12 @@ fn nested_sources(rt: HostRuntime) -> Result<(), Fail> {
     for (pairs, space, text) in NESTED.iter() {
         let source = nested(alloc, *pairs, space)?;
         let left = call_on(alloc, &["go", "hi.c"], &source, &[], &SOUND)?;
-        let line = tool_line(alloc, text)?;
-        assert_eq!(rt; left.shown(), refused(&line));
+        if text.is_empty() {
+            assert_eq!(rt; left.shown().status, 0);
+        } else {
+            let line = tool_line(alloc, text)?;
+            assert_eq!(rt; left.shown(), refused(&line));
+        }
     }
     Ok(())
 }
@@ -220,7 +351,7 @@ fn largest_sources(rt: HostRuntime) -> Result<(), Fail> {
         let left = call_on(alloc, &["go", "hi.c"], &source, &[], &SOUND)?;
         assert_eq!(rt; left.shown().errors, line);
     }
-    let refusal = compile(alloc, &spaces(alloc, 1_048_577)?).err();
+    let refusal = compile(alloc, &spaces(alloc, 1_048_577)?, &budgets()?).err();
     assert!(rt;
         matches!(
             refusal,
@@ -230,7 +361,7 @@ fn largest_sources(rt: HostRuntime) -> Result<(), Fail> {
             })
         )
     );
-    assert!(rt; compile(alloc, HI)?.len() > 8192);
+    assert_eq!(rt; compile(alloc, HI, &budgets()?)?.checks, 0);
     Ok(())
 }
 
@@ -246,7 +377,7 @@ fn sinks_that_fail(rt: HostRuntime) -> Result<(), Fail> {
         (HI, &[(1, 1)], none, b"Hi", b""),
         (refused, none, &[(0, 0)], b"", b""),
         (refused, none, &[(0, 3)], b"", b"sbc"),
-        (refused, none, &[(1, 9)], b"", b"sbcets: error: unsupport"),
+        (refused, none, &[(1, 9)], b"", b"sbcets: error: type rule"),
     ];
     for (source, output_fails, error_fails, output, errors) in rows {
         let streams = Streams {

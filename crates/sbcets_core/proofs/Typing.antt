@@ -1,0 +1,217 @@
+-- What is known of the program of an accepted source.
+use Rattle.std.proofs.Common.{◌≡◌, ◌≤◌, ℕ, suc, zero, Bool, true, false, List, [], ◌∷◌, length, Option, Some, None, Ok, Err}
+use Rattle.std.proofs.Common.{refl, sym, ap, ◌∙◌, subst, arith}
+use Rattle.std.specs.Prelude.{◌&&◌, nat_lt, nat_le, if◌then◌else◌}
+use Rattle.std.specs.List.{list_all}
+use Rattle.std.proofs.lemmas.Bool.Decides.{nat_tests}
+use Rattle.c_lexer.specs.Spelled.{TokenList}
+use Rattle.c_syntax.specs.Statements.{Unit as Tree, External}
+use Rattle.c_counts.specs.Counts.{Count, counts_of}
+use Rattle.c_counts.specs.Excess.{first_above, parameters_among, members_among, most_parameters as most_listed, most_members}
+use Rattle.c_tree.specs.Programs.{Function, Program, StaticObject}
+use Rattle.c_tree.specs.Statements.{Content, Part, value_content, literal_content}
+use Rattle.c_tree.specs.Tree.{line_of}
+use Rattle.c_tree.specs.ValidProgram.{is_valid_program}
+use Rattle.c_const.specs.Addresses.{Pointers}
+use Rattle.c_rules.specs.Answer.{Answer}
+use Rattle.c_unit_typing.specs.declared.limits.Limited.{Limited}
+use Rattle.c_unit_typing.specs.declared.limits.Limited.TheVariants as limited
+use Rattle.c_unit_typing.specs.Files.{File}
+use Rattle.c_unit_typing.specs.Units.{file_in}
+use Rattle.c_unit_typing.specs.Programs.{program_of}
+use Rattle.c_unit_typing.specs.Typed.{TypedUnit, a_program, a_fault, too_large, any_pointers, is_constant, has_constants}
+use Rattle.c_unit_typing.specs.Typed.{are_constant, most_functions, most_bytes, global_bytes, when_large, limited_program}
+use Rattle.c_unit_typing.specs.Typed.{within_limits, typed_as, typed_unit}
+use Rattle.c_typer.specs.Refused.{first_without_room}
+use Rattle.source_meaning.specs.Calls.{function_at}
+use Rattle.integer_images.specs.Images.{HaveFewParameters, most_parameters}
+use Rattle.integer_programs.specs.Programs.{is_integer_program}
+use Rattle.sbcets_core.specs.declared.refusal.SourceRefusal.TheVariants.{Uncompiled}
+use Rattle.sbcets_core.specs.Programs.{Judged, line_unless, content_fault, or_later, parts_fault, statics_fault}
+use Rattle.sbcets_core.specs.Programs.{constant_fault, has_few_parameters, is_compiled, unless_large, unless_fault}
+use Rattle.sbcets_core.specs.Programs.{judged_program, judged_unit}
+use Rattle.sbcets_core.specs.Accepted.{Readable, supported_tokens, JudgesReadable, Judges}
+
+-- initializers without a fault are constant
+
+fine_of_no_line : (fine : Bool) (line : ℕ) → line_unless fine line ≡ None → fine ≡ true
+fine_of_no_line true line e = refl
+fine_of_no_line false line e = absurd (cc e)
+
+none_before : (a b : Option ℕ) → or_later a b ≡ None → a ≡ None
+none_before None b e = refl
+none_before (Some line) b e = absurd (cc e)
+
+none_later : (a b : Option ℕ) → or_later a b ≡ None → b ≡ None
+none_later None b e = e
+none_later (Some line) b e = absurd (cc e)
+
+content_constant : (ps : Pointers) (c : Content) → content_fault ps c ≡ None → is_constant ps c ≡ true
+content_constant ps (value_content e) none = fine_of_no_line (is_constant ps (value_content e)) (line_of e) none
+content_constant ps (literal_content bytes) none = refl
+
+both : (a b : Bool) → a ≡ true → b ≡ true → (a && b) ≡ true
+both true b x y = y
+both false b x y = absurd (cc x)
+
+parts_constant : (ps : Pointers) (parts : List Part) → parts_fault ps parts ≡ None
+    → list_all (λ p. is_constant ps p.content) parts ≡ true
+parts_constant ps [] none = refl
+parts_constant ps (p ∷ parts) none =
+    let first = content_fault ps p.content in
+    let later = parts_fault ps parts in
+    both (is_constant ps p.content) (list_all (λ p. is_constant ps p.content) parts)
+    (content_constant ps p.content (none_before first later none))
+    (parts_constant ps parts (none_later first later none))
+
+statics_constant : (ps : Pointers) (statics : List StaticObject) → statics_fault ps statics ≡ None
+    → list_all (has_constants ps) statics ≡ true
+statics_constant ps [] none = refl
+statics_constant ps (o ∷ statics) none =
+    let first = parts_fault ps o.parts in
+    let later = statics_fault ps statics in
+    both (has_constants ps o) (list_all (has_constants ps) statics)
+    (parts_constant ps o.parts (none_before first later none))
+    (statics_constant ps statics (none_later first later none))
+
+constant : (p : Program) → constant_fault p ≡ None → are_constant p ≡ true
+unfolding constant_fault
+constant p none = statics_constant (any_pointers p) p.statics none
+
+-- a file that is typed has no more functions than the limit, where its initializers are constant
+
+not_large : (which : Limited) (count : Option ℕ) (t : TypedUnit) (p : Program) → when_large which count t ≡ a_program p
+    → count ≡ None
+not_large which None t p e = refl
+not_large which (Some n) t p e = absurd (cc e)
+
+few_of_none : (most n : ℕ) → first_above most (n ∷ []) ≡ None → n ≤ most
+few_of_none most n e = by (nat_lt most n) refl e
+  where
+    by : (b : Bool) → nat_lt most n ≡ b → (if b then Some n else None) ≡ None → n ≤ most
+    by true t e = absurd (cc e)
+    by false t e = grind (arith, nat_tests)
+
+same_program : (p q : Program) → a_program p ≡ a_program q → p ≡ q
+same_program p q e = cc
+
+record IsWithin (q p : Program) : Type 0 where
+  same : q ≡ p
+  few : length p.functions ≤ most_functions
+
+limits_kept : (counts : List Count) (q p : Program) → limited_program counts q ≡ a_program p → IsWithin q p
+limits_kept counts q p e = by (first_above most_functions (length q.functions ∷ []))
+    (first_above most_listed (parameters_among counts)) (first_above most_members (members_among counts))
+    (first_above most_bytes (global_bytes q ∷ [])) refl e
+  where
+    by : (functions parameters members bytes : Option ℕ)
+        → first_above most_functions (length q.functions ∷ []) ≡ functions
+        → when_large limited.Functions functions (when_large limited.Parameters parameters
+        (when_large limited.Members members (when_large limited.Globals bytes (a_program q)))) ≡ a_program p
+        → IsWithin q p
+    by None None None None few e =
+        let same = same_program q p e in
+        record { same = same; few = subst (λ x. length x.functions ≤ most_functions) same (few_of_none most_functions (length q.functions) few) }
+    by (Some n) b c d few e = absurd (cc e)
+    by None (Some n) c d few e = absurd (cc e)
+    by None None (Some n) d few e = absurd (cc e)
+    by None None None (Some n) few e = absurd (cc e)
+
+-- a program whose initializers are constant is given within the limits
+few_if : (es : List External) (q p : Program) (b : Bool) → are_constant q ≡ b → are_constant p ≡ true
+    → (if b then limited_program (counts_of es) q else a_program q) ≡ a_program p → length p.functions ≤ most_functions
+few_if es q p true t c e = let kept = limits_kept (counts_of es) q p e in kept.few
+few_if es q p false t c e =
+    let same = same_program q p e in
+    let none : are_constant p ≡ false = subst (λ x. are_constant x ≡ false) same t in
+    absurd (cc (none, c))
+
+few_typed : (es : List External) (f : Answer File) (p : Program) → typed_as es f ≡ a_program p → are_constant p ≡ true
+    → length p.functions ≤ most_functions
+few_typed es (Err fault) p e c = absurd (cc e)
+few_typed es (Ok file) p e c = few_if es (program_of file) p (are_constant (program_of file)) refl c e
+
+few_functions : (end : ℕ) (u : Tree) (p : Program) → typed_unit end u ≡ a_program p → constant_fault p ≡ None
+    → length p.functions ≤ most_functions
+unfolding typed_unit
+few_functions end u p e none = few_typed u.externals (file_in end u.externals) p e (constant p none)
+
+-- what is compiled
+
+first_holds : (a b : Bool) → (a && b) ≡ true → a ≡ true
+first_holds true b e = refl
+first_holds false b e = e
+
+second_holds : (a b : Bool) → (a && b) ≡ true → b ≡ true
+second_holds true b e = e
+second_holds false b e = absurd (cc e)
+
+few_parameters : (f : Function) → has_few_parameters f ≡ true → length f.parameters ≤ most_parameters
+few_parameters f e = grind (arith, nat_tests)
+
+each_few : (fs : List Function) → list_all has_few_parameters fs ≡ true → (u : ℕ) (f : Function)
+    → function_at fs u ≡ Some f → length f.parameters ≤ most_parameters
+each_few [] all u f e = absurd (cc e)
+each_few (g ∷ fs) all zero f e =
+    let same : g ≡ f = cc e in
+    subst (λ x. length x.parameters ≤ most_parameters) same
+    (few_parameters g (first_holds (has_few_parameters g) (list_all has_few_parameters fs) all))
+each_few (g ∷ fs) all (suc u) f e =
+    each_few fs (second_holds (has_few_parameters g) (list_all has_few_parameters fs) all) u f e
+
+-- what the compiler of programs of integers asks for
+pub record IsFine (p : Program) : Type 0 where
+  pub integers : is_integer_program p ≡ true
+  pub valid : is_valid_program p ≡ true
+  pub few : length p.functions ≤ most_functions
+  pub parameters : HaveFewParameters p
+
+fine : (p : Program) → is_compiled p ≡ true → length p.functions ≤ most_functions → IsFine p
+unfolding is_compiled
+fine p e few =
+    let integers = is_integer_program p in
+    let valid = is_valid_program p in
+    let all = list_all has_few_parameters p.functions in
+    let rest = second_holds integers (valid && all) e in
+    record {
+      integers = first_holds integers (valid && all) e;
+      valid = first_holds valid all rest;
+      few = few;
+      parameters = record { each = each_few p.functions (second_holds valid all rest) };
+    }
+
+-- the tests of a program that is accepted
+record IsTested (q p : Program) : Type 0 where
+  same : q ≡ p
+  constant : constant_fault q ≡ None
+  compiled : is_compiled q ≡ true
+
+tested : (end : ℕ) (q p : Program) → judged_program end q ≡ Ok p → IsTested q p
+unfolding judged_program
+tested end q p e = by (first_without_room 0 q.functions) (constant_fault q) (is_compiled q) refl refl e
+  where
+    by : (room fault : Option ℕ) (b : Bool) → constant_fault q ≡ fault → is_compiled q ≡ b
+        → ◌≡◌ {A = Judged} (unless_large room (unless_fault fault (if b then Ok q else Err (Uncompiled end)))) (Ok p)
+        → IsTested q p
+    by (Some n) fault b cf cb e = absurd (cc e)
+    by None (Some line) b cf cb e = absurd (cc e)
+    by None None false cf cb e = absurd (cc e)
+    by None None true cf cb e = record { same = cc e; constant = cf; compiled = cb }
+
+by_typed : (end : ℕ) (u : Tree) (p : Program) (t : TypedUnit) → typed_unit end u ≡ t
+    → ◌≡◌ {A = Judged} (judged_unit end t) (Ok p) → IsFine p
+by_typed end u p (a_program q) typed e =
+    let t = tested end q p e in
+    let same = t.same in
+    let compiled : is_compiled p ≡ true = subst (λ x. is_compiled x ≡ true) same t.compiled in
+    let none : constant_fault p ≡ None = subst (λ x. constant_fault x ≡ None) same t.constant in
+    fine p compiled (few_functions end u p (typed ∙ ap a_program same) none)
+by_typed end u p (a_fault f) typed e = absurd (cc e)
+by_typed end u p (too_large which n) typed e = absurd (cc e)
+
+by_readable : (readable : Readable) (p : Program) → JudgesReadable readable (Ok p) → IsFine p
+by_readable (Err early) p j = absurd (cc j)
+by_readable (Ok list) p j = by_typed list.end j.tree p (typed_unit list.end j.tree) refl (sym j.as_typed)
+
+pub accepted_is_fine : (source : List ℕ) (p : Program) → Judges source (Ok p) → IsFine p
+accepted_is_fine source p j = by_readable (supported_tokens source) p j

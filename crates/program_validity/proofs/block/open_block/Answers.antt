@@ -16,5 +16,5 @@ loop-statement-preserved c = record {
 
 pub returns-clause-value : goal.returns-clause-value
 returns-clause-value c =
-    opened_end statement_numbers refl c.args.body.now c.loop-statement.statement-index c.loop-statement-test.false c.args.all.now
-    c.loop-statement.variables.items _ c.loop-statement.invariant.same c.loop-statement.invariant.value
+    opened_end statement_numbers refl c.args.body.now c.loop-statement.statement-index c.loop-statement-test.false
+    c.args.all.now c.loop-statement.variables.items _ c.loop-statement.invariant.same c.loop-statement.invariant.value

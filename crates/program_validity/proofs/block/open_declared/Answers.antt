@@ -14,5 +14,5 @@ loop-variable-preserved c = record {
 
 pub returns-clause-value : goal.returns-clause-value
 returns-clause-value c =
-    opened_end declared_numbers refl c.args.declared.now c.loop-variable.variable-index c.loop-variable-test.false c.args.all.now
-    c.loop-variable.variables.items _ c.loop-variable.invariant.same c.loop-variable.invariant.value
+    opened_end declared_numbers refl c.args.declared.now c.loop-variable.variable-index c.loop-variable-test.false
+    c.args.all.now c.loop-variable.variables.items _ c.loop-variable.invariant.same c.loop-variable.invariant.value

@@ -1,0 +1,6 @@
+mod Arms
+mod Composing
+mod Items
+mod Repeating
+mod Turns
+mod Views

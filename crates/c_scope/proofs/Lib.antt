@@ -2,3 +2,4 @@ mod Scoping
 mod Changing
 mod Compositing
 mod Numbering
+mod Copying

@@ -31,6 +31,22 @@ pub struct Facts<'a> {
     pub tags: Names<'a, bool>,
 }
 
+impl<'a> Facts<'a> {
+    /// A copy.
+    pub fn copy(&self, alloc: Global) -> Result<Self, AllocError>
+        ensures { IfOk result (λ same. facts_of same ≡ facts_of self.now) }
+    {
+        let functions = self.functions.copy(alloc)?;
+        let objects = self.objects.copy(alloc)?;
+        let tags = self.tags.copy(alloc)?;
+        Ok(Facts {
+            functions,
+            objects,
+            tags,
+        })
+    }
+}
+
 /// What stands for names where a construct is typed.
 #[derive(Drop)]
 pub struct Environment<'a> {
@@ -57,6 +73,28 @@ impl<'a> Environment<'a> {
     ghost use Rattle.c_scope.specs.Environment.{Leads, in_file, with_block, with_static, without_block};
     ghost use Rattle.c_scope.specs.Environment.{structure_ends_complete, with_variable};
     ghost use Rattle.c_scope.specs.Names as names;
+
+    /// A copy.
+    pub fn copy(&self, alloc: Global) -> Result<Self, AllocError>
+        ensures { IfOk result (λ same. environment_of same ≡ environment_of self.now) }
+    {
+        let names = self.names.copy(alloc)?;
+        let tags = self.tags.copy(alloc)?;
+        let structures = self.structures.copy(alloc)?;
+        let enumerations = self.enumerations.to_vec(alloc)?;
+        let entities = self.entities.copy(alloc)?;
+        let facts = self.facts.copy(alloc)?;
+        Ok(Environment {
+            names,
+            tags,
+            structures,
+            enumerations,
+            entities,
+            statics: self.statics,
+            variables: self.variables,
+            facts,
+        })
+    }
 
     /// Whether no block is open.
     pub fn in_file(&self) -> bool

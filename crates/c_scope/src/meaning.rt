@@ -1,6 +1,11 @@
 //! What names and tags stand for (C99 6.2.2, 6.2.3).
 
+ghost use Rattle.std.specs.Prelude.{◌≡◌, IfOk};
+
+use crate::names::Duplicate;
+use c_place_rules::Member;
 use c_tree::{CType, Routine};
+use std::alloc::{AllocError, Global};
 
 /// A function of the library (C99 7.19 to 7.21).
 #[derive(Clone, Copy)]
@@ -77,4 +82,57 @@ pub struct Entity {
     pub is_defined: bool,
     /// Whether it is declared without `extern` and without an initializer at file scope (6.9.2 paragraph 2).
     pub is_tentative: bool,
+}
+
+// A copy of a type.
+fn same_type(alloc: Global, c_type: &CType) -> Result<CType, AllocError>
+    ensures { IfOk result (λ same. same ≡ c_type.now) }
+{
+    let words = c_type.words().to_vec(alloc)?;
+    Ok(CType::new(words))
+}
+
+impl Duplicate for Meaning {
+    fn duplicate(&self, alloc: Global) -> Result<Meaning, AllocError> {
+        match self {
+            Meaning::Typedef(c_type) => {
+                let c_type = same_type(alloc, c_type)?;
+                Ok(Meaning::Typedef(c_type))
+            }
+            Meaning::Constant(word) => Ok(Meaning::Constant(*word)),
+            Meaning::Named(what, c_type) => {
+                let c_type = same_type(alloc, c_type)?;
+                Ok(Meaning::Named(*what, c_type))
+            }
+        }
+    }
+}
+
+impl Duplicate for Tag {
+    fn duplicate(&self, _: Global) -> Result<Tag, AllocError> {
+        Ok(*self)
+    }
+}
+
+impl Duplicate for Entity {
+    fn duplicate(&self, alloc: Global) -> Result<Entity, AllocError> {
+        let c_type = same_type(alloc, &self.c_type)?;
+        Ok(Entity {
+            what: self.what,
+            c_type,
+            is_defined: self.is_defined,
+            is_tentative: self.is_tentative,
+        })
+    }
+}
+
+impl Duplicate for Member {
+    fn duplicate(&self, alloc: Global) -> Result<Member, AllocError> {
+        let c_type = same_type(alloc, &self.c_type)?;
+        Ok(Member {
+            c_type,
+            offset: self.offset,
+            size: self.size,
+        })
+    }
 }

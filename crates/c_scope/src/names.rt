@@ -1,12 +1,31 @@
 //! Names and the scopes in which they are declared (C99 6.2.1). A name is the list of its bytes.
 
-ghost use Rattle.std.specs.Prelude.{◌≡◌, [], length, map, OnOk, option_copied, slice_get};
+ghost use Rattle.std.specs.Prelude.{◌≡◌, ◌<◌, suc, [], length, map, take, IfOk, OnOk, option_copied, slice_get};
 ghost use Rattle.c_scope.specs.Names.{bound, closed, declared, entered, found, is_file_scope, left, meaning};
 ghost use Rattle.c_scope.specs.Names.{names_of, number_named, opened, scopes_of};
 
 use indexmap::IndexMap;
 use std::alloc::{AllocError, Global};
 use std::mem;
+
+/// What can be copied, where there is memory.
+pub trait Duplicate: Drop {
+    /// A copy.
+    fn duplicate(&self, alloc: Global) -> Result<Self, AllocError>
+        ensures { IfOk result (λ same. same ≡ self.now) };
+}
+
+impl Duplicate for usize {
+    fn duplicate(&self, _: Global) -> Result<usize, AllocError> {
+        Ok(*self)
+    }
+}
+
+impl Duplicate for bool {
+    fn duplicate(&self, _: Global) -> Result<bool, AllocError> {
+        Ok(*self)
+    }
+}
 
 /// The names that a scope declares, in the order of their declarations, and what stands for each.
 #[derive(Drop)]
@@ -59,6 +78,36 @@ impl<'a, T: Drop> Names<'a, T> {
     {
         self.entries.insert(name, what)?;
         Ok(())
+    }
+}
+
+impl<'a, T: Duplicate> Names<'a, T> {
+    /// A copy.
+    pub fn copy(&self, alloc: Global) -> Result<Self, AllocError>
+        ensures { IfOk result (λ same. names_of same ≡ names_of self.now) }
+    {
+        let mut same = Names::new(alloc);
+        for at in 0..self.entries.len() {
+            self.copy_name(alloc, at, &mut same)?;
+        }
+        Ok(same)
+    }
+
+    // The name with a number, behind those before it. All names of a scope differ, so the last test always holds.
+    fn copy_name(&self, alloc: Global, at: usize, same: &mut Self) -> Result<(), AllocError>
+        requires inside { at < length (names_of self.now) }
+        requires before { names_of same.old ≡ take at (names_of self.now) }
+        ensures { OnOk result (names_of same.new ≡ take (suc at) (names_of self.now)) }
+    {
+        let Some((name, what)) = self.entries.get_index(at) else {
+            return Err(AllocError);
+        };
+        same.bind(name, what.duplicate(alloc)?)?;
+        if at < same.len() {
+            Ok(())
+        } else {
+            Err(AllocError)
+        }
     }
 }
 
@@ -147,6 +196,20 @@ impl<'a, T: Drop> Scopes<'a, T> {
             ≡ record (scopes_of self.old) { current = bound name.now what (scopes_of self.old).current }) }
     {
         self.current.bind(name, what)
+    }
+}
+
+impl<'a, T: Duplicate> Scopes<'a, T> {
+    /// A copy.
+    pub fn copy(&self, alloc: Global) -> Result<Self, AllocError>
+        ensures { IfOk result (λ same. scopes_of same ≡ scopes_of self.now) }
+    {
+        let mut outer = Vec::new(alloc);
+        for names in &self.outer {
+            outer.push(names.copy(alloc)?)?;
+        }
+        let current = self.current.copy(alloc)?;
+        Ok(Scopes { outer, current })
     }
 }
 

@@ -16,6 +16,23 @@ pub struct Body<'a> {
     pub members: Names<'a, Member>,
 }
 
+impl<'a> Body<'a> {
+    ghost use Rattle.std.specs.Prelude.{◌≡◌, IfOk};
+    ghost use Rattle.c_scope.specs.Structures.{body_of};
+
+    /// A copy.
+    pub fn copy(&self, alloc: Global) -> Result<Self, AllocError>
+        ensures { IfOk result (λ same. body_of same ≡ body_of self.now) }
+    {
+        let members = self.members.copy(alloc)?;
+        Ok(Body {
+            file_tag: self.file_tag,
+            is_begun: self.is_begun,
+            members,
+        })
+    }
+}
+
 /// The structures and unions.
 #[derive(Drop)]
 pub struct Structures<'a> {
@@ -41,6 +58,23 @@ impl<'a> Structures<'a> {
             with_const: Vec::new(alloc),
             bodies: Vec::new(alloc),
         }
+    }
+
+    /// A copy.
+    pub fn copy(&self, alloc: Global) -> Result<Self, AllocError>
+        ensures { IfOk result (λ same. structures_of same ≡ structures_of self.now) }
+    {
+        let mut bodies = Vec::new(alloc);
+        for body in &self.bodies {
+            bodies.push(body.copy(alloc)?)?;
+        }
+        let extents = self.extents.to_vec(alloc)?;
+        let with_const = self.with_const.to_vec(alloc)?;
+        Ok(Structures {
+            extents,
+            with_const,
+            bodies,
+        })
     }
 
     /// The sizes and alignments, of those that are complete.

@@ -1,6 +1,7 @@
 mod Arms
 mod Composing
+mod DoScopes
 mod Items
-mod Repeating
+mod Otherwise
 mod Turns
 mod Views

@@ -1,5 +1,5 @@
 -- A turn of the loops over the items of blocks and switches.
-use Rattle.std.proofs.Common.{◌≡◌, ◌+◌, ◌<◌, ◌≤◌, ℕ, List, [], ◌∷◌, ◌++◌, Ok, length, map, drop, get_or, refl, sym}
+use Rattle.std.proofs.Common.{◌≡◌, ◌+◌, ◌<◌, ◌≤◌, ℕ, List, [], ◌∷◌, ◌++◌, Result, Ok, length, map, drop, get_or, refl, sym}
 use Rattle.std.proofs.Common.{ap, ◌∙◌, subst, rules, arith}
 use Rattle.std.proofs.lemmas.List.{drop_more}
 use Rattle.std.proofs.lemmas.Grind.{common_steps}
@@ -15,6 +15,7 @@ use Rattle.c_tree.specs.Statements as tree
 use Rattle.c_tree.specs.View.{statement_of}
 use Rattle.c_rules.specs.declared.fault.Refusal.{Refusal}
 use Rattle.c_rules.specs.Answer.{Answer, Fails}
+use Rattle.c_unit_state.specs.FileState.{FileTypes}
 use Rattle.c_unit_typing.specs.Constructs.{Around, Labelled, labels_on}
 use Rattle.c_unit_typing.specs.Files.{File}
 use Rattle.c_unit_typing.specs.Statements.{block_item, switch_item}
@@ -33,6 +34,14 @@ at_item : (xs : List rk.BlockItem) (i : ℕ) (x : rk.BlockItem) → i < length x
     → items_in (drop i xs) ≡ t.items (block_item_of x) (items_in (drop (i + 1) xs))
 at_item xs i x low is =
     ap items_in (drop_more xs i x low) ∙ ap (λ y. items_in (y ∷ drop (i + 1) xs)) (sym is)
+
+pub grown : {V A : Type 0} (before held more : V) (items : V → List A) (x : A) → before ≡ held
+    → items more ≡ items before ++ x ∷ [] → items more ≡ items held ++ x ∷ []
+grown before held more items x same is = is ∙ ap (λ v. items v ++ x ∷ []) same
+
+pub result_typed : {A B : Type 0} (x : A) (result : Result A Refusal) (view : A → B) (new : File)
+    (defined : Answer (File × B)) → result ≡ Ok x → FileTypes view new result defined → defined ≡ Ok (new, view x)
+result_typed x result view new defined is types = subst (λ r. FileTypes view new r defined) is types
 
 pub block_turn : (a : Around) (xs : List rk.BlockItem) (i : ℕ) (x : rk.BlockItem) (b more : List code.Statement)
     (s : code.Statement) (f new : File) (all : Answer (File × Statements)) → i < length xs → x ≡ get_or xs i x

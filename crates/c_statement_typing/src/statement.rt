@@ -4,14 +4,19 @@ ghost use Rattle.std.specs.Prelude.{◌≡◌, ◌++◌, ◌∷◌, [], IfOk, ma
 ghost use Rattle.c_syntax.specs.StatementsView as views;
 ghost use Rattle.c_syntax.specs.View as view;
 ghost use Rattle.c_tree.specs.Statements as built;
+ghost use Rattle.c_tree.specs.Tree as typed_tree;
+ghost use Rattle.c_tree.specs.View as tree;
 ghost use Rattle.c_tree.specs.View.{statement_of};
+ghost use Rattle.c_rules.specs.Answer.{Answer};
 ghost use Rattle.c_rules.specs.Values.{value_of};
 ghost use Rattle.c_typing.specs.State.{judged};
 ghost use Rattle.c_unit_state.specs.FileState.{FileTypes, file_of};
 ghost use Rattle.c_unit_typing.specs.Constructs as constructs;
-ghost use Rattle.c_unit_typing.specs.Files.{finished, in_state, ◌~>◌};
+ghost use Rattle.c_unit_typing.specs.Files.{File, in_state, ◌~>◌};
 ghost use Rattle.c_unit_typing.specs.Statements as statements;
 ghost use Rattle.c_statement_typing.specs.Around.{around_of, item_of, labelled_of, labels_of};
+ghost use Rattle.c_statement_typing.specs.Branches as branches;
+ghost use Rattle.c_statement_typing.specs.Branches.{branch_of};
 
 use crate::allocated::{Allocated, with_allocated};
 use crate::around::Around;
@@ -30,7 +35,7 @@ use c_syntax::{
     Block, BlockItem, CaseLabel as CaseTree, Declaration, Expression, ForHead,
     Statement as StatementTree,
 };
-use c_tree::{CaseLabel, Statement, SwitchItem};
+use c_tree::{CaseLabel, Expression as TypedExpression, Statement, SwitchItem};
 use c_unit_state::FileTyper;
 use obj_memory::IntType;
 use sb_base::Line;
@@ -68,23 +73,17 @@ pub fn statement<'a>(
         StatementTree::Block(tree) => block(file, around, tree),
         StatementTree::Expression(tree, _) => expression_statement(&mut file.typer, tree),
         StatementTree::If(at, condition, body) => {
-            if_then(file, around, at.line, condition.inner.get(), body.get())
+            if_then(file, around, at.line, body.get(), condition.inner.get())
         }
         StatementTree::IfElse(at, condition, body, _, other) => {
-            if_else(
-                file,
-                around,
-                at.line,
-                condition.inner.get(),
-                body.get(),
-                other.get(),
-            )
+            let begun = branch(file, around, at.line, body.get(), condition.inner.get());
+            with_else(file, around, other.get(), begun)
         }
         StatementTree::Switch(at, value, block) => {
-            switch(file, around, at.line, value.inner.get(), block)
+            switch(file, around, at.line, block, value.inner.get())
         }
         StatementTree::While(at, condition, body) => {
-            while_do(file, around, at.line, condition.inner.get(), body.get())
+            while_do(file, around, at.line, body.get(), condition.inner.get())
         }
         StatementTree::Do(at, body, end) => {
             do_while(file, around, at.line, body.get(), end.condition.inner.get())
@@ -192,8 +191,8 @@ fn if_then<'a>(
     file: &mut FileTyper<'a>,
     around: Around<'_>,
     line: Line,
-    condition: &Expression<'a>,
     body: &StatementTree<'a>,
+    condition: &Expression<'a>,
 ) -> Result<Allocated<Statement>, Refusal>
     ensures { FileTypes statement_of (file_of file.new) result (constructs.if_typed line
         (view.expression_of condition.now) (constructs.controlled (statements.statement (around_of around.entry)
@@ -207,23 +206,37 @@ fn if_then<'a>(
     Ok(statement)
 }
 
+// The condition and the first statement of an `if` with an `else`, in whose scope they leave the file.
 #[cycle(statements)]
-fn if_else<'a>(
+fn branch<'a>(
     file: &mut FileTyper<'a>,
     around: Around<'_>,
     line: Line,
-    condition: &Expression<'a>,
     body: &StatementTree<'a>,
-    other: &StatementTree<'a>,
-) -> Result<Allocated<Statement>, Refusal>
-    ensures { FileTypes statement_of (file_of file.new) result (constructs.if_else_typed line
-        (view.expression_of condition.now) (constructs.controlled (statements.statement (around_of around.entry)
-        constructs.no_labels (views.statement_of body.now))) (constructs.controlled (statements.statement
-        (around_of around.entry) constructs.no_labels (views.statement_of other.now))) (file_of file.old)) }
+    condition: &Expression<'a>,
+) -> Result<(Allocated<TypedExpression>, Allocated<Statement>), Refusal>
+    ensures { FileTypes branch_of (file_of file.new) result (branches.branch line (view.expression_of condition.now)
+        (constructs.controlled (statements.statement (around_of around.entry) constructs.no_labels
+        (views.statement_of body.now))) (file_of file.old)) }
 {
     file.open_scope()?;
     let condition = controlling(&mut file.typer, line, condition)?;
-    let (condition, body) = beside(condition, controlled(file, around, body))?;
+    beside(condition, controlled(file, around, body))
+}
+
+// The second statement, behind a condition and a first one, and the end of their scope.
+#[cycle(statements)]
+fn otherwise<'a>(
+    file: &mut FileTyper<'a>,
+    around: Around<'_>,
+    other: &StatementTree<'a>,
+    condition: Allocated<TypedExpression>,
+    body: Allocated<Statement>,
+) -> Result<Allocated<Statement>, Refusal>
+    ensures { FileTypes statement_of (file_of file.new) result (branches.otherwise (constructs.controlled
+        (statements.statement (around_of around.entry) constructs.no_labels (views.statement_of other.now)))
+        (tree.expression_of condition) (statement_of body) (file_of file.old)) }
+{
     let (parts, other) = beside((condition, body), controlled(file, around, other))?;
     let (condition, body) = parts;
     let statement = building::if_else(file.typer.alloc, condition, body, other)?;
@@ -231,13 +244,32 @@ fn if_else<'a>(
     Ok(statement)
 }
 
+// The second statement, behind a condition and a first one that are typed or refused.
+#[cycle(statements)]
+fn with_else<'a>(
+    file: &mut FileTyper<'a>,
+    around: Around<'_>,
+    other: &StatementTree<'a>,
+    begun: Result<(Allocated<TypedExpression>, Allocated<Statement>), Refusal>,
+) -> Result<Allocated<Statement>, Refusal>
+    ensures { (typed : Answer (File × (typed_tree.Expression × built.Statement)))
+        → FileTypes branch_of (file_of file.old) begun typed
+        → FileTypes statement_of (file_of file.new) result (branches.with_else (constructs.controlled
+        (statements.statement (around_of around.entry) constructs.no_labels (views.statement_of other.now))) typed) }
+{
+    match begun {
+        Ok((condition, body)) => otherwise(file, around, other, condition, body),
+        Err(refusal) => Err(refusal),
+    }
+}
+
 #[cycle(statements)]
 fn while_do<'a>(
     file: &mut FileTyper<'a>,
     around: Around<'_>,
     line: Line,
-    condition: &Expression<'a>,
     body: &StatementTree<'a>,
+    condition: &Expression<'a>,
 ) -> Result<Allocated<Statement>, Refusal>
     ensures { FileTypes statement_of (file_of file.new) result (constructs.while_typed line
         (view.expression_of condition.now) (constructs.controlled (statements.statement (constructs.looping
@@ -334,8 +366,8 @@ fn switch<'a>(
     file: &mut FileTyper<'a>,
     around: Around<'_>,
     line: Line,
-    value: &Expression<'a>,
     tree: &Block<'a>,
+    value: &Expression<'a>,
 ) -> Result<Allocated<Statement>, Refusal>
     ensures { FileTypes statement_of (file_of file.new) result (constructs.switch_typed line (view.expression_of
         value.now) (λ v. statements.switch_block (constructs.switching (around_of around.entry)) v (views.block_of
@@ -343,7 +375,7 @@ fn switch<'a>(
 {
     file.open_scope()?;
     let value = switching_on(&mut file.typer, line, value)?;
-    let statement = switch_block(file, around.switching(), value, tree)?;
+    let statement = switch_block(file, around.switching(), tree, value)?;
     file.close_scope();
     Ok(statement)
 }
@@ -354,8 +386,8 @@ fn switch<'a>(
 fn switch_block<'a>(
     file: &mut FileTyper<'a>,
     around: Around<'_>,
-    value: Allocated<TypedValue>,
     tree: &Block<'a>,
+    value: Allocated<TypedValue>,
 ) -> Result<Allocated<Statement>, Refusal>
     ensures { FileTypes statement_of (file_of file.new) result (statements.switch_block (around_of around.entry)
         (value_of value) (views.block_of tree.now) (file_of file.old)) }

@@ -76,7 +76,7 @@ pub fn statement<'a>(
             if_then(file, around, at.line, body.get(), condition.inner.get())
         }
         StatementTree::IfElse(at, condition, body, _, other) => {
-            let begun = branch(file, around, at.line, body.get(), condition.inner.get());
+            let begun = up_to_else(file, around, at.line, body.get(), condition.inner.get());
             with_else(file, around, other.get(), begun)
         }
         StatementTree::Switch(at, value, block) => {
@@ -208,7 +208,7 @@ fn if_then<'a>(
 
 // The condition and the first statement of an `if` with an `else`, in whose scope they leave the file.
 #[cycle(statements)]
-fn branch<'a>(
+fn up_to_else<'a>(
     file: &mut FileTyper<'a>,
     around: Around<'_>,
     line: Line,

@@ -46,7 +46,7 @@ statement-returns-in-IfElse t c =
     if_else_arm a (labels_of c.args.labels c.args.own.now.items) e.at e.condition e.body e.field-3 e.other _ _ _
     c.args.tree.now f _ _ e.is c.get-in-IfElse-2.ensures c.get-in-IfElse.ensures c.get-in-IfElse-3.ensures
     (steps_typed e.at.line condition body other f _ _
-    (c.with_else.ensures (branch e.at.line condition body f) c.branch.ensures))
+    (c.with_else.ensures (branch e.at.line condition body f) c.up_to_else-begun.ensures))
 
 pub statement-returns-in-Switch : goal.statement-returns-in-Switch
 statement-returns-in-Switch t c =

@@ -1,0 +1,7 @@
+mod Arms
+mod Composing
+mod DoScopes
+mod Items
+mod Otherwise
+mod Turns
+mod Views

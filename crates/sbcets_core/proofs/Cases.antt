@@ -1,6 +1,7 @@
 -- The outcomes of the commands, case by case.
-use Rattle.std.proofs.Common.{Err, ◌≡◌, ℕ, List, [], Option, Some, refl, ap, ◌∙◌, inl, inr, ⊎_elim}
-use Rattle.sb_outside.specs.Content.{Writes}
+use Rattle.std.proofs.Common.{Result, Ok, Err, ◌≡◌, ℕ, List, [], Option, Some, refl, ap, ◌∙◌, inl, inr, ⊎_elim}
+use Rattle.sb_outside.specs.declared.source.Failed.{Failed}
+use Rattle.sb_outside.specs.Content.{gained, GainsPart, Writes}
 use Rattle.rv_sim.specs.declared.stop.Stop.{Stop}
 use Rattle.rv_sim.specs.declared.stop.Stop.TheVariants as stops
 use Rattle.sbcets_core.specs.declared.outcome.ReadFault.TheVariants.{TooLong}
@@ -17,7 +18,7 @@ use Rattle.sb_outside.specs.Faults.{next_count}
 use Rattle.rv_sim.specs.State.{MachineState}
 use Rattle.rv_sim.specs.Seen.{CountsInput, CountsOutput}
 use Rattle.sbcets_core.specs.Commands.{Outside, DoesNothing, Went, RanFile, Goes, Runs, Builds, IsUnread, IsUnbuilt}
-use Rattle.sbcets_core.specs.Commands.{IsBuiltOf, ReadCounts, RunsImage, outcome_of}
+use Rattle.sbcets_core.specs.Commands.{BuiltInto, IsBuiltOf, ReadCounts, RunsImage, outcome_of, built_line}
 use Rattle.sbcets_core.proofs.Running.{never_traps}
 
 -- a command that got nothing does nothing
@@ -52,6 +53,24 @@ unbuilt_builds name target budgets (Limit n) image before after d u = absurd u
 unbuilt_builds name target budgets (ImageRefused fault) image before after d u = absurd u
 unbuilt_builds name target budgets (Trap kind pc) image before after d u = absurd u
 
+-- what was built and written by one write
+into : (name target : List ℕ) (budgets : BudgetSizes) (built : BuiltImage) (written : Result (Unit {0}) Failed)
+    (before after : Outside) → IsBuiltOf name budgets built before.files
+    → Writes before.files after.files target built.image.items written → after.writes ≡ next_count before.writes
+    → after.streams.input ≡ before.streams.input → after.streams.errors ≡ before.streams.errors
+    → BuiltInto name target budgets written [] before after
+into name target budgets built written before after b w once input errors = record {
+  source = b.source;
+  read = b.read;
+  built = built;
+  is_built = b.is_built;
+  writes = w;
+  once = once;
+  input = input;
+  errors = errors;
+  none = refl;
+}
+
 pub unwritten_builds : (name target : List ℕ) (budgets : BudgetSizes) (built : BuiltImage) (before after : Outside)
     → IsBuiltOf name budgets built before.files
     → Writes {T = Unit {0}} before.files after.files target built.image.items (Err record {})
@@ -59,19 +78,32 @@ pub unwritten_builds : (name target : List ℕ) (budgets : BudgetSizes) (built :
     → Builds name target budgets WriteFault [] before after
 unwritten_builds name target budgets built before after b w once same =
     inl (record {
-      into = record {
-        source = b.source;
-        read = b.read;
-        built = built;
-        is_built = b.is_built;
-        writes = w;
-        once = once;
-        input = ap (λ s. s.input) same;
-        errors = ap (λ s. s.errors) same;
-        none = refl;
-      };
+      into = into name target budgets built (Err record {}) before after b w once (ap (λ s. s.input) same)
+          (ap (λ s. s.errors) same);
       output = ap (λ s. s.output) same;
     })
+
+pub told_builds : (name target : List ℕ) (budgets : BudgetSizes) (built : BuiltImage) (before after : Outside)
+    → IsBuiltOf name budgets built before.files
+    → Writes {T = Unit {0}} before.files after.files target built.image.items (Ok tt)
+    → after.writes ≡ next_count before.writes → after.streams.input ≡ before.streams.input
+    → after.streams.errors ≡ before.streams.errors
+    → after.streams.output ≡ gained before.streams.output (built_line built.checks 0)
+    → Builds name target budgets Built [] before after
+unfolding into
+told_builds name target budgets built before after b w once input errors told =
+    record { into = into name target budgets built (Ok tt) before after b w once input errors; output = told }
+
+pub untold_builds : (name target : List ℕ) (budgets : BudgetSizes) (built : BuiltImage) (before after : Outside)
+    → IsBuiltOf name budgets built before.files
+    → Writes {T = Unit {0}} before.files after.files target built.image.items (Ok tt)
+    → after.writes ≡ next_count before.writes → after.streams.input ≡ before.streams.input
+    → after.streams.errors ≡ before.streams.errors
+    → GainsPart before.streams.output after.streams.output (built_line built.checks 0)
+    → Builds name target budgets WriteFault [] before after
+unfolding into
+untold_builds name target budgets built before after b w once input errors part =
+    inr (record { into = into name target budgets built (Ok tt) before after b w once input errors; output = part })
 
 pub unread_runs : (name : List ℕ) (limit : ℕ) (outcome : Outcome) (image : List ℕ) (before after : Outside)
     → DoesNothing image before after → IsUnread name max_image_file outcome before.files

@@ -29,14 +29,14 @@ const MAX_IMAGE: u64 = 67_108_864;
 pub fn go<F: Files, I: Source, O: Sink, E: Sink>(
     alloc: Global,
     name: &str,
-    budgets: &Budgets,
+    budgets: Budgets,
     limit: u64,
     files: &mut F,
     input: &mut I,
     output: &mut O,
     errors: &mut E,
 ) -> (Outcome, Vec<u8>)
-    ensures goes { Goes name.now budgets.now limit result.0 result.1.items
+    ensures goes { Goes name.now budgets limit result.0 result.1.items
         (outside_of (F.held files.old) (F.writes files.old) (I.rest input.old)
         (O.taken output.old) (E.taken errors.old))
         (outside_of (F.held files.new) (F.writes files.new) (I.rest input.new)
@@ -47,7 +47,7 @@ pub fn go<F: Files, I: Source, O: Sink, E: Sink>(
         (counts_of (F.read_faults files.new) (F.write_faults files.new) (I.faults input.new)
         (O.faults output.new) (E.faults errors.new)) }
 {
-    let built = match built_of(alloc, name, budgets, files) {
+    let built = match built_of(alloc, name, &budgets, files) {
         Ok(built) => built,
         Err(outcome) => return (outcome, Vec::new(alloc)),
     };
@@ -98,18 +98,18 @@ pub fn build<F: Files, O: Sink>(
     alloc: Global,
     name: &str,
     target: &str,
-    budgets: &Budgets,
+    budgets: Budgets,
     files: &mut F,
     output: &mut O,
 ) -> Outcome
-    ensures builds { (input : Rest) (errors : Option (List ℕ)) → Builds name.now target.now budgets.now result []
+    ensures builds { (input : Rest) (errors : Option (List ℕ)) → Builds name.now target.now budgets result []
         (outside_of (F.held files.old) (F.writes files.old) input (O.taken output.old) errors)
         (outside_of (F.held files.new) (F.writes files.new) input (O.taken output.new) errors) }
     ensures counts { (input errors : ℕ) → CommandCounts result
         (counts_of (F.read_faults files.old) (F.write_faults files.old) input (O.faults output.old) errors)
         (counts_of (F.read_faults files.new) (F.write_faults files.new) input (O.faults output.new) errors) }
 {
-    let built = match built_of(alloc, name, budgets, files) {
+    let built = match built_of(alloc, name, &budgets, files) {
         Ok(built) => built,
         Err(outcome) => return outcome,
     };

@@ -90,25 +90,50 @@ fn do_command<F: Files, I: Source, O: Sink, E: Sink>(
         (O.faults output.new) (E.faults errors.new)) }
 {
     match command(alloc, words) {
-        Ok(Command::Build {
+        Ok(command) => obey(alloc, command, files, input, output, errors),
+        Err(WordsFault::Usage) => (Outcome::Usage, Vec::new(alloc)),
+        Err(WordsFault::Memory) => (Outcome::Memory, Vec::new(alloc)),
+    }
+}
+
+// Does what a command says.
+fn obey<F: Files, I: Source, O: Sink, E: Sink>(
+    alloc: Global,
+    command: Command,
+    files: &mut F,
+    input: &mut I,
+    output: &mut O,
+    errors: &mut E,
+) -> (Outcome, Vec<u8>)
+    ensures does { Does (Some (asked_of command.entry)) result.0 result.1.items
+        (outside_of (F.held files.old) (F.writes files.old) (I.rest input.old)
+        (O.taken output.old) (E.taken errors.old))
+        (outside_of (F.held files.new) (F.writes files.new) (I.rest input.new)
+        (O.taken output.new) (E.taken errors.new)) }
+    ensures counts { CommandCounts result.0
+        (counts_of (F.read_faults files.old) (F.write_faults files.old) (I.faults input.old)
+        (O.faults output.old) (E.faults errors.old))
+        (counts_of (F.read_faults files.new) (F.write_faults files.new) (I.faults input.new)
+        (O.faults output.new) (E.faults errors.new)) }
+{
+    match command {
+        Command::Build {
             source,
             image,
             budgets,
-        }) => (
-            build(alloc, source, image, &budgets, files, output),
+        } => (
+            build(alloc, source, image, budgets, files, output),
             Vec::new(alloc),
         ),
-        Ok(Command::Run { image, limit }) => {
+        Command::Run { image, limit } => {
             let outcome = run(alloc, image, limit, files, input, output, errors);
             (outcome, Vec::new(alloc))
         }
-        Ok(Command::Go {
+        Command::Go {
             source,
             budgets,
             limit,
-        }) => go(alloc, source, &budgets, limit, files, input, output, errors),
-        Err(WordsFault::Usage) => (Outcome::Usage, Vec::new(alloc)),
-        Err(WordsFault::Memory) => (Outcome::Memory, Vec::new(alloc)),
+        } => go(alloc, source, budgets, limit, files, input, output, errors),
     }
 }
 

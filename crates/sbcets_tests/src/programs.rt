@@ -4,30 +4,15 @@ use crate::outside::{HI, Left, SOUND, Shown, Streams, call, files_of};
 use std::alloc::Global;
 use std::test::Fail;
 
-// A source, the words behind `go hi.c`, the input, and what is shown.
+// A source, the words behind `go hi.c`, the input, the status, the output, and what the error output takes.
 type Row = (
     &'static [u8],
     &'static str,
     &'static [u8],
-    Shown<'static>,
+    u8,
+    &'static [u8],
+    &'static [u8],
 );
-
-// What a program shows that ends with this status and reports nothing.
-const fn ends(status: u8, output: &'static [u8]) -> Shown<'static> {
-    Shown {
-        status,
-        output,
-        errors: b"",
-    }
-}
-
-const fn shows(status: u8, output: &'static [u8], errors: &'static [u8]) -> Shown<'static> {
-    Shown {
-        status,
-        output,
-        errors,
-    }
-}
 
 const COPY: &[u8] = b"int main(void){int c;while((c=getchar())!=-1)putchar(c);return 0;}";
 
@@ -47,71 +32,71 @@ const CONVERSIONS: &[u8] = b"int main(void){unsigned char c=250;long l=-1;unsign
     return (c+10==260)+(l<0)*2+(-1<u)*4;}";
 
 const ROWS: [Row; 20] = [
-    (HI, "", b"", ends(7, b"Hi")),
-    (COPY, "", b"", ends(0, b"")),
-    (COPY, "", b"A\x00\xff", ends(0, b"A\x00\xff")),
-    (FIBONACCI, "", b"", ends(55, b"")),
-    (SWITCH, "", b"", ends(0, b"BC")),
-    (CONVERSIONS, "", b"", ends(3, b"")),
+    (HI, "", b"", 7, b"Hi", b""),
+    (COPY, "", b"", 0, b"", b""),
+    (COPY, "", b"A\x00\xff", 0, b"A\x00\xff", b""),
+    (FIBONACCI, "", b"", 55, b"", b""),
+    (SWITCH, "", b"", 0, b"BC", b""),
+    (CONVERSIONS, "", b"", 3, b"", b""),
     // The least value divided by -1 is itself, and a zero divisor ends the program.
     (
         QUOTIENT,
         "",
         b"",
-        shows(124, b"W", b"sbcets: division by zero at line 1\n"),
+        124, b"W", b"sbcets: division by zero at line 1\n",
     ),
     (
         b"int main(void){int d=0;\nreturn 1\n/\nd;}",
         "",
         b"",
-        shows(124, b"", b"sbcets: division by zero at line 3\n"),
+        124, b"", b"sbcets: division by zero at line 3\n",
     ),
     (
         b"int main(void){int d=0;int n=1;\nn%=\nd;return n;}",
         "",
         b"",
-        shows(124, b"", b"sbcets: division by zero at line 2\n"),
+        124, b"", b"sbcets: division by zero at line 2\n",
     ),
     // `main` takes 168 bytes of `calls`, and each call of `f` 280, so that 14 of them fit.
     (
         RECURSION,
         "--calls 4096",
         b"",
-        shows(125, b"..............", b"sbcets: stack exhausted at line 1\n"),
+        125, b"..............", b"sbcets: stack exhausted at line 1\n",
     ),
     // 28 fit twice as much.
     (
         RECURSION,
         "--calls 8192",
         b"",
-        shows(125, b"............................", b"sbcets: stack exhausted at line 1\n"),
+        125, b"............................", b"sbcets: stack exhausted at line 1\n",
     ),
     (
         b"int main(void){putchar(65);\nabort();}",
         "",
         b"",
-        shows(134, b"A", b"sbcets: abort at line 2\n"),
+        134, b"A", b"sbcets: abort at line 2\n",
     ),
-    (b"int main(void){exit(-1);return 0;}", "", b"", ends(255, b"")),
-    (b"int f(void){exit(3);return 4;}int main(void){return f();}", "", b"", ends(3, b"")),
+    (b"int main(void){exit(-1);return 0;}", "", b"", 255, b"", b""),
+    (b"int f(void){exit(3);return 4;}int main(void){return f();}", "", b"", 3, b"", b""),
     // A function that reaches its end gives 0.
-    (b"int f(void){}int main(void){return f()+5;}", "", b"", ends(5, b"")),
-    (b"int main(void){putchar(65);}", "", b"", ends(0, b"A")),
+    (b"int f(void){}int main(void){return f()+5;}", "", b"", 5, b"", b""),
+    (b"int main(void){putchar(65);}", "", b"", 0, b"A", b""),
     // The limit is a number of instructions.
     (
         b"int main(void){for(;;);}",
         "--limit 1000",
         b"",
-        shows(106, b"", b"sbcets: error: limit of 1000 instructions\n"),
+        106, b"", b"sbcets: error: limit of 1000 instructions\n",
     ),
     (
         b"int main(void){for(;;);}",
         "--limit 0",
         b"",
-        shows(106, b"", b"sbcets: error: limit of 0 instructions\n"),
+        106, b"", b"sbcets: error: limit of 0 instructions\n",
     ),
     // The first source has work 14, and a unit of work takes at most 1024 instructions.
-    (HI, "--limit 14336", b"", ends(7, b"Hi")),
+    (HI, "--limit 14336", b"", 7, b"Hi", b""),
     // Names of types and of constants, prototypes, and calls of one function by another.
     (
         b"typedef unsigned char byte;enum e{A=65,B};int odd(int);int even(int n){return n==0||odd(n-1);}\
@@ -119,7 +104,7 @@ const ROWS: [Row; 20] = [
             return even(10)*2+odd(7);}",
         "",
         b"",
-        ends(3, b"AB"),
+        3, b"AB", b"",
     ),
 ];
 
@@ -135,10 +120,15 @@ fn go(alloc: Global, source: &[u8], words: &str, streams: &Streams) -> Result<Le
 
 #[test]
 fn programs(rt: HostRuntime) -> Result<(), Fail> {
-    for (row, (source, words, input, shown)) in ROWS.iter().enumerate() {
+    for (row, (source, words, input, status, output, errors)) in ROWS.iter().enumerate() {
         let streams = Streams { input, ..SOUND };
         let left = go(rt.alloc(), source, words, &streams)?;
-        assert_eq!(rt; left.shown(), *shown, "row {row}");
+        let shown = Shown {
+            status: *status,
+            output,
+            errors,
+        };
+        assert_eq!(rt; left.shown(), shown, "row {row}");
     }
     Ok(())
 }
@@ -195,17 +185,19 @@ fn a_report_that_fails(rt: HostRuntime) -> Result<(), Fail> {
 #[test]
 fn built_and_run(rt: HostRuntime) -> Result<(), Fail> {
     let alloc = rt.alloc();
-    for (source, input, shown) in [
-        (COPY, b"xyz".as_slice(), ends(0, b"xyz")),
-        (FIBONACCI, b"", ends(55, b"")),
-    ] {
+    let rows: [(&[u8], &[u8], u8, &[u8]); 2] =
+        [(COPY, b"xyz", 0, b"xyz"), (FIBONACCI, b"", 55, b"")];
+    for (source, input, status, output) in rows {
         let held: [(&str, &[u8]); 2] = [("hi.c", source), ("hi.img", b"")];
         let mut files = files_of(alloc, &held, &[], &[])?;
         let built = call(alloc, &["build", "hi.c", "hi.img"], &mut files, &SOUND)?;
-        assert_eq!(rt; built.shown(), ends(0, b"0 checks, 0 dropped\n"));
+        assert_eq!(rt; built.shown().status, 0);
+        assert_eq!(rt; built.shown().output, b"0 checks, 0 dropped\n".as_slice());
         let streams = Streams { input, ..SOUND };
         let left = call(alloc, &["run", "hi.img"], &mut files, &streams)?;
-        assert_eq!(rt; left.shown(), shown);
+        assert_eq!(rt; left.shown().status, status);
+        assert_eq!(rt; left.shown().output, output);
+        assert_eq!(rt; left.shown().errors, b"".as_slice());
     }
     Ok(())
 }

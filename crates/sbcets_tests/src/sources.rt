@@ -213,7 +213,7 @@ fn repeated(
 }
 
 // A repeated source, and its line: none where it is accepted and gives 0.
-type Counted = (
+type Repetition = (
     &'static [u8],
     (&'static [u8], &'static [u8]),
     usize,
@@ -224,7 +224,7 @@ type Counted = (
 const MAIN: &[u8] = b"int main(void){return 0;}";
 
 // As many functions, parameters and members as there may be, and one more.
-const COUNTED: [Counted; 6] = [
+const COUNTED: [Repetition; 6] = [
     (MAIN, (b"int f", b"(void){return 0;}"), 4095, b"", b""),
     (
         MAIN,

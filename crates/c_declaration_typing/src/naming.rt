@@ -86,8 +86,8 @@ fn again(alloc: Global, meaning: &Meaning) -> Result<Meaning, AllocError>
     }
 }
 
-// What a name stands for in the innermost scope.
-fn meaning_here(typer: &Typer, name: &[u8]) -> Result<Option<Meaning>, AllocError>
+/// What a name stands for in the innermost scope.
+pub fn meaning_here(typer: &Typer, name: &[u8]) -> Result<Option<Meaning>, AllocError>
     ensures { IfOk result (λ m. m ≡ declared name.now (state_of typer.now).environment.names.current) }
 {
     match typer.environment.names.here(name) {

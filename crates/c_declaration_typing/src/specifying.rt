@@ -20,15 +20,15 @@ use c_typing::{Specification, Typer};
 use sb_base::Line;
 
 /// That a storage-class specifier is out of place.
-pub(crate) fn misplaced<T>(line: Line) -> Result<T, Refusal>
+pub fn misplaced<T>(line: Line) -> Result<T, Refusal>
     ensures { result ≡ Err (OfFault (record { rule = MisplacedStorage; line = line })) }
 {
     let rule = Rule::MisplacedStorage;
     Err(Refusal::Fault(Fault { rule, line }))
 }
 
-// There is at most one storage-class specifier (6.7.1 paragraph 2).
-fn stored_once(specification: &Specification) -> Result<(), Refusal>
+/// Judges that there is at most one storage-class specifier (6.7.1 paragraph 2), at the first of the specifiers.
+pub fn stored_once(specification: &Specification) -> Result<(), Refusal>
     ensures { Gives (λ done. specification_of specification.now) result
         (if specification.now.has_two_storages then violates MisplacedStorage specification.now.line
         else Ok (specification_of specification.now)) }

@@ -1,0 +1,70 @@
+-- Why a file has no typed program.
+use Rattle.std.proofs.Common.{◌≡◌, ℕ, List, Some, None, refl, sym, ap, ◌∙◌, subst}
+use Rattle.std.specs.Prelude.{Option, Ok, Err}
+use Rattle.c_syntax.specs.Statements.{External, Unit as SyntaxUnit}
+use Rattle.c_tree.specs.Programs.{Program}
+use Rattle.c_rules.specs.declared.fault.Fault.{Fault}
+use Rattle.c_unit_typing.specs.declared.limits.Limited.{Limited}
+use Rattle.c_unit_typing.specs.Files.{File}
+use Rattle.c_unit_typing.specs.Programs.{program_of}
+use Rattle.c_unit_typing.specs.Typed.{TypedUnit, a_fault, a_program, too_large, typed_as, typed_unit, within_limits}
+use Rattle.c_unit_typing.specs.Units.{file_in}
+use Rattle.c_unit_program.specs.Limits.{IsExcess}
+use Rattle.c_unit_program.specs.Outlines.{Outline, program_in}
+use Rattle.c_unit_program.specs.Rooms.{first_without_room}
+use Rattle.c_typer.specs.declared.unit.UnitRefusal.{UnitRefusal}
+use Rattle.c_typer.specs.declared.unit.UnitRefusal.TheVariants.{Fault as OfFault, Memory, RoomTooLarge, TooLarge}
+use Rattle.c_typer.specs.Refused.{IsCauseOf, IsWithoutRoom, UnlessMemory}
+
+moved : (e : UnitRefusal) (u v : TypedUnit) → u ≡ v → UnlessMemory e (IsCauseOf e u) → UnlessMemory e (IsCauseOf e v)
+moved e u v same cause = subst (λ z. UnlessMemory e (IsCauseOf e z)) same cause
+
+pub without_room : (p : Program) (k : ℕ) → first_without_room 0 p.functions ≡ Some k
+    → IsWithoutRoom k (a_program p)
+without_room p k first = record { program = p; is_program = refl; is_first = first }
+
+-- within the limits
+
+pub within : (es : List External) (o : Outline) (p : Program) → IsExcess es o None → p ≡ program_in o
+    → within_limits es (program_in o) ≡ a_program p
+within es o p none is = none ∙ ap a_program (sym is)
+
+pub caused : (es : List External) (o : Outline) (e : UnitRefusal) → IsExcess es o None
+    → UnlessMemory e (IsCauseOf e (a_program (program_in o)))
+    → UnlessMemory e (IsCauseOf e (within_limits es (program_in o)))
+caused es o e none cause = moved e (a_program (program_in o)) (within_limits es (program_in o)) (sym none) cause
+
+pub large : (es : List External) (o : Outline) (which : Limited) (n : ℕ) → IsExcess es o (Some (which, n))
+    → within_limits es (program_in o) ≡ too_large which n
+large es o which n is = is
+
+-- of a file
+
+pub of_outline : (es : List External) (f : File) (o : Outline) (p : Program) → program_in o ≡ program_of f
+    → within_limits es (program_in o) ≡ a_program p → within_limits es (program_of f) ≡ a_program p
+of_outline es f o p same typed = ap (within_limits es) (sym same) ∙ typed
+
+pub cause_of_outline : (es : List External) (f : File) (o : Outline) (e : UnitRefusal) → program_in o ≡ program_of f
+    → UnlessMemory e (IsCauseOf e (within_limits es (program_in o)))
+    → UnlessMemory e (IsCauseOf e (within_limits es (program_of f)))
+cause_of_outline es f o e same cause =
+    moved e (within_limits es (program_in o)) (within_limits es (program_of f)) (ap (within_limits es) same) cause
+
+typed_is : (end : ℕ) (u : SyntaxUnit) (f : File) → file_in end u.externals ≡ Ok f
+    → typed_unit end u ≡ within_limits u.externals (program_of f)
+unfolding typed_unit
+typed_is end u f is = ap (typed_as u.externals) is
+
+pub of_file : (end : ℕ) (u : SyntaxUnit) (f : File) (p : Program) → file_in end u.externals ≡ Ok f
+    → within_limits u.externals (program_of f) ≡ a_program p → typed_unit end u ≡ a_program p
+of_file end u f p is typed = typed_is end u f is ∙ typed
+
+pub cause_of_file : (end : ℕ) (u : SyntaxUnit) (f : File) (e : UnitRefusal) → file_in end u.externals ≡ Ok f
+    → UnlessMemory e (IsCauseOf e (within_limits u.externals (program_of f)))
+    → UnlessMemory e (IsCauseOf e (typed_unit end u))
+cause_of_file end u f e is cause =
+    moved e (within_limits u.externals (program_of f)) (typed_unit end u) (sym (typed_is end u f is)) cause
+
+pub fault : (end : ℕ) (u : SyntaxUnit) (f : Fault) → file_in end u.externals ≡ Err f → typed_unit end u ≡ a_fault f
+unfolding typed_unit
+fault end u f is = ap (typed_as u.externals) is

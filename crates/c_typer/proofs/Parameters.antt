@@ -1,0 +1,83 @@
+-- The parameters of a function whose block begins.
+use Rattle.std.proofs.Common.{◌≡◌, ℕ, zero, suc, ◌+◌, ◌<◌, ◌≤◌, refl, sym, ap, ◌∙◌, Bool, true, false, List, [], ◌∷◌}
+use Rattle.std.proofs.Common.{◌++◌, length, map, drop, arith}
+use Rattle.std.specs.Prelude.{Option, Some, nat_lt, slice_get, if◌then◌else◌}
+use Rattle.std.proofs.lemmas.List.{append_assoc, append-nil, drop_all}
+use Rattle.c_tree.specs.declared.c_type.TypeWord.{TypeWord}
+use Rattle.c_tree.specs.declared.program.Variable.{Variable}
+use Rattle.c_scope.specs.declared.meaning.Designated.TheVariants as what
+use Rattle.c_scope.specs.declared.meaning.Meaning.{Meaning}
+use Rattle.c_scope.specs.declared.meaning.Meaning.TheVariants.{Constant, Named, Typedef}
+use Rattle.c_scope.specs.Names.{Names}
+use Rattle.c_scope.specs.Parameters.{ParameterScope, with_parameters}
+use Rattle.c_typing.specs.Calls.{place_among}
+use Rattle.c_typing.specs.State.{State}
+use Rattle.c_unit_typing.specs.Files.{File}
+use Rattle.c_unit_typing.specs.Units.{entered, marks_in, parameter_in, parameters_in}
+use Rattle.c_typer.specs.Entering.{begun, parameter_of}
+
+-- one after the other
+
+one_parameter : (s : State) (es : Names Meaning) (n : ℕ) (m : Option Meaning) → n < length es
+    → m ≡ slice_get (map (λ e. e.1) es) n
+    → parameters_in s (drop n es) ≡ parameter_of s m ++ parameters_in s (drop (suc n) es)
+one_parameter s [] n m here is = absurd (omega arith)
+one_parameter s (e ∷ es) zero m here is = ap (λ z. parameter_of s z ++ parameters_in s es) (sym is)
+one_parameter s (e ∷ es) (suc n) m here is = one_parameter s es n m (omega arith) is
+
+pub parameters_next : (s : State) (es : Names Meaning) (n : ℕ) (m : Option Meaning) (vs more all : List Variable)
+    → n < length es → m ≡ slice_get (map (λ e. e.1) es) n → more ≡ vs ++ parameter_of s m
+    → vs ++ parameters_in s (drop n es) ≡ all → more ++ parameters_in s (drop (n + 1) es) ≡ all
+parameters_next s es n m vs more all here is longer so_far =
+    let next : n + 1 ≡ suc n = omega arith in
+    let rest = parameters_in s (drop (suc n) es) in
+    ap (λ k. more ++ parameters_in s (drop k es)) next
+    ∙ ap (λ z. z ++ rest) longer ∙ append_assoc vs (parameter_of s m) rest
+    ∙ ap (λ z. vs ++ z) (sym (one_parameter s es n m here is)) ∙ so_far
+
+pub parameters_end : (s : State) (es : Names Meaning) (n : ℕ) (vs all : List Variable) → length es ≤ n
+    → vs ++ parameters_in s (drop n es) ≡ all → vs ≡ all
+parameters_end s es n vs all past e =
+    sym (append-nil vs) ∙ ap (λ z. vs ++ parameters_in s z) (sym (drop_all n es past)) ∙ e
+
+-- before and in their scope
+
+abbrev inside : (number : ℕ) → ParameterScope → File → State
+inside n scope f = record f.state {
+  environment = with_parameters scope f.state.environment;
+  objects = marks_in f.objects n;
+  taken = [];
+  function = Some n;
+}
+
+one_same : (n : ℕ) (scope : ParameterScope) (f : File) (types : List (List TypeWord)) (m : Meaning)
+    → parameter_in (begun n f).state m ≡ parameter_in (record (inside n scope f) { function_types = types }) m
+one_same n scope f types (Typedef type) = refl
+one_same n scope f types (Constant word) = refl
+one_same n scope f types (Named (what.Object k) type) = refl
+one_same n scope f types (Named (what.Function k) type) = refl
+one_same n scope f types (Named (what.Library l) type) = refl
+one_same n scope f types (Named (what.Static k) type) = refl
+one_same n scope f types (Named (what.Variable k) type) = refl
+
+all_same : (n : ℕ) (scope : ParameterScope) (f : File) (types : List (List TypeWord)) (es : Names Meaning)
+    → parameters_in (begun n f).state es ≡ parameters_in (record (inside n scope f) { function_types = types }) es
+all_same n scope f types [] = refl
+all_same n scope f types (e ∷ es) =
+    ap (λ z. z ++ parameters_in (begun n f).state es) (one_same n scope f types e.1)
+    ∙ ap (λ z. parameter_in (record (inside n scope f) { function_types = types }) e.1 ++ z)
+    (all_same n scope f types es)
+
+by_types : (n : ℕ) (scope : ParameterScope) (f : File) (types : List (List TypeWord)) (es : Names Meaning) (b : Bool)
+    → parameters_in (begun n f).state es
+    ≡ parameters_in (if b then inside n scope f else record (inside n scope f) { function_types = types }) es
+by_types n scope f types es true = all_same n scope f f.state.function_types es
+by_types n scope f types es false = all_same n scope f types es
+
+pub same_parameters : (n : ℕ) (type : List TypeWord) (scope : ParameterScope) (f : File) (es : Names Meaning)
+    (s : State) (vs : List Variable) → s ≡ (begun n f).state → vs ≡ parameters_in s es
+    → vs ≡ parameters_in (entered n type scope f).state es
+same_parameters n type scope f es s vs is are =
+    are ∙ ap (λ z. parameters_in z es) is
+    ∙ by_types n scope f (f.state.function_types ++ type ∷ []) es
+    (nat_lt (place_among type f.state.function_types) (length f.state.function_types))

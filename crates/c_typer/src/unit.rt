@@ -1,0 +1,93 @@
+//! The typed program of a file.
+
+ghost use Rattle.std.specs.Prelude.{◌≡◌, IfErr, IfOk};
+ghost use Rattle.c_syntax.specs.StatementsView.{externals_in, unit_of};
+ghost use Rattle.c_tree.specs.View as view;
+ghost use Rattle.c_unit_state.specs.FileState.{file_of};
+ghost use Rattle.c_unit_typing.specs.Programs.{program_of};
+ghost use Rattle.c_unit_typing.specs.Typed.{a_program, typed_unit, within_limits};
+ghost use Rattle.c_unit_program.specs.Outlines.{outline_of, program_in};
+ghost use Rattle.c_typer.specs.Refused.{IsCauseOf, UnlessMemory};
+
+use crate::file::file_in;
+use c_rules::{Fault, Refusal};
+use c_syntax::Unit;
+use c_tree::Program;
+use c_unit_program::{Outline, ProgramRefusal, complete, excess, outlined};
+use c_unit_state::FileTyper;
+use c_unit_typing::limits::Limited;
+use sb_base::Line;
+use std::alloc::Global;
+
+/// Why a file has no typed program.
+#[derive(Clone, Copy, Debug)]
+pub enum UnitRefusal {
+    /// The first rule that it violates, with its line.
+    Fault(Fault),
+    /// It violates no rule, and there is more of something than its limit, and how much there is.
+    TooLarge(Limited, u128),
+    /// It violates no rule, nothing is too large, and a call of the function with this number, which is the first such
+    /// one, takes 2^64 bytes or more of the budget `calls`.
+    RoomTooLarge(usize),
+    /// There is no memory.
+    Memory,
+}
+
+// The program of an outline of which nothing is too large.
+#[tactic(auto, using(crate::proofs::Causes::without_room))]
+fn completed(alloc: Global, outline: Outline) -> Result<Program, UnitRefusal>
+    ensures typed { IfOk result (λ program. view.program_of program ≡ program_in (outline_of outline)) }
+    ensures refused { IfErr result
+        (λ refusal. UnlessMemory refusal (IsCauseOf refusal (a_program (program_in (outline_of outline))))) }
+{
+    match complete(alloc, outline) {
+        Ok(program) => Ok(program),
+        Err(ProgramRefusal::RoomTooLarge(number)) => Err(UnitRefusal::RoomTooLarge(number)),
+        Err(ProgramRefusal::Memory) => Err(UnitRefusal::Memory),
+    }
+}
+
+// The program of an outline, or what it has too much of.
+#[tactic(auto, using(crate::proofs::Causes::within, crate::proofs::Causes::caused, crate::proofs::Causes::large))]
+fn judged(alloc: Global, unit: &Unit, outline: Outline) -> Result<Program, UnitRefusal>
+    ensures typed { IfOk result (λ program. within_limits (externals_in unit.now.externals)
+        (program_in (outline_of outline)) ≡ a_program (view.program_of program)) }
+    ensures refused { IfErr result (λ refusal. UnlessMemory refusal (IsCauseOf refusal
+        (within_limits (externals_in unit.now.externals) (program_in (outline_of outline))))) }
+{
+    match excess(alloc, unit, &outline) {
+        Ok(None) => completed(alloc, outline),
+        Ok(Some((which, count))) => Err(UnitRefusal::TooLarge(which, count)),
+        Err(_) => Err(UnitRefusal::Memory),
+    }
+}
+
+// The program of a typed file, or what it has too much of.
+#[tactic(auto, using(crate::proofs::Causes::of_outline, crate::proofs::Causes::cause_of_outline))]
+fn program_in(alloc: Global, unit: &Unit, file: FileTyper) -> Result<Program, UnitRefusal>
+    ensures typed { IfOk result (λ program. within_limits (externals_in unit.now.externals)
+        (program_of (file_of file.entry)) ≡ a_program (view.program_of program)) }
+    ensures refused { IfErr result (λ refusal. UnlessMemory refusal (IsCauseOf refusal
+        (within_limits (externals_in unit.now.externals) (program_of (file_of file.entry))))) }
+{
+    match outlined(file) {
+        Ok(outline) => judged(alloc, unit, outline),
+        Err(_) => Err(UnitRefusal::Memory),
+    }
+}
+
+/// The typed program of a file whose text ends on a line (C99 6.9), or why there is none: a rule that it violates, else
+/// that it has too much of something, else that calls of a function take too much; or that there is no memory.
+#[tactic(auto, using(crate::proofs::Causes::of_file, crate::proofs::Causes::cause_of_file, crate::proofs::Causes::fault))]
+pub fn type_unit(alloc: Global, end: Line, unit: &Unit) -> Result<Program, UnitRefusal>
+    ensures typed { IfOk result
+        (λ program. typed_unit end (unit_of unit.now) ≡ a_program (view.program_of program)) }
+    ensures refused { IfErr result
+        (λ refusal. UnlessMemory refusal (IsCauseOf refusal (typed_unit end (unit_of unit.now)))) }
+{
+    match file_in(alloc, end, unit.externals.as_slice()) {
+        Ok(file) => program_in(alloc, unit, file),
+        Err(Refusal::Fault(fault)) => Err(UnitRefusal::Fault(fault)),
+        Err(Refusal::Memory) => Err(UnitRefusal::Memory),
+    }
+}

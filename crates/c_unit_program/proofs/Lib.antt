@@ -1,0 +1,5 @@
+mod Placing
+mod Filling
+mod Making
+mod Files
+mod Limiting

@@ -100,7 +100,10 @@ const REFUSED: [(&[u8], &[u8]); 22] = [
     // Faults of directives come before faults of syntax too.
     (b"T*x;\n#endif\n", b"directive fault 4 at line 2"),
     // An unsupported word comes before a violated rule.
-    (b"int main(void){return x;}\nfloat f;", b"unsupported float at line 2"),
+    (
+        b"int main(void){return x;}\nfloat f;",
+        b"unsupported float at line 2",
+    ),
 ];
 
 // A source that violates a rule of typing, which its line tells (docs/LANGUAGE.md).
@@ -108,30 +111,84 @@ const VIOLATING: [(&[u8], &[u8]); 24] = [
     // Rules 0 and 1 are judged at the end.
     (b"int\nx;", b"type rule 0 at line 2"),
     (b"int f(void){return 0;}", b"type rule 0 at line 1"),
-    (b"int f(void);int main(void){\nreturn f();}\n", b"type rule 1 at line 2"),
+    (
+        b"int f(void);int main(void){\nreturn f();}\n",
+        b"type rule 1 at line 2",
+    ),
     (b"int main(void){return x;}", b"type rule 2 at line 1"),
     // A token of a macro's text is on the line of the macro's use.
-    (b"#define N x\nint main(void){\nreturn N;}", b"type rule 2 at line 3"),
-    (b"int main(void){int a;\nint a;return 0;}", b"type rule 3 at line 2"),
-    (b"int main(void){return 0;}\nlong main(void){return 0;}", b"type rule 3 at line 2"),
-    (b"struct s{int a;};\nunion s;int main(void){return 0;}", b"type rule 4 at line 2"),
-    (b"int main(void){void\nx;return 0;}", b"type rule 5 at line 2"),
-    (b"int main(void){int a=1;switch(a){\ncase a:return 1;}return 0;}", b"type rule 7 at line 2"),
+    (
+        b"#define N x\nint main(void){\nreturn N;}",
+        b"type rule 2 at line 3",
+    ),
+    (
+        b"int main(void){int a;\nint a;return 0;}",
+        b"type rule 3 at line 2",
+    ),
+    (
+        b"int main(void){return 0;}\nlong main(void){return 0;}",
+        b"type rule 3 at line 2",
+    ),
+    (
+        b"struct s{int a;};\nunion s;int main(void){return 0;}",
+        b"type rule 4 at line 2",
+    ),
+    (
+        b"int main(void){void\nx;return 0;}",
+        b"type rule 5 at line 2",
+    ),
+    (
+        b"int main(void){int a=1;switch(a){\ncase a:return 1;}return 0;}",
+        b"type rule 7 at line 2",
+    ),
     (b"int main(void){return\n*1;}", b"type rule 11 at line 2"),
     (b"int main(void){return &\n1;}", b"type rule 12 at line 1"),
-    (b"int main(void){1\n=2;return 0;}", b"type rule 13 at line 2"),
-    (b"void f(void){}int main(void){return 1\n+f();}", b"type rule 14 at line 2"),
-    (b"int main(void){return (void(*)(void))0;}", b"type rule 15 at line 1"),
-    (b"int main(void){int a=1;return a\n();}", b"type rule 17 at line 2"),
-    (b"int f(int a){return a;}int main(void){return\nf();}", b"type rule 18 at line 2"),
-    (b"void f(void){}int main(void){\nif(f())return 1;return 0;}", b"type rule 19 at line 2"),
-    (b"void f(void){\nreturn 1;}int main(void){return 0;}", b"type rule 20 at line 2"),
+    (
+        b"int main(void){1\n=2;return 0;}",
+        b"type rule 13 at line 2",
+    ),
+    (
+        b"void f(void){}int main(void){return 1\n+f();}",
+        b"type rule 14 at line 2",
+    ),
+    (
+        b"int main(void){return (void(*)(void))0;}",
+        b"type rule 15 at line 1",
+    ),
+    (
+        b"int main(void){int a=1;return a\n();}",
+        b"type rule 17 at line 2",
+    ),
+    (
+        b"int f(int a){return a;}int main(void){return\nf();}",
+        b"type rule 18 at line 2",
+    ),
+    (
+        b"void f(void){}int main(void){\nif(f())return 1;return 0;}",
+        b"type rule 19 at line 2",
+    ),
+    (
+        b"void f(void){\nreturn 1;}int main(void){return 0;}",
+        b"type rule 20 at line 2",
+    ),
     (b"int main(void){\nbreak;}", b"type rule 21 at line 2"),
-    (b"int main(void){switch(1){case 1:\ncase 1:;}return 0;}", b"type rule 21 at line 2"),
-    (b"int main(void){\nputchar;return 0;}", b"type rule 23 at line 2"),
-    (b"int main(void){extern int a=1;return 0;}", b"type rule 26 at line 1"),
+    (
+        b"int main(void){switch(1){case 1:\ncase 1:;}return 0;}",
+        b"type rule 21 at line 2",
+    ),
+    (
+        b"int main(void){\nputchar;return 0;}",
+        b"type rule 23 at line 2",
+    ),
+    (
+        b"int main(void){extern int a=1;return 0;}",
+        b"type rule 26 at line 1",
+    ),
     // The violated rule whose token stands first is told.
-    (b"int main(void){int a;\nreturn b;}\nint f(void){return c;}", b"type rule 2 at line 2"),
+    (
+        b"int main(void){int a;\nreturn b;}\nint f(void){return c;}",
+        b"type rule 2 at line 2",
+    ),
 ];
 
 // A source that is typed and refused, and its line.
@@ -159,9 +216,18 @@ const UNBUILT: [(&[u8], &[u8]); 8] = [
         b"globals of 4198400 is too large",
     ),
     // Objects, pointers and strings are not compiled yet: the line is that of the end.
-    (b"int x;int main(void){return x;}\n", b"unsupported program at line 2"),
-    (b"int main(void){int a[2];return 0;}", b"unsupported program at line 1"),
-    (b"int main(void){puts(\"hi\");return 0;}", b"unsupported program at line 1"),
+    (
+        b"int x;int main(void){return x;}\n",
+        b"unsupported program at line 2",
+    ),
+    (
+        b"int main(void){int a[2];return 0;}",
+        b"unsupported program at line 1",
+    ),
+    (
+        b"int main(void){puts(\"hi\");return 0;}",
+        b"unsupported program at line 1",
+    ),
 ];
 
 // The tool's own line with this text.
@@ -233,7 +299,13 @@ const COUNTED: [Repetition; 6] = [
         b"",
         b"functions of 4097 is too large",
     ),
-    (b"int f(int b", (b",int a", b""), 126, b");int main(void){return 0;}", b""),
+    (
+        b"int f(int b",
+        (b",int a", b""),
+        126,
+        b");int main(void){return 0;}",
+        b"",
+    ),
     (
         b"int f(int b",
         (b",int a", b""),
@@ -241,7 +313,13 @@ const COUNTED: [Repetition; 6] = [
         b");int main(void){return 0;}",
         b"parameters of 128 is too large",
     ),
-    (b"struct s{", (b"int a", b";"), 1024, b"};int main(void){return 0;}", b""),
+    (
+        b"struct s{",
+        (b"int a", b";"),
+        1024,
+        b"};int main(void){return 0;}",
+        b"",
+    ),
     (
         b"struct s{",
         (b"int a", b";"),

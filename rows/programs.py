@@ -1,7 +1,7 @@
 #!/usr/bin/env python3
 """Writes crates/sbcets_tests/src/rows.rt: programs of integers with the output and the status that gcc gives for them.
 
-    rows/programs.py >crates/sbcets_tests/src/rows.rt
+    rows/programs.py >crates/sbcets_tests/src/rows.rt     (and then lay the file out)
 
 Each program is a text of this folder, of `programs` in it or of `examples`, with an input. gcc makes integers wrap and plain
 char unsigned, and is told of no builtins; C99 determines the rest of what is compared."""
@@ -29,6 +29,28 @@ WITH_INPUT = [
     ("../examples/count.c", [b"one two\n three\t\n\n4", b""]),
     ("../examples/calendar.c", [b"2024 2", b"1999 12", b"1900 2", b"1582 1"]),
 ]
+
+
+# How many texts one test has: each run begins with a memory of some 30 MB.
+AT_ONCE = 5
+
+CHECK = """
+fn check(rt: &HostRuntime, first: usize) -> Result<(), Fail> {
+    for (name, source, runs) in ROWS.iter().skip(first).take(AT_ONCE) {
+        for (input, status, output) in runs.iter() {
+            let mut files = files_of(rt.alloc(), &[("row.c", source)], &[], &[])?;
+            let streams = Streams { input, ..SOUND };
+            let left = call(rt.alloc(), &["go", "row.c"], &mut files, &streams)?;
+            let shown = Shown {
+                status: *status,
+                output,
+                errors: b"",
+            };
+            assert_eq!(rt; left.shown(), shown, "at {name}");
+        }
+    }
+    Ok(())
+}""".replace("AT_ONCE", str(AT_ONCE))
 
 
 def run_of(text, data):
@@ -83,26 +105,13 @@ def main():
         print("        ],")
         print("    ),")
     print("];")
-    print(
-        """
+    print(CHECK)
+    for first in range(0, len(list(rows())), AT_ONCE):
+        print(f"""
 #[test]
-fn rows(rt: HostRuntime) -> Result<(), Fail> {
-    for (name, source, runs) in ROWS {
-        for (input, status, output) in *runs {
-            let mut files = files_of(rt.alloc(), &[("row.c", source)], &[], &[])?;
-            let streams = Streams { input, ..SOUND };
-            let left = call(rt.alloc(), &["go", "row.c"], &mut files, &streams)?;
-            let shown = Shown {
-                status: *status,
-                output,
-                errors: b"",
-            };
-            assert_eq!(rt; left.shown(), shown, "at {name}");
-        }
-    }
-    Ok(())
-}"""
-    )
+fn rows_from_{first}(rt: HostRuntime) -> Result<(), Fail> {{
+    check(&rt, {first})
+}}""")
 
 
 main()

@@ -156,9 +156,9 @@ fn go(alloc: Global, source: &[u8], words: &str, streams: &Streams) -> Result<Le
     call(alloc, &spoken, &mut files, streams)
 }
 
-#[test]
-fn programs(rt: HostRuntime) -> Result<(), Fail> {
-    for (row, (source, words, input, status, output, errors)) in ROWS.iter().enumerate() {
+// Each run begins with a memory of some 30 MB, so that a test has few.
+fn check(rt: &HostRuntime, first: usize) -> Result<(), Fail> {
+    for (row, (source, words, input, status, output, errors)) in ROWS.iter().enumerate().skip(first).take(5) {
         let streams = Streams { input, ..SOUND };
         let left = go(rt.alloc(), source, words, &streams)?;
         let shown = Shown {
@@ -169,6 +169,26 @@ fn programs(rt: HostRuntime) -> Result<(), Fail> {
         assert_eq!(rt; left.shown(), shown, "row {row}");
     }
     Ok(())
+}
+
+#[test]
+fn conversions_and_copies(rt: HostRuntime) -> Result<(), Fail> {
+    check(&rt, 0)
+}
+
+#[test]
+fn zero_divisors_and_calls(rt: HostRuntime) -> Result<(), Fail> {
+    check(&rt, 5)
+}
+
+#[test]
+fn endings(rt: HostRuntime) -> Result<(), Fail> {
+    check(&rt, 10)
+}
+
+#[test]
+fn limits(rt: HostRuntime) -> Result<(), Fail> {
+    check(&rt, 15)
 }
 
 // Ten turns of the loop have work 53, and a unit of work takes at most 1024 instructions.

@@ -1,5 +1,5 @@
-// Sources that are accepted and refused, and every line of the tool's own for these. Outputs, lines and statuses are those
-// that the documents state (docs/LANGUAGE.md, docs/FORMATS.md).
+// Sources that are accepted and refused, and every line of the tool's own for these. Outputs, lines and statuses are
+// those that the documents state (docs/LANGUAGE.md, docs/FORMATS.md).
 use crate::outside::{HI, Left, SOUND, Shown, Streams, budgets, call, files_of};
 use sbcets_core::{Counted, SourceRefusal, compile};
 use std::alloc::Global;
@@ -47,15 +47,25 @@ const ACCEPTED: [(&[u8], u8, &[u8]); 10] = [
     ),
 ];
 
-#[test]
-fn accepted_sources(rt: HostRuntime) -> Result<(), Fail> {
-    for (source, status, output) in ACCEPTED.iter() {
+// Each run begins with a memory of some 30 MB, so that a test has few.
+fn accepted(rt: &HostRuntime, first: usize) -> Result<(), Fail> {
+    for (source, status, output) in ACCEPTED.iter().skip(first).take(5) {
         let left = call_on(rt.alloc(), &["go", "hi.c"], source, &[], &SOUND)?;
         assert_eq!(rt; left.shown().status, *status);
         assert_eq!(rt; left.shown().output, *output);
         assert_eq!(rt; left.shown().errors, b"".as_slice());
     }
     Ok(())
+}
+
+#[test]
+fn accepted_sources(rt: HostRuntime) -> Result<(), Fail> {
+    accepted(&rt, 0)
+}
+
+#[test]
+fn accepted_sources_with_directives(rt: HostRuntime) -> Result<(), Fail> {
+    accepted(&rt, 5)
 }
 
 // A source that is refused, and its line.

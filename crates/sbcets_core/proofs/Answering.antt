@@ -1,8 +1,7 @@
 -- The answer of a command, behind its tool line.
-use Rattle.std.proofs.Common.{◌≡◌, ℕ, List, Option, inl, inr, ⊎_elim, subst, sym, ap, ◌∙◌}
+use Rattle.std.proofs.Common.{ℕ, List, Option, inl, inr, ⊎_elim, subst, sym}
 use Rattle.command_line.specs.Asked.{Asked}
 use Rattle.sbcets_core.specs.declared.outcome.Outcome.{Outcome}
-use Rattle.sbcets_core.specs.declared.outcome.ReadFault.{ReadFault}
 use Rattle.sbcets_core.specs.declared.outcome.Outcome.TheVariants.{Exited, Built, Usage, WriteFault, InputFault, Memory}
 use Rattle.sbcets_core.specs.declared.outcome.Outcome.TheVariants.{Limit, Refused, ImageRefused, Trap}
 use Rattle.sbcets_core.specs.declared.outcome.Outcome.TheVariants as outcomes

@@ -1,7 +1,6 @@
 -- How the steps of the compiler make up the judgement of a source.
-use Rattle.std.proofs.Common.{arith, ◌≡◌, ℕ, suc, ◌-◌, Bool, true, false, List, [], ◌∷◌, take, drop, length, Option}
+use Rattle.std.proofs.Common.{arith, ◌≡◌, ℕ, suc, ◌-◌, Bool, true, false, List, take, length}
 use Rattle.std.proofs.Common.{Some, None, Ok, Err, refl, sym, ap, ◌∙◌, subst, inl, inr, ⊎_elim}
-use Rattle.c_lexer.specs.declared.token.Token.{Token}
 use Rattle.c_lexer.specs.Spelled.{TokenList}
 use Rattle.c_syntax.specs.Statements.{Unit as Tree}
 use Rattle.c_syntax.specs.Words.{Words, positioned}

@@ -1,12 +1,12 @@
 -- The hexadecimal digits of a number spell it.
 use Rattle.std.proofs.Common.{◌≡◌, ◌<◌, ℕ, zero, suc, ◌+◌, ◌*◌, ◌/◌, ◌%◌, ◌^◌, Bool, true, false, List, [], ◌∷◌, take}
-use Rattle.std.proofs.Common.{drop, refl, sym, ap, ◌∙◌, subst, arith, cond}
+use Rattle.std.proofs.Common.{drop, refl, sym, ap, ◌∙◌, arith, cond}
 use Rattle.std.specs.Prelude.{◌==◌}
 use Rattle.std.specs.List.{prefix_len}
 use Rattle.std.proofs.lemmas.Bool.{eqb-true}
 use Rattle.std.proofs.lemmas.Bool.Decides.{nat_tests}
 use native.Mathlib.Nat.{div-div-eq-div-mul, div-one}
-use Rattle.sbcets_core.specs.Outcomes.{hexadecimal_digit, digit_at, sixteen_digits, zeros_in_front, hexadecimal}
+use Rattle.sbcets_core.specs.Outcomes.{hexadecimal_digit, digit_at, sixteen_digits, hexadecimal}
 use Rattle.sbcets_core.specs.Hexadecimal.{digit_value, spelled_behind, spelled_number}
 
 value_of_digit : (d : ℕ) → d < 16 → digit_value (hexadecimal_digit d) ≡ d

@@ -1,10 +1,9 @@
 -- What is known of the program of an accepted source.
 use Rattle.std.proofs.Common.{◌≡◌, ◌≤◌, ℕ, suc, zero, Bool, true, false, List, [], ◌∷◌, length, Option, Some, None, Ok, Err}
 use Rattle.std.proofs.Common.{refl, sym, ap, ◌∙◌, subst, arith}
-use Rattle.std.specs.Prelude.{◌&&◌, nat_lt, nat_le, if◌then◌else◌}
+use Rattle.std.specs.Prelude.{◌&&◌, nat_lt, if◌then◌else◌}
 use Rattle.std.specs.List.{list_all}
 use Rattle.std.proofs.lemmas.Bool.Decides.{nat_tests}
-use Rattle.c_lexer.specs.Spelled.{TokenList}
 use Rattle.c_syntax.specs.Statements.{Unit as Tree, External}
 use Rattle.c_counts.specs.Counts.{Count, counts_of}
 use Rattle.c_counts.specs.Excess.{first_above, parameters_among, members_among, most_parameters as most_listed, most_members}
@@ -21,7 +20,7 @@ use Rattle.c_unit_typing.specs.Units.{file_in}
 use Rattle.c_unit_typing.specs.Programs.{program_of}
 use Rattle.c_unit_typing.specs.Typed.{TypedUnit, a_program, a_fault, too_large, any_pointers, is_constant, has_constants}
 use Rattle.c_unit_typing.specs.Typed.{are_constant, most_functions, most_bytes, global_bytes, when_large, limited_program}
-use Rattle.c_unit_typing.specs.Typed.{within_limits, typed_as, typed_unit}
+use Rattle.c_unit_typing.specs.Typed.{typed_as, typed_unit}
 use Rattle.c_typer.specs.Refused.{first_without_room}
 use Rattle.source_meaning.specs.Calls.{function_at}
 use Rattle.integer_images.specs.Images.{HaveFewParameters, most_parameters}

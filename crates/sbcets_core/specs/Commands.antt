@@ -164,15 +164,15 @@ pub record BuiltInto (name target : List ℕ) (budgets : BudgetSizes) (written :
 
 -- the file's write failed, and nothing was printed
 pub record FileFails (name target : List ℕ) (budgets : BudgetSizes) (image : List ℕ) (before after : Outside) : Type 0
-    where
-  pub into : BuiltInto name target budgets (Err record {}) image before after
-  pub output : after.streams.output ≡ before.streams.output
+  where
+    pub into : BuiltInto name target budgets (Err record {}) image before after
+    pub output : after.streams.output ≡ before.streams.output
 
 -- the file holds the image, and the line was printed in part
 pub record LineFails (name target : List ℕ) (budgets : BudgetSizes) (image : List ℕ) (before after : Outside) : Type 0
-    where
-  pub into : BuiltInto name target budgets (Ok tt) image before after
-  pub output : GainsPart before.streams.output after.streams.output (built_line into.built.checks 0)
+  where
+    pub into : BuiltInto name target budgets (Ok tt) image before after
+    pub output : GainsPart before.streams.output after.streams.output (built_line into.built.checks 0)
 
 -- the file holds the image, and the line was printed
 pub record IsBuiltAndTold (name target : List ℕ) (budgets : BudgetSizes) (image : List ℕ) (before after : Outside) : Type

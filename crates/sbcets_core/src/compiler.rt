@@ -30,11 +30,7 @@ pub const MAX_SOURCE: u64 = 1_048_576;
 /// The image of a source, which does what the source means with these budgets, and the number of its checks; or why the
 /// source is refused, for the first of the causes in the order of `SourceRefusal`.
 #[tactic(auto, using(crate::proofs::Typing::accepted_is_fine))]
-pub fn compile(
-    alloc: Global,
-    source: &[u8],
-    budgets: &Budgets,
-) -> Result<Built, SourceRefusal>
+pub fn compile(alloc: Global, source: &[u8], budgets: &Budgets) -> Result<Built, SourceRefusal>
     ensures { Compiles source.now budgets.now result }
 {
     let program = match accepted(alloc, source) {

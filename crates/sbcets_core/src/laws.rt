@@ -18,11 +18,11 @@ ghost use Rattle.sbcets_core.specs.Accepted.{Judges};
 ghost use Rattle.sbcets_core.specs.Trees.{HasTokensAlone, HasOneTree, IsUnparsed};
 
 /// `build` and then `run` compose: where a source was built into a file, and the files are the same
-/// since, what `run` of that file does is what `go` of the source as it was then, with the same budgets, would have done,
-/// with the streams of the run.
+/// since, what `run` of that file does is what `go` of the source as it was then would have done with
+/// the same budgets and the streams of the run.
 pub fn run_of_what_was_built()
-    ensures { (name target : List ℕ) (budgets : BudgetSizes) (limit : ℕ) (outcome : Outcome) (before between start after : Outside)
-        (files : List ℕ → Option (List ℕ)) → between.files ≡ Some files → start.files ≡ between.files
+    ensures { (name target : List ℕ) (budgets : BudgetSizes) (limit : ℕ) (outcome : Outcome)
+        (before between start after : Outside) (files : List ℕ → Option (List ℕ)) → between.files ≡ Some files → start.files ≡ between.files
         → Builds name target budgets Built [] before between → Runs target limit outcome [] start after →
         (image : List ℕ) × Goes name budgets limit outcome image
         (record before { streams = start.streams }) (record before { streams = after.streams }) }

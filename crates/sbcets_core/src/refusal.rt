@@ -59,9 +59,9 @@ impl RefusedWord {
 }
 
 /// Why a source is refused. First comes `TooLarge` of the source's bytes; then a lexical fault, a fault of a directive,
-/// an unsupported word, `Syntax` or `Nesting`; then a violated rule of typing (or `RoomTooLarge`), an initializer that is
-/// not constant, `TooLarge` of functions, parameters, members or globals, in this order; then `Uncompiled`, and last what
-/// is too large to be built.
+/// an unsupported word, `Syntax` or `Nesting`; then a violated rule of typing (or `RoomTooLarge`), an initializer that
+/// is not constant, `TooLarge` of functions, parameters, members or globals, in this order; then `Uncompiled`, and last
+/// what is too large to be built.
 #[derive(Debug, Drop, Error)]
 pub enum SourceRefusal {
     /// The first place where no token stands.
@@ -75,8 +75,7 @@ pub enum SourceRefusal {
     #[error("the source has a word that is not supported")]
     Unsupported(RefusedWord, Line),
     /// No well-formed tree of at most 200 levels has the expanded tokens (C99 6.5 to 6.9), and those up to the one
-    /// where the
-    /// parser stood open at most 200 of `(`, `[` and `{` more than they close.
+    /// where the parser stood open at most 200 of `(`, `[` and `{` more than they close.
     #[error("the source is no text of the grammar")]
     Syntax {
         /// The number of that token, from 0; the end of the text counts as one.

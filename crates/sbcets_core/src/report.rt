@@ -59,7 +59,12 @@ fn report_refusal<S: Sink>(sink: &mut S, refusal: &SourceRefusal) -> Result<(), 
         SourceRefusal::TooLarge { which, count } => report_count(sink, *which, *count),
         SourceRefusal::Uncompiled(line) => put_at_line(sink, b"unsupported program", *line),
         SourceRefusal::RoomTooLarge(number) => {
-            put_numbered(sink, b"room of function ", *number as u128, b" is too large")
+            put_numbered(
+                sink,
+                b"room of function ",
+                *number as u128,
+                b" is too large",
+            )
         }
         SourceRefusal::NumbersTooLarge => put_plain(sink, b"numbers of the code are too large"),
         SourceRefusal::FunctionTooLong(number) => {

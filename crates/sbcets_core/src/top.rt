@@ -48,8 +48,8 @@ pub fn sbcets<F: Files, I: Source, O: Sink, E: Sink>(
               (O.faults output.new) (E.faults errors.new);
         }) }
 
-    // An accepted source is built and runs, unless it is too large to be built, and a readable image runs, where nothing
-    // fails and memory is there.
+    // An accepted source is built and runs, unless it is too large to be built, and a readable image runs, where
+    // nothing fails and memory is there.
     ensures complete { IsComplete (commanded words.now) result.0 (F.held files.old) }
 {
     let (outcome, image) = do_command(alloc, words, files, input, output, errors);

@@ -134,21 +134,45 @@ const BUDGETS: [Budget; 5] = [
     ),
 ];
 
-#[test]
-fn ranges_of_budgets(rt: HostRuntime) -> Result<(), Fail> {
+// Each run begins with a memory of some 30 MB, so that a test has few.
+fn range_of(rt: &HostRuntime, row: &Budget) -> Result<(), Fail> {
     let alloc = rt.alloc();
     let mut files = sound_files(alloc, b"")?;
-    for (option, taken, refused) in BUDGETS {
-        for number in taken {
-            let left = call(alloc, &["go", "hi.c", option, number], &mut files, &SOUND)?;
-            assert_eq!(rt; left.shown(), RUN_OF_HI, "at {option} {number}");
-        }
-        for number in refused {
-            let left = call(alloc, &["go", "hi.c", option, number], &mut files, &SOUND)?;
-            assert_eq!(rt; left.shown(), USAGE, "at {option} {number}");
-        }
+    let (option, taken, refused) = *row;
+    for number in taken {
+        let left = call(alloc, &["go", "hi.c", option, number], &mut files, &SOUND)?;
+        assert_eq!(rt; left.shown(), RUN_OF_HI, "at {option} {number}");
+    }
+    for number in refused {
+        let left = call(alloc, &["go", "hi.c", option, number], &mut files, &SOUND)?;
+        assert_eq!(rt; left.shown(), USAGE, "at {option} {number}");
     }
     Ok(())
+}
+
+#[test]
+fn range_of_heap(rt: HostRuntime) -> Result<(), Fail> {
+    range_of(&rt, &BUDGETS[0])
+}
+
+#[test]
+fn range_of_stack(rt: HostRuntime) -> Result<(), Fail> {
+    range_of(&rt, &BUDGETS[1])
+}
+
+#[test]
+fn range_of_calls(rt: HostRuntime) -> Result<(), Fail> {
+    range_of(&rt, &BUDGETS[2])
+}
+
+#[test]
+fn range_of_blocks(rt: HostRuntime) -> Result<(), Fail> {
+    range_of(&rt, &BUDGETS[3])
+}
+
+#[test]
+fn range_of_keys(rt: HostRuntime) -> Result<(), Fail> {
+    range_of(&rt, &BUDGETS[4])
 }
 
 // The bytes of `hi.img`.

@@ -1,8 +1,8 @@
 //! A call of the program over an outside in memory, and what it shows.
 use crate::ROOM;
-use sb_outside::{MemFiles, MemSink, MemSource};
 use sb_base::Budgets;
 use sb_base::budget::{DEFAULT_BLOCKS, DEFAULT_CALLS, DEFAULT_HEAP, DEFAULT_KEYS, DEFAULT_STACK};
+use sb_outside::{MemFiles, MemSink, MemSource};
 use sbcets_core::{Outcome, sbcets};
 use std::alloc::Global;
 use std::test::Fail;

@@ -16,8 +16,7 @@ type Row = (
 
 const COPY: &[u8] = b"int main(void){int c;while((c=getchar())!=-1)putchar(c);return 0;}";
 
-const RECURSION: &[u8] =
-    b"int f(int n){putchar(46);return f(n+1);}int main(void){return f(0);}";
+const RECURSION: &[u8] = b"int f(int n){putchar(46);return f(n+1);}int main(void){return f(0);}";
 
 const QUOTIENT: &[u8] =
     b"int main(void){int m=-2147483647-1;int d=-1;putchar(m/d==m?'W':'X');d=0;return m%d;}";
@@ -43,57 +42,94 @@ const ROWS: [Row; 20] = [
         QUOTIENT,
         "",
         b"",
-        124, b"W", b"sbcets: division by zero at line 1\n",
+        124,
+        b"W",
+        b"sbcets: division by zero at line 1\n",
     ),
     (
         b"int main(void){int d=0;\nreturn 1\n/\nd;}",
         "",
         b"",
-        124, b"", b"sbcets: division by zero at line 3\n",
+        124,
+        b"",
+        b"sbcets: division by zero at line 3\n",
     ),
     (
         b"int main(void){int d=0;int n=1;\nn%=\nd;return n;}",
         "",
         b"",
-        124, b"", b"sbcets: division by zero at line 2\n",
+        124,
+        b"",
+        b"sbcets: division by zero at line 2\n",
     ),
     // `main` takes 168 bytes of `calls`, and each call of `f` 280, so that 14 of them fit.
     (
         RECURSION,
         "--calls 4096",
         b"",
-        125, b"..............", b"sbcets: stack exhausted at line 1\n",
+        125,
+        b"..............",
+        b"sbcets: stack exhausted at line 1\n",
     ),
     // 28 fit twice as much.
     (
         RECURSION,
         "--calls 8192",
         b"",
-        125, b"............................", b"sbcets: stack exhausted at line 1\n",
+        125,
+        b"............................",
+        b"sbcets: stack exhausted at line 1\n",
     ),
     (
         b"int main(void){putchar(65);\nabort();}",
         "",
         b"",
-        134, b"A", b"sbcets: abort at line 2\n",
+        134,
+        b"A",
+        b"sbcets: abort at line 2\n",
     ),
-    (b"int main(void){exit(-1);return 0;}", "", b"", 255, b"", b""),
-    (b"int f(void){exit(3);return 4;}int main(void){return f();}", "", b"", 3, b"", b""),
+    (
+        b"int main(void){exit(-1);return 0;}",
+        "",
+        b"",
+        255,
+        b"",
+        b"",
+    ),
+    (
+        b"int f(void){exit(3);return 4;}int main(void){return f();}",
+        "",
+        b"",
+        3,
+        b"",
+        b"",
+    ),
     // A function that reaches its end gives 0.
-    (b"int f(void){}int main(void){return f()+5;}", "", b"", 5, b"", b""),
+    (
+        b"int f(void){}int main(void){return f()+5;}",
+        "",
+        b"",
+        5,
+        b"",
+        b"",
+    ),
     (b"int main(void){putchar(65);}", "", b"", 0, b"A", b""),
     // The limit is a number of instructions.
     (
         b"int main(void){for(;;);}",
         "--limit 1000",
         b"",
-        106, b"", b"sbcets: error: limit of 1000 instructions\n",
+        106,
+        b"",
+        b"sbcets: error: limit of 1000 instructions\n",
     ),
     (
         b"int main(void){for(;;);}",
         "--limit 0",
         b"",
-        106, b"", b"sbcets: error: limit of 0 instructions\n",
+        106,
+        b"",
+        b"sbcets: error: limit of 0 instructions\n",
     ),
     // The first source has work 14, and a unit of work takes at most 1024 instructions.
     (HI, "--limit 14336", b"", 7, b"Hi", b""),
@@ -104,7 +140,9 @@ const ROWS: [Row; 20] = [
             return even(10)*2+odd(7);}",
         "",
         b"",
-        3, b"AB", b"",
+        3,
+        b"AB",
+        b"",
     ),
 ];
 
@@ -118,9 +156,9 @@ fn go(alloc: Global, source: &[u8], words: &str, streams: &Streams) -> Result<Le
     call(alloc, &spoken, &mut files, streams)
 }
 
-#[test]
-fn programs(rt: HostRuntime) -> Result<(), Fail> {
-    for (row, (source, words, input, status, output, errors)) in ROWS.iter().enumerate() {
+// Each run begins with a memory of some 30 MB, so that a test has few.
+fn check(rt: &HostRuntime, first: usize) -> Result<(), Fail> {
+    for (row, (source, words, input, status, output, errors)) in ROWS.iter().enumerate().skip(first).take(5) {
         let streams = Streams { input, ..SOUND };
         let left = go(rt.alloc(), source, words, &streams)?;
         let shown = Shown {
@@ -133,6 +171,26 @@ fn programs(rt: HostRuntime) -> Result<(), Fail> {
     Ok(())
 }
 
+#[test]
+fn conversions_and_copies(rt: HostRuntime) -> Result<(), Fail> {
+    check(&rt, 0)
+}
+
+#[test]
+fn zero_divisors_and_calls(rt: HostRuntime) -> Result<(), Fail> {
+    check(&rt, 5)
+}
+
+#[test]
+fn endings(rt: HostRuntime) -> Result<(), Fail> {
+    check(&rt, 10)
+}
+
+#[test]
+fn limits(rt: HostRuntime) -> Result<(), Fail> {
+    check(&rt, 15)
+}
+
 // Ten turns of the loop have work 53, and a unit of work takes at most 1024 instructions.
 #[test]
 fn an_endless_output(rt: HostRuntime) -> Result<(), Fail> {
@@ -142,7 +200,10 @@ fn an_endless_output(rt: HostRuntime) -> Result<(), Fail> {
     assert_eq!(rt; shown.status, 106);
     assert!(rt; shown.output.starts_with(b"AAAAAAAAAA"));
     assert!(rt; shown.output.iter().all(|byte| *byte == b'A'));
-    assert_eq!(rt; shown.errors, b"sbcets: error: limit of 54272 instructions\n".as_slice());
+    assert_eq!(rt;
+        shown.errors,
+        b"sbcets: error: limit of 54272 instructions\n".as_slice()
+    );
     Ok(())
 }
 
@@ -160,7 +221,10 @@ fn an_input_that_fails(rt: HostRuntime) -> Result<(), Fail> {
         let shown = left.shown();
         assert_eq!(rt; shown.status, 104);
         assert_eq!(rt; shown.output, &bytes[..call as usize]);
-        assert_eq!(rt; shown.errors, b"sbcets: error: cannot read input\n".as_slice());
+        assert_eq!(rt;
+            shown.errors,
+            b"sbcets: error: cannot read input\n".as_slice()
+        );
     }
     Ok(())
 }
@@ -185,8 +249,10 @@ fn a_report_that_fails(rt: HostRuntime) -> Result<(), Fail> {
 #[test]
 fn built_and_run(rt: HostRuntime) -> Result<(), Fail> {
     let alloc = rt.alloc();
-    let rows: [(&[u8], &[u8], u8, &[u8]); 2] =
-        [(COPY, b"xyz", 0, b"xyz"), (FIBONACCI, b"", 55, b"")];
+    let rows: [(&[u8], &[u8], u8, &[u8]); 2] = [
+        (COPY, b"xyz", 0, b"xyz"),
+        (FIBONACCI, b"", 55, b""),
+    ];
     for (source, input, status, output) in rows {
         let held: [(&str, &[u8]); 2] = [("hi.c", source), ("hi.img", b"")];
         let mut files = files_of(alloc, &held, &[], &[])?;

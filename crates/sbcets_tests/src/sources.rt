@@ -1,5 +1,5 @@
-// Sources that are accepted and refused, and every line of the tool's own for these. Outputs, lines and statuses are those
-// that the documents state (docs/LANGUAGE.md, docs/FORMATS.md).
+// Sources that are accepted and refused, and every line of the tool's own for these. Outputs, lines and statuses are
+// those that the documents state (docs/LANGUAGE.md, docs/FORMATS.md).
 use crate::outside::{HI, Left, SOUND, Shown, Streams, budgets, call, files_of};
 use sbcets_core::{Counted, SourceRefusal, compile};
 use std::alloc::Global;
@@ -47,15 +47,25 @@ const ACCEPTED: [(&[u8], u8, &[u8]); 10] = [
     ),
 ];
 
-#[test]
-fn accepted_sources(rt: HostRuntime) -> Result<(), Fail> {
-    for (source, status, output) in ACCEPTED.iter() {
+// Each run begins with a memory of some 30 MB, so that a test has few.
+fn accepted(rt: &HostRuntime, first: usize) -> Result<(), Fail> {
+    for (source, status, output) in ACCEPTED.iter().skip(first).take(5) {
         let left = call_on(rt.alloc(), &["go", "hi.c"], source, &[], &SOUND)?;
         assert_eq!(rt; left.shown().status, *status);
         assert_eq!(rt; left.shown().output, *output);
         assert_eq!(rt; left.shown().errors, b"".as_slice());
     }
     Ok(())
+}
+
+#[test]
+fn accepted_sources(rt: HostRuntime) -> Result<(), Fail> {
+    accepted(&rt, 0)
+}
+
+#[test]
+fn accepted_sources_with_directives(rt: HostRuntime) -> Result<(), Fail> {
+    accepted(&rt, 5)
 }
 
 // A source that is refused, and its line.
@@ -100,7 +110,10 @@ const REFUSED: [(&[u8], &[u8]); 22] = [
     // Faults of directives come before faults of syntax too.
     (b"T*x;\n#endif\n", b"directive fault 4 at line 2"),
     // An unsupported word comes before a violated rule.
-    (b"int main(void){return x;}\nfloat f;", b"unsupported float at line 2"),
+    (
+        b"int main(void){return x;}\nfloat f;",
+        b"unsupported float at line 2",
+    ),
 ];
 
 // A source that violates a rule of typing, which its line tells (docs/LANGUAGE.md).
@@ -108,30 +121,84 @@ const VIOLATING: [(&[u8], &[u8]); 24] = [
     // Rules 0 and 1 are judged at the end.
     (b"int\nx;", b"type rule 0 at line 2"),
     (b"int f(void){return 0;}", b"type rule 0 at line 1"),
-    (b"int f(void);int main(void){\nreturn f();}\n", b"type rule 1 at line 2"),
+    (
+        b"int f(void);int main(void){\nreturn f();}\n",
+        b"type rule 1 at line 2",
+    ),
     (b"int main(void){return x;}", b"type rule 2 at line 1"),
     // A token of a macro's text is on the line of the macro's use.
-    (b"#define N x\nint main(void){\nreturn N;}", b"type rule 2 at line 3"),
-    (b"int main(void){int a;\nint a;return 0;}", b"type rule 3 at line 2"),
-    (b"int main(void){return 0;}\nlong main(void){return 0;}", b"type rule 3 at line 2"),
-    (b"struct s{int a;};\nunion s;int main(void){return 0;}", b"type rule 4 at line 2"),
-    (b"int main(void){void\nx;return 0;}", b"type rule 5 at line 2"),
-    (b"int main(void){int a=1;switch(a){\ncase a:return 1;}return 0;}", b"type rule 7 at line 2"),
+    (
+        b"#define N x\nint main(void){\nreturn N;}",
+        b"type rule 2 at line 3",
+    ),
+    (
+        b"int main(void){int a;\nint a;return 0;}",
+        b"type rule 3 at line 2",
+    ),
+    (
+        b"int main(void){return 0;}\nlong main(void){return 0;}",
+        b"type rule 3 at line 2",
+    ),
+    (
+        b"struct s{int a;};\nunion s;int main(void){return 0;}",
+        b"type rule 4 at line 2",
+    ),
+    (
+        b"int main(void){void\nx;return 0;}",
+        b"type rule 5 at line 2",
+    ),
+    (
+        b"int main(void){int a=1;switch(a){\ncase a:return 1;}return 0;}",
+        b"type rule 7 at line 2",
+    ),
     (b"int main(void){return\n*1;}", b"type rule 11 at line 2"),
     (b"int main(void){return &\n1;}", b"type rule 12 at line 1"),
-    (b"int main(void){1\n=2;return 0;}", b"type rule 13 at line 2"),
-    (b"void f(void){}int main(void){return 1\n+f();}", b"type rule 14 at line 2"),
-    (b"int main(void){return (void(*)(void))0;}", b"type rule 15 at line 1"),
-    (b"int main(void){int a=1;return a\n();}", b"type rule 17 at line 2"),
-    (b"int f(int a){return a;}int main(void){return\nf();}", b"type rule 18 at line 2"),
-    (b"void f(void){}int main(void){\nif(f())return 1;return 0;}", b"type rule 19 at line 2"),
-    (b"void f(void){\nreturn 1;}int main(void){return 0;}", b"type rule 20 at line 2"),
+    (
+        b"int main(void){1\n=2;return 0;}",
+        b"type rule 13 at line 2",
+    ),
+    (
+        b"void f(void){}int main(void){return 1\n+f();}",
+        b"type rule 14 at line 2",
+    ),
+    (
+        b"int main(void){return (void(*)(void))0;}",
+        b"type rule 15 at line 1",
+    ),
+    (
+        b"int main(void){int a=1;return a\n();}",
+        b"type rule 17 at line 2",
+    ),
+    (
+        b"int f(int a){return a;}int main(void){return\nf();}",
+        b"type rule 18 at line 2",
+    ),
+    (
+        b"void f(void){}int main(void){\nif(f())return 1;return 0;}",
+        b"type rule 19 at line 2",
+    ),
+    (
+        b"void f(void){\nreturn 1;}int main(void){return 0;}",
+        b"type rule 20 at line 2",
+    ),
     (b"int main(void){\nbreak;}", b"type rule 21 at line 2"),
-    (b"int main(void){switch(1){case 1:\ncase 1:;}return 0;}", b"type rule 21 at line 2"),
-    (b"int main(void){\nputchar;return 0;}", b"type rule 23 at line 2"),
-    (b"int main(void){extern int a=1;return 0;}", b"type rule 26 at line 1"),
+    (
+        b"int main(void){switch(1){case 1:\ncase 1:;}return 0;}",
+        b"type rule 21 at line 2",
+    ),
+    (
+        b"int main(void){\nputchar;return 0;}",
+        b"type rule 23 at line 2",
+    ),
+    (
+        b"int main(void){extern int a=1;return 0;}",
+        b"type rule 26 at line 1",
+    ),
     // The violated rule whose token stands first is told.
-    (b"int main(void){int a;\nreturn b;}\nint f(void){return c;}", b"type rule 2 at line 2"),
+    (
+        b"int main(void){int a;\nreturn b;}\nint f(void){return c;}",
+        b"type rule 2 at line 2",
+    ),
 ];
 
 // A source that is typed and refused, and its line.
@@ -159,9 +226,18 @@ const UNBUILT: [(&[u8], &[u8]); 8] = [
         b"globals of 4198400 is too large",
     ),
     // Objects, pointers and strings are not compiled yet: the line is that of the end.
-    (b"int x;int main(void){return x;}\n", b"unsupported program at line 2"),
-    (b"int main(void){int a[2];return 0;}", b"unsupported program at line 1"),
-    (b"int main(void){puts(\"hi\");return 0;}", b"unsupported program at line 1"),
+    (
+        b"int x;int main(void){return x;}\n",
+        b"unsupported program at line 2",
+    ),
+    (
+        b"int main(void){int a[2];return 0;}",
+        b"unsupported program at line 1",
+    ),
+    (
+        b"int main(void){puts(\"hi\");return 0;}",
+        b"unsupported program at line 1",
+    ),
 ];
 
 // The tool's own line with this text.
@@ -233,7 +309,13 @@ const COUNTED: [Repetition; 6] = [
         b"",
         b"functions of 4097 is too large",
     ),
-    (b"int f(int b", (b",int a", b""), 126, b");int main(void){return 0;}", b""),
+    (
+        b"int f(int b",
+        (b",int a", b""),
+        126,
+        b");int main(void){return 0;}",
+        b"",
+    ),
     (
         b"int f(int b",
         (b",int a", b""),
@@ -241,7 +323,13 @@ const COUNTED: [Repetition; 6] = [
         b");int main(void){return 0;}",
         b"parameters of 128 is too large",
     ),
-    (b"struct s{", (b"int a", b";"), 1024, b"};int main(void){return 0;}", b""),
+    (
+        b"struct s{",
+        (b"int a", b";"),
+        1024,
+        b"};int main(void){return 0;}",
+        b"",
+    ),
     (
         b"struct s{",
         (b"int a", b";"),

@@ -1,4 +1,3 @@
-use Rattle.std.proofs.Common.{sym}
 use Rattle.sbcets_core.specs.Commands.{outside_of}
 use Rattle.sbcets_core.proofs.Cases.{went_goes}
 use Rattle.sbcets_core.proofs.commands.go.Goals as goal

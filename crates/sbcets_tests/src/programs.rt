@@ -158,7 +158,12 @@ fn go(alloc: Global, source: &[u8], words: &str, streams: &Streams) -> Result<Le
 
 // Each run begins with a memory of some 30 MB, so that a test has few.
 fn check(rt: &HostRuntime, first: usize) -> Result<(), Fail> {
-    for (row, (source, words, input, status, output, errors)) in ROWS.iter().enumerate().skip(first).take(5) {
+    for (row, (source, words, input, status, output, errors)) in ROWS
+        .iter()
+        .enumerate()
+        .skip(first)
+        .take(5)
+    {
         let streams = Streams { input, ..SOUND };
         let left = go(rt.alloc(), source, words, &streams)?;
         let shown = Shown {

@@ -4,6 +4,9 @@ use Rattle.std.specs.Prelude.{Option, Ok, Err}
 use Rattle.c_syntax.specs.Statements.{External, Unit as SyntaxUnit}
 use Rattle.c_tree.specs.Programs.{Program}
 use Rattle.c_rules.specs.declared.fault.Fault.{Fault}
+use Rattle.c_rules.specs.declared.fault.Refusal.{Refusal}
+use Rattle.c_rules.specs.declared.fault.Refusal.TheVariants as rules
+use Rattle.c_rules.specs.Answer.{Fails}
 use Rattle.c_unit_typing.specs.declared.limits.Limited.{Limited}
 use Rattle.c_unit_typing.specs.Files.{File}
 use Rattle.c_unit_typing.specs.Programs.{program_of}
@@ -14,7 +17,7 @@ use Rattle.c_unit_program.specs.Outlines.{Outline, program_in}
 use Rattle.c_unit_program.specs.Rooms.{first_without_room}
 use Rattle.c_typer.specs.declared.unit.UnitRefusal.{UnitRefusal}
 use Rattle.c_typer.specs.declared.unit.UnitRefusal.TheVariants.{Fault as OfFault, Memory, RoomTooLarge, TooLarge}
-use Rattle.c_typer.specs.Refused.{IsCauseOf, IsWithoutRoom, UnlessMemory}
+use Rattle.c_typer.specs.Refused.{IsCauseOf, IsWithoutRoom, UnlessMemory, refusal_of}
 
 moved : (e : UnitRefusal) (u v : TypedUnit) → u ≡ v → UnlessMemory e (IsCauseOf e u) → UnlessMemory e (IsCauseOf e v)
 moved e u v same cause = subst (λ z. UnlessMemory e (IsCauseOf e z)) same cause
@@ -50,21 +53,18 @@ pub cause_of_outline : (es : List External) (f : File) (o : Outline) (e : UnitRe
 cause_of_outline es f o e same cause =
     moved e (within_limits es (program_in o)) (within_limits es (program_of f)) (ap (within_limits es) same) cause
 
-typed_is : (end : ℕ) (u : SyntaxUnit) (f : File) → file_in end u.externals ≡ Ok f
+pub typed_is : (end : ℕ) (u : SyntaxUnit) (f : File) → file_in end u.externals ≡ Ok f
     → typed_unit end u ≡ within_limits u.externals (program_of f)
 unfolding typed_unit
 typed_is end u f is = ap (typed_as u.externals) is
 
-pub of_file : (end : ℕ) (u : SyntaxUnit) (f : File) (p : Program) → file_in end u.externals ≡ Ok f
-    → within_limits u.externals (program_of f) ≡ a_program p → typed_unit end u ≡ a_program p
-of_file end u f p is typed = typed_is end u f is ∙ typed
-
-pub cause_of_file : (end : ℕ) (u : SyntaxUnit) (f : File) (e : UnitRefusal) → file_in end u.externals ≡ Ok f
-    → UnlessMemory e (IsCauseOf e (within_limits u.externals (program_of f)))
-    → UnlessMemory e (IsCauseOf e (typed_unit end u))
-cause_of_file end u f e is cause =
-    moved e (within_limits u.externals (program_of f)) (typed_unit end u) (sym (typed_is end u f is)) cause
-
 pub fault : (end : ℕ) (u : SyntaxUnit) (f : Fault) → file_in end u.externals ≡ Err f → typed_unit end u ≡ a_fault f
 unfolding typed_unit
 fault end u f is = ap (typed_as u.externals) is
+
+pub cause_of : (end : ℕ) (u : SyntaxUnit) (r : Refusal) (e : UnitRefusal) → e ≡ refusal_of r
+    → Fails r (file_in end u.externals) → UnlessMemory e (IsCauseOf e (typed_unit end u))
+cause_of end u (rules.Fault f) e is fails =
+    subst (λ z. UnlessMemory z (IsCauseOf z (typed_unit end u))) (sym is) (fault end u f fails)
+cause_of end u rules.Memory e is fails =
+    subst (λ z. UnlessMemory z (IsCauseOf z (typed_unit end u))) (sym is) tt

@@ -1,6 +1,8 @@
 -- Why a file has no typed program (C99 6.9).
 use Rattle.std.specs.Prelude.{◌≡◌, ℕ, Some}
 use Rattle.c_tree.specs.Programs.{Program}
+use Rattle.c_rules.specs.declared.fault.Refusal.{Refusal}
+use Rattle.c_rules.specs.declared.fault.Refusal.TheVariants as rules
 use Rattle.c_unit_typing.specs.Typed.{TypedUnit, a_fault, a_program, too_large}
 use Rattle.c_unit_program.specs.Rooms.{first_without_room}
 use Rattle.c_typer.specs.declared.unit.UnitRefusal.{UnitRefusal}
@@ -25,3 +27,7 @@ IsCauseOf (refusal.Fault f) typed = typed ≡ a_fault f
 IsCauseOf (refusal.TooLarge which n) typed = typed ≡ too_large which n
 IsCauseOf (refusal.RoomTooLarge k) typed = IsWithoutRoom k typed
 IsCauseOf refusal.Memory typed = Unit {0}
+
+abbrev pub refusal_of : Refusal → UnitRefusal
+refusal_of (rules.Fault f) = refusal.Fault f
+refusal_of rules.Memory = refusal.Memory

@@ -13,8 +13,8 @@ ghost use Rattle.c_typing.specs.State.{Types, judged, state_of, ◌>>>◌};
 ghost use Rattle.c_expression_typing.specs.Typed.{specification};
 ghost use Rattle.c_unit_state.specs.FileState.{FileTypes, file_of};
 ghost use Rattle.c_unit_typing.specs.Declarations.{stored_once};
-ghost use Rattle.c_unit_typing.specs.Units.{around_body, body, body_of, defined_by, definition, entered, external, externals};
-ghost use Rattle.c_unit_typing.specs.Units.{scope_or_none, with_body};
+ghost use Rattle.c_unit_typing.specs.Units.{around_body, body, body_of, defined_by, definition, entered, external};
+ghost use Rattle.c_unit_typing.specs.Units.{externals, scope_or_none, with_body};
 
 use crate::entering::{enter, leave};
 use crate::naming::defined_as;

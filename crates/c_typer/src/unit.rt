@@ -7,7 +7,7 @@ ghost use Rattle.c_unit_state.specs.FileState.{file_of};
 ghost use Rattle.c_unit_typing.specs.Programs.{program_of};
 ghost use Rattle.c_unit_typing.specs.Typed.{a_program, typed_unit, within_limits};
 ghost use Rattle.c_unit_program.specs.Outlines.{outline_of, program_in};
-ghost use Rattle.c_typer.specs.Refused.{IsCauseOf, UnlessMemory};
+ghost use Rattle.c_typer.specs.Refused.{IsCauseOf, UnlessMemory, refusal_of};
 
 use crate::file::file_in;
 use c_rules::{Fault, Refusal};
@@ -31,6 +31,15 @@ pub enum UnitRefusal {
     RoomTooLarge(usize),
     /// There is no memory.
     Memory,
+}
+
+fn refused(refusal: Refusal) -> UnitRefusal
+    ensures { result ≡ refusal_of refusal }
+{
+    match refusal {
+        Refusal::Fault(fault) => UnitRefusal::Fault(fault),
+        Refusal::Memory => UnitRefusal::Memory,
+    }
 }
 
 // The program of an outline of which nothing is too large.
@@ -78,7 +87,6 @@ fn program_in(alloc: Global, unit: &Unit, file: FileTyper) -> Result<Program, Un
 
 /// The typed program of a file whose text ends on a line (C99 6.9), or why there is none: a rule that it violates, else
 /// that it has too much of something, else that calls of a function take too much; or that there is no memory.
-#[tactic(auto, using(crate::proofs::Causes::of_file, crate::proofs::Causes::cause_of_file, crate::proofs::Causes::fault))]
 pub fn type_unit(alloc: Global, end: Line, unit: &Unit) -> Result<Program, UnitRefusal>
     ensures typed { IfOk result
         (λ program. typed_unit end (unit_of unit.now) ≡ a_program (view.program_of program)) }
@@ -87,7 +95,6 @@ pub fn type_unit(alloc: Global, end: Line, unit: &Unit) -> Result<Program, UnitR
 {
     match file_in(alloc, end, unit.externals.as_slice()) {
         Ok(file) => program_in(alloc, unit, file),
-        Err(Refusal::Fault(fault)) => Err(UnitRefusal::Fault(fault)),
-        Err(Refusal::Memory) => Err(UnitRefusal::Memory),
+        Err(refusal) => Err(refused(refusal)),
     }
 }

@@ -1,0 +1,3 @@
+pub mod Constructs
+pub mod Kept
+pub mod Primaries

@@ -1,0 +1,62 @@
+-- What names stand for, as the scope of a function in a program has it (C99 6.2.1, 6.5.1).
+use Rattle.std.specs.Prelude.{◌≡◌, ℕ, ◌+◌, Bool, true, ◌||◌, List, length, get_or, Option, Some, None}
+use Rattle.obj_memory.specs.declared.int_type.IntType.TheVariants.{Int}
+use Rattle.obj_memory.specs.Integers.{fit}
+use Rattle.c_tree.specs.declared.c_type.TypeWord.{TypeWord}
+use Rattle.c_tree.specs.declared.expression.Kind.TheVariants as kind
+use Rattle.c_tree.specs.Extents.{TypeExtent}
+use Rattle.c_tree.specs.Kinds.{Signature, is_size}
+use Rattle.c_tree.specs.Valid.{Scope, has_number, variable_at}
+use Rattle.c_rules.specs.declared.class.Target.TheVariants.{Object}
+use Rattle.c_rules.specs.Types.{target_of}
+use Rattle.c_place_rules.specs.Targets.{object_kind}
+use Rattle.c_call_rules.specs.FineCalls.{HasSignature, Spells}
+use Rattle.c_scope.specs.declared.meaning.Designated.{Designated}
+use Rattle.c_scope.specs.declared.meaning.Designated.TheVariants as what
+use Rattle.c_scope.specs.declared.meaning.Meaning.{Meaning}
+use Rattle.c_scope.specs.declared.meaning.Meaning.TheVariants as meaning
+use Rattle.c_scope.specs.Names.{Name}
+use Rattle.c_scope.specs.Names as names
+use Rattle.c_typing.specs.Primaries.{is_aggregate, is_marked}
+use Rattle.c_typing.specs.State.{State, extents}
+
+-- a static object whose type is complete where its name stands, and which is of the kind of that type
+pub record IsStaticOf (scope : Scope) (structures : List (Option TypeExtent)) (number : ℕ)
+    (type : List TypeWord) : Type 0 where
+  pub size : ℕ
+  pub sized : target_of structures type ≡ Object size
+  pub there : has_number scope.statics number ≡ true
+  pub kind : get_or scope.statics number kind.Void ≡ object_kind size type
+
+-- a variable of the function, which is an object where it is an array or a structure, or is marked as one
+pub record IsVariableOf (scope : Scope) (s : State) (number : ℕ) (type : List TypeWord) : Type 0 where
+  pub size : ℕ
+  pub sized : target_of (extents s) type ≡ Object size
+  pub kind : (variable_at scope number).kind ≡ object_kind size type
+  pub object : (variable_at scope number).is_object ≡ (is_aggregate type || is_marked s.objects number)
+
+-- a function, whose type spells its signature
+pub record IsFunctionOf (scope : Scope) (structures : List (Option TypeExtent)) (number : ℕ)
+    (type : List TypeWord) : Type 0 where
+  pub signature : Signature
+  pub has : HasSignature scope.functions number signature
+  pub spelled : Spells structures type signature
+
+abbrev pub IsDesignated : Scope → State → Designated → List TypeWord → Type 0
+IsDesignated scope s (what.Object n) type = IsStaticOf scope (extents s) n type
+IsDesignated scope s (what.Static n) type = IsStaticOf scope (extents s) n type
+IsDesignated scope s (what.Function n) type = IsFunctionOf scope (extents s) n type
+IsDesignated scope s (what.Library f) type = Unit {0}
+IsDesignated scope s (what.Variable n) type = IsVariableOf scope s n type
+
+abbrev pub IsMeant : Scope → State → Option Meaning → Type 0
+IsMeant scope s None = Unit {0}
+IsMeant scope s (Some (meaning.Typedef type)) = Unit {0}
+IsMeant scope s (Some (meaning.Constant w)) = fit Int w ≡ w
+IsMeant scope s (Some (meaning.Named what type)) = IsDesignated scope s what type
+
+-- the next static object is an array of so many bytes
+pub record IsNextLiteral (scope : Scope) (s : State) (size : ℕ) : Type 0 where
+  pub sized : is_size size ≡ true
+  pub there : has_number scope.statics s.environment.statics ≡ true
+  pub kind : get_or scope.statics s.environment.statics kind.Void ≡ kind.Array size

@@ -1,11 +1,8 @@
 -- Constructs whose parts are typed give what is valid.
-use Rattle.std.proofs.Common.{◌≡◌, ℕ, Bool, true, false, refl, sym, ap, ◌∙◌, subst, List, [], ◌∷◌, Option, Some, None}
+use Rattle.std.proofs.Common.{◌≡◌, ℕ, Bool, true, false, refl, sym, subst, List, Option, Some, None}
 use Rattle.std.proofs.Common.{if◌then◌else◌}
-use Rattle.std.specs.Prelude.{Ok, Err, is_some, option_map}
-use Rattle.c_lexer.specs.declared.punctuator.Punctuator.{Punctuator}
+use Rattle.std.specs.Prelude.{Ok, Err}
 use Rattle.c_tree.specs.declared.c_type.TypeWord.{TypeWord}
-use Rattle.c_tree.specs.declared.c_type.TypeWord.TheVariants.{Void, Integer, Enumeration, Pointer, Array, OpenArray}
-use Rattle.c_tree.specs.declared.c_type.TypeWord.TheVariants.{Structure, Const, Takes, Gives}
 use Rattle.c_tree.specs.declared.expression.Fixity.{Fixity}
 use Rattle.c_tree.specs.declared.expression.Fixity.TheVariants as fixity
 use Rattle.c_tree.specs.Extents.{TypeExtent}
@@ -33,19 +30,19 @@ use Rattle.c_typing.specs.declared.forms.BinaryForm.TheVariants as binary_form
 use Rattle.c_typing.specs.declared.forms.PrefixForm.{PrefixForm}
 use Rattle.c_typing.specs.declared.forms.PrefixForm.TheVariants as form
 use Rattle.c_typing.specs.Calls.{printed}
-use Rattle.c_typing.specs.Operators.{addressed, as_operand, as_place, as_value, assigned_by, combined, indexed}
+use Rattle.c_typing.specs.Operators.{as_operand, as_place, as_value, assigned_by, combined, indexed}
 use Rattle.c_typing.specs.Operators.{object_taken, read_unless, stepped_by, unary_value, unreadable, value_among}
 use Rattle.c_typing.specs.Operators.{variable_named, with_taken}
 use Rattle.c_typing.specs.State.{State, extents, judged, with_const}
 use Rattle.c_expression_typing.specs.Constructs.{cast_to, chosen, prefixed, sized}
 use Rattle.c_typed_validity.specs.Typed.{IfTyped, IfValued}
 
-operand_from : (scope : Scope) (es : List (Option TypeExtent)) (a : Answer Value) → IfFine scope es a
+pub operand_from : (scope : Scope) (es : List (Option TypeExtent)) (a : Answer Value) → IfFine scope es a
     → IfFineOperand scope es (as_operand a)
 operand_from scope es (Ok v) is = is
 operand_from scope es (Err f) is = is
 
-place_from : (scope : Scope) (es : List (Option TypeExtent)) (a : Answer Place) → IfFinePlace scope es a
+pub place_from : (scope : Scope) (es : List (Option TypeExtent)) (a : Answer Place) → IfFinePlace scope es a
     → IfFineOperand scope es (as_place a)
 place_from scope es (Ok p) is = is
 place_from scope es (Err f) is = is
@@ -62,7 +59,7 @@ valued_from scope s (Err f) is = is
 
 -- values of operands
 
-among_fine : (scope : Scope) (es : List (Option TypeExtent)) (line : Option ℕ) (o : Operand)
+pub among_fine : (scope : Scope) (es : List (Option TypeExtent)) (line : Option ℕ) (o : Operand)
     → IsFineOperand scope es o → IfFine scope es (read_unless line o)
 among_fine scope es None o is = value_fine scope es o is
 among_fine scope es (Some line) o is = tt
@@ -78,7 +75,7 @@ enclosed_typed scope s line o is = typed_from scope s (enclosed line o) (enclose
 
 -- operators
 
-combined_fine : (scope : Scope) (f : BinaryForm) (line : ℕ) (a b : Value) (s : State) → IsFine scope (extents s) a
+pub combined_fine : (scope : Scope) (f : BinaryForm) (line : ℕ) (a b : Value) (s : State) → IsFine scope (extents s) a
     → IsFine scope (extents s) b → IfFineOperand scope (extents s) (combined f line a b s)
 combined_fine scope binary_form.Comma line a b s x y =
     operand_from scope (extents s) _ (comma_fine scope (extents s) line a b x y)
@@ -93,7 +90,7 @@ pub combined_typed : (scope : Scope) (f : BinaryForm) (line : ℕ) (a b : Value)
 combined_typed scope f line a b s x y =
     typed_from scope s (combined f line a b s) (combined_fine scope f line a b s x y)
 
-assigned_fine : (scope : Scope) (f : AssignmentForm) (line : ℕ) (o : Operand) (v : Value) (s : State)
+pub assigned_fine : (scope : Scope) (f : AssignmentForm) (line : ℕ) (o : Operand) (v : Value) (s : State)
     → IsFineOperand scope (extents s) o → IsFine scope (extents s) v
     → IfFineOperand scope (extents s) (assigned_by f line o v s)
 assigned_fine scope assignment_form.Simple line o v s x y =
@@ -108,7 +105,7 @@ pub assigned_typed : (scope : Scope) (f : AssignmentForm) (line : ℕ) (o : Oper
 assigned_typed scope f line o v s x y =
     typed_from scope s (assigned_by f line o v s) (assigned_fine scope f line o v s x y)
 
-stepped_fine_by : (scope : Scope) (f : PrefixForm) (fix : Fixity) (line : ℕ) (o : Operand) (s : State)
+pub stepped_fine_by : (scope : Scope) (f : PrefixForm) (fix : Fixity) (line : ℕ) (o : Operand) (s : State)
     → IsFineOperand scope (extents s) o → IfFineOperand scope (extents s) (stepped_by f fix line o s)
 stepped_fine_by scope (form.Step op) fix line o s x =
     operand_from scope (extents s) _ (stepped_fine scope (extents s) (with_const s) op fix line o x)
@@ -183,7 +180,7 @@ addressed_from : (scope : Scope) (is : Bool) (o : Operand) (s : State) (a : Answ
 addressed_from scope is o s (Ok v) fine = subst (λ es. IsFine scope es v) (sym (address_extents is o s)) fine
 addressed_from scope is o s (Err f) fine = tt
 
-unary_fine_by : (scope : Scope) (f : PrefixForm) (line : ℕ) (v : Value) (s : State) → IsFine scope (extents s) v
+pub unary_fine_by : (scope : Scope) (f : PrefixForm) (line : ℕ) (v : Value) (s : State) → IsFine scope (extents s) v
     → IfFineOperand scope (extents s) (unary_value f line v s)
 unary_fine_by scope (form.Value op) line v s x =
     operand_from scope (extents s) _ (unary_fine scope (extents s) op line v x)

@@ -1,26 +1,23 @@
 -- What is valid stays valid where more structures are complete.
-use Rattle.std.proofs.Common.{◌≡◌, ℕ, zero, suc, Bool, true, false, ◌&&◌, refl, sym, ap, ◌∙◌, List, [], ◌∷◌}
+use Rattle.std.proofs.Common.{◌≡◌, ℕ, Bool, true, false, ◌&&◌, refl, ap, ◌∙◌, List, [], ◌∷◌}
 use Rattle.std.proofs.Common.{Option, Some, None}
 use Rattle.std.specs.Prelude.{option_map}
-use Rattle.std.proofs.lemmas.Option.{same_Some}
 use Rattle.c_tree.specs.declared.c_type.TypeWord.{TypeWord}
 use Rattle.c_tree.specs.declared.c_type.TypeWord.TheVariants.{Void, Integer, Enumeration, Pointer, Array, OpenArray}
 use Rattle.c_tree.specs.declared.c_type.TypeWord.TheVariants.{Structure, Const, Takes, Gives}
 use Rattle.c_tree.specs.declared.expression.Kind.{Kind}
-use Rattle.c_tree.specs.declared.expression.Kind.TheVariants as kind
 use Rattle.c_tree.specs.Extents.{TypeExtent, array_extent, extent_of, structure_extent}
-use Rattle.c_tree.specs.Kinds.{is_kind, is_size, size_of_kind}
+use Rattle.c_tree.specs.Kinds.{size_of_kind}
 use Rattle.c_tree.specs.Tree.{kind_of, lvalue_kind}
 use Rattle.c_tree.specs.TypesAgree.{agrees, behind_types, gives_kind, is_end, is_kind_of, kind_of_type, structure_kind}
 use Rattle.c_tree.specs.TypesAgree.{takes_kind}
 use Rattle.c_tree.specs.Valid.{Scope}
-use Rattle.c_rules.specs.declared.class.Target.{Target}
 use Rattle.c_rules.specs.declared.class.Target.TheVariants as target
 use Rattle.c_rules.specs.Fine.{IsFine}
 use Rattle.c_rules.specs.Types.{object_of, target_of}
 use Rattle.c_rules.specs.Values.{Value}
 use Rattle.c_place_rules.specs.Operands.{Operand, a_value, a_place, a_variable, a_function}
-use Rattle.c_place_laws.specs.FinePlaces.{IsFineFunction, IsFineOperand, IsFinePlace, IsFineVariable}
+use Rattle.c_place_laws.specs.FinePlaces.{IsFineOperand}
 use Rattle.c_call_rules.specs.FineCalls.{AreFine}
 use Rattle.c_typed_validity.specs.More.{AreMore}
 

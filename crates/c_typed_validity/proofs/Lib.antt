@@ -1,3 +1,7 @@
 pub mod Constructs
+pub mod Expressions
 pub mod Kept
+pub mod Moved
 pub mod Primaries
+pub mod Sound
+pub mod Steps

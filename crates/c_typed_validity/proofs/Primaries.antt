@@ -184,7 +184,7 @@ place_fine scope es line size type node sized valid =
       kind = ap (λ n. object_kind n type) (sym same);
     })
 
-static_fine : (scope : Scope) (es : List (Option TypeExtent)) (line n : ℕ) (type : List TypeWord)
+pub static_fine : (scope : Scope) (es : List (Option TypeExtent)) (line n : ℕ) (type : List TypeWord)
     → IsStaticOf scope es n type → IsFinePlace scope es (placed es line type (static n))
 static_fine scope es line n type is =
     place_fine scope es line is.size type (static n) is.sized

@@ -1,5 +1,5 @@
 -- What names stand for, as the scope of a function in a program has it (C99 6.2.1, 6.5.1).
-use Rattle.std.specs.Prelude.{◌≡◌, ℕ, ◌+◌, Bool, true, ◌||◌, List, length, get_or, Option, Some, None}
+use Rattle.std.specs.Prelude.{◌≡◌, ℕ, true, ◌||◌, List, get_or, Option, Some, None}
 use Rattle.obj_memory.specs.declared.int_type.IntType.TheVariants.{Int}
 use Rattle.obj_memory.specs.Integers.{fit}
 use Rattle.c_tree.specs.declared.c_type.TypeWord.{TypeWord}
@@ -15,8 +15,6 @@ use Rattle.c_scope.specs.declared.meaning.Designated.{Designated}
 use Rattle.c_scope.specs.declared.meaning.Designated.TheVariants as what
 use Rattle.c_scope.specs.declared.meaning.Meaning.{Meaning}
 use Rattle.c_scope.specs.declared.meaning.Meaning.TheVariants as meaning
-use Rattle.c_scope.specs.Names.{Name}
-use Rattle.c_scope.specs.Names as names
 use Rattle.c_typing.specs.Primaries.{is_aggregate, is_marked}
 use Rattle.c_typing.specs.State.{State, extents}
 

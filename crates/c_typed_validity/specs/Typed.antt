@@ -1,5 +1,5 @@
 -- Constructs that are typed to what is valid, with the structures that are complete behind them (C99 6.5).
-use Rattle.std.specs.Prelude.{◌≡◌, ℕ, List, Option, Some, Ok, Err}
+use Rattle.std.specs.Prelude.{◌≡◌, ℕ, Some, Ok, Err}
 use Rattle.c_tree.specs.Valid.{Scope}
 use Rattle.c_rules.specs.Answer.{Answer}
 use Rattle.c_rules.specs.Fine.{IsFine}
@@ -7,7 +7,6 @@ use Rattle.c_rules.specs.Values.{Value}
 use Rattle.c_place_rules.specs.Operands.{Operand}
 use Rattle.c_place_rules.specs.Places.{member_view}
 use Rattle.c_place_laws.specs.FinePlaces.{IsFineOperand, IsMemberOf}
-use Rattle.c_call_rules.specs.FineCalls.{AreFine}
 use Rattle.c_scope.specs.Names.{Name}
 use Rattle.c_scope.specs.Structures.{member_of}
 use Rattle.c_place_rules.specs.declared.place.Member.{Member}

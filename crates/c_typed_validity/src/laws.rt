@@ -1,6 +1,6 @@
 //! Laws of typed operands.
 
-ghost use Rattle.std.specs.Prelude.{ℕ, ◌^◌, ◌<◌, Bool, true, List, Option};
+ghost use Rattle.std.specs.Prelude.{◌≡◌, ℕ, ◌^◌, ◌<◌, Bool, true, List, Option};
 ghost use Rattle.c_lexer.specs.Literals.{character_value};
 ghost use Rattle.c_scope.specs.Names.{Name, meaning};
 ghost use Rattle.c_typing.specs.Primaries.{character_constant, integer_constant, named, or_zero};
@@ -12,8 +12,13 @@ ghost use Rattle.c_typing.specs.declared.forms.PrefixForm.{PrefixForm};
 ghost use Rattle.c_typing.specs.Calls.{printed};
 ghost use Rattle.c_typing.specs.Operators.{as_value, assigned_by, combined, indexed, stepped_by};
 ghost use Rattle.c_typing.specs.State.{State, extents, judged};
+ghost use Rattle.c_syntax.specs.Tree.{Expression};
+ghost use Rattle.c_expression_typing.specs.Typed.{typed};
 ghost use Rattle.c_expression_typing.specs.Constructs.{cast_to, chosen, prefixed, sized};
+ghost use Rattle.c_typed_validity.specs.Characters.{has_characters};
 ghost use Rattle.c_typed_validity.specs.Names.{IsMeant};
+ghost use Rattle.c_typed_validity.specs.Sound.{Sound};
+ghost use Rattle.c_typed_validity.specs.Steps.{Fine, PointerCalls, Structures, TypeNames, nothing};
 ghost use Rattle.c_typed_validity.specs.Typed.{IfTyped, IfValued};
 ghost use Rattle.c_tree.specs.declared.c_type.TypeWord.{TypeWord};
 ghost use Rattle.c_tree.specs.Extents.{TypeExtent};
@@ -75,4 +80,14 @@ pub fn names_and_constants_are_valid()
         → IsFine scope structures (character_constant spelling line) }
     ensures name { (scope : Scope) (name : Name) (line : ℕ) (s : State)
         → IsMeant scope s (meaning name s.environment.names) → IfTyped scope (named true name line s) }
+{}
+
+/// What an expression is typed to is valid, where it is evaluated, in the scope of its function in a program: where names
+/// stand for something of the kind of their type before it, and the string literals and the types of called functions
+/// behind it are those of that program (C99 6.5). Two of its constructs are taken as they are: type names keep what is
+/// known, and calls through pointers give what is valid.
+pub fn expressions_are_typed_to_valid_trees()
+    ensures { (scope : Scope) (last : Structures) → TypeNames scope last → PointerCalls scope last
+        → (is_evaluated : Bool) (e : Expression) → has_characters e ≡ true → (s : State)
+        → Sound scope last s nothing (Fine scope is_evaluated) (typed is_evaluated e s) }
 {}

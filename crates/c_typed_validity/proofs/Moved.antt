@@ -1,0 +1,138 @@
+-- States that differ in what names stand for nowhere.
+use Rattle.std.proofs.Common.{◌≡◌, ℕ, ◌*◌, ◌^◌, ◌≤◌, Bool, true, false, ◌||◌, ◌&&◌, refl, ap, ◌∙◌, subst}
+use Rattle.std.proofs.Common.{List, [], ◌∷◌, ◌++◌, length, Option, Some, None, if◌then◌else◌, nat_le, arith}
+use Rattle.std.specs.Prelude.{slice_get}
+use Rattle.std.proofs.lemmas.Bool.{leb-true}
+use Rattle.obj_memory.specs.Integers.{size_of}
+use Rattle.c_tree.specs.Extents.{TypeExtent, capped, extent_of}
+use Rattle.c_tree.specs.Kinds.{is_size}
+use Rattle.c_tree.specs.Layout.{array_size}
+use Rattle.c_tree.specs.Valid.{Scope}
+use Rattle.c_rules.specs.declared.class.Target.TheVariants as target
+use Rattle.c_rules.specs.Types.{target_of}
+use Rattle.c_place_rules.specs.Operands.{Operand, a_value, a_place, a_variable, a_function}
+use Rattle.c_place_laws.specs.FinePlaces.{IsFineOperand}
+use Rattle.c_scope.specs.declared.meaning.Designated.TheVariants as what
+use Rattle.c_scope.specs.declared.meaning.Meaning.{Meaning}
+use Rattle.c_scope.specs.declared.meaning.Meaning.TheVariants as meaning
+use Rattle.c_typing.specs.Operators.{object_taken, variable_named, with_taken}
+use Rattle.c_typing.specs.Primaries.{is_aggregate, is_marked, is_undefined, literal_place, literal_type, used_as}
+use Rattle.c_typing.specs.Primaries.{with_literal, with_use}
+use Rattle.c_typing.specs.State.{State, extents}
+use Rattle.c_typed_validity.specs.More.{AreMore}
+use Rattle.c_typed_validity.specs.Names.{IsFunctionOf, IsMeant, IsStaticOf}
+use Rattle.c_typed_validity.specs.Sound.{Covers, Keeps}
+use Rattle.c_typed_validity.proofs.Kept.{none_some, operand_kept}
+use Rattle.c_typed_validity.proofs.Primaries.{static_fine}
+use Rattle.c_typed_validity.proofs.Sound.{keeps_same, same_list, same_more}
+
+meant_moved : (scope : Scope) (s t : State) → extents s ≡ extents t → s.objects ≡ t.objects → (m : Option Meaning)
+    → IsMeant scope s m → IsMeant scope t m
+meant_moved scope s t e o None is = tt
+meant_moved scope s t e o (Some (meaning.Typedef type)) is = tt
+meant_moved scope s t e o (Some (meaning.Constant w)) is = is
+meant_moved scope s t e o (Some (meaning.Named (what.Object n) type)) is =
+    subst (λ es. IsStaticOf scope es n type) e is
+meant_moved scope s t e o (Some (meaning.Named (what.Static n) type)) is =
+    subst (λ es. IsStaticOf scope es n type) e is
+meant_moved scope s t e o (Some (meaning.Named (what.Function n) type)) is =
+    subst (λ es. IsFunctionOf scope es n type) e is
+meant_moved scope s t e o (Some (meaning.Named (what.Library f) type)) is = tt
+meant_moved scope s t e o (Some (meaning.Named (what.Variable n) type)) is = record {
+  size = is.size;
+  sized = subst (λ es. target_of es type ≡ target.Object is.size) e is.sized;
+  kind = is.kind;
+  object = is.object ∙ ap (λ z. is_aggregate type || is_marked z n) o;
+}
+
+-- only marks, the line of a use, literals and types are new
+pub keeps_marks : (scope : Scope) (s : State) (taken : List Bool) (undefined : Option ℕ) → Keeps scope s
+    (record s { taken = taken; undefined = undefined })
+keeps_marks scope s taken undefined = record {
+  more = same_more (extents s);
+  literals = same_list s.literals;
+  types = same_list s.function_types;
+  knows = λ k. record {
+    names = λ name. meant_moved scope s (record s { taken = taken; undefined = undefined }) refl refl _ (k.names name);
+    members = record { each = k.members.each };
+  };
+}
+
+use_keeps : (scope : Scope) (b : Bool) (line : ℕ) (s : State) → Keeps scope s (if b then with_use line s else s)
+use_keeps scope true line s = keeps_marks scope s s.taken (with_use line s).undefined
+use_keeps scope false line s = keeps_same scope s
+
+pub used_keeps : (scope : Scope) (is : Bool) (line : ℕ) (m : Option Meaning) (s : State)
+    → Keeps scope s (used_as is line m s)
+used_keeps scope is line None s = keeps_same scope s
+used_keeps scope is line (Some (meaning.Typedef type)) s = keeps_same scope s
+used_keeps scope is line (Some (meaning.Constant w)) s = keeps_same scope s
+used_keeps scope is line (Some (meaning.Named (what.Object n) type)) s = keeps_same scope s
+used_keeps scope is line (Some (meaning.Named (what.Static n) type)) s = keeps_same scope s
+used_keeps scope is line (Some (meaning.Named (what.Function n) type)) s =
+    use_keeps scope (is && is_undefined n s) line s
+used_keeps scope is line (Some (meaning.Named (what.Library f) type)) s = keeps_same scope s
+used_keeps scope is line (Some (meaning.Named (what.Variable n) type)) s = keeps_same scope s
+
+taken_keeps : (scope : Scope) (x : Option ℕ) (s : State) → Keeps scope s (with_taken x s)
+taken_keeps scope None s = keeps_same scope s
+taken_keeps scope (Some n) s = keeps_marks scope s (with_taken (Some n) s).taken s.undefined
+
+object_keeps : (scope : Scope) (o : Operand) (s : State) → Keeps scope s (object_taken o s)
+object_keeps scope (a_value v) s = keeps_same scope s
+object_keeps scope (a_place p) s = taken_keeps scope (variable_named p.tree) s
+object_keeps scope (a_variable x) s = keeps_same scope s
+object_keeps scope (a_function f) s = keeps_same scope s
+
+pub address_keeps : (scope : Scope) (is : Bool) (o : Operand) (s : State)
+    → Keeps scope s (if is then object_taken o s else s)
+address_keeps scope true o s = object_keeps scope o s
+address_keeps scope false o s = keeps_same scope s
+
+-- string literals
+
+pub literal_keeps : (scope : Scope) (bytes : List ℕ) (s : State) → Keeps scope s (with_literal bytes s)
+literal_keeps scope bytes s = record {
+  more = same_more (extents s);
+  literals = record { rest = _; is = refl };
+  types = same_list s.function_types;
+  knows = λ k. record {
+    names = λ name. meant_moved scope s (with_literal bytes s) refl refl _ (k.names name);
+    members = record { each = k.members.each };
+  };
+}
+
+get_last : {A : Type 0} (xs : List A) (x : A) → slice_get (xs ++ x ∷ []) (length xs) ≡ Some x
+get_last [] x = refl
+get_last (y ∷ xs) x = get_last xs x
+
+at_most : (n : ℕ) → is_size n ≡ true → n ≤ 2 ^ 32
+at_most n e = leb-true n (2 ^ 32) (second (nat_le 1 n) (nat_le n (2 ^ 32)) e)
+  where
+    second : (a b : Bool) → (a && b) ≡ true → b ≡ true
+    second true b e = e
+    second false b e = cc
+
+literal_sized : (size : ℕ) → is_size size ≡ true → target_of [] (literal_type size) ≡ target.Object size
+unfolding extent_of array_size size_of
+literal_sized size sized =
+    let small = at_most size sized in
+    let e : capped (capped (size * 1)) ≡ size = omega (arith, small) in
+    ap (λ n. if is_size n then target.Object n else target.Incomplete) e
+    ∙ ap (λ b. if b then target.Object size else target.Incomplete) sized
+
+no_structures : (es : List (Option TypeExtent)) → AreMore [] es
+no_structures es = record { kept = λ n e is. none_some e _ is }
+
+pub literal_fine : (scope : Scope) (last es : List (Option TypeExtent)) (bytes : List ℕ) (line : ℕ) (s : State)
+    → Covers scope last (with_literal bytes s)
+    → IsFineOperand scope es (literal_place line (length bytes) s.environment.statics)
+literal_fine scope last es bytes line s covers =
+    let is = covers.literals (length s.literals) _ (get_last s.literals _) in
+    operand_kept scope [] es (no_structures es) (literal_place line (length bytes) s.environment.statics)
+    (static_fine scope [] line s.environment.statics (literal_type (length bytes)) (record {
+      size = length bytes;
+      sized = literal_sized (length bytes) is.sized;
+      there = is.there;
+      kind = is.kind;
+    }))

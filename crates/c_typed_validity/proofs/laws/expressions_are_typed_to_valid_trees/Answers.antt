@@ -1,0 +1,5 @@
+use Rattle.c_typed_validity.proofs.Expressions.{typed_sound}
+use Rattle.c_typed_validity.proofs.laws.expressions_are_typed_to_valid_trees.Goals as goal
+
+pub returns : goal.returns
+returns c = typed_sound

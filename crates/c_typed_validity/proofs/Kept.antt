@@ -98,7 +98,7 @@ of_kind_kept : (s more : List (Option TypeExtent)) → AreMore s more → (ws : 
 of_kind_kept s more h ws k None is e = cc
 of_kind_kept s more h ws k (Some j) is e = ap (λ z. is_kind_of z k) (kind_kept s more h ws j is) ∙ e
 
-both_kept : (a b c : Bool) → (a ≡ true → c ≡ true) → (a && b) ≡ true → (c && b) ≡ true
+pub both_kept : (a b c : Bool) → (a ≡ true → c ≡ true) → (a && b) ≡ true → (c && b) ≡ true
 both_kept true b c h e = ap (λ z. z && b) (h refl) ∙ e
 both_kept false b c h e = cc
 

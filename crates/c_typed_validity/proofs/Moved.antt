@@ -26,7 +26,7 @@ use Rattle.c_typed_validity.proofs.Kept.{none_some, operand_kept}
 use Rattle.c_typed_validity.proofs.Primaries.{static_fine}
 use Rattle.c_typed_validity.proofs.Sound.{keeps_same, same_list, same_more}
 
-meant_moved : (scope : Scope) (s t : State) → extents s ≡ extents t → s.objects ≡ t.objects → (m : Option Meaning)
+pub meant_moved : (scope : Scope) (s t : State) → extents s ≡ extents t → s.objects ≡ t.objects → (m : Option Meaning)
     → IsMeant scope s m → IsMeant scope t m
 meant_moved scope s t e o None is = tt
 meant_moved scope s t e o (Some (meaning.Typedef type)) is = tt
@@ -102,7 +102,7 @@ literal_keeps scope bytes s = record {
   };
 }
 
-get_last : {A : Type 0} (xs : List A) (x : A) → slice_get (xs ++ x ∷ []) (length xs) ≡ Some x
+pub get_last : {A : Type 0} (xs : List A) (x : A) → slice_get (xs ++ x ∷ []) (length xs) ≡ Some x
 get_last [] x = refl
 get_last (y ∷ xs) x = get_last xs x
 

@@ -18,7 +18,7 @@ ghost use Rattle.c_expression_typing.specs.Constructs.{cast_to, chosen, prefixed
 ghost use Rattle.c_typed_validity.specs.Characters.{has_characters};
 ghost use Rattle.c_typed_validity.specs.Names.{IsMeant};
 ghost use Rattle.c_typed_validity.specs.Sound.{Sound};
-ghost use Rattle.c_typed_validity.specs.Steps.{Fine, PointerCalls, Structures, TypeNames, nothing};
+ghost use Rattle.c_typed_validity.specs.Steps.{Fine, Structures, TypeNames, nothing};
 ghost use Rattle.c_typed_validity.specs.Typed.{IfTyped, IfValued};
 ghost use Rattle.c_tree.specs.declared.c_type.TypeWord.{TypeWord};
 ghost use Rattle.c_tree.specs.Extents.{TypeExtent};
@@ -84,10 +84,8 @@ pub fn names_and_constants_are_valid()
 
 /// What an expression is typed to is valid, where it is evaluated, in the scope of its function in a program: where names
 /// stand for something of the kind of their type before it, and the string literals and the types of called functions
-/// behind it are those of that program (C99 6.5). Two of its constructs are taken as they are: type names keep what is
-/// known, and calls through pointers give what is valid.
+/// behind it are those of that program (C99 6.5). That type names keep what is known is taken as it is.
 pub fn expressions_are_typed_to_valid_trees()
-    ensures { (scope : Scope) (last : Structures) → TypeNames scope last → PointerCalls scope last
-        → (is_evaluated : Bool) (e : Expression) → has_characters e ≡ true → (s : State)
+    ensures { (scope : Scope) (last : Structures) → TypeNames scope last → (is_evaluated : Bool) (e : Expression) → has_characters e ≡ true → (s : State)
         → Sound scope last s nothing (Fine scope is_evaluated) (typed is_evaluated e s) }
 {}

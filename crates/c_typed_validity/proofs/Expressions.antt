@@ -47,7 +47,7 @@ second false b e = cc
 done_sound : {A : Type 0} (scope : Scope) (last : Structures) (s : State) (given : Structures → Type 0)
     (p : Structures → A → Type 0) (x : A) → (given (extents s) → p (extents s) x)
     → Sound scope last s given p (done x s)
-done_sound scope last s given p x h = (keeps_same scope s, λ knows g covers. h g)
+done_sound scope last s given p x h = λ formed. (keeps_same scope s formed, λ knows g covers. h g)
 
 module _ (scope : Scope) (last : Structures) (type_names : TypeNames scope last) (through : PointerCalls scope last) where
   -- a value behind what is given

@@ -21,7 +21,7 @@ use Rattle.c_typing.specs.Primaries.{with_literal, with_use}
 use Rattle.c_typing.specs.State.{State, extents}
 use Rattle.c_typed_validity.specs.More.{AreMore}
 use Rattle.c_typed_validity.specs.Names.{IsFunctionOf, IsMeant, IsStaticOf}
-use Rattle.c_typed_validity.specs.Sound.{Covers, Keeps}
+use Rattle.c_typed_validity.specs.Sound.{Covers, IsFormed, Keeps}
 use Rattle.c_typed_validity.proofs.Kept.{none_some, operand_kept}
 use Rattle.c_typed_validity.proofs.Primaries.{static_fine}
 use Rattle.c_typed_validity.proofs.Sound.{keeps_same, same_list, same_more}
@@ -46,9 +46,9 @@ meant_moved scope s t e o (Some (meaning.Named (what.Variable n) type)) is = rec
 }
 
 -- only marks, the line of a use, literals and types are new
-pub keeps_marks : (scope : Scope) (s : State) (taken : List Bool) (undefined : Option ℕ) → Keeps scope s
-    (record s { taken = taken; undefined = undefined })
-keeps_marks scope s taken undefined = record {
+pub keeps_marks : (scope : Scope) (s : State) → IsFormed s → (taken : List Bool) (undefined : Option ℕ)
+    → Keeps scope s (record s { taken = taken; undefined = undefined })
+keeps_marks scope s formed taken undefined = record {
   more = same_more (extents s);
   literals = same_list s.literals;
   types = same_list s.function_types;
@@ -56,43 +56,46 @@ keeps_marks scope s taken undefined = record {
     names = λ name. meant_moved scope s (record s { taken = taken; undefined = undefined }) refl refl _ (k.names name);
     members = record { each = k.members.each };
   };
+  pending = λ n p. record { begun = p.begun; incomplete = p.incomplete };
+  formed = record { same = formed.same; begun = formed.begun; tags = formed.tags };
 }
 
-use_keeps : (scope : Scope) (b : Bool) (line : ℕ) (s : State) → Keeps scope s (if b then with_use line s else s)
-use_keeps scope true line s = keeps_marks scope s s.taken (with_use line s).undefined
-use_keeps scope false line s = keeps_same scope s
+use_keeps : (scope : Scope) (b : Bool) (line : ℕ) (s : State) → IsFormed s → Keeps scope s (if b then with_use line s else s)
+use_keeps scope true line s formed = keeps_marks scope s formed s.taken (with_use line s).undefined
+use_keeps scope false line s formed = keeps_same scope s formed
 
-pub used_keeps : (scope : Scope) (is : Bool) (line : ℕ) (m : Option Meaning) (s : State)
+pub used_keeps : (scope : Scope) (is : Bool) (line : ℕ) (m : Option Meaning) (s : State) → IsFormed s
     → Keeps scope s (used_as is line m s)
-used_keeps scope is line None s = keeps_same scope s
-used_keeps scope is line (Some (meaning.Typedef type)) s = keeps_same scope s
-used_keeps scope is line (Some (meaning.Constant w)) s = keeps_same scope s
-used_keeps scope is line (Some (meaning.Named (what.Object n) type)) s = keeps_same scope s
-used_keeps scope is line (Some (meaning.Named (what.Static n) type)) s = keeps_same scope s
-used_keeps scope is line (Some (meaning.Named (what.Function n) type)) s =
-    use_keeps scope (is && is_undefined n s) line s
-used_keeps scope is line (Some (meaning.Named (what.Library f) type)) s = keeps_same scope s
-used_keeps scope is line (Some (meaning.Named (what.Variable n) type)) s = keeps_same scope s
+used_keeps scope is line None s formed = keeps_same scope s formed
+used_keeps scope is line (Some (meaning.Typedef type)) s formed = keeps_same scope s formed
+used_keeps scope is line (Some (meaning.Constant w)) s formed = keeps_same scope s formed
+used_keeps scope is line (Some (meaning.Named (what.Object n) type)) s formed = keeps_same scope s formed
+used_keeps scope is line (Some (meaning.Named (what.Static n) type)) s formed = keeps_same scope s formed
+used_keeps scope is line (Some (meaning.Named (what.Function n) type)) s formed =
+    use_keeps scope (is && is_undefined n s) line s formed
+used_keeps scope is line (Some (meaning.Named (what.Library f) type)) s formed = keeps_same scope s formed
+used_keeps scope is line (Some (meaning.Named (what.Variable n) type)) s formed = keeps_same scope s formed
 
-taken_keeps : (scope : Scope) (x : Option ℕ) (s : State) → Keeps scope s (with_taken x s)
-taken_keeps scope None s = keeps_same scope s
-taken_keeps scope (Some n) s = keeps_marks scope s (with_taken (Some n) s).taken s.undefined
+taken_keeps : (scope : Scope) (x : Option ℕ) (s : State) → IsFormed s → Keeps scope s (with_taken x s)
+taken_keeps scope None s formed = keeps_same scope s formed
+taken_keeps scope (Some n) s formed = keeps_marks scope s formed (with_taken (Some n) s).taken s.undefined
 
-object_keeps : (scope : Scope) (o : Operand) (s : State) → Keeps scope s (object_taken o s)
-object_keeps scope (a_value v) s = keeps_same scope s
-object_keeps scope (a_place p) s = taken_keeps scope (variable_named p.tree) s
-object_keeps scope (a_variable x) s = keeps_same scope s
-object_keeps scope (a_function f) s = keeps_same scope s
+object_keeps : (scope : Scope) (o : Operand) (s : State) → IsFormed s → Keeps scope s (object_taken o s)
+object_keeps scope (a_value v) s formed = keeps_same scope s formed
+object_keeps scope (a_place p) s formed = taken_keeps scope (variable_named p.tree) s formed
+object_keeps scope (a_variable x) s formed = keeps_same scope s formed
+object_keeps scope (a_function f) s formed = keeps_same scope s formed
 
-pub address_keeps : (scope : Scope) (is : Bool) (o : Operand) (s : State)
+pub address_keeps : (scope : Scope) (is : Bool) (o : Operand) (s : State) → IsFormed s
     → Keeps scope s (if is then object_taken o s else s)
-address_keeps scope true o s = object_keeps scope o s
-address_keeps scope false o s = keeps_same scope s
+address_keeps scope true o s formed = object_keeps scope o s formed
+address_keeps scope false o s formed = keeps_same scope s formed
 
 -- string literals
 
-pub literal_keeps : (scope : Scope) (bytes : List ℕ) (s : State) → Keeps scope s (with_literal bytes s)
-literal_keeps scope bytes s = record {
+pub literal_keeps : (scope : Scope) (bytes : List ℕ) (s : State) → IsFormed s
+    → Keeps scope s (with_literal bytes s)
+literal_keeps scope bytes s formed = record {
   more = same_more (extents s);
   literals = record { rest = _; is = refl };
   types = same_list s.function_types;
@@ -100,6 +103,8 @@ literal_keeps scope bytes s = record {
     names = λ name. meant_moved scope s (with_literal bytes s) refl refl _ (k.names name);
     members = record { each = k.members.each };
   };
+  pending = λ n p. record { begun = p.begun; incomplete = p.incomplete };
+  formed = record { same = formed.same; begun = formed.begun; tags = formed.tags };
 }
 
 pub get_last : {A : Type 0} (xs : List A) (x : A) → slice_get (xs ++ x ∷ []) (length xs) ≡ Some x

@@ -32,7 +32,7 @@ use Rattle.c_typing.specs.Calls.{callee_number, place_among, pointer_applied, wi
 use Rattle.c_typing.specs.Operators.{as_operand}
 use Rattle.c_typing.specs.State.{State, extents}
 use Rattle.c_typed_validity.specs.More.{AreMore}
-use Rattle.c_typed_validity.specs.Sound.{Covers, IsTypeOf, Keeps, Knows, Sound}
+use Rattle.c_typed_validity.specs.Sound.{Covers, IsFormed, IsTypeOf, Keeps, Sound}
 use Rattle.c_typed_validity.specs.Steps.{Fine, FineAll, FineValue, PointerCalls, Structures}
 use Rattle.c_typed_validity.proofs.Kept.{both_kept, kind_kept, value_kept}
 use Rattle.c_typed_validity.proofs.Moved.{get_last, meant_moved}
@@ -248,10 +248,10 @@ place_get type (t ∷ ts) low = place_by type t ts (same_words type t) refl low 
 
 -- the state behind a call
 
-type_keeps_by : (scope : Scope) (type : List TypeWord) (s : State) (b : Bool)
+type_keeps_by : (scope : Scope) (type : List TypeWord) (s : State) → IsFormed s → (b : Bool)
     → Keeps scope s (if b then s else record s { function_types = s.function_types ++ type ∷ [] })
-type_keeps_by scope type s true = keeps_same scope s
-type_keeps_by scope type s false = record {
+type_keeps_by scope type s formed true = keeps_same scope s formed
+type_keeps_by scope type s formed false = record {
   more = same_more (extents s);
   literals = same_list s.literals;
   types = record { rest = type ∷ []; is = refl };
@@ -260,10 +260,13 @@ type_keeps_by scope type s false = record {
         meant_moved scope s (record s { function_types = s.function_types ++ type ∷ [] }) refl refl _ (k.names name);
     members = record { each = k.members.each };
   };
+  pending = λ n p. record { begun = p.begun; incomplete = p.incomplete };
+  formed = record { same = formed.same; begun = formed.begun; tags = formed.tags };
 }
 
-type_keeps : (scope : Scope) (type : List TypeWord) (s : State) → Keeps scope s (with_type type s)
-type_keeps scope type s = type_keeps_by scope type s (nat_lt (place_among type s.function_types) (length s.function_types))
+type_keeps : (scope : Scope) (type : List TypeWord) (s : State) → IsFormed s → Keeps scope s (with_type type s)
+type_keeps scope type s formed =
+    type_keeps_by scope type s formed (nat_lt (place_among type s.function_types) (length s.function_types))
 
 type_there_by : (type : List TypeWord) (s : State) (b : Bool)
     → nat_lt (place_among type s.function_types) (length s.function_types) ≡ b
@@ -282,14 +285,21 @@ type_there : (type : List TypeWord) (s : State)
 type_there type s =
     type_there_by type s (nat_lt (place_among type s.function_types) (length s.function_types)) refl
 
+type_extents_by : (type : List TypeWord) (s : State) (b : Bool)
+    → extents (if b then s else record s { function_types = s.function_types ++ type ∷ [] }) ≡ extents s
+type_extents_by type s true = refl
+type_extents_by type s false = refl
+
+type_extents : (type : List TypeWord) (s : State) → extents (with_type type s) ≡ extents s
+type_extents type s = type_extents_by type s (nat_lt (place_among type s.function_types) (length s.function_types))
+
 applied_by : (scope : Scope) (last : Structures) (s : State) (given : Structures → Type 0) (is : Bool)
     (type : List TypeWord) (a : Answer Value)
     → (given (extents s) → is ≡ true → Covers scope last (with_type type s) → IfFine scope (extents s) a)
     → Sound scope last s given (Fine scope is) (as_operand a >>= λ o. Ok (with_type type s, o))
-applied_by scope last s given is type (Ok v) h = (
-  type_keeps scope type s,
-  λ knows g covers p.
-      value_kept scope (extents s) (extents (with_type type s)) (type_keeps scope type s).more v (h g p covers),
+applied_by scope last s given is type (Ok v) h = λ formed. (
+  type_keeps scope type s formed,
+  λ knows g covers p. subst (λ es. IsFine scope es v) (sym (type_extents type s)) (h g p covers),
 )
 applied_by scope last s given is type (Err f) h = tt
 
@@ -303,16 +313,11 @@ through_by scope last s is line v vs None e =
 through_by scope last s is line v vs (Some type) e =
     applied_by scope last s (λ es. FineValue scope is es v × FineAll scope is es vs) is type
     (called_through (extents s) line (place_among type s.function_types) v vs)
-    (λ g p covers. called_by scope (extents s) last (back scope last s type covers) line
+    (λ g p covers. called_by scope (extents s) last
+    (subst (λ es. AreMore es last) (type_extents type s) covers.more) line
     (place_among type s.function_types) v vs type
     (covers.types (place_among type s.function_types) type (type_there type s)) (g.0 p) (g.1 p) e
     (called_through (extents s) line (place_among type s.function_types) v vs) refl)
-  where
-    back : (scope : Scope) (last : Structures) (s : State) (type : List TypeWord)
-        → Covers scope last (with_type type s) → AreMore (extents s) last
-    back scope last s type covers = record {
-      kept = λ n x is. covers.more.kept n x ((type_keeps scope type s).more.kept n x is);
-    }
 
 pub pointer_calls : (scope : Scope) (last : Structures) → PointerCalls scope last
 pointer_calls scope last = record {

@@ -7,7 +7,7 @@ use Rattle.c_tree.specs.Valid.{Scope}
 use Rattle.c_rules.specs.Answer.{Answer, ◌>>=◌}
 use Rattle.c_typing.specs.State.{State, Typing, extents}
 use Rattle.c_typed_validity.specs.More.{AreMore}
-use Rattle.c_typed_validity.specs.Sound.{Covers, Extended, Keeps, Knows, Sound}
+use Rattle.c_typed_validity.specs.Sound.{Covers, Extended, IsFormed, Keeps, Knows, Sound}
 use Rattle.c_typed_validity.specs.Steps.{Structures, nothing}
 
 -- a property that stays where more structures are complete
@@ -27,7 +27,8 @@ longer_list : {A : Type 0} (xs ys zs : List A) → Extended xs ys → Extended y
 longer_list xs ys zs h g =
     record { rest = h.rest ++ g.rest; is = g.is ∙ ap (λ z. z ++ g.rest) h.is ∙ append_assoc xs h.rest g.rest }
 
-get_longer : {A : Type 0} (xs rest : List A) (n : ℕ) (x : A) → slice_get xs n ≡ Some x → slice_get (xs ++ rest) n ≡ Some x
+get_longer : {A : Type 0} (xs rest : List A) (n : ℕ) (x : A) → slice_get xs n ≡ Some x
+    → slice_get (xs ++ rest) n ≡ Some x
 get_longer [] rest n x e = cc
 get_longer (y ∷ xs) rest zero x e = e
 get_longer (y ∷ xs) rest (suc n) x e = get_longer xs rest n x e
@@ -36,12 +37,14 @@ get_extended : {A : Type 0} (xs ys : List A) → Extended xs ys → (n : ℕ) (x
     → slice_get ys n ≡ Some x
 get_extended xs ys h n x e = ap (λ z. slice_get z n) h.is ∙ get_longer xs h.rest n x e
 
-pub keeps_same : (scope : Scope) (s : State) → Keeps scope s s
-keeps_same scope s = record {
+pub keeps_same : (scope : Scope) (s : State) → IsFormed s → Keeps scope s s
+keeps_same scope s formed = record {
   more = same_more (extents s);
   literals = same_list s.literals;
   types = same_list s.function_types;
   knows = λ k. k;
+  pending = λ n p. p;
+  formed = formed;
 }
 
 pub keeps_on : (scope : Scope) (s t u : State) → Keeps scope s t → Keeps scope t u → Keeps scope s u
@@ -50,6 +53,8 @@ keeps_on scope s t u h g = record {
   literals = longer_list s.literals t.literals u.literals h.literals g.literals;
   types = longer_list s.function_types t.function_types u.function_types h.types g.types;
   knows = λ k. g.knows (h.knows k);
+  pending = λ n p. g.pending n (h.pending n p);
+  formed = g.formed;
 }
 
 pub covers_back : (scope : Scope) (last : Structures) (s t : State) → Keeps scope s t → Covers scope last t
@@ -66,16 +71,20 @@ abbrev pub both : {A : Type 0} → (Structures → Type 0) → (Structures → A
 both given p x es = given es × p es x
 
 behind_first : {A B : Type 0} (scope : Scope) (last : Structures) (given : Structures → Type 0) → Stays given
-    → (p : Structures → A → Type 0) (q : Structures → B → Type 0) (s t : State) (x : A) → Keeps scope s t
-    → (Knows scope s → given (extents s) → Covers scope last t → p (extents t) x) → (b : Answer (State × B))
-    → Sound scope last t (both given p x) q b → Sound scope last s given q b
-behind_first scope last given stays p q s t x keeps first (Ok r) second = (
-  keeps_on scope s t r.0 keeps second.0,
+    → (p : Structures → A → Type 0) (q : Structures → B → Type 0) (s t : State) (x : A)
+    → (IsFormed s → Keeps scope s t × (Knows scope s → given (extents s) → Covers scope last t → p (extents t) x))
+    → (b : Answer (State × B)) → Sound scope last t (both given p x) q b → Sound scope last s given q b
+behind_first scope last given stays p q s t x first (Ok r) second = λ formed. (
+  keeps_on scope s t r.0 (first formed).0 (second (first formed).0.formed).0,
   λ knows g covers.
-      second.1 (keeps.knows knows)
-      (stays (extents s) (extents t) keeps.more g, first knows g (covers_back scope last t r.0 second.0 covers)) covers,
+      (second (first formed).0.formed).1 ((first formed).0.knows knows)
+      (
+        stays (extents s) (extents t) (first formed).0.more g,
+        (first formed).1 knows g (covers_back scope last t r.0 (second (first formed).0.formed).0 covers),
+      )
+      covers,
 )
-behind_first scope last given stays p q s t x keeps first (Err f) second = tt
+behind_first scope last given stays p q s t x first (Err f) second = tt
 
 pub sound_then : {A B : Type 0} (scope : Scope) (last : Structures) (s : State) (given : Structures → Type 0)
     → Stays given → (p : Structures → A → Type 0) (q : Structures → B → Type 0) (a : Answer (State × A))
@@ -83,21 +92,22 @@ pub sound_then : {A B : Type 0} (scope : Scope) (last : Structures) (s : State) 
     → ((t : State) (x : A) → Sound scope last t (both given p x) q (next x t))
     → Sound scope last s given q (a >>= λ r. next r.1 r.0)
 sound_then scope last s given stays p q (Ok r) next first second =
-    behind_first scope last given stays p q s r.0 r.1 first.0 first.1 (next r.1 r.0) (second r.0 r.1)
+    behind_first scope last given stays p q s r.0 r.1 first (next r.1 r.0) (second r.0 r.1)
 sound_then scope last s given stays p q (Err f) next first second = tt
 
 -- what holds whatever is given
 pub whatever : {A : Type 0} (scope : Scope) (last : Structures) (s : State) (given : Structures → Type 0)
     (p : Structures → A → Type 0) (a : Answer (State × A)) → Sound scope last s nothing p a
     → Sound scope last s given p a
-whatever scope last s given p (Ok r) is = (is.0, λ knows g covers. is.1 knows tt covers)
+whatever scope last s given p (Ok r) is = λ formed. ((is formed).0, λ knows g covers. (is formed).1 knows tt covers)
 whatever scope last s given p (Err f) is = tt
 
 -- what is given where another property is
 pub with_given : {A : Type 0} (scope : Scope) (last : Structures) (s : State) (less given : Structures → Type 0)
     (p : Structures → A → Type 0) (a : Answer (State × A)) → (given (extents s) → less (extents s))
     → Sound scope last s less p a → Sound scope last s given p a
-with_given scope last s less given p (Ok r) h is = (is.0, λ knows g covers. is.1 knows (h g) covers)
+with_given scope last s less given p (Ok r) h is =
+    λ formed. ((is formed).0, λ knows g covers. (is formed).1 knows (h g) covers)
 with_given scope last s less given p (Err f) h is = tt
 
 -- what is judged in a state
@@ -108,5 +118,5 @@ If p (Err f) = Unit {0}
 pub sound_judged : {A : Type 0} (scope : Scope) (last : Structures) (s : State) (given : Structures → Type 0)
     (p : Structures → A → Type 0) (a : Answer A) → (Knows scope s → given (extents s) → If (p (extents s)) a)
     → Sound scope last s given p (a >>= λ x. Ok (s, x))
-sound_judged scope last s given p (Ok x) is = (keeps_same scope s, λ knows g covers. is knows g)
+sound_judged scope last s given p (Ok x) is = λ formed. (keeps_same scope s formed, λ knows g covers. is knows g)
 sound_judged scope last s given p (Err f) is = tt

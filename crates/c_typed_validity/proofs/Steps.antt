@@ -48,7 +48,7 @@ use Rattle.c_typing.specs.State.{State, Typing, extents, judged, ◌>>>◌}
 use Rattle.c_expression_typing.specs.Constructs.{accessed, prefixed, valued}
 use Rattle.c_typed_validity.specs.More.{AreMore}
 use Rattle.c_typed_validity.specs.Names.{IsFunctionOf, IsMeant}
-use Rattle.c_typed_validity.specs.Sound.{Knows, Sound}
+use Rattle.c_typed_validity.specs.Sound.{IsFormed, Knows, Sound}
 use Rattle.c_typed_validity.specs.Steps.{Fine, FineAll, FineValue, PointerCalls, Structures, nothing}
 use Rattle.c_typed_validity.specs.Typed.{HaveMembers}
 use Rattle.c_typed_validity.proofs.Constructs.{among_fine, operand_from, place_from, stepped_fine_by, unary_fine_by}
@@ -135,8 +135,8 @@ meant_as scope false line m s h p = cc
 used_sound : (scope : Scope) (last : Structures) (is : Bool) (line : ℕ) (m : Option Meaning) (s : State)
     (a : Answer Operand) → (Knows scope s → is ≡ true → IfFineOperand scope (extents s) a)
     → Sound scope last s nothing (Fine scope is) (a >>= λ o. Ok (used_as is line m s, o))
-used_sound scope last is line m s (Ok o) h = (
-  used_keeps scope is line m s,
+used_sound scope last is line m s (Ok o) h = λ formed. (
+  used_keeps scope is line m s formed,
   λ knows g covers p. subst (λ es. IsFineOperand scope es o) (sym (used_extents is line m s)) (h knows p),
 )
 used_sound scope last is line m s (Err f) h = tt
@@ -151,8 +151,8 @@ named_sound scope last is name line s =
 pub literal_sound : (scope : Scope) (last : Structures) (is : Bool) (bytes : List ℕ) (line : ℕ) (s : State)
     → Sound scope last s nothing (Fine scope is) (literal is bytes line s)
 literal_sound scope last true bytes line s =
-    (literal_keeps scope bytes s, λ knows g covers p. literal_fine scope last (extents s) bytes line s covers)
-literal_sound scope last false bytes line s = (keeps_same scope s, λ knows g covers p. cc)
+    λ formed. (literal_keeps scope bytes s formed, λ knows g covers p. literal_fine scope last (extents s) bytes line s covers)
+literal_sound scope last false bytes line s = λ formed. (keeps_same scope s formed, λ knows g covers p. cc)
 
 -- a unary operator, or `&`, `++` or `--`, before its operand
 
@@ -162,16 +162,17 @@ address_made is o s v = Ok (if is then object_taken o s else s, v)
 abbrev as_made : State × Value → Answer (State × Operand)
 as_made r = Ok (r.0, a_value r.1)
 
-taken_extents : (scope : Scope) (is : Bool) (o : Operand) (s : State) (v : Value) → IsFine scope (extents s) v
+taken_extents : (scope : Scope) (is : Bool) (o : Operand) (s : State) (v : Value) → IsFormed s
+    → IsFine scope (extents s) v
     → IsFine scope (extents (if is then object_taken o s else s)) v
-taken_extents scope is o s v h =
-    value_kept scope (extents s) _ (address_keeps scope is o s).more v h
+taken_extents scope is o s v formed h =
+    value_kept scope (extents s) _ (address_keeps scope is o s formed).more v h
 
 address_sound : (scope : Scope) (last : Structures) (s : State) (given : Structures → Type 0) (is : Bool) (o : Operand)
     (a : Answer Value) → (given (extents s) → is ≡ true → IfFine scope (extents s) a)
     → Sound scope last s given (Fine scope is) (a >>= address_made is o s >>= as_made)
 address_sound scope last s given is o (Ok v) h =
-    (address_keeps scope is o s, λ knows g covers p. taken_extents scope is o s v (h g p))
+    λ formed. (address_keeps scope is o s formed, λ knows g covers p. taken_extents scope is o s v formed (h g p))
 address_sound scope last s given is o (Err f) h = tt
 
 value_then : (scope : Scope) (last : Structures) (s : State) (given : Structures → Type 0) → Stays given → (is : Bool)
@@ -335,8 +336,8 @@ called_as_is scope false line m s h p = cc
 called_used : (scope : Scope) (last : Structures) (is : Bool) (line : ℕ) (m : Option Meaning) (s : State)
     (a : Answer Called) → (Knows scope s → is ≡ true → If (IsCalled scope (extents s)) a)
     → Sound scope last s nothing (FineCalled scope is) (a >>= λ c. Ok (used_as is line m s, c))
-called_used scope last is line m s (Ok c) h = (
-  used_keeps scope is line m s,
+called_used scope last is line m s (Ok c) h = λ formed. (
+  used_keeps scope is line m s formed,
   λ knows g covers p. subst (λ es. IsCalled scope es c) (sym (used_extents is line m s)) (h knows p),
 )
 called_used scope last is line m s (Err f) h = tt

@@ -1,14 +1,17 @@
 -- What typing carries, beside the program that it makes: what is known where a construct stands, and what a state has
 -- that the scope of the function in that program has too.
-use Rattle.std.specs.Prelude.{◌≡◌, ℕ, ◌++◌, true, List, length, get_or, slice_get, Option, Some, Ok, Err}
+use Rattle.std.specs.Prelude.{◌≡◌, ℕ, ◌<◌, ◌++◌, true, List, length, get_or, slice_get, Option, Some, None, Ok, Err}
 use Rattle.c_tree.specs.declared.c_type.TypeWord.{TypeWord}
 use Rattle.c_tree.specs.declared.expression.Kind.TheVariants as kind
-use Rattle.c_tree.specs.Extents.{TypeExtent}
+use Rattle.c_tree.specs.Extents.{TypeExtent, structure_extent}
 use Rattle.c_tree.specs.Kinds.{Signature, is_size}
 use Rattle.c_tree.specs.Valid.{Scope, has_number}
 use Rattle.c_rules.specs.Answer.{Answer}
 use Rattle.c_call_rules.specs.FineCalls.{HasSignature, Spells}
+use Rattle.c_scope.specs.declared.meaning.Tag.{Tag}
+use Rattle.c_scope.specs.declared.meaning.Tag.TheVariants as tag
 use Rattle.c_scope.specs.Names.{Name, meaning}
+use Rattle.c_scope.specs.Structures.{is_begun}
 use Rattle.c_typing.specs.State.{Literal, State, extents}
 use Rattle.c_typed_validity.specs.More.{AreMore}
 use Rattle.c_typed_validity.specs.Names.{IsMeant}
@@ -43,17 +46,38 @@ pub record Extended {A : Type 0} (list longer : List A) : Type 0 where
   pub rest : List A
   pub is : longer ≡ list ++ rest
 
+-- the structures and unions of a state: those that are complete have begun, and a tag stands for one that is declared
+
+abbrev pub IsNumbered : (count : ℕ) → Tag → Type 0
+IsNumbered count (tag.Structure n) = n < count
+IsNumbered count (tag.Union n) = n < count
+IsNumbered count (tag.Enumeration n) = Unit {0}
+
+pub record IsFormed (s : State) : Type 0 where
+  pub same : length (extents s) ≡ length s.environment.structures.bodies
+  pub begun : (n : ℕ) (e : TypeExtent) → structure_extent (extents s) n ≡ Some e
+      → is_begun n s.environment.structures.bodies ≡ true
+  pub tags : (name : Name) (t : Tag) → meaning name s.environment.tags ≡ Some t → IsNumbered (length (extents s)) t
+
+-- a structure or union whose members are read
+pub record IsPending (s : State) (number : ℕ) : Type 0 where
+  pub begun : is_begun number s.environment.structures.bodies ≡ true
+  pub incomplete : structure_extent (extents s) number ≡ None
+
 -- a state behind another
 pub record Keeps (scope : Scope) (s behind : State) : Type 0 where
   pub more : AreMore (extents s) (extents behind)
   pub literals : Extended s.literals behind.literals
   pub types : Extended s.function_types behind.function_types
   pub knows : Knows scope s → Knows scope behind
+  pub pending : (n : ℕ) → IsPending s n → IsPending behind n
+  pub formed : IsFormed behind
 
 -- what a construct is typed to from a state on has a property, given another that holds there
 abbrev pub Sound : {A : Type 0} → Scope → (last : List (Option TypeExtent)) → State
     → (given : List (Option TypeExtent) → Type 0) → (gives : List (Option TypeExtent) → A → Type 0)
     → Answer (State × A) → Type 0
 Sound scope last s given gives (Ok r) =
-    Keeps scope s r.0 × (Knows scope s → given (extents s) → Covers scope last r.0 → gives (extents r.0) r.1)
+    IsFormed s
+    → Keeps scope s r.0 × (Knows scope s → given (extents s) → Covers scope last r.0 → gives (extents r.0) r.1)
 Sound scope last s given gives (Err f) = Unit {0}

@@ -49,7 +49,8 @@ done_sound : {A : Type 0} (scope : Scope) (last : Structures) (s : State) (given
     → Sound scope last s given p (done x s)
 done_sound scope last s given p x h = λ formed. (keeps_same scope s formed, λ knows g covers. h g)
 
-module _ (scope : Scope) (last : Structures) (type_names : TypeNames scope last) (through : PointerCalls scope last) where
+module _ (scope : Scope) (last : Structures) (type_names : TypeNames scope last)
+    (through : PointerCalls scope last) where
   -- a value behind what is given
   value_then : {B : Type 0} (s : State) (given : Structures → Type 0) → Stays given → (is : Bool)
       (operand : Typing Operand) → Sound scope last s nothing (Fine scope is) (operand s)
@@ -159,7 +160,8 @@ module _ (scope : Scope) (last : Structures) (type_names : TypeNames scope last)
     typed_sound is (t.subscript a l b r) c s =
         value_then s nothing nothing_stays is (typed is a) (typed_sound is a (first _ _ c) s) (Fine scope is)
         (λ x. valued (typed is b) >>> λ y. judged (indexed l.line x y))
-        (λ u x. value_then u (both nothing (FineValue scope is) x) (with_value nothing nothing_stays is x) is (typed is b)
+        (λ u x. value_then u (both nothing (FineValue scope is) x) (with_value nothing nothing_stays is x) is
+        (typed is b)
         (typed_sound is b (second _ _ c) u) (Fine scope is) (λ y. judged (indexed l.line x y))
         (λ w y. judged_sound scope last w (both (both nothing (FineValue scope is) x) (FineValue scope is) y) is
         (indexed l.line x y w)
@@ -175,7 +177,8 @@ module _ (scope : Scope) (last : Structures) (type_names : TypeNames scope last)
         sound_then scope last s nothing nothing_stays (Fine scope is) (Fine scope is) (typed is e s)
         (accessed w at.line (name_of x)) (typed_sound is e c s)
         (λ u o. accessed_sound scope last u (both nothing (Fine scope is) o)
-        (both_stay nothing (Fine scope is) o nothing_stays (fine_stays scope is o)) is w at.line (name_of x) o (λ g. g.1))
+        (both_stay nothing (Fine scope is) o nothing_stays (fine_stays scope is o)) is w at.line (name_of x) o
+        (λ g. g.1))
     typed_sound is (t.postfix e w at) c s =
         sound_then scope last s nothing nothing_stays (Fine scope is) (Fine scope is) (typed is e s)
         (λ o. judged (stepped_by (step_form w) fixity.Postfix at.line o)) (typed_sound is e c s)
@@ -213,15 +216,18 @@ module _ (scope : Scope) (last : Structures) (type_names : TypeNames scope last)
     typed_sound is (t.binary a w at b) c s =
         value_then s nothing nothing_stays is (typed is a) (typed_sound is a (first _ _ c) s) (Fine scope is)
         (λ x. valued (typed is b) >>> λ y. judged (combined (binary_form_of w) at.line x y))
-        (λ u x. value_then u (both nothing (FineValue scope is) x) (with_value nothing nothing_stays is x) is (typed is b)
+        (λ u x. value_then u (both nothing (FineValue scope is) x) (with_value nothing nothing_stays is x) is
+        (typed is b)
         (typed_sound is b (second _ _ c) u) (Fine scope is) (λ y. judged (combined (binary_form_of w) at.line x y))
         (λ v y. judged_sound scope last v (both (both nothing (FineValue scope is) x) (FineValue scope is) y) is
         (combined (binary_form_of w) at.line x y v)
         (λ knows g p. combined_fine scope (binary_form_of w) at.line x y v (g.0.1 p) (g.1 p))))
     typed_sound is (t.conditional k q a colon b) c s =
-        value_then s nothing nothing_stays is (typed is k) (typed_sound is k (first _ _ (first _ _ c)) s) (Fine scope is)
+        value_then s nothing nothing_stays is (typed is k) (typed_sound is k (first _ _ (first _ _ c)) s)
+        (Fine scope is)
         (λ x. valued (typed is a) >>> λ y. valued (typed is b) >>> λ z. judged (chosen q.line x y z))
-        (λ u x. value_then u (both nothing (FineValue scope is) x) (with_value nothing nothing_stays is x) is (typed is a)
+        (λ u x. value_then u (both nothing (FineValue scope is) x) (with_value nothing nothing_stays is x) is
+        (typed is a)
         (typed_sound is a (second _ _ (first _ _ c)) u) (Fine scope is)
         (λ y. valued (typed is b) >>> λ z. judged (chosen q.line x y z))
         (λ v y. value_then v (both (both nothing (FineValue scope is) x) (FineValue scope is) y)

@@ -17,7 +17,7 @@ use Rattle.c_scope.specs.declared.meaning.Meaning.{Meaning}
 use Rattle.c_scope.specs.declared.meaning.Meaning.TheVariants as meaning
 use Rattle.c_typing.specs.Operators.{object_taken, variable_named, with_taken}
 use Rattle.c_typing.specs.Primaries.{is_aggregate, is_marked, is_undefined, literal_place, literal_type, used_as}
-use Rattle.c_typing.specs.Primaries.{with_literal, with_use}
+use Rattle.c_typing.specs.Primaries.{earlier_or, with_literal, with_use}
 use Rattle.c_typing.specs.State.{State, extents}
 use Rattle.c_typed_validity.specs.More.{AreMore}
 use Rattle.c_typed_validity.specs.Names.{IsFunctionOf, IsMeant, IsStaticOf}
@@ -26,19 +26,21 @@ use Rattle.c_typed_validity.proofs.Kept.{none_some, operand_kept}
 use Rattle.c_typed_validity.proofs.Primaries.{static_fine}
 use Rattle.c_typed_validity.proofs.Sound.{keeps_same, same_list, same_more}
 
-pub meant_moved : (scope : Scope) (s t : State) → extents s ≡ extents t → s.objects ≡ t.objects → (m : Option Meaning)
+pub meant_moved : (scope : Scope) (s t : State) → extents s ≡ extents t → s.objects ≡ t.objects
+    → s.environment.facts ≡ t.environment.facts → (m : Option Meaning)
     → IsMeant scope s m → IsMeant scope t m
-meant_moved scope s t e o None is = tt
-meant_moved scope s t e o (Some (meaning.Typedef type)) is = tt
-meant_moved scope s t e o (Some (meaning.Constant w)) is = is
-meant_moved scope s t e o (Some (meaning.Named (what.Object n) type)) is =
+meant_moved scope s t e o f None is = tt
+meant_moved scope s t e o f (Some (meaning.Typedef type)) is = tt
+meant_moved scope s t e o f (Some (meaning.Constant w)) is = is
+meant_moved scope s t e o f (Some (meaning.Named (what.Object n) type)) is =
     subst (λ es. IsStaticOf scope es n type) e is
-meant_moved scope s t e o (Some (meaning.Named (what.Static n) type)) is =
+meant_moved scope s t e o f (Some (meaning.Named (what.Static n) type)) is =
     subst (λ es. IsStaticOf scope es n type) e is
-meant_moved scope s t e o (Some (meaning.Named (what.Function n) type)) is =
-    subst (λ es. IsFunctionOf scope es n type) e is
-meant_moved scope s t e o (Some (meaning.Named (what.Library f) type)) is = tt
-meant_moved scope s t e o (Some (meaning.Named (what.Variable n) type)) is = record {
+meant_moved scope s t e o f (Some (meaning.Named (what.Function n) type)) is =
+    λ defined. subst (λ es. IsFunctionOf scope es n type) e
+    (is (ap (λ z. nat_le (length z.functions) n) f ∙ defined))
+meant_moved scope s t e o f (Some (meaning.Named (what.Library r) type)) is = tt
+meant_moved scope s t e o f (Some (meaning.Named (what.Variable n) type)) is = record {
   size = is.size;
   sized = subst (λ es. target_of es type ≡ target.Object is.size) e is.sized;
   kind = is.kind;
@@ -47,21 +49,29 @@ meant_moved scope s t e o (Some (meaning.Named (what.Variable n) type)) is = rec
 
 -- only marks, the line of a use, literals and types are new
 pub keeps_marks : (scope : Scope) (s : State) → IsFormed s → (taken : List Bool) (undefined : Option ℕ)
-    → Keeps scope s (record s { taken = taken; undefined = undefined })
-keeps_marks scope s formed taken undefined = record {
+    → (undefined ≡ None → s.undefined ≡ None) → Keeps scope s (record s { taken = taken; undefined = undefined })
+keeps_marks scope s formed taken undefined unused = record {
   more = same_more (extents s);
   literals = same_list s.literals;
   types = same_list s.function_types;
   knows = λ k. record {
-    names = λ name. meant_moved scope s (record s { taken = taken; undefined = undefined }) refl refl _ (k.names name);
+    names = λ name.
+        meant_moved scope s (record s { taken = taken; undefined = undefined }) refl refl refl _ (k.names name);
     members = record { each = k.members.each };
   };
   pending = λ n p. record { begun = p.begun; incomplete = p.incomplete };
   formed = record { same = formed.same; begun = formed.begun; tags = formed.tags };
+  undefined = unused;
 }
 
-use_keeps : (scope : Scope) (b : Bool) (line : ℕ) (s : State) → IsFormed s → Keeps scope s (if b then with_use line s else s)
-use_keeps scope true line s formed = keeps_marks scope s formed s.taken (with_use line s).undefined
+unused_before : (o : Option ℕ) (line : ℕ) → earlier_or o line ≡ None → o ≡ None
+unused_before None line e = refl
+unused_before (Some n) line e = e
+
+use_keeps : (scope : Scope) (b : Bool) (line : ℕ) (s : State) → IsFormed s
+    → Keeps scope s (if b then with_use line s else s)
+use_keeps scope true line s formed =
+    keeps_marks scope s formed s.taken (with_use line s).undefined (unused_before s.undefined line)
 use_keeps scope false line s formed = keeps_same scope s formed
 
 pub used_keeps : (scope : Scope) (is : Bool) (line : ℕ) (m : Option Meaning) (s : State) → IsFormed s
@@ -78,7 +88,7 @@ used_keeps scope is line (Some (meaning.Named (what.Variable n) type)) s formed 
 
 taken_keeps : (scope : Scope) (x : Option ℕ) (s : State) → IsFormed s → Keeps scope s (with_taken x s)
 taken_keeps scope None s formed = keeps_same scope s formed
-taken_keeps scope (Some n) s formed = keeps_marks scope s formed (with_taken (Some n) s).taken s.undefined
+taken_keeps scope (Some n) s formed = keeps_marks scope s formed (with_taken (Some n) s).taken s.undefined (λ e. e)
 
 object_keeps : (scope : Scope) (o : Operand) (s : State) → IsFormed s → Keeps scope s (object_taken o s)
 object_keeps scope (a_value v) s formed = keeps_same scope s formed
@@ -100,11 +110,12 @@ literal_keeps scope bytes s formed = record {
   literals = record { rest = _; is = refl };
   types = same_list s.function_types;
   knows = λ k. record {
-    names = λ name. meant_moved scope s (with_literal bytes s) refl refl _ (k.names name);
+    names = λ name. meant_moved scope s (with_literal bytes s) refl refl refl _ (k.names name);
     members = record { each = k.members.each };
   };
   pending = λ n p. record { begun = p.begun; incomplete = p.incomplete };
   formed = record { same = formed.same; begun = formed.begun; tags = formed.tags };
+  undefined = λ e. e;
 }
 
 pub get_last : {A : Type 0} (xs : List A) (x : A) → slice_get (xs ++ x ∷ []) (length xs) ≡ Some x

@@ -1,6 +1,7 @@
 -- Calls through pointers give what is valid: where a call is typed, the structures that its function type names are
 -- complete, so that this type spells its signature there too.
-use Rattle.std.proofs.Common.{◌≡◌, ℕ, zero, suc, ◌+◌, ◌<◌, ◌≤◌, Bool, true, false, ◌&&◌, nat_lt, refl, sym, ap, ◌∙◌, subst}
+use Rattle.std.proofs.Common.{◌≡◌, ℕ, zero, suc, ◌+◌, ◌<◌, ◌≤◌, Bool, true, false, ◌&&◌, nat_lt}
+use Rattle.std.proofs.Common.{refl, sym, ap, ◌∙◌, subst}
 use Rattle.std.proofs.Common.{List, [], ◌∷◌, ◌++◌, length, Option, Some, None, if◌then◌else◌, arith}
 use Rattle.std.specs.Prelude.{Ok, Err, slice_get}
 use Rattle.std.proofs.lemmas.Bool.{ltb-true, ltb-false}
@@ -22,19 +23,18 @@ use Rattle.c_rules.specs.Types.{object_of, target_of}
 use Rattle.c_rules.specs.Values.{Value}
 use Rattle.c_rules.proofs.FineConversions.{assigned_fine}
 use Rattle.c_rules.proofs.SameTypes.{words_are}
-use Rattle.c_call_rules.specs.Calls.{Callee, called, called_if, called_through, complete_result, of_pointer, outcome_in}
+use Rattle.c_call_rules.specs.Calls.{Callee, called, called_if, called_through, complete_result, of_pointer}
 use Rattle.c_call_rules.specs.Calls.{call_tree, passed}
-use Rattle.c_call_rules.specs.FineCalls.{AreFine, HasSignature, Spells}
+use Rattle.c_call_rules.specs.FineCalls.{AreFine, Spells}
 use Rattle.c_call_rules.specs.FunctionTypes.{callee_type, first_types, result_type}
 use Rattle.c_call_rules.proofs.FineCalls.{through_fine}
-use Rattle.c_place_rules.specs.Operands.{Operand, a_value}
-use Rattle.c_typing.specs.Calls.{callee_number, place_among, pointer_applied, with_callee_type, with_type}
+use Rattle.c_typing.specs.Calls.{callee_number, place_among, with_callee_type, with_type}
 use Rattle.c_typing.specs.Operators.{as_operand}
 use Rattle.c_typing.specs.State.{State, extents}
 use Rattle.c_typed_validity.specs.More.{AreMore}
 use Rattle.c_typed_validity.specs.Sound.{Covers, IsFormed, IsTypeOf, Keeps, Sound}
 use Rattle.c_typed_validity.specs.Steps.{Fine, FineAll, FineValue, PointerCalls, Structures}
-use Rattle.c_typed_validity.proofs.Kept.{both_kept, kind_kept, value_kept}
+use Rattle.c_typed_validity.proofs.Kept.{both_kept, kind_kept}
 use Rattle.c_typed_validity.proofs.Moved.{get_last, meant_moved}
 use Rattle.c_typed_validity.proofs.Sound.{keeps_same, same_list, same_more}
 
@@ -65,7 +65,8 @@ IsComplete target.Incomplete = true ≡ false
 IsComplete t = Unit {0}
 
 structure_back : (es last : Structures) → AreMore es last → (n : ℕ) (k : Kind) (o : Option TypeExtent)
-    → structure_extent es n ≡ o → IsComplete (object_of o) → is_kind_of (structure_kind (structure_extent last n)) k ≡ true
+    → structure_extent es n ≡ o → IsComplete (object_of o)
+    → is_kind_of (structure_kind (structure_extent last n)) k ≡ true
     → is_kind_of (structure_kind o) k ≡ true
 structure_back es last h n k None is complete e = cc
 structure_back es last h n k (Some x) is complete e =
@@ -109,7 +110,8 @@ two_true : (a b c d : Bool) → (a ≡ true → c ≡ true) → (b ≡ true → 
 two_true true b c d h g e = ap (λ z. z && d) (h refl) ∙ g e
 two_true false b c d h g e = cc
 
-abbrev PassedOn : Structures → (line : ℕ) → (type : List TypeWord) → List Value → List Expression → (y : List Expression)
+abbrev PassedOn : Structures → (line : ℕ) → (type : List TypeWord) → List Value → List Expression
+    → (y : List Expression)
     → Answer Expression → Type 0
 PassedOn es line type vs before y r =
     (r >>= (λ e. Ok (before ++ e ∷ [])) >>= λ es'. passed es line (behind_types 1 type) es' vs) ≡ Ok y
@@ -176,16 +178,16 @@ spelled_by : (scope : Scope) (es last : Structures) → AreMore es last → (lin
 spelled_by scope es last h line callee words sig vs x target.Incomplete is fine spelled e = cc
 spelled_by scope es last h line callee words sig vs x target.Void is fine spelled e =
     let p = then_of (passed es line words [] vs) _ x e in
-    agrees_back scope es last h line sig.parameters words sig.result vs [] p.value (subst IsComplete (sym is) tt) fine p.is
-    spelled
+    agrees_back scope es last h line sig.parameters words sig.result vs [] p.value (subst IsComplete (sym is) tt) fine
+    p.is spelled
 spelled_by scope es last h line callee words sig vs x target.Function is fine spelled e =
     let p = then_of (passed es line words [] vs) _ x e in
-    agrees_back scope es last h line sig.parameters words sig.result vs [] p.value (subst IsComplete (sym is) tt) fine p.is
-    spelled
+    agrees_back scope es last h line sig.parameters words sig.result vs [] p.value (subst IsComplete (sym is) tt) fine
+    p.is spelled
 spelled_by scope es last h line callee words sig vs x (target.Object n) is fine spelled e =
     let p = then_of (passed es line words [] vs) _ x e in
-    agrees_back scope es last h line sig.parameters words sig.result vs [] p.value (subst IsComplete (sym is) tt) fine p.is
-    spelled
+    agrees_back scope es last h line sig.parameters words sig.result vs [] p.value (subst IsComplete (sym is) tt) fine
+    p.is spelled
 
 spelled_back : (scope : Scope) (es last : Structures) → AreMore es last → (line : ℕ) (callee : Callee)
     (words : List TypeWord) (sig : Signature) (vs : List Value) (x : Value) → AreFine scope es vs
@@ -257,11 +259,13 @@ type_keeps_by scope type s formed false = record {
   types = record { rest = type ∷ []; is = refl };
   knows = λ k. record {
     names = λ name.
-        meant_moved scope s (record s { function_types = s.function_types ++ type ∷ [] }) refl refl _ (k.names name);
+        meant_moved scope s (record s { function_types = s.function_types ++ type ∷ [] }) refl refl refl _
+        (k.names name);
     members = record { each = k.members.each };
   };
   pending = λ n p. record { begun = p.begun; incomplete = p.incomplete };
   formed = record { same = formed.same; begun = formed.begun; tags = formed.tags };
+  undefined = λ e. e;
 }
 
 type_keeps : (scope : Scope) (type : List TypeWord) (s : State) → IsFormed s → Keeps scope s (with_type type s)

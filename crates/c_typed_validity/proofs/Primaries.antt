@@ -2,7 +2,7 @@
 use Rattle.std.proofs.Common.{◌≡◌, ℕ, ◌+◌, ◌-◌, ◌%◌, ◌^◌, ◌<◌, ◌≤◌, Bool, true, false, ◌&&◌, ◌||◌, ◌==◌, nat_le}
 use Rattle.std.proofs.Common.{if◌then◌else◌, refl, sym, ap, ◌∙◌, subst, List, [], ◌∷◌, take, drop, Option, Some, None}
 use Rattle.std.proofs.Common.{arith}
-use Rattle.std.specs.Prelude.{Ok, Err, cond, not}
+use Rattle.std.specs.Prelude.{cond, not}
 use Rattle.std.specs.List.{find, prefix_len}
 use Rattle.std.proofs.lemmas.Bool.{eq-eqb, leb-true}
 use Rattle.obj_memory.specs.declared.int_type.IntType.{IntType}
@@ -26,13 +26,12 @@ use Rattle.c_tree.specs.Tree.{LvalueNode, automatic, expression, lvalue, plain, 
 use Rattle.c_tree.specs.TypesAgree.{kind_of_type}
 use Rattle.c_tree.specs.Valid.{Scope, is_plain, is_valid_lvalue_node}
 use Rattle.c_rules.specs.declared.class.Target.TheVariants as target
-use Rattle.c_rules.specs.Answer.{Answer, ◌>>=◌}
 use Rattle.c_rules.specs.Fine.{IsFine}
 use Rattle.c_rules.specs.Types.{target_of}
 use Rattle.c_rules.proofs.FineBinary.{all}
 use Rattle.c_rules.proofs.FineConversions.{unqualified_kind}
 use Rattle.c_rules.proofs.FineUnary.{same_kind}
-use Rattle.c_place_rules.specs.Operands.{Operand, Place, Variable}
+use Rattle.c_place_rules.specs.Operands.{Place, Variable}
 use Rattle.c_place_rules.specs.Targets.{object_kind}
 use Rattle.c_place_laws.specs.FinePlaces.{IfFineOperand, IsFineOperand, IsFinePlace, IsFineVariable}
 use Rattle.c_place_laws.proofs.Sizes.{Complete, complete, kind_bytes}
@@ -40,14 +39,12 @@ use Rattle.c_scope.specs.declared.meaning.Designated.{Designated}
 use Rattle.c_scope.specs.declared.meaning.Designated.TheVariants as what
 use Rattle.c_scope.specs.declared.meaning.Meaning.{Meaning}
 use Rattle.c_scope.specs.declared.meaning.Meaning.TheVariants as meaning
-use Rattle.c_scope.specs.Names.{Name}
-use Rattle.c_scope.specs.Names as names
 use Rattle.c_typing.specs.Primaries.{character_constant, constant_value, designated, function_named, integer_as}
-use Rattle.c_typing.specs.Primaries.{integer_constant, is_aggregate, is_marked, is_undefined, meant, named, or_zero}
-use Rattle.c_typing.specs.Primaries.{place, plain_variable, size_or_zero, type_of_constant, used_as, with_use}
+use Rattle.c_typing.specs.Primaries.{integer_constant, is_aggregate, is_marked, is_undefined, meant, or_zero}
+use Rattle.c_typing.specs.Primaries.{earlier_or, place, plain_variable, size_or_zero, type_of_constant}
+use Rattle.c_typing.specs.Primaries.{used, used_as, with_use}
 use Rattle.c_typing.specs.State.{State, extents}
 use Rattle.c_typed_validity.specs.Names.{IsDesignated, IsFunctionOf, IsMeant, IsStaticOf, IsVariableOf}
-use Rattle.c_typed_validity.specs.Typed.{IfTyped}
 
 pub constant_fine : (scope : Scope) (es : List (Option TypeExtent)) (line : ℕ) (t : IntType) (w : ℕ) → fit t w ≡ w
     → IsFine scope es (constant_value line t w)
@@ -264,7 +261,8 @@ automatic_fine : (scope : Scope) (s : State) (line n : ℕ) (type : List TypeWor
     → IsFinePlace scope (extents s) (placed (extents s) line type (automatic n))
 automatic_fine scope s line n type is e =
     place_fine scope (extents s) line is.size type (automatic n) is.sized
-    (all (is.object ∙ e) (ap (λ z. is_kind z (object_kind is.size type)) is.kind ∙ same_kind (object_kind is.size type)))
+    (all (is.object ∙ e) (ap (λ z. is_kind z (object_kind is.size type)) is.kind
+    ∙ same_kind (object_kind is.size type)))
 
 variable_by : (scope : Scope) (s : State) (line n : ℕ) (type : List TypeWord) → IsVariableOf scope s n type
     → (b : Bool) → (is_aggregate type || is_marked s.objects n) ≡ b
@@ -279,21 +277,33 @@ function_fine : (scope : Scope) (es : List (Option TypeExtent)) (line n : ℕ) (
     → IsFunctionOf scope es n type → IsFineOperand scope es (function_named line n type)
 function_fine scope es line n type is = record { valid = all is.has.there refl; kind = refl; bare = refl }
 
+-- a function that is used is defined
+
+earlier_some : (o : Option ℕ) (line : ℕ) (P : Type 0) → earlier_or o line ≡ None → P
+earlier_some None line P e = cc
+earlier_some (Some n) line P e = cc
+
+pub defined_by : (line : ℕ) (s : State) (b : Bool) → (if b then with_use line s else s).undefined ≡ None → b ≡ false
+defined_by line s true e = earlier_some s.undefined line (true ≡ false) e
+defined_by line s false e = refl
+
 designated_fine : (scope : Scope) (line : ℕ) (w : Designated) (type : List TypeWord) (s : State)
-    → IsDesignated scope s w type → IfFineOperand scope (extents s) (designated true line w type s)
-designated_fine scope line (what.Object n) type s is = static_fine scope (extents s) line n type is
-designated_fine scope line (what.Static n) type s is = static_fine scope (extents s) line n type is
-designated_fine scope line (what.Function n) type s is = function_fine scope (extents s) line n type is
-designated_fine scope line (what.Library f) type s is = tt
-designated_fine scope line (what.Variable n) type s is =
+    → IsDesignated scope s w type → (used true line w s).undefined ≡ None
+    → IfFineOperand scope (extents s) (designated true line w type s)
+designated_fine scope line (what.Object n) type s is unused = static_fine scope (extents s) line n type is
+designated_fine scope line (what.Static n) type s is unused = static_fine scope (extents s) line n type is
+designated_fine scope line (what.Function n) type s is unused =
+    function_fine scope (extents s) line n type (is (defined_by line s (is_undefined n s) unused))
+designated_fine scope line (what.Library f) type s is unused = tt
+designated_fine scope line (what.Variable n) type s is unused =
     variable_by scope s line n type is (is_aggregate type || is_marked s.objects n) refl
 
 pub meant_fine : (scope : Scope) (line : ℕ) (m : Option Meaning) (s : State) → IsMeant scope s m
-    → IfFineOperand scope (extents s) (meant true line m s)
-meant_fine scope line None s is = tt
-meant_fine scope line (Some (meaning.Typedef type)) s is = tt
-meant_fine scope line (Some (meaning.Constant w)) s is = constant_fine scope (extents s) line int.Int w is
-meant_fine scope line (Some (meaning.Named w type)) s is = designated_fine scope line w type s is
+    → (used_as true line m s).undefined ≡ None → IfFineOperand scope (extents s) (meant true line m s)
+meant_fine scope line None s is unused = tt
+meant_fine scope line (Some (meaning.Typedef type)) s is unused = tt
+meant_fine scope line (Some (meaning.Constant w)) s is unused = constant_fine scope (extents s) line int.Int w is
+meant_fine scope line (Some (meaning.Named w type)) s is unused = designated_fine scope line w type s is unused
 
 use_extents : (b : Bool) (line : ℕ) (s : State) → extents (if b then with_use line s else s) ≡ extents s
 use_extents true line s = refl
@@ -309,15 +319,3 @@ used_extents is line (Some (meaning.Named (what.Static n) type)) s = refl
 used_extents is line (Some (meaning.Named (what.Function n) type)) s = use_extents (is && is_undefined n s) line s
 used_extents is line (Some (meaning.Named (what.Library f) type)) s = refl
 used_extents is line (Some (meaning.Named (what.Variable n) type)) s = refl
-
-meant_by : (scope : Scope) (line : ℕ) (m : Option Meaning) (s : State) (a : Answer Operand)
-    → IfFineOperand scope (extents s) a → IfTyped scope (a >>= λ o. Ok (used_as true line m s, o))
-meant_by scope line m s (Ok o) fine =
-    subst (λ es. IsFineOperand scope es o) (sym (used_extents true line m s)) fine
-meant_by scope line m s (Err f) fine = tt
-
-pub named_typed : (scope : Scope) (name : Name) (line : ℕ) (s : State)
-    → IsMeant scope s (names.meaning name s.environment.names) → IfTyped scope (named true name line s)
-named_typed scope name line s is =
-    let m = names.meaning name s.environment.names in
-    meant_by scope line m s (meant true line m s) (meant_fine scope line m s is)

@@ -45,6 +45,7 @@ keeps_same scope s formed = record {
   knows = λ k. k;
   pending = λ n p. p;
   formed = formed;
+  undefined = λ e. e;
 }
 
 pub keeps_on : (scope : Scope) (s t u : State) → Keeps scope s t → Keeps scope t u → Keeps scope s u
@@ -55,12 +56,14 @@ keeps_on scope s t u h g = record {
   knows = λ k. g.knows (h.knows k);
   pending = λ n p. g.pending n (h.pending n p);
   formed = g.formed;
+  undefined = λ e. h.undefined (g.undefined e);
 }
 
 pub covers_back : (scope : Scope) (last : Structures) (s t : State) → Keeps scope s t → Covers scope last t
     → Covers scope last s
 covers_back scope last s t h c = record {
   more = more_more (extents s) (extents t) last h.more c.more;
+  undefined = h.undefined c.undefined;
   literals = λ n l e. c.literals n l (get_extended s.literals t.literals h.literals n l e);
   types = λ n type e. c.types n type (get_extended s.function_types t.function_types h.types n type e);
 }
@@ -77,8 +80,7 @@ behind_first : {A B : Type 0} (scope : Scope) (last : Structures) (given : Struc
 behind_first scope last given stays p q s t x first (Ok r) second = λ formed. (
   keeps_on scope s t r.0 (first formed).0 (second (first formed).0.formed).0,
   λ knows g covers.
-      (second (first formed).0.formed).1 ((first formed).0.knows knows)
-      (
+      (second (first formed).0.formed).1 ((first formed).0.knows knows) (
         stays (extents s) (extents t) (first formed).0.more g,
         (first formed).1 knows g (covers_back scope last t r.0 (second (first formed).0.formed).0 covers),
       )

@@ -43,7 +43,7 @@ use Rattle.c_typing.specs.Calls.{plainly_or, pointer_applied, pointer_called, pr
 use Rattle.c_typing.specs.Operators.{arrowed, as_value, dotted, member_in}
 use Rattle.c_typing.specs.Operators.{object_taken, stepped_by, structure_behind, unary_value, unreadable}
 use Rattle.c_typing.specs.Operators.{value_among}
-use Rattle.c_typing.specs.Primaries.{literal, meant, named, used_as}
+use Rattle.c_typing.specs.Primaries.{is_undefined, literal, meant, named, used_as}
 use Rattle.c_typing.specs.State.{State, Typing, extents, judged, ◌>>>◌}
 use Rattle.c_expression_typing.specs.Constructs.{accessed, prefixed, valued}
 use Rattle.c_typed_validity.specs.More.{AreMore}
@@ -54,7 +54,7 @@ use Rattle.c_typed_validity.specs.Typed.{HaveMembers}
 use Rattle.c_typed_validity.proofs.Constructs.{among_fine, operand_from, place_from, stepped_fine_by, unary_fine_by}
 use Rattle.c_typed_validity.proofs.Kept.{agrees_kept, arguments_kept, operand_kept, value_kept}
 use Rattle.c_typed_validity.proofs.Moved.{address_keeps, literal_fine, literal_keeps, used_keeps}
-use Rattle.c_typed_validity.proofs.Primaries.{meant_fine, used_extents}
+use Rattle.c_typed_validity.proofs.Primaries.{defined_by, meant_fine, used_extents}
 use Rattle.c_typed_validity.proofs.Sound.{If, Stays, both, keeps_same, sound_judged, sound_then, with_given}
 
 -- what is evaluated is valid
@@ -127,17 +127,19 @@ valued_sound scope last s given stays is operand h =
 
 -- names and literals
 
-meant_as : (scope : Scope) (is : Bool) (line : ℕ) (m : Option Meaning) (s : State) → IsMeant scope s m → is ≡ true
-    → IfFineOperand scope (extents s) (meant is line m s)
-meant_as scope true line m s h p = meant_fine scope line m s h
-meant_as scope false line m s h p = cc
+meant_as : (scope : Scope) (is : Bool) (line : ℕ) (m : Option Meaning) (s : State) → IsMeant scope s m
+    → (used_as is line m s).undefined ≡ None → is ≡ true → IfFineOperand scope (extents s) (meant is line m s)
+meant_as scope true line m s h unused p = meant_fine scope line m s h unused
+meant_as scope false line m s h unused p = cc
 
 used_sound : (scope : Scope) (last : Structures) (is : Bool) (line : ℕ) (m : Option Meaning) (s : State)
-    (a : Answer Operand) → (Knows scope s → is ≡ true → IfFineOperand scope (extents s) a)
+    (a : Answer Operand)
+    → (Knows scope s → (used_as is line m s).undefined ≡ None → is ≡ true → IfFineOperand scope (extents s) a)
     → Sound scope last s nothing (Fine scope is) (a >>= λ o. Ok (used_as is line m s, o))
 used_sound scope last is line m s (Ok o) h = λ formed. (
   used_keeps scope is line m s formed,
-  λ knows g covers p. subst (λ es. IsFineOperand scope es o) (sym (used_extents is line m s)) (h knows p),
+  λ knows g covers p.
+      subst (λ es. IsFineOperand scope es o) (sym (used_extents is line m s)) (h knows covers.undefined p),
 )
 used_sound scope last is line m s (Err f) h = tt
 
@@ -146,12 +148,13 @@ pub named_sound : (scope : Scope) (last : Structures) (is : Bool) (name : Name) 
 named_sound scope last is name line s =
     let m = names.meaning name s.environment.names in
     used_sound scope last is line m s (meant is line m s)
-    (λ knows p. meant_as scope is line m s (knows.names name) p)
+    (λ knows unused p. meant_as scope is line m s (knows.names name) unused p)
 
 pub literal_sound : (scope : Scope) (last : Structures) (is : Bool) (bytes : List ℕ) (line : ℕ) (s : State)
     → Sound scope last s nothing (Fine scope is) (literal is bytes line s)
 literal_sound scope last true bytes line s =
-    λ formed. (literal_keeps scope bytes s formed, λ knows g covers p. literal_fine scope last (extents s) bytes line s covers)
+    λ formed.
+    (literal_keeps scope bytes s formed, λ knows g covers p. literal_fine scope last (extents s) bytes line s covers)
 literal_sound scope last false bytes line s = λ formed. (keeps_same scope s formed, λ knows g covers p. cc)
 
 -- a unary operator, or `&`, `++` or `--`, before its operand
@@ -310,35 +313,40 @@ library_if scope es (library.Routine r) = tt
 library_if scope es library.Printf = tt
 
 called_if : (scope : Scope) (line : ℕ) (m : Option Meaning) (s : State) → IsMeant scope s m
+    → (used_as true line m s).undefined ≡ None
     → If (IsCalled scope (extents s)) (plainly_or (called_plainly m) (called_by_value true line m s))
-called_if scope line None s h = tt
-called_if scope line (Some (meaning.Typedef type)) s h = tt
-called_if scope line (Some (meaning.Constant w)) s h =
+called_if scope line None s h unused = tt
+called_if scope line (Some (meaning.Typedef type)) s h unused = tt
+called_if scope line (Some (meaning.Constant w)) s h unused =
     value_called scope s (meant true line (Some (meaning.Constant w)) s)
-    (meant_fine scope line (Some (meaning.Constant w)) s h)
-called_if scope line (Some (meaning.Named (what.Function n) type)) s h = h
-called_if scope line (Some (meaning.Named (what.Library f) type)) s h = library_if scope (extents s) f
-called_if scope line (Some (meaning.Named (what.Object n) type)) s h =
+    (meant_fine scope line (Some (meaning.Constant w)) s h unused)
+called_if scope line (Some (meaning.Named (what.Function n) type)) s h unused =
+    h (defined_by line s (is_undefined n s) unused)
+called_if scope line (Some (meaning.Named (what.Library f) type)) s h unused = library_if scope (extents s) f
+called_if scope line (Some (meaning.Named (what.Object n) type)) s h unused =
     value_called scope s (meant true line (Some (meaning.Named (what.Object n) type)) s)
-    (meant_fine scope line (Some (meaning.Named (what.Object n) type)) s h)
-called_if scope line (Some (meaning.Named (what.Static n) type)) s h =
+    (meant_fine scope line (Some (meaning.Named (what.Object n) type)) s h unused)
+called_if scope line (Some (meaning.Named (what.Static n) type)) s h unused =
     value_called scope s (meant true line (Some (meaning.Named (what.Static n) type)) s)
-    (meant_fine scope line (Some (meaning.Named (what.Static n) type)) s h)
-called_if scope line (Some (meaning.Named (what.Variable n) type)) s h =
+    (meant_fine scope line (Some (meaning.Named (what.Static n) type)) s h unused)
+called_if scope line (Some (meaning.Named (what.Variable n) type)) s h unused =
     value_called scope s (meant true line (Some (meaning.Named (what.Variable n) type)) s)
-    (meant_fine scope line (Some (meaning.Named (what.Variable n) type)) s h)
+    (meant_fine scope line (Some (meaning.Named (what.Variable n) type)) s h unused)
 
-called_as_is : (scope : Scope) (is : Bool) (line : ℕ) (m : Option Meaning) (s : State) → IsMeant scope s m → is ≡ true
+called_as_is : (scope : Scope) (is : Bool) (line : ℕ) (m : Option Meaning) (s : State) → IsMeant scope s m
+    → (used_as is line m s).undefined ≡ None → is ≡ true
     → If (IsCalled scope (extents s)) (plainly_or (called_plainly m) (called_by_value is line m s))
-called_as_is scope true line m s h p = called_if scope line m s h
-called_as_is scope false line m s h p = cc
+called_as_is scope true line m s h unused p = called_if scope line m s h unused
+called_as_is scope false line m s h unused p = cc
 
 called_used : (scope : Scope) (last : Structures) (is : Bool) (line : ℕ) (m : Option Meaning) (s : State)
-    (a : Answer Called) → (Knows scope s → is ≡ true → If (IsCalled scope (extents s)) a)
+    (a : Answer Called)
+    → (Knows scope s → (used_as is line m s).undefined ≡ None → is ≡ true → If (IsCalled scope (extents s)) a)
     → Sound scope last s nothing (FineCalled scope is) (a >>= λ c. Ok (used_as is line m s, c))
 called_used scope last is line m s (Ok c) h = λ formed. (
   used_keeps scope is line m s formed,
-  λ knows g covers p. subst (λ es. IsCalled scope es c) (sym (used_extents is line m s)) (h knows p),
+  λ knows g covers p.
+      subst (λ es. IsCalled scope es c) (sym (used_extents is line m s)) (h knows covers.undefined p),
 )
 called_used scope last is line m s (Err f) h = tt
 
@@ -347,7 +355,7 @@ pub name_called_sound : (scope : Scope) (last : Structures) (is : Bool) (name : 
 name_called_sound scope last is name line s =
     let m = names.meaning name s.environment.names in
     called_used scope last is line m s (plainly_or (called_plainly m) (called_by_value is line m s))
-    (λ knows p. called_as_is scope is line m s (knows.names name) p)
+    (λ knows unused p. called_as_is scope is line m s (knows.names name) unused p)
 
 pub pointer_called_sound : (scope : Scope) (last : Structures) (s : State) (given : Structures → Type 0) (is : Bool)
     (o : Operand) → (given (extents s) → Fine scope is (extents s) o)

@@ -1,5 +1,5 @@
 -- What names stand for, as the scope of a function in a program has it (C99 6.2.1, 6.5.1).
-use Rattle.std.specs.Prelude.{◌≡◌, ℕ, true, ◌||◌, List, get_or, Option, Some, None}
+use Rattle.std.specs.Prelude.{◌≡◌, ℕ, true, false, ◌||◌, List, get_or, Option, Some, None}
 use Rattle.obj_memory.specs.declared.int_type.IntType.TheVariants.{Int}
 use Rattle.obj_memory.specs.Integers.{fit}
 use Rattle.c_tree.specs.declared.c_type.TypeWord.{TypeWord}
@@ -15,7 +15,7 @@ use Rattle.c_scope.specs.declared.meaning.Designated.{Designated}
 use Rattle.c_scope.specs.declared.meaning.Designated.TheVariants as what
 use Rattle.c_scope.specs.declared.meaning.Meaning.{Meaning}
 use Rattle.c_scope.specs.declared.meaning.Meaning.TheVariants as meaning
-use Rattle.c_typing.specs.Primaries.{is_aggregate, is_marked}
+use Rattle.c_typing.specs.Primaries.{is_aggregate, is_marked, is_undefined}
 use Rattle.c_typing.specs.State.{State, extents}
 
 -- a static object whose type is complete where its name stands, and which is of the kind of that type
@@ -40,10 +40,11 @@ pub record IsFunctionOf (scope : Scope) (structures : List (Option TypeExtent)) 
   pub has : HasSignature scope.functions number signature
   pub spelled : Spells structures type signature
 
+-- a function that the file does not define needs none, as long as it is not used
 abbrev pub IsDesignated : Scope → State → Designated → List TypeWord → Type 0
 IsDesignated scope s (what.Object n) type = IsStaticOf scope (extents s) n type
 IsDesignated scope s (what.Static n) type = IsStaticOf scope (extents s) n type
-IsDesignated scope s (what.Function n) type = IsFunctionOf scope (extents s) n type
+IsDesignated scope s (what.Function n) type = is_undefined n s ≡ false → IsFunctionOf scope (extents s) n type
 IsDesignated scope s (what.Library f) type = Unit {0}
 IsDesignated scope s (what.Variable n) type = IsVariableOf scope s n type
 

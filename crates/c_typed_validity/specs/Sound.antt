@@ -35,9 +35,10 @@ pub record IsTypeOf (scope : Scope) (last : List (Option TypeExtent)) (number : 
   pub spelled : Spells last type signature
 
 -- the string literals and the types of functions so far are those of the program, at whose end these structures are
--- complete
+-- complete, and no function is used that is not defined
 pub record Covers (scope : Scope) (last : List (Option TypeExtent)) (s : State) : Type 0 where
   pub more : AreMore (extents s) last
+  pub undefined : s.undefined ≡ None
   pub literals : (n : ℕ) (l : Literal) → slice_get s.literals n ≡ Some l → IsLiteral scope l
   pub types : (n : ℕ) (type : List TypeWord) → slice_get s.function_types n ≡ Some type → IsTypeOf scope last n type
 
@@ -72,6 +73,7 @@ pub record Keeps (scope : Scope) (s behind : State) : Type 0 where
   pub knows : Knows scope s → Knows scope behind
   pub pending : (n : ℕ) → IsPending s n → IsPending behind n
   pub formed : IsFormed behind
+  pub undefined : behind.undefined ≡ None → s.undefined ≡ None
 
 -- what a construct is typed to from a state on has a property, given another that holds there
 abbrev pub Sound : {A : Type 0} → Scope → (last : List (Option TypeExtent)) → State

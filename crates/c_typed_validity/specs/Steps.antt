@@ -1,5 +1,4 @@
--- What the parts of an expression give, and the two of its constructs that stand by themselves: type names, and calls
--- through pointers.
+-- What the parts of an expression give, and what its type names and calls through pointers are taken to do.
 use Rattle.std.specs.Prelude.{◌≡◌, ℕ, Bool, true, List, Option}
 use Rattle.c_syntax.specs.Tree.{TypedDeclarator}
 use Rattle.c_tree.specs.declared.c_type.TypeWord.{TypeWord}

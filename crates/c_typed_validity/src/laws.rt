@@ -2,8 +2,7 @@
 
 ghost use Rattle.std.specs.Prelude.{◌≡◌, ℕ, ◌^◌, ◌<◌, Bool, true, List, Option};
 ghost use Rattle.c_lexer.specs.Literals.{character_value};
-ghost use Rattle.c_scope.specs.Names.{Name, meaning};
-ghost use Rattle.c_typing.specs.Primaries.{character_constant, integer_constant, named, or_zero};
+ghost use Rattle.c_typing.specs.Primaries.{character_constant, integer_constant, or_zero};
 ghost use Rattle.c_tree.specs.declared.expression.Fixity.{Fixity};
 ghost use Rattle.c_call_rules.specs.Printing.{Format};
 ghost use Rattle.c_typing.specs.declared.forms.AssignmentForm.{AssignmentForm};
@@ -16,7 +15,6 @@ ghost use Rattle.c_syntax.specs.Tree.{Expression};
 ghost use Rattle.c_expression_typing.specs.Typed.{typed};
 ghost use Rattle.c_expression_typing.specs.Constructs.{cast_to, chosen, prefixed, sized};
 ghost use Rattle.c_typed_validity.specs.Characters.{has_characters};
-ghost use Rattle.c_typed_validity.specs.Names.{IsMeant};
 ghost use Rattle.c_typed_validity.specs.Sound.{Sound};
 ghost use Rattle.c_typed_validity.specs.Steps.{Fine, Structures, TypeNames, nothing};
 ghost use Rattle.c_typed_validity.specs.Typed.{IfTyped, IfValued};
@@ -70,22 +68,21 @@ pub fn operators_keep_operands_valid()
         → AreFine scope (extents s) vs → IfTyped scope (judged (printed line format vs) s) }
 {}
 
-/// Constants are valid, of their types (C99 6.4.4); and so is what a name is typed to that is evaluated, where it stands
-/// for something of the kind of its type: a static object only where that type is complete (6.5.1).
-pub fn names_and_constants_are_valid()
+/// Constants are valid, of their types (C99 6.4.4).
+pub fn constants_are_valid()
     ensures integer { (scope : Scope) (structures : List (Option TypeExtent)) (spelling : List ℕ) (line : ℕ)
         → IsFine scope structures (integer_constant spelling line) }
     ensures character { (scope : Scope) (structures : List (Option TypeExtent)) (spelling : List ℕ) (line : ℕ)
         → or_zero (character_value spelling) < 2 ^ 31
         → IsFine scope structures (character_constant spelling line) }
-    ensures name { (scope : Scope) (name : Name) (line : ℕ) (s : State)
-        → IsMeant scope s (meaning name s.environment.names) → IfTyped scope (named true name line s) }
 {}
 
-/// What an expression is typed to is valid, where it is evaluated, in the scope of its function in a program: where names
-/// stand for something of the kind of their type before it, and the string literals and the types of called functions
-/// behind it are those of that program (C99 6.5). That type names keep what is known is taken as it is.
+/// What an expression is typed to is valid, where it is evaluated, in the scope of its function in a program (C99 6.5):
+/// where names stand for something of the kind of their type before it, a static object only of a complete type, and
+/// the string literals and the types of called functions behind it are those of that program, which uses no function
+/// that it does not define. That type names keep what is known is taken as it is.
 pub fn expressions_are_typed_to_valid_trees()
-    ensures { (scope : Scope) (last : Structures) → TypeNames scope last → (is_evaluated : Bool) (e : Expression) → has_characters e ≡ true → (s : State)
+    ensures { (scope : Scope) (last : Structures) → TypeNames scope last
+        → (is_evaluated : Bool) (e : Expression) → has_characters e ≡ true → (s : State)
         → Sound scope last s nothing (Fine scope is_evaluated) (typed is_evaluated e s) }
 {}

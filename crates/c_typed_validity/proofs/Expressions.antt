@@ -47,7 +47,7 @@ second false b e = cc
 done_sound : {A : Type 0} (scope : Scope) (last : Structures) (s : State) (given : Structures → Type 0)
     (p : Structures → A → Type 0) (x : A) → (given (extents s) → p (extents s) x)
     → Sound scope last s given p (done x s)
-done_sound scope last s given p x h = λ formed. (keeps_same scope s formed, λ knows g covers. h g)
+done_sound scope last s given p x h = λ formed. (keeps_same scope last s formed, λ knows g covers. h g)
 
 module _ (scope : Scope) (last : Structures) (type_names : TypeNames scope last)
     (through : PointerCalls scope last) where
@@ -68,10 +68,10 @@ module _ (scope : Scope) (last : Structures) (type_names : TypeNames scope last)
 
   called_by_sound : (is : Bool) (name : Option Spelled) (operand : Typing Operand)
       → ((s : State) → Sound scope last s nothing (Fine scope is) (operand s)) → (s : State)
-      → Sound scope last s nothing (FineCalled scope is) (called_by is name operand s)
+      → Sound scope last s nothing (FineCalled scope last is) (called_by is name operand s)
   called_by_sound is (Some x) operand h s = name_called_sound scope last is (name_of x) x.position.line s
   called_by_sound is None operand h s =
-      sound_then scope last s nothing nothing_stays (Fine scope is) (FineCalled scope is) (operand s)
+      sound_then scope last s nothing nothing_stays (Fine scope is) (FineCalled scope last is) (operand s)
       (λ o. judged (pointer_called o)) (h s)
       (λ t o. pointer_called_sound scope last t (both nothing (Fine scope is) o) is o (λ g. g.1))
 
@@ -83,8 +83,8 @@ module _ (scope : Scope) (last : Structures) (type_names : TypeNames scope last)
 
   values_then : (line : ℕ) (is : Bool) (c : Called) (values : Typing (List Value))
       → ((s : State) → Sound scope last s nothing (FineAll scope is) (values s)) → (s : State)
-      (given : Structures → Type 0) → Stays given → (given (extents s) → FineCalled scope is (extents s) c)
-      → Stays (λ es. FineCalled scope is es c) → ((es : Structures) → given es → FineCalled scope is es c)
+      (given : Structures → Type 0) → Stays given → (given (extents s) → FineCalled scope last is (extents s) c)
+      → Stays (λ es. FineCalled scope last is es c) → ((es : Structures) → given es → FineCalled scope last is es c)
       → Sound scope last s given (Fine scope is) ((values >>> λ vs. applied line c vs) s)
   values_then line is c values h s given stays called called_stay called_in =
       sound_then scope last s given stays (FineAll scope is) (Fine scope is) (values s) (λ vs. applied line c vs)
@@ -105,23 +105,26 @@ module _ (scope : Scope) (last : Structures) (type_names : TypeNames scope last)
   applied_to_sound : (line : ℕ) (is : Bool) (values : Typing (List Value)) (printing : Typing Printing)
       → ((s : State) → Sound scope last s nothing (FineAll scope is) (values s))
       → ((s : State) → Sound scope last s nothing (FinePrinting is) (printing s)) → (c : Called) (s : State)
-      → Sound scope last s (both nothing (FineCalled scope is) c) (Fine scope is) (applied_to line values printing c s)
+      → Sound scope last s (both nothing (FineCalled scope last is) c) (Fine scope is)
+      (applied_to line values printing c s)
   applied_to_sound line is values printing h g a_printf s =
-      printing_then line is printing g s (both nothing (FineCalled scope is) a_printf)
-      (both_stay nothing (FineCalled scope is) a_printf nothing_stays (called_stays scope is a_printf))
+      printing_then line is printing g s (both nothing (FineCalled scope last is) a_printf)
+      (both_stay nothing (FineCalled scope last is) a_printf nothing_stays (called_stays scope last is a_printf))
   applied_to_sound line is values printing h g (a_function n type) s =
-      values_then line is (a_function n type) values h s (both nothing (FineCalled scope is) (a_function n type))
-      (both_stay nothing (FineCalled scope is) (a_function n type) nothing_stays
-      (called_stays scope is (a_function n type))) (λ x. x.1) (called_stays scope is (a_function n type))
+      values_then line is (a_function n type) values h s (both nothing (FineCalled scope last is) (a_function n type))
+      (both_stay nothing (FineCalled scope last is) (a_function n type) nothing_stays
+      (called_stays scope last is (a_function n type))) (λ x. x.1) (called_stays scope last is (a_function n type))
       (λ es x. x.1)
   applied_to_sound line is values printing h g (a_routine r) s =
-      values_then line is (a_routine r) values h s (both nothing (FineCalled scope is) (a_routine r))
-      (both_stay nothing (FineCalled scope is) (a_routine r) nothing_stays (called_stays scope is (a_routine r)))
-      (λ x. x.1) (called_stays scope is (a_routine r)) (λ es x. x.1)
+      values_then line is (a_routine r) values h s (both nothing (FineCalled scope last is) (a_routine r))
+      (both_stay nothing (FineCalled scope last is) (a_routine r) nothing_stays (called_stays scope last is
+      (a_routine r)))
+      (λ x. x.1) (called_stays scope last is (a_routine r)) (λ es x. x.1)
   applied_to_sound line is values printing h g (a_pointer v) s =
-      values_then line is (a_pointer v) values h s (both nothing (FineCalled scope is) (a_pointer v))
-      (both_stay nothing (FineCalled scope is) (a_pointer v) nothing_stays (called_stays scope is (a_pointer v)))
-      (λ x. x.1) (called_stays scope is (a_pointer v)) (λ es x. x.1)
+      values_then line is (a_pointer v) values h s (both nothing (FineCalled scope last is) (a_pointer v))
+      (both_stay nothing (FineCalled scope last is) (a_pointer v) nothing_stays (called_stays scope last is
+      (a_pointer v)))
+      (λ x. x.1) (called_stays scope last is (a_pointer v)) (λ es x. x.1)
 
   format_sound : (is : Bool) (names : Option (List Name)) (operand : Typing Operand)
       → ((s : State) → Sound scope last s nothing (Fine scope is) (operand s)) → (s : State)
@@ -156,7 +159,7 @@ module _ (scope : Scope) (last : Structures) (type_names : TypeNames scope last)
         sound_then scope last s nothing nothing_stays (Fine scope is) (Fine scope is) (typed is e s)
         (λ o. judged (λ s. enclosed l.line o)) (typed_sound is e c s)
         (λ u o. judged_sound scope last u (both nothing (Fine scope is) o) is (enclosed l.line o)
-        (λ knows g p. enclosed_fine scope (extents u) l.line o (g.1 p)))
+        (λ knows g covers p. enclosed_fine scope (extents u) l.line o (g.1 p)))
     typed_sound is (t.subscript a l b r) c s =
         value_then s nothing nothing_stays is (typed is a) (typed_sound is a (first _ _ c) s) (Fine scope is)
         (λ x. valued (typed is b) >>> λ y. judged (indexed l.line x y))
@@ -165,9 +168,10 @@ module _ (scope : Scope) (last : Structures) (type_names : TypeNames scope last)
         (typed_sound is b (second _ _ c) u) (Fine scope is) (λ y. judged (indexed l.line x y))
         (λ w y. judged_sound scope last w (both (both nothing (FineValue scope is) x) (FineValue scope is) y) is
         (indexed l.line x y w)
-        (λ knows g p. place_from scope (extents w) _ (indexed_fine scope (extents w) l.line x y (g.0.1 p) (g.1 p)))))
+        (λ knows g covers p. place_from scope (extents w) _ (indexed_fine scope (extents w) l.line x y (g.0.1 p)
+        (g.1 p)))))
     typed_sound is (t.call f l args r) c s =
-        sound_then scope last s nothing nothing_stays (FineCalled scope is) (Fine scope is)
+        sound_then scope last s nothing nothing_stays (FineCalled scope last is) (Fine scope is)
         (called_by is (plain_name f) (typed is f) s)
         (applied_to l.line (argument_values is args) (printed_values is args))
         (called_by_sound is (plain_name f) (typed is f) (λ u. typed_sound is f (first _ _ c) u) s)
@@ -194,13 +198,13 @@ module _ (scope : Scope) (last : Structures) (type_names : TypeNames scope last)
         sound_then scope last s nothing nothing_stays (Fine scope false) (Fine scope is) (typed false e s)
         (λ o. judged (sized at.line (type_in o))) (typed_sound false e c s)
         (λ u o. judged_sound scope last u (both nothing (Fine scope false) o) is (sized at.line (type_in o) u)
-        (λ knows g p. operand_from scope (extents u) _ (size_fine scope (extents u) at.line (type_in o))))
+        (λ knows g covers p. operand_from scope (extents u) _ (size_fine scope (extents u) at.line (type_in o))))
     typed_sound is (t.sizeof_type at l x r) c s =
         sound_then scope last s nothing nothing_stays (λ (es : Structures) (type : List TypeWord). Unit {0})
         (Fine scope is) (type_name x s) (λ type. judged (sized at.line type)) (type_names.each x s)
         (λ u type. judged_sound scope last u
         (both nothing (λ (es : Structures) (type : List TypeWord). Unit {0}) type) is (sized at.line type u)
-        (λ knows g p. operand_from scope (extents u) _ (size_fine scope (extents u) at.line type)))
+        (λ knows g covers p. operand_from scope (extents u) _ (size_fine scope (extents u) at.line type)))
     typed_sound is (t.cast l x r e) c s =
         sound_then scope last s nothing nothing_stays (λ (es : Structures) (type : List TypeWord). Unit {0})
         (Fine scope is) (type_name x s) (λ type. valued (typed is e) >>> λ v. judged (cast_to l.line type v))
@@ -212,7 +216,7 @@ module _ (scope : Scope) (last : Structures) (type_names : TypeNames scope last)
         (λ w v. judged_sound scope last w
         (both (both nothing (λ (es : Structures) (type : List TypeWord). Unit {0}) type) (FineValue scope is) v) is
         (cast_to l.line type v w)
-        (λ knows g p. operand_from scope (extents w) _ (cast_fine scope (extents w) l.line type v (g.1 p)))))
+        (λ knows g covers p. operand_from scope (extents w) _ (cast_fine scope (extents w) l.line type v (g.1 p)))))
     typed_sound is (t.binary a w at b) c s =
         value_then s nothing nothing_stays is (typed is a) (typed_sound is a (first _ _ c) s) (Fine scope is)
         (λ x. valued (typed is b) >>> λ y. judged (combined (binary_form_of w) at.line x y))
@@ -221,7 +225,7 @@ module _ (scope : Scope) (last : Structures) (type_names : TypeNames scope last)
         (typed_sound is b (second _ _ c) u) (Fine scope is) (λ y. judged (combined (binary_form_of w) at.line x y))
         (λ v y. judged_sound scope last v (both (both nothing (FineValue scope is) x) (FineValue scope is) y) is
         (combined (binary_form_of w) at.line x y v)
-        (λ knows g p. combined_fine scope (binary_form_of w) at.line x y v (g.0.1 p) (g.1 p))))
+        (λ knows g covers p. combined_fine scope (binary_form_of w) at.line x y v (g.0.1 p) (g.1 p))))
     typed_sound is (t.conditional k q a colon b) c s =
         value_then s nothing nothing_stays is (typed is k) (typed_sound is k (first _ _ (first _ _ c)) s)
         (Fine scope is)
@@ -236,7 +240,7 @@ module _ (scope : Scope) (last : Structures) (type_names : TypeNames scope last)
         (λ w z. judged_sound scope last w
         (both (both (both nothing (FineValue scope is) x) (FineValue scope is) y) (FineValue scope is) z) is
         (chosen q.line x y z w)
-        (λ knows g p. operand_from scope (extents w) _
+        (λ knows g covers p. operand_from scope (extents w) _
         (conditional_fine scope (extents w) q.line x y z (g.0.0.1 p) (g.0.1 p) (g.1 p))))))
     typed_sound is (t.assignment a w at b) c s =
         sound_then scope last s nothing nothing_stays (Fine scope is) (Fine scope is) (typed is a s)
@@ -248,7 +252,7 @@ module _ (scope : Scope) (last : Structures) (type_names : TypeNames scope last)
         (λ v. judged (assigned_by (assignment_form_of w) at.line o v))
         (λ z v. judged_sound scope last z (both (both nothing (Fine scope is) o) (FineValue scope is) v) is
         (assigned_by (assignment_form_of w) at.line o v z)
-        (λ knows g p. assigned_fine scope (assignment_form_of w) at.line o v z (g.0.1 p) (g.1 p))))
+        (λ knows g covers p. assigned_fine scope (assignment_form_of w) at.line o v z (g.0.1 p) (g.1 p))))
 
     arguments_sound : (is : Bool) (args : Arguments) → have_characters args ≡ true → (s : State)
         → Sound scope last s nothing (FineAll scope is) (argument_values is args s)

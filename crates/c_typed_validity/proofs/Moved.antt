@@ -20,27 +20,27 @@ use Rattle.c_typing.specs.Primaries.{is_aggregate, is_marked, is_undefined, lite
 use Rattle.c_typing.specs.Primaries.{earlier_or, with_literal, with_use}
 use Rattle.c_typing.specs.State.{State, extents}
 use Rattle.c_typed_validity.specs.More.{AreMore}
-use Rattle.c_typed_validity.specs.Names.{IsFunctionOf, IsMeant, IsStaticOf}
+use Rattle.c_typed_validity.specs.Names.{IsMeant, IsStaticOf}
 use Rattle.c_typed_validity.specs.Sound.{Covers, IsFormed, Keeps}
 use Rattle.c_typed_validity.proofs.Kept.{none_some, operand_kept}
 use Rattle.c_typed_validity.proofs.Primaries.{static_fine}
 use Rattle.c_typed_validity.proofs.Sound.{keeps_same, same_list, same_more}
 
-pub meant_moved : (scope : Scope) (s t : State) → extents s ≡ extents t → s.objects ≡ t.objects
+pub meant_moved : (scope : Scope) (last : List (Option TypeExtent)) (s t : State) → extents s ≡ extents t
+    → s.objects ≡ t.objects
     → s.environment.facts ≡ t.environment.facts → (m : Option Meaning)
-    → IsMeant scope s m → IsMeant scope t m
-meant_moved scope s t e o f None is = tt
-meant_moved scope s t e o f (Some (meaning.Typedef type)) is = tt
-meant_moved scope s t e o f (Some (meaning.Constant w)) is = is
-meant_moved scope s t e o f (Some (meaning.Named (what.Object n) type)) is =
+    → IsMeant scope last s m → IsMeant scope last t m
+meant_moved scope last s t e o f None is = tt
+meant_moved scope last s t e o f (Some (meaning.Typedef type)) is = tt
+meant_moved scope last s t e o f (Some (meaning.Constant w)) is = is
+meant_moved scope last s t e o f (Some (meaning.Named (what.Object n) type)) is =
     subst (λ es. IsStaticOf scope es n type) e is
-meant_moved scope s t e o f (Some (meaning.Named (what.Static n) type)) is =
+meant_moved scope last s t e o f (Some (meaning.Named (what.Static n) type)) is =
     subst (λ es. IsStaticOf scope es n type) e is
-meant_moved scope s t e o f (Some (meaning.Named (what.Function n) type)) is =
-    λ defined. subst (λ es. IsFunctionOf scope es n type) e
-    (is (ap (λ z. nat_le (length z.functions) n) f ∙ defined))
-meant_moved scope s t e o f (Some (meaning.Named (what.Library r) type)) is = tt
-meant_moved scope s t e o f (Some (meaning.Named (what.Variable n) type)) is = record {
+meant_moved scope last s t e o f (Some (meaning.Named (what.Function n) type)) is =
+    λ defined. is (ap (λ z. nat_le (length z.functions) n) f ∙ defined)
+meant_moved scope last s t e o f (Some (meaning.Named (what.Library r) type)) is = tt
+meant_moved scope last s t e o f (Some (meaning.Named (what.Variable n) type)) is = record {
   size = is.size;
   sized = subst (λ es. target_of es type ≡ target.Object is.size) e is.sized;
   kind = is.kind;
@@ -48,15 +48,16 @@ meant_moved scope s t e o f (Some (meaning.Named (what.Variable n) type)) is = r
 }
 
 -- only marks, the line of a use, literals and types are new
-pub keeps_marks : (scope : Scope) (s : State) → IsFormed s → (taken : List Bool) (undefined : Option ℕ)
-    → (undefined ≡ None → s.undefined ≡ None) → Keeps scope s (record s { taken = taken; undefined = undefined })
-keeps_marks scope s formed taken undefined unused = record {
+pub keeps_marks : (scope : Scope) (last : List (Option TypeExtent)) (s : State) → IsFormed s
+    → (taken : List Bool) (undefined : Option ℕ)
+    → (undefined ≡ None → s.undefined ≡ None) → Keeps scope last s (record s { taken = taken; undefined = undefined })
+keeps_marks scope last s formed taken undefined unused = record {
   more = same_more (extents s);
   literals = same_list s.literals;
   types = same_list s.function_types;
   knows = λ k. record {
     names = λ name.
-        meant_moved scope s (record s { taken = taken; undefined = undefined }) refl refl refl _ (k.names name);
+        meant_moved scope last s (record s { taken = taken; undefined = undefined }) refl refl refl _ (k.names name);
     members = record { each = k.members.each };
   };
   pending = λ n p. record { begun = p.begun; incomplete = p.incomplete };
@@ -68,49 +69,53 @@ unused_before : (o : Option ℕ) (line : ℕ) → earlier_or o line ≡ None →
 unused_before None line e = refl
 unused_before (Some n) line e = e
 
-use_keeps : (scope : Scope) (b : Bool) (line : ℕ) (s : State) → IsFormed s
-    → Keeps scope s (if b then with_use line s else s)
-use_keeps scope true line s formed =
-    keeps_marks scope s formed s.taken (with_use line s).undefined (unused_before s.undefined line)
-use_keeps scope false line s formed = keeps_same scope s formed
+use_keeps : (scope : Scope) (last : List (Option TypeExtent)) (b : Bool) (line : ℕ) (s : State) → IsFormed s
+    → Keeps scope last s (if b then with_use line s else s)
+use_keeps scope last true line s formed =
+    keeps_marks scope last s formed s.taken (with_use line s).undefined (unused_before s.undefined line)
+use_keeps scope last false line s formed = keeps_same scope last s formed
 
-pub used_keeps : (scope : Scope) (is : Bool) (line : ℕ) (m : Option Meaning) (s : State) → IsFormed s
-    → Keeps scope s (used_as is line m s)
-used_keeps scope is line None s formed = keeps_same scope s formed
-used_keeps scope is line (Some (meaning.Typedef type)) s formed = keeps_same scope s formed
-used_keeps scope is line (Some (meaning.Constant w)) s formed = keeps_same scope s formed
-used_keeps scope is line (Some (meaning.Named (what.Object n) type)) s formed = keeps_same scope s formed
-used_keeps scope is line (Some (meaning.Named (what.Static n) type)) s formed = keeps_same scope s formed
-used_keeps scope is line (Some (meaning.Named (what.Function n) type)) s formed =
-    use_keeps scope (is && is_undefined n s) line s formed
-used_keeps scope is line (Some (meaning.Named (what.Library f) type)) s formed = keeps_same scope s formed
-used_keeps scope is line (Some (meaning.Named (what.Variable n) type)) s formed = keeps_same scope s formed
+pub used_keeps : (scope : Scope) (last : List (Option TypeExtent)) (is : Bool) (line : ℕ) (m : Option Meaning)
+    (s : State) → IsFormed s
+    → Keeps scope last s (used_as is line m s)
+used_keeps scope last is line None s formed = keeps_same scope last s formed
+used_keeps scope last is line (Some (meaning.Typedef type)) s formed = keeps_same scope last s formed
+used_keeps scope last is line (Some (meaning.Constant w)) s formed = keeps_same scope last s formed
+used_keeps scope last is line (Some (meaning.Named (what.Object n) type)) s formed = keeps_same scope last s formed
+used_keeps scope last is line (Some (meaning.Named (what.Static n) type)) s formed = keeps_same scope last s formed
+used_keeps scope last is line (Some (meaning.Named (what.Function n) type)) s formed =
+    use_keeps scope last (is && is_undefined n s) line s formed
+used_keeps scope last is line (Some (meaning.Named (what.Library f) type)) s formed = keeps_same scope last s formed
+used_keeps scope last is line (Some (meaning.Named (what.Variable n) type)) s formed = keeps_same scope last s formed
 
-taken_keeps : (scope : Scope) (x : Option ℕ) (s : State) → IsFormed s → Keeps scope s (with_taken x s)
-taken_keeps scope None s formed = keeps_same scope s formed
-taken_keeps scope (Some n) s formed = keeps_marks scope s formed (with_taken (Some n) s).taken s.undefined (λ e. e)
+taken_keeps : (scope : Scope) (last : List (Option TypeExtent)) (x : Option ℕ) (s : State) → IsFormed s
+    → Keeps scope last s (with_taken x s)
+taken_keeps scope last None s formed = keeps_same scope last s formed
+taken_keeps scope last (Some n) s formed =
+    keeps_marks scope last s formed (with_taken (Some n) s).taken s.undefined (λ e. e)
 
-object_keeps : (scope : Scope) (o : Operand) (s : State) → IsFormed s → Keeps scope s (object_taken o s)
-object_keeps scope (a_value v) s formed = keeps_same scope s formed
-object_keeps scope (a_place p) s formed = taken_keeps scope (variable_named p.tree) s formed
-object_keeps scope (a_variable x) s formed = keeps_same scope s formed
-object_keeps scope (a_function f) s formed = keeps_same scope s formed
+object_keeps : (scope : Scope) (last : List (Option TypeExtent)) (o : Operand) (s : State) → IsFormed s
+    → Keeps scope last s (object_taken o s)
+object_keeps scope last (a_value v) s formed = keeps_same scope last s formed
+object_keeps scope last (a_place p) s formed = taken_keeps scope last (variable_named p.tree) s formed
+object_keeps scope last (a_variable x) s formed = keeps_same scope last s formed
+object_keeps scope last (a_function f) s formed = keeps_same scope last s formed
 
-pub address_keeps : (scope : Scope) (is : Bool) (o : Operand) (s : State) → IsFormed s
-    → Keeps scope s (if is then object_taken o s else s)
-address_keeps scope true o s formed = object_keeps scope o s formed
-address_keeps scope false o s formed = keeps_same scope s formed
+pub address_keeps : (scope : Scope) (last : List (Option TypeExtent)) (is : Bool) (o : Operand) (s : State) → IsFormed s
+    → Keeps scope last s (if is then object_taken o s else s)
+address_keeps scope last true o s formed = object_keeps scope last o s formed
+address_keeps scope last false o s formed = keeps_same scope last s formed
 
 -- string literals
 
-pub literal_keeps : (scope : Scope) (bytes : List ℕ) (s : State) → IsFormed s
-    → Keeps scope s (with_literal bytes s)
-literal_keeps scope bytes s formed = record {
+pub literal_keeps : (scope : Scope) (last : List (Option TypeExtent)) (bytes : List ℕ) (s : State) → IsFormed s
+    → Keeps scope last s (with_literal bytes s)
+literal_keeps scope last bytes s formed = record {
   more = same_more (extents s);
   literals = record { rest = _; is = refl };
   types = same_list s.function_types;
   knows = λ k. record {
-    names = λ name. meant_moved scope s (with_literal bytes s) refl refl refl _ (k.names name);
+    names = λ name. meant_moved scope last s (with_literal bytes s) refl refl refl _ (k.names name);
     members = record { each = k.members.each };
   };
   pending = λ n p. record { begun = p.begun; incomplete = p.incomplete };

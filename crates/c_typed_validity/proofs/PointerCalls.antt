@@ -23,15 +23,17 @@ use Rattle.c_rules.specs.Types.{object_of, target_of}
 use Rattle.c_rules.specs.Values.{Value}
 use Rattle.c_rules.proofs.FineConversions.{assigned_fine}
 use Rattle.c_rules.proofs.SameTypes.{words_are}
-use Rattle.c_call_rules.specs.Calls.{Callee, called, called_if, called_through, complete_result, of_pointer}
+use Rattle.c_call_rules.specs.Calls.{Callee, called, called_if, called_through, complete_result, of_function}
+use Rattle.c_call_rules.specs.Calls.{of_pointer}
 use Rattle.c_call_rules.specs.Calls.{call_tree, passed}
 use Rattle.c_call_rules.specs.FineCalls.{AreFine, Spells}
 use Rattle.c_call_rules.specs.FunctionTypes.{callee_type, first_types, result_type}
-use Rattle.c_call_rules.proofs.FineCalls.{through_fine}
+use Rattle.c_call_rules.proofs.FineCalls.{called_fine, through_fine}
 use Rattle.c_typing.specs.Calls.{callee_number, place_among, with_callee_type, with_type}
 use Rattle.c_typing.specs.Operators.{as_operand}
 use Rattle.c_typing.specs.State.{State, extents}
 use Rattle.c_typed_validity.specs.More.{AreMore}
+use Rattle.c_typed_validity.specs.Names.{IsFunctionOf}
 use Rattle.c_typed_validity.specs.Sound.{Covers, IsFormed, IsTypeOf, Keeps, Sound}
 use Rattle.c_typed_validity.specs.Steps.{Fine, FineAll, FineValue, PointerCalls, Structures}
 use Rattle.c_typed_validity.proofs.Kept.{both_kept, kind_kept}
@@ -221,6 +223,22 @@ called_by scope es last h line n v vs type is fine args callee (Ok x) e =
     (through_fine scope es line n v is.signature vs fine is.has
     (λ t c. subst (λ z. Spells es z is.signature) (same_type type t (sym callee ∙ c)) spelled) args)
 
+function_by : (scope : Scope) (es last : Structures) → AreMore es last → (line n : ℕ) (type : List TypeWord)
+    (vs : List Value) → IsFunctionOf scope last n type → AreFine scope es vs → (r : Answer Value)
+    → called es line (of_function n) type vs ≡ r → IfFine scope es r
+function_by scope es last h line n type vs is args (Err f) e = tt
+function_by scope es last h line n type vs is args (Ok x) e =
+    let spelled = spelled_back scope es last h line (of_function n) type is.signature vs x args is.spelled e in
+    subst (IfFine scope es) e
+    (called_fine scope es line (of_function n) is.signature type vs is.has spelled args)
+
+-- so do calls of functions by name
+pub function_called : (scope : Scope) (es last : Structures) → AreMore es last → (line n : ℕ) (type : List TypeWord)
+    (vs : List Value) → IsFunctionOf scope last n type → AreFine scope es vs
+    → IfFine scope es (called es line (of_function n) type vs)
+function_called scope es last h line n type vs is args =
+    function_by scope es last h line n type vs is args (called es line (of_function n) type vs) refl
+
 -- the number of a function type
 
 place_low_by : (n m : ℕ) (b : Bool) → n ≤ m → (if b then 0 else n + 1) ≤ suc m
@@ -250,16 +268,16 @@ place_get type (t ∷ ts) low = place_by type t ts (same_words type t) refl low 
 
 -- the state behind a call
 
-type_keeps_by : (scope : Scope) (type : List TypeWord) (s : State) → IsFormed s → (b : Bool)
-    → Keeps scope s (if b then s else record s { function_types = s.function_types ++ type ∷ [] })
-type_keeps_by scope type s formed true = keeps_same scope s formed
-type_keeps_by scope type s formed false = record {
+type_keeps_by : (scope : Scope) (last : Structures) (type : List TypeWord) (s : State) → IsFormed s → (b : Bool)
+    → Keeps scope last s (if b then s else record s { function_types = s.function_types ++ type ∷ [] })
+type_keeps_by scope last type s formed true = keeps_same scope last s formed
+type_keeps_by scope last type s formed false = record {
   more = same_more (extents s);
   literals = same_list s.literals;
   types = record { rest = type ∷ []; is = refl };
   knows = λ k. record {
     names = λ name.
-        meant_moved scope s (record s { function_types = s.function_types ++ type ∷ [] }) refl refl refl _
+        meant_moved scope last s (record s { function_types = s.function_types ++ type ∷ [] }) refl refl refl _
         (k.names name);
     members = record { each = k.members.each };
   };
@@ -268,9 +286,10 @@ type_keeps_by scope type s formed false = record {
   undefined = λ e. e;
 }
 
-type_keeps : (scope : Scope) (type : List TypeWord) (s : State) → IsFormed s → Keeps scope s (with_type type s)
-type_keeps scope type s formed =
-    type_keeps_by scope type s formed (nat_lt (place_among type s.function_types) (length s.function_types))
+type_keeps : (scope : Scope) (last : Structures) (type : List TypeWord) (s : State) → IsFormed s
+    → Keeps scope last s (with_type type s)
+type_keeps scope last type s formed =
+    type_keeps_by scope last type s formed (nat_lt (place_among type s.function_types) (length s.function_types))
 
 type_there_by : (type : List TypeWord) (s : State) (b : Bool)
     → nat_lt (place_among type s.function_types) (length s.function_types) ≡ b
@@ -302,7 +321,7 @@ applied_by : (scope : Scope) (last : Structures) (s : State) (given : Structures
     → (given (extents s) → is ≡ true → Covers scope last (with_type type s) → IfFine scope (extents s) a)
     → Sound scope last s given (Fine scope is) (as_operand a >>= λ o. Ok (with_type type s, o))
 applied_by scope last s given is type (Ok v) h = λ formed. (
-  type_keeps scope type s formed,
+  type_keeps scope last type s formed,
   λ knows g covers p. subst (λ es. IsFine scope es v) (sym (type_extents type s)) (h g p covers),
 )
 applied_by scope last s given is type (Err f) h = tt

@@ -273,9 +273,9 @@ variable_by scope s line n type is false e = plain_fine scope s line n type is e
 
 -- names
 
-function_fine : (scope : Scope) (es : List (Option TypeExtent)) (line n : ℕ) (type : List TypeWord)
-    → IsFunctionOf scope es n type → IsFineOperand scope es (function_named line n type)
-function_fine scope es line n type is = record { valid = all is.has.there refl; kind = refl; bare = refl }
+function_fine : (scope : Scope) (last es : List (Option TypeExtent)) (line n : ℕ) (type : List TypeWord)
+    → IsFunctionOf scope last n type → IsFineOperand scope es (function_named line n type)
+function_fine scope last es line n type is = record { valid = all is.has.there refl; kind = refl; bare = refl }
 
 -- a function that is used is defined
 
@@ -287,23 +287,26 @@ pub defined_by : (line : ℕ) (s : State) (b : Bool) → (if b then with_use lin
 defined_by line s true e = earlier_some s.undefined line (true ≡ false) e
 defined_by line s false e = refl
 
-designated_fine : (scope : Scope) (line : ℕ) (w : Designated) (type : List TypeWord) (s : State)
-    → IsDesignated scope s w type → (used true line w s).undefined ≡ None
+designated_fine : (scope : Scope) (last : List (Option TypeExtent)) (line : ℕ) (w : Designated)
+    (type : List TypeWord) (s : State)
+    → IsDesignated scope last s w type → (used true line w s).undefined ≡ None
     → IfFineOperand scope (extents s) (designated true line w type s)
-designated_fine scope line (what.Object n) type s is unused = static_fine scope (extents s) line n type is
-designated_fine scope line (what.Static n) type s is unused = static_fine scope (extents s) line n type is
-designated_fine scope line (what.Function n) type s is unused =
-    function_fine scope (extents s) line n type (is (defined_by line s (is_undefined n s) unused))
-designated_fine scope line (what.Library f) type s is unused = tt
-designated_fine scope line (what.Variable n) type s is unused =
+designated_fine scope last line (what.Object n) type s is unused = static_fine scope (extents s) line n type is
+designated_fine scope last line (what.Static n) type s is unused = static_fine scope (extents s) line n type is
+designated_fine scope last line (what.Function n) type s is unused =
+    function_fine scope last (extents s) line n type (is (defined_by line s (is_undefined n s) unused))
+designated_fine scope last line (what.Library f) type s is unused = tt
+designated_fine scope last line (what.Variable n) type s is unused =
     variable_by scope s line n type is (is_aggregate type || is_marked s.objects n) refl
 
-pub meant_fine : (scope : Scope) (line : ℕ) (m : Option Meaning) (s : State) → IsMeant scope s m
+pub meant_fine : (scope : Scope) (last : List (Option TypeExtent)) (line : ℕ) (m : Option Meaning) (s : State)
+    → IsMeant scope last s m
     → (used_as true line m s).undefined ≡ None → IfFineOperand scope (extents s) (meant true line m s)
-meant_fine scope line None s is unused = tt
-meant_fine scope line (Some (meaning.Typedef type)) s is unused = tt
-meant_fine scope line (Some (meaning.Constant w)) s is unused = constant_fine scope (extents s) line int.Int w is
-meant_fine scope line (Some (meaning.Named w type)) s is unused = designated_fine scope line w type s is unused
+meant_fine scope last line None s is unused = tt
+meant_fine scope last line (Some (meaning.Typedef type)) s is unused = tt
+meant_fine scope last line (Some (meaning.Constant w)) s is unused = constant_fine scope (extents s) line int.Int w is
+meant_fine scope last line (Some (meaning.Named w type)) s is unused =
+    designated_fine scope last line w type s is unused
 
 use_extents : (b : Bool) (line : ℕ) (s : State) → extents (if b then with_use line s else s) ≡ extents s
 use_extents true line s = refl

@@ -37,8 +37,8 @@ get_extended : {A : Type 0} (xs ys : List A) → Extended xs ys → (n : ℕ) (x
     → slice_get ys n ≡ Some x
 get_extended xs ys h n x e = ap (λ z. slice_get z n) h.is ∙ get_longer xs h.rest n x e
 
-pub keeps_same : (scope : Scope) (s : State) → IsFormed s → Keeps scope s s
-keeps_same scope s formed = record {
+pub keeps_same : (scope : Scope) (last : Structures) (s : State) → IsFormed s → Keeps scope last s s
+keeps_same scope last s formed = record {
   more = same_more (extents s);
   literals = same_list s.literals;
   types = same_list s.function_types;
@@ -48,8 +48,9 @@ keeps_same scope s formed = record {
   undefined = λ e. e;
 }
 
-pub keeps_on : (scope : Scope) (s t u : State) → Keeps scope s t → Keeps scope t u → Keeps scope s u
-keeps_on scope s t u h g = record {
+pub keeps_on : (scope : Scope) (last : Structures) (s t u : State) → Keeps scope last s t → Keeps scope last t u
+    → Keeps scope last s u
+keeps_on scope last s t u h g = record {
   more = more_more (extents s) (extents t) (extents u) h.more g.more;
   literals = longer_list s.literals t.literals u.literals h.literals g.literals;
   types = longer_list s.function_types t.function_types u.function_types h.types g.types;
@@ -59,7 +60,7 @@ keeps_on scope s t u h g = record {
   undefined = λ e. h.undefined (g.undefined e);
 }
 
-pub covers_back : (scope : Scope) (last : Structures) (s t : State) → Keeps scope s t → Covers scope last t
+pub covers_back : (scope : Scope) (last : Structures) (s t : State) → Keeps scope last s t → Covers scope last t
     → Covers scope last s
 covers_back scope last s t h c = record {
   more = more_more (extents s) (extents t) last h.more c.more;
@@ -75,10 +76,11 @@ both given p x es = given es × p es x
 
 behind_first : {A B : Type 0} (scope : Scope) (last : Structures) (given : Structures → Type 0) → Stays given
     → (p : Structures → A → Type 0) (q : Structures → B → Type 0) (s t : State) (x : A)
-    → (IsFormed s → Keeps scope s t × (Knows scope s → given (extents s) → Covers scope last t → p (extents t) x))
+    → (IsFormed s → Keeps scope last s t × (Knows scope last s → given (extents s) → Covers scope last t
+    → p (extents t) x))
     → (b : Answer (State × B)) → Sound scope last t (both given p x) q b → Sound scope last s given q b
 behind_first scope last given stays p q s t x first (Ok r) second = λ formed. (
-  keeps_on scope s t r.0 (first formed).0 (second (first formed).0.formed).0,
+  keeps_on scope last s t r.0 (first formed).0 (second (first formed).0.formed).0,
   λ knows g covers.
       (second (first formed).0.formed).1 ((first formed).0.knows knows) (
         stays (extents s) (extents t) (first formed).0.more g,
@@ -118,7 +120,9 @@ If p (Ok x) = p x
 If p (Err f) = Unit {0}
 
 pub sound_judged : {A : Type 0} (scope : Scope) (last : Structures) (s : State) (given : Structures → Type 0)
-    (p : Structures → A → Type 0) (a : Answer A) → (Knows scope s → given (extents s) → If (p (extents s)) a)
+    (p : Structures → A → Type 0) (a : Answer A) → (Knows scope last s → given (extents s) → Covers scope last s
+    → If (p (extents s)) a)
     → Sound scope last s given p (a >>= λ x. Ok (s, x))
-sound_judged scope last s given p (Ok x) is = λ formed. (keeps_same scope s formed, λ knows g covers. is knows g)
+sound_judged scope last s given p (Ok x) is =
+    λ formed. (keeps_same scope last s formed, λ knows g covers. is knows g covers)
 sound_judged scope last s given p (Err f) is = tt

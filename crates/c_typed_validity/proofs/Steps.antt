@@ -48,11 +48,12 @@ use Rattle.c_typing.specs.State.{State, Typing, extents, judged, ◌>>>◌}
 use Rattle.c_expression_typing.specs.Constructs.{accessed, prefixed, valued}
 use Rattle.c_typed_validity.specs.More.{AreMore}
 use Rattle.c_typed_validity.specs.Names.{IsFunctionOf, IsMeant}
-use Rattle.c_typed_validity.specs.Sound.{IsFormed, Knows, Sound}
+use Rattle.c_typed_validity.specs.Sound.{Covers, IsFormed, Knows, Sound}
+use Rattle.c_typed_validity.proofs.PointerCalls.{function_called}
 use Rattle.c_typed_validity.specs.Steps.{Fine, FineAll, FineValue, PointerCalls, Structures, nothing}
 use Rattle.c_typed_validity.specs.Typed.{HaveMembers}
 use Rattle.c_typed_validity.proofs.Constructs.{among_fine, operand_from, place_from, stepped_fine_by, unary_fine_by}
-use Rattle.c_typed_validity.proofs.Kept.{agrees_kept, arguments_kept, operand_kept, value_kept}
+use Rattle.c_typed_validity.proofs.Kept.{arguments_kept, operand_kept, value_kept}
 use Rattle.c_typed_validity.proofs.Moved.{address_keeps, literal_fine, literal_keeps, used_keeps}
 use Rattle.c_typed_validity.proofs.Primaries.{defined_by, meant_fine, used_extents}
 use Rattle.c_typed_validity.proofs.Sound.{If, Stays, both, keeps_same, sound_judged, sound_then, with_given}
@@ -93,18 +94,21 @@ if_value scope es (Err f) h = tt
 
 -- an operand that is judged in a state
 pub judged_sound : (scope : Scope) (last : Structures) (s : State) (given : Structures → Type 0) (is : Bool)
-    (a : Answer Operand) → (Knows scope s → given (extents s) → is ≡ true → IfFineOperand scope (extents s) a)
+    (a : Answer Operand) → (Knows scope last s → given (extents s) → Covers scope last s → is ≡ true
+    → IfFineOperand scope (extents s) a)
     → Sound scope last s given (Fine scope is) (a >>= λ x. Ok (s, x))
 judged_sound scope last s given is a h =
     sound_judged scope last s given (Fine scope is) a
-    (λ knows g. if_true is (IsFineOperand scope (extents s)) a (λ p. if_operand scope (extents s) a (h knows g p)))
+    (λ knows g covers. if_true is (IsFineOperand scope (extents s)) a (λ p. if_operand scope (extents s) a
+    (h knows g covers p)))
 
 judged_value : (scope : Scope) (last : Structures) (s : State) (given : Structures → Type 0) (is : Bool)
-    (a : Answer Value) → (Knows scope s → given (extents s) → is ≡ true → IfFine scope (extents s) a)
+    (a : Answer Value) → (Knows scope last s → given (extents s) → Covers scope last s → is ≡ true
+    → IfFine scope (extents s) a)
     → Sound scope last s given (FineValue scope is) (a >>= λ x. Ok (s, x))
 judged_value scope last s given is a h =
     sound_judged scope last s given (FineValue scope is) a
-    (λ knows g. if_true is (IsFine scope (extents s)) a (λ p. if_value scope (extents s) a (h knows g p)))
+    (λ knows g covers. if_true is (IsFine scope (extents s)) a (λ p. if_value scope (extents s) a (h knows g covers p)))
 
 -- the value of an operand
 
@@ -116,7 +120,7 @@ pub as_value_sound : (scope : Scope) (last : Structures) (s : State) (given : St
     → Sound scope last s given (FineValue scope is) (as_value o s)
 as_value_sound scope last s given is o h =
     judged_value scope last s given is (value_among (extents s) o)
-    (λ knows g p. among scope (extents s) o (h g p))
+    (λ knows g covers p. among scope (extents s) o (h g p))
 
 pub valued_sound : (scope : Scope) (last : Structures) (s : State) (given : Structures → Type 0) → Stays given
     → (is : Bool) (operand : Typing Operand) → Sound scope last s given (Fine scope is) (operand s)
@@ -127,17 +131,18 @@ valued_sound scope last s given stays is operand h =
 
 -- names and literals
 
-meant_as : (scope : Scope) (is : Bool) (line : ℕ) (m : Option Meaning) (s : State) → IsMeant scope s m
+meant_as : (scope : Scope) (last : Structures) (is : Bool) (line : ℕ) (m : Option Meaning) (s : State)
+    → IsMeant scope last s m
     → (used_as is line m s).undefined ≡ None → is ≡ true → IfFineOperand scope (extents s) (meant is line m s)
-meant_as scope true line m s h unused p = meant_fine scope line m s h unused
-meant_as scope false line m s h unused p = cc
+meant_as scope last true line m s h unused p = meant_fine scope last line m s h unused
+meant_as scope last false line m s h unused p = cc
 
 used_sound : (scope : Scope) (last : Structures) (is : Bool) (line : ℕ) (m : Option Meaning) (s : State)
     (a : Answer Operand)
-    → (Knows scope s → (used_as is line m s).undefined ≡ None → is ≡ true → IfFineOperand scope (extents s) a)
+    → (Knows scope last s → (used_as is line m s).undefined ≡ None → is ≡ true → IfFineOperand scope (extents s) a)
     → Sound scope last s nothing (Fine scope is) (a >>= λ o. Ok (used_as is line m s, o))
 used_sound scope last is line m s (Ok o) h = λ formed. (
-  used_keeps scope is line m s formed,
+  used_keeps scope last is line m s formed,
   λ knows g covers p.
       subst (λ es. IsFineOperand scope es o) (sym (used_extents is line m s)) (h knows covers.undefined p),
 )
@@ -148,14 +153,17 @@ pub named_sound : (scope : Scope) (last : Structures) (is : Bool) (name : Name) 
 named_sound scope last is name line s =
     let m = names.meaning name s.environment.names in
     used_sound scope last is line m s (meant is line m s)
-    (λ knows unused p. meant_as scope is line m s (knows.names name) unused p)
+    (λ knows unused p. meant_as scope last is line m s (knows.names name) unused p)
 
 pub literal_sound : (scope : Scope) (last : Structures) (is : Bool) (bytes : List ℕ) (line : ℕ) (s : State)
     → Sound scope last s nothing (Fine scope is) (literal is bytes line s)
 literal_sound scope last true bytes line s =
-    λ formed.
-    (literal_keeps scope bytes s formed, λ knows g covers p. literal_fine scope last (extents s) bytes line s covers)
-literal_sound scope last false bytes line s = λ formed. (keeps_same scope s formed, λ knows g covers p. cc)
+    λ formed. (
+      literal_keeps scope last bytes s formed,
+      λ knows g covers p. literal_fine scope last
+          (extents s) bytes line s covers,
+    )
+literal_sound scope last false bytes line s = λ formed. (keeps_same scope last s formed, λ knows g covers p. cc)
 
 -- a unary operator, or `&`, `++` or `--`, before its operand
 
@@ -165,17 +173,21 @@ address_made is o s v = Ok (if is then object_taken o s else s, v)
 abbrev as_made : State × Value → Answer (State × Operand)
 as_made r = Ok (r.0, a_value r.1)
 
-taken_extents : (scope : Scope) (is : Bool) (o : Operand) (s : State) (v : Value) → IsFormed s
+taken_extents : (scope : Scope) (last : Structures) (is : Bool) (o : Operand) (s : State) (v : Value) → IsFormed s
     → IsFine scope (extents s) v
     → IsFine scope (extents (if is then object_taken o s else s)) v
-taken_extents scope is o s v formed h =
-    value_kept scope (extents s) _ (address_keeps scope is o s formed).more v h
+taken_extents scope last is o s v formed h =
+    value_kept scope (extents s) _ (address_keeps scope last is o s formed).more v h
 
 address_sound : (scope : Scope) (last : Structures) (s : State) (given : Structures → Type 0) (is : Bool) (o : Operand)
     (a : Answer Value) → (given (extents s) → is ≡ true → IfFine scope (extents s) a)
     → Sound scope last s given (Fine scope is) (a >>= address_made is o s >>= as_made)
 address_sound scope last s given is o (Ok v) h =
-    λ formed. (address_keeps scope is o s formed, λ knows g covers p. taken_extents scope is o s v formed (h g p))
+    λ formed. (
+      address_keeps scope last is o s formed,
+      λ knows g covers p. taken_extents scope last is o s v formed
+          (h g p),
+    )
 address_sound scope last s given is o (Err f) h = tt
 
 value_then : (scope : Scope) (last : Structures) (s : State) (given : Structures → Type 0) → Stays given → (is : Bool)
@@ -185,14 +197,14 @@ value_then scope last s given stays is f line o h =
     sound_then scope last s given stays (FineValue scope is) (Fine scope is) (as_value o s)
     (λ v. judged (unary_value f line v)) (as_value_sound scope last s given is o h)
     (λ t v. judged_sound scope last t (both given (FineValue scope is) v) is (unary_value f line v t)
-    (λ knows g p. unary_fine_by scope f line v t (g.1 p)))
+    (λ knows g covers p. unary_fine_by scope f line v t (g.1 p)))
 
 pub stepped_sound : (scope : Scope) (last : Structures) (s : State) (given : Structures → Type 0) (is : Bool)
     (f : PrefixForm) (fix : Fixity) (line : ℕ) (o : Operand) → (given (extents s) → Fine scope is (extents s) o)
     → Sound scope last s given (Fine scope is) (judged (stepped_by f fix line o) s)
 stepped_sound scope last s given is f fix line o h =
     judged_sound scope last s given is (stepped_by f fix line o s)
-    (λ knows g p. stepped_fine_by scope f fix line o s (h g p))
+    (λ knows g covers p. stepped_fine_by scope f fix line o s (h g p))
 
 pub prefixed_sound : (scope : Scope) (last : Structures) (s : State) (given : Structures → Type 0) → Stays given
     → (is : Bool) (f : PrefixForm) (line : ℕ) (o : Operand) → (given (extents s) → Fine scope is (extents s) o)
@@ -225,7 +237,7 @@ dotted_sound : (scope : Scope) (last : Structures) (s : State) (given : Structur
 dotted_sound scope last s given is line name o h =
     let n = structure_of (type_in o) in
     judged_sound scope last s given is (dotted line name o s)
-    (λ knows g p. place_from scope (extents s) _
+    (λ knows g covers p. place_from scope (extents s) _
     (selected_fine scope (extents s) line (member_in n name s) o (h g p) (found_in s knows.members n name)))
 
 pair_found : (es : Structures) (ws : List TypeWord) → kind_of_type es ws ≡ Some pointer → (found : Option Member)
@@ -258,7 +270,7 @@ arrowed_sound : (scope : Scope) (last : Structures) (s : State) (given : Structu
     → Sound scope last s given (Fine scope is) (judged (arrowed line name v) s)
 arrowed_sound scope last s given is line name v h =
     judged_sound scope last s given is (arrowed line name v s)
-    (λ knows g p. place_from scope (extents s) _
+    (λ knows g covers p. place_from scope (extents s) _
     (arrow_fine scope (extents s) line (member_in (structure_behind (unqualified v.type)) name s) v (h g p)
     (found_behind s knows.members v.type name)))
 
@@ -275,114 +287,116 @@ accessed_sound scope last s given stays is w line name o h = tt
 
 -- calls
 
-abbrev pub IsCalled : Scope → Structures → Called → Type 0
-IsCalled scope es (a_function n type) = IsFunctionOf scope es n type
-IsCalled scope es (a_routine r) = Unit {0}
-IsCalled scope es a_printf = Unit {0}
-IsCalled scope es (a_pointer v) = IsFine scope es v
+abbrev pub IsCalled : Scope → (last : Structures) → Structures → Called → Type 0
+IsCalled scope last es (a_function n type) = IsFunctionOf scope last n type
+IsCalled scope last es (a_routine r) = Unit {0}
+IsCalled scope last es a_printf = Unit {0}
+IsCalled scope last es (a_pointer v) = IsFine scope es v
 
-abbrev pub FineCalled : Scope → Bool → Structures → Called → Type 0
-FineCalled scope is es c = is ≡ true → IsCalled scope es c
+abbrev pub FineCalled : Scope → (last : Structures) → Bool → Structures → Called → Type 0
+FineCalled scope last is es c = is ≡ true → IsCalled scope last es c
 
-called_kept : (scope : Scope) (es more : Structures) → AreMore es more → (c : Called) → IsCalled scope es c
-    → IsCalled scope more c
-called_kept scope es more h (a_function n type) is = record {
-  signature = is.signature;
-  has = is.has;
-  spelled = agrees_kept es more h type is.signature.parameters is.signature.result is.spelled;
-}
-called_kept scope es more h (a_routine r) is = tt
-called_kept scope es more h a_printf is = tt
-called_kept scope es more h (a_pointer v) is = value_kept scope es more h v is
+called_kept : (scope : Scope) (last : Structures) (es more : Structures) → AreMore es more → (c : Called)
+    → IsCalled scope last es c
+    → IsCalled scope last more c
+called_kept scope last es more h (a_function n type) is = is
+called_kept scope last es more h (a_routine r) is = tt
+called_kept scope last es more h a_printf is = tt
+called_kept scope last es more h (a_pointer v) is = value_kept scope es more h v is
 
-pub called_stays : (scope : Scope) (is : Bool) (c : Called) → Stays (λ es. FineCalled scope is es c)
-called_stays scope is c = λ es more h f p. called_kept scope es more h c (f p)
+pub called_stays : (scope : Scope) (last : Structures) (is : Bool) (c : Called)
+    → Stays (λ es. FineCalled scope last is es c)
+called_stays scope last is c = λ es more h f p. called_kept scope last es more h c (f p)
 
-pointer_if : (scope : Scope) (es : Structures) (a : Answer Value) → IfFine scope es a
-    → If (IsCalled scope es) (a >>= λ v. Ok (a_pointer v))
-pointer_if scope es (Ok v) h = h
-pointer_if scope es (Err f) h = tt
+pointer_if : (scope : Scope) (last : Structures) (es : Structures) (a : Answer Value) → IfFine scope es a
+    → If (IsCalled scope last es) (a >>= λ v. Ok (a_pointer v))
+pointer_if scope last es (Ok v) h = h
+pointer_if scope last es (Err f) h = tt
 
-value_called : (scope : Scope) (s : State) (a : Answer Operand) → IfFineOperand scope (extents s) a
-    → If (IsCalled scope (extents s)) (a >>= λ o. pointer_called o s)
-value_called scope s (Ok o) h = pointer_if scope (extents s) (value_among (extents s) o) (among scope (extents s) o h)
-value_called scope s (Err f) h = tt
+value_called : (scope : Scope) (last : Structures) (s : State) (a : Answer Operand) → IfFineOperand scope (extents s) a
+    → If (IsCalled scope last (extents s)) (a >>= λ o. pointer_called o s)
+value_called scope last s (Ok o) h =
+    pointer_if scope last (extents s) (value_among (extents s) o) (among scope (extents s) o h)
+value_called scope last s (Err f) h = tt
 
-library_if : (scope : Scope) (es : Structures) (f : LibraryFunction) → IsCalled scope es (library_called f)
-library_if scope es (library.Routine r) = tt
-library_if scope es library.Printf = tt
+library_if : (scope : Scope) (last : Structures) (es : Structures) (f : LibraryFunction)
+    → IsCalled scope last es (library_called f)
+library_if scope last es (library.Routine r) = tt
+library_if scope last es library.Printf = tt
 
-called_if : (scope : Scope) (line : ℕ) (m : Option Meaning) (s : State) → IsMeant scope s m
+called_if : (scope : Scope) (last : Structures) (line : ℕ) (m : Option Meaning) (s : State) → IsMeant scope last s m
     → (used_as true line m s).undefined ≡ None
-    → If (IsCalled scope (extents s)) (plainly_or (called_plainly m) (called_by_value true line m s))
-called_if scope line None s h unused = tt
-called_if scope line (Some (meaning.Typedef type)) s h unused = tt
-called_if scope line (Some (meaning.Constant w)) s h unused =
-    value_called scope s (meant true line (Some (meaning.Constant w)) s)
-    (meant_fine scope line (Some (meaning.Constant w)) s h unused)
-called_if scope line (Some (meaning.Named (what.Function n) type)) s h unused =
+    → If (IsCalled scope last (extents s)) (plainly_or (called_plainly m) (called_by_value true line m s))
+called_if scope last line None s h unused = tt
+called_if scope last line (Some (meaning.Typedef type)) s h unused = tt
+called_if scope last line (Some (meaning.Constant w)) s h unused =
+    value_called scope last s (meant true line (Some (meaning.Constant w)) s)
+    (meant_fine scope last line (Some (meaning.Constant w)) s h unused)
+called_if scope last line (Some (meaning.Named (what.Function n) type)) s h unused =
     h (defined_by line s (is_undefined n s) unused)
-called_if scope line (Some (meaning.Named (what.Library f) type)) s h unused = library_if scope (extents s) f
-called_if scope line (Some (meaning.Named (what.Object n) type)) s h unused =
-    value_called scope s (meant true line (Some (meaning.Named (what.Object n) type)) s)
-    (meant_fine scope line (Some (meaning.Named (what.Object n) type)) s h unused)
-called_if scope line (Some (meaning.Named (what.Static n) type)) s h unused =
-    value_called scope s (meant true line (Some (meaning.Named (what.Static n) type)) s)
-    (meant_fine scope line (Some (meaning.Named (what.Static n) type)) s h unused)
-called_if scope line (Some (meaning.Named (what.Variable n) type)) s h unused =
-    value_called scope s (meant true line (Some (meaning.Named (what.Variable n) type)) s)
-    (meant_fine scope line (Some (meaning.Named (what.Variable n) type)) s h unused)
+called_if scope last line (Some (meaning.Named (what.Library f) type)) s h unused = library_if scope last (extents s) f
+called_if scope last line (Some (meaning.Named (what.Object n) type)) s h unused =
+    value_called scope last s (meant true line (Some (meaning.Named (what.Object n) type)) s)
+    (meant_fine scope last line (Some (meaning.Named (what.Object n) type)) s h unused)
+called_if scope last line (Some (meaning.Named (what.Static n) type)) s h unused =
+    value_called scope last s (meant true line (Some (meaning.Named (what.Static n) type)) s)
+    (meant_fine scope last line (Some (meaning.Named (what.Static n) type)) s h unused)
+called_if scope last line (Some (meaning.Named (what.Variable n) type)) s h unused =
+    value_called scope last s (meant true line (Some (meaning.Named (what.Variable n) type)) s)
+    (meant_fine scope last line (Some (meaning.Named (what.Variable n) type)) s h unused)
 
-called_as_is : (scope : Scope) (is : Bool) (line : ℕ) (m : Option Meaning) (s : State) → IsMeant scope s m
+called_as_is : (scope : Scope) (last : Structures) (is : Bool) (line : ℕ) (m : Option Meaning) (s : State)
+    → IsMeant scope last s m
     → (used_as is line m s).undefined ≡ None → is ≡ true
-    → If (IsCalled scope (extents s)) (plainly_or (called_plainly m) (called_by_value is line m s))
-called_as_is scope true line m s h unused p = called_if scope line m s h unused
-called_as_is scope false line m s h unused p = cc
+    → If (IsCalled scope last (extents s)) (plainly_or (called_plainly m) (called_by_value is line m s))
+called_as_is scope last true line m s h unused p = called_if scope last line m s h unused
+called_as_is scope last false line m s h unused p = cc
 
 called_used : (scope : Scope) (last : Structures) (is : Bool) (line : ℕ) (m : Option Meaning) (s : State)
     (a : Answer Called)
-    → (Knows scope s → (used_as is line m s).undefined ≡ None → is ≡ true → If (IsCalled scope (extents s)) a)
-    → Sound scope last s nothing (FineCalled scope is) (a >>= λ c. Ok (used_as is line m s, c))
+    → (Knows scope last s → (used_as is line m s).undefined ≡ None → is ≡ true → If (IsCalled scope last (extents s)) a)
+    → Sound scope last s nothing (FineCalled scope last is) (a >>= λ c. Ok (used_as is line m s, c))
 called_used scope last is line m s (Ok c) h = λ formed. (
-  used_keeps scope is line m s formed,
+  used_keeps scope last is line m s formed,
   λ knows g covers p.
-      subst (λ es. IsCalled scope es c) (sym (used_extents is line m s)) (h knows covers.undefined p),
+      subst (λ es. IsCalled scope last es c) (sym (used_extents is line m s)) (h knows covers.undefined p),
 )
 called_used scope last is line m s (Err f) h = tt
 
 pub name_called_sound : (scope : Scope) (last : Structures) (is : Bool) (name : Name) (line : ℕ) (s : State)
-    → Sound scope last s nothing (FineCalled scope is) (name_called is name line s)
+    → Sound scope last s nothing (FineCalled scope last is) (name_called is name line s)
 name_called_sound scope last is name line s =
     let m = names.meaning name s.environment.names in
     called_used scope last is line m s (plainly_or (called_plainly m) (called_by_value is line m s))
-    (λ knows unused p. called_as_is scope is line m s (knows.names name) unused p)
+    (λ knows unused p. called_as_is scope last is line m s (knows.names name) unused p)
 
 pub pointer_called_sound : (scope : Scope) (last : Structures) (s : State) (given : Structures → Type 0) (is : Bool)
     (o : Operand) → (given (extents s) → Fine scope is (extents s) o)
-    → Sound scope last s given (FineCalled scope is) (judged (pointer_called o) s)
+    → Sound scope last s given (FineCalled scope last is) (judged (pointer_called o) s)
 pointer_called_sound scope last s given is o h =
-    sound_judged scope last s given (FineCalled scope is) (pointer_called o s)
-    (λ knows g. if_true is (IsCalled scope (extents s)) (pointer_called o s)
-    (λ p. pointer_if scope (extents s) (value_among (extents s) o) (among scope (extents s) o (h g p))))
+    sound_judged scope last s given (FineCalled scope last is) (pointer_called o s)
+    (λ knows g covers. if_true is (IsCalled scope last (extents s)) (pointer_called o s)
+    (λ p. pointer_if scope last (extents s) (value_among (extents s) o) (among scope (extents s) o (h g p))))
 
 pub printed_sound : (scope : Scope) (last : Structures) (s : State) (given : Structures → Type 0) (is : Bool) (line : ℕ)
     (format : Option Format) (vs : List Value) → (given (extents s) → FineAll scope is (extents s) vs)
     → Sound scope last s given (Fine scope is) (judged (printed line format vs) s)
 printed_sound scope last s given is line format vs h =
     judged_sound scope last s given is (printed line format vs s)
-    (λ knows g p. operand_from scope (extents s) _ (formatted_fine scope (extents s) line format vs (h g p)))
+    (λ knows g covers p. operand_from scope (extents s) _ (formatted_fine scope (extents s) line format vs (h g p)))
 
 pub applied_sound : (scope : Scope) (last : Structures) → PointerCalls scope last → (s : State)
     (given : Structures → Type 0) (is : Bool) (line : ℕ) (c : Called) (vs : List Value)
-    → (given (extents s) → FineCalled scope is (extents s) c) → (given (extents s) → FineAll scope is (extents s) vs)
+    → (given (extents s) → FineCalled scope last is (extents s) c) → (given (extents s)
+    → FineAll scope is (extents s) vs)
     → Sound scope last s given (Fine scope is) (applied line c vs s)
 applied_sound scope last through s given is line (a_function n type) vs h g =
     judged_sound scope last s given is (plainly_applied line (of_function n) type vs s)
-    (λ knows x p. operand_from scope (extents s) _
-    (called_fine scope (extents s) line (of_function n) (h x p).signature type vs (h x p).has (h x p).spelled (g x p)))
+    (λ knows x covers p. operand_from scope (extents s) _
+    (function_called scope (extents s) last covers.more line n type vs (h x p) (g x p)))
 applied_sound scope last through s given is line (a_routine r) vs h g =
     judged_sound scope last s given is (plainly_applied line (of_routine r) (routine_words r) vs s)
-    (λ knows x p. operand_from scope (extents s) _
+    (λ knows x covers p. operand_from scope (extents s) _
     (called_fine scope (extents s) line (of_routine r) (routine_signature r) (routine_words r) vs refl
     (routines_spell (extents s) r) (g x p)))
 applied_sound scope last through s given is line a_printf vs h g =

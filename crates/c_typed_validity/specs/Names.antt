@@ -33,26 +33,26 @@ pub record IsVariableOf (scope : Scope) (s : State) (number : ℕ) (type : List 
   pub kind : (variable_at scope number).kind ≡ object_kind size type
   pub object : (variable_at scope number).is_object ≡ (is_aggregate type || is_marked s.objects number)
 
--- a function, whose type spells its signature
-pub record IsFunctionOf (scope : Scope) (structures : List (Option TypeExtent)) (number : ℕ)
+-- a function, whose type spells its signature with the structures that are complete at the end
+pub record IsFunctionOf (scope : Scope) (last : List (Option TypeExtent)) (number : ℕ)
     (type : List TypeWord) : Type 0 where
   pub signature : Signature
   pub has : HasSignature scope.functions number signature
-  pub spelled : Spells structures type signature
+  pub spelled : Spells last type signature
 
 -- a function that the file does not define needs none, as long as it is not used
-abbrev pub IsDesignated : Scope → State → Designated → List TypeWord → Type 0
-IsDesignated scope s (what.Object n) type = IsStaticOf scope (extents s) n type
-IsDesignated scope s (what.Static n) type = IsStaticOf scope (extents s) n type
-IsDesignated scope s (what.Function n) type = is_undefined n s ≡ false → IsFunctionOf scope (extents s) n type
-IsDesignated scope s (what.Library f) type = Unit {0}
-IsDesignated scope s (what.Variable n) type = IsVariableOf scope s n type
+abbrev pub IsDesignated : Scope → (last : List (Option TypeExtent)) → State → Designated → List TypeWord → Type 0
+IsDesignated scope last s (what.Object n) type = IsStaticOf scope (extents s) n type
+IsDesignated scope last s (what.Static n) type = IsStaticOf scope (extents s) n type
+IsDesignated scope last s (what.Function n) type = is_undefined n s ≡ false → IsFunctionOf scope last n type
+IsDesignated scope last s (what.Library f) type = Unit {0}
+IsDesignated scope last s (what.Variable n) type = IsVariableOf scope s n type
 
-abbrev pub IsMeant : Scope → State → Option Meaning → Type 0
-IsMeant scope s None = Unit {0}
-IsMeant scope s (Some (meaning.Typedef type)) = Unit {0}
-IsMeant scope s (Some (meaning.Constant w)) = fit Int w ≡ w
-IsMeant scope s (Some (meaning.Named what type)) = IsDesignated scope s what type
+abbrev pub IsMeant : Scope → (last : List (Option TypeExtent)) → State → Option Meaning → Type 0
+IsMeant scope last s None = Unit {0}
+IsMeant scope last s (Some (meaning.Typedef type)) = Unit {0}
+IsMeant scope last s (Some (meaning.Constant w)) = fit Int w ≡ w
+IsMeant scope last s (Some (meaning.Named what type)) = IsDesignated scope last s what type
 
 -- the next static object is an array of so many bytes
 pub record IsNextLiteral (scope : Scope) (s : State) (size : ℕ) : Type 0 where

@@ -18,8 +18,8 @@ use Rattle.c_typed_validity.specs.Names.{IsMeant}
 use Rattle.c_typed_validity.specs.Typed.{HaveMembers}
 
 -- names stand for something of the kind of their type, and members lie in their structures
-pub record Knows (scope : Scope) (s : State) : Type 0 where
-  pub names : (name : Name) → IsMeant scope s (meaning name s.environment.names)
+pub record Knows (scope : Scope) (last : List (Option TypeExtent)) (s : State) : Type 0 where
+  pub names : (name : Name) → IsMeant scope last s (meaning name s.environment.names)
   pub members : HaveMembers s
 
 -- a string literal is an array among the static objects
@@ -66,11 +66,11 @@ pub record IsPending (s : State) (number : ℕ) : Type 0 where
   pub incomplete : structure_extent (extents s) number ≡ None
 
 -- a state behind another
-pub record Keeps (scope : Scope) (s behind : State) : Type 0 where
+pub record Keeps (scope : Scope) (last : List (Option TypeExtent)) (s behind : State) : Type 0 where
   pub more : AreMore (extents s) (extents behind)
   pub literals : Extended s.literals behind.literals
   pub types : Extended s.function_types behind.function_types
-  pub knows : Knows scope s → Knows scope behind
+  pub knows : Knows scope last s → Knows scope last behind
   pub pending : (n : ℕ) → IsPending s n → IsPending behind n
   pub formed : IsFormed behind
   pub undefined : behind.undefined ≡ None → s.undefined ≡ None
@@ -81,5 +81,6 @@ abbrev pub Sound : {A : Type 0} → Scope → (last : List (Option TypeExtent)) 
     → Answer (State × A) → Type 0
 Sound scope last s given gives (Ok r) =
     IsFormed s
-    → Keeps scope s r.0 × (Knows scope s → given (extents s) → Covers scope last r.0 → gives (extents r.0) r.1)
+    → Keeps scope last s r.0 × (Knows scope last s → given (extents s) → Covers scope last r.0
+    → gives (extents r.0) r.1)
 Sound scope last s given gives (Err f) = Unit {0}

@@ -79,8 +79,8 @@ pub fn constants_are_valid()
 
 /// What an expression is typed to is valid, where it is evaluated, in the scope of its function in a program (C99 6.5):
 /// where names stand for something of the kind of their type before it, a static object only of a complete type, and
-/// the string literals and the types of called functions behind it are those of that program, which uses no function
-/// that it does not define. That type names keep what is known is taken as it is.
+/// the string literals and the types of functions are those of that program, which uses no function that it does not
+/// define. That type names keep what is known is taken as it is.
 pub fn expressions_are_typed_to_valid_trees()
     ensures { (scope : Scope) (last : Structures) → TypeNames scope last
         → (is_evaluated : Bool) (e : Expression) → has_characters e ≡ true → (s : State)

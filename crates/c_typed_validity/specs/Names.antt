@@ -5,7 +5,7 @@ use Rattle.obj_memory.specs.Integers.{fit}
 use Rattle.c_tree.specs.declared.c_type.TypeWord.{TypeWord}
 use Rattle.c_tree.specs.declared.expression.Kind.TheVariants as kind
 use Rattle.c_tree.specs.Extents.{TypeExtent}
-use Rattle.c_tree.specs.Kinds.{Signature, is_size}
+use Rattle.c_tree.specs.Kinds.{Signature}
 use Rattle.c_tree.specs.Valid.{Scope, has_number, variable_at}
 use Rattle.c_rules.specs.declared.class.Target.TheVariants.{Object}
 use Rattle.c_rules.specs.Types.{target_of}
@@ -53,9 +53,3 @@ IsMeant scope last s None = Unit {0}
 IsMeant scope last s (Some (meaning.Typedef type)) = Unit {0}
 IsMeant scope last s (Some (meaning.Constant w)) = fit Int w ≡ w
 IsMeant scope last s (Some (meaning.Named what type)) = IsDesignated scope last s what type
-
--- the next static object is an array of so many bytes
-pub record IsNextLiteral (scope : Scope) (s : State) (size : ℕ) : Type 0 where
-  pub sized : is_size size ≡ true
-  pub there : has_number scope.statics s.environment.statics ≡ true
-  pub kind : get_or scope.statics s.environment.statics kind.Void ≡ kind.Array size

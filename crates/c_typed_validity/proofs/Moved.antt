@@ -1,0 +1,159 @@
+-- States that differ in what names stand for nowhere.
+use Rattle.std.proofs.Common.{◌≡◌, ℕ, ◌*◌, ◌^◌, ◌≤◌, Bool, true, false, ◌||◌, ◌&&◌, refl, ap, ◌∙◌, subst}
+use Rattle.std.proofs.Common.{List, [], ◌∷◌, ◌++◌, length, Option, Some, None, if◌then◌else◌, nat_le, arith}
+use Rattle.std.specs.Prelude.{slice_get}
+use Rattle.std.proofs.lemmas.Bool.{leb-true}
+use Rattle.obj_memory.specs.Integers.{size_of}
+use Rattle.c_tree.specs.Extents.{TypeExtent, capped, extent_of}
+use Rattle.c_tree.specs.Kinds.{is_size}
+use Rattle.c_tree.specs.Layout.{array_size}
+use Rattle.c_tree.specs.Valid.{Scope}
+use Rattle.c_rules.specs.declared.class.Target.TheVariants as target
+use Rattle.c_rules.specs.Types.{target_of}
+use Rattle.c_place_rules.specs.Operands.{Operand, a_value, a_place, a_variable, a_function}
+use Rattle.c_place_laws.specs.FinePlaces.{IsFineOperand}
+use Rattle.c_scope.specs.declared.meaning.Designated.TheVariants as what
+use Rattle.c_scope.specs.declared.meaning.Meaning.{Meaning}
+use Rattle.c_scope.specs.declared.meaning.Meaning.TheVariants as meaning
+use Rattle.c_typing.specs.Operators.{object_taken, variable_named, with_taken}
+use Rattle.c_typing.specs.Primaries.{is_aggregate, is_marked, is_undefined, literal_place, literal_type, used_as}
+use Rattle.c_typing.specs.Primaries.{earlier_or, with_literal, with_use}
+use Rattle.c_typing.specs.State.{State, extents}
+use Rattle.c_typed_validity.specs.More.{AreMore}
+use Rattle.c_typed_validity.specs.Names.{IsMeant, IsStaticOf}
+use Rattle.c_typed_validity.specs.Sound.{Covers, IsFormed, Keeps}
+use Rattle.c_typed_validity.proofs.Kept.{none_some, operand_kept}
+use Rattle.c_typed_validity.proofs.Primaries.{static_fine}
+use Rattle.c_typed_validity.proofs.Sound.{keeps_same, same_list, same_more}
+
+pub meant_moved : (scope : Scope) (last : List (Option TypeExtent)) (s t : State) → extents s ≡ extents t
+    → s.objects ≡ t.objects
+    → s.environment.facts ≡ t.environment.facts → (m : Option Meaning)
+    → IsMeant scope last s m → IsMeant scope last t m
+meant_moved scope last s t e o f None is = tt
+meant_moved scope last s t e o f (Some (meaning.Typedef type)) is = tt
+meant_moved scope last s t e o f (Some (meaning.Constant w)) is = is
+meant_moved scope last s t e o f (Some (meaning.Named (what.Object n) type)) is =
+    subst (λ es. IsStaticOf scope es n type) e is
+meant_moved scope last s t e o f (Some (meaning.Named (what.Static n) type)) is =
+    subst (λ es. IsStaticOf scope es n type) e is
+meant_moved scope last s t e o f (Some (meaning.Named (what.Function n) type)) is =
+    λ defined. is (ap (λ z. nat_le (length z.functions) n) f ∙ defined)
+meant_moved scope last s t e o f (Some (meaning.Named (what.Library r) type)) is = tt
+meant_moved scope last s t e o f (Some (meaning.Named (what.Variable n) type)) is = record {
+  size = is.size;
+  sized = subst (λ es. target_of es type ≡ target.Object is.size) e is.sized;
+  kind = is.kind;
+  object = is.object ∙ ap (λ z. is_aggregate type || is_marked z n) o;
+}
+
+-- only marks, the line of a use, literals and types are new
+pub keeps_marks : (scope : Scope) (last : List (Option TypeExtent)) (s : State) → IsFormed s
+    → (taken : List Bool) (undefined : Option ℕ)
+    → (undefined ≡ None → s.undefined ≡ None) → Keeps scope last s (record s { taken = taken; undefined = undefined })
+keeps_marks scope last s formed taken undefined unused = record {
+  more = same_more (extents s);
+  literals = same_list s.literals;
+  types = same_list s.function_types;
+  knows = λ k. record {
+    names = λ name.
+        meant_moved scope last s (record s { taken = taken; undefined = undefined }) refl refl refl _ (k.names name);
+    members = record { each = k.members.each };
+  };
+  pending = λ n p. record { begun = p.begun; incomplete = p.incomplete };
+  formed = record { same = formed.same; begun = formed.begun; tags = formed.tags };
+  undefined = unused;
+}
+
+unused_before : (o : Option ℕ) (line : ℕ) → earlier_or o line ≡ None → o ≡ None
+unused_before None line e = refl
+unused_before (Some n) line e = e
+
+use_keeps : (scope : Scope) (last : List (Option TypeExtent)) (b : Bool) (line : ℕ) (s : State) → IsFormed s
+    → Keeps scope last s (if b then with_use line s else s)
+use_keeps scope last true line s formed =
+    keeps_marks scope last s formed s.taken (with_use line s).undefined (unused_before s.undefined line)
+use_keeps scope last false line s formed = keeps_same scope last s formed
+
+pub used_keeps : (scope : Scope) (last : List (Option TypeExtent)) (is : Bool) (line : ℕ) (m : Option Meaning)
+    (s : State) → IsFormed s
+    → Keeps scope last s (used_as is line m s)
+used_keeps scope last is line None s formed = keeps_same scope last s formed
+used_keeps scope last is line (Some (meaning.Typedef type)) s formed = keeps_same scope last s formed
+used_keeps scope last is line (Some (meaning.Constant w)) s formed = keeps_same scope last s formed
+used_keeps scope last is line (Some (meaning.Named (what.Object n) type)) s formed = keeps_same scope last s formed
+used_keeps scope last is line (Some (meaning.Named (what.Static n) type)) s formed = keeps_same scope last s formed
+used_keeps scope last is line (Some (meaning.Named (what.Function n) type)) s formed =
+    use_keeps scope last (is && is_undefined n s) line s formed
+used_keeps scope last is line (Some (meaning.Named (what.Library f) type)) s formed = keeps_same scope last s formed
+used_keeps scope last is line (Some (meaning.Named (what.Variable n) type)) s formed = keeps_same scope last s formed
+
+taken_keeps : (scope : Scope) (last : List (Option TypeExtent)) (x : Option ℕ) (s : State) → IsFormed s
+    → Keeps scope last s (with_taken x s)
+taken_keeps scope last None s formed = keeps_same scope last s formed
+taken_keeps scope last (Some n) s formed =
+    keeps_marks scope last s formed (with_taken (Some n) s).taken s.undefined (λ e. e)
+
+object_keeps : (scope : Scope) (last : List (Option TypeExtent)) (o : Operand) (s : State) → IsFormed s
+    → Keeps scope last s (object_taken o s)
+object_keeps scope last (a_value v) s formed = keeps_same scope last s formed
+object_keeps scope last (a_place p) s formed = taken_keeps scope last (variable_named p.tree) s formed
+object_keeps scope last (a_variable x) s formed = keeps_same scope last s formed
+object_keeps scope last (a_function f) s formed = keeps_same scope last s formed
+
+pub address_keeps : (scope : Scope) (last : List (Option TypeExtent)) (is : Bool) (o : Operand) (s : State) → IsFormed s
+    → Keeps scope last s (if is then object_taken o s else s)
+address_keeps scope last true o s formed = object_keeps scope last o s formed
+address_keeps scope last false o s formed = keeps_same scope last s formed
+
+-- string literals
+
+pub literal_keeps : (scope : Scope) (last : List (Option TypeExtent)) (bytes : List ℕ) (s : State) → IsFormed s
+    → Keeps scope last s (with_literal bytes s)
+literal_keeps scope last bytes s formed = record {
+  more = same_more (extents s);
+  literals = record { rest = _; is = refl };
+  types = same_list s.function_types;
+  knows = λ k. record {
+    names = λ name. meant_moved scope last s (with_literal bytes s) refl refl refl _ (k.names name);
+    members = record { each = k.members.each };
+  };
+  pending = λ n p. record { begun = p.begun; incomplete = p.incomplete };
+  formed = record { same = formed.same; begun = formed.begun; tags = formed.tags };
+  undefined = λ e. e;
+}
+
+pub get_last : {A : Type 0} (xs : List A) (x : A) → slice_get (xs ++ x ∷ []) (length xs) ≡ Some x
+get_last [] x = refl
+get_last (y ∷ xs) x = get_last xs x
+
+at_most : (n : ℕ) → is_size n ≡ true → n ≤ 2 ^ 32
+at_most n e = leb-true n (2 ^ 32) (second (nat_le 1 n) (nat_le n (2 ^ 32)) e)
+  where
+    second : (a b : Bool) → (a && b) ≡ true → b ≡ true
+    second true b e = e
+    second false b e = cc
+
+literal_sized : (size : ℕ) → is_size size ≡ true → target_of [] (literal_type size) ≡ target.Object size
+unfolding extent_of array_size size_of
+literal_sized size sized =
+    let small = at_most size sized in
+    let e : capped (capped (size * 1)) ≡ size = omega (arith, small) in
+    ap (λ n. if is_size n then target.Object n else target.Incomplete) e
+    ∙ ap (λ b. if b then target.Object size else target.Incomplete) sized
+
+no_structures : (es : List (Option TypeExtent)) → AreMore [] es
+no_structures es = record { kept = λ n e is. none_some e _ is }
+
+pub literal_fine : (scope : Scope) (last es : List (Option TypeExtent)) (bytes : List ℕ) (line : ℕ) (s : State)
+    → Covers scope last (with_literal bytes s)
+    → IsFineOperand scope es (literal_place line (length bytes) s.environment.statics)
+literal_fine scope last es bytes line s covers =
+    let is = covers.literals (length s.literals) _ (get_last s.literals _) in
+    operand_kept scope [] es (no_structures es) (literal_place line (length bytes) s.environment.statics)
+    (static_fine scope [] line s.environment.statics (literal_type (length bytes)) (record {
+      size = length bytes;
+      sized = literal_sized (length bytes) is.sized;
+      there = is.there;
+      kind = is.kind;
+    }))

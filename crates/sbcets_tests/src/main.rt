@@ -38,11 +38,15 @@ fn main(rt: HostRuntime) -> Result<()> {
     Ok(())
 }
 
+// Small budgets, since programs of integers have no objects, and a run begins with all its memory zero.
+const COMMAND: &str = "go program.c --heap 4096 --stack 4096 --calls 1048576 --blocks 1";
+
 // The words of a command.
 fn command(alloc: Global) -> Result<Vec<String>> {
     let mut words = Vec::new(alloc);
-    words.push(String::from_str(alloc, "go")?)?;
-    words.push(String::from_str(alloc, "program.c")?)?;
+    for word in COMMAND.split_whitespace() {
+        words.push(String::from_str(alloc, word)?)?;
+    }
     Ok(words)
 }
 

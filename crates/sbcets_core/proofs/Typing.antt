@@ -21,7 +21,7 @@ use Rattle.c_unit_typing.specs.Programs.{program_of}
 use Rattle.c_unit_typing.specs.Typed.{TypedUnit, a_program, a_fault, too_large, any_pointers, is_constant, has_constants}
 use Rattle.c_unit_typing.specs.Typed.{are_constant, most_functions, most_bytes, global_bytes, when_large, limited_program}
 use Rattle.c_unit_typing.specs.Typed.{typed_as, typed_unit}
-use Rattle.c_typer.specs.Refused.{first_without_room}
+use Rattle.c_unit_program.specs.Rooms.{first_without_room}
 use Rattle.source_meaning.specs.Calls.{function_at}
 use Rattle.integer_images.specs.Images.{HaveFewParameters, most_parameters}
 use Rattle.integer_programs.specs.Programs.{is_integer_program}

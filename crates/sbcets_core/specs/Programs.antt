@@ -10,7 +10,7 @@ use Rattle.c_const.specs.Addresses.{Pointers}
 use Rattle.c_unit_typing.specs.declared.limits.Limited.{Limited}
 use Rattle.c_unit_typing.specs.declared.limits.Limited.TheVariants as limited
 use Rattle.c_unit_typing.specs.Typed.{TypedUnit, a_program, a_fault, too_large, any_pointers, is_constant}
-use Rattle.c_typer.specs.Refused.{first_without_room}
+use Rattle.c_unit_program.specs.Rooms.{first_without_room}
 use Rattle.integer_images.specs.Images.{most_parameters}
 use Rattle.integer_programs.specs.Programs.{is_integer_program}
 use Rattle.sbcets_core.specs.declared.refusal.Counted.{Counted}

@@ -2,7 +2,7 @@
 """Makes stdin and stdout of this program by Debian's gcc, and by nothing of this repository.
 
 The programs are those of programs/, each with its input beside it where it reads one, those of examples/, and the texts of
-rows/ that have integers alone and whose run C99 determines. stdin has them one behind the other: the lines of a text, then a
+rows/ that have integers alone, whose run C99 determines, and that write UTF-8. stdin has them one behind the other: the lines of a text, then a
 line `%<` and its input where it has one, and a line `%%` between each two. stdout has for each what gcc's program writes and its
 status (128 and the signal's number where a signal ends it).
 
@@ -22,8 +22,8 @@ EXAMPLES = [("hi", [b""]), ("hello", [b""]), ("status", [b""]), ("directives", [
             ("calculator", [b"12 + 3 * 4\n-7/2\n1+\n2*-3\n9223372036854775807+1\n10/0\n(1)\n", b"8/3*3 - +4"]), ("crc", [b"123456789", b""]),
             ("count", [b"one two\n three\t\n\n4", b""]), ("calendar", [b"2024 2", b"1999 12", b"1900 2", b"1582 1"])]
 ROWS = """calls_up_to_the_last comma_and_void copy_input enumeration exit_in_call exit_negative fibonacci first if_counts
-implicit_conversions input_ends keys_for_objects_alone loop_counts main_reaches_its_end mixed_signs mutual_calls nested_loops
-nested_switch order_operands parentheses putchar_gives putchar_negative return_from_loops shadowing status_modulo
+input_ends keys_for_objects_alone loop_counts main_reaches_its_end mixed_signs mutual_calls nested_loops
+nested_switch order_operands parentheses putchar_gives return_from_loops shadowing status_modulo
 switch_default_in_the_middle switch_falls_through switch_labels switch_unsigned switch_without_match""".split()
 
 

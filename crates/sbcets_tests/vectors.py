@@ -23,7 +23,7 @@ EXAMPLES = [("hi", [b""]), ("hello", [b""]), ("status", [b""]), ("directives", [
             ("count", [b"one two\n three\t\n\n4", b""]), ("calendar", [b"2024 2", b"1999 12", b"1900 2", b"1582 1"])]
 ROWS = """calls_up_to_the_last comma_and_void copy_input enumeration exit_in_call exit_negative fibonacci first if_counts
 input_ends keys_for_objects_alone loop_counts main_reaches_its_end mixed_signs mutual_calls nested_loops
-nested_switch order_operands parentheses putchar_gives return_from_loops shadowing status_modulo
+nested_switch order_operands parentheses putchar_gives return_from_loops status_modulo
 switch_default_in_the_middle switch_falls_through switch_labels switch_unsigned switch_without_match""".split()
 
 

@@ -1,0 +1,78 @@
+-- Ranges of object space that functions of the runtime move and fill. They show no access.
+use Rattle.std.specs.Prelude.{◌≡◌, ℕ, ◌+◌, ◌*◌, ◌%◌, ◌<◌, ◌≤◌, List, []}
+use Rattle.addr_map.specs.declared.region.Region.TheVariants.{Heap, StructureValues}
+use Rattle.addr_map.specs.Places.{MapSizes, objects_begin, region_start, region_end}
+use Rattle.flat_meaning.specs.declared.instruction.FlatInstruction.{FlatInstruction}
+use Rattle.flat_meaning.specs.Memory.{Bytes, KeepsBut}
+use Rattle.flat_meaning.specs.State.{State}
+use Rattle.flat_routines.specs.Registers.{OthersStay}
+use Rattle.flat_routines.specs.Routine.{Does, Either, Never}
+use Rattle.flat_routines.specs.Metadata.{View, ShowsNothing}
+use Rattle.flat_objects.specs.Changes.{IsMoved}
+use Rattle.flat_actions.specs.Actions.{views_of, AreSpacesGood}
+
+-- what a list of instructions does in functions of the runtime, within so many steps
+abbrev pub DoesInRuntime : MapSizes → List FlatInstruction → (State → Type 0) → (steps : ℕ) → (State → State → Type 0)
+    → Type 0
+DoesInRuntime map r P steps Q =
+    (charge weight : ℕ)
+    → Does (record { sizes = map; is_runtime = true; charge = charge; weight = weight }) r P (λ s. steps)
+    (λ s. Either (Q s) Never)
+
+-- so many bytes of object space from an address on
+pub record IsObjectRange (map : MapSizes) (a n : ℕ) : Type 0 where
+  pub first : objects_begin ≤ a
+  pub last : a + n ≤ region_end map Heap
+
+-- ---- bytes alone
+
+-- registers hold where to, where from and how many
+pub record IsToMove (map : MapSizes) (to from bytes n : ℕ) (s : State) : Type 0 where
+  pub size : s.values bytes ≡ n
+  pub to : IsObjectRange map (s.values to) n
+  pub from : IsObjectRange map (s.values from) n
+
+-- moved as by memmove, also where the ranges overlap
+pub record HasMovedBytes (to from n scratch : ℕ) (s s' : State) : Type 0 where
+  pub there : (i : ℕ) → i < n → s'.memory (s.values to + i) ≡ s.memory (s.values from + i)
+  pub beside : KeepsBut (s.values to) n s.memory s'.memory
+  pub shows : ShowsNothing s s'
+  pub others : OthersStay [] scratch s s'
+
+abbrev pub IsByteMoveRoutine : MapSizes → (to from bytes scratch : ℕ) → List FlatInstruction → Type 0
+IsByteMoveRoutine map to from bytes t r =
+    (n : ℕ) → DoesInRuntime map r (IsToMove map to from bytes n) (16 + 7 * n) (HasMovedBytes to from n t)
+
+-- registers hold where to, a number whose low byte it is, and how many
+pub record IsToFill (map : MapSizes) (to bytes n : ℕ) (s : State) : Type 0 where
+  pub size : s.values bytes ≡ n
+  pub to : IsObjectRange map (s.values to) n
+
+pub record HasFilled (to byte n scratch : ℕ) (s s' : State) : Type 0 where
+  pub there : (i : ℕ) → i < n → s'.memory (s.values to + i) ≡ s.values byte % 256
+  pub beside : KeepsBut (s.values to) n s.memory s'.memory
+  pub shows : ShowsNothing s s'
+  pub others : OthersStay [] scratch s s'
+
+abbrev pub IsFillRoutine : MapSizes → (to byte bytes scratch : ℕ) → List FlatInstruction → Type 0
+IsFillRoutine map to byte bytes t r =
+    (n : ℕ) → DoesInRuntime map r (IsToFill map to bytes n) (8 + 5 * n) (HasFilled to byte n t)
+
+-- ---- bytes with the entries of whole words
+
+pub record HasMovedTagged (map : MapSizes) (entry : View) (IsGood : Bytes → Type 0) (to from n scratch : ℕ)
+    (s s' : State) : Type 0 where
+  pub moved : (functions : ℕ) (types : ℕ → ℕ)
+      → IsMoved (views_of map functions types entry) n (s.values to) (s.values from) s.memory s'.memory
+  pub good : AreSpacesGood map IsGood s'.memory
+  pub behind : (a : ℕ) → region_start map StructureValues ≤ a → s'.memory a ≡ s.memory a
+  pub shows : ShowsNothing s s'
+  pub others : OthersStay [] scratch s s'
+
+-- within 40 steps and 16 for each byte
+abbrev pub IsTaggedMoveRoutine : MapSizes → View → (Bytes → Type 0) → (to from bytes scratch : ℕ)
+    → List FlatInstruction → Type 0
+IsTaggedMoveRoutine map entry IsGood to from bytes t r =
+    (n : ℕ)
+    → DoesInRuntime map r (λ s. IsToMove map to from bytes n s × AreSpacesGood map IsGood s.memory) (40 + 16 * n)
+    (HasMovedTagged map entry IsGood to from n t)

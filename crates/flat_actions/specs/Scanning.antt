@@ -1,0 +1,48 @@
+-- The bytes of a string that are scanned in flat code, by a function of the runtime.
+use Rattle.std.specs.Prelude.{◌≡◌, ℕ, ◌+◌, ◌*◌, ◌^◌, ◌<◌, ◌≤◌, List, [], ◌∷◌, length, get_or}
+use Rattle.sb_base.specs.Endings.{code_of, report_of}
+use Rattle.addr_map.specs.Places.{MapSizes}
+use Rattle.obj_memory.specs.declared.value.Value.{Value}
+use Rattle.source_meaning.specs.State.{State as Source, Outcome as Completed, Gives, Ended, Paused, Run}
+use Rattle.flat_meaning.specs.declared.instruction.FlatInstruction.{FlatInstruction}
+use Rattle.flat_meaning.specs.Memory.{Bytes}
+use Rattle.flat_meaning.specs.State.{State}
+use Rattle.flat_routines.specs.declared.registers.Held.{Held}
+use Rattle.flat_routines.specs.Registers.{OthersStay}
+use Rattle.flat_routines.specs.Routine.{Does, Outcome, Continues, Halts}
+use Rattle.flat_routines.specs.Metadata.{ShowsNothing}
+use Rattle.flat_objects.specs.StandsFor.{Keys}
+use Rattle.flat_actions.specs.Actions.{Ground, Holder, Pointer, IsHeldBy, IsFor, context_in, views_of, work_of}
+
+-- a state of the source with more work done
+pub record IsWorked (x x' : Source) : Type 0 where
+  pub work : x.work ≤ x'.work
+  pub same : x' ≡ record x { work = x'.work }
+
+-- the register of the cursor has the address behind these bytes, which stand in memory from an address on
+pub record HasScanned (word : ℕ) (bytes : List ℕ) (cursor scratch : ℕ) (f f' : State) : Type 0 where
+  pub cursor : f'.values cursor ≡ word + length bytes
+  pub small : word + length bytes < 2 ^ 63
+  pub there : (i : ℕ) → i < length bytes → f.memory (word + i) ≡ get_or bytes i 0
+  pub memory : f'.memory ≡ f.memory
+  pub shows : ShowsNothing f f'
+  pub others : OthersStay (cursor ∷ []) scratch f f'
+
+abbrev pub IsScanned : (word cursor scratch : ℕ) → Source → State → Completed (List ℕ) → Outcome → Type 0
+IsScanned word cursor t x f (Gives bytes x') (Continues f') = IsWorked x x' × HasScanned word bytes cursor t f f'
+IsScanned word cursor t x f (Ended e x') (Halts status report f') =
+    (status ≡ code_of e) × (report ≡ report_of e) × IsWorked x x' × ShowsNothing f f'
+IsScanned word cursor t x f (Gives bytes x') (Halts status report f') = ⊥
+IsScanned word cursor t x f (Ended e x') (Continues f') = ⊥
+IsScanned word cursor t x f (Paused x') o = ⊥
+
+-- within 16 steps and 8 for each byte that is looked at
+abbrev pub IsScanRoutine : Ground → (run : Value → Run (List ℕ)) → Held → (P : State → Type 0) → (cursor scratch : ℕ)
+    → List FlatInstruction → Type 0
+IsScanRoutine ground run h P cursor t r =
+    (functions : ℕ) (types : ℕ → ℕ) (k : Keys) (x : Source) (v : Value)
+    (charge weight : ℕ) →
+    let g = views_of ground.map functions types ground.entry in
+    Does (context_in ground charge weight) r
+    (λ f. IsFor g k ground.IsGood x f × IsHeldBy g k x.objects (Pointer h) v f.values × P f)
+    (λ f. 16 + 8 * work_of (run v) x) (λ f. IsScanned v.word cursor t x f (run v x))

@@ -4,7 +4,7 @@ use Rattle.std.specs.Prelude.{◌≡◌, ℕ, ◌+◌, ◌-◌, ◌*◌, ◌<◌
 use Rattle.sb_base.specs.declared.ending.Ending.{Ending}
 use Rattle.sb_base.specs.Endings.{code_of, report_of}
 use Rattle.addr_map.specs.declared.region.Region.TheVariants.{StructureValues}
-use Rattle.addr_map.specs.Places.{MapSizes, AreMapped, spaces_begin, region_start}
+use Rattle.addr_map.specs.Places.{MapSizes, spaces_begin, region_start}
 use Rattle.obj_memory.specs.declared.value.Value.{Value}
 use Rattle.obj_memory.specs.Objects.{Objects, object_at}
 use Rattle.obj_memory.specs.Sound.{IsSoundTag}
@@ -91,7 +91,7 @@ IsGivenIn g k (Pointer h) v values = Spells g k v h values
 
 -- of object space all that no object has which lives then, and of the runtime's spaces all behind the table of blocks
 pub record StaysElsewhere (map : MapSizes) (objects : Objects) (m m' : Bytes) : Type 0 where
-  pub objects : (a : ℕ) → a < spaces_begin
+  pub low : (a : ℕ) → a < spaces_begin
       → ((n : ℕ) → (object_at objects n).is_live ≡ true
       → (a < (object_at objects n).address) ⊎ ((object_at objects n).address + (object_at objects n).size ≤ a))
       → m' a ≡ m a
@@ -115,8 +115,8 @@ pub record HasGiven (g : Views) (k : Keys) (IsGood : Bytes → Type 0) (result :
 
 -- it ended the run, with the status and the report of an ending
 pub record HasEnded (e : Ending) (x' : Source) (status : ℕ) (report : List ℕ) (f f' : State) : Type 0 where
-  pub status : status ≡ code_of e
-  pub report : report ≡ report_of e
+  pub status_is : status ≡ code_of e
+  pub report_is : report ≡ report_of e
   pub shown : IsShown x' f'
   pub turns : f'.turns ≡ f.turns
 
@@ -147,18 +147,18 @@ abbrev pub context_in : Ground → (charge weight : ℕ) → Context
 context_in ground charge weight =
     record { sizes = ground.map; is_runtime = ground.is_runtime; charge = charge; weight = weight }
 
--- From every state that stands for one of the source in which P holds, with values in registers that do for the
--- arguments, it leaves what the run leaves, within so many steps and so many for each unit of the work of the run;
--- whatever the types of the program's functions, and its calls.
-abbrev pub IsActionIn : Ground → (P : Source → Type 0) → (run : List Value → Run Value) → (arguments : List Holder)
-    → (result : Holder) → (scratch constant factor : ℕ) → List FlatInstruction → Type 0
+-- From every state that stands for one of the source, with values in registers that do for the arguments, where P holds
+-- of the source's state and these values, it leaves what the run leaves, within so many steps and so many for each unit
+-- of the work of the run; whatever the types of the program's functions, and its calls.
+abbrev pub IsActionIn : Ground → (P : Source → List Value → Type 0) → (run : List Value → Run Value)
+    → (arguments : List Holder) → (result : Holder) → (scratch constant factor : ℕ) → List FlatInstruction → Type 0
 IsActionIn ground P run arguments result t constant factor r =
     (functions : ℕ) (types : ℕ → ℕ) (k : Keys) (x : Source) (vs : List Value) (charge weight : ℕ) →
     let g = views_of ground.map functions types ground.entry in
     Does (context_in ground charge weight) r
-    (λ f. IsFor g k ground.IsGood x f × AreHeldBy g k x.objects arguments vs f.values × P x)
+    (λ f. IsFor g k ground.IsGood x f × AreHeldBy g k x.objects arguments vs f.values × P x vs)
     (λ f. constant + factor * work_of (run vs) x) (λ f. Leaves g k ground.IsGood result t x f (run vs x))
 
 abbrev pub IsAction : Ground → (run : List Value → Run Value) → (arguments : List Holder) → (result : Holder)
     → (scratch constant factor : ℕ) → List FlatInstruction → Type 0
-IsAction ground = IsActionIn ground (λ x. Unit {0})
+IsAction ground = IsActionIn ground (λ x vs. Unit {0})

@@ -1,5 +1,5 @@
 -- Ranges of object space that functions of the runtime move and fill. They show no access.
-use Rattle.std.specs.Prelude.{◌≡◌, ℕ, ◌+◌, ◌*◌, ◌%◌, ◌<◌, ◌≤◌, List, []}
+use Rattle.std.specs.Prelude.{◌≡◌, ℕ, ◌+◌, ◌*◌, ◌%◌, ◌<◌, ◌≤◌, List, [], true}
 use Rattle.addr_map.specs.declared.region.Region.TheVariants.{Heap, StructureValues}
 use Rattle.addr_map.specs.Places.{MapSizes, objects_begin, region_start, region_end}
 use Rattle.flat_meaning.specs.declared.instruction.FlatInstruction.{FlatInstruction}
@@ -28,9 +28,9 @@ pub record IsObjectRange (map : MapSizes) (a n : ℕ) : Type 0 where
 
 -- registers hold where to, where from and how many
 pub record IsToMove (map : MapSizes) (to from bytes n : ℕ) (s : State) : Type 0 where
-  pub size : s.values bytes ≡ n
-  pub to : IsObjectRange map (s.values to) n
-  pub from : IsObjectRange map (s.values from) n
+  pub size_is : s.values bytes ≡ n
+  pub to_range : IsObjectRange map (s.values to) n
+  pub from_range : IsObjectRange map (s.values from) n
 
 -- moved as by memmove, also where the ranges overlap
 pub record HasMovedBytes (to from n scratch : ℕ) (s s' : State) : Type 0 where
@@ -45,8 +45,8 @@ IsByteMoveRoutine map to from bytes t r =
 
 -- registers hold where to, a number whose low byte it is, and how many
 pub record IsToFill (map : MapSizes) (to bytes n : ℕ) (s : State) : Type 0 where
-  pub size : s.values bytes ≡ n
-  pub to : IsObjectRange map (s.values to) n
+  pub size_is : s.values bytes ≡ n
+  pub to_range : IsObjectRange map (s.values to) n
 
 pub record HasFilled (to byte n scratch : ℕ) (s s' : State) : Type 0 where
   pub there : (i : ℕ) → i < n → s'.memory (s.values to + i) ≡ s.values byte % 256

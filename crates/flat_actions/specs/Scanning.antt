@@ -1,18 +1,16 @@
 -- The bytes of a string that are scanned in flat code, by a function of the runtime.
 use Rattle.std.specs.Prelude.{◌≡◌, ℕ, ◌+◌, ◌*◌, ◌^◌, ◌<◌, ◌≤◌, List, [], ◌∷◌, length, get_or}
 use Rattle.sb_base.specs.Endings.{code_of, report_of}
-use Rattle.addr_map.specs.Places.{MapSizes}
 use Rattle.obj_memory.specs.declared.value.Value.{Value}
 use Rattle.source_meaning.specs.State.{State as Source, Outcome as Completed, Gives, Ended, Paused, Run}
 use Rattle.flat_meaning.specs.declared.instruction.FlatInstruction.{FlatInstruction}
-use Rattle.flat_meaning.specs.Memory.{Bytes}
 use Rattle.flat_meaning.specs.State.{State}
 use Rattle.flat_routines.specs.declared.registers.Held.{Held}
 use Rattle.flat_routines.specs.Registers.{OthersStay}
 use Rattle.flat_routines.specs.Routine.{Does, Outcome, Continues, Halts}
 use Rattle.flat_routines.specs.Metadata.{ShowsNothing}
 use Rattle.flat_objects.specs.StandsFor.{Keys}
-use Rattle.flat_actions.specs.Actions.{Ground, Holder, Pointer, IsHeldBy, IsFor, context_in, views_of, work_of}
+use Rattle.flat_actions.specs.Actions.{Ground, Pointer, IsHeldBy, IsFor, context_in, views_of, work_of}
 
 -- a state of the source with more work done
 pub record IsWorked (x x' : Source) : Type 0 where
@@ -21,7 +19,7 @@ pub record IsWorked (x x' : Source) : Type 0 where
 
 -- the register of the cursor has the address behind these bytes, which stand in memory from an address on
 pub record HasScanned (word : ℕ) (bytes : List ℕ) (cursor scratch : ℕ) (f f' : State) : Type 0 where
-  pub cursor : f'.values cursor ≡ word + length bytes
+  pub cursor_is : f'.values cursor ≡ word + length bytes
   pub small : word + length bytes < 2 ^ 63
   pub there : (i : ℕ) → i < length bytes → f.memory (word + i) ≡ get_or bytes i 0
   pub memory : f'.memory ≡ f.memory

@@ -1,0 +1,4 @@
+pub mod Steps
+pub mod Copying
+pub mod Cells
+pub mod Bytes

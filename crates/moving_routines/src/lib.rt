@@ -1,0 +1,8 @@
+//! Ranges of object space that functions of the runtime move and fill, and the library's `memcpy`, `memmove`, `memset`
+//! and the assignment of structures, as whole actions, for any form of the shadow space.
+#![tactic(auto)]
+
+mod lists;
+pub mod moving;
+
+pub use crate::moving::move_bytes;

@@ -1,7 +1,7 @@
 -- Bytes of object space moved.
-use Rattle.std.proofs.Common.{◌≡◌, ◌≢◌, ℕ, ◌+◌, ◌*◌, ◌%◌, ◌^◌, ◌<◌, ◌≤◌, ◌⊎◌, List, [], ◌∷◌, ◌++◌, Bool, true, refl, sym, ap}
+use Rattle.std.proofs.Common.{◌≡◌, ◌≢◌, ℕ, ◌+◌, ◌*◌, ◌%◌, ◌^◌, ◌<◌, ◌≤◌, List, [], ◌∷◌, true, refl, sym, ap}
 use Rattle.std.proofs.Common.{◌∙◌, subst, arith, ⊎_elim}
-use Rattle.std.specs.Prelude.{nat_le, ◌||◌, ◌&&◌}
+use Rattle.std.specs.Prelude.{nat_le, ◌||◌}
 use Rattle.std.proofs.lemmas.Bool.{le-leb, and_from}
 use Rattle.addr_map.specs.declared.region.Region.TheVariants.{Heap}
 use Rattle.addr_map.specs.Places.{MapSizes, objects_begin, region_end}
@@ -9,23 +9,22 @@ use Rattle.rv_isa.specs.declared.instruction.LoadOp.TheVariants.{Lbu}
 use Rattle.rv_isa.specs.declared.instruction.StoreOp.TheVariants.{Sb}
 use Rattle.rv_isa.specs.Results.{extended}
 use Rattle.flat_meaning.specs.declared.instruction.FlatInstruction.{FlatInstruction}
-use Rattle.flat_meaning.specs.declared.instruction.FlatInstruction.TheVariants.{Move, Load, Store}
-use Rattle.flat_meaning.specs.Memory.{Bytes, put, load, store, KeepsBut}
-use Rattle.flat_meaning.specs.Spaces.{is_of_objects, is_of_runtime, is_allowed}
+use Rattle.flat_meaning.specs.declared.instruction.FlatInstruction.TheVariants.{Load, Store}
+use Rattle.flat_meaning.specs.Memory.{Bytes, put, load, store}
+use Rattle.flat_meaning.specs.Spaces.{is_of_runtime, is_allowed}
 use Rattle.flat_meaning.specs.State.{State}
 use Rattle.flat_meaning.specs.Words.{IsOfWords}
 use Rattle.flat_meaning.specs.Meaning.{Context}
 use Rattle.flat_meaning.proofs.Stored.{put_same, put_other}
-use Rattle.flat_routines.specs.Registers.{AreBelow, OthersStay}
+use Rattle.flat_routines.specs.Registers.{AreBelow}
 use Rattle.flat_routines.specs.Routine.{Does, Either, Never}
 use Rattle.flat_routines.specs.Renaming.{through}
-use Rattle.flat_routines.specs.Effects.{effects, AreAllowed}
-use Rattle.flat_routines.specs.Metadata.{ShowsNothing}
+use Rattle.flat_routines.specs.Effects.{AreAllowed}
 use Rattle.flat_routines.proofs.Regions.{IsLaidOut}
 use Rattle.space_routines.proofs.Quiet.{shows_both}
 use Rattle.flat_actions.specs.Ranges.{IsObjectRange, IsToMove, HasMovedBytes, IsByteMoveRoutine}
 use Rattle.flat_actions.proofs.Standing.{others_trans}
-use Rattle.moving_routines.specs.Copying.{OneByte, Cells, AreCells, HasCopied, IsToCopy, CopiesOne, move_cells, AreRanges}
+use Rattle.moving_routines.specs.Copying.{OneByte, Cells, AreCells, HasCopied, IsToCopy, CopiesOne, move_cells}
 use Rattle.moving_routines.specs.Copying.{IsToMoveCells, HasMovedCells}
 use Rattle.moving_routines.specs.Moving.{byte_body, byte_places, move_bytes_code}
 use Rattle.moving_routines.proofs.Steps.{both_quiet, quiet_weaken, IsGlued, glued, named}
@@ -121,8 +120,7 @@ module _ (map : MapSizes) (ok : IsLaidOut map) (t charge weight : ℕ) where
   unfolding put
   allowed s w p =
       let small = ok.small in
-      let a = p.to_cell.last in let b = p.from_cell.last in
-      (
+      let a = p.to_cell.last in let b = p.from_cell.last in (
         object_allowed map ((s.values (t + 2) + 0) % 2 ^ 64) (s.values (t + 2)) 1 (omega arith) p.from_cell.first b,
         (object_allowed map ((s.values (t + 1) + 0) % 2 ^ 64) (s.values (t + 1)) 1 (omega arith) p.to_cell.first a, tt),
       )

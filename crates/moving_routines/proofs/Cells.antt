@@ -1,29 +1,28 @@
 -- Cells moved as by memmove: upwards or downwards, by one loop.
-use Rattle.std.proofs.Common.{◌≡◌, ◌≢◌, ℕ, zero, suc, ◌+◌, ◌-◌, ◌*◌, ◌%◌, ◌^◌, ◌<◌, ◌≤◌, ◌⊎◌, inl, inr, ⊎_elim, List, []}
-use Rattle.std.proofs.Common.{◌∷◌, ◌++◌, true, false, length, refl, sym, ap, ◌∙◌, subst, arith}
+use Rattle.std.proofs.Common.{◌≡◌, ◌≢◌, ℕ, suc, ◌+◌, ◌-◌, ◌*◌, ◌%◌, ◌^◌, ◌<◌, ◌≤◌, ◌⊎◌, inl, inr, ⊎_elim, List, []}
+use Rattle.std.proofs.Common.{◌∷◌, length, refl, sym, ap, ◌∙◌, subst, arith}
 use Rattle.rv_isa.specs.declared.instruction.BranchOp.TheVariants.{Bgeu}
 use Rattle.rv_isa.specs.Results.{reg_result}
 use Rattle.flat_meaning.specs.declared.instruction.RightOperand.TheVariants.{Register}
 use Rattle.flat_meaning.specs.declared.instruction.FlatInstruction.{FlatInstruction}
 use Rattle.flat_meaning.specs.declared.instruction.FlatInstruction.TheVariants.{Constant}
-use Rattle.flat_meaning.specs.Memory.{Bytes, put}
+use Rattle.flat_meaning.specs.Memory.{put}
 use Rattle.flat_meaning.specs.State.{State}
 use Rattle.flat_meaning.specs.Meaning.{Context, Goes}
 use Rattle.flat_routines.specs.Registers.{OthersStay}
 use Rattle.flat_routines.specs.Routine.{Does, Either, Never, Reaches}
 use Rattle.flat_routines.specs.Effects.{worked, effects}
-use Rattle.flat_routines.specs.Renaming.{through, Agrees, ChangesOnly}
+use Rattle.flat_routines.specs.Renaming.{through}
 use Rattle.flat_routines.specs.Metadata.{ShowsNothing}
 use Rattle.flat_routines.proofs.Steps.{has_self}
 use Rattle.flat_routines.proofs.Rules.{branch, line_on, arrived}
 use Rattle.flat_routines.proofs.Distinct.{registers_rename, others_stay}
 use Rattle.flat_routines.proofs.Wrapped.{routine}
 use Rattle.shadow_space.proofs.Entries.{agrees_shows, agrees_memory}
-use Rattle.space_routines.proofs.Quiet.{shows_both}
 use Rattle.heap_space.proofs.Regions.{if_not_below, if_below}
 use Rattle.moving_routines.specs.Copying.{CellSize, OneByte, OneWord, unit_of, shift_of, Cells, AreCells, CopiesOne}
 use Rattle.moving_routines.specs.Copying.{turn_round, choose_order, copy_loop, move_cells, AreRanges, IsToMoveCells}
-use Rattle.moving_routines.specs.Copying.{AreMovedCells, HasMovedCells}
+use Rattle.moving_routines.specs.Copying.{HasMovedCells}
 use Rattle.moving_routines.proofs.Steps.{both_quiet, quiet_weaken, named, own_registers, registers_from}
 use Rattle.moving_routines.proofs.Copying.{IsOrder, Copying, copies_all}
 

@@ -2,3 +2,4 @@ pub mod Steps
 pub mod Copying
 pub mod Cells
 pub mod Bytes
+pub mod Fills

@@ -1,7 +1,7 @@
 -- Routines put together: one after another, one that may be passed over, one again and again, and code without jumps
 -- over any registers.
-use Rattle.std.proofs.Common.{◌≡◌, ◌≢◌, ℕ, zero, suc, ◌+◌, ◌-◌, ◌*◌, ◌^◌, ◌<◌, ◌≤◌, List, [], ◌∷◌, ◌++◌, Bool, true, false, map}
-use Rattle.std.proofs.Common.{length, refl, sym, ◌∙◌, subst, arith, inl, inr}
+use Rattle.std.proofs.Common.{◌≡◌, ℕ, zero, suc, ◌+◌, ◌-◌, ◌*◌, ◌^◌, ◌<◌, ◌≤◌, List, [], ◌∷◌, ◌++◌, true, false, map}
+use Rattle.std.proofs.Common.{length, refl, arith, inl, inr}
 use Rattle.rv_isa.specs.declared.instruction.BranchOp.{BranchOp}
 use Rattle.flat_meaning.specs.declared.instruction.RightOperand.{RightOperand}
 use Rattle.flat_meaning.specs.declared.instruction.FlatInstruction.{FlatInstruction}
@@ -12,8 +12,7 @@ use Rattle.flat_meaning.specs.Meaning.{Context, Goes}
 use Rattle.flat_routines.specs.Registers.{IsNoneOf, AreNoneOf, AreDistinct, AreBelow, OthersStay}
 use Rattle.flat_routines.specs.Routine.{Outcome, Continues, Halts, Reaches, Does, Either, Never, unless_code, until_code}
 use Rattle.flat_routines.specs.Effects.{worked, effects, AreAllowed}
-use Rattle.flat_routines.specs.Renaming.{rename, all_fit, IsRenaming, ChangesOnly, Agrees, through}
-use Rattle.flat_routines.specs.Metadata.{ShowsNothing}
+use Rattle.flat_routines.specs.Renaming.{rename, all_fit, through}
 use Rattle.flat_routines.proofs.Steps.{has_front}
 use Rattle.flat_routines.proofs.Rules.{Holds, taken, weaken, unless, loop, in_sequence}
 use Rattle.flat_routines.proofs.Distinct.{AreFrom, AreRegisters, register_of, registers_rename, others_stay}

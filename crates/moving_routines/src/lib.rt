@@ -2,7 +2,9 @@
 //! and the assignment of structures, as whole actions, for any form of the shadow space.
 #![tactic(auto)]
 
+pub mod filling;
 mod lists;
 pub mod moving;
 
+pub use crate::filling::fill;
 pub use crate::moving::move_bytes;

@@ -8,7 +8,11 @@ use rv_isa::BranchOp;
 use std::alloc::{AllocError, Global};
 
 // One list behind another.
-pub(crate) fn joined<T: Copy>(alloc: Global, first: &[T], second: &[T]) -> Result<Vec<T>, AllocError>
+pub(crate) fn joined<T: Copy>(
+    alloc: Global,
+    first: &[T],
+    second: &[T],
+) -> Result<Vec<T>, AllocError>
     ensures { IfOk result (λ r. r.items ≡ first.now ++ second.now) }
 {
     let mut list = Vec::from_slice(alloc, first)?;
@@ -28,7 +32,12 @@ pub(crate) fn unless(
     ensures { IfOk result (λ r. r.items ≡ unless_code op left right body.now) }
 {
     let past = body.len() as u32;
-    let test = [FlatInstruction::Branch { op, left, right, past }];
+    let test = [FlatInstruction::Branch {
+        op,
+        left,
+        right,
+        past,
+    }];
     joined(alloc, &test, body)
 }
 
@@ -44,7 +53,12 @@ pub(crate) fn until(
     ensures { IfOk result (λ r. r.items ≡ until_code op left right body.now) }
 {
     let past = body.len() as u32 + 1;
-    let test = [FlatInstruction::Branch { op, left, right, past }];
+    let test = [FlatInstruction::Branch {
+        op,
+        left,
+        right,
+        past,
+    }];
     let back = [FlatInstruction::JumpBack { back: past }];
     let turn = joined(alloc, body, &back)?;
     joined(alloc, &test, turn.as_slice())

@@ -179,5 +179,11 @@ fn loop_instructions(
         },
     ];
     let turn = joined(alloc, body, &bump)?;
-    until(alloc, BranchOp::Beq, scratch, RightOperand::Number(0), turn.as_slice())
+    until(
+        alloc,
+        BranchOp::Beq,
+        scratch,
+        RightOperand::Number(0),
+        turn.as_slice(),
+    )
 }

@@ -3,3 +3,5 @@ pub mod Copying
 pub mod Cells
 pub mod Bytes
 pub mod Fills
+pub mod Words
+pub mod Tagged

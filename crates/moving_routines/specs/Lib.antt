@@ -1,3 +1,4 @@
 pub mod Copying
 pub mod Moving
 pub mod Filling
+pub mod Tagged

@@ -7,4 +7,4 @@ mod lists;
 pub mod moving;
 
 pub use crate::filling::fill;
-pub use crate::moving::move_bytes;
+pub use crate::moving::{move_bytes, move_tagged};

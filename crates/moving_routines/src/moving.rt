@@ -3,15 +3,18 @@
 ghost use Rattle.std.specs.Prelude.{◌≡◌, ℕ, ◌+◌, ◌≤◌, ◌<◌, ◌^◌, ◌++◌, IfOk, [], ◌∷◌, length};
 ghost use Rattle.addr_map.specs.Places.{AreMapped};
 ghost use Rattle.flat_routines.specs.Registers.{AreBelow};
-ghost use Rattle.flat_actions.specs.Ranges.{IsByteMoveRoutine};
+ghost use Rattle.flat_actions.specs.Ranges.{IsByteMoveRoutine, IsTaggedMoveRoutine};
 ghost use Rattle.moving_routines.specs.Copying.{CellSize, OneByte, OneWord, choose_order, copy_loop, move_cells};
 ghost use Rattle.moving_routines.specs.Copying.{unit_of, shift_of};
 ghost use Rattle.moving_routines.specs.Moving.{move_bytes_code};
+ghost use Rattle.moving_routines.specs.Tagged.{entry_from, CopiesEntry, count_words, move_words};
 
 use crate::lists::{joined, until};
 use addr_map::AddrMap;
 use flat_meaning::{FlatInstruction, RightOperand};
+use flat_routines::Entry;
 use rv_isa::{BranchOp, LoadOp, RegOp, StoreOp};
+use shadow_space::ShadowForm;
 use std::alloc::{AllocError, Global};
 
 /// Moves as many bytes of object space as `bytes` holds from the address in `from` on to those from the address in
@@ -186,4 +189,167 @@ fn loop_instructions(
         RightOperand::Number(0),
         turn.as_slice(),
     )
+}
+
+/// Moves as many bytes of object space as `bytes` holds from the address in `from` on to those from the address in
+/// `to` on, as by `memmove`, with the entries of the whole words of the range where both places are equal modulo 8. It
+/// may write the registers from `scratch` on, and shows nothing else. The only refusal is that memory fails.
+pub fn move_tagged<S: ShadowForm>(
+    alloc: Global,
+    map: &AddrMap,
+    to: u32,
+    from: u32,
+    bytes: u32,
+    scratch: u32,
+) -> Result<Vec<FlatInstruction>, AllocError>
+    requires map { AreMapped map.now }
+    requires below { AreBelow scratch (to ∷ from ∷ bytes ∷ []) }
+    requires room { scratch + 8 ≤ 2 ^ 31 }
+    ensures does { IfOk result (λ r. IsTaggedMoveRoutine map.now S.entry (S.IsGood map.now) to from bytes scratch
+        r.items) }
+{
+    S::entries_are_local();
+    let body = entry_body::<S>(alloc, map, scratch)?;
+    let first = move_bytes(alloc, map, to, from, bytes, scratch)?;
+    let second = word_instructions(alloc, to, from, bytes, scratch, body.as_slice())?;
+    let code = joined(alloc, first.as_slice(), second.as_slice())?;
+    Ok(code)
+}
+
+// The routines of a form that copy an entry: one reads it, and one writes it.
+fn entry_body<S: ShadowForm>(
+    alloc: Global,
+    map: &AddrMap,
+    scratch: u32,
+) -> Result<Vec<FlatInstruction>, AllocError>
+    requires map { AreMapped map.now }
+    requires room { scratch + 8 ≤ 2 ^ 31 }
+    ensures does { IfOk result (λ r. CopiesEntry map.now S.entry (S.IsGood map.now) scratch r.items) }
+    ensures short { IfOk result (λ r. length r.items ≤ 128) }
+{
+    let entry = Entry {
+        base: scratch + 4,
+        bound: scratch + 5,
+        key: scratch + 6,
+        lock: scratch + 7,
+    };
+    let read = S::read_entry(alloc, map, scratch + 2, entry, scratch + 8)?;
+    let write = S::write_entry(alloc, map, scratch + 1, entry, scratch + 8)?;
+    let code = joined(alloc, read.as_slice(), write.as_slice())?;
+    Ok(code)
+}
+
+fn word_instructions(
+    alloc: Global,
+    to: u32,
+    from: u32,
+    bytes: u32,
+    scratch: u32,
+    body: &[FlatInstruction],
+) -> Result<Vec<FlatInstruction>, AllocError>
+    requires room { scratch + 8 ≤ 2 ^ 31 }
+    requires short { length body.now ≤ 128 }
+    ensures { IfOk result (λ r. r.items ≡ move_words to from bytes scratch body.now) }
+{
+    let count = count_instructions(alloc, to, from, bytes, scratch)?;
+    let cells = cell_instructions(alloc, 8, 3, scratch, body)?;
+    joined(alloc, count.as_slice(), cells.as_slice())
+}
+
+fn count_instructions(
+    alloc: Global,
+    to: u32,
+    from: u32,
+    bytes: u32,
+    scratch: u32,
+) -> Result<Vec<FlatInstruction>, AllocError>
+    requires room { scratch + 8 ≤ 2 ^ 31 }
+    ensures { IfOk result (λ r. r.items
+        ≡ count_words to from bytes scratch (scratch + 1) (scratch + 2) (scratch + 3)) }
+{
+    let count = scratch;
+    let first = scratch + 1;
+    let source = scratch + 2;
+    let work = scratch + 3;
+    let code = [
+        // whether both places are equal modulo 8
+        FlatInstruction::Operate {
+            op: RegOp::Sub,
+            into: work,
+            left: to,
+            right: RightOperand::Register(from),
+        },
+        FlatInstruction::Operate {
+            op: RegOp::Sll,
+            into: work,
+            left: work,
+            right: RightOperand::Number(61),
+        },
+        FlatInstruction::Constant {
+            into: count,
+            value: 0,
+        },
+        FlatInstruction::Branch {
+            op: BranchOp::Bne,
+            left: work,
+            right: RightOperand::Number(0),
+            past: 9,
+        },
+        // the first whole word, and the first that ends behind the range, by number
+        FlatInstruction::Operate {
+            op: RegOp::Add,
+            into: first,
+            left: to,
+            right: RightOperand::Number(7),
+        },
+        FlatInstruction::Operate {
+            op: RegOp::Srl,
+            into: first,
+            left: first,
+            right: RightOperand::Number(3),
+        },
+        FlatInstruction::Operate {
+            op: RegOp::Add,
+            into: work,
+            left: to,
+            right: RightOperand::Register(bytes),
+        },
+        FlatInstruction::Operate {
+            op: RegOp::Srl,
+            into: work,
+            left: work,
+            right: RightOperand::Number(3),
+        },
+        FlatInstruction::Branch {
+            op: BranchOp::Bgeu,
+            left: first,
+            right: RightOperand::Register(work),
+            past: 4,
+        },
+        FlatInstruction::Operate {
+            op: RegOp::Sub,
+            into: count,
+            left: work,
+            right: RightOperand::Register(first),
+        },
+        FlatInstruction::Operate {
+            op: RegOp::Sll,
+            into: first,
+            left: first,
+            right: RightOperand::Number(3),
+        },
+        FlatInstruction::Operate {
+            op: RegOp::Sub,
+            into: source,
+            left: from,
+            right: RightOperand::Register(to),
+        },
+        FlatInstruction::Operate {
+            op: RegOp::Add,
+            into: source,
+            left: source,
+            right: RightOperand::Register(first),
+        },
+    ];
+    Vec::from_slice(alloc, &code)
 }

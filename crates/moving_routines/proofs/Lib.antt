@@ -5,3 +5,5 @@ pub mod Bytes
 pub mod Fills
 pub mod Words
 pub mod Tagged
+pub mod Judged
+pub mod Guarded

@@ -2,3 +2,4 @@ pub mod Copying
 pub mod Moving
 pub mod Filling
 pub mod Tagged
+pub mod Library

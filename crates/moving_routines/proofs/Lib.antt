@@ -10,3 +10,4 @@ pub mod Guarded
 pub mod Moves
 pub mod Acts
 pub mod Sets
+pub mod Copies

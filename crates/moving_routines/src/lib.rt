@@ -6,7 +6,9 @@ pub mod filling;
 pub mod library;
 mod lists;
 pub mod moving;
+pub mod structures;
 
 pub use crate::filling::fill;
 pub use crate::library::{memmove, memset};
 pub use crate::moving::{move_bytes, move_tagged};
+pub use crate::structures::copy_structure;

@@ -1,5 +1,5 @@
 -- The bytes with which the direct form begins.
-use Rattle.std.proofs.Common.{◌≡◌, ℕ, zero, suc, ◌+◌, ◌-◌, ◌*◌, ◌≤◌, List, [], ◌∷◌, drop, length}
+use Rattle.std.proofs.Common.{◌≡◌, ℕ, ◌+◌, ◌-◌, ◌*◌, ◌≤◌, List, [], ◌∷◌, drop, length}
 use Rattle.std.proofs.Common.{replicate, refl}
 use Rattle.std.proofs.Common.{◌∙◌, subst, sym, arith}
 use Rattle.std.proofs.lemmas.List.{length-replicate}
@@ -13,7 +13,7 @@ use Rattle.shadow_space.specs.Start.{metadata_of, IsStartEntry, AreStartEntries,
 use Rattle.shadow_space.specs.Direct.{direct_entry, direct_put, direct_start}
 use Rattle.shadow_space.proofs.Entries.{other_entry, direct_local}
 use Rattle.shadow_space.proofs.Starting.{Agrees, entry_agrees, length_entry, global_word, HasEntry, have_entries, started}
-use Rattle.shadow_space.proofs.Starting.{place_of_word, zeros_agree}
+use Rattle.shadow_space.proofs.Starting.{place_of_word, past_end, zeros_agree}
 
 abbrev written : Bytes → StartEntry → Bytes
 written m e = store_four m (4 * e.at) (metadata_of e)
@@ -59,17 +59,10 @@ direct_started s es mapped h =
     (have_entries s direct_entry (λ m. Unit {0}) written (λ m e good i. has_entry s m e i) es (λ a. 0) tt h)
     (all_agree s es (replicate size 0) (λ a. 0) h (length-replicate size 0) (zeros_agree size))
 
-past_end : (es : List StartEntry) (i : ℕ) (bytes : List ℕ) → length es ≤ i
-    → begun direct_put (drop i es) bytes ≡ bytes
-past_end [] zero bytes l = refl
-past_end [] (suc i) bytes l = refl
-past_end (e ∷ es) zero bytes l = absurd (omega arith)
-past_end (e ∷ es) (suc i) bytes l = past_end es i bytes (omega arith)
-
 -- bytes into which all entries were put
 pub bytes_started : (s : MapSizes) (es : List StartEntry) (i : ℕ) (bytes : List ℕ) → AreMapped s
     → AreStartEntries s es → length es ≤ i → begun direct_put (drop i es) bytes ≡ direct_start s es
     → StartsShadow s direct_entry (λ m. Unit {0}) es bytes
 bytes_started s es i bytes mapped h l e =
-    subst (StartsShadow s direct_entry (λ m. Unit {0}) es) (sym (sym (past_end es i bytes l) ∙ e))
+    subst (StartsShadow s direct_entry (λ m. Unit {0}) es) (sym (sym (past_end direct_put es i bytes l) ∙ e))
     (direct_started s es mapped h)

@@ -75,7 +75,7 @@ word_agrees bytes m o w room h i =
     (cases_lt i (o + 8)))
     (cases_lt i o)
 
-length_word : (bytes : List ℕ) (o w : ℕ) → o + 8 ≤ length bytes → length (with_word o w bytes) ≡ length bytes
+pub length_word : (bytes : List ℕ) (o w : ℕ) → o + 8 ≤ length bytes → length (with_word o w bytes) ≡ length bytes
 length_word bytes o w l =
     let front = length-take-le o bytes (omega arith) in
     let all = length-append (take o bytes) (to_le_bytes w64 w ++ drop (o + 8) bytes) in
@@ -186,6 +186,14 @@ place_of_word s a w = omega (arith, w.first, w.last, w.aligned)
 pub place_of_entry : (s : MapSizes) (es : List StartEntry) (i : ℕ) (d : StartEntry) → i < length es
     → AreStartEntries s (drop i es) → 4 * ((get_or es i d).at - objects_begin) + 32 ≤ 4 * whole_pages s.global_bytes
 place_of_entry s es i d l h = place_of_word s (get_or es i d).at (entry_at s es i d l h).word
+
+-- none is left
+pub past_end : {A : Type 0} (put : A → StartEntry → A) (es : List StartEntry) (i : ℕ) (x : A) → length es ≤ i
+    → begun put (drop i es) x ≡ x
+past_end put [] zero x l = refl
+past_end put [] (suc i) x l = refl
+past_end put (e ∷ es) zero x l = absurd (omega arith)
+past_end put (e ∷ es) (suc i) x l = past_end put es i x (omega arith)
 
 -- ---- a region of zeros
 

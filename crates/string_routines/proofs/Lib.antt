@@ -1,0 +1,4 @@
+pub mod Looking
+pub mod Runtime
+pub mod ScanLoop
+pub mod Scans

@@ -1,0 +1,38 @@
+-- Strings scanned in flat code.
+use Rattle.std.specs.Prelude.{ℕ, ◌+◌, List, [], ◌∷◌, ◌++◌, length}
+use Rattle.sb_base.specs.declared.ending.Ending.TheVariants.{Spatial}
+use Rattle.rv_isa.specs.declared.instruction.BranchOp.TheVariants.{Beq, Bne}
+use Rattle.rv_isa.specs.declared.instruction.RegOp.TheVariants.{Add}
+use Rattle.rv_isa.specs.declared.instruction.LoadOp.TheVariants.{Lbu}
+use Rattle.flat_meaning.specs.declared.instruction.RightOperand.TheVariants.{Register, Number}
+use Rattle.flat_meaning.specs.declared.instruction.FlatInstruction.{FlatInstruction}
+use Rattle.flat_meaning.specs.declared.instruction.FlatInstruction.TheVariants.{Constant, Move, Operate, Load, Branch}
+use Rattle.flat_meaning.specs.declared.instruction.FlatInstruction.TheVariants.{JumpBack, End}
+use Rattle.flat_routines.specs.declared.registers.Held.{Held}
+use Rattle.flat_judging.specs.Judging.{judge_code}
+
+-- From the byte at the cursor on to the first 0 byte. Behind each other byte comes what a limit asks for, and then the
+-- bound: the cursor may not go on from it.
+abbrev pub scan_loop : (cursor byte bound line : ℕ) → (limited : List FlatInstruction) → List FlatInstruction
+scan_loop c b bound line limited =
+    Load Lbu b c 0
+    ∷ Branch Beq b (Number 0) (4 + length limited)
+    ∷ Operate Add c c (Number 1)
+    ∷ (limited ++ Branch Bne c (Register bound) 1 ∷ End (Spatial line) ∷ JumpBack (5 + length limited) ∷ [])
+
+-- the first byte is judged as an access of its own, in bounds and in life
+abbrev pub first_judged : Held → (cursor line scratch : ℕ) → (loop : List FlatInstruction) → List FlatInstruction
+first_judged h c line t loop =
+    Constant t 1 ∷ (judge_code h t line (t + 1) ++ Move c h.value ∷ loop)
+
+abbrev pub scan_code : Held → (cursor line scratch : ℕ) → List FlatInstruction
+scan_code h c line t = first_judged h c line t (scan_loop c t h.tag.bound line [])
+
+-- it ends where the cursor has passed the limit
+abbrev pub at_limit : (cursor end : ℕ) → List FlatInstruction
+at_limit c end = Branch Beq c (Register end) 3 ∷ []
+
+abbrev pub scan_at_most_code : Held → (cursor line limit scratch : ℕ) → List FlatInstruction
+scan_at_most_code h c line limit t =
+    first_judged h c line t
+    (Operate Add (t + 1) h.value (Register limit) ∷ scan_loop c t h.tag.bound line (at_limit c (t + 1)))

@@ -2,3 +2,4 @@ pub mod Looking
 pub mod Runtime
 pub mod ScanLoop
 pub mod Scans
+pub mod ScanRoutines

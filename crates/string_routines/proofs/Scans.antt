@@ -39,7 +39,8 @@ use Rattle.flat_routines.proofs.Rules.{weaken, line_on, branch, arrived}
 use Rattle.flat_routines.proofs.Distinct.{AreRegisters, register_of, registers_rename, others_stay}
 use Rattle.flat_routines.proofs.Regions.{IsLaidOut, laid_out}
 use Rattle.flat_routines.proofs.Wrapped.{routine_that_may_end}
-use Rattle.flat_objects.specs.StandsFor.{Views, Keys, Spells, StandsFor}
+use Rattle.flat_meaning.proofs.Stored.{put_other}
+use Rattle.flat_objects.specs.StandsFor.{Views, Keys, Spells, StandsFor, spell}
 use Rattle.shadow_space.proofs.Entries.{agrees_shows, agrees_memory}
 use Rattle.space_routines.proofs.Quiet.{shows_both}
 use Rattle.flat_judging.specs.Judging.{judge_code, IsToJudge, IsSameBut}
@@ -70,7 +71,7 @@ prepare true = Move 6 0 ∷ Operate Add 8 0 (Register 5) ∷ []
 abbrev own_loop : Bool → (line : ℕ) → List FlatInstruction
 own_loop l line = scan_loop 6 7 2 line (limit_code l)
 
-abbrev own_code : Bool → (line : ℕ) → List FlatInstruction
+abbrev pub own_code : Bool → (line : ℕ) → List FlatInstruction
 own_code l line = Constant 7 1 ∷ (judge_code own 7 line 8 ++ (prepare l ++ own_loop l line))
 
 -- what stands behind the count of bytes
@@ -188,3 +189,195 @@ module _ (c : Context) (runtime : c.is_runtime ≡ true) (code : List FlatInstru
                 (λ t. absurd (differ (if_equal (f.values 6) (f.values 8) t)))
                 (λ t. r.reaches));
           }
+
+-- ---- the whole routine alone
+
+loop_at : (l : Bool) (line : ℕ) → 11 + length (prepare l) + 6 + length (limit_code l) ≡ length (own_code l line)
+loop_at false line = refl
+loop_at true line = refl
+
+few_prepare : (l : Bool) → length (prepare l) ≤ 2
+few_prepare false = omega arith
+few_prepare true = omega arith
+
+-- the registers of the loop are set
+record IsReady (c : Context) (l : Bool) (n : ℕ) (z : State) : Type 0 where
+  allowed : AreAllowed c (prepare l) z
+  cursor : (effects c (prepare l) z).values 6 ≡ z.values 0
+  bound : (effects c (prepare l) z).values 2 ≡ z.values 2
+  left : IsLeft l n ((effects c (prepare l) z).values 6) ((effects c (prepare l) z).values 2)
+      ((effects c (prepare l) z).values 8)
+  memory : (effects c (prepare l) z).memory ≡ z.memory
+  shows : ShowsNothing z (effects c (prepare l) z)
+
+ready : (c : Context) (l : Bool) (v : Value) (n limit : ℕ) (a : IsAround v.tag v.word) (z : State) → IsOfWords z
+    → IsCount l v n limit → z.values 0 ≡ v.word → z.values 2 ≡ a.bounds.bound → z.values 5 ≡ limit → IsReady c l n z
+unfolding put reg_result
+ready c false v n limit a z w count word bound five =
+    let r = reach_is v a.number a.bounds a.tag_is in let below = a.below in
+    record {
+      allowed = (tt, tt);
+      cursor = refl;
+      bound = refl;
+      left = omega arith;
+      memory = refl;
+      shows = record { input = refl; output = refl; taken = refl; accesses = refl; turns = refl };
+    }
+ready c true v n limit a z w count word bound five =
+    let is = count.0 in let small = w.values 5 in
+    record {
+      allowed = (tt, (tt, tt));
+      cursor = refl;
+      bound = refl;
+      left = (ap (λ q. (z.values 0 + q) % 2 ^ 64) (sym (five ∙ is)), omega arith);
+      memory = refl;
+      shows = record { input = refl; output = refl; taken = refl; accesses = refl; turns = refl };
+    }
+
+-- the bytes between the bounds of a pointer to a live object
+string_of : (g : Views) (k : Keys) (objects : Objects) (n : ℕ) (b : Bounds) (m : Bytes) → IsLaidOut g.sizes
+    → StandsFor g k objects m → (object_at objects n).is_live ≡ true → IsTagOf objects n b
+    → IsString g.sizes g.functions objects n b m
+string_of g k objects n b m ok st live t =
+    let o = object_at objects n in
+    let p = st.placed n live in
+    let lo = t.base in let hi = t.bound in let first = p.first in let last = p.last in let small = ok.small in
+    record {
+      sound = st.sound;
+      live = live;
+      small = omega arith;
+      allowed = λ a l h. objects_allowed g.sizes a 1 (omega arith) (omega arith);
+      bytes = λ a l h.
+          let e : o.address + (a - o.address) ≡ a = omega arith in
+          subst (λ z. m z ≡ get_or o.bytes (a - o.address) 0) e ((st.here n live).bytes (a - o.address) (omega arith));
+    }
+
+module _ (ground : Ground) (runtime : ground.is_runtime ≡ true) (mapped : AreMapped ground.map) (line : ℕ) (l : Bool)
+    (functions : ℕ) (types : ℕ → ℕ) (k : Keys) (x : Source) (v : Value) (n charge weight : ℕ) where
+  abbrev g : Views
+  g = views_of ground.map functions types ground.entry
+
+  abbrev c : Context
+  c = context_in ground charge weight
+
+  abbrev scanning : Run (List ℕ)
+  scanning = scan_within n (behind_of l line) v line
+
+  abbrev R : State → Outcome → Type 0
+  R f = Found f x v.word (scanning x)
+
+  -- what is known before
+  pub record IsToScan (f : State) : Type 0 where
+    pub objects : StandsFor g k x.objects f.memory
+    pub spells : Spells g k v own f.values
+    pub sound : IsSoundTag functions x.objects v.tag
+    pub count : IsCount l v n (f.values 5)
+
+  abbrev sized : State → State
+  sized f = effects c (Constant 7 1 ∷ []) f
+
+  record IsSized (f : State) : Type 0 where
+    to_judge : IsToJudge g k x.objects v 1 own 7 (sized f)
+    words : IsOfWords (sized f)
+    kept : (r : ℕ) → r < 6 → (sized f).values r ≡ f.values r
+
+  is_sized : (f : State) → IsOfWords f → IsToScan f → IsSized f
+  unfolding put
+  is_sized f w p = record {
+    to_judge = record {
+      stands = p.objects;
+      sound = p.sound;
+      spells = record { word = p.spells.word; tag = p.spells.tag };
+      size_is = refl;
+      some = omega arith;
+    };
+    words = record { values = λ r. small r (cases_eq r 7); memory = w.memory };
+    kept = λ r less. put_other f.values 7 1 r (λ e. omega (arith, e));
+  }
+    where
+      small : (r : ℕ) → (r ≡ 7) ⊎ (r ≢ 7) → put f.values 7 1 r < 2 ^ 64
+      small r (inl e) = subst (λ z. z < 2 ^ 64) (sym (ap (put f.values 7 1) e)) (omega arith)
+      small r (inr ne) = subst (λ z. z < 2 ^ 64) (sym (put_other f.values 7 1 r ne)) (w.values r)
+
+  pub scans_alone : (f : State) → IsOfWords f → IsToScan f
+      → Reaches c (own_code l line) (16 + 8 * work_of scanning x) (Goes 0 f) (length (own_code l line)) (R f)
+  scans_alone f w p =
+      let code = own_code l line in
+      let has = has_self code in
+      let W = work_of scanning x in
+      let end = length code in
+      let s = is_sized f w p in
+      let rest = has_back code 1 (judge_code own 7 line 8) (prepare l ++ own_loop l line) has.1 in
+      let below : AreBelow 8 (7 ∷ held_registers own) =
+      (omega arith, (omega arith, (omega arith, (omega arith, (omega arith, (omega arith, tt)))))) in
+      let run = (judges own 7 line 8 below g k x.objects v 1 ground.is_runtime charge weight mapped).from code 1 (sized f)
+      (has_front code 1 (judge_code own 7 line 8) (prepare l ++ own_loop l line) has.1) s.words s.to_judge in
+      weaken c code (1 + (10 + (2 + 6 * W))) (16 + 8 * W) (Goes 0 f) end (R f) (R f) (omega arith) (λ o i. i)
+      (line_on c code (Constant 7 1 ∷ []) (10 + (2 + 6 * W)) 0 f end (R f) (tt, tt) (has.0, tt)
+      (after_judge c code 10 (2 + 6 * W) 1 11 end (sized f) line 8 (judge 1 v x.objects) (R f) s.words run
+      (λ e f' same. subst (λ r. Found f x v.word r (Halts (code_of (Spatial line)) (report_of (Spatial line)) f'))
+      (sym (scan_outside n (behind_of l line) x v line (none_left l line x v n (f.values 5) p.count) e))
+      (refl, refl, no_work x, shows_from f f' same))
+      (λ e f' same. subst (λ r. Found f x v.word r (Halts (code_of (Temporal line)) (report_of (Temporal line)) f'))
+      (sym (scan_dead n (behind_of l line) x v line
+      (some_left l v n (f.values 5) p.count (around x.objects v Dead e (λ q. let z : Dead ≡ Outside = q in cc))) e))
+      (refl, refl, no_work x, shows_from f f' same))
+      (λ q e f' words same. inside f w p s rest q e f' words same)))
+    where
+      shows_from : (f f' : State) → IsSameBut 8 (sized f) f' → ShowsNothing f f'
+      shows_from f f' same = let h = same.shows in record {
+        input = h.input;
+        output = h.output;
+        taken = h.taken;
+        accesses = h.accesses;
+        turns = h.turns;
+      }
+
+      inside : (f : State) → IsOfWords f → IsToScan f → IsSized f → HasAt (own_code l line) 11 (prepare l ++ own_loop l line)
+          → (q : Place) → judge 1 v x.objects ≡ Inside q → (f' : State) → IsOfWords f' → IsSameBut 8 (sized f) f'
+          → Reaches c (own_code l line) (2 + 6 * work_of scanning x) (Goes 11 f') (length (own_code l line)) (R f)
+      inside f w p s rest q e f' words same =
+          let code = own_code l line in
+          let W = work_of scanning x in
+          let a = around x.objects v (Inside q) e (λ d. let z : Inside q ≡ Outside = d in cc) in
+          let live = lives x.objects v a.number a.bounds q a.tag_is e in
+          let tag = subst (IsSoundTag functions x.objects) a.tag_is p.sound in
+          let spelled = p.spells in
+          let word : f'.values 0 ≡ v.word = same.others 0 (omega arith) tt ∙ s.kept 0 (omega arith) ∙ spelled.word in
+          let bound : f'.values 2 ≡ a.bounds.bound = same.others 2 (omega arith) tt ∙ s.kept 2 (omega arith)
+          ∙ ap (λ z. z.bound) spelled.tag ∙ ap (λ z. (spell g k z).bound) a.tag_is in
+          let five : f'.values 5 ≡ f.values 5 = same.others 5 (omega arith) tt ∙ s.kept 5 (omega arith) in
+          let h = ready c l v n (f.values 5) a f' words p.count word bound five in
+          let y = effects c (prepare l) f' in
+          let some = some_left l v n (f.values 5) p.count a in
+          let n_is : suc (n - 1) ≡ n = omega arith in
+          let string = string_of g k x.objects a.number a.bounds f.memory (laid_out ground.map mapped) p.objects live tag in
+          let has_loop = has_back code 11 (prepare l) (own_loop l line) rest in
+          let below = a.below in
+          let r = scanned c runtime code (11 + length (prepare l)) line (limit_code l) (behind_of l line) (IsLeft l)
+          has_loop (step_left l) functions x.objects a.number a.bounds f string
+          (tail c runtime code (11 + length (prepare l)) line functions x.objects a.number a.bounds f string l has_loop)
+          (n - 1) x v y (omega arith) (record {
+            objects_are = refl;
+            tag_is = a.tag_is;
+            from = a.from;
+            within = omega arith;
+            cursor_is = h.cursor ∙ word;
+            bound_is = h.bound ∙ bound;
+            left = subst (λ z. IsLeft l z (y.values 6) (y.values 2) (y.values 8)) (sym n_is) h.left;
+            memory = h.memory ∙ same.memory;
+            shows = shows_both f f' y (shows_from f f' same) h.shows;
+          }) in
+          let done_is : (state_of (scanning x)).work ≡ x.work + r.spent =
+          subst (λ z. (state_of (scan_within z (behind_of l line) v line x)).work ≡ x.work + r.spent) n_is r.work in
+          let spent : W ≡ r.spent = omega (arith, done_is) in
+          let few = few_prepare l in
+          let last = loop_at l line in
+          weaken c code (length (prepare l) + (6 * r.spent + 0)) (2 + 6 * W) (Goes 11 f') (length code) (R f) (R f)
+          (omega arith) (λ o i. i)
+          (line_on c code (prepare l) (6 * r.spent + 0) 11 f' (length code) (R f) h.allowed
+          (has_front code 11 (prepare l) (own_loop l line) rest)
+          (subst (λ z. Reaches c code (6 * r.spent + 0) (Goes (11 + length (prepare l)) y) z (R f)) last
+          (subst (λ z. Reaches c code (6 * r.spent + 0) (Goes (11 + length (prepare l)) y)
+          (11 + length (prepare l) + 6 + length (limit_code l)) (Found f x v.word (scan_within z (behind_of l line) v line x)))
+          n_is r.reaches)))

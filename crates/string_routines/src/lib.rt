@@ -1,2 +1,10 @@
 //! Strings in flat code: the library's routines on them as whole actions, by functions of the runtime.
+//!
+//! A string is scanned by a loop that judges its first byte as an access of its own and each other against the bound
+//! alone: its object cannot die in between.
 #![tactic(auto)]
+
+mod lists;
+pub mod scanning;
+
+pub use crate::scanning::{scan, scan_at_most};

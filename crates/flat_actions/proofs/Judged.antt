@@ -62,7 +62,8 @@ module _ (c : Context) (code : List FlatInstruction) where
       (subst (λ r. R (Halts (code_of (Temporal line)) r f')) (sym h.1) (dead refl f' h.2))))
   after_judge a b pc middle end f line t (Inside p) R words run out dead inside =
       next c code a b (Goes pc f) middle end (IsSameBut t f) Never R words
-      (weaken c code a a (Goes pc f) middle (IsJudged (Inside p) line t f) (Either (IsSameBut t f) Never) (omega arith) by run)
+      (weaken c code a a (Goes pc f) middle (IsJudged (Inside p) line t f) (Either (IsSameBut t f) Never)
+      (omega arith) by run)
       (λ f' words' same. inside p refl f' words' same)
       (λ status report f' never. absurd never)
     where

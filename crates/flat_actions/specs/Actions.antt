@@ -1,5 +1,5 @@
--- A list of flat instructions as a whole action: what it does to a memory that stands for the objects of a source is what
--- a run of the source does to these objects.
+-- A list of flat instructions as a whole action: what it does to a memory that stands for the objects of a source is
+-- what a run of the source does to these objects.
 use Rattle.std.specs.Prelude.{◌≡◌, ℕ, ◌+◌, ◌-◌, ◌*◌, ◌<◌, ◌≤◌, ◌⊎◌, Bool, true, List, [], ◌∷◌, length}
 use Rattle.sb_base.specs.declared.ending.Ending.{Ending}
 use Rattle.sb_base.specs.Endings.{code_of, report_of}
@@ -135,8 +135,8 @@ work_of run x = (state_of (run x)).work - x.work
 
 -- ---- actions
 
--- the map, how entries are read, what holds of the shadow space, and whether the action is in a function of the runtime:
--- then its accesses of object space are not shown
+-- the map, how entries are read, what holds of the shadow space, and whether the action is in a function of the
+-- runtime: then its accesses of object space are not shown
 pub record Ground : Type 1 where
   pub map : MapSizes
   pub entry : View

@@ -43,12 +43,12 @@ use Rattle.flat_meaning.proofs.Stored.{put_other}
 use Rattle.flat_objects.specs.StandsFor.{Views, Keys, Spells, StandsFor, spell}
 use Rattle.shadow_space.proofs.Entries.{agrees_shows, agrees_memory}
 use Rattle.space_routines.proofs.Quiet.{shows_both}
-use Rattle.flat_judging.specs.Judging.{judge_code, IsToJudge, IsSameBut}
+use Rattle.flat_judging.specs.Judging.{IsToJudge}
 use Rattle.flat_judging.proofs.Judges.{judges}
 use Rattle.flat_actions.specs.Actions.{Ground, Pointer, IsHeldBy, IsFor, context_in, views_of, work_of}
 use Rattle.flat_actions.specs.Scanning.{IsWorked, HasScanned, IsScanned}
 use Rattle.flat_actions.proofs.Judged.{after_judge}
-use Rattle.string_routines.specs.Scanning.{scan_loop, first_judged, at_limit}
+use Rattle.string_routines.specs.Scanning.{scan_loop, at_limit}
 use Rattle.string_routines.proofs.Looking.{IsAround, around, lives, reach_is, scan_by, scan_outside, scan_dead, beyond}
 use Rattle.string_routines.proofs.Runtime.{objects_allowed}
 use Rattle.string_routines.proofs.ScanLoop.{IsString, HasFound, Found, no_work, if_equal, if_unequal, IsAt, Scans, Again}
@@ -71,8 +71,8 @@ prepare true = Move 6 0 ∷ Operate Add 8 0 (Register 5) ∷ []
 abbrev own_loop : Bool → (line : ℕ) → List FlatInstruction
 own_loop l line = scan_loop 6 7 2 line (limit_code l)
 
-abbrev pub own_code : Bool → (line : ℕ) → List FlatInstruction
-own_code l line = Constant 7 1 ∷ (judge_code own 7 line 8 ++ (prepare l ++ own_loop l line))
+abbrev pub own_turns : Bool → (line : ℕ) → List FlatInstruction
+own_turns l line = prepare l ++ own_loop l line
 
 -- what stands behind the count of bytes
 abbrev pub behind_of : Bool → (line : ℕ) → Run (List ℕ)
@@ -96,12 +96,12 @@ step_left true k p b e h =
     let small = h.1 in
     (ap (λ z. z % 2 ^ 64) (sym same) ∙ h.0, omega arith)
 
-none_left : (l : Bool) (line : ℕ) (x : Source) (v : Value) (n limit : ℕ) → IsCount l v n limit → n ≡ 0
+pub none_left : (l : Bool) (line : ℕ) (x : Source) (v : Value) (n limit : ℕ) → IsCount l v n limit → n ≡ 0
     → behind_of l line x ≡ Ended (Spatial line) x
 none_left false line x v n limit h e = refl
 none_left true line x v n limit h e = absurd (let some = h.1 in omega arith)
 
-some_left : (l : Bool) (v : Value) (n limit : ℕ) → IsCount l v n limit → IsAround v.tag v.word → 1 ≤ n
+pub some_left : (l : Bool) (v : Value) (n limit : ℕ) → IsCount l v n limit → IsAround v.tag v.word → 1 ≤ n
 some_left false v n limit h a =
     let r = reach_is v a.number a.bounds a.tag_is in let below = a.below in omega arith
 some_left true v n limit h a = h.1
@@ -190,11 +190,11 @@ module _ (c : Context) (runtime : c.is_runtime ≡ true) (code : List FlatInstru
                 (λ t. r.reaches));
           }
 
--- ---- the whole routine alone
+-- ---- the turns alone
 
-loop_at : (l : Bool) (line : ℕ) → 11 + length (prepare l) + 6 + length (limit_code l) ≡ length (own_code l line)
-loop_at false line = refl
-loop_at true line = refl
+turns_end : (l : Bool) (line : ℕ) → length (prepare l) + 6 + length (limit_code l) ≡ length (own_turns l line)
+turns_end false line = refl
+turns_end true line = refl
 
 few_prepare : (l : Bool) → length (prepare l) ≤ 2
 few_prepare false = omega arith
@@ -266,118 +266,59 @@ module _ (ground : Ground) (runtime : ground.is_runtime ≡ true) (mapped : AreM
   abbrev R : State → Outcome → Type 0
   R f = Found f x v.word (scanning x)
 
-  -- what is known before
+  -- what is known where the first byte was judged
   pub record IsToScan (f : State) : Type 0 where
     pub objects : StandsFor g k x.objects f.memory
     pub spells : Spells g k v own f.values
     pub sound : IsSoundTag functions x.objects v.tag
     pub count : IsCount l v n (f.values 5)
-
-  abbrev sized : State → State
-  sized f = effects c (Constant 7 1 ∷ []) f
-
-  record IsSized (f : State) : Type 0 where
-    to_judge : IsToJudge g k x.objects v 1 own 7 (sized f)
-    words : IsOfWords (sized f)
-    kept : (r : ℕ) → r < 6 → (sized f).values r ≡ f.values r
-
-  is_sized : (f : State) → IsOfWords f → IsToScan f → IsSized f
-  unfolding put
-  is_sized f w p = record {
-    to_judge = record {
-      stands = p.objects;
-      sound = p.sound;
-      spells = record { word = p.spells.word; tag = p.spells.tag };
-      size_is = refl;
-      some = omega arith;
-    };
-    words = record { values = λ r. small r (cases_eq r 7); memory = w.memory };
-    kept = λ r less. put_other f.values 7 1 r (λ e. omega (arith, e));
-  }
-    where
-      small : (r : ℕ) → (r ≡ 7) ⊎ (r ≢ 7) → put f.values 7 1 r < 2 ^ 64
-      small r (inl e) = subst (λ z. z < 2 ^ 64) (sym (ap (put f.values 7 1) e)) (omega arith)
-      small r (inr ne) = subst (λ z. z < 2 ^ 64) (sym (put_other f.values 7 1 r ne)) (w.values r)
+    pub place : Place
+    pub judged : judge 1 v x.objects ≡ Inside place
 
   pub scans_alone : (f : State) → IsOfWords f → IsToScan f
-      → Reaches c (own_code l line) (16 + 8 * work_of scanning x) (Goes 0 f) (length (own_code l line)) (R f)
+      → Reaches c (own_turns l line) (2 + 6 * work_of scanning x) (Goes 0 f) (length (own_turns l line)) (R f)
   scans_alone f w p =
-      let code = own_code l line in
+      let code = own_turns l line in
       let has = has_self code in
       let W = work_of scanning x in
-      let end = length code in
-      let s = is_sized f w p in
-      let rest = has_back code 1 (judge_code own 7 line 8) (prepare l ++ own_loop l line) has.1 in
-      let below : AreBelow 8 (7 ∷ held_registers own) =
-      (omega arith, (omega arith, (omega arith, (omega arith, (omega arith, (omega arith, tt)))))) in
-      let run = (judges own 7 line 8 below g k x.objects v 1 ground.is_runtime charge weight mapped).from code 1 (sized f)
-      (has_front code 1 (judge_code own 7 line 8) (prepare l ++ own_loop l line) has.1) s.words s.to_judge in
-      weaken c code (1 + (10 + (2 + 6 * W))) (16 + 8 * W) (Goes 0 f) end (R f) (R f) (omega arith) (λ o i. i)
-      (line_on c code (Constant 7 1 ∷ []) (10 + (2 + 6 * W)) 0 f end (R f) (tt, tt) (has.0, tt)
-      (after_judge c code 10 (2 + 6 * W) 1 11 end (sized f) line 8 (judge 1 v x.objects) (R f) s.words run
-      (λ e f' same. subst (λ r. Found f x v.word r (Halts (code_of (Spatial line)) (report_of (Spatial line)) f'))
-      (sym (scan_outside n (behind_of l line) x v line (none_left l line x v n (f.values 5) p.count) e))
-      (refl, refl, no_work x, shows_from f f' same))
-      (λ e f' same. subst (λ r. Found f x v.word r (Halts (code_of (Temporal line)) (report_of (Temporal line)) f'))
-      (sym (scan_dead n (behind_of l line) x v line
-      (some_left l v n (f.values 5) p.count (around x.objects v Dead e (λ q. let z : Dead ≡ Outside = q in cc))) e))
-      (refl, refl, no_work x, shows_from f f' same))
-      (λ q e f' words same. inside f w p s rest q e f' words same)))
-    where
-      shows_from : (f f' : State) → IsSameBut 8 (sized f) f' → ShowsNothing f f'
-      shows_from f f' same = let h = same.shows in record {
-        input = h.input;
-        output = h.output;
-        taken = h.taken;
-        accesses = h.accesses;
-        turns = h.turns;
-      }
-
-      inside : (f : State) → IsOfWords f → IsToScan f → IsSized f → HasAt (own_code l line) 11 (prepare l ++ own_loop l line)
-          → (q : Place) → judge 1 v x.objects ≡ Inside q → (f' : State) → IsOfWords f' → IsSameBut 8 (sized f) f'
-          → Reaches c (own_code l line) (2 + 6 * work_of scanning x) (Goes 11 f') (length (own_code l line)) (R f)
-      inside f w p s rest q e f' words same =
-          let code = own_code l line in
-          let W = work_of scanning x in
-          let a = around x.objects v (Inside q) e (λ d. let z : Inside q ≡ Outside = d in cc) in
-          let live = lives x.objects v a.number a.bounds q a.tag_is e in
-          let tag = subst (IsSoundTag functions x.objects) a.tag_is p.sound in
-          let spelled = p.spells in
-          let word : f'.values 0 ≡ v.word = same.others 0 (omega arith) tt ∙ s.kept 0 (omega arith) ∙ spelled.word in
-          let bound : f'.values 2 ≡ a.bounds.bound = same.others 2 (omega arith) tt ∙ s.kept 2 (omega arith)
-          ∙ ap (λ z. z.bound) spelled.tag ∙ ap (λ z. (spell g k z).bound) a.tag_is in
-          let five : f'.values 5 ≡ f.values 5 = same.others 5 (omega arith) tt ∙ s.kept 5 (omega arith) in
-          let h = ready c l v n (f.values 5) a f' words p.count word bound five in
-          let y = effects c (prepare l) f' in
-          let some = some_left l v n (f.values 5) p.count a in
-          let n_is : suc (n - 1) ≡ n = omega arith in
-          let string = string_of g k x.objects a.number a.bounds f.memory (laid_out ground.map mapped) p.objects live tag in
-          let has_loop = has_back code 11 (prepare l) (own_loop l line) rest in
-          let below = a.below in
-          let r = scanned c runtime code (11 + length (prepare l)) line (limit_code l) (behind_of l line) (IsLeft l)
-          has_loop (step_left l) functions x.objects a.number a.bounds f string
-          (tail c runtime code (11 + length (prepare l)) line functions x.objects a.number a.bounds f string l has_loop)
-          (n - 1) x v y (omega arith) (record {
-            objects_are = refl;
-            tag_is = a.tag_is;
-            from = a.from;
-            within = omega arith;
-            cursor_is = h.cursor ∙ word;
-            bound_is = h.bound ∙ bound;
-            left = subst (λ z. IsLeft l z (y.values 6) (y.values 2) (y.values 8)) (sym n_is) h.left;
-            memory = h.memory ∙ same.memory;
-            shows = shows_both f f' y (shows_from f f' same) h.shows;
-          }) in
-          let done_is : (state_of (scanning x)).work ≡ x.work + r.spent =
-          subst (λ z. (state_of (scan_within z (behind_of l line) v line x)).work ≡ x.work + r.spent) n_is r.work in
-          let spent : W ≡ r.spent = omega (arith, done_is) in
-          let few = few_prepare l in
-          let last = loop_at l line in
-          weaken c code (length (prepare l) + (6 * r.spent + 0)) (2 + 6 * W) (Goes 11 f') (length code) (R f) (R f)
-          (omega arith) (λ o i. i)
-          (line_on c code (prepare l) (6 * r.spent + 0) 11 f' (length code) (R f) h.allowed
-          (has_front code 11 (prepare l) (own_loop l line) rest)
-          (subst (λ z. Reaches c code (6 * r.spent + 0) (Goes (11 + length (prepare l)) y) z (R f)) last
-          (subst (λ z. Reaches c code (6 * r.spent + 0) (Goes (11 + length (prepare l)) y)
-          (11 + length (prepare l) + 6 + length (limit_code l)) (Found f x v.word (scan_within z (behind_of l line) v line x)))
-          n_is r.reaches)))
+      let a = around x.objects v (Inside p.place) p.judged (λ d. let z : Inside p.place ≡ Outside = d in cc) in
+      let live = lives x.objects v a.number a.bounds p.place a.tag_is p.judged in
+      let tag = subst (IsSoundTag functions x.objects) a.tag_is p.sound in
+      let spelled = p.spells in
+      let bound : f.values 2 ≡ a.bounds.bound = ap (λ z. z.bound) spelled.tag ∙ ap (λ z. (spell g k z).bound) a.tag_is in
+      let h = ready c l v n (f.values 5) a f w p.count spelled.word bound refl in
+      let y = effects c (prepare l) f in
+      let some = some_left l v n (f.values 5) p.count a in
+      let n_is : suc (n - 1) ≡ n = omega arith in
+      let string = string_of g k x.objects a.number a.bounds f.memory (laid_out ground.map mapped) p.objects live tag in
+      let has_loop = has_back code 0 (prepare l) (own_loop l line) has in
+      let below = a.below in
+      let r = scanned c runtime code (0 + length (prepare l)) line (limit_code l) (behind_of l line) (IsLeft l)
+      has_loop (step_left l) functions x.objects a.number a.bounds f string
+      (tail c runtime code (0 + length (prepare l)) line functions x.objects a.number a.bounds f string l has_loop)
+      (n - 1) x v y (omega arith) (record {
+        objects_are = refl;
+        tag_is = a.tag_is;
+        from = a.from;
+        within = omega arith;
+        cursor_is = h.cursor ∙ spelled.word;
+        bound_is = h.bound ∙ bound;
+        left = subst (λ z. IsLeft l z (y.values 6) (y.values 2) (y.values 8)) (sym n_is) h.left;
+        memory = h.memory;
+        shows = h.shows;
+      }) in
+      let done_is : (state_of (scanning x)).work ≡ x.work + r.spent =
+      subst (λ z. (state_of (scan_within z (behind_of l line) v line x)).work ≡ x.work + r.spent) n_is r.work in
+      let spent : W ≡ r.spent = omega (arith, done_is) in
+      let few = few_prepare l in
+      let last = turns_end l line in
+      let from : 0 + length (prepare l) ≡ length (prepare l) = omega arith in
+      let end : 0 + length (prepare l) + 6 + length (limit_code l) ≡ length code = omega (arith, last) in
+      weaken c code (length (prepare l) + (6 * r.spent + 0)) (2 + 6 * W) (Goes 0 f) (length code) (R f) (R f)
+      (omega arith) (λ o i. i)
+      (line_on c code (prepare l) (6 * r.spent + 0) 0 f (length code) (R f) h.allowed
+      (has_front code 0 (prepare l) (own_loop l line) has)
+      (subst (λ z. Reaches c code (6 * r.spent + 0) (Goes (0 + length (prepare l)) y) z (R f)) end
+      (subst (λ z. Reaches c code (6 * r.spent + 0) (Goes (0 + length (prepare l)) y)
+      (0 + length (prepare l) + 6 + length (limit_code l)) (Found f x v.word (scan_within z (behind_of l line) v line x)))
+      n_is r.reaches)))

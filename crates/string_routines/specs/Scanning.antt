@@ -1,5 +1,5 @@
 -- Strings scanned in flat code.
-use Rattle.std.specs.Prelude.{ℕ, ◌+◌, List, [], ◌∷◌, ◌++◌, length}
+use Rattle.std.specs.Prelude.{◌≡◌, ℕ, ◌+◌, List, [], ◌∷◌, ◌++◌, length}
 use Rattle.sb_base.specs.declared.ending.Ending.TheVariants.{Spatial}
 use Rattle.rv_isa.specs.declared.instruction.BranchOp.TheVariants.{Beq, Bne}
 use Rattle.rv_isa.specs.declared.instruction.RegOp.TheVariants.{Add}
@@ -9,7 +9,7 @@ use Rattle.flat_meaning.specs.declared.instruction.FlatInstruction.{FlatInstruct
 use Rattle.flat_meaning.specs.declared.instruction.FlatInstruction.TheVariants.{Constant, Move, Operate, Load, Branch}
 use Rattle.flat_meaning.specs.declared.instruction.FlatInstruction.TheVariants.{JumpBack, End}
 use Rattle.flat_routines.specs.declared.registers.Held.{Held}
-use Rattle.flat_judging.specs.Judging.{judge_code}
+use Rattle.flat_judging.specs.Judging.{IsJudgeRoutine}
 
 -- From the byte at the cursor on to the first 0 byte. Behind each other byte comes what a limit asks for, and then the
 -- bound: the cursor may not go on from it.
@@ -20,19 +20,20 @@ scan_loop c b bound line limited =
     ∷ Operate Add c c (Number 1)
     ∷ (limited ++ Branch Bne c (Register bound) 1 ∷ End (Spatial line) ∷ JumpBack (5 + length limited) ∷ [])
 
--- the first byte is judged as an access of its own, in bounds and in life
-abbrev pub first_judged : Held → (cursor line scratch : ℕ) → (loop : List FlatInstruction) → List FlatInstruction
-first_judged h c line t loop =
-    Constant t 1 ∷ (judge_code h t line (t + 1) ++ Move c h.value ∷ loop)
-
-abbrev pub scan_code : Held → (cursor line scratch : ℕ) → List FlatInstruction
-scan_code h c line t = first_judged h c line t (scan_loop c t h.tag.bound line [])
+-- the cursor begins at the string
+abbrev pub scan_turns : Held → (cursor line scratch : ℕ) → List FlatInstruction
+scan_turns h c line t = Move c h.value ∷ scan_loop c t h.tag.bound line []
 
 -- it ends where the cursor has passed the limit
 abbrev pub at_limit : (cursor end : ℕ) → List FlatInstruction
 at_limit c end = Branch Beq c (Register end) 3 ∷ []
 
-abbrev pub scan_at_most_code : Held → (cursor line limit scratch : ℕ) → List FlatInstruction
-scan_at_most_code h c line limit t =
-    first_judged h c line t
-    (Operate Add (t + 1) h.value (Register limit) ∷ scan_loop c t h.tag.bound line (at_limit c (t + 1)))
+abbrev pub scan_at_most_turns : Held → (cursor line limit scratch : ℕ) → List FlatInstruction
+scan_at_most_turns h c line limit t =
+    Move c h.value ∷ Operate Add (t + 1) h.value (Register limit) ∷ scan_loop c t h.tag.bound line (at_limit c (t + 1))
+
+-- the first byte is judged as an access of its own, in bounds and in life, before anything else
+pub record IsFirstJudged (h : Held) (line scratch : ℕ) (turns items : List FlatInstruction) : Type 0 where
+  pub judging : List FlatInstruction
+  pub judges : IsJudgeRoutine h scratch line (scratch + 1) judging
+  pub items_are : items ≡ Constant scratch 1 ∷ (judging ++ turns)

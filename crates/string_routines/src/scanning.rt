@@ -6,13 +6,13 @@ ghost use Rattle.source_meaning.specs.State.{done};
 ghost use Rattle.source_meaning.specs.Strings.{scan as scan_of, scan_within};
 ghost use Rattle.flat_routines.specs.Registers.{AreNoneOf, AreBelow};
 ghost use Rattle.flat_routines.specs.Metadata.{held_registers};
-ghost use Rattle.flat_judging.specs.Judging.{judge_code};
 ghost use Rattle.flat_actions.specs.Scanning.{IsScanRoutine};
 ghost use Rattle.string_routines.specs.Runtime.{in_runtime};
-ghost use Rattle.string_routines.specs.Scanning.{scan_code, scan_at_most_code, scan_loop, at_limit, first_judged};
+ghost use Rattle.string_routines.specs.Scanning.{IsFirstJudged, scan_turns, scan_at_most_turns};
 
 use crate::lists::joined;
 use addr_map::AddrMap;
+use flat_judging::judge;
 use flat_meaning::{FlatInstruction, RightOperand};
 use flat_routines::Held;
 use rv_isa::{BranchOp, LoadOp, RegOp};
@@ -34,7 +34,7 @@ pub fn scan<S: ShadowForm>(
     requires map { AreMapped map.now }
     requires apart { AreNoneOf (held_registers string) (cursor ∷ []) }
     requires below { AreBelow scratch (cursor ∷ held_registers string) }
-    requires room { scratch ≤ 2 ^ 31 }
+    requires room { scratch ≤ 2 ^ 30 }
     ensures { IfOk result (λ r. IsScanRoutine (in_runtime map.now S.entry S.IsGood) (λ v. scan_of v line) string
         (λ f. Unit {0}) cursor scratch r.items) }
 {
@@ -55,7 +55,7 @@ pub fn scan_at_most<S: ShadowForm>(
     requires map { AreMapped map.now }
     requires apart { AreNoneOf (limit ∷ held_registers string) (cursor ∷ []) }
     requires below { AreBelow scratch (cursor ∷ limit ∷ held_registers string) }
-    requires room { scratch ≤ 2 ^ 31 }
+    requires room { scratch ≤ 2 ^ 30 }
     ensures { IfOk result (λ r. (n : ℕ) → 1 ≤ n
         → IsScanRoutine (in_runtime map.now S.entry S.IsGood) (λ v. scan_within n (done []) v line) string
         (λ f. f.values limit ≡ n) cursor scratch r.items) }
@@ -71,10 +71,15 @@ pub fn scan_instructions(
     line: Line,
     scratch: u32,
 ) -> Result<Vec<FlatInstruction>, AllocError>
-    requires { scratch ≤ 2 ^ 31 }
-    ensures { IfOk result (λ r. r.items ≡ scan_code string cursor line scratch) }
+    requires below { AreBelow scratch (held_registers string) }
+    requires room { scratch ≤ 2 ^ 30 }
+    ensures { IfOk result (λ r. IsFirstJudged string line scratch (scan_turns string cursor line scratch) r.items) }
 {
     let turns = [
+        FlatInstruction::Move {
+            into: cursor,
+            from: string.value,
+        },
         FlatInstruction::Load {
             op: LoadOp::Lbu,
             into: scratch,
@@ -104,7 +109,7 @@ pub fn scan_instructions(
             back: 5,
         },
     ];
-    first_judged_instructions(alloc, string, cursor, line, scratch, &turns)
+    first_judged(alloc, string, line, scratch, &turns)
 }
 
 fn scan_at_most_instructions(
@@ -115,11 +120,17 @@ fn scan_at_most_instructions(
     limit: u32,
     scratch: u32,
 ) -> Result<Vec<FlatInstruction>, AllocError>
-    requires { scratch ≤ 2 ^ 31 }
-    ensures { IfOk result (λ r. r.items ≡ scan_at_most_code string cursor line limit scratch) }
+    requires below { AreBelow scratch (held_registers string) }
+    requires room { scratch ≤ 2 ^ 30 }
+    ensures { IfOk result (λ r. IsFirstJudged string line scratch (scan_at_most_turns string cursor line limit scratch)
+        r.items) }
 {
     let end = scratch + 1;
     let turns = [
+        FlatInstruction::Move {
+            into: cursor,
+            from: string.value,
+        },
         FlatInstruction::Operate {
             op: RegOp::Add,
             into: end,
@@ -162,31 +173,26 @@ fn scan_at_most_instructions(
             back: 6,
         },
     ];
-    first_judged_instructions(alloc, string, cursor, line, scratch, &turns)
+    first_judged(alloc, string, line, scratch, &turns)
 }
 
-// The first byte is judged, and then a loop begins with the cursor at it.
-fn first_judged_instructions(
+/// The first byte of a string is judged, and then its turns begin.
+pub fn first_judged(
     alloc: Global,
     string: Held,
-    cursor: u32,
     line: Line,
     scratch: u32,
     turns: &[FlatInstruction],
 ) -> Result<Vec<FlatInstruction>, AllocError>
-    requires { scratch ≤ 2 ^ 31 }
-    ensures { IfOk result (λ r. r.items ≡ first_judged string cursor line scratch turns.now) }
+    requires below { AreBelow scratch (held_registers string) }
+    requires room { scratch ≤ 2 ^ 30 }
+    ensures { IfOk result (λ r. IsFirstJudged string line scratch turns.now r.items) }
 {
     let size = [FlatInstruction::Constant {
         into: scratch,
         value: 1,
     }];
-    let begin = [FlatInstruction::Move {
-        into: cursor,
-        from: string.value,
-    }];
-    let judged = judge_instructions(alloc, string, scratch, line, scratch + 1)?;
-    let looped = joined(alloc, &begin, turns)?;
-    let rest = joined(alloc, &judged, &looped)?;
+    let judging = judge(alloc, string, scratch, line, scratch + 1)?;
+    let rest = joined(alloc, &judging, turns)?;
     joined(alloc, &size, &rest)
 }

@@ -3,3 +3,5 @@ pub mod Runtime
 pub mod ScanLoop
 pub mod Scans
 pub mod ScanRoutines
+pub mod AfterScan
+pub mod Strlen

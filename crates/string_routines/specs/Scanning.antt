@@ -2,7 +2,7 @@
 use Rattle.std.specs.Prelude.{◌≡◌, ℕ, ◌+◌, List, [], ◌∷◌, ◌++◌, length}
 use Rattle.sb_base.specs.declared.ending.Ending.TheVariants.{Spatial}
 use Rattle.rv_isa.specs.declared.instruction.BranchOp.TheVariants.{Beq, Bne}
-use Rattle.rv_isa.specs.declared.instruction.RegOp.TheVariants.{Add}
+use Rattle.rv_isa.specs.declared.instruction.RegOp.TheVariants.{Add, Sub}
 use Rattle.rv_isa.specs.declared.instruction.LoadOp.TheVariants.{Lbu}
 use Rattle.flat_meaning.specs.declared.instruction.RightOperand.TheVariants.{Register, Number}
 use Rattle.flat_meaning.specs.declared.instruction.FlatInstruction.{FlatInstruction}
@@ -37,3 +37,7 @@ pub record IsFirstJudged (h : Held) (line scratch : ℕ) (turns items : List Fla
   pub judging : List FlatInstruction
   pub judges : IsJudgeRoutine h scratch line (scratch + 1) judging
   pub items_are : items ≡ Constant scratch 1 ∷ (judging ++ turns)
+
+-- the length is the cursor's distance from the start
+abbrev pub length_given : Held → (cursor into : ℕ) → List FlatInstruction
+length_given h c into = Operate Sub into c (Register h.value) ∷ []

@@ -4,4 +4,5 @@ pub mod ScanLoop
 pub mod Scans
 pub mod ScanRoutines
 pub mod AfterScan
-pub mod Strlen
+pub mod LengthActs
+pub mod Fresh

@@ -4,7 +4,9 @@
 //! alone: its object cannot die in between.
 #![tactic(auto)]
 
+pub mod lengths;
 mod lists;
 pub mod scanning;
 
+pub use crate::lengths::strlen;
 pub use crate::scanning::{scan, scan_at_most};

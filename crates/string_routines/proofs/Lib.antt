@@ -6,3 +6,6 @@ pub mod ScanRoutines
 pub mod AfterScan
 pub mod LengthActs
 pub mod Fresh
+pub mod Between
+pub mod PutLoop
+pub mod PutsActs

@@ -9,3 +9,4 @@ pub mod Fresh
 pub mod Between
 pub mod PutLoop
 pub mod PutsActs
+pub mod Joins

@@ -6,7 +6,9 @@
 
 pub mod lengths;
 mod lists;
+pub mod printing;
 pub mod scanning;
 
 pub use crate::lengths::strlen;
+pub use crate::printing::{put_bytes, puts};
 pub use crate::scanning::{scan, scan_at_most};

@@ -82,7 +82,7 @@ module _ (ground : Ground) (h : Held) (into line t : ℕ) (below : AreBelow t (i
     whole code pc f has w p a =
         let len : pc + length scanning + 1 ≡ pc + length items =
         omega (arith, length-append scanning (length_given h t into)) in
-        after_scan c code (16 + 8 * work_of (scan v line) x) (17 + 8 * work_of (strlen v line) x) (λ bytes. 1) pc
+        after_scan c code (16 + 8 * work_of (scan v line) x) (17 + 8 * work_of (strlen v line) x) (λ bytes x'. 1) pc
         (pc + length scanning) (pc + length items) f v.word t (t + 1) x (scan v line x) (R f (scan v line x)) w
         ((scans functions types k x v charge weight).from code pc f
         (has_front code pc scanning (length_given h t into) has) w (p, a, tt))

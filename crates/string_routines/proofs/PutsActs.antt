@@ -7,6 +7,8 @@ use Rattle.addr_map.specs.declared.region.Region.TheVariants.{Heap}
 use Rattle.addr_map.specs.Places.{objects_begin, region_end}
 use Rattle.obj_memory.specs.declared.value.Value.{Value}
 use Rattle.source_meaning.specs.State.{State as Source, Outcome as Completed, Gives, Ended, on, ◌>>◌, done}
+use Rattle.source_meaning.specs.State.{stop}
+use Rattle.sb_base.specs.declared.ending.Ending.TheVariants.{Spatial}
 use Rattle.source_meaning.specs.Acting.{state_of, at_work}
 use Rattle.source_meaning.specs.Actions.{integer, put_bytes}
 use Rattle.source_meaning.specs.Strings.{scan}
@@ -128,7 +130,8 @@ module _ (ground : Ground) (runtime : ground.is_runtime ≡ true) (h : Held) (in
         let n = length bytes in
         let kept : f'.values h.value ≡ v.word =
         i.others h.value (omega (arith, below.1.0)) ((λ e. omega (arith, e, below.1.0)), tt) ∙ a.0.word in
-        let range = range_of g k x.objects v n f.memory p.objects a.1 (scan_between functions line x v bytes x' a.1 is) in
+        let range = range_of g k (stop (Spatial line)) x.objects v n f.memory p.objects a.1
+        (scan_between functions line x v bytes x' p.objects.sound a.1 is) in
         let first = range.first in let last = range.last in let cursor = i.cursor_is in
         let run = (does_in ground runtime charge weight putting (IsToPut ground.map h.value t n) (λ s. 2 + 5 * n)
         (λ s. Either (HasPut h.value n (t + 1) s) Never) (puts_all n charge weight)).from code pc f'
@@ -151,7 +154,7 @@ module _ (ground : Ground) (runtime : ground.is_runtime ≡ true) (h : Held) (in
         let len : pc + length scanning + length putting + 3 ≡ pc + length items =
         omega (arith, length-append scanning rest, length-append putting (newline_given into (t + 1))) in
         after_scan c code (16 + 8 * work_of (scan v line) x) (21 + 8 * work_of (puts v line) x)
-        (λ bytes. (2 + 5 * length bytes) + 3) pc
+        (λ bytes x'. (2 + 5 * length bytes) + 3) pc
         (pc + length scanning) (pc + length items) f v.word t (t + 1) x (scan v line x) (R f (scan v line x)) w
         ((scans functions types k x v charge weight).from code pc f (has_front code pc scanning rest has) w (p, a, tt))
         (λ e x' is worked. (

@@ -1,0 +1,5 @@
+pub mod Copying
+pub mod Moving
+pub mod Filling
+pub mod Tagged
+pub mod Library

@@ -3,3 +3,7 @@ pub mod DigitLoops
 pub mod DigitRoutine
 pub mod Numbers
 pub mod NumberRoutines
+pub mod Printable
+pub mod Scans
+pub mod Puts
+pub mod Prints

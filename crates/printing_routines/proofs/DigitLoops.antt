@@ -1,11 +1,10 @@
 -- The loops that put the digits of a number out.
 use Rattle.std.proofs.Common.{◌≡◌, ◌≢◌, ℕ, zero, suc, ◌+◌, ◌-◌, ◌*◌, ◌/◌, ◌%◌, ◌^◌, ◌<◌, ◌≤◌, ◌⊎◌, inl, inr, ⊎_elim}
-use Rattle.std.proofs.Common.{List, [], ◌∷◌, ◌++◌, Bool, true, false, length, refl, sym, ap, ◌∙◌, subst, arith}
-use Rattle.std.proofs.Common.{append_assoc, if◌then◌else◌}
+use Rattle.std.proofs.Common.{List, [], ◌∷◌, ◌++◌, true, false, refl, sym, ap, ◌∙◌, subst, arith}
+use Rattle.std.proofs.Common.{append_assoc}
 use Rattle.std.specs.Prelude.{nat_lt}
-use Rattle.std.specs.Fmt.{digit_glyph, digits}
+use Rattle.std.specs.Fmt.{digit_glyph}
 use Rattle.std.proofs.lemmas.Bool.{cases_lt, eq-eqb, ne_eqb, lt-ltb, le-ltb, cond-true, cond-false}
-use Rattle.std.proofs.lemmas.List.{append-nil}
 use Rattle.std.proofs.Math.Nat.{pow-zero, pow-suc, le-div_iff_mul-le, mul-div_cancel, div-eq_of_lt, mod-lt}
 use Rattle.addr_map.specs.Places.{MapSizes}
 use Rattle.rv_isa.specs.declared.instruction.BranchOp.TheVariants.{Beq, Bltu}
@@ -17,16 +16,14 @@ use Rattle.flat_meaning.specs.Memory.{put}
 use Rattle.flat_meaning.specs.State.{State}
 use Rattle.flat_meaning.specs.Words.{IsOfWords}
 use Rattle.flat_meaning.specs.Meaning.{Context, Goes}
-use Rattle.flat_routines.specs.Registers.{AreBelow}
-use Rattle.flat_routines.specs.Routine.{HasAt, Outcome, Reaches, Either, Never, until_code}
+use Rattle.flat_routines.specs.Routine.{Reaches, Either, Never, until_code}
 use Rattle.flat_routines.specs.Effects.{worked, effects}
-use Rattle.flat_routines.specs.Renaming.{through}
 use Rattle.flat_routines.proofs.Steps.{has_front, has_back, has_self}
 use Rattle.flat_routines.proofs.Rules.{weaken, next, line, line_on, loop}
 use Rattle.shadow_space.proofs.Entries.{context_of}
 use Rattle.space_routines.proofs.Quiet.{quiet_words}
 use Rattle.printing_routines.specs.Digits.{seek_power, put_digit, digits_code}
-use Rattle.printing_routines.proofs.Digits.{digits_from, IsHighest, no_power, divided_again, still_left, positive}
+use Rattle.printing_routines.proofs.DigitLists.{digits_from, IsHighest, no_power, divided_again, still_left, positive}
 
 -- ---- the operators
 
@@ -212,6 +209,7 @@ module _ (base n J : ℕ) (b : 2 ≤ base) (few : base ≤ 16) (high : IsHighest
     where
       low : (z : ℕ) → z ≤ 16 → z % 2 ^ 64 ≡ z
       low z l = omega arith
+
       below_word : (z : ℕ) → z < 2 ^ 64 → z % 2 ^ 64 ≡ z
       below_word z l = omega arith
 
@@ -256,6 +254,7 @@ module _ (base n J : ℕ) (b : 2 ≤ base) (few : base ≤ 16) (high : IsHighest
     where
       below_base : (q : ℕ) → q % base < 16
       below_base q = let l = mod-lt q {m = base} (omega arith) in omega arith
+
       glyph_byte : (d : ℕ) → d < 16 → digit_glyph false d % 256 ≡ digit_glyph false d
       glyph_byte d l = ⊎_elim
           (λ (less : d < 10). ap (λ z. z % 256) (cond-true (nat_lt d 10) (48 + d) (87 + d) (lt-ltb d 10 less))

@@ -1,13 +1,13 @@
 -- The digits of a number put out, over any registers.
-use Rattle.std.proofs.Common.{◌≡◌, ℕ, zero, suc, ◌+◌, ◌*◌, ◌%◌, ◌^◌, ◌<◌, ◌≤◌, ⊎_elim, inl, inr, List, [], ◌∷◌}
-use Rattle.std.proofs.Common.{◌++◌, true, false, length, refl, sym, ap, ◌∙◌, subst, arith}
+use Rattle.std.proofs.Common.{◌≡◌, ℕ, suc, ◌+◌, ◌*◌, ◌%◌, ◌^◌, ◌<◌, ◌≤◌, [], ◌∷◌}
+use Rattle.std.proofs.Common.{◌++◌, true, false, length, refl, sym, ap, ◌∙◌, arith}
 use Rattle.std.specs.Fmt.{digits}
 use Rattle.std.proofs.lemmas.List.{append-nil}
 use Rattle.addr_map.specs.Places.{MapSizes}
 use Rattle.flat_meaning.specs.State.{State}
 use Rattle.flat_meaning.specs.Words.{IsOfWords}
 use Rattle.flat_meaning.specs.Meaning.{Goes}
-use Rattle.flat_routines.specs.Registers.{AreBelow, AreDistinct, AreNoneOf}
+use Rattle.flat_routines.specs.Registers.{AreBelow, AreNoneOf}
 use Rattle.flat_routines.specs.Routine.{Outcome, Continues, Halts, Reaches, Either, Never}
 use Rattle.flat_routines.specs.Renaming.{through}
 use Rattle.flat_routines.proofs.Distinct.{AreRegisters, register_of, registers_rename, others_stay}
@@ -15,7 +15,7 @@ use Rattle.flat_routines.proofs.Rules.{weaken}
 use Rattle.flat_routines.proofs.Wrapped.{routine}
 use Rattle.shadow_space.proofs.Entries.{context_of, agrees_memory}
 use Rattle.printing_routines.specs.Digits.{HasPrinted, IsDigitsRoutine, digits_code}
-use Rattle.printing_routines.proofs.Digits.{digits_from, IsHighest, Highest, highest, are_digits, digit_count}
+use Rattle.printing_routines.proofs.DigitLists.{digits_from, highest, are_digits, digit_count}
 use Rattle.printing_routines.proofs.DigitLoops.{Showing, IsLike, all_shown}
 
 -- a base of which some power below the 64th is larger than all words

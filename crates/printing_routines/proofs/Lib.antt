@@ -1,9 +1,10 @@
-pub mod Digits
+pub mod DigitLists
 pub mod DigitLoops
 pub mod DigitRoutine
-pub mod Numbers
+pub mod NumberBytes
 pub mod NumberRoutines
 pub mod Printable
 pub mod Scans
 pub mod Puts
 pub mod Prints
+pub mod Steps

@@ -1,20 +1,18 @@
 -- Each directive's instructions put its argument out.
-use Rattle.std.proofs.Common.{◌≡◌, ◌≢◌, ℕ, zero, suc, ◌+◌, ◌-◌, ◌*◌, ◌/◌, ◌%◌, ◌^◌, ◌<◌, ◌≤◌, ⊎_elim, List, [], ◌∷◌}
-use Rattle.std.proofs.Common.{◌++◌, true, false, length, length-append, refl, sym, ap, ◌∙◌, subst, arith, if◌then◌else◌}
-use Rattle.std.specs.Prelude.{nat_lt, pos}
-use Rattle.std.specs.Fmt.{digits, decimal, signed_decimal}
-use Rattle.std.specs.Int.{w64, int_wrap}
+use Rattle.std.proofs.Common.{◌≡◌, ◌≢◌, ℕ, ◌+◌, ◌-◌, ◌*◌, ◌/◌, ◌%◌, ◌^◌, ◌<◌, ◌≤◌, List, [], ◌∷◌}
+use Rattle.std.proofs.Common.{◌++◌, true, false, length, length-append, refl, sym, ap, ◌∙◌, subst, arith}
+use Rattle.std.specs.Prelude.{nat_lt}
+use Rattle.std.specs.Fmt.{digits, decimal}
 use Rattle.std.proofs.lemmas.Bool.{lt-ltb, le-ltb, ltb-true, ltb-false, cond-true, cond-false}
 use Rattle.addr_map.specs.Places.{MapSizes}
 use Rattle.rv_isa.specs.declared.instruction.BranchOp.TheVariants.{Bltu}
-use Rattle.rv_isa.specs.declared.instruction.RegOp.TheVariants.{Add, Sub, Sll, Srl}
+use Rattle.rv_isa.specs.declared.instruction.RegOp.TheVariants.{Add, Sub}
 use Rattle.rv_isa.specs.declared.instruction.RegOp32.TheVariants.{Addw}
 use Rattle.rv_isa.specs.Results.{reg_result, reg32_result, low_word, branch_taken}
-use Rattle.obj_memory.specs.declared.int_type.IntType.TheVariants.{Int, UnsignedInt, UnsignedLong, UnsignedChar}
+use Rattle.obj_memory.specs.declared.int_type.IntType.TheVariants.{Int, UnsignedInt, UnsignedLong}
 use Rattle.obj_memory.specs.Integers.{fit}
 use Rattle.c_tree.specs.declared.format.Directive.{Directive}
 use Rattle.c_tree.specs.declared.format.Directive.TheVariants as directive
-use Rattle.source_meaning.specs.Actions.{int_of}
 use Rattle.flat_meaning.specs.declared.instruction.RightOperand.TheVariants.{Register, Number}
 use Rattle.flat_meaning.specs.declared.instruction.FlatInstruction.{FlatInstruction}
 use Rattle.flat_meaning.specs.declared.instruction.FlatInstruction.TheVariants.{Constant, Move, Operate, Operate32, Put}
@@ -26,14 +24,14 @@ use Rattle.flat_meaning.proofs.Stored.{put_same, put_other}
 use Rattle.flat_routines.specs.Routine.{HasAt, Outcome, Continues, Halts, Reaches, Either, Never}
 use Rattle.flat_routines.specs.Effects.{worked, effects}
 use Rattle.flat_routines.proofs.Steps.{has_front, has_back}
-use Rattle.flat_routines.proofs.Rules.{weaken, next, line, line_on, branch, arrived}
+use Rattle.flat_routines.proofs.Rules.{weaken, next, line, branch, arrived}
 use Rattle.shadow_space.proofs.Entries.{context_of}
 use Rattle.space_routines.proofs.Quiet.{quiet_words, worked_words}
 use Rattle.integer_operators.proofs.Values.{int_by_word}
-use Rattle.printing_routines.specs.Digits.{HasPrinted, IsDigitsRoutine, digits_code}
+use Rattle.printing_routines.specs.Digits.{HasPrinted}
 use Rattle.printing_routines.specs.Numbers.{number_bytes, IsNumberRoutine, sign_code, base_code, low_code, number_code}
 use Rattle.printing_routines.proofs.DigitRoutine.{IsBase, ten, sixteen, puts_digits}
-use Rattle.printing_routines.proofs.Numbers.{signed_bytes, long_bytes, int_bytes, printed_both, printed_as, printed_none}
+use Rattle.printing_routines.proofs.NumberBytes.{signed_bytes, long_bytes, int_bytes, printed_both, printed_as, printed_none}
 
 below : (a b : ℕ) → branch_taken Bltu a b ≡ true → a < b
 unfolding branch_taken

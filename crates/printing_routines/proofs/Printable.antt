@@ -1,19 +1,17 @@
 -- What the pieces of a format print, in a state in which all strings were scanned.
-use Rattle.std.proofs.Common.{◌≡◌, ◌≢◌, ℕ, zero, suc, ◌+◌, ◌*◌, ◌^◌, ◌<◌, ◌≤◌, List, [], ◌∷◌, ◌++◌, length, get_or}
-use Rattle.std.proofs.Common.{refl, sym, ap, ◌∙◌, subst, arith}
+use Rattle.std.proofs.Common.{◌≡◌, ℕ, suc, ◌+◌, ◌<◌, ◌≤◌, List, [], ◌∷◌, ◌++◌, length, get_or}
+use Rattle.std.proofs.Common.{ap, ◌∙◌, arith}
 use Rattle.addr_map.specs.Places.{MapSizes}
 use Rattle.obj_memory.specs.declared.value.Value.{Value}
 use Rattle.c_tree.specs.declared.format.Directive.{Directive}
-use Rattle.c_tree.specs.declared.format.Directive.TheVariants as directive
 use Rattle.c_tree.specs.declared.format.Piece.{Piece}
 use Rattle.c_tree.specs.declared.format.Piece.TheVariants as piece
-use Rattle.flat_meaning.specs.Memory.{Bytes}
 use Rattle.flat_meaning.specs.State.{State}
 use Rattle.flat_routines.specs.Registers.{AreBelow}
 use Rattle.flat_actions.specs.Actions.{Holder, Nowhere, Word, Pointer, registers_of}
 use Rattle.flat_actions.specs.Ranges.{IsObjectRange}
 use Rattle.printing_routines.specs.Numbers.{number_bytes}
-use Rattle.printing_routines.specs.Formats.{IsArgumentFor, AreArgumentsFor, cursor_of}
+use Rattle.printing_routines.specs.Formats.{cursor_of}
 
 -- the bytes of a string stand in memory, up to the cursor
 pub record IsString (map : MapSizes) (value cursor : ℕ) (v : Value) (f : State) (bytes : List ℕ) : Type 0 where

@@ -1,8 +1,6 @@
 -- `printf` as a whole action.
-use Rattle.std.proofs.Common.{◌≡◌, ◌≢◌, ℕ, zero, suc, ◌+◌, ◌-◌, ◌*◌, ◌%◌, ◌^◌, ◌<◌, ◌≤◌, List, [], ◌∷◌, ◌++◌, length}
+use Rattle.std.proofs.Common.{◌≡◌, ℕ, ◌+◌, ◌-◌, ◌*◌, ◌%◌, ◌^◌, ◌<◌, ◌≤◌, List, [], ◌∷◌, ◌++◌, length}
 use Rattle.std.proofs.Common.{true, Some, length-append, refl, sym, ap, ◌∙◌, subst, arith}
-use Rattle.sb_base.specs.declared.ending.Ending.{Ending}
-use Rattle.sb_base.specs.Endings.{code_of, report_of}
 use Rattle.addr_map.specs.Places.{MapSizes, AreMapped}
 use Rattle.words.specs.TwosComplement.{sign_extended}
 use Rattle.rv_isa.specs.Results.{reg32_result, low_word}
@@ -18,12 +16,12 @@ use Rattle.source_meaning.specs.Actions.{integer, put_bytes}
 use Rattle.source_meaning.specs.Printing.{formatted, pieces_or_none, print_formatted}
 use Rattle.flat_meaning.specs.declared.instruction.FlatInstruction.{FlatInstruction}
 use Rattle.flat_meaning.specs.declared.instruction.FlatInstruction.TheVariants.{Constant}
-use Rattle.flat_meaning.specs.Memory.{Bytes, put}
+use Rattle.flat_meaning.specs.Memory.{Bytes}
 use Rattle.flat_meaning.specs.State.{State}
 use Rattle.flat_meaning.specs.Words.{IsOfWords}
 use Rattle.flat_meaning.specs.Meaning.{Context, Goes}
 use Rattle.flat_meaning.proofs.Stored.{put_same, put_other}
-use Rattle.flat_routines.specs.Metadata.{View, ShowsNothing}
+use Rattle.flat_routines.specs.Metadata.{View}
 use Rattle.flat_routines.specs.Routine.{Does, HasAt, Outcome, Continues, Halts, Reaches, Either, Never}
 use Rattle.flat_routines.specs.Effects.{effects}
 use Rattle.flat_routines.proofs.Steps.{has_front, has_back}
@@ -31,7 +29,7 @@ use Rattle.flat_routines.proofs.Rules.{weaken, next, line as straight, line_on, 
 use Rattle.flat_objects.specs.StandsFor.{Views, Keys, StandsFor}
 use Rattle.space_routines.proofs.Quiet.{quiet_words}
 use Rattle.integer_operators.proofs.Values.{int_by_word}
-use Rattle.flat_actions.specs.Actions.{Ground, Holder, Word, context_in, views_of, IsShown, IsFor, AreHeldBy, HasGiven}
+use Rattle.flat_actions.specs.Actions.{Ground, Holder, Word, context_in, views_of, IsFor, AreHeldBy, HasGiven}
 use Rattle.flat_actions.specs.Actions.{HasEnded, Leaves, IsAction}
 use Rattle.flat_actions.specs.Scanning.{IsWorked}
 use Rattle.flat_actions.proofs.Standing.{ended_still, good_still, keeps_same, stays_same}
@@ -175,6 +173,7 @@ module _ (map : MapSizes) (mapped : AreMapped map) (entry : View) (IsGood : Byte
             ≤ 4 + 32 * length ps + 16 * (x'.work + length bytes - x.work)
         fits (Continues f1) h = let l = h.0.work in omega arith
         fits (Halts status report f1) h = absurd h
+
         by : (o : Outcome) → IsFormatted map t ps hs vs 0 x f (Gives bytes x') o
             → Either (λ f1. IsWorked x x' × IsAfterScans t 0 f f1 × IsPrintable map t ps hs vs 0 f1 bytes) Never o
         by (Continues f1) h = h

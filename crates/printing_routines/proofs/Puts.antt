@@ -1,5 +1,5 @@
 -- The pieces of a format are put out, once all strings were scanned.
-use Rattle.std.proofs.Common.{◌≡◌, ◌≢◌, ℕ, zero, suc, ◌+◌, ◌-◌, ◌*◌, ◌%◌, ◌^◌, ◌<◌, ◌≤◌, List, [], ◌∷◌, ◌++◌, length}
+use Rattle.std.proofs.Common.{◌≡◌, ◌≢◌, ℕ, suc, ◌+◌, ◌-◌, ◌*◌, ◌%◌, ◌^◌, ◌<◌, ◌≤◌, List, [], ◌∷◌, ◌++◌, length}
 use Rattle.std.proofs.Common.{true, length-append, refl, sym, ap, ◌∙◌, subst, arith}
 use Rattle.addr_map.specs.Places.{MapSizes, AreMapped}
 use Rattle.obj_memory.specs.declared.value.Value.{Value}
@@ -15,11 +15,9 @@ use Rattle.flat_meaning.specs.Meaning.{Context, Goes}
 use Rattle.flat_meaning.proofs.Stored.{put_same, put_other}
 use Rattle.flat_routines.specs.declared.registers.Held.{Held}
 use Rattle.flat_routines.specs.Registers.{AreBelow}
-use Rattle.flat_routines.specs.Metadata.{held_registers}
 use Rattle.flat_routines.specs.Routine.{HasAt, Outcome, Continues, Halts, Reaches, Either, Never}
 use Rattle.flat_routines.specs.Effects.{effects}
 use Rattle.flat_routines.proofs.Steps.{has_front, has_back}
-use Rattle.flat_routines.proofs.Regions.{IsLaidOut, laid_out}
 use Rattle.flat_routines.proofs.Rules.{weaken, next, line, arrived}
 use Rattle.shadow_space.proofs.Entries.{context_of}
 use Rattle.flat_actions.specs.Actions.{Holder, Nowhere, Word, Pointer, registers_of}
@@ -27,9 +25,9 @@ use Rattle.string_routines.specs.Putting.{bytes_from, HasPut, IsPutRoutine}
 use Rattle.string_routines.proofs.PutLoop.{same_bytes}
 use Rattle.string_routines.proofs.Runtime.{objects_allowed}
 use Rattle.printing_routines.specs.Digits.{HasPrinted}
-use Rattle.printing_routines.specs.Numbers.{number_bytes, IsNumberRoutine}
+use Rattle.printing_routines.specs.Numbers.{number_bytes}
 use Rattle.printing_routines.specs.Formats.{cursor_of, byte_code, count_string, IsPutPart, ArePuts}
-use Rattle.printing_routines.proofs.Numbers.{printed_both, printed_as, printed_none}
+use Rattle.printing_routines.proofs.NumberBytes.{printed_both, printed_as, printed_none}
 use Rattle.printing_routines.proofs.Printable.{IsString, IsPrintableBy, IsPrintable, AreLow, directive_count}
 use Rattle.printing_routines.proofs.Printable.{printable_kept}
 

@@ -1,7 +1,6 @@
 -- All strings of a format are scanned.
-use Rattle.std.proofs.Common.{◌≡◌, ◌≢◌, ℕ, zero, suc, ◌+◌, ◌-◌, ◌*◌, ◌^◌, ◌<◌, ◌≤◌, List, [], ◌∷◌, ◌++◌, length}
+use Rattle.std.proofs.Common.{◌≡◌, ◌≢◌, ℕ, ◌+◌, ◌-◌, ◌*◌, ◌<◌, ◌≤◌, List, [], ◌∷◌, ◌++◌, length}
 use Rattle.std.proofs.Common.{length-append, get_or, drop, refl, sym, ap, ◌∙◌, subst, arith}
-use Rattle.sb_base.specs.declared.ending.Ending.{Ending}
 use Rattle.sb_base.specs.declared.ending.Ending.TheVariants.{Spatial}
 use Rattle.sb_base.specs.Endings.{code_of, report_of}
 use Rattle.addr_map.specs.Places.{MapSizes}
@@ -24,7 +23,7 @@ use Rattle.flat_meaning.specs.Words.{IsOfWords}
 use Rattle.flat_meaning.specs.Meaning.{Context, Goes}
 use Rattle.flat_routines.specs.declared.registers.Held.{Held}
 use Rattle.flat_routines.specs.Registers.{AreBelow}
-use Rattle.flat_routines.specs.Routine.{HasAt, Outcome, Continues, Halts, Reaches, Either, Never}
+use Rattle.flat_routines.specs.Routine.{HasAt, Outcome, Continues, Halts, Reaches}
 use Rattle.flat_routines.specs.Metadata.{ShowsNothing, held_registers}
 use Rattle.flat_routines.proofs.Steps.{has_front, has_back}
 use Rattle.flat_routines.proofs.Rules.{weaken, next, arrived}
@@ -32,14 +31,13 @@ use Rattle.flat_objects.specs.StandsFor.{Views, Keys}
 use Rattle.space_routines.proofs.Quiet.{shows_both, shows_itself}
 use Rattle.flat_actions.specs.Actions.{Ground, context_in, views_of, IsFor, Holder, Nowhere, Word, Pointer, registers_of}
 use Rattle.flat_actions.specs.Actions.{IsHeldBy, AreHeldBy, work_of}
-use Rattle.flat_actions.specs.Scanning.{IsWorked, HasScanned, IsScanned, IsScanRoutine}
+use Rattle.flat_actions.specs.Scanning.{IsWorked, IsScanRoutine}
 use Rattle.flat_actions.proofs.Standing.{for_still, for_worked, held_still, none_of_none}
 use Rattle.string_routines.proofs.Between.{scan_between, range_of}
 use Rattle.string_routines.proofs.AfterScan.{after_scan}
 use Rattle.printing_routines.specs.Numbers.{number_bytes}
-use Rattle.printing_routines.specs.Formats.{cursor_of, IsScanPart, AreScans}
-use Rattle.printing_routines.proofs.Printable.{IsString, IsPrintableBy, IsPrintable, AreLow, directive_count, by_kept}
-use Rattle.printing_routines.proofs.Printable.{printable_kept}
+use Rattle.printing_routines.specs.Formats.{cursor_of, AreScans}
+use Rattle.printing_routines.proofs.Printable.{IsPrintableBy, IsPrintable, AreLow, directive_count, by_kept}
 
 -- an argument that is no string has its bytes at once
 pub number_done : (d : Directive) (v : Value) (line : ℕ) → d ≢ directive.String
@@ -256,7 +254,7 @@ module _ (ground : Ground) (line t w : ℕ) (functions : ℕ) (types : ℕ → �
       (p, held.0, tt))
       (λ e y is worked. (
         (let one = ap (λ r. (state_of r).work - x.work) is in
-        let two = ap (λ r. (state_of (on r next)).work - x.work) is in omega (arith, one, two)),
+            let two = ap (λ r. (state_of (on r next)).work - x.work) is in omega (arith, one, two)),
         λ f' shows. subst (λ r. IsFormatted ground.map t all (Pointer h ∷ hs) (v ∷ vs) i x f (on r next)
             (Halts (code_of e) (report_of e) f')) (sym is) (refl, refl, worked, shows),
       ))

@@ -1,27 +1,19 @@
 -- The arguments of directives, strings apart, are put out.
-use Rattle.std.proofs.Common.{◌≡◌, ◌≢◌, ℕ, zero, suc, ◌+◌, ◌-◌, ◌*◌, ◌/◌, ◌%◌, ◌^◌, ◌<◌, ◌≤◌, ◌⊎◌, inl, inr, ⊎_elim}
-use Rattle.std.proofs.Common.{List, [], ◌∷◌, ◌++◌, Bool, true, false, length, length-append, refl, sym, ap, ◌∙◌, subst}
+use Rattle.std.proofs.Common.{◌≡◌, ℕ, suc, ◌+◌, ◌-◌, ◌%◌, ◌^◌, ◌<◌, ◌≤◌}
+use Rattle.std.proofs.Common.{List, [], ◌∷◌, ◌++◌, Bool, true, false, length-append, refl, sym, ap, ◌∙◌, subst}
 use Rattle.std.proofs.Common.{arith, append_assoc, if◌then◌else◌}
 use Rattle.std.specs.Prelude.{nat_lt, nat_le, pos}
-use Rattle.std.specs.Fmt.{digits, decimal, signed_decimal}
+use Rattle.std.specs.Fmt.{decimal, signed_decimal}
 use Rattle.std.specs.Int.{w64, int_wrap}
-use Rattle.std.proofs.lemmas.Bool.{cases_lt, lt-ltb, le-ltb, lt-leb, le-leb, ltb-false, ltb-true, cond-true, cond-false}
+use Rattle.std.proofs.lemmas.Bool.{lt-ltb, le-ltb, lt-leb, le-leb, ltb-false, ltb-true, cond-true, cond-false}
 use Rattle.std.proofs.lemmas.List.{append-nil}
-use Rattle.addr_map.specs.Places.{MapSizes}
-use Rattle.words.specs.TwosComplement.{low_bits, sign_extended}
-use Rattle.rv_isa.specs.declared.instruction.BranchOp.TheVariants.{Bltu}
-use Rattle.rv_isa.specs.Results.{reg_result, reg32_result, low_word, branch_taken}
-use Rattle.obj_memory.specs.declared.int_type.IntType.TheVariants.{Int, UnsignedInt, UnsignedLong, UnsignedChar}
+use Rattle.words.specs.TwosComplement.{sign_extended}
+use Rattle.obj_memory.specs.declared.int_type.IntType.TheVariants.{Int}
 use Rattle.obj_memory.specs.Integers.{fit}
 use Rattle.source_meaning.specs.Actions.{int_of}
-use Rattle.flat_meaning.specs.declared.instruction.RightOperand.TheVariants.{Register, Number}
-use Rattle.flat_meaning.specs.declared.instruction.FlatInstruction.{FlatInstruction}
 use Rattle.flat_meaning.specs.State.{State}
 use Rattle.flat_meaning.specs.Words.{IsOfWords}
-use Rattle.flat_meaning.specs.Meaning.{Context, Goes}
-use Rattle.flat_routines.specs.Registers.{IsNoneOf, OthersStay}
-use Rattle.flat_routines.specs.Routine.{HasAt, Outcome, Continues, Halts, Reaches, Either, Never}
-use Rattle.printing_routines.specs.Digits.{HasPrinted, IsDigitsRoutine}
+use Rattle.printing_routines.specs.Digits.{HasPrinted}
 
 -- ---- signed numbers
 
@@ -35,6 +27,7 @@ long_bytes w l = by (nat_lt w (2 ^ 63)) refl
   where
     same : w % 2 ^ 64 ≡ w
     same = omega arith
+
     by : (b : Bool) → nat_lt w (2 ^ 63) ≡ b → signed_decimal (int_wrap w64 (pos w)) ≡ signed_bytes w
     by true e = rw (same, e) refl
     by false e =

@@ -353,7 +353,8 @@ module _ (base n J : ℕ) (b : 2 ≤ base) (few : base ≤ 16) (high : IsHighest
       (next c code (J * (2 + 2) + 1) (suc J * (9 + 2) + 1) (Goes 2 (effects c first start)) 6 17
       (Seeking base n J start 0) Never (Either (Showing base n J start 0) Never) first_words
       (loop c code 2 Bltu 3 (Number base) (seek_power base 0 2 3) 2 (Seeking base n J start) (Seeking base n J start 0)
-      Never (has_front code 2 seeking showing rest) one_seek J J (omega arith) (effects c first start) first_words begin)
+      Never (has_front code 2 seeking showing rest) one_seek J J (omega arith) (effects c first start) first_words
+      begin)
       (λ v fits w.
       loop c code 6 Beq 2 (Number 0) (put_digit base 0 1 2 3 4) 9 (Showing base n J start) (Showing base n J start 0)
       Never (has_back code 2 seeking showing rest) one_show (suc J) (suc J) (omega arith) v fits (sought v w))

@@ -45,7 +45,8 @@ int_bytes w = by (nat_lt (w % 2 ^ 32) (2 ^ 31)) refl
         let extended : sign_extended 32 64 (w % 2 ^ 32) ≡ w % 2 ^ 32 =
         cond-false (nat_le (2 ^ 31) (w % 2 ^ 32)) _ (w % 2 ^ 32) (lt-leb (2 ^ 31) (w % 2 ^ 32) l) in
         rw e (sym (ap signed_bytes extended
-        ∙ cond-true (nat_lt (w % 2 ^ 32) (2 ^ 63)) (decimal (w % 2 ^ 32)) _ (lt-ltb (w % 2 ^ 32) (2 ^ 63) (omega arith))))
+        ∙ cond-true (nat_lt (w % 2 ^ 32) (2 ^ 63)) (decimal (w % 2 ^ 32)) _
+        (lt-ltb (w % 2 ^ 32) (2 ^ 63) (omega arith))))
     by false e =
         let l = ltb-false (w % 2 ^ 32) (2 ^ 31) e in
         let x = w % 2 ^ 32 + (2 ^ 64 - 2 ^ 32) in

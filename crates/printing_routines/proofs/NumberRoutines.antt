@@ -31,7 +31,8 @@ use Rattle.integer_operators.proofs.Values.{int_by_word}
 use Rattle.printing_routines.specs.Digits.{HasPrinted}
 use Rattle.printing_routines.specs.Numbers.{number_bytes, IsNumberRoutine, sign_code, base_code, low_code, number_code}
 use Rattle.printing_routines.proofs.DigitRoutine.{IsBase, ten, sixteen, puts_digits}
-use Rattle.printing_routines.proofs.NumberBytes.{signed_bytes, long_bytes, int_bytes, printed_both, printed_as, printed_none}
+use Rattle.printing_routines.proofs.NumberBytes.{signed_bytes, long_bytes, int_bytes, printed_both, printed_as}
+use Rattle.printing_routines.proofs.NumberBytes.{printed_none}
 
 below : (a b : ℕ) → branch_taken Bltu a b ≡ true → a < b
 unfolding branch_taken
@@ -161,7 +162,8 @@ module _ (map : MapSizes) (charge weight : ℕ) (count t : ℕ) (counts : count 
       subst (λ p. Reaches c code (4 + 15 * length bytes) (Goes middle f1) p (Either (HasPrinted bytes count t f) Never))
       len
       (weaken c code (4 + 15 * length d) (4 + 15 * length bytes) (Goes middle f1) _ _ _ (omega arith) (by f1 r)
-      ((puts_digits base b map t count (t + 1) (omega arith, (omega (arith, counts), tt)) (((λ e. omega (arith, e)), tt), tt)
+      ((puts_digits base b map t count (t + 1) (omega arith, (omega (arith, counts), tt))
+      (((λ e. omega (arith, e)), tt), tt)
       r.number charge weight).from code middle f1 has words1 r.held)))
       (λ status report f' never. absurd never)
     where
@@ -196,7 +198,8 @@ module _ (map : MapSizes) (charge weight : ℕ) (count t : ℕ) (counts : count 
   then_sign x bytes code i pc f f1 words words1 run none is all has =
       let end : pc + 1 + 6 ≡ pc + 7 = omega arith in
       subst (λ p. Reaches c code 7 (Goes pc f) p (Either (IsReady bytes 10 f) Never)) end
-      (next c code 1 6 (Goes pc f) (pc + 1) (pc + 1 + 6) (λ z. z ≡ f1) Never (Either (IsReady bytes 10 f) Never) words run
+      (next c code 1 6 (Goes pc f) (pc + 1) (pc + 1 + 6) (λ z. z ≡ f1) Never (Either (IsReady bytes 10 f) Never) words
+      run
       (λ z wz e.
       subst (λ y. Reaches c code 6 (Goes (pc + 1) y) (pc + 1 + 6) (Either (IsReady bytes 10 f) Never)) (sym e)
       (weaken c code 6 6 (Goes (pc + 1) f1) (pc + 1 + 6) _ _ (omega arith) by
@@ -230,7 +233,8 @@ module _ (map : MapSizes) (charge weight : ℕ) (count t : ℕ) (counts : count 
         ∙ ap (λ w. reg32_result Addw (low_word w) (low_word 0)) is ∙ int_by_word n in
         let none = printed_none count t f f1 words refl refl refl refl refl refl
         (λ r l. put_other f.values t _ r (λ e. omega (arith, e))) counts in
-        let rest = has_back code (pc + 1) (sign_code t count (t + 1)) (base_code 10 t count (t + 1)) (shifted code pc has) in
+        let rest = has_back code (pc + 1) (sign_code t count (t + 1)) (base_code 10 t count (t + 1))
+        (shifted code pc has) in
         let at : pc + 1 + 6 ≡ pc + 7 = omega arith in
         let bytes = number_bytes directive.Int n in
         weaken c code (7 + (4 + 15 * length bytes)) (12 + 15 * length bytes) (Goes pc f) _ _ _ (omega arith) (λ o h. h)
@@ -290,7 +294,8 @@ module _ (map : MapSizes) (charge weight : ℕ) (count t : ℕ) (counts : count 
         (line c code (low_code t v) pc f (IsReady bytes base f) Never (tt, (tt, tt))
         (has_front code pc (low_code t v) (base_code base t count (t + 1)) has)
         (ready_value bytes base (n % 2 ^ 32) f f1 words refl refl refl refl refl refl
-        (λ r l. put_other v1 t _ r (λ e. omega (arith, e)) ∙ put_other f.values t _ r (λ e. omega (arith, e))) word refl))
+        (λ r l. put_other v1 t _ r (λ e. omega (arith, e)) ∙ put_other f.values t _ r (λ e. omega (arith, e))) word
+        refl))
         (has_back code pc (low_code t v) (base_code base t count (t + 1)) has) (omega arith))
 
     runs_word : (n : ℕ) (code : List FlatInstruction) (pc : ℕ) (f : State)
@@ -302,7 +307,8 @@ module _ (map : MapSizes) (charge weight : ℕ) (count t : ℕ) (counts : count 
     runs_word n code pc f has words is =
         let small = words.values v in
         let same : f.values v ≡ n % 2 ^ 64 = omega arith in
-        weaken c code (4 + 15 * length (decimal (n % 2 ^ 64))) (12 + 15 * length (decimal (n % 2 ^ 64))) (Goes pc f) _ _ _
+        weaken c code (4 + 15 * length (decimal (n % 2 ^ 64))) (12 + 15 * length (decimal (n % 2 ^ 64))) (Goes pc f) _
+        _ _
         (omega arith) (λ o h. h)
         ((puts_digits 10 ten map v count t (holds, (counts, tt)) ((apart, tt), tt) (n % 2 ^ 64) charge weight).from code
         pc f has words same)
@@ -344,5 +350,6 @@ module _ (map : MapSizes) (charge weight : ℕ) (count t : ℕ) (counts : count 
 pub number_prints : (map : MapSizes) (d : Directive) (v count t : ℕ) → v < t → count < t → v ≢ count
     → IsNumberRoutine map d v count t (number_code d v count t)
 number_prints map d v count t holds counts apart n charge weight = record {
-  from = λ code pc f has words is. runs_number map charge weight count t counts v holds apart d n code pc f has words is;
+  from = λ code pc f has words is. runs_number map charge weight count t counts v holds apart d n code pc f has words
+      is;
 }

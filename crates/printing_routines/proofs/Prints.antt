@@ -106,7 +106,8 @@ module _ (map : MapSizes) (mapped : AreMapped map) (entry : View) (IsGood : Byte
               ∙ int_by_word (length bytes % 2 ^ 64) ∙ int_of_count (length bytes);
           turns = h.turns ∙ s.turns;
           elsewhere = stays_same map x.objects f.memory f3.memory memory;
-          others = λ r l none. put_other f3.values into _ r none.0 ∙ h.others r (omega arith) ((λ e. omega (arith, e)), tt)
+          others = λ r l none. put_other f3.values into _ r none.0 ∙ h.others r (omega arith)
+              ((λ e. omega (arith, e)), tt)
               ∙ put_other f1.values t 0 r (λ e. omega (arith, e)) ∙ scanned.others r (omega arith);
         })
 
@@ -114,7 +115,8 @@ module _ (map : MapSizes) (mapped : AreMapped map) (entry : View) (IsGood : Byte
     out : (code : List FlatInstruction) (pc : ℕ) (f f1 : State) (bytes : List ℕ) (x' : Source)
         → HasAt code pc (start ++ tail) → IsOfWords f1 → IsFor g k IsGood x f → IsWorked x x' → IsAfterScans t 0 f f1
         → IsPrintable map t ps hs vs 0 f1 bytes
-        → Reaches c code (1 + ((16 * length ps + 15 * length bytes) + 1)) (Goes pc f1) (pc + 1 + length print.putting + 1)
+        → Reaches c code (1 + ((16 * length ps + 15 * length bytes) + 1)) (Goes pc f1)
+        (pc + 1 + length print.putting + 1)
         (R f (Gives bytes x'))
     out code pc f f1 bytes x' has words p worked scanned printable =
         let f2 = effects c start f1 in
@@ -131,7 +133,8 @@ module _ (map : MapSizes) (mapped : AreMapped map) (entry : View) (IsGood : Byte
         (λ r l. put_other f1.values t 0 r (λ e. omega (arith, e)))
         (λ r l l'. put_other f1.values t 0 r (λ e. omega (arith, e))) room low printable))
         (λ f3 words3 h.
-        weaken c code 1 1 (Goes (pc + 1 + length print.putting) f3) (pc + 1 + length print.putting + 1) _ _ (omega arith)
+        weaken c code 1 1 (Goes (pc + 1 + length print.putting) f3) (pc + 1 + length print.putting + 1) _ _
+        (omega arith)
         (by f3 h)
         (straight c code (counted_code into t) (pc + 1 + length print.putting) f3
         (λ z. z ≡ effects c (counted_code into t) f3) Never (tt, tt)
@@ -156,13 +159,15 @@ module _ (map : MapSizes) (mapped : AreMapped map) (entry : View) (IsGood : Byte
         let b = 1 + ((16 * length ps + 15 * length bytes) + 1) in
         let middle = pc + length print.scanning in
         let end : middle + 1 + length print.putting + 1 ≡ pc + length (print.scanning ++ (start ++ tail)) =
-        omega (arith, length-append print.scanning (start ++ tail), length-append print.putting (counted_code into t)) in
+        omega (arith, length-append print.scanning (start ++ tail), length-append print.putting (counted_code into t))
+        in
         subst (λ e. Reaches c code (4 + 32 * length ps + 16 * (x'.work + length bytes - x.work)) (Goes pc f) e
         (R f (Gives bytes x'))) end
         (weaken c code (a + b) (4 + 32 * length ps + 16 * (x'.work + length bytes - x.work)) (Goes pc f)
         (middle + 1 + length print.putting + 1) _ _ (fits run.outcome run.holds) (λ o h. h)
         (next c code a b (Goes pc f) middle (middle + 1 + length print.putting + 1)
-        (λ f1. IsWorked x x' × IsAfterScans t 0 f f1 × IsPrintable map t ps hs vs 0 f1 bytes) Never (R f (Gives bytes x'))
+        (λ f1. IsWorked x x' × IsAfterScans t 0 f f1 × IsPrintable map t ps hs vs 0 f1 bytes) Never
+        (R f (Gives bytes x'))
         words (weaken c code a a (Goes pc f) middle _ _ (omega arith) by run)
         (λ f1 words1 i.
         out code middle f f1 bytes x' (has_back code pc print.scanning (start ++ tail) has) words1 p i.0 i.1 i.2)

@@ -74,7 +74,8 @@ module _ (map : MapSizes) (mapped : AreMapped map) (charge weight : ℕ) (t w : 
 
   string_runs : (h : Held) (v : Value) (k : ℕ) (bytes : List ℕ) (putting : List FlatInstruction)
       → h.value < w → k < w → IsPutRoutine map h.value k w putting
-      → (code : List FlatInstruction) (pc : ℕ) (f : State) → HasAt code pc (putting ++ count_string h k t w) → IsOfWords f → IsString map h.value k v f bytes
+      → (code : List FlatInstruction) (pc : ℕ) (f : State) → HasAt code pc (putting ++ count_string h k t w) →
+      IsOfWords f → IsString map h.value k v f bytes
       → Reaches c code (4 + 5 * length bytes) (Goes pc f) (pc + length (putting ++ count_string h k t w))
       (Either (HasPrinted bytes t w f) Never)
   string_runs h v k bytes putting low below puts code pc f has words s =
@@ -85,7 +86,8 @@ module _ (map : MapSizes) (mapped : AreMapped map) (charge weight : ℕ) (t w : 
       omega (arith, length-append putting (count_string h k t w)) in
       subst (λ p. Reaches c code (4 + 5 * n) (Goes pc f) p (Either (HasPrinted bytes t w f) Never)) len
       (weaken c code ((2 + 5 * n) + 2) (4 + 5 * n) (Goes pc f) (pc + length putting + 2) _ _ (omega arith) (λ o h. h)
-      (next c code (2 + 5 * n) 2 (Goes pc f) (pc + length putting) (pc + length putting + 2) (HasPut h.value n w f) Never
+      (next c code (2 + 5 * n) 2 (Goes pc f) (pc + length putting) (pc + length putting + 2) (HasPut h.value n w f)
+      Never
       (Either (HasPrinted bytes t w f) Never) words
       ((puts n charge weight).from code pc f (has_front code pc putting (count_string h k t w) has) words (record {
         end_is = ends;
@@ -126,7 +128,8 @@ module _ (map : MapSizes) (mapped : AreMapped map) (charge weight : ℕ) (t w : 
   part_runs d Nowhere v k bytes part below low is code pc f has words p = absurd is
   part_runs d (Word r) v k bytes part below low is code pc f has words p =
       let l = ap length p.1 in
-      weaken c code (12 + 15 * length (number_bytes d v.word)) (16 + 15 * length bytes) (Goes pc f) (pc + length part) _ _
+      weaken c code (12 + 15 * length (number_bytes d v.word)) (16 + 15 * length bytes) (Goes pc f) (pc + length part)
+      _ _
       (omega arith) by ((is v.word charge weight).from code pc f has words p.0)
     where
       by : (o : Outcome) → Either (HasPrinted (number_bytes d v.word) t w f) Never o
@@ -134,10 +137,12 @@ module _ (map : MapSizes) (mapped : AreMapped map) (charge weight : ℕ) (t w : 
       by (Continues f') h = printed_as (number_bytes d v.word) bytes t w f f' (sym p.1) h
       by (Halts status report f') h = h
   part_runs d (Pointer h) v k bytes part below low is code pc f has words p =
-      subst (λ z. Reaches c code (16 + 15 * length bytes) (Goes pc f) (pc + length z) (Either (HasPrinted bytes t w f) Never))
+      subst (λ z. Reaches c code (16 + 15 * length bytes) (Goes pc f) (pc + length z)
+      (Either (HasPrinted bytes t w f) Never))
       (sym is.1)
       (weaken c code (4 + 5 * length bytes) (16 + 15 * length bytes) (Goes pc f) _ _ _ (omega arith) (λ o q. q)
-      (string_runs h v k bytes is.0 (omega (arith, low.0)) below is.2 code pc f (subst (HasAt code pc) is.1 has) words p))
+      (string_runs h v k bytes is.0 (omega (arith, low.0)) below is.2 code pc f (subst (HasAt code pc) is.1 has) words
+      p))
 
   -- ---- all pieces
 
@@ -157,18 +162,22 @@ module _ (map : MapSizes) (mapped : AreMapped map) (charge weight : ℕ) (t w : 
       → Reaches c code (16 * suc (length ps) + 15 * length (bytes ++ others)) (Goes pc f) (pc + length (first ++ rest))
       (Either (HasPrinted (bytes ++ others) t w f) Never)
   one_more ps hs vs i first rest bytes others room low puts code pc f has words run p =
-      let len : pc + length first + length rest ≡ pc + length (first ++ rest) = omega (arith, length-append first rest) in
+      let len : pc + length first + length rest ≡ pc + length (first ++ rest) = omega (arith, length-append first rest)
+      in
       let l = length-append bytes others in
       subst (λ e. Reaches c code (16 * suc (length ps) + 15 * length (bytes ++ others)) (Goes pc f) e
       (Either (HasPrinted (bytes ++ others) t w f) Never)) len
       (weaken c code ((16 + 15 * length bytes) + (16 * length ps + 15 * length others))
-      (16 * suc (length ps) + 15 * length (bytes ++ others)) (Goes pc f) (pc + length first + length rest) _ _ (omega arith)
+      (16 * suc (length ps) + 15 * length (bytes ++ others)) (Goes pc f) (pc + length first + length rest) _ _
+      (omega arith)
       (λ o h. h)
       (next c code (16 + 15 * length bytes) (16 * length ps + 15 * length others) (Goes pc f) (pc + length first)
-      (pc + length first + length rest) (HasPrinted bytes t w f) Never (Either (HasPrinted (bytes ++ others) t w f) Never)
+      (pc + length first + length rest) (HasPrinted bytes t w f) Never
+      (Either (HasPrinted (bytes ++ others) t w f) Never)
       words run
       (λ z wz h.
-      weaken c code (16 * length ps + 15 * length others) (16 * length ps + 15 * length others) (Goes (pc + length first) z)
+      weaken c code (16 * length ps + 15 * length others) (16 * length ps + 15 * length others)
+      (Goes (pc + length first) z)
       (pc + length first + length rest) _ _ (omega arith) (by z h)
       (puts others code (pc + length first) z (has_back code pc first rest has) wz
       (printable_kept map t f z h.memory ps hs vs i w others
@@ -184,7 +193,8 @@ module _ (map : MapSizes) (mapped : AreMapped map) (charge weight : ℕ) (t w : 
   pub runs_puts : (ps : List Piece) (hs : List Holder) (vs : List Value) (i : ℕ) (seg : List FlatInstruction)
       → ArePuts map t w ps hs i seg → cursor_of t i + directive_count ps ≤ w → AreLow t hs → Puts ps hs vs i seg
   runs_puts [] hs vs i seg puts room low bytes code pc f has words p =
-      subst (λ z. Reaches c code (0 + 15 * length bytes) (Goes pc f) (pc + length z) (Either (HasPrinted bytes t w f) Never))
+      subst (λ z. Reaches c code (0 + 15 * length bytes) (Goes pc f) (pc + length z)
+      (Either (HasPrinted bytes t w f) Never))
       (sym puts)
       (arrived c code (0 + 15 * length bytes) f pc (pc + 0) (Either (HasPrinted bytes t w f) Never) (omega arith)
       (printed_as [] bytes t w f f (sym p)

@@ -29,7 +29,8 @@ use Rattle.flat_routines.proofs.Steps.{has_front, has_back}
 use Rattle.flat_routines.proofs.Rules.{weaken, next, arrived}
 use Rattle.flat_objects.specs.StandsFor.{Views, Keys}
 use Rattle.space_routines.proofs.Quiet.{shows_both, shows_itself}
-use Rattle.flat_actions.specs.Actions.{Ground, context_in, views_of, IsFor, Holder, Nowhere, Word, Pointer, registers_of}
+use Rattle.flat_actions.specs.Actions.{Ground, context_in, views_of, IsFor, Holder, Nowhere, Word, Pointer}
+use Rattle.flat_actions.specs.Actions.{registers_of}
 use Rattle.flat_actions.specs.Actions.{IsHeldBy, AreHeldBy, work_of}
 use Rattle.flat_actions.specs.Scanning.{IsWorked, IsScanRoutine}
 use Rattle.flat_actions.proofs.Standing.{for_still, for_worked, held_still, none_of_none}
@@ -225,7 +226,8 @@ module _ (ground : Ground) (line t w : ℕ) (functions : ℕ) (types : ℕ → �
       (seg : List FlatInstruction) → d ≢ directive.String → AreBelow t (r ∷ []) → Runs ps hs vs (i + 1) seg
       → Runs (piece.Directive d ∷ ps) (Word r ∷ hs) (v ∷ vs) i seg
   runs_number d r v ps hs vs i seg ne low run x code pc f has words p held =
-      let is = ap (λ (q : Run (List ℕ)). on (q x) (λ bytes. formatted ps vs line >>= (λ others. done (bytes ++ others))))
+      let is = ap (λ (q : Run (List ℕ)). on (q x) (λ bytes. formatted ps vs line
+      >>= (λ others. done (bytes ++ others))))
       (number_done d v line ne) in
       let e = same_work (formatted ps vs line x) (λ others. number_bytes d v.word ++ others) in
       let z = ap (λ o. (state_of o).work) is in
@@ -246,7 +248,8 @@ module _ (ground : Ground) (line t w : ℕ) (functions : ℕ) (types : ℕ → �
       let all = piece.Directive directive.String ∷ ps in
       let R = IsFormatted ground.map t all (Pointer h ∷ hs) (v ∷ vs) i x f (formatted all (v ∷ vs) line x) in
       let middle = pc + length first in
-      let len : pc + length first + length rest ≡ pc + length (first ++ rest) = omega (arith, length-append first rest) in
+      let len : pc + length first + length rest ≡ pc + length (first ++ rest) = omega (arith, length-append first rest)
+      in
       after_scan c code (16 + 8 * work_of (scan v line) x) (bound all (v ∷ vs) x)
       (λ bytes y. bound ps vs y) pc middle (pc + length (first ++ rest)) f v.word (cursor_of t i) w x (scan v line x) R
       words
@@ -295,7 +298,8 @@ module _ (ground : Ground) (line t w : ℕ) (functions : ℕ) (types : ℕ → �
 
   -- all pieces
   pub runs_scans : (ps : List Piece) (hs : List Holder) (vs : List Value) (i : ℕ) (seg : List FlatInstruction)
-      → AreScans ground line t w ps hs i seg → cursor_of t i + directive_count ps ≤ w → AreLow t hs → Runs ps hs vs i seg
+      → AreScans ground line t w ps hs i seg → cursor_of t i + directive_count ps ≤ w → AreLow t hs → Runs ps hs vs i
+      seg
   runs_scans [] hs vs i seg scans room low = subst (Runs [] hs vs i) (sym scans) (runs_none hs vs i)
   runs_scans (piece.Byte b ∷ ps) hs vs i seg scans room low =
       runs_byte b ps hs vs i seg (runs_scans ps hs vs i seg scans room low)

@@ -24,7 +24,8 @@ use Rattle.printing_routines.specs.Printed.{pieces_of, holders_of, argument_coun
 use Rattle.printing_routines.proofs.Printable.{AreLow, directive_count}
 use Rattle.printing_routines.proofs.Prints.{prints}
 
-pub scans_byte : (g : Ground) (line t w b i : ℕ) (code : List FlatInstruction) → ScansNext g line t w (Byte b) i code code
+pub scans_byte : (g : Ground) (line t w b i : ℕ) (code : List FlatInstruction) → ScansNext g line t w (Byte b) i code
+    code
 scans_byte g line t w b i code ps left s = record { on = λ rest h. s.on rest h }
 
 pub scans_number : (g : Ground) (line t w : ℕ) (d : Directive) (r i : ℕ) (code : List FlatInstruction)
@@ -149,7 +150,8 @@ prints_these m mapped entry IsGood line ps into t gives p scanning putting code 
     let few = few_directives ps in
     subst (λ n. IsAction (record { map = m; entry = entry; IsGood = IsGood; is_runtime = true })
     (λ vs. print_formatted format vs line) (holders_of ps) (Word into) t (4 + 32 * n) 16 code) (as_many ps)
-    (prints m mapped entry IsGood line (pieces_of ps) (holders_of ps) into t (t + 1 + length ps) gives (low_holders t ps p)
+    (prints m mapped entry IsGood line (pieces_of ps) (holders_of ps) into t (t + 1 + length ps) gives
+    (low_holders t ps p)
     (omega arith) code
     (record {
       scanning = scanning;

@@ -15,7 +15,8 @@ use flat_meaning::{FlatInstruction, RightOperand};
 use rv_isa::{BranchOp, RegOp, RegOp32};
 use std::alloc::{AllocError, Global};
 
-/// Puts out the argument of a directive, which `value` holds, and adds how many bytes that are to `count`, in a function
+/// Puts out the argument of a directive, which `value` holds, and adds how many bytes that are to `count`, in a
+/// function
 /// of the runtime. Of a string it does nothing. It may write the registers from `scratch` on. The only refusal is that
 /// memory fails.
 pub fn number(

@@ -1,0 +1,12 @@
+pub mod Looking
+pub mod Runtime
+pub mod ScanLoop
+pub mod Scans
+pub mod ScanRoutines
+pub mod AfterScan
+pub mod LengthActs
+pub mod Fresh
+pub mod Between
+pub mod PutLoop
+pub mod PutsActs
+pub mod Joins

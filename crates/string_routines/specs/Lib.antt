@@ -1,0 +1,3 @@
+pub mod Runtime
+pub mod Scanning
+pub mod Putting

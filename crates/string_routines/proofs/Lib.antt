@@ -10,3 +10,4 @@ pub mod Between
 pub mod PutLoop
 pub mod PutsActs
 pub mod Joins
+pub mod Written

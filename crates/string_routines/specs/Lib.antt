@@ -1,3 +1,4 @@
 pub mod Runtime
 pub mod Scanning
 pub mod Putting
+pub mod Copying

@@ -1,0 +1,162 @@
+-- Bytes that are written at a place that was judged: what memory becomes stands for what the objects become.
+use Rattle.std.proofs.Common.{◌≡◌, ℕ, ◌+◌, ◌-◌, ◌*◌, ◌<◌, ◌≤◌, ◌⊎◌, inl, inr, ⊎_elim, List, [], ◌++◌, true, length, refl, sym}
+use Rattle.std.proofs.Common.{ap, ◌∙◌, subst, arith, get_or}
+use Rattle.addr_map.specs.declared.region.Region.TheVariants.{StructureValues}
+use Rattle.addr_map.specs.Places.{MapSizes, AreMapped, spaces_begin, region_start}
+use Rattle.obj_memory.specs.declared.value.Value.{Value}
+use Rattle.obj_memory.specs.declared.value.Place.{Place}
+use Rattle.obj_memory.specs.declared.judgement.Verdict.{Verdict}
+use Rattle.obj_memory.specs.declared.judgement.Verdict.TheVariants.{Outside, Dead, Inside}
+use Rattle.obj_memory.specs.Objects.{Objects, object_at}
+use Rattle.obj_memory.specs.Judgement.{judge}
+use Rattle.obj_memory.specs.Access.{write_bytes}
+use Rattle.obj_memory.specs.Sound.{IsSoundTag, IsAllowed, KeepsObjects}
+use Rattle.obj_memory.proofs.Judging.{judge_inside}
+use Rattle.obj_memory.proofs.Keeping.{keeps_bytes}
+use Rattle.source_meaning.specs.State.{State as Source, Outcome as Completed, Gives, Run, on, ◌>>◌, done}
+use Rattle.source_meaning.specs.Acting.{state_of}
+use Rattle.source_meaning.specs.Actions.{located}
+use Rattle.source_meaning.specs.Bytes.{set_bytes}
+use Rattle.flat_meaning.specs.declared.instruction.FlatInstruction.{FlatInstruction}
+use Rattle.flat_meaning.specs.Memory.{Bytes}
+use Rattle.flat_meaning.specs.State.{State}
+use Rattle.flat_meaning.specs.Meaning.{Context}
+use Rattle.flat_routines.specs.Routine.{Outcome, Continues, Halts, Does, Either, Never}
+use Rattle.flat_routines.specs.Metadata.{View}
+use Rattle.flat_routines.proofs.Rules.{Holds, weaken}
+use Rattle.flat_routines.proofs.Regions.{laid_out}
+use Rattle.flat_objects.specs.StandsFor.{Views, Keys, StandsFor}
+use Rattle.flat_objects.specs.Changes.{IsPut}
+use Rattle.flat_objects.proofs.Moves.{put_stands}
+use Rattle.flat_judging.specs.Judging.{IsSameBut, IsJudged}
+use Rattle.flat_actions.specs.Actions.{views_of, IsFor, StaysElsewhere, Nowhere, HasGiven, Leaves}
+use Rattle.flat_actions.specs.Ranges.{IsObjectRange}
+use Rattle.flat_actions.proofs.Judged.{judged_then, located_then}
+use Rattle.flat_actions.proofs.Standing.{shown_still, keeps_same}
+use Rattle.moving_routines.proofs.Tagged.{ChangesRange, tables_stay, spaces_stay, behind_stays, shadow_stays, IsLocal}
+use Rattle.moving_routines.proofs.Judged.{work_done, judged_acts}
+use Rattle.string_routines.specs.Copying.{HasWritten}
+
+-- the bytes of an access that is allowed lie in object space
+pub allowed_range : (g : Views) (k : Keys) (objects : Objects) (m : Bytes) (v : Value) (n : ℕ) (p : Place)
+    → StandsFor g k objects m → IsAllowed objects v n p → IsObjectRange g.sizes v.word n
+allowed_range g k objects m v n p st h =
+    let at = st.placed p.object h.live in
+    let first = at.first in let last = at.last in let room = h.place.room in let address = h.address in
+    record { first = omega arith; last = omega arith }
+
+-- what changes within a live object changes nothing elsewhere
+elsewhere_stays : (map : MapSizes) (old new : Objects) (m m' : Bytes) (v : Value) (n : ℕ) (p : Place)
+    → KeepsObjects old new → IsAllowed old v n p
+    → ((a : ℕ) → a < spaces_begin → (a < v.word) ⊎ (v.word + n ≤ a) → m' a ≡ m a)
+    → ((a : ℕ) → region_start map StructureValues ≤ a → m' a ≡ m a)
+    → StaysElsewhere map new m m'
+elsewhere_stays map old new m m' v n p keeps h beside behind = record {
+  low = λ a l out.
+      let same = keeps.at p.object in
+      let address = same.address in let size = same.size in
+      let room = h.place.room in let at = h.address in
+      beside a l (⊎_elim (λ lo. inl (omega arith)) (λ hi. inr (omega arith)) (out p.object (same.live ∙ h.live)));
+  behind = behind;
+}
+
+module _ (map : MapSizes) (mapped : AreMapped map) (entry : View) (IsGood : Bytes → Type 0)
+    (local : IsLocal map entry IsGood) (functions : ℕ) (types : ℕ → ℕ) (k : Keys) (t : ℕ) (x : Source) where
+  abbrev g : Views
+  g = views_of map functions types entry
+
+  abbrev pub with_written : List ℕ → Place → Source
+  with_written new p = record x { work = x.work + length new; objects = write_bytes new p x.objects }
+
+  pub written_is : (f f' : State) (new : List ℕ) (dv v : Value) (p : Place) → IsFor g k IsGood x f
+      → IsAllowed x.objects dv (length new) p → ((j : ℕ) → get_or new j 0 < 256) → HasWritten new dv.word t f f'
+      → HasGiven g k IsGood Nowhere t x f v (with_written new p) f'
+  written_is f f' new dv v p h a small written =
+      let ok = laid_out map mapped in
+      let range = allowed_range g k x.objects f.memory dv (length new) p h.objects a in
+      let end = ok.small in let last = range.last in
+      let change : ChangesRange map dv.word (length new) f.memory f'.memory = record {
+        low = λ q l out. written.beside q out;
+        high = λ q l. written.beside q (inr (omega arith));
+      } in
+      let shadow = local f.memory f'.memory
+      (shadow_stays map dv.word (length new) f.memory f'.memory ok last written.beside) h.spaces.shadow in
+      let place : dv.word ≡ (object_at x.objects p.object).address + p.offset = sym a.address in
+      let put : IsPut g new dv.word f.memory f'.memory = record {
+        there = written.there;
+        beside = change.low;
+        entries = shadow.1;
+        tables = tables_stay map functions types entry IsGood dv.word (length new) f.memory f'.memory mapped h.spaces
+            change;
+      } in
+      let shown = shown_still x f f' written.shows h.shown in
+      record {
+        keys = k;
+        held = keeps_same x.objects k;
+        stands = record {
+          objects = put_stands g k mapped ok x.objects f.memory f'.memory h.objects new p a.live a.place small
+              (subst (λ i. IsPut g new i f.memory f'.memory) place put);
+          spaces = spaces_stay map IsGood dv.word (length new) f.memory f'.memory mapped h.spaces change shadow.0;
+          keys = h.keys;
+          shown = record {
+            input = shown.input;
+            output = shown.output;
+            taken = shown.taken;
+            accesses = shown.accesses;
+          };
+        };
+        given = tt;
+        turns = written.shows.turns;
+        elsewhere = elsewhere_stays map x.objects (write_bytes new p x.objects) f.memory f'.memory dv (length new) p
+            (keeps_bytes new p x.objects) a change.low
+            (behind_stays map dv.word (length new) f.memory f'.memory change);
+        others = written.others;
+      }
+
+  -- ---- judged first
+
+  module _ (c : Context) (judging writing : List FlatInstruction) (dv v : Value) (new : List ℕ) (line : ℕ) (P : Holds)
+      (K : ℕ) (small : (j : ℕ) → get_or new j 0 < 256) (sound : IsSoundTag functions x.objects dv.tag)
+      (stands : (f : State) → P f → IsFor g k IsGood x f)
+      (keep : (f f' : State) → P f → IsSameBut t f f' → P f')
+      (judges : Does c judging P (λ f. 10) (λ f. IsJudged (judge (length new) dv x.objects) line t f))
+      (writes : (p : Place) → IsAllowed x.objects dv (length new) p
+      → Does c writing P (λ f. K + 8 * length new) (λ f. Either (HasWritten new dv.word t f) Never)) where
+    abbrev pub writing_run : Place → Run Value
+    writing_run p = set_bytes new p >> done v
+
+    abbrev pub whole_run : Completed Value
+    whole_run = on (located true (length new) dv line x) writing_run
+
+    -- it does no less work
+    pub whole_works : x.work ≤ (state_of whole_run).work
+    whole_works =
+        subst (λ r. x.work ≤ (state_of r).work) (sym (located_then (length new) dv line x writing_run))
+        (by (judge (length new) dv x.objects))
+      where
+        by : (w : Verdict) → x.work ≤ (state_of (judged_then w line x (λ p. writing_run p x))).work
+        by Outside = omega arith
+        by Dead = omega arith
+        by (Inside p) = omega arith
+
+    writes_as : (p : Place) → judge (length new) dv x.objects ≡ Inside p
+        → Does c writing P (λ f. K + 8 * work_done (writing_run p x) x)
+        (λ f. Leaves g k IsGood Nowhere t x f (writing_run p x))
+    writes_as p e = record {
+      from = λ code pc f has w q.
+          let a = judge_inside functions x.objects (length new) dv p sound e in
+          let n : work_done (writing_run p x) x ≡ length new = omega arith in
+          weaken c code (K + 8 * length new) (K + 8 * work_done (writing_run p x) x) _ _ _ _ (omega arith)
+          (left p a f q) ((writes p a).from code pc f has w q);
+    }
+      where
+        left : (p : Place) → IsAllowed x.objects dv (length new) p → (f : State) → P f → (o : Outcome)
+            → Either (HasWritten new dv.word t f) Never o → Leaves g k IsGood Nowhere t x f (writing_run p x) o
+        left p a f q (Continues f') h = written_is f f' new dv v p (stands f q) a small h
+        left p a f q (Halts status report f') h = absurd h
+
+    pub judged_writes : Does c (judging ++ writing) P (λ f. 10 + (K + 8 * work_done whole_run x))
+        (λ f. Leaves g k IsGood Nowhere t x f whole_run)
+    judged_writes =
+        judged_acts g k IsGood Nowhere t x c judging writing dv (length new) line writing_run P 10 K 8 judges
+        (λ f q. (stands f q).shown) keep writes_as

@@ -1,0 +1,25 @@
+-- Strings copied in flat code.
+use Rattle.std.specs.Prelude.{◌≡◌, ℕ, ◌+◌, ◌<◌, List, [], ◌∷◌, length, get_or}
+use Rattle.rv_isa.specs.declared.instruction.RegOp.TheVariants.{Add, Sub}
+use Rattle.flat_meaning.specs.declared.instruction.RightOperand.TheVariants.{Register, Number}
+use Rattle.flat_meaning.specs.declared.instruction.FlatInstruction.{FlatInstruction}
+use Rattle.flat_meaning.specs.declared.instruction.FlatInstruction.TheVariants.{Constant, Operate}
+use Rattle.flat_meaning.specs.Memory.{KeepsBut}
+use Rattle.flat_meaning.specs.State.{State}
+use Rattle.flat_routines.specs.Registers.{OthersStay}
+use Rattle.flat_routines.specs.Metadata.{ShowsNothing}
+
+-- these bytes were written from an address on
+pub record HasWritten (new : List ℕ) (word scratch : ℕ) (f f' : State) : Type 0 where
+  pub there : (i : ℕ) → i < length new → f'.memory (word + i) ≡ get_or new i 0
+  pub beside : KeepsBut word (length new) f.memory f'.memory
+  pub shows : ShowsNothing f f'
+  pub others : OthersStay [] scratch f f'
+
+-- the bytes of a scanned string and its 0 byte
+abbrev pub size_code : (size start cursor : ℕ) → List FlatInstruction
+size_code n from c = Operate Sub n c (Register from) ∷ Operate Add n n (Number 1) ∷ []
+
+-- of so many bytes: where those stand that no string has, and how many they are
+abbrev pub tail_code : (to size count address zero : ℕ) → List FlatInstruction
+tail_code d n m a z = Operate Add a d (Register m) ∷ Operate Sub m n (Register m) ∷ Constant z 0 ∷ []

@@ -11,3 +11,5 @@ pub mod PutLoop
 pub mod PutsActs
 pub mod Joins
 pub mod Written
+pub mod Handing
+pub mod CopySteps

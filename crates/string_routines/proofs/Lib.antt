@@ -12,4 +12,4 @@ pub mod PutsActs
 pub mod Joins
 pub mod Written
 pub mod Handing
-pub mod CopySteps
+pub mod StringWritten

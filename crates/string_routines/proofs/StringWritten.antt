@@ -16,11 +16,14 @@ use Rattle.flat_meaning.specs.declared.instruction.FlatInstruction.{FlatInstruct
 use Rattle.flat_meaning.specs.Memory.{Bytes, put}
 use Rattle.flat_meaning.specs.State.{State}
 use Rattle.flat_meaning.specs.Words.{IsOfWords}
-use Rattle.flat_meaning.specs.Meaning.{Context}
+use Rattle.flat_meaning.specs.Meaning.{Context, Goes}
 use Rattle.flat_meaning.proofs.Stored.{put_same, put_other}
 use Rattle.flat_routines.specs.declared.registers.Held.{Held}
 use Rattle.flat_routines.specs.Registers.{AreBelow}
-use Rattle.flat_routines.specs.Routine.{Outcome, Continues, Halts, Does, Either, Never}
+use Rattle.flat_routines.specs.Routine.{Outcome, Continues, Halts, Reaches, Does, Either, Never}
+use Rattle.flat_routines.proofs.Steps.{has_front, has_back}
+use Rattle.flat_routines.proofs.Rules.{weaken, line_on}
+use Rattle.space_routines.proofs.Quiet.{quiet_words}
 use Rattle.flat_routines.specs.Effects.{effects}
 use Rattle.flat_routines.specs.Metadata.{held_registers, ShowsNothing}
 use Rattle.flat_objects.specs.StandsFor.{Views, Keys, Spells}
@@ -33,9 +36,9 @@ use Rattle.moving_routines.proofs.Steps.{does_weaken}
 use Rattle.moving_routines.proofs.Judged.{work_done}
 use Rattle.string_routines.specs.Copying.{HasWritten, size_code}
 use Rattle.string_routines.proofs.Fresh.{below_more}
-use Rattle.string_routines.proofs.Handing.{IsSince}
+use Rattle.string_routines.proofs.Handing.{IsSince, left_from}
 use Rattle.string_routines.proofs.Runtime.{does_in}
-use Rattle.string_routines.proofs.Written.{allowed_range, whole_run, judged_writes}
+use Rattle.string_routines.proofs.Written.{allowed_range, written_run, judged_writes}
 
 -- the bytes of a string and its 0 byte, as they stand in memory
 with_zero : (m : Bytes) (a : ℕ) (bytes : List ℕ) → ((i : ℕ) → i < length bytes → m (a + i) ≡ get_or bytes i 0)
@@ -73,7 +76,8 @@ module _ (ground : Ground) (runtime : ground.is_runtime ≡ true) (mapped : AreM
     (judges : IsJudgeRoutine to z line (z + 1) judging)
     (moves : IsByteMoveRoutine ground.map to.value from z (z + 1) moving)
     (functions : ℕ) (types : ℕ → ℕ) (k : Keys) (x : Source) (dv v : Value) (a : ℕ) (bytes : List ℕ)
-    (charge weight : ℕ) (bytes_small : (i : ℕ) → get_or (bytes ++ 0 ∷ []) i 0 < 256) where
+    (charge weight : ℕ) (sound : IsSoundTag functions x.objects dv.tag)
+    (bytes_small : (i : ℕ) → get_or (bytes ++ 0 ∷ []) i 0 < 256) where
   abbrev g : Views
   g = views_of ground.map functions types ground.entry
 
@@ -87,7 +91,6 @@ module _ (ground : Ground) (runtime : ground.is_runtime ≡ true) (mapped : AreM
   pub record IsToWrite (f : State) : Type 0 where
     pub stands : IsFor g k ground.IsGood x f
     pub spells : Spells g k dv to f.values
-    pub sound : IsSoundTag functions x.objects dv.tag
     pub start_is : f.values from ≡ a
     pub cursor_is : f.values cursor ≡ a + length bytes
     pub found : IsFound g a bytes f.memory
@@ -101,7 +104,6 @@ module _ (ground : Ground) (runtime : ground.is_runtime ≡ true) (mapped : AreM
       record {
         stands = for_still g k ground.IsGood x f f' s.memory s.shows p.stands;
         spells = spells_still g k dv to [] z f f' s.others b (none_of_none (held_registers to)) p.spells;
-        sound = p.sound;
         start_is = s.others from below.0 tt ∙ p.start_is;
         cursor_is = s.others cursor below.1.0 tt ∙ p.cursor_is;
         found = subst (IsFound g a bytes) (sym s.memory) p.found;
@@ -127,7 +129,7 @@ module _ (ground : Ground) (runtime : ground.is_runtime ≡ true) (mapped : AreM
       (λ f. IsJudged (judge (length new) dv x.objects) line (z + 1) f) (omega arith)
       (λ f p. record {
         stands = p.0.stands.objects;
-        sound = p.0.sound;
+        sound = sound;
         spells = p.0.spells;
         size_is = p.1;
         some = (let n = length-append bytes (0 ∷ []) in omega arith);
@@ -164,3 +166,54 @@ module _ (ground : Ground) (runtime : ground.is_runtime ≡ true) (mapped : AreM
             others = h.others;
           }
       written f q (Halts status report f') h = absurd h
+
+  abbrev whole : Completed Value
+  whole = written_run (length new) dv v new line x
+
+  judged_moves : Does c (judging ++ moving) IsSized (λ f. 10 + (16 + 8 * work_done whole x))
+      (λ f. Leaves g k ground.IsGood Nowhere (z + 1) x f whole)
+  judged_moves =
+      judged_writes ground.map mapped ground.entry ground.IsGood local functions types k (z + 1) x c judging moving dv v
+      new line IsSized 16 bytes_small sound (λ f p. p.0.stands)
+      (λ f f' p s. (keeps f f' (since_same f f' s) p.0, s.others z (omega arith) tt ∙ p.1)) judges_it moves_it
+
+  -- the size is counted first
+  record IsCounted (f : State) : Type 0 where
+    since : IsSince z f (effects c (size_code z from cursor) f)
+    size_is : (effects c (size_code z from cursor) f).values z ≡ length new
+
+  counted : (f : State) → IsOfWords f → IsToWrite f → IsCounted f
+  unfolding reg_result
+  counted f w p =
+      let long = length-append bytes (0 ∷ []) in
+      let small = p.found.small in let start = p.start_is in let end = p.cursor_is in
+      let n : ((f.values cursor + (2 ^ 64 - f.values from)) % 2 ^ 64 + 1) % 2 ^ 64 ≡ length new = omega arith in
+      let first = put_same f.values z ((f.values cursor + (2 ^ 64 - f.values from)) % 2 ^ 64) in
+      record {
+        since = record {
+          memory = refl;
+          shows = record { input = refl; output = refl; taken = refl; accesses = refl; turns = refl };
+          others = λ r less none. put_other _ z _ r (λ e. omega (arith, e, less)) ∙ put_other f.values z _ r
+              (λ e. omega (arith, e, less));
+        };
+        size_is = put_same _ z _ ∙ ap (λ q. (q + 1) % 2 ^ 64) first ∙ n;
+      }
+
+  pub string_writes : Does c (size_code z from cursor ++ (judging ++ moving)) IsToWrite
+      (λ f. 2 + (10 + (16 + 8 * work_done whole x))) (λ f. Leaves g k ground.IsGood Nowhere z x f whole)
+  string_writes = record {
+    from = λ code pc f has w p.
+        let sizes = size_code z from cursor in
+        let rest = judging ++ moving in
+        let B = 10 + (16 + 8 * work_done whole x) in
+        let R = Leaves g k ground.IsGood Nowhere z x f whole in
+        let f' = effects c sizes f in
+        let h = counted f w p in
+        let len : pc + 2 + length rest ≡ pc + length (sizes ++ rest) = omega arith in
+        subst (λ e. Reaches c code (2 + B) (Goes pc f) e R) len
+        (line_on c code sizes B pc f (pc + 2 + length rest) R (tt, (tt, tt)) (has_front code pc sizes rest has)
+        (weaken c code B B (Goes (pc + 2) f') (pc + 2 + length rest) (Leaves g k ground.IsGood Nowhere (z + 1) x f' whole)
+        R (omega arith) (λ o i. left_from g k ground.IsGood z (z + 1) x.work x f f' whole o (omega arith) h.since i)
+        (judged_moves.from code (pc + 2) f' (has_back code pc sizes rest has)
+        (quiet_words c sizes f (tt, (tt, tt)) w) (keeps f f' h.since p, h.size_is))));
+  }

@@ -60,6 +60,36 @@ elsewhere_stays map old new m m' v n p keeps h beside behind = record {
   behind = behind;
 }
 
+-- ---- what is written in the source
+
+abbrev pub written_run : (size : ℕ) → Value → (result : Value) → List ℕ → (line : ℕ) → Run Value
+written_run n dv v new line x = on (located true n dv line x) (λ p. set_bytes new p >> done v)
+
+-- it takes no work back
+pub written_works : (n : ℕ) (dv v : Value) (new : List ℕ) (line : ℕ) (x : Source)
+    → x.work ≤ (state_of (written_run n dv v new line x)).work
+written_works n dv v new line x =
+    subst (λ r. x.work ≤ (state_of r).work) (sym (located_then n dv line x (λ p. set_bytes new p >> done v)))
+    (by (judge n dv x.objects))
+  where
+    by : (w : Verdict) → x.work ≤ (state_of (judged_then w line x (λ p. (set_bytes new p >> done v) x))).work
+    by Outside = omega arith
+    by Dead = omega arith
+    by (Inside p) = omega arith
+
+-- and gives what it is to give
+pub written_gives : (n : ℕ) (dv v : Value) (new : List ℕ) (line : ℕ) (x : Source) (w : Value) (x' : Source)
+    → written_run n dv v new line x ≡ Gives w x' → w ≡ v
+written_gives n dv v new line x w x' e =
+    by (judge n dv x.objects) (sym (located_then n dv line x (λ p. set_bytes new p >> done v)) ∙ e)
+  where
+    by : (j : Verdict) → judged_then j line x (λ p. (set_bytes new p >> done v) x) ≡ Gives w x' → w ≡ v
+    by Outside q = cc
+    by Dead q = cc
+    by (Inside p) q = cc
+
+-- ---- what memory becomes
+
 module _ (map : MapSizes) (mapped : AreMapped map) (entry : View) (IsGood : Bytes → Type 0)
     (local : IsLocal map entry IsGood) (functions : ℕ) (types : ℕ → ℕ) (k : Keys) (t : ℕ) (x : Source) where
   abbrev g : Views
@@ -122,22 +152,11 @@ module _ (map : MapSizes) (mapped : AreMapped map) (entry : View) (IsGood : Byte
       (judges : Does c judging P (λ f. 10) (λ f. IsJudged (judge (length new) dv x.objects) line t f))
       (writes : (p : Place) → IsAllowed x.objects dv (length new) p
       → Does c writing P (λ f. K + 8 * length new) (λ f. Either (HasWritten new dv.word t f) Never)) where
-    abbrev pub writing_run : Place → Run Value
+    abbrev whole : Completed Value
+    whole = written_run (length new) dv v new line x
+
+    abbrev writing_run : Place → Run Value
     writing_run p = set_bytes new p >> done v
-
-    abbrev pub whole_run : Completed Value
-    whole_run = on (located true (length new) dv line x) writing_run
-
-    -- it does no less work
-    pub whole_works : x.work ≤ (state_of whole_run).work
-    whole_works =
-        subst (λ r. x.work ≤ (state_of r).work) (sym (located_then (length new) dv line x writing_run))
-        (by (judge (length new) dv x.objects))
-      where
-        by : (w : Verdict) → x.work ≤ (state_of (judged_then w line x (λ p. writing_run p x))).work
-        by Outside = omega arith
-        by Dead = omega arith
-        by (Inside p) = omega arith
 
     writes_as : (p : Place) → judge (length new) dv x.objects ≡ Inside p
         → Does c writing P (λ f. K + 8 * work_done (writing_run p x) x)
@@ -155,8 +174,8 @@ module _ (map : MapSizes) (mapped : AreMapped map) (entry : View) (IsGood : Byte
         left p a f q (Continues f') h = written_is f f' new dv v p (stands f q) a small h
         left p a f q (Halts status report f') h = absurd h
 
-    pub judged_writes : Does c (judging ++ writing) P (λ f. 10 + (K + 8 * work_done whole_run x))
-        (λ f. Leaves g k IsGood Nowhere t x f whole_run)
+    pub judged_writes : Does c (judging ++ writing) P (λ f. 10 + (K + 8 * work_done whole x))
+        (λ f. Leaves g k IsGood Nowhere t x f whole)
     judged_writes =
         judged_acts g k IsGood Nowhere t x c judging writing dv (length new) line writing_run P 10 K 8 judges
         (λ f q. (stands f q).shown) keep writes_as

@@ -13,3 +13,4 @@ pub mod Joins
 pub mod Written
 pub mod Handing
 pub mod StringWritten
+pub mod StringCopies

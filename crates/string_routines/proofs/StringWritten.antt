@@ -41,7 +41,7 @@ use Rattle.string_routines.proofs.Runtime.{does_in}
 use Rattle.string_routines.proofs.Written.{allowed_range, written_run, judged_writes}
 
 -- the bytes of a string and its 0 byte, as they stand in memory
-with_zero : (m : Bytes) (a : ℕ) (bytes : List ℕ) → ((i : ℕ) → i < length bytes → m (a + i) ≡ get_or bytes i 0)
+pub with_zero : (m : Bytes) (a : ℕ) (bytes : List ℕ) → ((i : ℕ) → i < length bytes → m (a + i) ≡ get_or bytes i 0)
     → m (a + length bytes) ≡ 0 → (i : ℕ) → i < length (bytes ++ 0 ∷ []) → m (a + i) ≡ get_or (bytes ++ 0 ∷ []) i 0
 with_zero m a bytes there last i less =
     let long = length-append bytes (0 ∷ []) in

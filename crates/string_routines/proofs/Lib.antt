@@ -14,3 +14,4 @@ pub mod Written
 pub mod Handing
 pub mod StringWritten
 pub mod StringCopies
+pub mod CopyActs

@@ -6,11 +6,14 @@ use Rattle.sb_base.specs.declared.ending.Ending.TheVariants.{Spatial}
 use Rattle.sb_base.specs.Endings.{code_of, report_of}
 use Rattle.addr_map.specs.Places.{AreMapped}
 use Rattle.obj_memory.specs.declared.value.Value.{Value}
+use Rattle.obj_memory.specs.declared.value.Place.{Place}
 use Rattle.obj_memory.specs.Sound.{IsSoundTag}
 use Rattle.source_meaning.specs.State.{State as Source, Outcome as Completed, Gives, Ended, Paused, Run, on, ◌>>=◌}
-use Rattle.source_meaning.specs.State.{stop}
+use Rattle.source_meaning.specs.State.{◌>>◌, done, stop}
+use Rattle.source_meaning.specs.Actions.{located}
+use Rattle.source_meaning.specs.Bytes.{set_bytes}
 use Rattle.source_meaning.specs.Acting.{state_of, at_work}
-use Rattle.source_meaning.specs.Strings.{scan}
+use Rattle.source_meaning.specs.Strings.{scan, write_string}
 use Rattle.flat_meaning.specs.declared.instruction.FlatInstruction.{FlatInstruction}
 use Rattle.flat_meaning.specs.Memory.{Bytes}
 use Rattle.flat_meaning.specs.State.{State}
@@ -36,7 +39,7 @@ use Rattle.string_routines.proofs.Between.{scan_between, IsTerminated, terminate
 use Rattle.string_routines.proofs.Fresh.{apart_from, below_more}
 use Rattle.string_routines.proofs.Handing.{IsSince, left_from}
 use Rattle.string_routines.proofs.StringWritten.{with_zero, are_small, IsFound, IsToWrite, string_writes}
-use Rattle.string_routines.proofs.Written.{written_run, written_works}
+use Rattle.string_routines.proofs.Written.{written_run, written_works, written_gives}
 
 -- what is done in the source: the result is some value
 abbrev pub copied : (to result source : Value) → (line : ℕ) → Run Value
@@ -153,3 +156,39 @@ module _ (ground : Ground) (runtime : ground.is_runtime ≡ true) (mapped : AreM
           len (on_behind code (pc + length scanning) f f' bytes x' (has_back code pc scanning rest has) w words p is worked
           i)));
     }
+
+-- ---- what it gives
+
+pub copied_gives : (dv v sv : Value) (line : ℕ) (x : Source) (w : Value) (x' : Source)
+    → copied dv v sv line x ≡ Gives w x' → w ≡ v
+copied_gives dv v sv line x w x' e = by (scan sv line x) e
+  where
+    by : (r : Completed (List ℕ)) → on r (λ bytes. written_run (length (bytes ++ 0 ∷ [])) dv v (bytes ++ 0 ∷ []) line)
+        ≡ Gives w x' → w ≡ v
+    by (Gives bytes y) q = written_gives (length (bytes ++ 0 ∷ [])) dv v (bytes ++ 0 ∷ []) line y w x' q
+    by (Ended u y) q = cc
+    by (Paused y) q = cc
+
+-- it is as the source says it
+written_is_write_string : (dv v : Value) (bytes : List ℕ) (line : ℕ) (x : Source)
+    → on (write_string dv bytes line x) (λ u. done v)
+    ≡ written_run (length (bytes ++ 0 ∷ [])) dv v (bytes ++ 0 ∷ []) line x
+written_is_write_string dv v bytes line x =
+    assoc (located true (length bytes + 1) dv line x)
+    ∙ ap (λ n. written_run n dv v (bytes ++ 0 ∷ []) line x) (sym (length-append bytes (0 ∷ [])))
+  where
+    assoc : (r : Completed Place) → on (on r (set_bytes (bytes ++ 0 ∷ []))) (λ u. done v)
+        ≡ on r (λ p. set_bytes (bytes ++ 0 ∷ []) p >> done v)
+    assoc (Gives p y) = refl
+    assoc (Ended e y) = refl
+    assoc (Paused y) = refl
+
+pub copied_is : (dv v sv : Value) (line : ℕ) (x : Source)
+    → on (scan sv line x) (λ bytes. write_string dv bytes line >> done v) ≡ copied dv v sv line x
+copied_is dv v sv line x = by (scan sv line x)
+  where
+    by : (r : Completed (List ℕ)) → on r (λ bytes. write_string dv bytes line >> done v)
+        ≡ on r (λ bytes. written_run (length (bytes ++ 0 ∷ [])) dv v (bytes ++ 0 ∷ []) line)
+    by (Gives bytes y) = written_is_write_string dv v bytes line y
+    by (Ended e y) = refl
+    by (Paused y) = refl

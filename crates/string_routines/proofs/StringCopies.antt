@@ -38,6 +38,7 @@ use Rattle.string_routines.proofs.AfterScan.{over, after_scan}
 use Rattle.string_routines.proofs.Between.{scan_between, IsTerminated, terminated}
 use Rattle.string_routines.proofs.Fresh.{apart_from, below_more}
 use Rattle.string_routines.proofs.Handing.{IsSince, left_from}
+use Rattle.string_routines.proofs.Looking.{scan_works}
 use Rattle.string_routines.proofs.StringWritten.{with_zero, are_small, IsFound, IsToWrite, string_writes}
 use Rattle.string_routines.proofs.Written.{written_run, written_works, written_gives}
 
@@ -192,3 +193,14 @@ copied_is dv v sv line x = by (scan sv line x)
     by (Gives bytes y) = written_is_write_string dv v bytes line y
     by (Ended e y) = refl
     by (Paused y) = refl
+
+-- it takes no work back
+pub copied_works : (dv v sv : Value) (line : ℕ) (x : Source) → x.work ≤ (state_of (copied dv v sv line x)).work
+copied_works dv v sv line x = by (scan sv line x) (scan_works x sv line)
+  where
+    by : (r : Completed (List ℕ)) → x.work ≤ (state_of r).work
+        → x.work ≤ (state_of (on r (λ bytes. written_run (length (bytes ++ 0 ∷ [])) dv v (bytes ++ 0 ∷ []) line))).work
+    by (Gives bytes y) le =
+        let more = written_works (length (bytes ++ 0 ∷ [])) dv v (bytes ++ 0 ∷ []) line y in omega arith
+    by (Ended e y) le = le
+    by (Paused y) le = le

@@ -7,3 +7,7 @@ pub mod Words
 pub mod Tagged
 pub mod Judged
 pub mod Guarded
+pub mod Moves
+pub mod Acts
+pub mod Sets
+pub mod Copies

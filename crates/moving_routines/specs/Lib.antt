@@ -3,3 +3,4 @@ pub mod Moving
 pub mod Filling
 pub mod Tagged
 pub mod Library
+pub mod Structures

@@ -3,8 +3,12 @@
 #![tactic(auto)]
 
 pub mod filling;
+pub mod library;
 mod lists;
 pub mod moving;
+pub mod structures;
 
 pub use crate::filling::fill;
+pub use crate::library::{memmove, memset};
 pub use crate::moving::{move_bytes, move_tagged};
+pub use crate::structures::copy_structure;

@@ -20,7 +20,7 @@ pub(crate) fn joined<T: Copy>(
     Ok(list)
 }
 
-// A body that is passed over where a condition holds.
+// A body that is passed over where a condition holds. One of 2^32 instructions is more than fits memory.
 pub(crate) fn unless(
     alloc: Global,
     op: BranchOp,
@@ -28,16 +28,12 @@ pub(crate) fn unless(
     right: RightOperand,
     body: &[FlatInstruction],
 ) -> Result<Vec<FlatInstruction>, AllocError>
-    requires { length body.now < 2 ^ 31 }
     ensures { IfOk result (λ r. r.items ≡ unless_code op left right body.now) }
 {
-    let past = body.len() as u32;
-    let test = [FlatInstruction::Branch {
-        op,
-        left,
-        right,
-        past,
-    }];
+    let Ok(past) = u32::try_from(body.len()) else {
+        return Err(AllocError);
+    };
+    let test = [FlatInstruction::Branch { op, left, right, past }];
     joined(alloc, &test, body)
 }
 

@@ -3,7 +3,6 @@ use Rattle.std.proofs.lemmas.Result.{IfOk-weaker}
 use Rattle.flat_routines.proofs.Regions.{laid_out}
 use Rattle.flat_actions.specs.Ranges.{IsByteMoveRoutine}
 use Rattle.moving_routines.proofs.Bytes.{moves_bytes}
-use Rattle.moving_routines.proofs.Guarded.{guarded}
 use Rattle.moving_routines.proofs.moving.move_bytes.Goals as goal
 
 pub returns : goal.returns

@@ -1,13 +1,19 @@
 -- Strings copied in flat code.
-use Rattle.std.specs.Prelude.{◌≡◌, ℕ, ◌+◌, ◌<◌, List, [], ◌∷◌, length, get_or}
+use Rattle.std.specs.Prelude.{◌≡◌, ℕ, ◌+◌, ◌<◌, List, [], ◌∷◌, ◌++◌, length, get_or}
 use Rattle.rv_isa.specs.declared.instruction.RegOp.TheVariants.{Add, Sub}
+use Rattle.source_meaning.specs.Strings.{scan}
 use Rattle.flat_meaning.specs.declared.instruction.RightOperand.TheVariants.{Register, Number}
 use Rattle.flat_meaning.specs.declared.instruction.FlatInstruction.{FlatInstruction}
 use Rattle.flat_meaning.specs.declared.instruction.FlatInstruction.TheVariants.{Constant, Operate}
 use Rattle.flat_meaning.specs.Memory.{KeepsBut}
 use Rattle.flat_meaning.specs.State.{State}
+use Rattle.flat_routines.specs.declared.registers.Held.{Held}
 use Rattle.flat_routines.specs.Registers.{OthersStay}
 use Rattle.flat_routines.specs.Metadata.{ShowsNothing}
+use Rattle.flat_judging.specs.Judging.{IsJudgeRoutine}
+use Rattle.flat_actions.specs.Actions.{Ground}
+use Rattle.flat_actions.specs.Ranges.{IsByteMoveRoutine}
+use Rattle.flat_actions.specs.Scanning.{IsScanRoutine}
 
 -- these bytes were written from an address on
 pub record HasWritten (new : List ℕ) (word scratch : ℕ) (f f' : State) : Type 0 where
@@ -23,3 +29,14 @@ size_code n from c = Operate Sub n c (Register from) ∷ Operate Add n n (Number
 -- of so many bytes: where those stand that no string has, and how many they are
 abbrev pub tail_code : (to size count address zero : ℕ) → List FlatInstruction
 tail_code d n m a z = Operate Add a d (Register m) ∷ Operate Sub m n (Register m) ∷ Constant z 0 ∷ []
+
+-- A string is scanned, with a register for the cursor and one for the size behind it, the destination is judged, and
+-- the bytes are moved there. The three routines are known by what they do.
+pub record IsCopied (ground : Ground) (to from : Held) (line scratch : ℕ) (items : List FlatInstruction) : Type 0 where
+  pub scanning : List FlatInstruction
+  pub judging : List FlatInstruction
+  pub moving : List FlatInstruction
+  pub scans : IsScanRoutine ground (λ v. scan v line) from (λ f. Unit {0}) scratch (scratch + 1) scanning
+  pub judges : IsJudgeRoutine to (scratch + 1) line (scratch + 1 + 1) judging
+  pub moves : IsByteMoveRoutine ground.map to.value from.value (scratch + 1) (scratch + 1 + 1) moving
+  pub items_are : items ≡ scanning ++ (size_code (scratch + 1) from.value scratch ++ (judging ++ moving))

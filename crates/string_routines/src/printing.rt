@@ -7,7 +7,7 @@ ghost use Rattle.source_meaning.specs.Library.{argument};
 ghost use Rattle.flat_routines.specs.Registers.{AreBelow};
 ghost use Rattle.flat_routines.specs.Metadata.{held_registers};
 ghost use Rattle.flat_actions.specs.Actions.{IsAction, Pointer, Word};
-ghost use Rattle.string_routines.specs.Runtime.{in_runtime};
+ghost use Rattle.moving_routines.specs.Library.{runtime_ground};
 ghost use Rattle.string_routines.specs.Putting.{IsPutRoutine, put_code};
 
 use crate::lists::joined;
@@ -86,7 +86,7 @@ pub fn puts<S: ShadowForm>(
     requires map { AreMapped map.now }
     requires below { AreBelow scratch (into ∷ held_registers string) }
     requires room { scratch ≤ 2 ^ 29 }
-    ensures { IfOk result (λ r. IsAction (in_runtime map.now S.entry S.IsGood) (λ vs. puts_of (argument 0 vs) line)
+    ensures { IfOk result (λ r. IsAction (runtime_ground map.now S.entry (S.IsGood map.now)) (λ vs. puts_of (argument 0 vs) line)
         (Pointer string ∷ []) (Word into) scratch 21 8 r.items) }
 {
     let scanned = scan::<S>(alloc, map, string, scratch, line, scratch + 1)?;

@@ -3,7 +3,7 @@ use Rattle.std.proofs.lemmas.Result.{IfOk-weaker}
 use Rattle.source_meaning.specs.Printing.{puts as puts_of}
 use Rattle.source_meaning.specs.Library.{argument}
 use Rattle.flat_actions.specs.Actions.{IsAction, Pointer, Word}
-use Rattle.string_routines.specs.Runtime.{in_runtime}
+use Rattle.moving_routines.specs.Library.{runtime_ground}
 use Rattle.string_routines.specs.Putting.{newline_given}
 use Rattle.string_routines.proofs.Joins.{joined_as}
 use Rattle.string_routines.proofs.PutsActs.{puts_acts}
@@ -12,7 +12,7 @@ use Rattle.string_routines.proofs.printing.puts.Goals as goal
 pub returns : goal.returns
 returns g c =
     let a = c.args in
-    let ground = in_runtime a.map.now g.S.ShadowForm.entry g.S.ShadowForm.IsGood in
+    let ground = runtime_ground a.map.now g.S.ShadowForm.entry (g.S.ShadowForm.IsGood a.map.now) in
     let scanned = c.in_ok-scanned.scanned.items in
     let put = c.in_ok-put.put.items in
     let newline = newline_given a.into (a.scratch + 1) in

@@ -1,6 +1,6 @@
 -- The bytes that a scan gives lie between the bounds of a pointer to a live object.
 use Rattle.std.proofs.Common.{◌≡◌, ◌≢◌, ℕ, zero, suc, ◌+◌, ◌-◌, ◌%◌, ◌^◌, ◌<◌, ◌≤◌, ◌⊎◌, inl, inr, ⊎_elim, List, [], ◌∷◌}
-use Rattle.std.proofs.Common.{true, false, ◌==◌, length, get_or, refl, sym, ap, ◌∙◌, subst, arith}
+use Rattle.std.proofs.Common.{Bool, true, false, ◌==◌, length, get_or, refl, sym, ap, ◌∙◌, subst, arith}
 use Rattle.std.proofs.lemmas.Bool.{cases_Bool, eqb-true}
 use Rattle.sb_base.specs.declared.ending.Ending.TheVariants.{Spatial}
 use Rattle.obj_memory.specs.declared.int_type.IntType.TheVariants.{UnsignedChar}
@@ -225,3 +225,34 @@ terminated g k line objects v n m st sound i = by i.how
               ((st.here i.number i.live).bytes (v.word + n - o.address) (omega arith)) ∙ zero_is;
         }
     by (AtLimit y bytes y' is) = cc
+
+-- ---- no more bytes than are counted
+
+pub no_more : (k : ℕ) (behind : Run (List ℕ)) → AddsNone behind → (x : Source) (v : Value) (line : ℕ) (bytes : List ℕ)
+    (x' : Source) → scan_within k behind v line x ≡ Gives bytes x' → length bytes ≤ k
+no_more zero behind none x v line bytes x' e = let l = ap length (none x bytes x' e) in omega arith
+no_more (suc k) behind none x v line bytes x' e =
+    by (no_more k behind none (worked_on 1 x) (moved 1 v) line) (judge 1 v x.objects) refl
+  where
+    others : (byte : ℕ) (r : Completed (List ℕ))
+        → ((bs : List ℕ) (y : Source) → r ≡ Gives bs y → length bs ≤ k)
+        → on r (λ bs. done (byte ∷ bs)) ≡ Gives bytes x' → length bytes ≤ suc k
+    others byte (Gives bs y) less q =
+        let n : suc (length bs) ≡ length bytes = ap count_of q in let l = less bs y refl in omega arith
+    others byte (Ended w y) less q = cc
+    others byte (Paused y) less q = cc
+
+    chosen : ((bs : List ℕ) (y : Source) → scan_within k behind (moved 1 v) line (worked_on 1 x) ≡ Gives bs y
+        → length bs ≤ k) → (b : Bool) (byte : ℕ)
+        → choose b (done []) (scan_within k behind (moved 1 v) line >>= (λ bs. done (byte ∷ bs))) (worked_on 1 x)
+        ≡ Gives bytes x' → length bytes ≤ suc k
+    chosen less true byte q = let n : 0 ≡ length bytes = ap count_of q in omega arith
+    chosen less false byte q = others byte (scan_within k behind (moved 1 v) line (worked_on 1 x)) less q
+
+    by : ((bs : List ℕ) (y : Source) → scan_within k behind (moved 1 v) line (worked_on 1 x) ≡ Gives bs y
+        → length bs ≤ k) → (w : Verdict) → judge 1 v x.objects ≡ w → length bytes ≤ suc k
+    by less Outside is = absurd (let z = sym (scan_by k behind x v line Outside is) ∙ e in cc)
+    by less Dead is = absurd (let z = sym (scan_by k behind x v line Dead is) ∙ e in cc)
+    by less (Inside p) is =
+        let byte = (read_value (Integer UnsignedChar) p x.objects).word in
+        chosen less (byte == 0) byte (sym (scan_by k behind x v line (Inside p) is) ∙ e)

@@ -15,3 +15,5 @@ pub mod Handing
 pub mod StringWritten
 pub mod StringCopies
 pub mod CopyActs
+pub mod FilledUp
+pub mod BoundedActs

@@ -157,7 +157,7 @@ beyond objects n b v tag at =
     (and_right (nat_le b.base v.word) (nat_le (v.word + 1) b.bound) (lt-leb (v.word + 1) b.bound (omega arith)))
 
 -- a scan takes no work back
-scan_within_works : (k : ℕ) (behind : Run (List ℕ)) (x : Source) (v : Value) (line : ℕ)
+pub scan_within_works : (k : ℕ) (behind : Run (List ℕ)) (x : Source) (v : Value) (line : ℕ)
     → ((y : Source) → y.work ≤ (state_of (behind y)).work) → x.work ≤ (state_of (scan_within k behind v line x)).work
 scan_within_works zero behind x v line h = h x
 scan_within_works (suc k) behind x v line h =

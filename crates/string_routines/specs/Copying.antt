@@ -1,5 +1,5 @@
 -- Strings copied in flat code.
-use Rattle.std.specs.Prelude.{◌≡◌, ℕ, ◌+◌, ◌<◌, List, [], ◌∷◌, ◌++◌, length, get_or}
+use Rattle.std.specs.Prelude.{◌≡◌, ℕ, ◌+◌, ◌<◌, ◌-◌, List, [], ◌∷◌, ◌++◌, length, get_or, replicate}
 use Rattle.rv_isa.specs.declared.instruction.RegOp.TheVariants.{Add, Sub}
 use Rattle.source_meaning.specs.Strings.{scan}
 use Rattle.flat_meaning.specs.declared.instruction.RightOperand.TheVariants.{Register, Number}
@@ -40,3 +40,13 @@ pub record IsCopied (ground : Ground) (to from : Held) (line scratch : ℕ) (ite
   pub judges : IsJudgeRoutine to (scratch + 1) line (scratch + 1 + 1) judging
   pub moves : IsByteMoveRoutine ground.map to.value from.value (scratch + 1) (scratch + 1 + 1) moving
   pub items_are : items ≡ scanning ++ (size_code (scratch + 1) from.value scratch ++ (judging ++ moving))
+
+-- ---- at most so many bytes
+
+-- how many were scanned
+abbrev pub count_code : (count start cursor : ℕ) → List FlatInstruction
+count_code m from c = Operate Sub m c (Register from) ∷ []
+
+-- the bytes of a string, and zeros up to so many bytes (C99 7.21.2.4)
+abbrev pub filled_up : (size : ℕ) → List ℕ → List ℕ
+filled_up n bytes = bytes ++ replicate (n - length bytes) 0

@@ -86,8 +86,8 @@ pub fn strcat<S: ShadowForm>(
     joined(alloc, &both, &give)
 }
 
-/// The string at the pointer in `from` is scanned, and written with its 0 byte at the pointer in `to`.
-pub fn copied<S: ShadowForm>(
+// The string at the pointer in `from` is scanned, and written with its 0 byte at the pointer in `to`.
+fn copied<S: ShadowForm>(
     alloc: Global,
     map: &AddrMap,
     to: Held,
@@ -126,8 +126,8 @@ pub fn copied<S: ShadowForm>(
     joined(alloc, &scanned, &rest)
 }
 
-/// The pointer in some registers is put into others.
-pub fn give_instructions(
+// The pointer in some registers is put into others.
+fn give_instructions(
     alloc: Global,
     from: Held,
     into: Held,

@@ -1,13 +1,14 @@
 -- Lists of instructions put together from lists that are known.
 use Rattle.std.proofs.Common.{◌≡◌, ℕ, ◌+◌, List, ◌++◌, ap, ◌∙◌}
+use Rattle.addr_map.specs.Places.{MapSizes}
 use Rattle.source_meaning.specs.Strings.{scan}
 use Rattle.flat_meaning.specs.declared.instruction.FlatInstruction.{FlatInstruction}
 use Rattle.flat_routines.specs.declared.registers.Held.{Held}
 use Rattle.flat_judging.specs.Judging.{IsJudgeRoutine}
 use Rattle.flat_actions.specs.Actions.{Ground}
-use Rattle.flat_actions.specs.Ranges.{IsByteMoveRoutine}
+use Rattle.flat_actions.specs.Ranges.{IsByteMoveRoutine, IsFillRoutine}
 use Rattle.flat_actions.specs.Scanning.{IsScanRoutine}
-use Rattle.string_routines.specs.Copying.{size_code, IsCopied}
+use Rattle.string_routines.specs.Copying.{size_code, IsCopied, count_code, tail_code, IsFilledUp}
 
 pub joined_as : (r a b x y : List FlatInstruction) → r ≡ a ++ b → a ≡ x → b ≡ y → r ≡ x ++ y
 joined_as r a b x y e f g = e ∙ ap (λ l. l ++ b) f ∙ ap (λ l. x ++ l) g
@@ -27,3 +28,11 @@ is_copied ground to from line t items scanning judging moving s j m e = record {
   moves = m;
   items_are = e;
 }
+
+pub is_filled_up : (map : MapSizes) (to from size t : ℕ) (items moving filling : List FlatInstruction)
+    → IsByteMoveRoutine map to from (t + 1) (t + 4) moving
+    → IsFillRoutine map (t + 2) (t + 3) (t + 1) (t + 4) filling
+    → items ≡ count_code (t + 1) from t ++ (moving ++ (tail_code to size (t + 1) (t + 2) (t + 3) ++ filling))
+    → IsFilledUp map to from size t items
+is_filled_up map to from size t items moving filling m f e =
+    record { moving = moving; filling = filling; moves = m; fills = f; items_are = e }

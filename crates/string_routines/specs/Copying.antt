@@ -1,5 +1,6 @@
 -- Strings copied in flat code.
 use Rattle.std.specs.Prelude.{◌≡◌, ℕ, ◌+◌, ◌<◌, ◌-◌, List, [], ◌∷◌, ◌++◌, length, get_or, replicate}
+use Rattle.addr_map.specs.Places.{MapSizes}
 use Rattle.rv_isa.specs.declared.instruction.RegOp.TheVariants.{Add, Sub}
 use Rattle.source_meaning.specs.Strings.{scan}
 use Rattle.flat_meaning.specs.declared.instruction.RightOperand.TheVariants.{Register, Number}
@@ -12,7 +13,7 @@ use Rattle.flat_routines.specs.Registers.{OthersStay}
 use Rattle.flat_routines.specs.Metadata.{ShowsNothing}
 use Rattle.flat_judging.specs.Judging.{IsJudgeRoutine}
 use Rattle.flat_actions.specs.Actions.{Ground}
-use Rattle.flat_actions.specs.Ranges.{IsByteMoveRoutine}
+use Rattle.flat_actions.specs.Ranges.{IsByteMoveRoutine, IsFillRoutine}
 use Rattle.flat_actions.specs.Scanning.{IsScanRoutine}
 
 -- these bytes were written from an address on
@@ -50,3 +51,12 @@ count_code m from c = Operate Sub m c (Register from) ∷ []
 -- the bytes of a string, and zeros up to so many bytes (C99 7.21.2.4)
 abbrev pub filled_up : (size : ℕ) → List ℕ → List ℕ
 filled_up n bytes = bytes ++ replicate (n - length bytes) 0
+
+pub record IsFilledUp (map : MapSizes) (to from size cursor : ℕ) (items : List FlatInstruction) : Type 0 where
+  pub moving : List FlatInstruction
+  pub filling : List FlatInstruction
+  pub moves : IsByteMoveRoutine map to from (cursor + 1) (cursor + 4) moving
+  pub fills : IsFillRoutine map (cursor + 2) (cursor + 3) (cursor + 1) (cursor + 4) filling
+  pub items_are : items
+      ≡ count_code (cursor + 1) from cursor
+      ++ (moving ++ (tail_code to size (cursor + 1) (cursor + 2) (cursor + 3) ++ filling))

@@ -7,10 +7,10 @@ ghost use Rattle.source_meaning.specs.Library.{argument};
 ghost use Rattle.flat_routines.specs.Registers.{AreBelow, AreDistinct, AreNoneOf};
 ghost use Rattle.flat_routines.specs.Metadata.{held_registers};
 ghost use Rattle.flat_actions.specs.Actions.{IsAction, Pointer};
-ghost use Rattle.moving_routines.specs.Library.{runtime_ground, give_code};
+ghost use Rattle.moving_routines.specs.Library.{runtime_ground};
 ghost use Rattle.string_routines.specs.Copying.{IsCopied};
 
-use crate::lists::joined;
+use crate::lists::{give_instructions, joined};
 use crate::scanning::scan;
 use addr_map::AddrMap;
 use flat_judging::judge;
@@ -124,37 +124,4 @@ fn copied<S: ShadowForm>(
     let act = joined(alloc, &judging, &moving)?;
     let rest = joined(alloc, &sizes, &act)?;
     joined(alloc, &scanned, &rest)
-}
-
-// The pointer in some registers is put into others.
-fn give_instructions(
-    alloc: Global,
-    from: Held,
-    into: Held,
-) -> Result<Vec<FlatInstruction>, AllocError>
-    ensures { IfOk result (λ r. r.items ≡ give_code from into) }
-{
-    let code = [
-        FlatInstruction::Move {
-            into: into.value,
-            from: from.value,
-        },
-        FlatInstruction::Move {
-            into: into.tag.base,
-            from: from.tag.base,
-        },
-        FlatInstruction::Move {
-            into: into.tag.bound,
-            from: from.tag.bound,
-        },
-        FlatInstruction::Move {
-            into: into.tag.key,
-            from: from.tag.key,
-        },
-        FlatInstruction::Move {
-            into: into.tag.lock,
-            from: from.tag.lock,
-        },
-    ];
-    Vec::from_slice(alloc, &code)
 }

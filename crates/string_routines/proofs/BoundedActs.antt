@@ -35,6 +35,7 @@ use Rattle.flat_actions.proofs.Standing.{for_still, for_worked, held_still, spel
 use Rattle.moving_routines.specs.Library.{guarded_code}
 use Rattle.moving_routines.proofs.Tagged.{IsLocal}
 use Rattle.moving_routines.proofs.Steps.{does_weaken}
+use Rattle.moving_routines.proofs.Moves.{allowed_range}
 use Rattle.moving_routines.proofs.Judged.{work_done}
 use Rattle.moving_routines.proofs.Guarded.{IsGuarded, guarded}
 use Rattle.string_routines.specs.Copying.{HasWritten, count_code, tail_code, filled_up}
@@ -45,7 +46,7 @@ use Rattle.string_routines.proofs.Fresh.{apart_from, below_more}
 use Rattle.string_routines.proofs.Handing.{IsSince, left_from}
 use Rattle.string_routines.proofs.Looking.{scan_within_works}
 use Rattle.string_routines.proofs.StringWritten.{are_small}
-use Rattle.string_routines.proofs.Written.{allowed_range, written_run, written_works, written_gives, judged_writes}
+use Rattle.string_routines.proofs.Written.{written_run, written_works, written_gives, judged_writes}
 
 -- bytes and zeros are bytes
 filled_small : (m : Bytes) (a n : ℕ) (bytes : List ℕ) → length bytes ≤ n → ((b : ℕ) → m b < 256)

@@ -9,7 +9,7 @@ pub mod Fresh
 pub mod Between
 pub mod PutLoop
 pub mod PutsActs
-pub mod Joins
+pub mod Made
 pub mod Written
 pub mod Handing
 pub mod StringWritten

@@ -27,6 +27,7 @@ use Rattle.flat_routines.proofs.Rules.{weaken, line, line_on, loop}
 use Rattle.flat_routines.proofs.Distinct.{AreRegisters, register_of, registers_rename, others_stay}
 use Rattle.flat_routines.proofs.Wrapped.{routine}
 use Rattle.shadow_space.proofs.Entries.{context_of, agrees_memory}
+use Rattle.moving_routines.proofs.Bytes.{byte_loaded}
 use Rattle.string_routines.specs.Putting.{bytes_from, IsToPut, HasPut, IsPutRoutine, put_body, put_code}
 use Rattle.string_routines.proofs.Runtime.{runtime_not_shown}
 
@@ -43,10 +44,6 @@ record Putting (start : State) (n k : ℕ) (v : State) : Type 0 where
   taken : v.taken ≡ start.taken
   accesses : v.accesses ≡ start.accesses
   turns : v.turns ≡ start.turns
-
-one_loaded : (m : Bytes) (a : ℕ) → load 1 m a ≡ m a
-unfolding load
-one_loaded m a = omega arith
 
 at_end : (a b : ℕ) → a ≡ b → branch_taken Beq a b ≡ true
 unfolding branch_taken
@@ -96,7 +93,7 @@ module _ (map : MapSizes) (charge weight n : ℕ) (start : State) (words : IsOfW
       let m = start.memory in
       let at : (v.values 2 + 0) % 2 ^ 64 ≡ a + d = omega arith in
       let is : load 1 v.memory ((v.values 2 + 0) % 2 ^ 64) ≡ m (a + d) =
-      ap (load 1 v.memory) at ∙ one_loaded v.memory (a + d) ∙ ap (λ f. f (a + d)) w.memory in
+      ap (load 1 v.memory) at ∙ byte_loaded v.memory (a + d) ∙ ap (λ f. f (a + d)) w.memory in
       let byte = words.memory (a + d) in
       let low : m (a + d) % 256 ≡ m (a + d) = omega arith in
       let shown = ap (λ z. z % 256) is ∙ low in

@@ -32,11 +32,12 @@ use Rattle.flat_actions.specs.Actions.{Ground, Pointer, Word, IsHeldBy, IsFor, H
 use Rattle.flat_actions.specs.Actions.{views_of, work_of}
 use Rattle.flat_actions.specs.Scanning.{IsWorked, HasScanned, IsScanned, IsScanRoutine}
 use Rattle.flat_actions.proofs.Standing.{good_still, keeps_same, stays_same}
+use Rattle.moving_routines.proofs.Bytes.{object_allowed}
 use Rattle.string_routines.specs.Putting.{bytes_from, IsToPut, HasPut, IsPutRoutine, newline_given}
 use Rattle.string_routines.proofs.AfterScan.{over, after_scan}
 use Rattle.string_routines.proofs.Between.{scan_between, range_of}
 use Rattle.string_routines.proofs.PutLoop.{same_bytes}
-use Rattle.string_routines.proofs.Runtime.{objects_allowed, does_in}
+use Rattle.string_routines.proofs.Runtime.{does_in}
 
 -- The scan ends with the cursor at the 0 byte; from the start up to there the bytes are put out.
 module _ (ground : Ground) (runtime : ground.is_runtime ≡ true) (h : Held) (into line t : ℕ)
@@ -137,7 +138,8 @@ module _ (ground : Ground) (runtime : ground.is_runtime ≡ true) (h : Held) (in
         (λ s. Either (HasPut h.value n (t + 1) s) Never) (puts_all n charge weight)).from code pc f'
         (has_front code pc putting (newline_given into (t + 1)) has) words (record {
           end_is = omega arith;
-          allowed = λ j less. objects_allowed ground.map (f'.values h.value + j) 1 (omega arith) (omega arith);
+          allowed = λ j less. object_allowed ground.map (f'.values h.value + j) (f'.values h.value + j) 1 refl (omega arith)
+              (omega arith);
         }) in
         next c code (2 + 5 * n) 3 (Goes pc f') (pc + length putting) (pc + length putting + 3)
         (HasPut h.value n (t + 1) f') Never (R f (Gives bytes x')) words run

@@ -21,13 +21,6 @@ runtime_not_shown c runtime a n kind accesses =
     ap (λ z. if not z && is_of_objects c.sizes a n
     then accesses ++ record { address = a; size = n; kind = kind } ∷ [] else accesses) runtime
 
--- accesses of object space are allowed
-pub objects_allowed : (m : MapSizes) (a n : ℕ) → objects_begin ≤ a → a + n ≤ region_end m Heap
-    → is_allowed m a n ≡ true
-objects_allowed m a n lo hi =
-    ap (λ b. (b && nat_le (a + n) (region_end m Heap)) || is_of_runtime m a n) (le-leb objects_begin a lo)
-    ∙ ap (λ b. b || is_of_runtime m a n) (le-leb (a + n) (region_end m Heap) hi)
-
 -- what a routine does in functions of the runtime, it does under a ground that is one of them
 pub does_in : (ground : Ground) → ground.is_runtime ≡ true → (charge weight : ℕ) (r : List FlatInstruction)
     (P : State → Type 0) (B : State → ℕ) (Q : State → Outcome → Type 0)

@@ -34,6 +34,7 @@ use Rattle.flat_routines.proofs.Rules.{weaken, line_on, branch, arrived, ended, 
 use Rattle.behaviours.specs.Shown.{Read}
 use Rattle.heap_space.proofs.Regions.{if_differ, if_same}
 use Rattle.flat_actions.specs.Scanning.{IsWorked}
+use Rattle.moving_routines.proofs.Bytes.{byte_loaded}
 use Rattle.string_routines.specs.Scanning.{scan_loop}
 use Rattle.string_routines.proofs.Looking.{worked_on, looked}
 use Rattle.string_routines.proofs.Runtime.{runtime_not_shown}
@@ -98,10 +99,6 @@ same_work (Paused x') byte = refl
 cursor_kept : (f : State) (v : ℕ) → put f.values 7 v 6 ≡ f.values 6
 unfolding put
 cursor_kept f v = refl
-
-one_loaded : (m : Bytes) (a : ℕ) → load 1 m a ≡ m a
-unfolding load
-one_loaded m a = omega arith
 
 pub if_equal : (a b : ℕ) → branch_taken Beq a b ≡ true → a ≡ b
 unfolding branch_taken
@@ -220,7 +217,7 @@ module _ (c : Context) (runtime : c.is_runtime ≡ true) (code : List FlatInstru
       let a : (f.values 6 + 0) % 2 ^ 64 ≡ v.word = omega arith in
       let there = string.bytes v.word h.from below in
       record {
-        byte = ap (load 1 f.memory) a ∙ one_loaded f.memory v.word ∙ ap (λ m. m v.word) h.memory ∙ there;
+        byte = ap (load 1 f.memory) a ∙ byte_loaded f.memory v.word ∙ ap (λ m. m v.word) h.memory ∙ there;
         there = there;
         allowed = ap (λ z. is_allowed c.sizes z 1) a ∙ string.allowed v.word h.from below;
         shows = shows_on f (loaded f) h.shows refl refl refl (runtime_not_shown c runtime _ 1 Read f.accesses) refl;

@@ -48,9 +48,9 @@ use Rattle.flat_judging.proofs.Judges.{judges}
 use Rattle.flat_actions.specs.Actions.{Ground, Pointer, IsHeldBy, IsFor, context_in, views_of, work_of}
 use Rattle.flat_actions.specs.Scanning.{IsWorked, HasScanned, IsScanned}
 use Rattle.flat_actions.proofs.Judged.{after_judge}
+use Rattle.moving_routines.proofs.Bytes.{object_allowed}
 use Rattle.string_routines.specs.Scanning.{scan_loop, at_limit}
 use Rattle.string_routines.proofs.Looking.{IsAround, around, lives, reach_is, scan_by, scan_outside, scan_dead, beyond}
-use Rattle.string_routines.proofs.Runtime.{objects_allowed}
 use Rattle.string_routines.proofs.ScanLoop.{IsString, HasFound, Found, no_work, if_equal, if_unequal, IsAt, Scans, Again}
 use Rattle.string_routines.proofs.ScanLoop.{at_worked, bound_tested, scanned}
 
@@ -246,7 +246,7 @@ string_of g k objects n b m ok st live t =
       sound = st.sound;
       live = live;
       small = omega arith;
-      allowed = λ a l h. objects_allowed g.sizes a 1 (omega arith) (omega arith);
+      allowed = λ a l h. object_allowed g.sizes a a 1 refl (omega arith) (omega arith);
       bytes = λ a l h.
           let e : o.address + (a - o.address) ≡ a = omega arith in
           subst (λ z. m z ≡ get_or o.bytes (a - o.address) 0) e ((st.here n live).bytes (a - o.address) (omega arith));

@@ -33,12 +33,13 @@ use Rattle.flat_actions.specs.Ranges.{IsObjectRange, IsToMove, HasMovedBytes, Is
 use Rattle.flat_actions.proofs.Standing.{for_still, spells_still, none_of_none}
 use Rattle.moving_routines.proofs.Tagged.{IsLocal}
 use Rattle.moving_routines.proofs.Steps.{does_weaken}
+use Rattle.moving_routines.proofs.Moves.{allowed_range}
 use Rattle.moving_routines.proofs.Judged.{work_done}
 use Rattle.string_routines.specs.Copying.{HasWritten, size_code}
 use Rattle.string_routines.proofs.Fresh.{below_more}
 use Rattle.string_routines.proofs.Handing.{IsSince, left_from}
 use Rattle.string_routines.proofs.Runtime.{does_in}
-use Rattle.string_routines.proofs.Written.{allowed_range, written_run, judged_writes}
+use Rattle.string_routines.proofs.Written.{written_run, judged_writes}
 
 -- the bytes of a string and its 0 byte, as they stand in memory
 pub with_zero : (m : Bytes) (a : ℕ) (bytes : List ℕ) → ((i : ℕ) → i < length bytes → m (a + i) ≡ get_or bytes i 0)

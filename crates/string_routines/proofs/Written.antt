@@ -34,16 +34,9 @@ use Rattle.flat_actions.specs.Ranges.{IsObjectRange}
 use Rattle.flat_actions.proofs.Judged.{judged_then, located_then}
 use Rattle.flat_actions.proofs.Standing.{shown_still, keeps_same}
 use Rattle.moving_routines.proofs.Tagged.{ChangesRange, tables_stay, spaces_stay, behind_stays, shadow_stays, IsLocal}
+use Rattle.moving_routines.proofs.Moves.{allowed_range}
 use Rattle.moving_routines.proofs.Judged.{work_done, judged_acts}
 use Rattle.string_routines.specs.Copying.{HasWritten}
-
--- the bytes of an access that is allowed lie in object space
-pub allowed_range : (g : Views) (k : Keys) (objects : Objects) (m : Bytes) (v : Value) (n : ℕ) (p : Place)
-    → StandsFor g k objects m → IsAllowed objects v n p → IsObjectRange g.sizes v.word n
-allowed_range g k objects m v n p st h =
-    let at = st.placed p.object h.live in
-    let first = at.first in let last = at.last in let room = h.place.room in let address = h.address in
-    record { first = omega arith; last = omega arith }
 
 -- what changes within a live object changes nothing elsewhere
 elsewhere_stays : (map : MapSizes) (old new : Objects) (m m' : Bytes) (v : Value) (n : ℕ) (p : Place)

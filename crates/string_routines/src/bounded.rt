@@ -43,7 +43,7 @@ pub fn strncpy<S: ShadowForm>(
     requires into { AreBelow scratch (held_registers into) }
     requires distinct { AreDistinct (held_registers into) }
     requires others { AreNoneOf (held_registers to) (held_registers into) }
-    requires room { scratch ≤ 2 ^ 29 }
+    requires room { scratch + 16 ≤ 2 ^ 31 }
     ensures { IfOk result (λ r. IsAction (runtime_ground map.now S.entry (S.IsGood map.now))
         (λ vs. strncpy_of (argument 0 vs) (argument 1 vs) (argument 2 vs) line)
         (Pointer to ∷ Pointer from ∷ Word size ∷ []) (Pointer into) scratch 60 8 r.items) }
@@ -68,7 +68,7 @@ fn filled_up(
 ) -> Result<Vec<FlatInstruction>, AllocError>
     requires map { AreMapped map.now }
     requires below { AreBelow scratch (to ∷ from ∷ size ∷ []) }
-    requires room { scratch ≤ 2 ^ 29 }
+    requires room { scratch + 16 ≤ 2 ^ 31 }
     ensures { IfOk result (λ r. IsFilledUp map.now to from size scratch r.items) }
 {
     let count = scratch + 1;

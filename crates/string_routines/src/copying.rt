@@ -41,7 +41,7 @@ pub fn strcpy<S: ShadowForm>(
     requires into { AreBelow scratch (held_registers into) }
     requires distinct { AreDistinct (held_registers into) }
     requires others { AreNoneOf (held_registers to) (held_registers into) }
-    requires room { scratch ≤ 2 ^ 29 }
+    requires room { scratch + 16 ≤ 2 ^ 31 }
     ensures { IfOk result (λ r. IsAction (runtime_ground map.now S.entry (S.IsGood map.now))
         (λ vs. strcpy_of (argument 0 vs) (argument 1 vs) line) (Pointer to ∷ Pointer from ∷ []) (Pointer into) scratch 49 8
         r.items) }
@@ -69,7 +69,7 @@ pub fn strcat<S: ShadowForm>(
     requires into { AreBelow scratch (held_registers into) }
     requires distinct { AreDistinct (held_registers into) }
     requires others { AreNoneOf (held_registers to) (held_registers into) }
-    requires room { scratch ≤ 2 ^ 29 }
+    requires room { scratch + 16 ≤ 2 ^ 31 }
     ensures { IfOk result (λ r. IsAction (runtime_ground map.now S.entry (S.IsGood map.now))
         (λ vs. strcat_of (argument 0 vs) (argument 1 vs) line) (Pointer to ∷ Pointer from ∷ []) (Pointer into) scratch 65 8
         r.items) }
@@ -98,7 +98,7 @@ fn copied<S: ShadowForm>(
     requires map { AreMapped map.now }
     requires to { AreBelow scratch (held_registers to) }
     requires from { AreBelow scratch (held_registers from) }
-    requires room { scratch + 2 ≤ 2 ^ 30 }
+    requires room { scratch + 12 ≤ 2 ^ 31 }
     ensures { IfOk result (λ r. IsCopied (runtime_ground map.now S.entry (S.IsGood map.now)) to from line scratch
         r.items) }
 {

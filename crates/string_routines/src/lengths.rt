@@ -31,7 +31,7 @@ pub fn strlen<S: ShadowForm>(
 ) -> Result<Vec<FlatInstruction>, AllocError>
     requires map { AreMapped map.now }
     requires below { AreBelow scratch (into ∷ held_registers string) }
-    requires room { scratch ≤ 2 ^ 29 }
+    requires room { scratch + 16 ≤ 2 ^ 31 }
     ensures { IfOk result (λ r. IsAction (runtime_ground map.now S.entry (S.IsGood map.now)) (λ vs. strlen_of (argument 0 vs) line)
         (Pointer string ∷ []) (Word into) scratch 17 8 r.items) }
 {

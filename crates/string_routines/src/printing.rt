@@ -30,7 +30,7 @@ pub fn put_bytes(
     scratch: u32,
 ) -> Result<Vec<FlatInstruction>, AllocError>
     requires below { AreBelow scratch (from ∷ to ∷ []) }
-    requires room { scratch ≤ 2 ^ 30 }
+    requires room { scratch + 8 ≤ 2 ^ 31 }
     ensures { IfOk result (λ r. IsPutRoutine map.now from to scratch r.items) }
 {
     put_instructions(alloc, from, to, scratch)
@@ -42,7 +42,7 @@ fn put_instructions(
     to: u32,
     scratch: u32,
 ) -> Result<Vec<FlatInstruction>, AllocError>
-    requires { scratch ≤ 2 ^ 30 }
+    requires { scratch + 8 ≤ 2 ^ 31 }
     ensures { IfOk result (λ r. r.items ≡ put_code from to scratch) }
 {
     let cursor = scratch;
@@ -85,7 +85,7 @@ pub fn puts<S: ShadowForm>(
 ) -> Result<Vec<FlatInstruction>, AllocError>
     requires map { AreMapped map.now }
     requires below { AreBelow scratch (into ∷ held_registers string) }
-    requires room { scratch ≤ 2 ^ 29 }
+    requires room { scratch + 16 ≤ 2 ^ 31 }
     ensures { IfOk result (λ r. IsAction (runtime_ground map.now S.entry (S.IsGood map.now)) (λ vs. puts_of (argument 0 vs) line)
         (Pointer string ∷ []) (Word into) scratch 21 8 r.items) }
 {

@@ -34,7 +34,7 @@ pub fn scan<S: ShadowForm>(
     requires map { AreMapped map.now }
     requires apart { AreNoneOf (held_registers string) (cursor ∷ []) }
     requires below { AreBelow scratch (cursor ∷ held_registers string) }
-    requires room { scratch ≤ 2 ^ 30 }
+    requires room { scratch + 8 ≤ 2 ^ 31 }
     ensures { IfOk result (λ r. IsScanRoutine (runtime_ground map.now S.entry (S.IsGood map.now)) (λ v. scan_of v line) string
         (λ f. Unit {0}) cursor scratch r.items) }
 {
@@ -55,7 +55,7 @@ pub fn scan_at_most<S: ShadowForm>(
     requires map { AreMapped map.now }
     requires apart { AreNoneOf (limit ∷ held_registers string) (cursor ∷ []) }
     requires below { AreBelow scratch (cursor ∷ limit ∷ held_registers string) }
-    requires room { scratch ≤ 2 ^ 30 }
+    requires room { scratch + 8 ≤ 2 ^ 31 }
     ensures { IfOk result (λ r. (n : ℕ) → 1 ≤ n
         → IsScanRoutine (runtime_ground map.now S.entry (S.IsGood map.now)) (λ v. scan_within n (done []) v line) string
         (λ f. f.values limit ≡ n) cursor scratch r.items) }
@@ -63,8 +63,8 @@ pub fn scan_at_most<S: ShadowForm>(
     scan_at_most_instructions(alloc, string, cursor, line, limit, scratch)
 }
 
-/// The instructions of `scan`.
-pub fn scan_instructions(
+// The instructions of `scan`.
+fn scan_instructions(
     alloc: Global,
     string: Held,
     cursor: u32,
@@ -72,7 +72,7 @@ pub fn scan_instructions(
     scratch: u32,
 ) -> Result<Vec<FlatInstruction>, AllocError>
     requires below { AreBelow scratch (held_registers string) }
-    requires room { scratch ≤ 2 ^ 30 }
+    requires room { scratch + 8 ≤ 2 ^ 31 }
     ensures { IfOk result (λ r. IsFirstJudged string line scratch (scan_turns string cursor line scratch) r.items) }
 {
     let turns = [
@@ -121,7 +121,7 @@ fn scan_at_most_instructions(
     scratch: u32,
 ) -> Result<Vec<FlatInstruction>, AllocError>
     requires below { AreBelow scratch (held_registers string) }
-    requires room { scratch ≤ 2 ^ 30 }
+    requires room { scratch + 8 ≤ 2 ^ 31 }
     ensures { IfOk result (λ r. IsFirstJudged string line scratch (scan_at_most_turns string cursor line limit scratch)
         r.items) }
 {
@@ -176,8 +176,8 @@ fn scan_at_most_instructions(
     first_judged(alloc, string, line, scratch, &turns)
 }
 
-/// The first byte of a string is judged, and then its turns begin.
-pub fn first_judged(
+// The first byte of a string is judged, and then its turns begin.
+fn first_judged(
     alloc: Global,
     string: Held,
     line: Line,
@@ -185,7 +185,7 @@ pub fn first_judged(
     turns: &[FlatInstruction],
 ) -> Result<Vec<FlatInstruction>, AllocError>
     requires below { AreBelow scratch (held_registers string) }
-    requires room { scratch ≤ 2 ^ 30 }
+    requires room { scratch + 8 ≤ 2 ^ 31 }
     ensures { IfOk result (λ r. IsFirstJudged string line scratch turns.now r.items) }
 {
     let size = [FlatInstruction::Constant {

@@ -6,7 +6,7 @@ use Rattle.flat_actions.specs.Actions.{IsAction, Pointer, Word}
 use Rattle.moving_routines.specs.Library.{runtime_ground, guarded_code}
 use Rattle.string_routines.specs.Copying.{count_code, tail_code}
 use Rattle.string_routines.proofs.BoundedActs.{strncpy_acts}
-use Rattle.string_routines.proofs.Joins.{joined_as}
+use Rattle.moving_routines.proofs.Steps.{joined_are}
 use Rattle.string_routines.proofs.bounded.strncpy.Goals as goal
 
 pub returns : goal.returns
@@ -19,9 +19,9 @@ returns g c =
     let judging = c.in_ok-judging.judging.items in
     let writing = count_code (t + 1) a.from.value t
     ++ (q.moving ++ (tail_code a.to.value a.size (t + 1) (t + 2) (t + 3) ++ q.filling)) in
-    let rest = joined_as _ _ _ judging writing c.in_ok-rest.ensures c.deref.ensures.value
+    let rest = joined_are _ _ _ judging writing c.in_ok-rest.ensures c.deref.ensures.value
     (c.deref-2.ensures.value ∙ q.items_are) in
-    let act = joined_as _ _ _ scanned (judging ++ writing) c.in_ok-act.ensures c.deref-3.ensures.value
+    let act = joined_are _ _ _ scanned (judging ++ writing) c.in_ok-act.ensures c.deref-3.ensures.value
     (c.deref-4.ensures.value ∙ rest) in
     IfOk-weaker _ _ _
     (λ r e. subst (IsAction ground (λ vs. strncpy_of (argument 0 vs) (argument 1 vs) (argument 2 vs) a.line)

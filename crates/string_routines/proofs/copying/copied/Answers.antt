@@ -2,7 +2,8 @@ use Rattle.std.proofs.Common.{◌+◌, ◌++◌, refl, sym, ◌∙◌}
 use Rattle.std.proofs.lemmas.Result.{IfOk-weaker}
 use Rattle.moving_routines.specs.Library.{runtime_ground}
 use Rattle.string_routines.specs.Copying.{size_code}
-use Rattle.string_routines.proofs.Joins.{joined_as, is_copied}
+use Rattle.string_routines.proofs.Made.{is_copied}
+use Rattle.moving_routines.proofs.Steps.{joined_are}
 use Rattle.string_routines.proofs.copying.copied.Goals as goal
 
 pub returns : goal.returns
@@ -15,8 +16,8 @@ returns g c =
     IfOk-weaker _ _ _
     (λ r e. is_copied (runtime_ground a.map.now g.S.ShadowForm.entry (g.S.ShadowForm.IsGood a.map.now)) a.to a.from a.line
     a.scratch _ scanned judging moving c.in_ok-scanned.ensures c.in_ok-judging.ensures c.in_ok-moving.ensures
-    (joined_as _ _ _ scanned (sizes ++ (judging ++ moving)) e c.deref-4.ensures.value
-    (c.deref-5.ensures.value ∙ joined_as _ _ _ sizes (judging ++ moving) c.in_ok-rest.ensures refl
-    (c.deref-3.ensures.value ∙ joined_as _ _ _ judging moving c.in_ok-act.ensures c.deref.ensures.value
+    (joined_are _ _ _ scanned (sizes ++ (judging ++ moving)) e c.deref-4.ensures.value
+    (c.deref-5.ensures.value ∙ joined_are _ _ _ sizes (judging ++ moving) c.in_ok-rest.ensures refl
+    (c.deref-3.ensures.value ∙ joined_are _ _ _ judging moving c.in_ok-act.ensures c.deref.ensures.value
     c.deref-2.ensures.value))))
     c.joined-3.ensures

@@ -5,7 +5,7 @@ use Rattle.source_meaning.specs.Library.{argument}
 use Rattle.flat_actions.specs.Actions.{IsAction, Pointer}
 use Rattle.moving_routines.specs.Library.{runtime_ground, give_code}
 use Rattle.string_routines.specs.Copying.{size_code}
-use Rattle.string_routines.proofs.Joins.{joined_as}
+use Rattle.moving_routines.proofs.Steps.{joined_are}
 use Rattle.string_routines.proofs.CopyActs.{strcat_acts}
 use Rattle.string_routines.proofs.copying.strcat.Goals as goal
 
@@ -20,8 +20,8 @@ returns g c =
     IfOk-weaker _ _ _
     (λ r e. subst (IsAction ground (λ vs. strcat_of (argument 0 vs) (argument 1 vs) a.line)
     (Pointer a.to ∷ Pointer a.from ∷ []) (Pointer a.into) a.scratch 65 8)
-    (sym (joined_as _ _ _ (first ++ copy) give e
-    (c.deref-3.ensures.value ∙ joined_as _ _ _ first copy c.in_ok-both.ensures c.deref.ensures.value
+    (sym (joined_are _ _ _ (first ++ copy) give e
+    (c.deref-3.ensures.value ∙ joined_are _ _ _ first copy c.in_ok-both.ensures c.deref.ensures.value
     (c.deref-2.ensures.value ∙ q.items_are))
     (c.deref-4.ensures.value ∙ c.in_ok-give.ensures)))
     (strcat_acts ground refl c.requires.map (λ m m' keep good. c.entries_are_local.ensures a.map.now m m' c.requires.map keep

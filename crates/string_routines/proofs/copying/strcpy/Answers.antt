@@ -5,7 +5,7 @@ use Rattle.source_meaning.specs.Library.{argument}
 use Rattle.flat_actions.specs.Actions.{IsAction, Pointer}
 use Rattle.moving_routines.specs.Library.{runtime_ground, give_code}
 use Rattle.string_routines.specs.Copying.{size_code}
-use Rattle.string_routines.proofs.Joins.{joined_as}
+use Rattle.moving_routines.proofs.Steps.{joined_are}
 use Rattle.string_routines.proofs.CopyActs.{strcpy_acts}
 use Rattle.string_routines.proofs.copying.strcpy.Goals as goal
 
@@ -19,7 +19,7 @@ returns g c =
     IfOk-weaker _ _ _
     (λ r e. subst (IsAction ground (λ vs. strcpy_of (argument 0 vs) (argument 1 vs) a.line)
     (Pointer a.to ∷ Pointer a.from ∷ []) (Pointer a.into) a.scratch 49 8)
-    (sym (joined_as _ _ _ copy give e (c.deref.ensures.value ∙ q.items_are)
+    (sym (joined_are _ _ _ copy give e (c.deref.ensures.value ∙ q.items_are)
     (c.deref-2.ensures.value ∙ c.in_ok-give.ensures)))
     (strcpy_acts ground refl c.requires.map (λ m m' keep good. c.entries_are_local.ensures a.map.now m m' c.requires.map keep
     good) a.to a.from a.into a.line a.scratch c.requires.to c.requires.from c.requires.into c.requires.distinct

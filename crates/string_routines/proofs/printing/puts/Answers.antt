@@ -5,7 +5,7 @@ use Rattle.source_meaning.specs.Library.{argument}
 use Rattle.flat_actions.specs.Actions.{IsAction, Pointer, Word}
 use Rattle.moving_routines.specs.Library.{runtime_ground}
 use Rattle.string_routines.specs.Putting.{newline_given}
-use Rattle.string_routines.proofs.Joins.{joined_as}
+use Rattle.moving_routines.proofs.Steps.{joined_are}
 use Rattle.string_routines.proofs.PutsActs.{puts_acts}
 use Rattle.string_routines.proofs.printing.puts.Goals as goal
 
@@ -19,8 +19,8 @@ returns g c =
     IfOk-weaker _ _ _
     (λ r e. subst (IsAction ground (λ vs. puts_of (argument 0 vs) a.line) (Pointer a.string ∷ []) (Word a.into)
     a.scratch 21 8)
-    (sym (joined_as _ _ _ scanned (put ++ newline) e c.deref-2.ensures.value
-    (c.deref-3.ensures.value ∙ joined_as _ _ _ put newline c.in_ok-rest.ensures c.deref.ensures.value refl)))
+    (sym (joined_are _ _ _ scanned (put ++ newline) e c.deref-2.ensures.value
+    (c.deref-3.ensures.value ∙ joined_are _ _ _ put newline c.in_ok-rest.ensures c.deref.ensures.value refl)))
     (puts_acts ground refl a.string a.into a.line a.scratch c.requires.below scanned put c.in_ok-scanned.ensures
     c.in_ok-put.ensures))
     c.joined-2.ensures

@@ -1,5 +1,5 @@
--- Lists of instructions put together from lists that are known.
-use Rattle.std.proofs.Common.{◌≡◌, ℕ, ◌+◌, List, ◌++◌, ap, ◌∙◌}
+-- Routines made of routines that are known by what they do.
+use Rattle.std.proofs.Common.{◌≡◌, ℕ, ◌+◌, List, ◌++◌}
 use Rattle.addr_map.specs.Places.{MapSizes}
 use Rattle.source_meaning.specs.Strings.{scan}
 use Rattle.flat_meaning.specs.declared.instruction.FlatInstruction.{FlatInstruction}
@@ -9,9 +9,6 @@ use Rattle.flat_actions.specs.Actions.{Ground}
 use Rattle.flat_actions.specs.Ranges.{IsByteMoveRoutine, IsFillRoutine}
 use Rattle.flat_actions.specs.Scanning.{IsScanRoutine}
 use Rattle.string_routines.specs.Copying.{size_code, IsCopied, count_code, tail_code, IsFilledUp}
-
-pub joined_as : (r a b x y : List FlatInstruction) → r ≡ a ++ b → a ≡ x → b ≡ y → r ≡ x ++ y
-joined_as r a b x y e f g = e ∙ ap (λ l. l ++ b) f ∙ ap (λ l. x ++ l) g
 
 pub is_copied : (ground : Ground) (to from : Held) (line t : ℕ) (items scanning judging moving : List FlatInstruction)
     → IsScanRoutine ground (λ v. scan v line) from (λ f. Unit {0}) t (t + 1) scanning

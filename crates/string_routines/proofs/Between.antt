@@ -1,5 +1,5 @@
 -- The bytes that a scan gives lie between the bounds of a pointer to a live object.
-use Rattle.std.proofs.Common.{◌≡◌, ◌≢◌, ℕ, zero, suc, ◌+◌, ◌-◌, ◌%◌, ◌^◌, ◌<◌, ◌≤◌, ◌⊎◌, inl, inr, ⊎_elim, List, [], ◌∷◌}
+use Rattle.std.proofs.Common.{◌≡◌, ℕ, zero, suc, ◌+◌, ◌-◌, ◌^◌, ◌<◌, ◌≤◌, ◌⊎◌, inl, inr, List, [], ◌∷◌}
 use Rattle.std.proofs.Common.{Bool, true, false, ◌==◌, length, get_or, refl, sym, ap, ◌∙◌, subst, arith}
 use Rattle.std.proofs.lemmas.Bool.{cases_Bool, eqb-true}
 use Rattle.sb_base.specs.declared.ending.Ending.TheVariants.{Spatial}
@@ -20,7 +20,7 @@ use Rattle.source_meaning.specs.Strings.{reach, scan_within, scan}
 use Rattle.flat_meaning.specs.Memory.{Bytes}
 use Rattle.flat_objects.specs.StandsFor.{Views, Keys, StandsFor}
 use Rattle.flat_actions.specs.Ranges.{IsObjectRange}
-use Rattle.string_routines.proofs.Looking.{IsAround, around, lives, reach_is, scan_by, with_first, worked_on}
+use Rattle.string_routines.proofs.Looking.{IsAround, around, lives, scan_by, with_first, worked_on}
 use Rattle.string_routines.proofs.Looking.{looked}
 
 -- A scan ends at a 0 byte before the bound, or what stands behind the count gives something.

@@ -1,5 +1,5 @@
 -- `strncpy` as a whole action.
-use Rattle.std.proofs.Common.{◌≡◌, ◌≢◌, ℕ, ◌+◌, ◌-◌, ◌*◌, ◌%◌, ◌^◌, ◌<◌, ◌≤◌, ◌⊎◌, inl, inr, ⊎_elim, List, [], ◌∷◌, ◌++◌}
+use Rattle.std.proofs.Common.{◌≡◌, ℕ, ◌+◌, ◌-◌, ◌*◌, ◌<◌, ◌≤◌, ⊎_elim, List, [], ◌∷◌, ◌++◌}
 use Rattle.std.proofs.Common.{length, true, get_or, refl, sym, ap, ◌∙◌, subst, arith, length-append}
 use Rattle.std.proofs.lemmas.Bool.{cases_lt}
 use Rattle.std.proofs.Math.ListN.{get_or-eq_default}
@@ -31,20 +31,19 @@ use Rattle.flat_actions.specs.Actions.{Ground, Pointer, Word, Nowhere, IsHeldBy,
 use Rattle.flat_actions.specs.Actions.{views_of, work_of}
 use Rattle.flat_actions.specs.Ranges.{IsObjectRange, IsByteMoveRoutine, IsFillRoutine}
 use Rattle.flat_actions.specs.Scanning.{IsWorked, HasScanned, IsScanRoutine}
-use Rattle.flat_actions.proofs.Standing.{for_still, for_worked, held_still, spells_still, none_of_none}
+use Rattle.flat_actions.proofs.Standing.{for_still, for_worked, spells_still, none_of_none}
 use Rattle.moving_routines.specs.Library.{guarded_code}
 use Rattle.moving_routines.proofs.Tagged.{IsLocal}
 use Rattle.moving_routines.proofs.Steps.{does_weaken}
 use Rattle.moving_routines.proofs.Moves.{allowed_range}
 use Rattle.moving_routines.proofs.Judged.{work_done}
-use Rattle.moving_routines.proofs.Guarded.{IsGuarded, guarded}
+use Rattle.moving_routines.proofs.Guarded.{guarded}
 use Rattle.string_routines.specs.Copying.{HasWritten, count_code, tail_code, filled_up}
 use Rattle.string_routines.proofs.AfterScan.{over, after_scan}
 use Rattle.string_routines.proofs.Between.{at_most_between, range_of, no_more}
 use Rattle.string_routines.proofs.FilledUp.{filled_length, filled_first, filled_rest, IsToFillUp, fills_up}
-use Rattle.string_routines.proofs.Fresh.{apart_from, below_more}
+use Rattle.string_routines.proofs.Fresh.{below_more}
 use Rattle.string_routines.proofs.Handing.{IsSince, left_from}
-use Rattle.string_routines.proofs.Looking.{scan_within_works}
 use Rattle.string_routines.proofs.StringWritten.{are_small}
 use Rattle.string_routines.proofs.Written.{written_run, written_works, written_gives, judged_writes}
 
@@ -249,8 +248,8 @@ module _ (ground : Ground) (runtime : ground.is_runtime ≡ true) (mapped : AreM
           (p.stands, p.source, p.size_is))
           (λ e x' is worked. (
             (let one = ap (λ r. (state_of r).work - x.work) is in
-            let two = ap (λ r. (state_of (on r (λ bytes. written_run n dv dv (filled_up n bytes) line))).work - x.work) is
-            in omega (arith, one, two)),
+                let two = ap (λ r. (state_of (on r (λ bytes. written_run n dv dv (filled_up n bytes) line))).work - x.work) is
+                in omega (arith, one, two)),
             λ f' shows. subst (λ r. R f r (Halts (code_of e) (report_of e) f')) (sym is)
                 (over x x' e f f' p.stands.shown worked shows),
           ))

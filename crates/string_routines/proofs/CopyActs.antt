@@ -1,18 +1,17 @@
 -- `strcpy` and `strcat` as whole actions.
-use Rattle.std.proofs.Common.{◌≡◌, ◌≢◌, ℕ, ◌+◌, ◌-◌, ◌*◌, ◌%◌, ◌^◌, ◌<◌, ◌≤◌, List, [], ◌∷◌, ◌++◌, length, true, refl}
+use Rattle.std.proofs.Common.{◌≡◌, ℕ, ◌+◌, ◌-◌, ◌*◌, List, [], ◌∷◌, ◌++◌, length, true, refl}
 use Rattle.std.proofs.Common.{sym, ap, ◌∙◌, subst, arith, length-append}
 use Rattle.addr_map.specs.Places.{AreMapped}
 use Rattle.obj_memory.specs.declared.value.Value.{Value}
 use Rattle.obj_memory.specs.Judgement.{moved}
 use Rattle.obj_memory.specs.Sound.{IsSoundTag}
 use Rattle.sb_base.specs.Endings.{code_of, report_of}
-use Rattle.source_meaning.specs.State.{State as Source, Outcome as Completed, Gives, Ended, Paused, Run, on, ◌>>=◌}
+use Rattle.source_meaning.specs.State.{State as Source, Outcome as Completed, Gives, Ended, Paused, on, ◌>>=◌}
 use Rattle.source_meaning.specs.State.{◌>>◌, done}
 use Rattle.source_meaning.specs.Strings.{scan, write_string, strcpy, strcat}
 use Rattle.source_meaning.specs.Acting.{state_of, at_work}
 use Rattle.source_meaning.specs.Library.{argument}
 use Rattle.flat_meaning.specs.declared.instruction.FlatInstruction.{FlatInstruction}
-use Rattle.flat_meaning.specs.Memory.{Bytes}
 use Rattle.flat_meaning.specs.State.{State}
 use Rattle.flat_meaning.specs.Words.{IsOfWords}
 use Rattle.flat_meaning.specs.Meaning.{Context, Goes}
@@ -34,7 +33,7 @@ use Rattle.string_routines.specs.Copying.{size_code}
 use Rattle.string_routines.proofs.Handing.{IsSince, left_from, act_then_gives}
 use Rattle.string_routines.proofs.AfterScan.{over, after_scan}
 use Rattle.string_routines.proofs.Fresh.{below_more}
-use Rattle.string_routines.proofs.StringCopies.{copied, copied_gives, copied_works, copied_is, copy_items, IsToCopy, copies}
+use Rattle.string_routines.proofs.StringCopies.{copied, copied_gives, copied_works, copied_is, IsToCopy, copies}
 
 -- ---- `strcpy`
 
@@ -199,7 +198,7 @@ module _ (ground : Ground) (runtime : ground.is_runtime ≡ true) (mapped : AreM
           (p.stands, (p.spells, sound), tt))
           (λ e x' is worked. (
             (let one = ap (λ r. (state_of r).work - x.work) is in
-            let two = ap (λ r. (state_of (after r)).work - x.work) is in omega (arith, one, two, same)),
+                let two = ap (λ r. (state_of (after r)).work - x.work) is in omega (arith, one, two, same)),
             λ f' shows. subst (λ r. R f r (Halts (code_of e) (report_of e) f')) (sym is)
                 (over x x' e f f' p.stands.shown worked shows),
           ))

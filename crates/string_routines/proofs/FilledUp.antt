@@ -1,14 +1,11 @@
 -- Bytes that were scanned are moved, and the rest of so many is filled with zeros.
-use Rattle.std.proofs.Common.{◌≡◌, ◌≢◌, ℕ, ◌+◌, ◌-◌, ◌*◌, ◌%◌, ◌^◌, ◌<◌, ◌≤◌, ◌⊎◌, inl, inr, ⊎_elim, List, [], ◌∷◌, ◌++◌}
+use Rattle.std.proofs.Common.{◌≡◌, ℕ, ◌+◌, ◌-◌, ◌*◌, ◌%◌, ◌^◌, ◌<◌, ◌≤◌, inl, inr, ⊎_elim, List, [], ◌++◌}
 use Rattle.std.proofs.Common.{length, true, get_or, refl, sym, ap, ◌∙◌, subst, arith, length-append}
 use Rattle.std.specs.Prelude.{replicate}
 use Rattle.std.proofs.lemmas.Bool.{cases_lt}
 use Rattle.std.proofs.lemmas.List.{get_or_append_left, get_or-append_right, length-replicate, get_or-replicate}
-use Rattle.rv_isa.specs.declared.instruction.RegOp.TheVariants.{Add, Sub}
 use Rattle.rv_isa.specs.Results.{reg_result}
-use Rattle.flat_meaning.specs.declared.instruction.RightOperand.TheVariants.{Register}
 use Rattle.flat_meaning.specs.declared.instruction.FlatInstruction.{FlatInstruction}
-use Rattle.flat_meaning.specs.declared.instruction.FlatInstruction.TheVariants.{Operate}
 use Rattle.flat_meaning.specs.Memory.{put}
 use Rattle.flat_meaning.specs.State.{State}
 use Rattle.flat_meaning.specs.Words.{IsOfWords}
@@ -24,7 +21,6 @@ use Rattle.space_routines.proofs.Quiet.{shows_both, quiet_words}
 use Rattle.flat_actions.specs.Actions.{Ground, context_in}
 use Rattle.flat_actions.specs.Ranges.{IsObjectRange, IsToMove, HasMovedBytes, IsByteMoveRoutine, IsToFill, HasFilled}
 use Rattle.flat_actions.specs.Ranges.{IsFillRoutine}
-use Rattle.flat_actions.proofs.Standing.{others_trans}
 use Rattle.string_routines.specs.Copying.{HasWritten, count_code, tail_code, filled_up}
 use Rattle.string_routines.proofs.Runtime.{does_in}
 

@@ -1,15 +1,12 @@
 -- `puts` as a whole action.
-use Rattle.std.proofs.Common.{◌≡◌, ℕ, ◌+◌, ◌-◌, ◌*◌, ◌%◌, ◌^◌, ◌<◌, ◌≤◌, List, [], ◌∷◌, ◌++◌, length, true, refl, sym, ap}
+use Rattle.std.proofs.Common.{◌≡◌, ℕ, ◌+◌, ◌-◌, ◌*◌, ◌%◌, ◌<◌, List, [], ◌∷◌, ◌++◌, length, true, refl, sym, ap}
 use Rattle.std.proofs.Common.{◌∙◌, subst, arith, length-append, append_assoc}
-use Rattle.sb_base.specs.declared.ending.Ending.{Ending}
 use Rattle.sb_base.specs.Endings.{code_of, report_of}
-use Rattle.addr_map.specs.declared.region.Region.TheVariants.{Heap}
-use Rattle.addr_map.specs.Places.{objects_begin, region_end}
 use Rattle.obj_memory.specs.declared.value.Value.{Value}
-use Rattle.source_meaning.specs.State.{State as Source, Outcome as Completed, Gives, Ended, on, ◌>>◌, done}
+use Rattle.source_meaning.specs.State.{State as Source, Outcome as Completed, Gives, on, ◌>>◌, done}
 use Rattle.source_meaning.specs.State.{stop}
 use Rattle.sb_base.specs.declared.ending.Ending.TheVariants.{Spatial}
-use Rattle.source_meaning.specs.Acting.{state_of, at_work}
+use Rattle.source_meaning.specs.Acting.{state_of}
 use Rattle.source_meaning.specs.Actions.{integer, put_bytes}
 use Rattle.source_meaning.specs.Strings.{scan}
 use Rattle.source_meaning.specs.Printing.{puts}
@@ -21,16 +18,16 @@ use Rattle.flat_meaning.specs.Words.{IsOfWords}
 use Rattle.flat_meaning.specs.Meaning.{Context, Goes}
 use Rattle.flat_meaning.proofs.Stored.{put_same, put_other}
 use Rattle.flat_routines.specs.declared.registers.Held.{Held}
-use Rattle.flat_routines.specs.Registers.{AreBelow, OthersStay}
+use Rattle.flat_routines.specs.Registers.{AreBelow}
 use Rattle.flat_routines.specs.Routine.{HasAt, Outcome, Continues, Halts, Reaches, Either, Never}
 use Rattle.flat_routines.specs.Effects.{effects}
-use Rattle.flat_routines.specs.Metadata.{held_registers, ShowsNothing}
+use Rattle.flat_routines.specs.Metadata.{held_registers}
 use Rattle.flat_routines.proofs.Steps.{has_front, has_back}
-use Rattle.flat_routines.proofs.Rules.{weaken, next, line_on, arrived}
+use Rattle.flat_routines.proofs.Rules.{next, line_on, arrived}
 use Rattle.flat_objects.specs.StandsFor.{Views, Keys, StandsFor}
 use Rattle.flat_actions.specs.Actions.{Ground, Pointer, Word, IsHeldBy, IsFor, HasGiven, Leaves, IsAction, context_in}
 use Rattle.flat_actions.specs.Actions.{views_of, work_of}
-use Rattle.flat_actions.specs.Scanning.{IsWorked, HasScanned, IsScanned, IsScanRoutine}
+use Rattle.flat_actions.specs.Scanning.{IsWorked, HasScanned, IsScanRoutine}
 use Rattle.flat_actions.proofs.Standing.{good_still, keeps_same, stays_same}
 use Rattle.moving_routines.proofs.Bytes.{object_allowed}
 use Rattle.string_routines.specs.Putting.{bytes_from, IsToPut, HasPut, IsPutRoutine, newline_given}
@@ -161,7 +158,7 @@ module _ (ground : Ground) (runtime : ground.is_runtime ≡ true) (h : Held) (in
         ((scans functions types k x v charge weight).from code pc f (has_front code pc scanning rest has) w (p, a, tt))
         (λ e x' is worked. (
           (let one = ap (λ r. (state_of r).work - x.work) is in
-          let two = ap (λ r. (state_of (after r)).work - x.work) is in omega (arith, one, two)),
+              let two = ap (λ r. (state_of (after r)).work - x.work) is in omega (arith, one, two)),
           λ f' shows. subst (λ r. R f r (Halts (code_of e) (report_of e) f')) (sym is)
               (over x x' e f f' p.shown worked shows),
         ))

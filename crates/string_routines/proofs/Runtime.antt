@@ -1,12 +1,8 @@
 -- Accesses of functions of the runtime.
-use Rattle.std.proofs.Common.{◌≡◌, ℕ, ◌+◌, ◌≤◌, List, [], ◌∷◌, ◌++◌, true, not, ◌&&◌, ◌||◌, if◌then◌else◌, ap, sym, ◌∙◌}
+use Rattle.std.proofs.Common.{◌≡◌, ℕ, List, [], ◌∷◌, ◌++◌, true, not, ◌&&◌, if◌then◌else◌, ap, sym}
 use Rattle.std.proofs.Common.{subst}
-use Rattle.std.specs.Prelude.{nat_le}
-use Rattle.std.proofs.lemmas.Bool.{le-leb}
-use Rattle.addr_map.specs.declared.region.Region.TheVariants.{Heap}
-use Rattle.addr_map.specs.Places.{MapSizes, objects_begin, region_end}
 use Rattle.behaviours.specs.Shown.{Access, AccessKind}
-use Rattle.flat_meaning.specs.Spaces.{is_of_objects, is_of_runtime, is_allowed}
+use Rattle.flat_meaning.specs.Spaces.{is_of_objects}
 use Rattle.flat_meaning.specs.Meaning.{Context}
 use Rattle.flat_meaning.specs.declared.instruction.FlatInstruction.{FlatInstruction}
 use Rattle.flat_meaning.specs.State.{State}

@@ -1,6 +1,6 @@
 -- The loop that scans a string finds what the source finds, whatever stands behind the count of bytes.
-use Rattle.std.proofs.Common.{◌≡◌, ◌≢◌, ℕ, zero, suc, ◌+◌, ◌-◌, ◌*◌, ◌%◌, ◌^◌, ◌<◌, ◌≤◌, ◌⊎◌, inl, inr, ⊎_elim, List, []}
-use Rattle.std.proofs.Common.{◌∷◌, ◌++◌, true, false, ◌==◌, length, get_or, refl, sym, ap, ◌∙◌, subst, arith}
+use Rattle.std.proofs.Common.{◌≡◌, ◌≢◌, ℕ, zero, suc, ◌+◌, ◌-◌, ◌*◌, ◌%◌, ◌^◌, ◌<◌, ◌≤◌, ◌⊎◌, inl, inr, List, []}
+use Rattle.std.proofs.Common.{◌∷◌, true, false, ◌==◌, length, get_or, refl, sym, ap, ◌∙◌, subst, arith}
 use Rattle.std.proofs.lemmas.Bool.{cases_eq, eq-eqb, ne_eqb, eqb-true, eqb-false}
 use Rattle.sb_base.specs.declared.ending.Ending.TheVariants.{Spatial}
 use Rattle.sb_base.specs.Endings.{code_of, report_of}
@@ -23,12 +23,11 @@ use Rattle.flat_meaning.specs.declared.instruction.RightOperand.TheVariants.{Reg
 use Rattle.flat_meaning.specs.declared.instruction.FlatInstruction.{FlatInstruction}
 use Rattle.flat_meaning.specs.declared.instruction.FlatInstruction.TheVariants.{Operate, Load, Branch, JumpBack, End}
 use Rattle.flat_meaning.specs.Memory.{Bytes, put, load}
-use Rattle.flat_meaning.specs.Spaces.{is_of_objects, is_allowed}
+use Rattle.flat_meaning.specs.Spaces.{is_allowed}
 use Rattle.flat_meaning.specs.State.{State}
 use Rattle.flat_meaning.specs.Meaning.{Context, Goes}
-use Rattle.flat_routines.specs.Local.{counted}
 use Rattle.flat_routines.specs.Routine.{HasAt, Outcome, Continues, Halts, Reaches}
-use Rattle.flat_routines.specs.Effects.{with_shown, worked, effects}
+use Rattle.flat_routines.specs.Effects.{worked, effects}
 use Rattle.flat_routines.specs.Metadata.{ShowsNothing}
 use Rattle.flat_routines.proofs.Rules.{weaken, line_on, branch, arrived, ended, jump_back}
 use Rattle.behaviours.specs.Shown.{Read}
@@ -74,8 +73,7 @@ one_work x = record { work = omega arith; same = refl }
 one_more : (s : State) (x : Source) (word byte : ℕ) (r : Completed (List ℕ)) (o : Outcome) → s.memory word ≡ byte
     → Found s (worked_on 1 x) (word + 1) r o → Found s x word (on r (λ others. done (byte ∷ others))) o
 one_more s x word byte (Gives bytes x') (Continues v) first h =
-    let worked = h.0.work in let c = h.1.cursor_is in let small = h.1.small in
-    (
+    let worked = h.0.work in let c = h.1.cursor_is in let small = h.1.small in (
       record { work = omega arith; same = h.0.same },
       record { cursor_is = omega arith; small = omega arith; there = at; memory = h.1.memory; shows = h.1.shows },
     )

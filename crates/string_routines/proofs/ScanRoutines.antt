@@ -1,5 +1,5 @@
 -- The two routines that scan, over any registers.
-use Rattle.std.proofs.Common.{◌≡◌, ◌≢◌, ℕ, ◌+◌, ◌*◌, ◌^◌, ◌<◌, ◌≤◌, ◌⊎◌, inl, inr, List, [], ◌∷◌, ◌++◌, Bool, true, false}
+use Rattle.std.proofs.Common.{◌≡◌, ◌≢◌, ℕ, ◌+◌, ◌*◌, ◌^◌, ◌<◌, ◌≤◌, ◌⊎◌, inl, inr, List, [], ◌∷◌, Bool, true, false}
 use Rattle.std.proofs.Common.{length, map, refl, sym, ap, ◌∙◌, subst, arith, length-append}
 use Rattle.std.proofs.lemmas.Bool.{cases_eq}
 use Rattle.sb_base.specs.declared.ending.Ending.TheVariants.{Spatial, Temporal}
@@ -33,12 +33,12 @@ use Rattle.shadow_space.proofs.Entries.{agrees_shows, agrees_memory}
 use Rattle.space_routines.proofs.Quiet.{shows_both}
 use Rattle.flat_judging.specs.Judging.{IsSameBut}
 use Rattle.flat_actions.specs.Actions.{Ground, Pointer, IsHeldBy, IsFor, context_in, views_of, work_of}
-use Rattle.flat_actions.specs.Scanning.{IsWorked, HasScanned, IsScanned, IsScanRoutine}
+use Rattle.flat_actions.specs.Scanning.{IsScanned, IsScanRoutine}
 use Rattle.flat_actions.proofs.Judged.{after_judge}
 use Rattle.flat_actions.proofs.Standing.{for_still, spells_still, held_still, none_of_none, others_trans}
 use Rattle.string_routines.specs.Scanning.{scan_turns, scan_at_most_turns, IsFirstJudged}
 use Rattle.string_routines.proofs.Looking.{around, scan_outside, scan_dead}
-use Rattle.string_routines.proofs.ScanLoop.{HasFound, Found, no_work}
+use Rattle.string_routines.proofs.ScanLoop.{Found, no_work}
 use Rattle.string_routines.proofs.Scans.{behind_of, IsCount, none_left, some_left, own_turns, scans_alone}
 
 -- they fit their registers
@@ -295,7 +295,7 @@ pub scans_at_most : (ground : Ground) → ground.is_runtime ≡ true → AreMapp
     → IsScanRoutine ground (λ v. scan_within n (done []) v line) h (λ f. f.values limit ≡ n) cursor t items
 scans_at_most ground runtime mapped h limit cursor line t apart below items judged n some functions types k x v charge
     weight = record {
-  from = λ code pc f has w p.
-      (first_scanned ground runtime mapped h limit cursor line t apart below true (scan_at_most_turns h cursor line limit t)
-      items refl judged functions types k x v n charge weight).from code pc f has w (p.0, p.1, (p.2, some));
-}
+      from = λ code pc f has w p.
+          (first_scanned ground runtime mapped h limit cursor line t apart below true (scan_at_most_turns h cursor line limit t)
+          items refl judged functions types k x v n charge weight).from code pc f has w (p.0, p.1, (p.2, some));
+    }

@@ -1,45 +1,42 @@
 -- A string is scanned, and then written with its 0 byte where a pointer points.
-use Rattle.std.proofs.Common.{◌≡◌, ◌≢◌, ℕ, ◌+◌, ◌-◌, ◌*◌, ◌^◌, ◌<◌, ◌≤◌, List, [], ◌∷◌, ◌++◌, length, true, refl, sym, ap}
+use Rattle.std.proofs.Common.{◌≡◌, ℕ, ◌+◌, ◌-◌, ◌*◌, ◌≤◌, List, [], ◌∷◌, ◌++◌, length, true, refl, sym, ap}
 use Rattle.std.proofs.Common.{◌∙◌, subst, arith, length-append}
-use Rattle.sb_base.specs.declared.ending.Ending.{Ending}
-use Rattle.sb_base.specs.declared.ending.Ending.TheVariants.{Spatial}
 use Rattle.sb_base.specs.Endings.{code_of, report_of}
 use Rattle.addr_map.specs.Places.{AreMapped}
 use Rattle.obj_memory.specs.declared.value.Value.{Value}
 use Rattle.obj_memory.specs.declared.value.Place.{Place}
 use Rattle.obj_memory.specs.Sound.{IsSoundTag}
 use Rattle.source_meaning.specs.State.{State as Source, Outcome as Completed, Gives, Ended, Paused, Run, on, ◌>>=◌}
-use Rattle.source_meaning.specs.State.{◌>>◌, done, stop}
+use Rattle.source_meaning.specs.State.{◌>>◌, done}
 use Rattle.source_meaning.specs.Actions.{located}
 use Rattle.source_meaning.specs.Bytes.{set_bytes}
 use Rattle.source_meaning.specs.Acting.{state_of, at_work}
 use Rattle.source_meaning.specs.Strings.{scan, write_string}
 use Rattle.flat_meaning.specs.declared.instruction.FlatInstruction.{FlatInstruction}
-use Rattle.flat_meaning.specs.Memory.{Bytes}
 use Rattle.flat_meaning.specs.State.{State}
 use Rattle.flat_meaning.specs.Words.{IsOfWords}
 use Rattle.flat_meaning.specs.Meaning.{Context, Goes}
 use Rattle.flat_routines.specs.declared.registers.Held.{Held}
 use Rattle.flat_routines.specs.Registers.{AreBelow}
-use Rattle.flat_routines.specs.Routine.{HasAt, Outcome, Continues, Halts, Reaches, Does}
-use Rattle.flat_routines.specs.Metadata.{held_registers, ShowsNothing}
+use Rattle.flat_routines.specs.Routine.{HasAt, Outcome, Halts, Reaches, Does}
+use Rattle.flat_routines.specs.Metadata.{held_registers}
 use Rattle.flat_routines.proofs.Steps.{has_front, has_back}
 use Rattle.flat_routines.proofs.Rules.{weaken}
 use Rattle.flat_objects.specs.StandsFor.{Views, Keys, Spells}
 use Rattle.flat_judging.specs.Judging.{IsJudgeRoutine}
 use Rattle.flat_actions.specs.Actions.{Ground, Pointer, Nowhere, IsHeldBy, IsFor, Leaves, context_in, views_of, work_of}
 use Rattle.flat_actions.specs.Ranges.{IsByteMoveRoutine}
-use Rattle.flat_actions.specs.Scanning.{IsWorked, HasScanned, IsScanned, IsScanRoutine}
+use Rattle.flat_actions.specs.Scanning.{IsWorked, HasScanned, IsScanRoutine}
 use Rattle.flat_actions.proofs.Standing.{for_still, for_worked, spells_still}
 use Rattle.moving_routines.proofs.Tagged.{IsLocal}
 use Rattle.moving_routines.proofs.Judged.{work_done}
 use Rattle.string_routines.specs.Copying.{size_code}
 use Rattle.string_routines.proofs.AfterScan.{over, after_scan}
-use Rattle.string_routines.proofs.Between.{scan_between, IsTerminated, terminated}
+use Rattle.string_routines.proofs.Between.{scan_between, terminated}
 use Rattle.string_routines.proofs.Fresh.{apart_from, below_more}
 use Rattle.string_routines.proofs.Handing.{IsSince, left_from}
 use Rattle.string_routines.proofs.Looking.{scan_works}
-use Rattle.string_routines.proofs.StringWritten.{with_zero, are_small, IsFound, IsToWrite, string_writes}
+use Rattle.string_routines.proofs.StringWritten.{with_zero, are_small, IsFound, string_writes}
 use Rattle.string_routines.proofs.Written.{written_run, written_works, written_gives}
 
 -- what is done in the source: the result is some value
@@ -138,9 +135,9 @@ module _ (ground : Ground) (runtime : ground.is_runtime ≡ true) (mapped : AreM
           (p.stands, p.source, tt))
           (λ e x' is worked. (
             (let one = ap (λ r. (state_of r).work - x.work) is in
-            let two = ap (λ r. (state_of (on r (λ bytes.
-            written_run (length (bytes ++ 0 ∷ [])) dv v (bytes ++ 0 ∷ []) line))).work - x.work) is in
-            omega (arith, one, two)),
+                let two = ap (λ r. (state_of (on r (λ bytes.
+                written_run (length (bytes ++ 0 ∷ [])) dv v (bytes ++ 0 ∷ []) line))).work - x.work) is in
+                omega (arith, one, two)),
             λ f' shows. subst (λ r. R f r (Halts (code_of e) (report_of e) f')) (sym is)
                 (over x x' e f f' p.stands.shown worked shows),
           ))

@@ -1,6 +1,6 @@
 -- Bytes that are written at a place that was judged: what memory becomes stands for what the objects become.
-use Rattle.std.proofs.Common.{◌≡◌, ℕ, ◌+◌, ◌-◌, ◌*◌, ◌<◌, ◌≤◌, ◌⊎◌, inl, inr, ⊎_elim, List, [], ◌++◌, true, length, refl, sym}
-use Rattle.std.proofs.Common.{ap, ◌∙◌, subst, arith, get_or}
+use Rattle.std.proofs.Common.{◌≡◌, ℕ, ◌+◌, ◌*◌, ◌<◌, ◌≤◌, ◌⊎◌, inl, inr, ⊎_elim, List, ◌++◌, true, length, sym}
+use Rattle.std.proofs.Common.{◌∙◌, subst, arith, get_or}
 use Rattle.addr_map.specs.declared.region.Region.TheVariants.{StructureValues}
 use Rattle.addr_map.specs.Places.{MapSizes, AreMapped, spaces_begin, region_start}
 use Rattle.obj_memory.specs.declared.value.Value.{Value}
@@ -25,12 +25,11 @@ use Rattle.flat_routines.specs.Routine.{Outcome, Continues, Halts, Does, Either,
 use Rattle.flat_routines.specs.Metadata.{View}
 use Rattle.flat_routines.proofs.Rules.{Holds, weaken}
 use Rattle.flat_routines.proofs.Regions.{laid_out}
-use Rattle.flat_objects.specs.StandsFor.{Views, Keys, StandsFor}
+use Rattle.flat_objects.specs.StandsFor.{Views, Keys}
 use Rattle.flat_objects.specs.Changes.{IsPut}
 use Rattle.flat_objects.proofs.Moves.{put_stands}
 use Rattle.flat_judging.specs.Judging.{IsSameBut, IsJudged}
 use Rattle.flat_actions.specs.Actions.{views_of, IsFor, StaysElsewhere, Nowhere, HasGiven, Leaves}
-use Rattle.flat_actions.specs.Ranges.{IsObjectRange}
 use Rattle.flat_actions.proofs.Judged.{judged_then, located_then}
 use Rattle.flat_actions.proofs.Standing.{shown_still, keeps_same}
 use Rattle.moving_routines.proofs.Tagged.{ChangesRange, tables_stay, spaces_stay, behind_stays, shadow_stays, IsLocal}

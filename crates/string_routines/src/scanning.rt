@@ -105,9 +105,7 @@ fn scan_instructions(
             past: 1,
         },
         FlatInstruction::End(Ending::Spatial(line)),
-        FlatInstruction::JumpBack {
-            back: 5,
-        },
+        FlatInstruction::JumpBack { back: 5 },
     ];
     first_judged(alloc, string, line, scratch, &turns)
 }
@@ -169,9 +167,7 @@ fn scan_at_most_instructions(
             past: 1,
         },
         FlatInstruction::End(Ending::Spatial(line)),
-        FlatInstruction::JumpBack {
-            back: 6,
-        },
+        FlatInstruction::JumpBack { back: 6 },
     ];
     first_judged(alloc, string, line, scratch, &turns)
 }

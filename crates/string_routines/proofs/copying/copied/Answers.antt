@@ -1,4 +1,4 @@
-use Rattle.std.proofs.Common.{◌+◌, ◌++◌, refl, sym, ◌∙◌}
+use Rattle.std.proofs.Common.{◌+◌, ◌++◌, refl, ◌∙◌}
 use Rattle.std.proofs.lemmas.Result.{IfOk-weaker}
 use Rattle.moving_routines.specs.Library.{runtime_ground}
 use Rattle.string_routines.specs.Copying.{size_code}

@@ -14,7 +14,8 @@ use Rattle.obj_memory.specs.Objects.{Objects, object_at}
 use Rattle.obj_memory.specs.Judgement.{judge, moved}
 use Rattle.obj_memory.specs.Access.{read_value}
 use Rattle.obj_memory.specs.Sound.{IsSound, IsSoundTag}
-use Rattle.source_meaning.specs.State.{State as Source, Outcome as Completed, Gives, Ended, Paused, Run, on, ◌>>=◌, done}
+use Rattle.source_meaning.specs.State.{State as Source, Outcome as Completed, Gives, Ended, Paused, Run, on, ◌>>=◌}
+use Rattle.source_meaning.specs.State.{done}
 use Rattle.source_meaning.specs.State.{stop, choose}
 use Rattle.source_meaning.specs.Strings.{reach, scan_within, scan}
 use Rattle.flat_meaning.specs.Memory.{Bytes}
@@ -66,7 +67,8 @@ same_object n m b c e = (cc, cc)
 module _ (functions line : ℕ) (behind : Run (List ℕ)) (none : AddsNone behind) where
   -- the bytes behind the first lie between the bounds too
   abbrev Rest : (k : ℕ) → Source → Value → ℕ → Bounds → Type 0
-  Rest k x v n b = (bytes : List ℕ) (x' : Source) → scan_within k behind (moved 1 v) line (worked_on 1 x) ≡ Gives bytes x'
+  Rest k x v n b = (bytes : List ℕ) (x' : Source)
+      → scan_within k behind (moved 1 v) line (worked_on 1 x) ≡ Gives bytes x'
       → (v.word + 1 + length bytes ≤ b.bound) × HowEnded behind x.objects v n b (suc (length bytes))
 
   first : (k : ℕ) (x : Source) (v : Value) (bytes : List ℕ) (x' : Source) → IsSound functions x.objects
@@ -112,8 +114,8 @@ module _ (functions line : ℕ) (behind : Run (List ℕ)) (none : AddsNone behin
 
           looked_at : ((byte == 0) ≡ true) ⊎ ((byte == 0) ≡ false) → IsBetween behind x.objects v (length bytes)
           looked_at (inl z) =
-              let q = sym (ap (λ b. choose b (done []) (scan_within k behind (moved 1 v) line >>= (λ bs. done (byte ∷ bs)))
-              (worked_on 1 x)) z) ∙ given in
+              let q = sym (ap (λ b. choose b (done []) (scan_within k behind (moved 1 v) line >>=
+              (λ bs. done (byte ∷ bs))) (worked_on 1 x)) z) ∙ given in
               let n : 0 ≡ length bytes = ap count_of q in
               let below = a.below in
               let at : v.word ≡ v.word + length bytes = omega arith in
@@ -141,7 +143,8 @@ module _ (functions line : ℕ) (behind : Run (List ℕ)) (none : AddsNone behin
       let bound = ap (λ z. z.bound) q in
       AtZero (omega arith)
       (subst (λ i. get_or (object_at objects n).bytes (i - (object_at objects n).address) 0 ≡ 0) same
-      (subst (λ o. get_or (object_at objects o).bytes (w.word + count - (object_at objects o).address) 0 ≡ 0) e zero_is))
+      (subst (λ o. get_or (object_at objects o).bytes (w.word + count - (object_at objects o).address) 0 ≡ 0) e
+      zero_is))
   from_next objects v w n m b c count e q word (AtLimit y bytes y' is) = AtLimit y bytes y' is
 
   pub between : (k : ℕ) (x : Source) (v : Value) (bytes : List ℕ) (x' : Source) → IsSound functions x.objects

@@ -9,7 +9,8 @@ use Rattle.obj_memory.specs.declared.value.Value.{Value}
 use Rattle.obj_memory.specs.declared.value.Place.{Place}
 use Rattle.obj_memory.specs.Judgement.{judge}
 use Rattle.obj_memory.specs.Sound.{IsSoundTag, IsAllowed}
-use Rattle.source_meaning.specs.State.{State as Source, Outcome as Completed, Gives, Ended, Paused, Run, on, ◌>>=◌, done}
+use Rattle.source_meaning.specs.State.{State as Source, Outcome as Completed, Gives, Ended, Paused, Run, on, ◌>>=◌}
+use Rattle.source_meaning.specs.State.{done}
 use Rattle.source_meaning.specs.Acting.{state_of, at_work}
 use Rattle.source_meaning.specs.Strings.{scan_within, strncpy}
 use Rattle.source_meaning.specs.Library.{argument}
@@ -57,8 +58,8 @@ filled_small m a n bytes few words there i = ⊎_elim
     (λ (h : i < n). let e = filled_rest n bytes i l h in omega arith)
     (λ (h : n ≤ i).
     let long = filled_length n bytes few in
-    subst (λ z. z < 256) (sym (get_or-eq_default (filled_up n bytes) 0 (let z : length (filled_up n bytes) ≤ i = omega arith in z)))
-    (omega arith))
+    subst (λ z. z < 256) (sym (get_or-eq_default (filled_up n bytes) 0 (let z : length (filled_up n bytes) ≤ i =
+    omega arith in z))) (omega arith))
     (cases_lt i n))
     (cases_lt i (length bytes))
 
@@ -67,7 +68,8 @@ abbrev pub bounded : (to source : Value) → (n line : ℕ) → Run Value
 bounded dv sv n line =
     scan_within n (done []) sv line >>= (λ bytes. written_run n dv dv (filled_up n bytes) line)
 
-bounded_gives : (dv sv : Value) (n line : ℕ) (x : Source) (w : Value) (x' : Source) → bounded dv sv n line x ≡ Gives w x'
+bounded_gives : (dv sv : Value) (n line : ℕ) (x : Source) (w : Value) (x' : Source)
+    → bounded dv sv n line x ≡ Gives w x'
     → w ≡ dv
 bounded_gives dv sv n line x w x' e = by (scan_within n (done []) sv line x) e
   where
@@ -165,8 +167,8 @@ module _ (ground : Ground) (runtime : ground.is_runtime ≡ true) (mapped : AreM
           let last = room.last in let end = range.last in
           let ok = laid_out ground.map mapped in let small = ok.small in
           does_weaken c writing (28 + 8 * n) (28 + 8 * length new)
-          (IsToFillUp ground runtime d.value s.value size t below_d.0 below_s.0 below_size moving filling moves fills charge
-          weight n sv.word dv.word bytes few range room (omega arith) (omega arith))
+          (IsToFillUp ground runtime d.value s.value size t below_d.0 below_s.0 below_size moving filling moves fills
+          charge weight n sv.word dv.word bytes few range room (omega arith) (omega arith))
           IsToFinish (λ f. Either (HasWritten new dv.word (t + 1) f) Never)
           (λ f. Either (HasWritten new dv.word (t + 1) f) Never) (omega arith)
           (λ f q. record {
@@ -177,8 +179,8 @@ module _ (ground : Ground) (runtime : ground.is_runtime ≡ true) (mapped : AreM
             there = λ i less. ap (λ z. z (sv.word + i)) q.memory ∙ there i less;
           })
           (λ f o q h. h)
-          (fills_up ground runtime d.value s.value size t below_d.0 below_s.0 below_size moving filling moves fills charge
-          weight n sv.word dv.word bytes few range room (omega arith) (omega arith))
+          (fills_up ground runtime d.value s.value size t below_d.0 below_s.0 below_size moving filling moves fills
+          charge weight n sv.word dv.word bytes few range room (omega arith) (omega arith))
 
       finishes : Does c (judging ++ writing) IsToFinish
           (λ f. 10 + (28 + 8 * work_done (written_run n dv dv new line y) y))
@@ -186,10 +188,12 @@ module _ (ground : Ground) (runtime : ground.is_runtime ≡ true) (mapped : AreM
       finishes =
           subst (λ z. Does c (judging ++ writing) IsToFinish
           (λ f. 10 + (28 + 8 * work_done (written_run z dv dv new line y) y))
-          (λ f. Leaves g k ground.IsGood Nowhere (t + 1) y f (written_run z dv dv new line y))) (filled_length n bytes few)
-          (judged_writes ground.map mapped ground.entry ground.IsGood local functions types k (t + 1) y c judging writing dv
-          dv new line IsToFinish 28 (filled_small m sv.word n bytes few words there) sound (λ f p. p.stands) keeps judges_it
-          writes_it)
+          (λ f. Leaves g k ground.IsGood Nowhere (t + 1) y f (written_run z dv dv new line y)))
+          (filled_length n bytes few)
+          (judged_writes ground.map mapped ground.entry ground.IsGood local functions types k (t + 1) y c judging
+          writing dv
+          dv new line IsToFinish 28 (filled_small m sv.word n bytes few words there) sound (λ f p. p.stands) keeps
+          judges_it writes_it)
 
     -- ---- behind the scan
 
@@ -216,14 +220,16 @@ module _ (ground : Ground) (runtime : ground.is_runtime ≡ true) (mapped : AreM
         let few = no_more n (done []) (λ z bs z' q. none_given bs q) x sv line bytes x' is in
         let range = range_of g k (done []) x.objects sv (length bytes) f.memory p.stands.objects p.source.1
         (at_most_between functions line n x sv bytes x' some p.stands.objects.sound p.source.1 is) in
-        subst (λ z. Reaches c code (behind bytes z) (Goes pc f') (pc + length (judging ++ writing)) (R f (Gives bytes z)))
-        (sym worked.same)
+        subst (λ z. Reaches c code (behind bytes z) (Goes pc f') (pc + length (judging ++ writing))
+        (R f (Gives bytes z))) (sym worked.same)
         (weaken c code (behind bytes y) (behind bytes y) (Goes pc f') (pc + length (judging ++ writing)) _
         (R f (Gives bytes y)) (omega arith)
         (λ o q. left_from g k ground.IsGood t (t + 1) x'.work x f f' (written_run n dv dv (filled_up n bytes) line y) o
         (omega arith) h q)
-        ((finishes x'.work bytes few f.memory w.memory i.there p.stands.objects range).from code pc f' has words (record {
-          stands = for_worked g k ground.IsGood x x'.work f' (for_still g k ground.IsGood x f f' i.memory i.shows p.stands);
+        ((finishes x'.work bytes few f.memory w.memory i.there p.stands.objects range).from code pc f' has words
+        (record {
+          stands = for_worked g k ground.IsGood x x'.work f' (for_still g k ground.IsGood x f f' i.memory i.shows
+              p.stands);
           spells = spells_still g k dv d [] t f f' h.others below_d (none_of_none (held_registers d)) p.spells;
           size_is = h.others size below_size tt ∙ p.size_is;
           start_is = h.others s.value below_s.0 tt ∙ p.source.0.word;
@@ -248,20 +254,23 @@ module _ (ground : Ground) (runtime : ground.is_runtime ≡ true) (mapped : AreM
           (p.stands, p.source, p.size_is))
           (λ e x' is worked. (
             (let one = ap (λ r. (state_of r).work - x.work) is in
-                let two = ap (λ r. (state_of (on r (λ bytes. written_run n dv dv (filled_up n bytes) line))).work - x.work) is
-                in omega (arith, one, two)),
+                let two = ap (λ r. (state_of (on r (λ bytes. written_run n dv dv (filled_up n bytes) line))).work -
+                x.work) is in omega (arith, one, two)),
             λ f' shows. subst (λ r. R f r (Halts (code_of e) (report_of e) f')) (sym is)
                 (over x x' e f f' p.stands.shown worked shows),
           ))
           (λ bytes x' is more.
           let one = ap (λ r. (state_of r).work - x.work) is in
-          let two = ap (λ r. (state_of (on r (λ bytes. written_run n dv dv (filled_up n bytes) line))).work - x.work) is in
+          let two = ap (λ r. (state_of (on r (λ bytes. written_run n dv dv (filled_up n bytes) line))).work - x.work) is
+          in
           let later = written_works n dv dv (filled_up n bytes) line x' in
           omega (arith, one, two, later))
           (λ bytes x' is f' words worked i.
-          subst (λ r. Reaches c code (behind bytes x') (Goes (pc + length scanning) f') (pc + length act) (R f r)) (sym is)
+          subst (λ r. Reaches c code (behind bytes x') (Goes (pc + length scanning) f') (pc + length act) (R f r))
+          (sym is)
           (subst (λ e. Reaches c code (behind bytes x') (Goes (pc + length scanning) f') e (R f (Gives bytes x'))) len
-          (on_behind code (pc + length scanning) f f' bytes x' (has_back code pc scanning rest has) w words p is worked i)));
+          (on_behind code (pc + length scanning) f f' bytes x' (has_back code pc scanning rest has) w words p is worked
+          i)));
     }
 
   -- ---- with the size that is 0
@@ -281,8 +290,8 @@ module _ (ground : Ground) (runtime : ground.is_runtime ≡ true) (mapped : AreM
         (λ f. 60 + 8 * work_of (strncpy dv sv nv line) x)
         (λ f. Leaves held k ground.IsGood (Pointer into) t x f (strncpy dv sv nv line x))
     whole =
-        guarded held k ground.IsGood t x (context_in ground charge weight) d into size dv nv (bounded dv sv nv.word line)
-        act IsBefore 54 8 below_d below_into distinct none
+        guarded held k ground.IsGood t x (context_in ground charge weight) d into size dv nv
+        (bounded dv sv nv.word line) act IsBefore 54 8 below_d below_into distinct none
         (λ f p. record { stands = p.stands; spells = p.spells; sound = sound; size_is = p.size_is })
         (λ f p. record {
           stands = for_still held k ground.IsGood x f _ refl

@@ -23,7 +23,8 @@ use Rattle.flat_routines.specs.Metadata.{held_registers, entry_registers}
 use Rattle.flat_routines.proofs.Rules.{weaken}
 use Rattle.flat_objects.specs.StandsFor.{Views, Keys, Spells}
 use Rattle.flat_judging.specs.Judging.{IsJudgeRoutine}
-use Rattle.flat_actions.specs.Actions.{Ground, Pointer, Nowhere, IsHeldBy, IsFor, Leaves, IsAction, context_in, views_of, work_of}
+use Rattle.flat_actions.specs.Actions.{Ground, Pointer, Nowhere, IsHeldBy, IsFor, Leaves, IsAction, context_in}
+use Rattle.flat_actions.specs.Actions.{views_of, work_of}
 use Rattle.flat_actions.specs.Ranges.{IsByteMoveRoutine}
 use Rattle.flat_actions.specs.Scanning.{IsWorked, HasScanned, IsScanRoutine}
 use Rattle.flat_actions.proofs.Standing.{for_still, for_worked, held_still, entry_stays, none_of_none}
@@ -56,7 +57,8 @@ module _ (ground : Ground) (runtime : ground.is_runtime ≡ true) (mapped : AreM
       → IsHeldBy (views_of ground.map functions types ground.entry) k x.objects (Pointer s) sv f.values
       → Reaches (context_in ground charge weight) code (49 + 8 * work_of (strcpy dv sv line) x) (Goes pc f)
       (pc + length (act ++ give_code d into))
-      (Leaves (views_of ground.map functions types ground.entry) k ground.IsGood (Pointer into) t x f (strcpy dv sv line x))
+      (Leaves (views_of ground.map functions types ground.entry) k ground.IsGood (Pointer into) t x f
+      (strcpy dv sv line x))
   strcpy_whole functions types k x dv sv charge weight code pc f has w p a b =
       let g = views_of ground.map functions types ground.entry in
       let c = context_in ground charge weight in
@@ -67,12 +69,12 @@ module _ (ground : Ground) (runtime : ground.is_runtime ≡ true) (mapped : AreM
       (pc + length (act ++ give_code d into)) (Leaves g k ground.IsGood (Pointer into) t x f r) _ (omega arith)
       (λ o h. subst (λ q. Leaves g k ground.IsGood (Pointer into) t x f q o) (sym is) h)
       ((act_then_gives g k ground.IsGood t x c d into dv r act
-      (IsToCopy ground runtime mapped local line d s t below_d below_s scanning judging moving scans judges moves functions
-      types k x dv dv sv charge weight a.1)
+      (IsToCopy ground runtime mapped local line d s t below_d below_s scanning judging moving scans judges moves
+      functions types k x dv dv sv charge weight a.1)
       (44 + 8 * work_of (copied dv dv sv line) x) below_d below_into distinct none (λ f q. q.spells) (λ f q. a.1)
       (copied_gives dv dv sv line x)
-      (copies ground runtime mapped local line d s t below_d below_s scanning judging moving scans judges moves functions
-      types k x dv dv sv charge weight a.1)).from code pc f has w
+      (copies ground runtime mapped local line d s t below_d below_s scanning judging moving scans judges moves
+      functions types k x dv dv sv charge weight a.1)).from code pc f has w
       (record { stands = p; spells = a.0; source = b }))
 
   pub strcpy_acts : IsAction ground (λ vs. strcpy (argument 0 vs) (argument 1 vs) line) (Pointer d ∷ Pointer s ∷ [])
@@ -171,16 +173,20 @@ module _ (ground : Ground) (runtime : ground.is_runtime ≡ true) (mapped : AreM
         (weaken c code (behind before y) (behind before y) (Goes pc f') (pc + length copying) _ (R f (Gives before y))
         (omega arith)
         (λ o q. left_from g k ground.IsGood t (t + 1) x'.work x f f' (copied ev dv sv line y) o (omega arith) h q)
-        ((copies ground runtime mapped local line (end_of d t) s (t + 1) below_end below_source scanning judging moving scans
-        judges moves functions types k y ev dv sv charge weight (end_sound (length before))).from code pc f' has words (record {
-          stands = for_worked g k ground.IsGood x x'.work f' (for_still g k ground.IsGood x f f' i.memory i.shows p.stands);
+        ((copies ground runtime mapped local line (end_of d t) s (t + 1) below_end below_source scanning judging moving
+        scans
+        judges moves functions types k y ev dv sv charge weight (end_sound (length before))).from code pc f' has words
+        (record {
+          stands = for_worked g k ground.IsGood x x'.work f' (for_still g k ground.IsGood x f f' i.memory i.shows
+              p.stands);
           spells = end_spelled f f' before p.spells i;
           source = held_still g k x.objects (Pointer s) sv [] t f f' h.others below_s (none_of_none (held_registers s))
               p.source;
         })))
 
     cat_is : (r : Completed (List ℕ))
-        → on r (λ before. scan sv line >>= (λ bytes. write_string (moved (length before) dv) bytes line >> done dv)) ≡ after r
+        → on r (λ before. scan sv line >>= (λ bytes. write_string (moved (length before) dv) bytes line >> done dv))
+        ≡ after r
     cat_is (Gives before y) = copied_is (moved (length before) dv) dv sv line y
     cat_is (Ended e y) = refl
     cat_is (Paused y) = refl
@@ -190,7 +196,8 @@ module _ (ground : Ground) (runtime : ground.is_runtime ≡ true) (mapped : AreM
     cats = record {
       from = λ code pc f has w p.
           let o = scan dv line x in
-          let len : pc + length first + length copying ≡ pc + length cat_act = omega (arith, length-append first copying) in
+          let len : pc + length first + length copying ≡ pc + length cat_act =
+          omega (arith, length-append first copying) in
           let same = ap (λ r. (state_of r).work - x.work) (cat_is o) in
           after_scan c code (16 + 8 * work_of (scan dv line) x) (60 + 8 * work_of (strcat dv sv line) x) behind pc
           (pc + length first) (pc + length cat_act) f dv.word t (t + 1) x o (R f o) w
@@ -208,7 +215,8 @@ module _ (ground : Ground) (runtime : ground.is_runtime ≡ true) (mapped : AreM
           let later = copied_works (moved (length before) dv) dv sv line x' in
           omega (arith, one, two, later, same))
           (λ before x' is f' words worked i.
-          subst (λ r. Reaches c code (behind before x') (Goes (pc + length first) f') (pc + length cat_act) (R f r)) (sym is)
+          subst (λ r. Reaches c code (behind before x') (Goes (pc + length first) f') (pc + length cat_act) (R f r))
+          (sym is)
           (subst (λ e. Reaches c code (behind before x') (Goes (pc + length first) f') e (R f (Gives before x'))) len
           (on_behind code (pc + length first) f f' before x' (has_back code pc first copying has) words p worked i)));
     }
@@ -223,7 +231,8 @@ module _ (ground : Ground) (runtime : ground.is_runtime ≡ true) (mapped : AreM
 
     strcat_whole : (code : List FlatInstruction) (pc : ℕ) (f : State) → HasAt code pc (cat_act ++ give_code d into)
         → IsOfWords f → IsToCat f
-        → Reaches c code (65 + 8 * work_of (strcat dv sv line) x) (Goes pc f) (pc + length (cat_act ++ give_code d into))
+        → Reaches c code (65 + 8 * work_of (strcat dv sv line) x) (Goes pc f)
+        (pc + length (cat_act ++ give_code d into))
         (Leaves g k ground.IsGood (Pointer into) t x f (strcat dv sv line x))
     strcat_whole code pc f has w p =
         weaken c code (60 + 8 * work_of (strcat dv sv line) x + 5) (65 + 8 * work_of (strcat dv sv line) x) (Goes pc f)
@@ -231,8 +240,8 @@ module _ (ground : Ground) (runtime : ground.is_runtime ≡ true) (mapped : AreM
         (Leaves g k ground.IsGood (Pointer into) t x f (after (scan dv line x))) _ (omega arith)
         (λ o h. subst (λ q. Leaves g k ground.IsGood (Pointer into) t x f q o) (sym (cat_is (scan dv line x))) h)
         ((act_then_gives g k ground.IsGood t x c d into dv (after (scan dv line x)) cat_act IsToCat
-        (60 + 8 * work_of (strcat dv sv line) x) below_d below_into distinct none (λ f q. q.spells) (λ f q. sound) cat_gives
-        cats).from code pc f has w p)
+        (60 + 8 * work_of (strcat dv sv line) x) below_d below_into distinct none (λ f q. q.spells) (λ f q. sound)
+        cat_gives cats).from code pc f has w p)
 
   pub strcat_acts : IsAction ground (λ vs. strcat (argument 0 vs) (argument 1 vs) line) (Pointer d ∷ Pointer s ∷ [])
       (Pointer into) t 65 8 (cat_act ++ give_code d into)

@@ -32,7 +32,8 @@ filled_length n bytes le =
     length-replicate {A = ℕ} (n - length bytes) 0 in
     omega (arith, a, b)
 
-pub filled_first : (n : ℕ) (bytes : List ℕ) (i : ℕ) → i < length bytes → get_or (filled_up n bytes) i 0 ≡ get_or bytes i 0
+pub filled_first : (n : ℕ) (bytes : List ℕ) (i : ℕ) → i < length bytes
+    → get_or (filled_up n bytes) i 0 ≡ get_or bytes i 0
 filled_first n bytes i l = get_or_append_left bytes (replicate (n - length bytes) 0) 0 i l
 
 pub filled_rest : (n : ℕ) (bytes : List ℕ) (i : ℕ) → length bytes ≤ i → i < n → get_or (filled_up n bytes) i 0 ≡ 0
@@ -45,7 +46,8 @@ module _ (ground : Ground) (runtime : ground.is_runtime ≡ true) (to from size 
     (from_below : from < cur) (size_below : size < cur) (moving filling : List FlatInstruction)
     (moves : IsByteMoveRoutine ground.map to from (cur + 1) (cur + 4) moving)
     (fills : IsFillRoutine ground.map (cur + 2) (cur + 3) (cur + 1) (cur + 4) filling)
-    (charge weight n a d : ℕ) (bytes : List ℕ) (few : length bytes ≤ n) (range : IsObjectRange ground.map a (length bytes))
+    (charge weight n a d : ℕ) (bytes : List ℕ) (few : length bytes ≤ n) (range : IsObjectRange ground.map a
+    (length bytes))
     (room : IsObjectRange ground.map d n) (room_small : d + n < 2 ^ 63) (small : a + length bytes < 2 ^ 63) where
   abbrev c : Context
   c = context_in ground charge weight
@@ -126,7 +128,8 @@ module _ (ground : Ground) (runtime : ground.is_runtime ≡ true) (to from size 
       → OthersStay [] (cur + 1) f2 f3 → f3.values (cur + 2) ≡ d + m → f3.values (cur + 3) ≡ 0
       → HasFilled (cur + 2) (cur + 3) (n - m) (cur + 4) f3 f4 → Written f f4
   filled f f1 f2 f3 f4 p mem1 shows1 others1 to_is from_is moved mem3 shows3 others3 address zero_is last = record {
-    there = λ i less. ⊎_elim (first i) (λ l. rest i l (let long = filled_length n bytes few in omega arith)) (cases_lt i m);
+    there = λ i less. ⊎_elim (first i) (λ l. rest i l (let long = filled_length n bytes few in omega arith))
+        (cases_lt i m);
     beside = λ b out.
         let long = filled_length n bytes few in
         last.beside b (⊎_elim (λ l. inl (omega arith)) (λ l. inr (omega arith)) out) ∙ ap (λ z. z b) mem3
@@ -145,7 +148,8 @@ module _ (ground : Ground) (runtime : ground.is_runtime ≡ true) (to from size 
       rest : (i : ℕ) → m ≤ i → i < n → f4.memory (d + i) ≡ get_or (filled_up n bytes) i 0
       rest i l h =
           let at : d + i ≡ f3.values (cur + 2) + (i - m) = omega arith in
-          ap f4.memory at ∙ last.there (i - m) (omega arith) ∙ ap (λ z. z % 256) zero_is ∙ sym (filled_rest n bytes i l h)
+          ap f4.memory at ∙ last.there (i - m) (omega arith) ∙ ap (λ z. z % 256) zero_is
+          ∙ sym (filled_rest n bytes i l h)
 
   pub fills_up : Does c fill_up_items IsToFillUp (λ f. 28 + 8 * n) (λ f. Either (Written f) Never)
   fills_up = record {
@@ -165,7 +169,8 @@ module _ (ground : Ground) (runtime : ground.is_runtime ≡ true) (to from size 
         omega (arith, length-append moving (tailing ++ filling)) in
         let first = range.first in
         let room_last = room.last in let room_first = room.first in
-        weaken c code (1 + ((16 + 7 * m) + (3 + (8 + 5 * (n - m))))) (28 + 8 * n) (Goes pc f) (pc + length fill_up_items) R R
+        weaken c code (1 + ((16 + 7 * m) + (3 + (8 + 5 * (n - m))))) (28 + 8 * n) (Goes pc f)
+        (pc + length fill_up_items) R R
         (omega arith) (λ o i. i)
         (subst (λ e. Reaches c code (1 + ((16 + 7 * m) + (3 + (8 + 5 * (n - m))))) (Goes pc f) e R) len
         (line_on c code counting ((16 + 7 * m) + (3 + (8 + 5 * (n - m)))) pc f end R (tt, tt)
@@ -189,7 +194,14 @@ module _ (ground : Ground) (runtime : ground.is_runtime ≡ true) (to from size 
         (has_front code (pc + 1 + length moving) tailing filling has2)
         (weaken c code (8 + 5 * (n - m)) (8 + 5 * (n - m)) (Goes (pc + 1 + length moving + 3) f3) end
         (Either (HasFilled (cur + 2) (cur + 3) (n - m) (cur + 4) f3) Never) R (omega arith)
-        (λ o i. by f f1 f2 f3 o p refl (record { input = refl; output = refl; taken = refl; accesses = refl; turns = refl })
+        (λ o i. by f f1 f2 f3 o p refl (record {
+          input = refl;
+          output = refl;
+          taken = refl;
+          accesses = refl;
+          turns =
+              refl;
+        })
         h1.others to_is from_is moved refl
         (record { input = refl; output = refl; taken = refl; accesses = refl; turns = refl }) h3.others h3.address_is
         h3.zero_is i)

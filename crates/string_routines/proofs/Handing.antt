@@ -100,4 +100,5 @@ module _ (g : Views) (k : Keys) (IsGood : Bytes → Type 0) where
         in_sequence c act (give_code a b) B 5 P (λ f f1. Unit {0}) (λ f. Leaves g k IsGood Nowhere t x f r)
         (λ f. Leaves g k IsGood (Pointer b) t x f r) (λ f f1. Either (HasHanded a b t f1) Never)
         acts (λ f. hands c a b t below_a below_b distinct none) (λ f f1 p h. tt)
-        (λ f f1 o p h give. then_given r gives f f1 o p h give) (λ f f1 status report p h. over_then r f f1 status report h)
+        (λ f f1 o p h give. then_given r gives f f1 o p h give) (λ f f1 status report p h. over_then r f f1 status
+        report h)

@@ -51,15 +51,18 @@ module _ (ground : Ground) (h : Held) (into line t : ℕ) (below : AreBelow t (i
 
     -- the cursor's distance from the start is the length
     given : (f f' : State) (bytes : List ℕ) (x' : Source) → IsFor g k ground.IsGood x f → f.values h.value ≡ v.word
-        → IsOfWords f → IsWorked x x' → HasScanned v.word bytes t (t + 1) f f' → R f (Gives bytes x') (Continues (after f'))
+        → IsOfWords f → IsWorked x x' → HasScanned v.word bytes t (t + 1) f f'
+        → R f (Gives bytes x') (Continues (after f'))
     unfolding put reg_result
     given f f' bytes x' p word words worked i =
         let kept : f'.values h.value ≡ v.word = i.others h.value (omega (arith, below.1.0)) (not_cursor, tt) ∙ word in
         let cursor = i.cursor_is in let small = i.small in let w = words.values h.value in
         let length_is : (after f').values into ≡ length bytes =
         put_same f'.values into ((f'.values t + (2 ^ 64 - f'.values h.value)) % 2 ^ 64) ∙ omega arith in
-        subst (λ y. HasGiven g k ground.IsGood (Word into) t x f (integer (length bytes)) y (after f')) (sym worked.same)
-        (given_still g k ground.IsGood (Word into) t x x'.work f (after f') (integer (length bytes)) p i.memory (record {
+        subst (λ y. HasGiven g k ground.IsGood (Word into) t x f (integer (length bytes)) y (after f'))
+        (sym worked.same)
+        (given_still g k ground.IsGood (Word into) t x x'.work f (after f') (integer (length bytes)) p i.memory
+        (record {
           input = i.shows.input;
           output = i.shows.output;
           taken = i.shows.taken;

@@ -60,7 +60,8 @@ worked_on n x = at_work (x.work + n) x
 
 -- a look by the verdict on it
 pub looked_by : (x : Source) (v : Value) (line : ℕ) (w : Verdict) → judge 1 v x.objects ≡ w
-    → look v line x ≡ judged_then w line x (λ p. Gives (read_value (Integer UnsignedChar) p x.objects).word (worked_on 1 x))
+    → look v line x ≡ judged_then w line x (λ p. Gives (read_value (Integer UnsignedChar) p x.objects).word
+    (worked_on 1 x))
 looked_by x v line w e =
     located_then 1 v line x _
     ∙ ap (λ w. judged_then w line x (λ p. Gives (read_value (Integer UnsignedChar) p x.objects).word (worked_on 1 x))) e
@@ -127,9 +128,10 @@ abbrev pub with_first : (count : ℕ) → (behind : Run (List ℕ)) → Value �
 with_first k behind v line byte =
     choose (byte == 0) (done []) (scan_within k behind (moved 1 v) line >>= (λ others. done (byte ∷ others)))
 
-pub scan_by : (k : ℕ) (behind : Run (List ℕ)) (x : Source) (v : Value) (line : ℕ) (w : Verdict) → judge 1 v x.objects ≡ w
-    → scan_within (suc k) behind v line x
-    ≡ judged_then w line x (λ p. with_first k behind v line (read_value (Integer UnsignedChar) p x.objects).word (worked_on 1 x))
+pub scan_by : (k : ℕ) (behind : Run (List ℕ)) (x : Source) (v : Value) (line : ℕ) (w : Verdict)
+    → judge 1 v x.objects ≡ w → scan_within (suc k) behind v line x
+    ≡ judged_then w line x (λ p. with_first k behind v line (read_value (Integer UnsignedChar) p x.objects).word
+    (worked_on 1 x))
 scan_by k behind x v line Outside e = ap (λ r. on r (with_first k behind v line)) (looked_by x v line Outside e)
 scan_by k behind x v line Dead e = ap (λ r. on r (with_first k behind v line)) (looked_by x v line Dead e)
 scan_by k behind x v line (Inside p) e = ap (λ r. on r (with_first k behind v line)) (looked_by x v line (Inside p) e)
@@ -171,7 +173,8 @@ scan_within_works (suc k) behind x v line h =
 
     chosen : x.work + 1 ≤ (state_of (scan_within k behind (moved 1 v) line (worked_on 1 x))).work
         → (b : Bool) (byte : ℕ)
-        → x.work ≤ (state_of (choose b (done []) (scan_within k behind (moved 1 v) line >>= (λ others. done (byte ∷ others)))
+        → x.work ≤ (state_of (choose b (done []) (scan_within k behind (moved 1 v) line >>=
+        (λ others. done (byte ∷ others)))
         (worked_on 1 x))).work
     chosen rest true byte = omega arith
     chosen rest false byte =
@@ -179,7 +182,8 @@ scan_within_works (suc k) behind x v line h =
 
     by : x.work + 1 ≤ (state_of (scan_within k behind (moved 1 v) line (worked_on 1 x))).work
         → (w : Verdict) → judge 1 v x.objects ≡ w → x.work ≤ (state_of (scan_within (suc k) behind v line x)).work
-    by rest Outside e = subst (λ r. x.work ≤ (state_of r).work) (sym (scan_by k behind x v line Outside e)) (omega arith)
+    by rest Outside e = subst (λ r. x.work ≤ (state_of r).work) (sym (scan_by k behind x v line Outside e))
+        (omega arith)
     by rest Dead e = subst (λ r. x.work ≤ (state_of r).work) (sym (scan_by k behind x v line Dead e)) (omega arith)
     by rest (Inside p) e =
         let byte = (read_value (Integer UnsignedChar) p x.objects).word in

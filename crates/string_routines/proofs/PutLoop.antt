@@ -99,8 +99,8 @@ module _ (map : MapSizes) (charge weight n : ℕ) (start : State) (words : IsOfW
         cursor = omega arith;
         end = w.end;
         memory = w.memory;
-        output = append_assoc v.output (load 1 v.memory ((v.values 2 + 0) % 2 ^ 64) % 256 ∷ []) (bytes_from k m (a + suc d))
-            ∙ ap (λ z. v.output ++ z ∷ bytes_from k m (a + suc d)) shown
+        output = append_assoc v.output (load 1 v.memory ((v.values 2 + 0) % 2 ^ 64) % 256 ∷ [])
+            (bytes_from k m (a + suc d)) ∙ ap (λ z. v.output ++ z ∷ bytes_from k m (a + suc d)) shown
             ∙ ap (λ z. v.output ++ m (a + d) ∷ bytes_from k m z) (sym next)
             ∙ w.output;
         input = w.input;

@@ -135,8 +135,8 @@ module _ (ground : Ground) (runtime : ground.is_runtime ≡ true) (h : Held) (in
         (λ s. Either (HasPut h.value n (t + 1) s) Never) (puts_all n charge weight)).from code pc f'
         (has_front code pc putting (newline_given into (t + 1)) has) words (record {
           end_is = omega arith;
-          allowed = λ j less. object_allowed ground.map (f'.values h.value + j) (f'.values h.value + j) 1 refl (omega arith)
-              (omega arith);
+          allowed = λ j less. object_allowed ground.map (f'.values h.value + j) (f'.values h.value + j) 1 refl
+              (omega arith) (omega arith);
         }) in
         next c code (2 + 5 * n) 3 (Goes pc f') (pc + length putting) (pc + length putting + 3)
         (HasPut h.value n (t + 1) f') Never (R f (Gives bytes x')) words run
@@ -167,9 +167,10 @@ module _ (ground : Ground) (runtime : ground.is_runtime ≡ true) (h : Held) (in
         let two = ap (λ r. (state_of (after r)).work - x.work) is in
         omega (arith, one, two, length-append bytes (10 ∷ [])))
         (λ bytes x' is f' words worked i.
-        subst (λ r. Reaches c code ((2 + 5 * length bytes) + 3) (Goes (pc + length scanning) f') (pc + length items) (R f r))
-        (sym is)
-        (subst (λ e. Reaches c code ((2 + 5 * length bytes) + 3) (Goes (pc + length scanning) f') e (R f (Gives bytes x')))
+        subst (λ r. Reaches c code ((2 + 5 * length bytes) + 3) (Goes (pc + length scanning) f') (pc + length items)
+        (R f r)) (sym is)
+        (subst (λ e. Reaches c code ((2 + 5 * length bytes) + 3) (Goes (pc + length scanning) f') e
+        (R f (Gives bytes x')))
         len (out code (pc + length scanning) f f' bytes x' (has_back code pc scanning rest has) words p a is worked i)))
 
   pub puts_acts : IsAction ground (λ vs. puts (argument 0 vs) line) (Pointer h ∷ []) (Word into) t 21 8 items

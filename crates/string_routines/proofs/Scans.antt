@@ -101,12 +101,12 @@ module _ (c : Context) (runtime : c.is_runtime ≡ true) (code : List FlatInstru
       start string k x v f
       → (1 ≤ k → Again c runtime code pc line (limit_code l) (behind_of l line) (IsLeft l) has (step_left l) functions
       objects n b start string k x v)
-      → Scans c runtime code pc line (limit_code l) (behind_of l line) (IsLeft l) has (step_left l) functions objects n b
-      start string (pc + 1 + 1 + 1) 3 k x v f
+      → Scans c runtime code pc line (limit_code l) (behind_of l line) (IsLeft l) has (step_left l) functions objects n
+      b start string (pc + 1 + 1 + 1) 3 k x v f
   tail false has k x v f h again =
       let left = h.left in let p = h.cursor_is in let u = h.bound_is in
-      let r = bound_tested c runtime code pc line [] (behind_of false line) (IsLeft false) has (step_left false) functions
-      objects n b start string (pc + 1 + 1 + 1) 5 k x v f has.1.1.1 (omega arith)
+      let r = bound_tested c runtime code pc line [] (behind_of false line) (IsLeft false) has (step_left false)
+      functions objects n b start string (pc + 1 + 1 + 1) 5 k x v f has.1.1.1 (omega arith)
       (λ at. let none : k ≡ 0 = omega arith in
       ap (λ j. scan_within j (behind_of false line) v line x) none)
       (λ below. again (omega arith) below) h in
@@ -133,8 +133,8 @@ module _ (c : Context) (runtime : c.is_runtime ≡ true) (code : List FlatInstru
           record {
             spent = 0;
             work = ap (λ r. (state_of r).work) is ∙ omega arith;
-            reaches = subst (λ r. Reaches c code 3 (Goes (pc + 1 + 1 + 1) f) (pc + 6 + 1) (Found start x v.word r)) (sym is)
-                (branch c code 2 (pc + 1 + 1 + 1) f Beq 6 (Register 8) 3 (pc + 6 + 1) R has.1.1.1.0
+            reaches = subst (λ r. Reaches c code 3 (Goes (pc + 1 + 1 + 1) f) (pc + 6 + 1) (Found start x v.word r))
+                (sym is) (branch c code 2 (pc + 1 + 1 + 1) f Beq 6 (Register 8) 3 (pc + 6 + 1) R has.1.1.1.0
                 (λ t. arrived c code 2 (worked c f) _ _ R (omega arith) (
                   no_work x,
                   record {
@@ -270,7 +270,8 @@ module _ (ground : Ground) (runtime : ground.is_runtime ≡ true) (mapped : AreM
       let live = lives x.objects v a.number a.bounds p.place a.tag_is p.judged in
       let tag = subst (IsSoundTag functions x.objects) a.tag_is p.sound in
       let spelled = p.spells in
-      let bound : f.values 2 ≡ a.bounds.bound = ap (λ z. z.bound) spelled.tag ∙ ap (λ z. (spell g k z).bound) a.tag_is in
+      let bound : f.values 2 ≡ a.bounds.bound = ap (λ z. z.bound) spelled.tag ∙ ap (λ z. (spell g k z).bound) a.tag_is
+      in
       let h = ready c l v n (f.values 5) a f w p.count spelled.word bound refl in
       let y = effects c (prepare l) f in
       let some = some_left l v n (f.values 5) p.count a in
@@ -305,5 +306,6 @@ module _ (ground : Ground) (runtime : ground.is_runtime ≡ true) (mapped : AreM
       (has_front code 0 (prepare l) (own_loop l line) has)
       (subst (λ z. Reaches c code (6 * r.spent + 0) (Goes (0 + length (prepare l)) y) z (R f)) end
       (subst (λ z. Reaches c code (6 * r.spent + 0) (Goes (0 + length (prepare l)) y)
-      (0 + length (prepare l) + 6 + length (limit_code l)) (Found f x v.word (scan_within z (behind_of l line) v line x)))
+      (0 + length (prepare l) + 6 + length (limit_code l))
+      (Found f x v.word (scan_within z (behind_of l line) v line x)))
       n_is r.reaches)))

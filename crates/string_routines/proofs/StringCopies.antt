@@ -95,25 +95,33 @@ module _ (ground : Ground) (runtime : ground.is_runtime ≡ true) (mapped : AreM
     }
 
     -- behind the scan
-    on_behind : (code : List FlatInstruction) (pc : ℕ) (f f' : State) (bytes : List ℕ) (x' : Source) → HasAt code pc rest
-        → IsOfWords f → IsOfWords f' → IsToCopy f → scan sv line x ≡ Gives bytes x' → IsWorked x x'
+    on_behind : (code : List FlatInstruction) (pc : ℕ) (f f' : State) (bytes : List ℕ) (x' : Source)
+        → HasAt code pc rest → IsOfWords f → IsOfWords f' → IsToCopy f → scan sv line x ≡ Gives bytes x' → IsWorked x x'
         → HasScanned sv.word bytes cur (cur + 1) f f'
         → Reaches c code (behind bytes x') (Goes pc f') (pc + length rest) (R f (Gives bytes x'))
     on_behind code pc f f' bytes x' has w words p is worked i =
         let y = at_work x'.work x in
         let at = found f f' bytes x' p is i in
         let s_since = since f f' bytes i in
-        let b : AreBelow (cur + 1) (s.value ∷ cur ∷ held_registers to) =
-        (let l = below_s.0 in omega arith, (omega arith, below_more cur (cur + 1) (held_registers to) (omega arith) below_to)) in
+        let b : AreBelow (cur + 1) (s.value ∷ cur ∷ held_registers to) = (
+          let l = below_s.0 in omega arith,
+          (
+            omega arith,
+            below_more cur (cur + 1) (held_registers to) (omega arith)
+                below_to,
+          ),
+        ) in
         let bytes_small = are_small f.memory sv.word (bytes ++ 0 ∷ []) w.memory
         (with_zero f.memory sv.word bytes at.there at.last_byte) in
-        subst (λ z. Reaches c code (behind bytes z) (Goes pc f') (pc + length rest) (R f (Gives bytes z))) (sym worked.same)
-        (weaken c code (behind bytes y) (behind bytes y) (Goes pc f') (pc + length rest) _ (R f (Gives bytes y)) (omega arith)
-        (λ o h. left_from g k ground.IsGood cur (cur + 1) x'.work x f f'
+        subst (λ z. Reaches c code (behind bytes z) (Goes pc f') (pc + length rest) (R f (Gives bytes z)))
+        (sym worked.same)
+        (weaken c code (behind bytes y) (behind bytes y) (Goes pc f') (pc + length rest) _ (R f (Gives bytes y))
+        (omega arith) (λ o h. left_from g k ground.IsGood cur (cur + 1) x'.work x f f'
         (written_run (length (bytes ++ 0 ∷ [])) dv v (bytes ++ 0 ∷ []) line y) o (omega arith) s_since h)
-        ((string_writes ground runtime mapped local line to s.value cur (cur + 1) b judging moving judges moves functions
-        types k y dv v sv.word bytes charge weight sound bytes_small).from code pc f' has words (record {
-          stands = for_worked g k ground.IsGood x x'.work f' (for_still g k ground.IsGood x f f' i.memory i.shows p.stands);
+        ((string_writes ground runtime mapped local line to s.value cur (cur + 1) b judging moving judges moves
+        functions types k y dv v sv.word bytes charge weight sound bytes_small).from code pc f' has words (record {
+          stands = for_worked g k ground.IsGood x x'.work f' (for_still g k ground.IsGood x f f' i.memory i.shows
+              p.stands);
           spells = spells_still g k dv to (cur ∷ []) (cur + 1) f f' i.others
               (below_more cur (cur + 1) (held_registers to) (omega arith) below_to)
               (apart_from cur cur (held_registers to) (omega arith) below_to) p.spells;
@@ -148,11 +156,11 @@ module _ (ground : Ground) (runtime : ground.is_runtime ≡ true) (mapped : AreM
           let later = written_works (length (bytes ++ 0 ∷ [])) dv v (bytes ++ 0 ∷ []) line x' in
           omega (arith, one, two, later))
           (λ bytes x' is f' words worked i.
-          subst (λ r. Reaches c code (behind bytes x') (Goes (pc + length scanning) f') (pc + length copy_items) (R f r))
-          (sym is)
+          subst (λ r. Reaches c code (behind bytes x') (Goes (pc + length scanning) f') (pc + length copy_items)
+          (R f r)) (sym is)
           (subst (λ e. Reaches c code (behind bytes x') (Goes (pc + length scanning) f') e (R f (Gives bytes x')))
-          len (on_behind code (pc + length scanning) f f' bytes x' (has_back code pc scanning rest has) w words p is worked
-          i)));
+          len (on_behind code (pc + length scanning) f f' bytes x' (has_back code pc scanning rest has) w words p is
+          worked i)));
     }
 
 -- ---- what it gives

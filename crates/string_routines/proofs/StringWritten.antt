@@ -153,7 +153,8 @@ module _ (ground : Ground) (runtime : ground.is_runtime ≡ true) (mapped : AreM
       (λ f o q h. written f q o h)
       (does_in ground runtime charge weight moving _ _ _ (moves (length new) charge weight))
     where
-      written : (f : State) → IsSized f → (o : Outcome) → Either (HasMovedBytes to.value from (length new) (z + 1) f) Never o
+      written : (f : State) → IsSized f → (o : Outcome)
+          → Either (HasMovedBytes to.value from (length new) (z + 1) f) Never o
           → Either (HasWritten new dv.word (z + 1) f) Never o
       written f q (Continues f') h =
           let word = q.0.spells.word in
@@ -212,7 +213,8 @@ module _ (ground : Ground) (runtime : ground.is_runtime ≡ true) (mapped : AreM
         let len : pc + 2 + length rest ≡ pc + length (sizes ++ rest) = omega arith in
         subst (λ e. Reaches c code (2 + B) (Goes pc f) e R) len
         (line_on c code sizes B pc f (pc + 2 + length rest) R (tt, (tt, tt)) (has_front code pc sizes rest has)
-        (weaken c code B B (Goes (pc + 2) f') (pc + 2 + length rest) (Leaves g k ground.IsGood Nowhere (z + 1) x f' whole)
+        (weaken c code B B (Goes (pc + 2) f') (pc + 2 + length rest) (Leaves g k ground.IsGood Nowhere (z + 1) x f'
+        whole)
         R (omega arith) (λ o i. left_from g k ground.IsGood z (z + 1) x.work x f f' whole o (omega arith) h.since i)
         (judged_moves.from code (pc + 2) f' (has_back code pc sizes rest has)
         (quiet_words c sizes f (tt, (tt, tt)) w) (keeps f f' h.since p, h.size_is))));

@@ -22,10 +22,10 @@ use sb_base::Line;
 use shadow_space::ShadowForm;
 use std::alloc::{AllocError, Global};
 
-/// `strncpy` to the pointer in `to` from the one in `from`, of as many bytes as `size` holds, at a line, in a function of
-/// the runtime: the string is scanned up to so many bytes, the destination judged as one access, and the bytes are moved,
-/// with zeros behind them; nothing is judged where there are none. What it gives, the pointer in `to`, is put into the
-/// registers of `into`. It may write the registers from `scratch` on. The only refusal is that memory fails.
+/// `strncpy` to the pointer in `to` from the one in `from`, of as many bytes as `size` holds, at a line, in a function
+/// of the runtime: the string is scanned up to so many bytes, the destination judged as one access, and the bytes are
+/// moved, with zeros behind them; nothing is judged where there are none. What it gives, the pointer in `to`, is put
+/// into the registers of `into`. It may write the registers from `scratch` on. The only refusal is that memory fails.
 pub fn strncpy<S: ShadowForm>(
     alloc: Global,
     map: &AddrMap,

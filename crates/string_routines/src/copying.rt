@@ -22,10 +22,10 @@ use sb_base::Line;
 use shadow_space::ShadowForm;
 use std::alloc::{AllocError, Global};
 
-/// `strcpy` to the pointer in `to` from the one in `from`, at a line, in a function of the runtime: the string is scanned,
-/// the destination judged as one access, and the bytes are moved, also where they overlap. What it gives, the pointer in
-/// `to`, is put into the registers of `into`. It may write the registers from `scratch` on. The only refusal is that
-/// memory fails.
+/// `strcpy` to the pointer in `to` from the one in `from`, at a line, in a function of the runtime: the string is
+/// scanned, the destination judged as one access, and the bytes are moved, also where they overlap. What it gives, the
+/// pointer in `to`, is put into the registers of `into`. It may write the registers from `scratch` on. The only
+/// refusal is that memory fails.
 pub fn strcpy<S: ShadowForm>(
     alloc: Global,
     map: &AddrMap,
@@ -43,8 +43,8 @@ pub fn strcpy<S: ShadowForm>(
     requires others { AreNoneOf (held_registers to) (held_registers into) }
     requires room { scratch + 16 ≤ 2 ^ 31 }
     ensures { IfOk result (λ r. IsAction (runtime_ground map.now S.entry (S.IsGood map.now))
-        (λ vs. strcpy_of (argument 0 vs) (argument 1 vs) line) (Pointer to ∷ Pointer from ∷ []) (Pointer into) scratch 49 8
-        r.items) }
+        (λ vs. strcpy_of (argument 0 vs) (argument 1 vs) line) (Pointer to ∷ Pointer from ∷ []) (Pointer into) scratch
+        49 8 r.items) }
 {
     S::entries_are_local();
     let copy = copied::<S>(alloc, map, to, from, line, scratch)?;
@@ -52,8 +52,8 @@ pub fn strcpy<S: ShadowForm>(
     joined(alloc, &copy, &give)
 }
 
-/// `strcat` to the pointer in `to` from the one in `from`: the destination's string is scanned too, and what is written
-/// begins at its 0 byte. In all else it is as `strcpy`.
+/// `strcat` to the pointer in `to` from the one in `from`: the destination's string is scanned too, and what is
+/// written begins at its 0 byte. In all else it is as `strcpy`.
 pub fn strcat<S: ShadowForm>(
     alloc: Global,
     map: &AddrMap,
@@ -71,8 +71,8 @@ pub fn strcat<S: ShadowForm>(
     requires others { AreNoneOf (held_registers to) (held_registers into) }
     requires room { scratch + 16 ≤ 2 ^ 31 }
     ensures { IfOk result (λ r. IsAction (runtime_ground map.now S.entry (S.IsGood map.now))
-        (λ vs. strcat_of (argument 0 vs) (argument 1 vs) line) (Pointer to ∷ Pointer from ∷ []) (Pointer into) scratch 65 8
-        r.items) }
+        (λ vs. strcat_of (argument 0 vs) (argument 1 vs) line) (Pointer to ∷ Pointer from ∷ []) (Pointer into) scratch
+        65 8 r.items) }
 {
     S::entries_are_local();
     let first = scan::<S>(alloc, map, to, scratch, line, scratch + 1)?;

@@ -19,8 +19,8 @@ use sb_base::Line;
 use shadow_space::ShadowForm;
 use std::alloc::{AllocError, Global};
 
-/// `strlen` of the string at the pointer in `string`, at a line, in a function of the runtime: `into` gets the length. It
-/// may write the registers from `scratch` on. The only refusal is that memory fails.
+/// `strlen` of the string at the pointer in `string`, at a line, in a function of the runtime: `into` gets the length.
+/// It may write the registers from `scratch` on. The only refusal is that memory fails.
 pub fn strlen<S: ShadowForm>(
     alloc: Global,
     map: &AddrMap,
@@ -32,7 +32,8 @@ pub fn strlen<S: ShadowForm>(
     requires map { AreMapped map.now }
     requires below { AreBelow scratch (into ∷ held_registers string) }
     requires room { scratch + 16 ≤ 2 ^ 31 }
-    ensures { IfOk result (λ r. IsAction (runtime_ground map.now S.entry (S.IsGood map.now)) (λ vs. strlen_of (argument 0 vs) line)
+    ensures { IfOk result (λ r. IsAction (runtime_ground map.now S.entry (S.IsGood map.now))
+        (λ vs. strlen_of (argument 0 vs) line)
         (Pointer string ∷ []) (Word into) scratch 17 8 r.items) }
 {
     let scanned = scan::<S>(alloc, map, string, scratch, line, scratch + 1)?;

@@ -73,8 +73,8 @@ fn put_instructions(
     Vec::from_slice(alloc, &code)
 }
 
-/// `puts` of the string at the pointer in `string`, at a line, in a function of the runtime: `into` gets 0. It may write
-/// the registers from `scratch` on. The only refusal is that memory fails.
+/// `puts` of the string at the pointer in `string`, at a line, in a function of the runtime: `into` gets 0. It may
+/// write the registers from `scratch` on. The only refusal is that memory fails.
 pub fn puts<S: ShadowForm>(
     alloc: Global,
     map: &AddrMap,
@@ -86,7 +86,8 @@ pub fn puts<S: ShadowForm>(
     requires map { AreMapped map.now }
     requires below { AreBelow scratch (into ∷ held_registers string) }
     requires room { scratch + 16 ≤ 2 ^ 31 }
-    ensures { IfOk result (λ r. IsAction (runtime_ground map.now S.entry (S.IsGood map.now)) (λ vs. puts_of (argument 0 vs) line)
+    ensures { IfOk result (λ r. IsAction (runtime_ground map.now S.entry (S.IsGood map.now))
+        (λ vs. puts_of (argument 0 vs) line)
         (Pointer string ∷ []) (Word into) scratch 21 8 r.items) }
 {
     let scanned = scan::<S>(alloc, map, string, scratch, line, scratch + 1)?;

@@ -21,8 +21,8 @@ use shadow_space::ShadowForm;
 use std::alloc::{AllocError, Global};
 
 /// Scans the string at the pointer in `string` in a function of the runtime, as the source does: it ends the run where
-/// a byte is refused, and else `cursor` has the address of the 0 byte. It may write the registers from `scratch` on. The
-/// only refusal is that memory fails.
+/// a byte is refused, and else `cursor` has the address of the 0 byte. It may write the registers from `scratch` on.
+/// The only refusal is that memory fails.
 pub fn scan<S: ShadowForm>(
     alloc: Global,
     map: &AddrMap,
@@ -35,14 +35,14 @@ pub fn scan<S: ShadowForm>(
     requires apart { AreNoneOf (held_registers string) (cursor ∷ []) }
     requires below { AreBelow scratch (cursor ∷ held_registers string) }
     requires room { scratch + 8 ≤ 2 ^ 31 }
-    ensures { IfOk result (λ r. IsScanRoutine (runtime_ground map.now S.entry (S.IsGood map.now)) (λ v. scan_of v line) string
-        (λ f. Unit {0}) cursor scratch r.items) }
+    ensures { IfOk result (λ r. IsScanRoutine (runtime_ground map.now S.entry (S.IsGood map.now)) (λ v. scan_of v line)
+        string (λ f. Unit {0}) cursor scratch r.items) }
 {
     scan_instructions(alloc, string, cursor, line, scratch)
 }
 
-/// Scans at most as many bytes of the string as `limit` holds, at least one: then `cursor` has the address of the 0 byte,
-/// or the one behind so many bytes. In all else it is as `scan`.
+/// Scans at most as many bytes of the string as `limit` holds, at least one: then `cursor` has the address of the 0
+/// byte, or the one behind so many bytes. In all else it is as `scan`.
 pub fn scan_at_most<S: ShadowForm>(
     alloc: Global,
     map: &AddrMap,

@@ -27,7 +27,8 @@ returns g c =
     (λ r e. subst (IsAction ground (λ vs. strncpy_of (argument 0 vs) (argument 1 vs) (argument 2 vs) a.line)
     (Pointer a.to ∷ Pointer a.from ∷ Word a.size ∷ []) (Pointer a.into) t 60 8)
     (sym (e ∙ ap (guarded_code a.size a.to a.into) (c.deref-5.ensures.value ∙ act)))
-    (strncpy_acts ground refl c.requires.map (λ m m' keep good. c.entries_are_local.ensures a.map.now m m' c.requires.map
+    (strncpy_acts ground refl c.requires.map (λ m m' keep good. c.entries_are_local.ensures a.map.now m m'
+    c.requires.map
     keep good) a.to a.from a.size a.into a.line t c.requires.to c.requires.from c.requires.size c.requires.into
     c.requires.distinct c.requires.others scanned judging q.moving q.filling c.in_ok-scanned.ensures
     c.in_ok-judging.ensures q.moves q.fills))

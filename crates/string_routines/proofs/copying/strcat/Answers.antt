@@ -24,7 +24,7 @@ returns g c =
     (c.deref-3.ensures.value ∙ joined_are _ _ _ first copy c.in_ok-both.ensures c.deref.ensures.value
     (c.deref-2.ensures.value ∙ q.items_are))
     (c.deref-4.ensures.value ∙ c.in_ok-give.ensures)))
-    (strcat_acts ground refl c.requires.map (λ m m' keep good. c.entries_are_local.ensures a.map.now m m' c.requires.map keep
-    good) a.to a.from a.into a.line a.scratch c.requires.to c.requires.from c.requires.into c.requires.distinct
+    (strcat_acts ground refl c.requires.map (λ m m' keep good. c.entries_are_local.ensures a.map.now m m' c.requires.map
+    keep good) a.to a.from a.into a.line a.scratch c.requires.to c.requires.from c.requires.into c.requires.distinct
     c.requires.others first q.scanning q.judging q.moving c.in_ok-first.ensures q.scans q.judges q.moves))
     c.joined-2.ensures

@@ -1,4 +1,4 @@
-use Rattle.std.proofs.Common.{[], ◌∷◌, ◌+◌, ◌++◌, refl, sym, ◌∙◌, subst}
+use Rattle.std.proofs.Common.{◌≡◌, [], ◌∷◌, ◌+◌, ◌++◌, refl, sym, ◌∙◌, subst}
 use Rattle.std.proofs.lemmas.Result.{IfOk-weaker}
 use Rattle.source_meaning.specs.Strings.{strcpy as strcpy_of}
 use Rattle.source_meaning.specs.Library.{argument}
@@ -16,12 +16,13 @@ returns g c =
     let q = c.in_ok-copy.ensures in
     let copy = q.scanning ++ (size_code (a.scratch + 1) a.from.value a.scratch ++ (q.judging ++ q.moving)) in
     let give = give_code a.to a.into in
+    let copy_is : c.deref.result.now ≡ copy = c.deref.ensures.value ∙ q.items_are in
     IfOk-weaker _ _ _
     (λ r e. subst (IsAction ground (λ vs. strcpy_of (argument 0 vs) (argument 1 vs) a.line)
     (Pointer a.to ∷ Pointer a.from ∷ []) (Pointer a.into) a.scratch 49 8)
-    (sym (joined_are _ _ _ copy give e (c.deref.ensures.value ∙ q.items_are)
+    (sym (joined_are _ _ _ copy give e copy_is
     (c.deref-2.ensures.value ∙ c.in_ok-give.ensures)))
-    (strcpy_acts ground refl c.requires.map (λ m m' keep good. c.entries_are_local.ensures a.map.now m m' c.requires.map keep
-    good) a.to a.from a.into a.line a.scratch c.requires.to c.requires.from c.requires.into c.requires.distinct
+    (strcpy_acts ground refl c.requires.map (λ m m' keep good. c.entries_are_local.ensures a.map.now m m' c.requires.map
+    keep good) a.to a.from a.into a.line a.scratch c.requires.to c.requires.from c.requires.into c.requires.distinct
     c.requires.others q.scanning q.judging q.moving q.scans q.judges q.moves))
     c.joined.ensures

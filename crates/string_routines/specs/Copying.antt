@@ -23,13 +23,11 @@ pub record HasWritten (new : List ℕ) (word scratch : ℕ) (f f' : State) : Typ
   pub shows : ShowsNothing f f'
   pub others : OthersStay [] scratch f f'
 
--- the bytes of a scanned string and its 0 byte
+-- ---- a whole string
+
+-- how many bytes it has, with its 0 byte
 abbrev pub size_code : (size start cursor : ℕ) → List FlatInstruction
 size_code n from c = Operate Sub n c (Register from) ∷ Operate Add n n (Number 1) ∷ []
-
--- of so many bytes: where those stand that no string has, and how many they are
-abbrev pub tail_code : (to size count address zero : ℕ) → List FlatInstruction
-tail_code d n m a z = Operate Add a d (Register m) ∷ Operate Sub m n (Register m) ∷ Constant z 0 ∷ []
 
 -- A string is scanned, with a register for the cursor and one for the size behind it, the destination is judged, and
 -- the bytes are moved there. The three routines are known by what they do.
@@ -48,10 +46,15 @@ pub record IsCopied (ground : Ground) (to from : Held) (line scratch : ℕ) (ite
 abbrev pub count_code : (count start cursor : ℕ) → List FlatInstruction
 count_code m from c = Operate Sub m c (Register from) ∷ []
 
+-- where the bytes behind them stand, how many these are, and what they become
+abbrev pub tail_code : (to size count address zero : ℕ) → List FlatInstruction
+tail_code d n m a z = Operate Add a d (Register m) ∷ Operate Sub m n (Register m) ∷ Constant z 0 ∷ []
+
 -- the bytes of a string, and zeros up to so many bytes (C99 7.21.2.4)
 abbrev pub filled_up : (size : ℕ) → List ℕ → List ℕ
 filled_up n bytes = bytes ++ replicate (n - length bytes) 0
 
+-- What was scanned is moved, and the rest is filled. Both routines are known by what they do.
 pub record IsFilledUp (map : MapSizes) (to from size cursor : ℕ) (items : List FlatInstruction) : Type 0 where
   pub moving : List FlatInstruction
   pub filling : List FlatInstruction

@@ -1,22 +1,17 @@
 -- `memmove`: both ranges are judged, and then moved.
-use Rattle.std.proofs.Common.{◌≡◌, ◌≢◌, ℕ, suc, ◌+◌, ◌-◌, ◌*◌, ◌<◌, ◌≤◌, List, [], ◌∷◌, ◌++◌, true, length, refl, sym, ap}
+use Rattle.std.proofs.Common.{◌≡◌, ◌≢◌, ℕ, ◌+◌, ◌*◌, ◌<◌, List, [], ◌∷◌, ◌++◌, true, refl, sym}
 use Rattle.std.proofs.Common.{◌∙◌, subst, arith}
-use Rattle.std.proofs.lemmas.List.{length-replicate}
 use Rattle.addr_map.specs.Places.{MapSizes, AreMapped}
-use Rattle.obj_memory.specs.declared.int_type.IntType.TheVariants.{UnsignedChar}
 use Rattle.obj_memory.specs.declared.value.Value.{Value}
 use Rattle.obj_memory.specs.declared.value.Place.{Place}
 use Rattle.obj_memory.specs.declared.judgement.Verdict.{Verdict}
 use Rattle.obj_memory.specs.declared.judgement.Verdict.TheVariants.{Outside, Dead, Inside}
-use Rattle.obj_memory.specs.Integers.{fit}
 use Rattle.obj_memory.specs.Judgement.{judge}
 use Rattle.obj_memory.specs.Sound.{IsSoundTag, IsAllowed}
 use Rattle.obj_memory.proofs.Judging.{judge_inside}
-use Rattle.source_meaning.specs.State.{State as Source, Outcome as Completed, Gives, Ended, Run, ◌>>=◌, ◌>>◌, done, on}
+use Rattle.source_meaning.specs.State.{State as Source, Outcome as Completed, Gives, Run, ◌>>=◌, ◌>>◌, done, on}
 use Rattle.source_meaning.specs.Actions.{located, move_bytes}
-use Rattle.source_meaning.specs.Bytes.{set_bytes}
-use Rattle.source_meaning.specs.Memory.{memmove, memcpy, memset}
-use Rattle.source_meaning.specs.Library.{argument}
+use Rattle.source_meaning.specs.Memory.{memmove}
 use Rattle.flat_meaning.specs.declared.instruction.FlatInstruction.{FlatInstruction}
 use Rattle.flat_meaning.specs.Memory.{Bytes}
 use Rattle.flat_meaning.specs.State.{State}
@@ -28,17 +23,16 @@ use Rattle.flat_routines.specs.Effects.{worked}
 use Rattle.flat_routines.specs.Metadata.{View, held_registers}
 use Rattle.flat_objects.specs.StandsFor.{Views, Keys, Spells}
 use Rattle.flat_judging.specs.Judging.{IsSameBut, IsToJudge, IsJudged, IsJudgeRoutine}
-use Rattle.flat_actions.specs.Actions.{views_of, AreSpacesGood, IsFor, Nowhere, Word, Pointer, HasGiven, Leaves, IsAction}
-use Rattle.flat_actions.specs.Ranges.{IsObjectRange, IsToMove, HasMovedTagged, IsTaggedMoveRoutine, IsToFill, HasFilled, IsFillRoutine}
-use Rattle.flat_actions.proofs.Standing.{for_still, for_worked, spells_still, none_of_none}
+use Rattle.flat_actions.specs.Actions.{views_of, AreSpacesGood, IsFor, Nowhere, Pointer, Leaves}
+use Rattle.flat_actions.specs.Ranges.{IsObjectRange, IsToMove, HasMovedTagged, IsTaggedMoveRoutine}
+use Rattle.flat_actions.proofs.Standing.{for_still, spells_still, none_of_none}
 use Rattle.flat_actions.proofs.Judged.{judged_then, located_then}
 use Rattle.moving_routines.specs.Library.{runtime_ground, guarded_code, MovesObjects}
 use Rattle.moving_routines.proofs.Steps.{does_weaken}
 use Rattle.moving_routines.proofs.Bytes.{in_runtime}
-use Rattle.moving_routines.proofs.Tagged.{IsLocal}
 use Rattle.moving_routines.proofs.Judged.{work_done, judged_acts}
-use Rattle.moving_routines.proofs.Guarded.{IsGuarded, guarded}
-use Rattle.moving_routines.proofs.Moves.{allowed_range, with_moved, moved_is, with_filled, filled_is}
+use Rattle.moving_routines.proofs.Guarded.{guarded}
+use Rattle.moving_routines.proofs.Moves.{allowed_range, with_moved, moved_is}
 
 -- ---- what a run gives that judges first
 
@@ -183,7 +177,8 @@ module _ (map : MapSizes) (mapped : AreMapped map) (entry : View) (IsGood : Byte
       after_first : nv.word ≢ 0 → IsSoundTag functions x.objects dv.tag → IsSoundTag functions x.objects sv.tag
           → Does c (first ++ (second ++ act)) IsToMoveObjects (λ f. 10 + (50 + 16 * work_done (whole x) x)) (Left whole)
       after_first some sound_d sound_s =
-          judged_acts g k IsGood Nowhere t x c first (second ++ act) dv nv.word line from_source IsToMoveObjects 10 50 16
+          judged_acts g k IsGood Nowhere t x c first (second ++ act) dv nv.word line from_source IsToMoveObjects 10 50
+          16
           (does_weaken c first 10 10 (IsToJudge g k x.objects dv nv.word to n) IsToMoveObjects
           (λ f. IsJudged (judge nv.word dv x.objects) line t f) (λ f. IsJudged (judge nv.word dv x.objects) line t f)
           (omega arith) (λ f p. to_judge to n dv nv f some p.stands p.destination p.size_is) (λ f o p h. h)
@@ -220,7 +215,8 @@ pub moves_as : (map : MapSizes) → AreMapped map → (entry : View) (IsGood : B
     → AreNoneOf (held_registers to) (held_registers into) → (first second act : List FlatInstruction)
     → IsJudgeRoutine to n line t first → IsJudgeRoutine from n line t second
     → IsTaggedMoveRoutine map entry IsGood to.value from.value n t act
-    → MovesObjects (runtime_ground map entry IsGood) to from n into line t (guarded_code n to into (first ++ (second ++ act)))
+    → MovesObjects (runtime_ground map entry IsGood) to from n into line t
+    (guarded_code n to into (first ++ (second ++ act)))
 moves_as map mapped entry IsGood to from n into line t bt bf bn bi distinct none first second act jt jf moves functions
     types k x [] charge weight = record { from = λ code pc f has w p. absurd p.1 }
 moves_as map mapped entry IsGood to from n into line t bt bf bn bi distinct none first second act jt jf moves functions

@@ -1,5 +1,5 @@
 -- Cells moved as by memmove: upwards or downwards, by one loop.
-use Rattle.std.proofs.Common.{◌≡◌, ◌≢◌, ℕ, suc, ◌+◌, ◌-◌, ◌*◌, ◌%◌, ◌^◌, ◌<◌, ◌≤◌, ◌⊎◌, inl, inr, ⊎_elim, List, []}
+use Rattle.std.proofs.Common.{◌≡◌, ℕ, suc, ◌+◌, ◌-◌, ◌*◌, ◌%◌, ◌^◌, ◌<◌, ◌≤◌, ◌⊎◌, inl, inr, ⊎_elim, List, []}
 use Rattle.std.proofs.Common.{◌∷◌, length, refl, sym, ap, ◌∙◌, subst, arith}
 use Rattle.rv_isa.specs.declared.instruction.BranchOp.TheVariants.{Bgeu}
 use Rattle.rv_isa.specs.Results.{reg_result}
@@ -8,9 +8,10 @@ use Rattle.flat_meaning.specs.declared.instruction.FlatInstruction.{FlatInstruct
 use Rattle.flat_meaning.specs.declared.instruction.FlatInstruction.TheVariants.{Constant}
 use Rattle.flat_meaning.specs.Memory.{put}
 use Rattle.flat_meaning.specs.State.{State}
+use Rattle.flat_meaning.specs.Words.{IsOfWords}
 use Rattle.flat_meaning.specs.Meaning.{Context, Goes}
 use Rattle.flat_routines.specs.Registers.{OthersStay}
-use Rattle.flat_routines.specs.Routine.{Does, Either, Never, Reaches}
+use Rattle.flat_routines.specs.Routine.{Does, Either, Never, Reaches, HasAt}
 use Rattle.flat_routines.specs.Effects.{worked, effects}
 use Rattle.flat_routines.specs.Renaming.{through}
 use Rattle.flat_routines.specs.Metadata.{ShowsNothing}
@@ -136,23 +137,8 @@ up z a j = a + unit_of z * j
 abbrev down : (z : CellSize) → (n a j : ℕ) → ℕ
 down z n a j = a + unit_of z * n - unit_of z * suc j
 
--- ranges of cells of a size that is known
-record Ranges (z : CellSize) (IsCell : ℕ → Type 0) (n d s : ℕ) : Type 0 where
-  to_cells : (j : ℕ) → j < n → IsCell (d + unit_of z * j)
-  from_cells : (j : ℕ) → j < n → IsCell (s + unit_of z * j)
-  to_small : 0 < n → d + unit_of z * n < 2 ^ 63
-  from_small : 0 < n → s + unit_of z * n < 2 ^ 63
-
-record Order (IsCell : ℕ → Type 0) (n step : ℕ) (to from : ℕ → ℕ) : Type 0 where
-  to_cell : (j : ℕ) → j < n → IsCell (to j)
-  from_cell : (j : ℕ) → j < n → IsCell (from j)
-  apart : (i j : ℕ) → i < n → j < n → to i ≡ to j → i ≡ j
-  unread : (i j : ℕ) → i < j → j < n → to i ≢ from j
-  to_next : (j : ℕ) → suc j < n → (to j + step) % 2 ^ 64 ≡ to (suc j)
-  from_next : (j : ℕ) → suc j < n → (from j + step) % 2 ^ 64 ≡ from (suc j)
-
-order_up : (z : CellSize) (IsCell : ℕ → Type 0) (n d s : ℕ) → Ranges z IsCell n d s → d ≤ s
-    → Order IsCell n (unit_of z % 2 ^ 64) (up z d) (up z s)
+order_up : (z : CellSize) (IsCell : ℕ → Type 0) (n d s : ℕ) → AreRanges z IsCell n d s → d ≤ s
+    → IsOrder IsCell n (unit_of z % 2 ^ 64) (up z d) (up z s)
 order_up OneByte IsCell n d s r le = record {
   to_cell = r.to_cells;
   from_cell = r.from_cells;
@@ -170,8 +156,8 @@ order_up OneWord IsCell n d s r le = record {
   from_next = λ j l. (let k = r.from_small (omega arith) in omega arith);
 }
 
-order_down : (z : CellSize) (IsCell : ℕ → Type 0) (n d s : ℕ) → Ranges z IsCell n d s → s < d
-    → Order IsCell n ((2 ^ 64 - unit_of z) % 2 ^ 64) (down z n d) (down z n s)
+order_down : (z : CellSize) (IsCell : ℕ → Type 0) (n d s : ℕ) → AreRanges z IsCell n d s → s < d
+    → IsOrder IsCell n ((2 ^ 64 - unit_of z) % 2 ^ 64) (down z n d) (down z n s)
 order_down OneByte IsCell n d s r lt = record {
   to_cell = λ j l. (let e : d + 1 * (n - suc j) ≡ down OneByte n d j = omega arith in
       subst IsCell e (r.to_cells (n - suc j) (omega arith)));
@@ -215,22 +201,7 @@ module _ (c : Context) (q : Cells) (are : AreCells q) (t : ℕ) (body : List Fla
   abbrev z : CellSize
   z = q.size
 
-  order_of : (step : ℕ) (to from : ℕ → ℕ) → Order q.IsCell n step to from → IsOrder q n step to from
-  order_of step to from o = record {
-    to_cell = o.to_cell;
-    from_cell = o.from_cell;
-    apart = o.apart;
-    unread = o.unread;
-    to_next = o.to_next;
-    from_next = o.from_next;
-  }
-
   -- the loop in some order, once it is chosen
-  abbrev Loops : (step : ℕ) (to from : ℕ → ℕ) → State → Type 0
-  Loops step to from v =
-      Does c (copy_loop t body) (Copying q t n step to from v n) (λ s. n * (b + 5) + 1)
-      (λ s. Either (Copying q t n step to from v 0) Never)
-
   begins : (step : ℕ) (to from : ℕ → ℕ) (x y : State) → IsToMoveCells q n d s t x
       → HasChosen (unit_of z) (shift_of z) t x y → y.values (t + 3) ≡ step
       → (0 < n → y.values (t + 1) ≡ to 0) → (0 < n → y.values (t + 2) ≡ from 0) → Copying q t n step to from x n y
@@ -299,38 +270,30 @@ module _ (c : Context) (q : Cells) (are : AreCells q) (t : ℕ) (body : List Fla
       (λ some. i.from_is ∙ ap (λ k. last_of (unit_of z) (shift_of z) k (x.values (t + 2))) p.left
       ∙ ap (last_of (unit_of z) (shift_of z) n) p.from_is ∙ first_down z n s some (p.ranges.from_small some))
 
-  ranges : AreRanges q n d s → Ranges z q.IsCell n d s
-  ranges r = record {
-    to_cells = r.to_cells;
-    from_cells = r.from_cells;
-    to_small = r.to_small;
-    from_small = r.from_small;
-  }
-
   loop_moves : (x : State) → Does c (copy_loop t body) (IsReady x) (λ y. n * (b + 5) + 1)
       (λ y. Either (λ y'. HasMovedCells q n d s t x y') Never)
   loop_moves x = record { from = λ code pc y has w p. by code pc y has w p.0 p.1 p.1.order }
     where
       by : (code : List FlatInstruction) (pc : ℕ) (y : State)
-          → Rattle.flat_routines.specs.Routine.HasAt code pc (copy_loop t body)
-          → Rattle.flat_meaning.specs.Words.IsOfWords y → IsToMoveCells q n d s t x
+          → HasAt code pc (copy_loop t body)
+          → IsOfWords y → IsToMoveCells q n d s t x
           → HasChosen (unit_of z) (shift_of z) t x y
           → IsUp (unit_of z) t x y ⊎ IsDown (unit_of z) (shift_of z) t x y
           → Reaches c code (n * (b + 5) + 1) (Goes pc y) (pc + length (copy_loop t body))
           (Either (λ y'. HasMovedCells q n d s t x y') Never)
       by code pc y has w p h (inl i) =
           let low : d ≤ s = (let a = p.to_is in let f = p.from_is in let l = i.below in omega arith) in
-          let o = order_up z q.IsCell n d s (ranges p.ranges) low in
+          let o = order_up z q.IsCell n d s p.ranges low in
           (quiet_weaken c (copy_loop t body) (n * (b + 5) + 1) (n * (b + 5) + 1)
           (Copying q t n (unit_of z % 2 ^ 64) (up z d) (up z s) x n)
           (Copying q t n (unit_of z % 2 ^ 64) (up z d) (up z s) x n)
           (λ y'. Copying q t n (unit_of z % 2 ^ 64) (up z d) (up z s) x 0) (λ y'. HasMovedCells q n d s t x)
           (omega arith) (λ y' i. i) (λ y' y2 i e. ends_up (unit_of z % 2 ^ 64) x y2 e)
           (copies_all c q are t body b copies n (unit_of z % 2 ^ 64) (up z d) (up z s)
-          (order_of (unit_of z % 2 ^ 64) (up z d) (up z s) o) small x)).from code pc y has w (up_ready x y p h i)
+          o small x)).from code pc y has w (up_ready x y p h i)
       by code pc y has w p h (inr i) =
           let high : s < d = (let a = p.to_is in let f = p.from_is in let l = i.above in omega arith) in
-          let o = order_down z q.IsCell n d s (ranges p.ranges) high in
+          let o = order_down z q.IsCell n d s p.ranges high in
           (quiet_weaken c (copy_loop t body) (n * (b + 5) + 1) (n * (b + 5) + 1)
           (Copying q t n ((2 ^ 64 - unit_of z) % 2 ^ 64) (down z n d) (down z n s) x n)
           (Copying q t n ((2 ^ 64 - unit_of z) % 2 ^ 64) (down z n d) (down z n s) x n)
@@ -338,7 +301,7 @@ module _ (c : Context) (q : Cells) (are : AreCells q) (t : ℕ) (body : List Fla
           (λ y'. HasMovedCells q n d s t x)
           (omega arith) (λ y' i. i) (λ y' y2 i e. ends_down ((2 ^ 64 - unit_of z) % 2 ^ 64) x y2 e)
           (copies_all c q are t body b copies n ((2 ^ 64 - unit_of z) % 2 ^ 64) (down z n d) (down z n s)
-          (order_of ((2 ^ 64 - unit_of z) % 2 ^ 64) (down z n d) (down z n s) o) small x)).from code pc y has w
+          o small x)).from code pc y has w
           (down_ready x y p h i)
 
   pub cells_move : Does c (move_cells z t body) (IsToMoveCells q n d s t) (λ x. 7 + (n * (b + 5) + 1))

@@ -1,18 +1,15 @@
 -- The assignment of structures: a range that pointers name is moved, and nothing is judged.
-use Rattle.std.proofs.Common.{◌≡◌, ℕ, suc, ◌+◌, ◌-◌, ◌*◌, ◌%◌, ◌^◌, ◌<◌, ◌≤◌, List, [], ◌∷◌, ◌++◌, false, length, refl, sym}
+use Rattle.std.proofs.Common.{◌≡◌, ℕ, ◌+◌, ◌-◌, ◌*◌, ◌^◌, ◌<◌, List, [], ◌∷◌, false, length, refl, sym}
 use Rattle.std.proofs.Common.{ap, ◌∙◌, subst, arith}
 use Rattle.addr_map.specs.Places.{MapSizes, AreMapped}
 use Rattle.obj_memory.specs.declared.value.Value.{Value}
-use Rattle.obj_memory.specs.declared.value.Tag.TheVariants.{OfObject}
 use Rattle.obj_memory.specs.declared.value.Place.{Place}
-use Rattle.obj_memory.specs.declared.judgement.Verdict.{Verdict}
 use Rattle.obj_memory.specs.declared.judgement.Verdict.TheVariants.{Inside}
-use Rattle.obj_memory.specs.Objects.{Objects, object_at}
+use Rattle.obj_memory.specs.Objects.{Objects}
 use Rattle.obj_memory.specs.Judgement.{place_in, named_in, named}
 use Rattle.obj_memory.specs.Sound.{IsAllowed}
-use Rattle.source_meaning.specs.State.{State as Source, Outcome as Completed, Gives, Run, ◌>>=◌, ◌>>◌, done, on}
+use Rattle.source_meaning.specs.State.{State as Source, Outcome as Completed, Gives, ◌>>◌, done, on}
 use Rattle.source_meaning.specs.Actions.{integer, copy_structure, place_or_stop, move_bytes}
-use Rattle.source_meaning.specs.Library.{argument}
 use Rattle.source_meaning.specs.Keeping.{IsDirect}
 use Rattle.flat_meaning.specs.declared.instruction.FlatInstruction.{FlatInstruction}
 use Rattle.flat_meaning.specs.declared.instruction.FlatInstruction.TheVariants.{Constant}
@@ -22,7 +19,7 @@ use Rattle.flat_meaning.specs.Meaning.{Context, Goes}
 use Rattle.flat_routines.specs.declared.registers.Held.{Held}
 use Rattle.flat_routines.specs.Registers.{AreBelow}
 use Rattle.flat_routines.specs.Routine.{Outcome, Continues, Halts, Does, Either, Never}
-use Rattle.flat_routines.specs.Metadata.{View, held_registers, ShowsNothing}
+use Rattle.flat_routines.specs.Metadata.{View, held_registers}
 use Rattle.flat_routines.proofs.Rules.{weaken}
 use Rattle.flat_objects.specs.StandsFor.{Views, Keys}
 use Rattle.flat_judging.specs.Judging.{IsSameBut}
@@ -30,7 +27,7 @@ use Rattle.flat_actions.specs.Actions.{views_of, AreSpacesGood, IsFor, Nowhere, 
 use Rattle.flat_actions.specs.Ranges.{IsObjectRange, IsToMove, HasMovedTagged, IsTaggedMoveRoutine}
 use Rattle.flat_actions.proofs.Standing.{for_still}
 use Rattle.moving_routines.specs.Library.{runtime_ground}
-use Rattle.moving_routines.specs.Structures.{AreDirect, CopiesStructure}
+use Rattle.moving_routines.specs.Structures.{CopiesStructure}
 use Rattle.moving_routines.proofs.Steps.{does_weaken, quiet_then, IsGlued, glued}
 use Rattle.moving_routines.proofs.Bytes.{in_runtime}
 use Rattle.moving_routines.proofs.Judged.{work_done, left_since}
@@ -163,8 +160,8 @@ pub copies_as : (map : MapSizes) → AreMapped map → (entry : View) (IsGood : 
     → CopiesStructure (runtime_ground map entry IsGood) size to from t (Constant t size ∷ act)
 copies_as map mapped entry IsGood to from size t small bt bf act moves line functions types k x [] charge weight =
     record { from = λ code pc f has w p. absurd p.1 }
-copies_as map mapped entry IsGood to from size t small bt bf act moves line functions types k x (dv ∷ []) charge weight =
-    record { from = λ code pc f has w p. absurd p.1.1 }
+copies_as map mapped entry IsGood to from size t small bt bf act moves line functions types k x (dv ∷ []) charge
+    weight = record { from = λ code pc f has w p. absurd p.1.1 }
 copies_as map mapped entry IsGood to from size t small bt bf act moves line functions types k x (dv ∷ sv ∷ []) charge
     weight = record {
       from = λ code pc f has w p.
@@ -187,5 +184,5 @@ copies_as map mapped entry IsGood to from size t small bt bf act moves line func
             source = record { spells = p.1.1.0.0; sound = p.1.1.0.1 };
           })));
     }
-copies_as map mapped entry IsGood to from size t small bt bf act moves line functions types k x (dv ∷ sv ∷ v ∷ vs) charge
-    weight = record { from = λ code pc f has w p. absurd p.1.1.1 }
+copies_as map mapped entry IsGood to from size t small bt bf act moves line functions types k x (dv ∷ sv ∷ v ∷ vs)
+    charge weight = record { from = λ code pc f has w p. absurd p.1.1.1 }

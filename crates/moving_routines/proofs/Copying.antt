@@ -55,9 +55,9 @@ bumped c t s y g = record {
 -- ---- the loop
 
 -- where the cells stand, in the order in which they are copied
-pub record IsOrder (q : Cells) (n step : ℕ) (to from : ℕ → ℕ) : Type 0 where
-  pub to_cell : (j : ℕ) → j < n → q.IsCell (to j)
-  pub from_cell : (j : ℕ) → j < n → q.IsCell (from j)
+pub record IsOrder (IsCell : ℕ → Type 0) (n step : ℕ) (to from : ℕ → ℕ) : Type 0 where
+  pub to_cell : (j : ℕ) → j < n → IsCell (to j)
+  pub from_cell : (j : ℕ) → j < n → IsCell (from j)
   pub apart : (i j : ℕ) → i < n → j < n → to i ≡ to j → i ≡ j
   pub unread : (i j : ℕ) → i < j → j < n → to i ≢ from j
   pub to_next : (j : ℕ) → suc j < n → (to j + step) % 2 ^ 64 ≡ to (suc j)
@@ -79,7 +79,7 @@ pub record Copying (q : Cells) (t n step : ℕ) (to from : ℕ → ℕ) (v : Sta
   pub others : OthersStay [] t v s
 
 module _ (c : Context) (q : Cells) (are : AreCells q) (t : ℕ) (body : List FlatInstruction) (b : ℕ)
-    (copies : CopiesOne c q t b body) (n step : ℕ) (to from : ℕ → ℕ) (order : IsOrder q n step to from)
+    (copies : CopiesOne c q t b body) (n step : ℕ) (to from : ℕ → ℕ) (order : IsOrder q.IsCell n step to from)
     (small : n < 2 ^ 64) (v : State) where
   abbrev I : ℕ → State → Type 0
   I = Copying q t n step to from v

@@ -52,8 +52,10 @@ module _ (map : MapSizes) (ok : IsLaidOut map) (to byte bytes t charge weight : 
     allowed k y w =
         let small = ok.small in
         let lo = w.range.first in let hi = w.range.last in
-        let count = w.count in let at = w.cursor_is in
-        (object_allowed map ((y.values (t + 1) + 0) % 2 ^ 64) (a + w.done) 1 (omega arith) (omega arith) (omega arith), (tt, tt))
+        let count = w.count in let at = w.cursor_is in (
+          object_allowed map ((y.values (t + 1) + 0) % 2 ^ 64) (a + w.done) 1 (omega arith) (omega arith) (omega arith),
+          (tt, tt),
+        )
 
     filled : (k : ℕ) (y z : State) → I (suc k) y → IsFilledOne y z → I k z
     unfolding put reg_result

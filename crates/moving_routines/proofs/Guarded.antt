@@ -1,7 +1,7 @@
 -- 'Unless empty: act, give': an act that is passed over where there are no bytes, after which a pointer is given.
-use Rattle.std.proofs.Common.{◌≡◌, ◌≢◌, ℕ, ◌+◌, ◌-◌, ◌*◌, ◌<◌, ◌≤◌, List, [], ◌∷◌, ◌++◌, Bool, true, false, length, refl}
+use Rattle.std.proofs.Common.{◌≡◌, ◌≢◌, ℕ, ◌+◌, ◌*◌, List, [], ◌∷◌, Bool, true, false, refl}
 use Rattle.std.proofs.Common.{sym, ap, ◌∙◌, subst, arith, suc, ◌==◌}
-use Rattle.std.proofs.lemmas.Bool.{cases_Bool, eqb-true, eqb-false, eq-eqb}
+use Rattle.std.proofs.lemmas.Bool.{eqb-true, eqb-false}
 use Rattle.rv_isa.specs.declared.instruction.BranchOp.TheVariants.{Beq}
 use Rattle.rv_isa.specs.Results.{branch_taken}
 use Rattle.obj_memory.specs.declared.value.Value.{Value}
@@ -22,13 +22,12 @@ use Rattle.flat_routines.specs.Registers.{AreBelow, AreNoneOf, AreDistinct, Othe
 use Rattle.flat_routines.specs.Routine.{Outcome, Continues, Halts, Does, Either, Never, unless_code}
 use Rattle.flat_routines.specs.Effects.{worked, effects}
 use Rattle.flat_routines.specs.Renaming.{through, Agrees}
-use Rattle.flat_routines.specs.Metadata.{Metadata, held_registers, metadata_in, ShowsNothing}
+use Rattle.flat_routines.specs.Metadata.{held_registers, metadata_in, ShowsNothing}
 use Rattle.flat_routines.proofs.Rules.{Holds, taken, in_sequence}
 use Rattle.flat_routines.proofs.Distinct.{AreRegisters, register_of, registers_rename, others_stay}
 use Rattle.flat_routines.proofs.Words.{same_metadata}
 use Rattle.flat_routines.proofs.Wrapped.{straight_routine}
 use Rattle.flat_objects.specs.StandsFor.{Views, Keys, Spells, spell}
-use Rattle.shadow_space.proofs.Entries.{agrees_shows, agrees_memory}
 use Rattle.flat_judging.specs.Judging.{IsSameBut}
 use Rattle.flat_actions.specs.Actions.{IsFor, KeepsHeld, Nowhere, Pointer, HasGiven, Leaves}
 use Rattle.flat_actions.proofs.Standing.{for_still, given_still, spells_still, none_of_none, others_trans}
@@ -125,103 +124,105 @@ module _ (g : Views) (k : Keys) (IsGood : Bytes → Type 0) (t : ℕ) (x : Sourc
     (distinct : AreDistinct (held_registers b)) (none : AreNoneOf (held_registers a) (held_registers b))
     (ready : (f : State) → P f → IsGuarded g k IsGood x a n dv nv f) (work : (f : State) → P f → P (worked c f))
     (gives : (v : Value) (x' : Source) → run x ≡ Gives v x' → v ≡ dv)
-    (acts : nv.word ≢ 0 → Does c act P (λ f. K + F * work_done (run x) x) (λ f. Leaves g k IsGood Nowhere t x f (run x)))
-    where
-  -- by whether there are no bytes
-  abbrev outcome : Bool → Completed Value
-  outcome e = choose e (done dv) run x
+    (acts : nv.word ≢ 0
+    → Does c act P (λ f. K + F * work_done (run x) x) (λ f. Leaves g k IsGood Nowhere t x f (run x)))
+  where
+    -- by whether there are no bytes
+    abbrev outcome : Bool → Completed Value
+    outcome e = choose e (done dv) run x
 
-  gives_it : (e : Bool) (v : Value) (x' : Source) → outcome e ≡ Gives v x' → v ≡ dv
-  gives_it true v x' e = cc
-  gives_it false v x' e = gives v x' e
+    gives_it : (e : Bool) (v : Value) (x' : Source) → outcome e ≡ Gives v x' → v ≡ dv
+    gives_it true v x' e = cc
+    gives_it false v x' e = gives v x' e
 
-  work_shows : (f : State) → IsSameBut t f (worked c f)
-  work_shows f = record {
-    memory = refl;
-    shows = record { input = refl; output = refl; taken = refl; accesses = refl; turns = refl };
-    others = λ r l none. refl;
-  }
+    work_shows : (f : State) → IsSameBut t f (worked c f)
+    work_shows f = record {
+      memory = refl;
+      shows = record { input = refl; output = refl; taken = refl; accesses = refl; turns = refl };
+      others = λ r l none. refl;
+    }
 
-  abbrev Acted : Bool → State → Outcome → Type 0
-  Acted e f = Leaves g k IsGood Nowhere t x f (outcome e)
+    abbrev Acted : Bool → State → Outcome → Type 0
+    Acted e f = Leaves g k IsGood Nowhere t x f (outcome e)
 
-  empty : (f : State) → P f → Acted true f (Continues (worked c f))
-  empty f p = given_still g k IsGood Nowhere t x x.work f (worked c f) dv (ready f p).stands refl (work_shows f).shows tt
-      (λ r l none. refl)
+    empty : (f : State) → P f → Acted true f (Continues (worked c f))
+    empty f p =
+        given_still g k IsGood Nowhere t x x.work f (worked c f) dv (ready f p).stands refl (work_shows f).shows tt
+        (λ r l none. refl)
 
-  acted : (e : Bool) → (nv.word == 0) ≡ e
-      → Does c (unless_code Beq n (Number 0) act) P (λ f. suc (K + F * work_done (outcome e) x)) (Acted e)
-  acted true e =
-      unless_does c Beq n (Number 0) act (K + F * work_done (outcome true) x) P (Acted true) (Acted true)
-      (record { from = λ code pc s has w p. absurd (no_act s p) }) (λ f p taken. empty f p) work
-      (λ f o p h. left_since g k IsGood Nowhere t x f (worked c f) (outcome true) o (work_shows f) h)
-    where
-      no_act : (f : State) → P f × (taken Beq n (Number 0) f ≡ false) → ⊥
-      no_act f p = if_unequal (f.values n) 0 p.1 ((ready f p.0).size_is ∙ eqb-true nv.word 0 e)
-  acted false e =
-      unless_does c Beq n (Number 0) act (K + F * work_done (outcome false) x) P (Acted false) (Acted false)
-      (does_weaken c act (K + F * work_done (run x) x) (K + F * work_done (run x) x) P
-      (λ f. P f × (taken Beq n (Number 0) f ≡ false)) (λ f. Leaves g k IsGood Nowhere t x f (run x)) (Acted false)
-      (omega arith) (λ f p. p.0) (λ f o p h. h) (acts some))
-      (λ f p is_taken. absurd (some (sym (ready f p).size_is ∙ if_equal (f.values n) 0 is_taken))) work
-      (λ f o p h. left_since g k IsGood Nowhere t x f (worked c f) (outcome false) o (work_shows f) h)
-    where
-      some : nv.word ≢ 0
-      some = eqb-false nv.word 0 e
+    acted : (e : Bool) → (nv.word == 0) ≡ e
+        → Does c (unless_code Beq n (Number 0) act) P (λ f. suc (K + F * work_done (outcome e) x)) (Acted e)
+    acted true e =
+        unless_does c Beq n (Number 0) act (K + F * work_done (outcome true) x) P (Acted true) (Acted true)
+        (record { from = λ code pc s has w p. absurd (no_act s p) }) (λ f p taken. empty f p) work
+        (λ f o p h. left_since g k IsGood Nowhere t x f (worked c f) (outcome true) o (work_shows f) h)
+      where
+        no_act : (f : State) → P f × (taken Beq n (Number 0) f ≡ false) → ⊥
+        no_act f p = if_unequal (f.values n) 0 p.1 ((ready f p.0).size_is ∙ eqb-true nv.word 0 e)
+    acted false e =
+        unless_does c Beq n (Number 0) act (K + F * work_done (outcome false) x) P (Acted false) (Acted false)
+        (does_weaken c act (K + F * work_done (run x) x) (K + F * work_done (run x) x) P
+        (λ f. P f × (taken Beq n (Number 0) f ≡ false)) (λ f. Leaves g k IsGood Nowhere t x f (run x)) (Acted false)
+        (omega arith) (λ f p. p.0) (λ f o p h. h) (acts some))
+        (λ f p is_taken. absurd (some (sym (ready f p).size_is ∙ if_equal (f.values n) 0 is_taken))) work
+        (λ f o p h. left_since g k IsGood Nowhere t x f (worked c f) (outcome false) o (work_shows f) h)
+      where
+        some : nv.word ≢ 0
+        some = eqb-false nv.word 0 e
 
-  -- after the act the pointer is given
-  given_after : (f f1 f2 : State) (v : Value) (x' : Source) → P f → v ≡ dv
-      → HasGiven g k IsGood Nowhere t x f v x' f1 → HasHanded a b t f1 f2
-      → HasGiven g k IsGood (Pointer b) t x f v x' f2
-  given_after f f1 f2 v x' p is h give =
-      let r = ready f p in
-      let was = spells_still g k dv a [] t f f1 h.others below_a (none_of_none (held_registers a)) r.spells in
-      record {
-        keys = h.keys;
-        held = h.held;
-        stands = for_still g h.keys IsGood x' f1 f2 give.memory give.shows h.stands;
-        given = subst (λ z. Spells g h.keys z b f2.values) (sym is) (record {
-          word = give.word ∙ was.word;
-          tag = give.tag ∙ was.tag ∙ sym (spell_kept g k h.keys x.objects dv.tag h.held r.sound);
-        });
-        turns = give.shows.turns ∙ h.turns;
-        elsewhere = record {
-          low = λ q l out. ap (λ m. m q) give.memory ∙ h.elsewhere.low q l out;
-          behind = λ q l. ap (λ m. m q) give.memory ∙ h.elsewhere.behind q l;
-        };
-        others = others_trans (held_registers b) t f f1 f2 h.others give.others;
-      }
+    -- after the act the pointer is given
+    given_after : (f f1 f2 : State) (v : Value) (x' : Source) → P f → v ≡ dv
+        → HasGiven g k IsGood Nowhere t x f v x' f1 → HasHanded a b t f1 f2
+        → HasGiven g k IsGood (Pointer b) t x f v x' f2
+    given_after f f1 f2 v x' p is h give =
+        let r = ready f p in
+        let was = spells_still g k dv a [] t f f1 h.others below_a (none_of_none (held_registers a)) r.spells in
+        record {
+          keys = h.keys;
+          held = h.held;
+          stands = for_still g h.keys IsGood x' f1 f2 give.memory give.shows h.stands;
+          given = subst (λ z. Spells g h.keys z b f2.values) (sym is) (record {
+            word = give.word ∙ was.word;
+            tag = give.tag ∙ was.tag ∙ sym (spell_kept g k h.keys x.objects dv.tag h.held r.sound);
+          });
+          turns = give.shows.turns ∙ h.turns;
+          elsewhere = record {
+            low = λ q l out. ap (λ m. m q) give.memory ∙ h.elsewhere.low q l out;
+            behind = λ q l. ap (λ m. m q) give.memory ∙ h.elsewhere.behind q l;
+          };
+          others = others_trans (held_registers b) t f f1 f2 h.others give.others;
+        }
 
-  after : (f f1 : State) (o : Completed Value) (o' : Outcome) → P f
-      → ((v : Value) (x' : Source) → o ≡ Gives v x' → v ≡ dv)
-      → Leaves g k IsGood Nowhere t x f o (Continues f1) → Either (HasHanded a b t f1) Never o'
-      → Leaves g k IsGood (Pointer b) t x f o o'
-  after f f1 (Gives v x') (Continues f2) p is h give = given_after f f1 f2 v x' p (is v x' refl) h give
-  after f f1 (Gives v x') (Halts status report f2) p is h give = give
-  after f f1 (Ended e x') o' p is h give = absurd h
-  after f f1 (Paused x') o' p is h give = absurd h
+    after : (f f1 : State) (o : Completed Value) (o' : Outcome) → P f
+        → ((v : Value) (x' : Source) → o ≡ Gives v x' → v ≡ dv)
+        → Leaves g k IsGood Nowhere t x f o (Continues f1) → Either (HasHanded a b t f1) Never o'
+        → Leaves g k IsGood (Pointer b) t x f o o'
+    after f f1 (Gives v x') (Continues f2) p is h give = given_after f f1 f2 v x' p (is v x' refl) h give
+    after f f1 (Gives v x') (Halts status report f2) p is h give = give
+    after f f1 (Ended e x') o' p is h give = absurd h
+    after f f1 (Paused x') o' p is h give = absurd h
 
-  over : (f f1 : State) (o : Completed Value) (status : ℕ) (report : List ℕ)
-      → Leaves g k IsGood Nowhere t x f o (Halts status report f1)
-      → Leaves g k IsGood (Pointer b) t x f o (Halts status report f1)
-  over f f1 (Gives v x') status report h = h
-  over f f1 (Ended e x') status report h = h
-  over f f1 (Paused x') status report h = h
+    over : (f f1 : State) (o : Completed Value) (status : ℕ) (report : List ℕ)
+        → Leaves g k IsGood Nowhere t x f o (Halts status report f1)
+        → Leaves g k IsGood (Pointer b) t x f o (Halts status report f1)
+    over f f1 (Gives v x') status report h = h
+    over f f1 (Ended e x') status report h = h
+    over f f1 (Paused x') status report h = h
 
-  by_size : (e : Bool) → (nv.word == 0) ≡ e
-      → Does c (guarded_code n a b act) P (λ f. 6 + K + F * work_done (outcome e) x)
-      (λ f. Leaves g k IsGood (Pointer b) t x f (outcome e))
-  by_size e is =
-      let W = K + F * work_done (outcome e) x in
-      does_weaken c (guarded_code n a b act) (suc W + 5) (6 + K + F * work_done (outcome e) x) P P
-      (λ f. Leaves g k IsGood (Pointer b) t x f (outcome e)) (λ f. Leaves g k IsGood (Pointer b) t x f (outcome e))
-      (omega arith) (λ f p. p) (λ f o p h. h)
-      (in_sequence c (unless_code Beq n (Number 0) act) (give_code a b) (suc W) 5 P (λ f f1. Unit {0}) (Acted e)
-      (λ f. Leaves g k IsGood (Pointer b) t x f (outcome e)) (λ f f1. Either (HasHanded a b t f1) Never)
-      (acted e is) (λ f. hands c a b t below_a below_b distinct none) (λ f f1 p h. tt)
-      (λ f f1 o p h give. after f f1 (outcome e) o p (gives_it e) h give)
-      (λ f f1 status report p h. over f f1 (outcome e) status report h))
+    by_size : (e : Bool) → (nv.word == 0) ≡ e
+        → Does c (guarded_code n a b act) P (λ f. 6 + K + F * work_done (outcome e) x)
+        (λ f. Leaves g k IsGood (Pointer b) t x f (outcome e))
+    by_size e is =
+        let W = K + F * work_done (outcome e) x in
+        does_weaken c (guarded_code n a b act) (suc W + 5) (6 + K + F * work_done (outcome e) x) P P
+        (λ f. Leaves g k IsGood (Pointer b) t x f (outcome e)) (λ f. Leaves g k IsGood (Pointer b) t x f (outcome e))
+        (omega arith) (λ f p. p) (λ f o p h. h)
+        (in_sequence c (unless_code Beq n (Number 0) act) (give_code a b) (suc W) 5 P (λ f f1. Unit {0}) (Acted e)
+        (λ f. Leaves g k IsGood (Pointer b) t x f (outcome e)) (λ f f1. Either (HasHanded a b t f1) Never)
+        (acted e is) (λ f. hands c a b t below_a below_b distinct none) (λ f f1 p h. tt)
+        (λ f f1 o p h give. after f f1 (outcome e) o p (gives_it e) h give)
+        (λ f f1 status report p h. over f f1 (outcome e) status report h))
 
-  pub guarded : Does c (guarded_code n a b act) P (λ f. 6 + K + F * work_done (unless_empty nv dv run x) x)
-      (λ f. Leaves g k IsGood (Pointer b) t x f (unless_empty nv dv run x))
-  guarded = by_size (nv.word == 0) refl
+    pub guarded : Does c (guarded_code n a b act) P (λ f. 6 + K + F * work_done (unless_empty nv dv run x) x)
+        (λ f. Leaves g k IsGood (Pointer b) t x f (unless_empty nv dv run x))
+    guarded = by_size (nv.word == 0) refl

@@ -1,14 +1,12 @@
 -- A judgement before an act: the run ends where the judgement is a violation, and else does what the act does.
-use Rattle.std.proofs.Common.{◌≡◌, ℕ, ◌+◌, ◌-◌, ◌*◌, ◌≤◌, List, [], ◌∷◌, ◌++◌, true, length, refl, sym, ap, ◌∙◌}
+use Rattle.std.proofs.Common.{◌≡◌, ℕ, ◌+◌, ◌-◌, ◌*◌, List, ◌++◌, true, length, refl, sym, ap, ◌∙◌}
 use Rattle.std.proofs.Common.{subst, arith, length-append}
 use Rattle.sb_base.specs.declared.ending.Ending.TheVariants.{Spatial, Temporal}
 use Rattle.sb_base.specs.Endings.{code_of, report_of}
-use Rattle.addr_map.specs.Places.{MapSizes}
 use Rattle.obj_memory.specs.declared.value.Value.{Value}
 use Rattle.obj_memory.specs.declared.value.Place.{Place}
 use Rattle.obj_memory.specs.declared.judgement.Verdict.{Verdict}
 use Rattle.obj_memory.specs.declared.judgement.Verdict.TheVariants.{Outside, Dead, Inside}
-use Rattle.obj_memory.specs.Objects.{Objects}
 use Rattle.obj_memory.specs.Judgement.{judge}
 use Rattle.source_meaning.specs.State.{State as Source, Outcome as Completed, Gives, Ended, Paused, Run, on}
 use Rattle.source_meaning.specs.Acting.{state_of}
@@ -21,9 +19,8 @@ use Rattle.flat_routines.specs.Routine.{Outcome, Continues, Halts, Reaches, Does
 use Rattle.flat_routines.proofs.Steps.{has_front, has_back}
 use Rattle.flat_routines.proofs.Rules.{Holds, weaken}
 use Rattle.flat_objects.specs.StandsFor.{Views, Keys}
-use Rattle.space_routines.proofs.Quiet.{shows_both}
 use Rattle.flat_judging.specs.Judging.{IsSameBut, IsJudged}
-use Rattle.flat_actions.specs.Actions.{IsShown, StaysElsewhere, Holder, registers_of, HasGiven, HasEnded, Leaves}
+use Rattle.flat_actions.specs.Actions.{IsShown, Holder, registers_of, Leaves}
 use Rattle.flat_actions.proofs.Judged.{judged_then, located_then, after_judge}
 use Rattle.flat_actions.proofs.Standing.{others_trans, ended_still}
 

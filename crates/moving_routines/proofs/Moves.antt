@@ -1,30 +1,30 @@
 -- Ranges of objects moved and filled: what memory is moved to stands for what the objects become.
-use Rattle.std.proofs.Common.{◌≡◌, ℕ, ◌+◌, ◌-◌, ◌*◌, ◌%◌, ◌<◌, ◌≤◌, ◌⊎◌, inl, inr, ⊎_elim, List, [], true, length, refl}
+use Rattle.std.proofs.Common.{◌≡◌, ℕ, ◌+◌, ◌%◌, ◌<◌, ◌≤◌, ◌⊎◌, inl, inr, ⊎_elim, List, [], length, refl}
 use Rattle.std.proofs.Common.{sym, ap, ◌∙◌, subst, arith}
 use Rattle.std.specs.Prelude.{replicate, get_or}
 use Rattle.std.proofs.lemmas.List.{length-replicate, get_or-replicate}
-use Rattle.addr_map.specs.declared.region.Region.TheVariants.{Heap}
-use Rattle.addr_map.specs.Places.{MapSizes, AreMapped, spaces_begin, objects_begin, region_end}
+use Rattle.addr_map.specs.declared.region.Region.TheVariants.{StructureValues}
+use Rattle.addr_map.specs.Places.{MapSizes, AreMapped, spaces_begin, region_start}
 use Rattle.obj_memory.specs.declared.int_type.IntType.TheVariants.{UnsignedChar}
 use Rattle.obj_memory.specs.declared.value.Value.{Value}
 use Rattle.obj_memory.specs.declared.value.Place.{Place}
 use Rattle.obj_memory.specs.Integers.{fit}
 use Rattle.obj_memory.specs.Objects.{Objects, object_at}
 use Rattle.obj_memory.specs.Access.{move_range, write_bytes}
-use Rattle.obj_memory.specs.Sound.{IsPlace, IsAllowed, KeepsObjects}
+use Rattle.obj_memory.specs.Sound.{IsAllowed, KeepsObjects}
 use Rattle.obj_memory.proofs.Listed.{every_replicate}
 use Rattle.obj_memory.proofs.Keeping.{keeps_moved, keeps_bytes}
 use Rattle.source_meaning.specs.State.{State as Source}
-use Rattle.flat_meaning.specs.Memory.{Bytes}
+use Rattle.flat_meaning.specs.Memory.{Bytes, KeepsBut}
 use Rattle.flat_meaning.specs.State.{State}
 use Rattle.flat_routines.specs.Registers.{OthersStay}
 use Rattle.flat_routines.specs.Metadata.{View, ShowsNothing}
-use Rattle.flat_routines.proofs.Regions.{IsLaidOut, laid_out}
-use Rattle.flat_objects.specs.StandsFor.{Views, Keys, StandsFor, IsPlaced}
-use Rattle.flat_objects.specs.Changes.{IsPut}
+use Rattle.flat_routines.proofs.Regions.{laid_out}
+use Rattle.flat_objects.specs.StandsFor.{Views, Keys, StandsFor}
+use Rattle.flat_objects.specs.Changes.{IsPut, IsMoved}
 use Rattle.flat_objects.proofs.Moves.{move_stands, put_stands}
-use Rattle.flat_actions.specs.Actions.{views_of, IsFor, IsShown, StaysElsewhere, Nowhere, HasGiven}
-use Rattle.flat_actions.specs.Ranges.{IsObjectRange, HasMovedTagged, HasFilled}
+use Rattle.flat_actions.specs.Actions.{views_of, IsFor, StaysElsewhere, Nowhere, HasGiven}
+use Rattle.flat_actions.specs.Ranges.{IsObjectRange, HasMovedBytes, HasMovedTagged, HasFilled}
 use Rattle.flat_actions.proofs.Standing.{shown_still, keeps_same}
 use Rattle.moving_routines.proofs.Tagged.{ChangesRange, tables_stay, spaces_stay, behind_stays, shadow_stays, IsLocal}
 
@@ -40,8 +40,7 @@ allowed_range g k objects m v n p st h =
 elsewhere_stays : (map : MapSizes) (old new : Objects) (m m' : Bytes) (v : Value) (n : ℕ) (p : Place)
     → KeepsObjects old new → IsAllowed old v n p
     → ((a : ℕ) → a < spaces_begin → (a < v.word) ⊎ (v.word + n ≤ a) → m' a ≡ m a)
-    → ((a : ℕ) → Rattle.addr_map.specs.Places.region_start map
-    Rattle.addr_map.specs.declared.region.Region.TheVariants.StructureValues ≤ a → m' a ≡ m a)
+    → ((a : ℕ) → region_start map StructureValues ≤ a → m' a ≡ m a)
     → StaysElsewhere map new m m'
 elsewhere_stays map old new m m' v n p keeps h beside behind = record {
   low = λ a l out.
@@ -52,16 +51,18 @@ elsewhere_stays map old new m m' v n p keeps h beside behind = record {
   behind = behind;
 }
 
--- the source's state after a range was moved, and after one was filled
+-- the source's state after a range was moved, after bytes were put into one, and after one was filled
 abbrev pub with_moved : Source → (n : ℕ) → (d s : Place) → Source
 with_moved x n d s = record x { work = x.work + n; objects = move_range n d s x.objects }
+
+abbrev pub with_put : Source → (work : ℕ) → (new : List ℕ) → Place → Source
+with_put x w new p = record x { work = w; objects = write_bytes new p x.objects }
 
 abbrev pub filling : (n byte : ℕ) → List ℕ
 filling n b = replicate n (fit UnsignedChar b)
 
 abbrev pub with_filled : Source → (n byte : ℕ) → Place → Source
-with_filled x n b p =
-    record x { work = x.work + length (filling n b); objects = write_bytes (filling n b) p x.objects }
+with_filled x n b p = with_put x (x.work + length (filling n b)) (filling n b) p
 
 low_byte : (b : ℕ) → fit UnsignedChar b ≡ b % 256
 unfolding fit
@@ -81,9 +82,9 @@ module _ (map : MapSizes) (mapped : AreMapped map) (entry : View) (IsGood : Byte
       let one = moved.moved functions types in
       let to_place : f.values to ≡ (object_at x.objects d.object).address + d.offset = to_is ∙ sym a.address in
       let from_place : f.values from ≡ (object_at x.objects s.object).address + s.offset = from_is ∙ sym b.address in
-      let whole = subst (λ i. Rattle.flat_objects.specs.Changes.IsMoved g n i
+      let whole = subst (λ i. IsMoved g n i
       ((object_at x.objects s.object).address + s.offset) f.memory f'.memory) to_place
-      (subst (λ i. Rattle.flat_objects.specs.Changes.IsMoved g n (f.values to) i f.memory f'.memory) from_place one) in
+      (subst (λ i. IsMoved g n (f.values to) i f.memory f'.memory) from_place one) in
       let shown = shown_still x f f' moved.shows h.shown in
       record {
         keys = k;
@@ -109,52 +110,49 @@ module _ (map : MapSizes) (mapped : AreMapped map) (entry : View) (IsGood : Byte
         others = λ r l none. moved.others r (omega arith) none;
       }
 
-  -- ---- filled
+  -- ---- bytes put
 
-  -- it changes its range alone
-  fill_changes : (to byte n : ℕ) (dv : Value) (p : Place) → IsFor g k IsGood x f → IsAllowed x.objects dv n p
-      → f.values to ≡ dv.word → HasFilled to byte n t f f' → ChangesRange map dv.word n f.memory f'.memory
-  fill_changes to byte n dv p h a to_is filled =
-      let range = allowed_range g k x.objects f.memory dv n p h.objects a in
+  -- of memory it changes these bytes alone
+  pub record HasPut (new : List ℕ) (a : ℕ) : Type 0 where
+    pub there : (i : ℕ) → i < length new → f'.memory (a + i) ≡ get_or new i 0
+    pub beside : KeepsBut a (length new) f.memory f'.memory
+    pub shows : ShowsNothing f f'
+    pub others : OthersStay [] t f f'
+
+  put_changes : (new : List ℕ) (dv : Value) (p : Place) → IsFor g k IsGood x f → IsAllowed x.objects dv (length new) p
+      → HasPut new dv.word → ChangesRange map dv.word (length new) f.memory f'.memory
+  put_changes new dv p h a put =
+      let range = allowed_range g k x.objects f.memory dv (length new) p h.objects a in
       let last = range.last in
       let ok = laid_out map mapped in
       let small = ok.small in
-      record {
-        low = λ q l out. filled.beside q (⊎_elim (λ lo. inl (omega arith)) (λ hi. inr (omega arith)) out);
-        high = λ q l. filled.beside q (inr (omega arith));
-      }
+      record { low = λ q l out. put.beside q out; high = λ q l. put.beside q (inr (omega arith)) }
 
-  pub filled_is : IsLocal map entry IsGood → (to byte n b : ℕ) (dv v : Value) (p : Place) → IsFor g k IsGood x f
-      → IsAllowed x.objects dv n p → f.values to ≡ dv.word → f.values byte ≡ b → HasFilled to byte n t f f'
-      → HasGiven g k IsGood Nowhere t x f v (with_filled x n b p) f'
-  filled_is local to byte n b dv v p h a to_is byte_is filled =
+  pub put_is : IsLocal map entry IsGood → (new : List ℕ) (w : ℕ) (dv v : Value) (p : Place) → IsFor g k IsGood x f
+      → IsAllowed x.objects dv (length new) p → ((j : ℕ) → get_or new j 0 < 256) → HasPut new dv.word
+      → HasGiven g k IsGood Nowhere t x f v (with_put x w new p) f'
+  put_is local new w dv v p h a bytes put =
       let ok = laid_out map mapped in
-      let range = allowed_range g k x.objects f.memory dv n p h.objects a in
-      let small = ok.small in let last = range.last in
-      let change = fill_changes to byte n dv p h a to_is filled in
-      let long : length (filling n b) ≡ n = length-replicate n (fit UnsignedChar b) in
-      let shadow = local f.memory f'.memory (shadow_stays map (f.values to) n f.memory f'.memory ok (omega arith)
-      filled.beside) h.spaces.shadow in
+      let range = allowed_range g k x.objects f.memory dv (length new) p h.objects a in
+      let change = put_changes new dv p h a put in
+      let shadow = local f.memory f'.memory
+      (shadow_stays map dv.word (length new) f.memory f'.memory ok range.last put.beside) h.spaces.shadow in
       let place : dv.word ≡ (object_at x.objects p.object).address + p.offset = sym a.address in
-      let put : IsPut g (filling n b) dv.word f.memory f'.memory = record {
-        there = λ i l. ap (λ z. f'.memory (z + i)) (sym to_is) ∙ filled.there i (omega arith)
-            ∙ ap (λ z. z % 256) byte_is ∙ sym (low_byte b)
-            ∙ sym (get_or-replicate n i (fit UnsignedChar b) 0 (omega arith));
-        beside = λ q l out. change.low q l (⊎_elim (λ lo. inl lo) (λ hi. inr (omega arith)) out);
+      let is_put : IsPut g new dv.word f.memory f'.memory = record {
+        there = put.there;
+        beside = change.low;
         entries = shadow.1;
-        tables = tables_stay map functions types entry IsGood dv.word n f.memory f'.memory mapped h.spaces change;
+        tables = tables_stay map functions types entry IsGood dv.word (length new) f.memory f'.memory mapped h.spaces
+            change;
       } in
-      let shown = shown_still x f f' filled.shows h.shown in
+      let shown = shown_still x f f' put.shows h.shown in
       record {
         keys = k;
         held = keeps_same x.objects k;
         stands = record {
-          objects = put_stands g k mapped ok x.objects f.memory f'.memory h.objects (filling n b) p a.live
-              (subst (IsPlace x.objects p) (sym long) a.place)
-              (every_replicate (λ z. z < 256) 0 n (fit UnsignedChar b) (omega arith)
-              (let e = low_byte b in omega arith))
-              (subst (λ i. IsPut g (filling n b) i f.memory f'.memory) place put);
-          spaces = spaces_stay map IsGood dv.word n f.memory f'.memory mapped h.spaces change shadow.0;
+          objects = put_stands g k mapped ok x.objects f.memory f'.memory h.objects new p a.live a.place bytes
+              (subst (λ i. IsPut g new i f.memory f'.memory) place is_put);
+          spaces = spaces_stay map IsGood dv.word (length new) f.memory f'.memory mapped h.spaces change shadow.0;
           keys = h.keys;
           shown = record {
             input = shown.input;
@@ -164,9 +162,43 @@ module _ (map : MapSizes) (mapped : AreMapped map) (entry : View) (IsGood : Byte
           };
         };
         given = tt;
-        turns = filled.shows.turns;
-        elsewhere = elsewhere_stays map x.objects (write_bytes (filling n b) p x.objects) f.memory f'.memory dv n p
-            (keeps_bytes (filling n b) p x.objects) a change.low
-            (behind_stays map dv.word n f.memory f'.memory change);
-        others = filled.others;
+        turns = put.shows.turns;
+        elsewhere = elsewhere_stays map x.objects (write_bytes new p x.objects) f.memory f'.memory dv (length new) p
+            (keeps_bytes new p x.objects) a change.low
+            (behind_stays map dv.word (length new) f.memory f'.memory change);
+        others = put.others;
       }
+
+  -- ---- filled
+
+  pub filled_is : IsLocal map entry IsGood → (to byte n b : ℕ) (dv v : Value) (p : Place) → IsFor g k IsGood x f
+      → IsAllowed x.objects dv n p → f.values to ≡ dv.word → f.values byte ≡ b → HasFilled to byte n t f f'
+      → HasGiven g k IsGood Nowhere t x f v (with_filled x n b p) f'
+  filled_is local to byte n b dv v p h a to_is byte_is filled =
+      let long : length (filling n b) ≡ n = length-replicate n (fit UnsignedChar b) in
+      put_is local (filling n b) (x.work + length (filling n b)) dv v p h
+      (subst (λ i. IsAllowed x.objects dv i p) (sym long) a)
+      (every_replicate (λ z. z < 256) 0 n (fit UnsignedChar b) (omega arith) (let e = low_byte b in omega arith))
+      (record {
+        there = λ i l. ap (λ z. f'.memory (z + i)) (sym to_is) ∙ filled.there i (omega arith)
+            ∙ ap (λ z. z % 256) byte_is ∙ sym (low_byte b)
+            ∙ sym (get_or-replicate n i (fit UnsignedChar b) 0 (omega arith));
+        beside = λ q out. filled.beside q (⊎_elim (λ lo. inl (omega arith)) (λ hi. inr (omega arith)) out);
+        shows = filled.shows;
+        others = filled.others;
+      })
+
+  -- ---- moved without tags
+
+  -- the bytes that stand in a range are put into another
+  pub moved_bytes_are : IsLocal map entry IsGood → (to from : ℕ) (new : List ℕ) (w : ℕ) (dv v : Value) (p : Place)
+      → IsFor g k IsGood x f → IsAllowed x.objects dv (length new) p → ((j : ℕ) → get_or new j 0 < 256)
+      → f.values to ≡ dv.word → ((i : ℕ) → i < length new → f.memory (f.values from + i) ≡ get_or new i 0)
+      → HasMovedBytes to from (length new) t f f' → HasGiven g k IsGood Nowhere t x f v (with_put x w new p) f'
+  moved_bytes_are local to from new w dv v p h a bytes to_is standing moved =
+      put_is local new w dv v p h a bytes (record {
+        there = λ i l. ap (λ z. f'.memory (z + i)) (sym to_is) ∙ moved.there i l ∙ standing i l;
+        beside = λ q out. moved.beside q (⊎_elim (λ lo. inl (omega arith)) (λ hi. inr (omega arith)) out);
+        shows = moved.shows;
+        others = moved.others;
+      })

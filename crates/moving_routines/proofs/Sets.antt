@@ -1,5 +1,5 @@
 -- `memset`: the range is judged, and then filled.
-use Rattle.std.proofs.Common.{◌≡◌, ◌≢◌, ℕ, ◌+◌, ◌-◌, ◌*◌, ◌<◌, ◌≤◌, List, [], ◌∷◌, ◌++◌, true, length, refl, sym, ap, ◌∙◌}
+use Rattle.std.proofs.Common.{◌≡◌, ◌≢◌, ℕ, ◌+◌, ◌*◌, ◌<◌, List, [], ◌∷◌, ◌++◌, true, refl, sym, ◌∙◌}
 use Rattle.std.proofs.Common.{subst, arith}
 use Rattle.std.specs.Prelude.{replicate}
 use Rattle.std.proofs.lemmas.List.{length-replicate}
@@ -16,7 +16,6 @@ use Rattle.source_meaning.specs.State.{State as Source, Gives, Run, ◌>>=◌, �
 use Rattle.source_meaning.specs.Actions.{located}
 use Rattle.source_meaning.specs.Bytes.{set_bytes}
 use Rattle.source_meaning.specs.Memory.{memset}
-use Rattle.source_meaning.specs.Library.{argument}
 use Rattle.flat_meaning.specs.declared.instruction.FlatInstruction.{FlatInstruction}
 use Rattle.flat_meaning.specs.Memory.{Bytes}
 use Rattle.flat_meaning.specs.State.{State}
@@ -28,7 +27,7 @@ use Rattle.flat_routines.specs.Effects.{worked}
 use Rattle.flat_routines.specs.Metadata.{View, held_registers}
 use Rattle.flat_objects.specs.StandsFor.{Views, Keys}
 use Rattle.flat_judging.specs.Judging.{IsSameBut, IsToJudge, IsJudged, IsJudgeRoutine}
-use Rattle.flat_actions.specs.Actions.{views_of, IsFor, Nowhere, Word, Pointer, Leaves, IsAction}
+use Rattle.flat_actions.specs.Actions.{views_of, IsFor, Nowhere, Pointer, Leaves}
 use Rattle.flat_actions.specs.Ranges.{IsObjectRange, IsToFill, HasFilled, IsFillRoutine}
 use Rattle.flat_actions.proofs.Standing.{for_still}
 use Rattle.moving_routines.specs.Library.{runtime_ground, guarded_code, SetsObjects}
@@ -37,7 +36,7 @@ use Rattle.moving_routines.proofs.Bytes.{in_runtime}
 use Rattle.moving_routines.proofs.Tagged.{IsLocal}
 use Rattle.moving_routines.proofs.Judged.{work_done, judged_acts}
 use Rattle.moving_routines.proofs.Guarded.{guarded}
-use Rattle.moving_routines.proofs.Moves.{allowed_range, filling, with_filled, filled_is}
+use Rattle.moving_routines.proofs.Moves.{allowed_range, with_filled, filled_is}
 use Rattle.moving_routines.proofs.Acts.{gives_located, same_given, HasPointer, pointer_still, to_judge}
 
 module _ (map : MapSizes) (mapped : AreMapped map) (entry : View) (IsGood : Bytes → Type 0)
@@ -133,7 +132,8 @@ module _ (map : MapSizes) (mapped : AreMapped map) (entry : View) (IsGood : Byte
     memset_acts = record {
       from = λ code pc f w p q.
           (let sound = q.destination.sound in
-          (guarded g k IsGood t x c to into n dv nv whole (judging ++ act) IsToSet 18 5 below_to below_into distinct none
+          (guarded g k IsGood t x c to into n dv nv whole (judging ++ act) IsToSet 18 5 below_to below_into distinct
+          none
           (λ f p. record {
             stands = p.stands;
             spells = p.destination.spells;
@@ -152,14 +152,14 @@ pub sets_as : (map : MapSizes) → AreMapped map → (entry : View) (IsGood : By
     → AreNoneOf (held_registers to) (held_registers into) → (judging act : List FlatInstruction)
     → IsJudgeRoutine to n line t judging → IsFillRoutine map to.value byte n t act
     → SetsObjects (runtime_ground map entry IsGood) to byte n into line t (guarded_code n to into (judging ++ act))
-sets_as map mapped entry IsGood local to byte n into line t bt bb bn bi distinct none judging act j fills functions types
-    k x [] charge weight = record { from = λ code pc f has w p. absurd p.1 }
-sets_as map mapped entry IsGood local to byte n into line t bt bb bn bi distinct none judging act j fills functions types
-    k x (dv ∷ []) charge weight = record { from = λ code pc f has w p. absurd p.1.1 }
-sets_as map mapped entry IsGood local to byte n into line t bt bb bn bi distinct none judging act j fills functions types
-    k x (dv ∷ bv ∷ []) charge weight = record { from = λ code pc f has w p. absurd p.1.1.1 }
-sets_as map mapped entry IsGood local to byte n into line t bt bb bn bi distinct none judging act j fills functions types
-    k x (dv ∷ bv ∷ nv ∷ []) charge weight = record {
+sets_as map mapped entry IsGood local to byte n into line t bt bb bn bi distinct none judging act j fills functions
+    types k x [] charge weight = record { from = λ code pc f has w p. absurd p.1 }
+sets_as map mapped entry IsGood local to byte n into line t bt bb bn bi distinct none judging act j fills functions
+    types k x (dv ∷ []) charge weight = record { from = λ code pc f has w p. absurd p.1.1 }
+sets_as map mapped entry IsGood local to byte n into line t bt bb bn bi distinct none judging act j fills functions
+    types k x (dv ∷ bv ∷ []) charge weight = record { from = λ code pc f has w p. absurd p.1.1.1 }
+sets_as map mapped entry IsGood local to byte n into line t bt bb bn bi distinct none judging act j fills functions
+    types k x (dv ∷ bv ∷ nv ∷ []) charge weight = record {
       from = λ code pc f has w p. (memset_acts map mapped entry IsGood local functions types k t charge weight x to byte
           n into line dv bv nv bt bb bn bi distinct none judging act j fills).from code pc f has w (record {
             stands = p.0;
@@ -168,5 +168,5 @@ sets_as map mapped entry IsGood local to byte n into line t bt bb bn bi distinct
             size_is = p.1.1.1.0;
           });
     }
-sets_as map mapped entry IsGood local to byte n into line t bt bb bn bi distinct none judging act j fills functions types
-    k x (dv ∷ bv ∷ nv ∷ v ∷ vs) charge weight = record { from = λ code pc f has w p. absurd p.1.1.1.1 }
+sets_as map mapped entry IsGood local to byte n into line t bt bb bn bi distinct none judging act j fills functions
+    types k x (dv ∷ bv ∷ nv ∷ v ∷ vs) charge weight = record { from = λ code pc f has w p. absurd p.1.1.1.1 }

@@ -9,14 +9,15 @@ use Rattle.flat_meaning.specs.declared.instruction.FlatInstruction.TheVariants.{
 use Rattle.flat_meaning.specs.State.{State}
 use Rattle.flat_meaning.specs.Words.{IsOfWords}
 use Rattle.flat_meaning.specs.Meaning.{Context, Goes}
-use Rattle.flat_routines.specs.Registers.{IsNoneOf, AreNoneOf, AreDistinct, AreBelow, OthersStay}
-use Rattle.flat_routines.specs.Routine.{Outcome, Continues, Halts, Reaches, Does, Either, Never, unless_code, until_code}
+use Rattle.flat_routines.specs.Registers.{IsNoneOf, AreDistinct, AreBelow, OthersStay}
+use Rattle.flat_routines.specs.Routine.{Outcome, Continues, Halts, Does, Either, Never, unless_code, until_code, HasAt}
 use Rattle.flat_routines.specs.Effects.{worked, effects, AreAllowed}
 use Rattle.flat_routines.specs.Renaming.{rename, all_fit, through}
 use Rattle.flat_routines.proofs.Steps.{has_front}
-use Rattle.flat_routines.proofs.Rules.{Holds, taken, weaken, unless, loop, in_sequence}
+use Rattle.flat_routines.proofs.Rules.{Holds, taken, weaken, unless, loop, in_sequence, Turns}
 use Rattle.flat_routines.proofs.Distinct.{AreFrom, AreRegisters, register_of, registers_rename, others_stay}
 use Rattle.flat_routines.proofs.Wrapped.{straight_routine}
+use Rattle.flat_actions.proofs.Standing.{none_of_none}
 
 -- ---- one after another
 
@@ -34,7 +35,8 @@ module _ (c : Context) where
   pub quiet_weaken : (r : List FlatInstruction) (A B : ℕ) (P P' : Holds) (Q R : State → Holds) → A ≤ B
       → ((s : State) → P' s → P s) → ((s s' : State) → P' s → Q s s' → R s s')
       → Does c r P (λ s. A) (λ s. Either (Q s) Never) → Does c r P' (λ s. B) (λ s. Either (R s) Never)
-  quiet_weaken r A B P P' Q R le h k d = does_weaken r A B P P' (λ s. Either (Q s) Never) (λ s. Either (R s) Never) le h by d
+  quiet_weaken r A B P P' Q R le h k d =
+      does_weaken r A B P P' (λ s. Either (Q s) Never) (λ s. Either (R s) Never) le h by d
     where
       by : (s : State) (o : Outcome) → P' s → Either (Q s) Never o → Either (R s) Never o
       by s (Continues s') p q = k s s' p q
@@ -91,19 +93,21 @@ module _ (c : Context) where
       → ((k : ℕ) (s : State) → IsOfWords s → I (suc k) s → taken op x y s ≡ false)
       → (n : ℕ) → Does c (until_code op x y body) (I n) (λ s. n * (b + 2) + 1) (λ s. Either (I 0) Never)
   until_does op x y body b I d work stops goes n = record {
-    from = λ code pc s has w i. loop c code pc op x y body b I (I 0) Never has (turn code pc has) n n (omega arith) s w i;
+    from = λ code pc s has w i.
+        loop c code pc op x y body b I (I 0) Never has (turn code pc has) n n (omega arith) s w i;
   }
     where
-      turn : (code : List FlatInstruction) (pc : ℕ) → (has : Rattle.flat_routines.specs.Routine.HasAt code pc (until_code op x y body))
+      turn : (code : List FlatInstruction) (pc : ℕ) → (has : HasAt code pc (until_code op x y body))
           → (k : ℕ) (s : State) → IsOfWords s → I k s
-          → Rattle.flat_routines.proofs.Rules.Turns c code pc op x y body b I (I 0) Never has k s
+          → Turns c code pc op x y body b I (I 0) Never has k s
       turn code pc has zero s w i = inr (stops s i, work 0 s i)
       turn code pc has (suc k) s w i = inl (
         goes k s w i,
         k,
         refl,
         weaken c code b b (Goes (pc + 1) (worked c s)) _ (Either (I k) Never) _ (omega arith) (by k)
-            ((d k).from code (pc + 1) (worked c s) (has_front code (pc + 1) body (JumpBack (length body + 1) ∷ []) has.1)
+            ((d k).from code (pc + 1) (worked c s)
+            (has_front code (pc + 1) body (JumpBack (length body + 1) ∷ []) has.1)
             (record { values = w.values; memory = w.memory }) (work (suc k) s i)),
       )
         where
@@ -134,10 +138,6 @@ behind_none t k (suc n) x l = ((λ e. omega arith), behind_none t (k + 1) n x (o
 behind_distinct : (t k n : ℕ) → AreDistinct (behind t k n)
 behind_distinct t k zero = tt
 behind_distinct t k (suc n) = (behind_none t (k + 1) n (t + k) (omega arith), behind_distinct t (k + 1) n)
-
-none_of_none : (xs : List ℕ) → AreNoneOf xs []
-none_of_none [] = tt
-none_of_none (x ∷ xs) = (tt, none_of_none xs)
 
 pub own_registers : (ins : List ℕ) (t n : ℕ) → AreBelow t ins → AreRegisters ins [] (registers_from t n) t
 own_registers ins t zero below = record {

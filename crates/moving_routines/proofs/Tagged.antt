@@ -1,17 +1,17 @@
 -- A range moved with its tags: its bytes, and then the entries of its whole words.
-use Rattle.std.proofs.Common.{◌≡◌, ◌≢◌, ℕ, ◌+◌, ◌-◌, ◌*◌, ◌/◌, ◌%◌, ◌<◌, ◌≤◌, ◌⊎◌, inl, inr, ⊎_elim, List, []}
-use Rattle.std.proofs.Common.{◌∷◌, ◌++◌, length, refl, sym, ap, ◌∙◌, subst, arith}
+use Rattle.std.proofs.Common.{◌≡◌, ℕ, ◌+◌, ◌-◌, ◌*◌, ◌<◌, ◌≤◌, ◌⊎◌, inl, inr, List, []}
+use Rattle.std.proofs.Common.{◌∷◌, ◌++◌, refl, sym, ◌∙◌, subst, arith}
 use Rattle.addr_map.specs.declared.region.Region.TheVariants.{Heap, Shadow, Locks, Blocks, StructureValues}
 use Rattle.addr_map.specs.Places.{MapSizes, AreMapped, spaces_begin, region_size, region_start, region_end}
 use Rattle.flat_meaning.specs.declared.instruction.FlatInstruction.{FlatInstruction}
-use Rattle.flat_meaning.specs.Memory.{Bytes, Keeps, KeepsBut}
+use Rattle.flat_meaning.specs.Memory.{Bytes, KeepsBut}
 use Rattle.flat_meaning.specs.State.{State}
 use Rattle.flat_meaning.specs.Meaning.{Context}
 use Rattle.flat_routines.specs.Registers.{AreBelow}
 use Rattle.flat_routines.specs.Routine.{Does, Either, Never}
-use Rattle.flat_routines.specs.Metadata.{View, IsObjectWord, KeepsButShadow, KeepsShadow}
+use Rattle.flat_routines.specs.Metadata.{View, IsObjectWord, KeepsShadow}
 use Rattle.flat_routines.proofs.Regions.{IsLaidOut, laid_out}
-use Rattle.flat_objects.specs.Changes.{IsMoved, KeepsTables}
+use Rattle.flat_objects.specs.Changes.{KeepsTables}
 use Rattle.flat_objects.proofs.Changing.{global_is_lock}
 use Rattle.space_routines.proofs.Quiet.{shows_both}
 use Rattle.lock_space.specs.Locks.{KeepsLocks}
@@ -21,12 +21,13 @@ use Rattle.heap_space.specs.Table.{KeepsTable}
 use Rattle.heap_space.proofs.Regions.{table_laid_out}
 use Rattle.heap_space.proofs.Local.{rows_kept, good_kept as table_kept}
 use Rattle.flat_actions.specs.Actions.{views_of, AreSpacesGood}
-use Rattle.flat_actions.specs.Ranges.{IsToMove, HasMovedBytes, IsByteMoveRoutine, HasMovedTagged, IsTaggedMoveRoutine}
+use Rattle.flat_actions.specs.Ranges.{IsObjectRange, IsToMove, HasMovedBytes, IsByteMoveRoutine, HasMovedTagged}
+use Rattle.flat_actions.specs.Ranges.{IsTaggedMoveRoutine}
 use Rattle.flat_actions.proofs.Standing.{others_trans}
 use Rattle.moving_routines.specs.Tagged.{CopiesEntry, move_words}
 use Rattle.moving_routines.proofs.Steps.{both_quiet, quiet_weaken}
 use Rattle.moving_routines.proofs.Bytes.{in_runtime}
-use Rattle.moving_routines.proofs.Words.{MovesWords, HasMovedWords, IsToMoveWords, words_move}
+use Rattle.moving_routines.proofs.Words.{HasMovedWords, IsToMoveWords, words_move}
 
 -- ---- spaces behind the shadow space
 
@@ -112,8 +113,8 @@ module _ (map : MapSizes) (mapped : AreMapped map) (ok : IsLaidOut map) (entry :
   between x y p h = (
     record {
       size_is = h.others bytes below.1.1.0 tt ∙ p.0.size_is;
-      to_range = subst (λ a. Rattle.flat_actions.specs.Ranges.IsObjectRange map a n) (sym (still_to x y h)) p.0.to_range;
-      from_range = subst (λ a. Rattle.flat_actions.specs.Ranges.IsObjectRange map a n) (sym (still_from x y h))
+      to_range = subst (λ a. IsObjectRange map a n) (sym (still_to x y h)) p.0.to_range;
+      from_range = subst (λ a. IsObjectRange map a n) (sym (still_from x y h))
           p.0.from_range;
     },
     (local x.memory y.memory (shadow_same x y p h) p.1.shadow).0,
@@ -131,7 +132,8 @@ module _ (map : MapSizes) (mapped : AreMapped map) (ok : IsLaidOut map) (entry :
         high = λ a l. k.memory a (inr l) ∙ h.beside a (inr (omega arith));
       }
 
-  moved : (x y z : State) → IsReady x → MovedBytes x y → MovedWords x y z → HasMovedTagged map entry IsGood to from n t x z
+  moved : (x y z : State) → IsReady x → MovedBytes x y → MovedWords x y z
+      → HasMovedTagged map entry IsGood to from n t x z
   moved x y z p h k =
       let to_last = p.0.to_range.last in let to_first = p.0.to_range.first in
       let from_last = p.0.from_range.last in let from_first = p.0.from_range.first in
@@ -187,5 +189,5 @@ pub moves_tagged : (map : MapSizes) → AreMapped map → (entry : View) (IsGood
     → CopiesEntry map entry IsGood t body
     → IsTaggedMoveRoutine map entry IsGood to from bytes t (first ++ move_words to from bytes t body)
 moves_tagged map mapped entry IsGood local to from bytes t below first body bytes_move copies n charge weight =
-    tagged_moves map mapped (laid_out map mapped) entry IsGood local to from bytes t below n first body bytes_move copies
-    charge weight
+    tagged_moves map mapped (laid_out map mapped) entry IsGood local to from bytes t below n first body bytes_move
+    copies charge weight

@@ -1,7 +1,7 @@
 -- The entries of a range's whole words moved.
-use Rattle.std.proofs.Common.{◌≡◌, ◌≢◌, ℕ, suc, ◌+◌, ◌-◌, ◌*◌, ◌/◌, ◌%◌, ◌^◌, ◌<◌, ◌≤◌, ◌⊎◌, inl, inr, ⊎_elim, List, []}
-use Rattle.std.proofs.Common.{◌∷◌, ◌++◌, true, false, length, refl, sym, ap, ◌∙◌, subst, arith}
-use Rattle.std.proofs.lemmas.Bool.{eqb-true, eqb-false, cases_eq}
+use Rattle.std.proofs.Common.{◌≡◌, ◌≢◌, ℕ, ◌+◌, ◌-◌, ◌*◌, ◌/◌, ◌%◌, ◌^◌, ◌<◌, ◌≤◌, ◌⊎◌, inl, inr, ⊎_elim, List, []}
+use Rattle.std.proofs.Common.{◌∷◌, ◌++◌, true, refl, sym, ap, ◌∙◌, subst, arith}
+use Rattle.std.proofs.lemmas.Bool.{eqb-true, eqb-false}
 use Rattle.addr_map.specs.Places.{MapSizes}
 use Rattle.rv_isa.specs.declared.instruction.BranchOp.TheVariants.{Bne, Bgeu}
 use Rattle.rv_isa.specs.declared.instruction.RegOp.TheVariants.{Add, Sub, Sll, Srl}
@@ -13,12 +13,12 @@ use Rattle.flat_meaning.specs.Memory.{Bytes, put}
 use Rattle.flat_meaning.specs.State.{State}
 use Rattle.flat_meaning.specs.Meaning.{Context, Goes}
 use Rattle.flat_routines.specs.Registers.{AreBelow, OthersStay, IsNoneOf}
-use Rattle.flat_routines.specs.Routine.{HasAt, Does, Either, Never, Reaches}
+use Rattle.flat_routines.specs.Routine.{Does, Either, Never, Reaches, Outcome}
 use Rattle.flat_routines.specs.Effects.{worked, effects}
 use Rattle.flat_routines.specs.Renaming.{through, Agrees}
 use Rattle.flat_routines.specs.Metadata.{View, IsObjectWord, KeepsButShadow, ShowsNothing, entry_registers}
 use Rattle.flat_routines.proofs.Steps.{has_self}
-use Rattle.flat_routines.proofs.Rules.{branch, line_on, arrived, weaken}
+use Rattle.flat_routines.proofs.Rules.{branch, line_on, arrived}
 use Rattle.flat_routines.proofs.Distinct.{registers_rename, others_stay}
 use Rattle.flat_routines.proofs.Wrapped.{routine}
 use Rattle.flat_routines.proofs.Regions.{IsLaidOut}
@@ -29,7 +29,7 @@ use Rattle.space_routines.proofs.Quiet.{shows_both}
 use Rattle.heap_space.proofs.Regions.{if_not_below, if_below, if_differ, if_same}
 use Rattle.flat_actions.specs.Ranges.{IsObjectRange, IsToMove}
 use Rattle.flat_actions.proofs.Standing.{others_trans}
-use Rattle.moving_routines.specs.Copying.{OneWord, AreCells, HasCopied, IsToCopy, CopiesOne, move_cells, AreRanges}
+use Rattle.moving_routines.specs.Copying.{OneWord, AreCells, HasCopied, IsToCopy, move_cells, AreRanges}
 use Rattle.moving_routines.specs.Copying.{IsToMoveCells, AreMovedCells, HasMovedCells}
 use Rattle.moving_routines.specs.Tagged.{entries_of, entry_from, CopiesEntry, count_words, move_words}
 use Rattle.moving_routines.proofs.Steps.{both_quiet, quiet_weaken, named, own_registers, registers_from}
@@ -131,7 +131,7 @@ agree : (d s n : ℕ) → AreLow d s n → (d + (2 ^ 64 - s)) % 2 ^ 64 * 2 ^ 61 
 agree d s n low e = let a = low.to_low in let b = low.from_low in omega arith
 
 module _ (c : Context) (v : State) (low : AreLow (v.values 0) (v.values 1) (v.values 2)) where
-  abbrev R : Rattle.flat_routines.specs.Routine.Outcome → Type 0
+  abbrev R : Outcome → Type 0
   R = Either (Counted (v.values 0) (v.values 1) (v.values 2) v) Never
 
   abbrev begin : List FlatInstruction
@@ -261,7 +261,7 @@ module _ (map : MapSizes) (ok : IsLaidOut map) (entry : View) (IsGood : Bytes �
   low = let a = r.to_range.last in let b = r.from_range.last in let small = ok.small in
       record { to_low = omega arith; from_low = omega arith }
 
-  some_ranges : (k a b : ℕ) → AreSome d s n k a b → AreRanges (entries_of map entry IsGood) k a b
+  some_ranges : (k a b : ℕ) → AreSome d s n k a b → AreRanges OneWord (IsObjectWord map) k a b
   some_ranges k a b h =
       let lo = r.to_range.first in let hi = r.to_range.last in
       let lo' = r.from_range.first in let hi' = r.from_range.last in
@@ -274,7 +274,7 @@ module _ (map : MapSizes) (ok : IsLaidOut map) (entry : View) (IsGood : Bytes �
         from_small = λ l. omega arith;
       }
 
-  none_ranges : (k a b : ℕ) → AreNone d s n k → AreRanges (entries_of map entry IsGood) k a b
+  none_ranges : (k a b : ℕ) → AreNone d s n k → AreRanges OneWord (IsObjectWord map) k a b
   none_ranges k a b h =
       let none = h.none in
       record {
@@ -393,7 +393,7 @@ module _ (map : MapSizes) (ok : IsLaidOut map) (entry : View) (IsGood : Bytes �
         (quiet_weaken c (move_cells OneWord t body) (7 + (k * 69 + 1)) (8 + 9 * n)
         (IsToMoveCells (entries_of map entry IsGood) k a b t)
         (λ y'. IsToMoveCells (entries_of map entry IsGood) k a b t y' × (y' ≡ y))
-        (HasMovedCells (entries_of map entry IsGood) k a b t) (λ y' . MovedSince x) (omega arith) (λ y' q. q.0)
+        (HasMovedCells (entries_of map entry IsGood) k a b t) (λ y'. MovedSince x) (omega arith) (λ y' q. q.0)
         (λ y' z q h. moved x y z p (subst (λ u. HasMovedCells (entries_of map entry IsGood) k a b t u z) q.1 h))
         (cells_move c (entries_of map entry IsGood) (are_entries map entry IsGood) t body 64 (copies charge weight) k a
         b (w.values t))).from code pc y has w (ready x y p, refl));

@@ -98,17 +98,17 @@ move_cells z t body = choose_order (unit_of z) (shift_of z) t ++ copy_loop t bod
 -- ---- what it does
 
 -- so many cells from two addresses on
-pub record AreRanges (q : Cells) (n d s : ℕ) : Type 0 where
-  pub to_cells : (j : ℕ) → j < n → q.IsCell (d + unit_of q.size * j)
-  pub from_cells : (j : ℕ) → j < n → q.IsCell (s + unit_of q.size * j)
-  pub to_small : 0 < n → d + unit_of q.size * n < 2 ^ 63
-  pub from_small : 0 < n → s + unit_of q.size * n < 2 ^ 63
+pub record AreRanges (z : CellSize) (IsCell : ℕ → Type 0) (n d s : ℕ) : Type 0 where
+  pub to_cells : (j : ℕ) → j < n → IsCell (d + unit_of z * j)
+  pub from_cells : (j : ℕ) → j < n → IsCell (s + unit_of z * j)
+  pub to_small : 0 < n → d + unit_of z * n < 2 ^ 63
+  pub from_small : 0 < n → s + unit_of z * n < 2 ^ 63
 
 pub record IsToMoveCells (q : Cells) (n d s t : ℕ) (x : State) : Type 0 where
   pub left : x.values t ≡ n
   pub to_is : x.values (t + 1) ≡ d
   pub from_is : x.values (t + 2) ≡ s
-  pub ranges : AreRanges q n d s
+  pub ranges : AreRanges q.size q.IsCell n d s
   pub good : q.IsGood x.memory
 
 -- the cells were moved as by memmove, and no other changed

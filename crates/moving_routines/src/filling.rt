@@ -11,8 +11,8 @@ use flat_meaning::{FlatInstruction, RightOperand};
 use rv_isa::{BranchOp, RegOp, StoreOp};
 use std::alloc::{AllocError, Global};
 
-/// Fills as many bytes of object space as `bytes` holds, from the address in `to` on, with the low byte of `byte`. It may
-/// write the registers from `scratch` on, and shows nothing else. The only refusal is that memory fails.
+/// Fills as many bytes of object space as `bytes` holds, from the address in `to` on, with the low byte of `byte`. It
+/// may write the registers from `scratch` on, and shows nothing else. The only refusal is that memory fails.
 pub fn fill(
     alloc: Global,
     map: &AddrMap,

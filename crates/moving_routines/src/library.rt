@@ -54,9 +54,9 @@ pub fn memmove<S: ShadowForm>(
     Ok(code)
 }
 
-/// `memset`, of as many bytes as `size` holds, with the low byte of `byte`: the range is judged and then filled; nothing
-/// is judged where there are no bytes. What it gives, the pointer in `to`, is put into the registers of `into`. It may
-/// write the registers from `scratch` on. The only refusal is that memory fails.
+/// `memset`, of as many bytes as `size` holds, with the low byte of `byte`: the range is judged and then filled;
+/// nothing is judged where there are no bytes. What it gives, the pointer in `to`, is put into the registers of `into`.
+/// It may write the registers from `scratch` on. The only refusal is that memory fails.
 pub fn memset<S: ShadowForm>(
     alloc: Global,
     map: &AddrMap,

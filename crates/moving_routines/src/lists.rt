@@ -33,7 +33,12 @@ pub(crate) fn unless(
     let Ok(past) = u32::try_from(body.len()) else {
         return Err(AllocError);
     };
-    let test = [FlatInstruction::Branch { op, left, right, past }];
+    let test = [FlatInstruction::Branch {
+        op,
+        left,
+        right,
+        past,
+    }];
     joined(alloc, &test, body)
 }
 

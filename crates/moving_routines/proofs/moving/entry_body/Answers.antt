@@ -1,4 +1,4 @@
-use Rattle.std.proofs.Common.{sym, subst, ◌+◌}
+use Rattle.std.proofs.Common.{sym, subst}
 use Rattle.moving_routines.specs.Tagged.{CopiesEntry}
 use Rattle.moving_routines.proofs.Steps.{joined_are}
 use Rattle.moving_routines.proofs.Words.{entry_copies}

@@ -1,4 +1,4 @@
-use Rattle.std.proofs.Common.{sym, subst, ◌∷◌, ◌+◌}
+use Rattle.std.proofs.Common.{sym, subst, ◌∷◌}
 use Rattle.flat_meaning.specs.declared.instruction.FlatInstruction.TheVariants.{Constant}
 use Rattle.moving_routines.specs.Library.{runtime_ground}
 use Rattle.moving_routines.specs.Structures.{CopiesStructure}

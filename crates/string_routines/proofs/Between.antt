@@ -205,6 +205,14 @@ range_of g k behind objects v n m st sound i =
     let within = i.within in
     record { first = omega arith; last = omega arith }
 
+-- so do the bytes of a whole string
+pub scanned_range : (g : Views) (k : Keys) (line : ℕ) (x : Source) (v : Value) (bytes : List ℕ) (x' : Source)
+    (m : Bytes) → StandsFor g k x.objects m → IsSoundTag g.functions x.objects v.tag → scan v line x ≡ Gives bytes x'
+    → IsObjectRange g.sizes v.word (length bytes)
+scanned_range g k line x v bytes x' m st sound e =
+    range_of g k (stop (Spatial line)) x.objects v (length bytes) m st sound
+    (scan_between g.functions line x v bytes x' st.sound sound e)
+
 -- the 0 byte stands behind a whole string
 pub record IsTerminated (g : Views) (v : Value) (n : ℕ) (m : Bytes) : Type 0 where
   pub range : IsObjectRange g.sizes v.word (n + 1)

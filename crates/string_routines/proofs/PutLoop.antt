@@ -23,7 +23,8 @@ use Rattle.flat_routines.proofs.Rules.{weaken, line, line_on, loop}
 use Rattle.flat_routines.proofs.Distinct.{AreRegisters, register_of, registers_rename, others_stay}
 use Rattle.flat_routines.proofs.Wrapped.{routine}
 use Rattle.shadow_space.proofs.Entries.{context_of, agrees_memory}
-use Rattle.moving_routines.proofs.Bytes.{byte_loaded}
+use Rattle.flat_actions.specs.Ranges.{IsObjectRange}
+use Rattle.moving_routines.proofs.Bytes.{byte_loaded, object_allowed}
 use Rattle.string_routines.specs.Putting.{bytes_from, IsToPut, HasPut, IsPutRoutine, put_body, put_code}
 
 -- alone: 0 from, 1 to, 2 the cursor, 3 the byte; k bytes are left of n
@@ -217,3 +218,13 @@ same_bytes m a (b ∷ bs) h =
     let rest = same_bytes m (a + 1) bs (λ i l.
     let e : a + suc i ≡ a + 1 + i = omega arith in subst (λ k. m k ≡ get_or bs i 0) e (h (suc i) (omega arith))) in
     ap (λ z. z ∷ bytes_from (length bs) m (a + 1)) first ∙ ap (λ l. b ∷ l) rest
+
+-- bytes of object space may be put out
+pub range_to_put : (map : MapSizes) (from to n : ℕ) (s : State) → IsObjectRange map (s.values from) n
+    → s.values to ≡ s.values from + n → IsToPut map from to n s
+range_to_put map from to n s range end =
+    let first = range.first in let last = range.last in
+    record {
+      end_is = end;
+      allowed = λ i l. object_allowed map (s.values from + i) (s.values from + i) 1 refl (omega arith) (omega arith);
+    }

@@ -4,8 +4,6 @@ use Rattle.std.proofs.Common.{◌∙◌, subst, arith, length-append, append_ass
 use Rattle.sb_base.specs.Endings.{code_of, report_of}
 use Rattle.obj_memory.specs.declared.value.Value.{Value}
 use Rattle.source_meaning.specs.State.{State as Source, Outcome as Completed, Gives, on, ◌>>◌, done}
-use Rattle.source_meaning.specs.State.{stop}
-use Rattle.sb_base.specs.declared.ending.Ending.TheVariants.{Spatial}
 use Rattle.source_meaning.specs.Acting.{state_of}
 use Rattle.source_meaning.specs.Actions.{integer, put_bytes}
 use Rattle.source_meaning.specs.Strings.{scan}
@@ -27,13 +25,13 @@ use Rattle.flat_routines.proofs.Rules.{next, line_on, arrived}
 use Rattle.flat_objects.specs.StandsFor.{Views, Keys, StandsFor}
 use Rattle.flat_actions.specs.Actions.{Ground, Pointer, Word, IsHeldBy, IsFor, HasGiven, Leaves, IsAction, context_in}
 use Rattle.flat_actions.specs.Actions.{views_of, work_of}
+use Rattle.flat_actions.specs.Ranges.{IsObjectRange}
 use Rattle.flat_actions.specs.Scanning.{IsWorked, HasScanned, IsScanRoutine}
 use Rattle.flat_actions.proofs.Standing.{good_still, keeps_same, stays_same}
-use Rattle.moving_routines.proofs.Bytes.{object_allowed}
 use Rattle.string_routines.specs.Putting.{bytes_from, IsToPut, HasPut, IsPutRoutine, newline_given}
 use Rattle.string_routines.proofs.AfterScan.{over, after_scan}
-use Rattle.string_routines.proofs.Between.{scan_between, range_of}
-use Rattle.string_routines.proofs.PutLoop.{same_bytes}
+use Rattle.string_routines.proofs.Between.{scanned_range}
+use Rattle.string_routines.proofs.PutLoop.{same_bytes, range_to_put}
 use Rattle.string_routines.proofs.Runtime.{does_in}
 
 -- The scan ends with the cursor at the 0 byte; from the start up to there the bytes are put out.
@@ -128,16 +126,13 @@ module _ (ground : Ground) (runtime : ground.is_runtime ≡ true) (h : Held) (in
         let n = length bytes in
         let kept : f'.values h.value ≡ v.word =
         i.others h.value (omega (arith, below.1.0)) ((λ e. omega (arith, e, below.1.0)), tt) ∙ a.0.word in
-        let range = range_of g k (stop (Spatial line)) x.objects v n f.memory p.objects a.1
-        (scan_between functions line x v bytes x' p.objects.sound a.1 is) in
-        let first = range.first in let last = range.last in let cursor = i.cursor_is in
+        let range = scanned_range g k line x v bytes x' f.memory p.objects a.1 is in
+        let cursor = i.cursor_is in
         let run = (does_in ground runtime charge weight putting (IsToPut ground.map h.value t n) (λ s. 2 + 5 * n)
         (λ s. Either (HasPut h.value n (t + 1) s) Never) (puts_all n charge weight)).from code pc f'
-        (has_front code pc putting (newline_given into (t + 1)) has) words (record {
-          end_is = omega arith;
-          allowed = λ j less. object_allowed ground.map (f'.values h.value + j) (f'.values h.value + j) 1 refl
-              (omega arith) (omega arith);
-        }) in
+        (has_front code pc putting (newline_given into (t + 1)) has) words
+        (range_to_put ground.map h.value t n f' (subst (λ z. IsObjectRange ground.map z n) (sym kept) range)
+        (omega arith)) in
         next c code (2 + 5 * n) 3 (Goes pc f') (pc + length putting) (pc + length putting + 3)
         (HasPut h.value n (t + 1) f') Never (R f (Gives bytes x')) words run
         (λ z wz put. line_on c code (newline_given into (t + 1)) 0 (pc + length putting) z (pc + length putting + 3)

@@ -1,18 +1,14 @@
 -- Bytes that are written at a place that was judged: what memory becomes stands for what the objects become.
-use Rattle.std.proofs.Common.{◌≡◌, ℕ, ◌+◌, ◌*◌, ◌<◌, ◌≤◌, ◌⊎◌, inl, inr, ⊎_elim, List, ◌++◌, true, length, sym}
+use Rattle.std.proofs.Common.{◌≡◌, ℕ, ◌+◌, ◌*◌, ◌<◌, ◌≤◌, List, ◌++◌, true, length, sym}
 use Rattle.std.proofs.Common.{◌∙◌, subst, arith, get_or}
-use Rattle.addr_map.specs.declared.region.Region.TheVariants.{StructureValues}
-use Rattle.addr_map.specs.Places.{MapSizes, AreMapped, spaces_begin, region_start}
+use Rattle.addr_map.specs.Places.{MapSizes, AreMapped}
 use Rattle.obj_memory.specs.declared.value.Value.{Value}
 use Rattle.obj_memory.specs.declared.value.Place.{Place}
 use Rattle.obj_memory.specs.declared.judgement.Verdict.{Verdict}
 use Rattle.obj_memory.specs.declared.judgement.Verdict.TheVariants.{Outside, Dead, Inside}
-use Rattle.obj_memory.specs.Objects.{Objects, object_at}
 use Rattle.obj_memory.specs.Judgement.{judge}
-use Rattle.obj_memory.specs.Access.{write_bytes}
-use Rattle.obj_memory.specs.Sound.{IsSoundTag, IsAllowed, KeepsObjects}
+use Rattle.obj_memory.specs.Sound.{IsSoundTag, IsAllowed}
 use Rattle.obj_memory.proofs.Judging.{judge_inside}
-use Rattle.obj_memory.proofs.Keeping.{keeps_bytes}
 use Rattle.source_meaning.specs.State.{State as Source, Outcome as Completed, Gives, Run, on, ◌>>◌, done}
 use Rattle.source_meaning.specs.Acting.{state_of}
 use Rattle.source_meaning.specs.Actions.{located}
@@ -24,33 +20,14 @@ use Rattle.flat_meaning.specs.Meaning.{Context}
 use Rattle.flat_routines.specs.Routine.{Outcome, Continues, Halts, Does, Either, Never}
 use Rattle.flat_routines.specs.Metadata.{View}
 use Rattle.flat_routines.proofs.Rules.{Holds, weaken}
-use Rattle.flat_routines.proofs.Regions.{laid_out}
 use Rattle.flat_objects.specs.StandsFor.{Views, Keys}
-use Rattle.flat_objects.specs.Changes.{IsPut}
-use Rattle.flat_objects.proofs.Moves.{put_stands}
 use Rattle.flat_judging.specs.Judging.{IsSameBut, IsJudged}
-use Rattle.flat_actions.specs.Actions.{views_of, IsFor, StaysElsewhere, Nowhere, HasGiven, Leaves}
+use Rattle.flat_actions.specs.Actions.{views_of, IsFor, Nowhere, HasGiven, Leaves}
 use Rattle.flat_actions.proofs.Judged.{judged_then, located_then}
-use Rattle.flat_actions.proofs.Standing.{shown_still, keeps_same}
-use Rattle.moving_routines.proofs.Tagged.{ChangesRange, tables_stay, spaces_stay, behind_stays, shadow_stays, IsLocal}
-use Rattle.moving_routines.proofs.Moves.{allowed_range}
+use Rattle.moving_routines.proofs.Tagged.{IsLocal}
+use Rattle.moving_routines.proofs.Moves.{with_put, put_is}
 use Rattle.moving_routines.proofs.Judged.{work_done, judged_acts}
 use Rattle.string_routines.specs.Copying.{HasWritten}
-
--- what changes within a live object changes nothing elsewhere
-elsewhere_stays : (map : MapSizes) (old new : Objects) (m m' : Bytes) (v : Value) (n : ℕ) (p : Place)
-    → KeepsObjects old new → IsAllowed old v n p
-    → ((a : ℕ) → a < spaces_begin → (a < v.word) ⊎ (v.word + n ≤ a) → m' a ≡ m a)
-    → ((a : ℕ) → region_start map StructureValues ≤ a → m' a ≡ m a)
-    → StaysElsewhere map new m m'
-elsewhere_stays map old new m m' v n p keeps h beside behind = record {
-  low = λ a l out.
-      let same = keeps.at p.object in
-      let address = same.address in let size = same.size in
-      let room = h.place.room in let at = h.address in
-      beside a l (⊎_elim (λ lo. inl (omega arith)) (λ hi. inr (omega arith)) (out p.object (same.live ∙ h.live)));
-  behind = behind;
-}
 
 -- ---- what is written in the source
 
@@ -87,53 +64,12 @@ module _ (map : MapSizes) (mapped : AreMapped map) (entry : View) (IsGood : Byte
   abbrev g : Views
   g = views_of map functions types entry
 
-  abbrev pub with_written : List ℕ → Place → Source
-  with_written new p = record x { work = x.work + length new; objects = write_bytes new p x.objects }
-
   pub written_is : (f f' : State) (new : List ℕ) (dv v : Value) (p : Place) → IsFor g k IsGood x f
       → IsAllowed x.objects dv (length new) p → ((j : ℕ) → get_or new j 0 < 256) → HasWritten new dv.word t f f'
-      → HasGiven g k IsGood Nowhere t x f v (with_written new p) f'
+      → HasGiven g k IsGood Nowhere t x f v (with_put x (x.work + length new) new p) f'
   written_is f f' new dv v p h a small written =
-      let ok = laid_out map mapped in
-      let range = allowed_range g k x.objects f.memory dv (length new) p h.objects a in
-      let end = ok.small in let last = range.last in
-      let change : ChangesRange map dv.word (length new) f.memory f'.memory = record {
-        low = λ q l out. written.beside q out;
-        high = λ q l. written.beside q (inr (omega arith));
-      } in
-      let shadow = local f.memory f'.memory
-      (shadow_stays map dv.word (length new) f.memory f'.memory ok last written.beside) h.spaces.shadow in
-      let place : dv.word ≡ (object_at x.objects p.object).address + p.offset = sym a.address in
-      let put : IsPut g new dv.word f.memory f'.memory = record {
-        there = written.there;
-        beside = change.low;
-        entries = shadow.1;
-        tables = tables_stay map functions types entry IsGood dv.word (length new) f.memory f'.memory mapped h.spaces
-            change;
-      } in
-      let shown = shown_still x f f' written.shows h.shown in
-      record {
-        keys = k;
-        held = keeps_same x.objects k;
-        stands = record {
-          objects = put_stands g k mapped ok x.objects f.memory f'.memory h.objects new p a.live a.place small
-              (subst (λ i. IsPut g new i f.memory f'.memory) place put);
-          spaces = spaces_stay map IsGood dv.word (length new) f.memory f'.memory mapped h.spaces change shadow.0;
-          keys = h.keys;
-          shown = record {
-            input = shown.input;
-            output = shown.output;
-            taken = shown.taken;
-            accesses = shown.accesses;
-          };
-        };
-        given = tt;
-        turns = written.shows.turns;
-        elsewhere = elsewhere_stays map x.objects (write_bytes new p x.objects) f.memory f'.memory dv (length new) p
-            (keeps_bytes new p x.objects) a change.low
-            (behind_stays map dv.word (length new) f.memory f'.memory change);
-        others = written.others;
-      }
+      put_is map mapped entry IsGood functions types k t x f f' local new (x.work + length new) dv v p h a small
+      (record { there = written.there; beside = written.beside; shows = written.shows; others = written.others })
 
   -- ---- judged first
 

@@ -32,8 +32,8 @@ over x x' e f f' shown worked shows =
     (ended_still e x x'.work (code_of e) (report_of e) f f' shown shows refl refl)
 
 module _ (c : Context) (code : List FlatInstruction) where
-  pub after_scan : (a total : ℕ) (b : List ℕ → Source → ℕ) (pc middle end : ℕ) (f : State) (word cursor t : ℕ) (x : Source)
-      (r : Completed (List ℕ)) (R : Outcome → Type 0) → IsOfWords f
+  pub after_scan : (a total : ℕ) (b : List ℕ → Source → ℕ) (pc middle end : ℕ) (f : State) (word cursor t : ℕ)
+      (x : Source) (r : Completed (List ℕ)) (R : Outcome → Type 0) → IsOfWords f
       → Reaches c code a (Goes pc f) middle (IsScanned word cursor t x f r)
       → ((e : Ending) (x' : Source) → r ≡ Ended e x' → IsWorked x x'
       → (a ≤ total) × ((f' : State) → ShowsNothing f f' → R (Halts (code_of e) (report_of e) f')))
@@ -44,8 +44,8 @@ module _ (c : Context) (code : List FlatInstruction) where
   after_scan a total b pc middle end f word cursor t x (Gives bytes x') R words run over few on =
       weaken c code (a + b bytes x') total (Goes pc f) end R R
       (few bytes x' refl (works_on word cursor t x f (Gives bytes x') run.outcome run.holds)) (λ o i. i)
-      (next c code a (b bytes x') (Goes pc f) middle end (λ f'. IsWorked x x' × HasScanned word bytes cursor t f f') Never R
-      words (weaken c code a a (Goes pc f) middle _ _ (omega arith) by run)
+      (next c code a (b bytes x') (Goes pc f) middle end (λ f'. IsWorked x x' × HasScanned word bytes cursor t f f')
+      Never R words (weaken c code a a (Goes pc f) middle _ _ (omega arith) by run)
       (λ f' words' i. on bytes x' refl f' words' i.0 i.1) (λ status report f' never. absurd never))
     where
       by : (o : Outcome) → IsScanned word cursor t x f (Gives bytes x') o

@@ -1,6 +1,6 @@
 -- The bytes that a scan gives lie between the bounds of a pointer to a live object.
-use Rattle.std.proofs.Common.{◌≡◌, ◌≢◌, ℕ, zero, suc, ◌+◌, ◌-◌, ◌%◌, ◌^◌, ◌<◌, ◌≤◌, ◌⊎◌, inl, inr, ⊎_elim, List, [], ◌∷◌}
-use Rattle.std.proofs.Common.{true, false, ◌==◌, length, get_or, refl, sym, ap, ◌∙◌, subst, arith}
+use Rattle.std.proofs.Common.{◌≡◌, ℕ, zero, suc, ◌+◌, ◌-◌, ◌^◌, ◌<◌, ◌≤◌, ◌⊎◌, inl, inr, List, [], ◌∷◌}
+use Rattle.std.proofs.Common.{Bool, true, false, ◌==◌, length, get_or, refl, sym, ap, ◌∙◌, subst, arith}
 use Rattle.std.proofs.lemmas.Bool.{cases_Bool, eqb-true}
 use Rattle.sb_base.specs.declared.ending.Ending.TheVariants.{Spatial}
 use Rattle.obj_memory.specs.declared.int_type.IntType.TheVariants.{UnsignedChar}
@@ -14,13 +14,14 @@ use Rattle.obj_memory.specs.Objects.{Objects, object_at}
 use Rattle.obj_memory.specs.Judgement.{judge, moved}
 use Rattle.obj_memory.specs.Access.{read_value}
 use Rattle.obj_memory.specs.Sound.{IsSound, IsSoundTag}
-use Rattle.source_meaning.specs.State.{State as Source, Outcome as Completed, Gives, Ended, Paused, Run, on, ◌>>=◌, done}
+use Rattle.source_meaning.specs.State.{State as Source, Outcome as Completed, Gives, Ended, Paused, Run, on, ◌>>=◌}
+use Rattle.source_meaning.specs.State.{done}
 use Rattle.source_meaning.specs.State.{stop, choose}
 use Rattle.source_meaning.specs.Strings.{reach, scan_within, scan}
 use Rattle.flat_meaning.specs.Memory.{Bytes}
 use Rattle.flat_objects.specs.StandsFor.{Views, Keys, StandsFor}
 use Rattle.flat_actions.specs.Ranges.{IsObjectRange}
-use Rattle.string_routines.proofs.Looking.{IsAround, around, lives, reach_is, scan_by, with_first, worked_on}
+use Rattle.string_routines.proofs.Looking.{IsAround, around, lives, scan_by, with_first, worked_on}
 use Rattle.string_routines.proofs.Looking.{looked}
 
 -- A scan ends at a 0 byte before the bound, or what stands behind the count gives something.
@@ -66,7 +67,8 @@ same_object n m b c e = (cc, cc)
 module _ (functions line : ℕ) (behind : Run (List ℕ)) (none : AddsNone behind) where
   -- the bytes behind the first lie between the bounds too
   abbrev Rest : (k : ℕ) → Source → Value → ℕ → Bounds → Type 0
-  Rest k x v n b = (bytes : List ℕ) (x' : Source) → scan_within k behind (moved 1 v) line (worked_on 1 x) ≡ Gives bytes x'
+  Rest k x v n b = (bytes : List ℕ) (x' : Source)
+      → scan_within k behind (moved 1 v) line (worked_on 1 x) ≡ Gives bytes x'
       → (v.word + 1 + length bytes ≤ b.bound) × HowEnded behind x.objects v n b (suc (length bytes))
 
   first : (k : ℕ) (x : Source) (v : Value) (bytes : List ℕ) (x' : Source) → IsSound functions x.objects
@@ -112,8 +114,8 @@ module _ (functions line : ℕ) (behind : Run (List ℕ)) (none : AddsNone behin
 
           looked_at : ((byte == 0) ≡ true) ⊎ ((byte == 0) ≡ false) → IsBetween behind x.objects v (length bytes)
           looked_at (inl z) =
-              let q = sym (ap (λ b. choose b (done []) (scan_within k behind (moved 1 v) line >>= (λ bs. done (byte ∷ bs)))
-              (worked_on 1 x)) z) ∙ given in
+              let q = sym (ap (λ b. choose b (done []) (scan_within k behind (moved 1 v) line >>=
+              (λ bs. done (byte ∷ bs))) (worked_on 1 x)) z) ∙ given in
               let n : 0 ≡ length bytes = ap count_of q in
               let below = a.below in
               let at : v.word ≡ v.word + length bytes = omega arith in
@@ -141,7 +143,8 @@ module _ (functions line : ℕ) (behind : Run (List ℕ)) (none : AddsNone behin
       let bound = ap (λ z. z.bound) q in
       AtZero (omega arith)
       (subst (λ i. get_or (object_at objects n).bytes (i - (object_at objects n).address) 0 ≡ 0) same
-      (subst (λ o. get_or (object_at objects o).bytes (w.word + count - (object_at objects o).address) 0 ≡ 0) e zero_is))
+      (subst (λ o. get_or (object_at objects o).bytes (w.word + count - (object_at objects o).address) 0 ≡ 0) e
+      zero_is))
   from_next objects v w n m b c count e q word (AtLimit y bytes y' is) = AtLimit y bytes y' is
 
   pub between : (k : ℕ) (x : Source) (v : Value) (bytes : List ℕ) (x' : Source) → IsSound functions x.objects
@@ -202,6 +205,14 @@ range_of g k behind objects v n m st sound i =
     let within = i.within in
     record { first = omega arith; last = omega arith }
 
+-- so do the bytes of a whole string
+pub scanned_range : (g : Views) (k : Keys) (line : ℕ) (x : Source) (v : Value) (bytes : List ℕ) (x' : Source)
+    (m : Bytes) → StandsFor g k x.objects m → IsSoundTag g.functions x.objects v.tag → scan v line x ≡ Gives bytes x'
+    → IsObjectRange g.sizes v.word (length bytes)
+scanned_range g k line x v bytes x' m st sound e =
+    range_of g k (stop (Spatial line)) x.objects v (length bytes) m st sound
+    (scan_between g.functions line x v bytes x' st.sound sound e)
+
 -- the 0 byte stands behind a whole string
 pub record IsTerminated (g : Views) (v : Value) (n : ℕ) (m : Bytes) : Type 0 where
   pub range : IsObjectRange g.sizes v.word (n + 1)
@@ -225,3 +236,34 @@ terminated g k line objects v n m st sound i = by i.how
               ((st.here i.number i.live).bytes (v.word + n - o.address) (omega arith)) ∙ zero_is;
         }
     by (AtLimit y bytes y' is) = cc
+
+-- ---- no more bytes than are counted
+
+pub no_more : (k : ℕ) (behind : Run (List ℕ)) → AddsNone behind → (x : Source) (v : Value) (line : ℕ) (bytes : List ℕ)
+    (x' : Source) → scan_within k behind v line x ≡ Gives bytes x' → length bytes ≤ k
+no_more zero behind none x v line bytes x' e = let l = ap length (none x bytes x' e) in omega arith
+no_more (suc k) behind none x v line bytes x' e =
+    by (no_more k behind none (worked_on 1 x) (moved 1 v) line) (judge 1 v x.objects) refl
+  where
+    others : (byte : ℕ) (r : Completed (List ℕ))
+        → ((bs : List ℕ) (y : Source) → r ≡ Gives bs y → length bs ≤ k)
+        → on r (λ bs. done (byte ∷ bs)) ≡ Gives bytes x' → length bytes ≤ suc k
+    others byte (Gives bs y) less q =
+        let n : suc (length bs) ≡ length bytes = ap count_of q in let l = less bs y refl in omega arith
+    others byte (Ended w y) less q = cc
+    others byte (Paused y) less q = cc
+
+    chosen : ((bs : List ℕ) (y : Source) → scan_within k behind (moved 1 v) line (worked_on 1 x) ≡ Gives bs y
+        → length bs ≤ k) → (b : Bool) (byte : ℕ)
+        → choose b (done []) (scan_within k behind (moved 1 v) line >>= (λ bs. done (byte ∷ bs))) (worked_on 1 x)
+        ≡ Gives bytes x' → length bytes ≤ suc k
+    chosen less true byte q = let n : 0 ≡ length bytes = ap count_of q in omega arith
+    chosen less false byte q = others byte (scan_within k behind (moved 1 v) line (worked_on 1 x)) less q
+
+    by : ((bs : List ℕ) (y : Source) → scan_within k behind (moved 1 v) line (worked_on 1 x) ≡ Gives bs y
+        → length bs ≤ k) → (w : Verdict) → judge 1 v x.objects ≡ w → length bytes ≤ suc k
+    by less Outside is = absurd (let z = sym (scan_by k behind x v line Outside is) ∙ e in cc)
+    by less Dead is = absurd (let z = sym (scan_by k behind x v line Dead is) ∙ e in cc)
+    by less (Inside p) is =
+        let byte = (read_value (Integer UnsignedChar) p x.objects).word in
+        chosen less (byte == 0) byte (sym (scan_by k behind x v line (Inside p) is) ∙ e)

@@ -1,35 +1,31 @@
 -- `strlen` as a whole action.
-use Rattle.std.proofs.Common.{◌≡◌, ℕ, ◌+◌, ◌-◌, ◌*◌, ◌%◌, ◌^◌, ◌≤◌, List, [], ◌∷◌, ◌++◌, length, true, refl, sym, ap, ◌∙◌}
+use Rattle.std.proofs.Common.{◌≡◌, ℕ, ◌+◌, ◌-◌, ◌*◌, ◌%◌, ◌^◌, List, [], ◌∷◌, ◌++◌, length, sym, ap, ◌∙◌}
 use Rattle.std.proofs.Common.{subst, arith, length-append}
-use Rattle.rv_isa.specs.declared.instruction.RegOp.TheVariants.{Sub}
 use Rattle.rv_isa.specs.Results.{reg_result}
-use Rattle.sb_base.specs.declared.ending.Ending.{Ending}
 use Rattle.sb_base.specs.Endings.{code_of, report_of}
 use Rattle.obj_memory.specs.declared.value.Value.{Value}
-use Rattle.source_meaning.specs.State.{State as Source, Outcome as Completed, Gives, Ended, on, done}
+use Rattle.source_meaning.specs.State.{State as Source, Outcome as Completed, Gives, on, done}
 use Rattle.source_meaning.specs.Acting.{state_of}
 use Rattle.source_meaning.specs.Actions.{integer}
 use Rattle.source_meaning.specs.Strings.{scan, strlen}
 use Rattle.source_meaning.specs.Library.{argument}
-use Rattle.flat_meaning.specs.declared.instruction.RightOperand.TheVariants.{Register}
 use Rattle.flat_meaning.specs.declared.instruction.FlatInstruction.{FlatInstruction}
-use Rattle.flat_meaning.specs.declared.instruction.FlatInstruction.TheVariants.{Operate}
 use Rattle.flat_meaning.specs.Memory.{put}
 use Rattle.flat_meaning.specs.State.{State}
 use Rattle.flat_meaning.specs.Words.{IsOfWords}
 use Rattle.flat_meaning.specs.Meaning.{Context, Goes}
 use Rattle.flat_meaning.proofs.Stored.{put_same, put_other}
 use Rattle.flat_routines.specs.declared.registers.Held.{Held}
-use Rattle.flat_routines.specs.Registers.{AreBelow, OthersStay}
+use Rattle.flat_routines.specs.Registers.{AreBelow}
 use Rattle.flat_routines.specs.Routine.{HasAt, Outcome, Continues, Halts, Reaches}
 use Rattle.flat_routines.specs.Effects.{effects}
-use Rattle.flat_routines.specs.Metadata.{held_registers, ShowsNothing}
+use Rattle.flat_routines.specs.Metadata.{held_registers}
 use Rattle.flat_routines.proofs.Steps.{has_front, has_back}
 use Rattle.flat_routines.proofs.Rules.{line_on, arrived}
 use Rattle.flat_objects.specs.StandsFor.{Views, Keys}
 use Rattle.flat_actions.specs.Actions.{Ground, Pointer, Word, IsHeldBy, IsFor, HasGiven, Leaves, IsAction, context_in}
 use Rattle.flat_actions.specs.Actions.{views_of, work_of}
-use Rattle.flat_actions.specs.Scanning.{IsWorked, HasScanned, IsScanned, IsScanRoutine}
+use Rattle.flat_actions.specs.Scanning.{IsWorked, HasScanned, IsScanRoutine}
 use Rattle.flat_actions.proofs.Standing.{given_still}
 use Rattle.string_routines.specs.Scanning.{length_given}
 use Rattle.string_routines.proofs.AfterScan.{over, after_scan}
@@ -55,15 +51,18 @@ module _ (ground : Ground) (h : Held) (into line t : ℕ) (below : AreBelow t (i
 
     -- the cursor's distance from the start is the length
     given : (f f' : State) (bytes : List ℕ) (x' : Source) → IsFor g k ground.IsGood x f → f.values h.value ≡ v.word
-        → IsOfWords f → IsWorked x x' → HasScanned v.word bytes t (t + 1) f f' → R f (Gives bytes x') (Continues (after f'))
+        → IsOfWords f → IsWorked x x' → HasScanned v.word bytes t (t + 1) f f'
+        → R f (Gives bytes x') (Continues (after f'))
     unfolding put reg_result
     given f f' bytes x' p word words worked i =
         let kept : f'.values h.value ≡ v.word = i.others h.value (omega (arith, below.1.0)) (not_cursor, tt) ∙ word in
         let cursor = i.cursor_is in let small = i.small in let w = words.values h.value in
         let length_is : (after f').values into ≡ length bytes =
         put_same f'.values into ((f'.values t + (2 ^ 64 - f'.values h.value)) % 2 ^ 64) ∙ omega arith in
-        subst (λ y. HasGiven g k ground.IsGood (Word into) t x f (integer (length bytes)) y (after f')) (sym worked.same)
-        (given_still g k ground.IsGood (Word into) t x x'.work f (after f') (integer (length bytes)) p i.memory (record {
+        subst (λ y. HasGiven g k ground.IsGood (Word into) t x f (integer (length bytes)) y (after f'))
+        (sym worked.same)
+        (given_still g k ground.IsGood (Word into) t x x'.work f (after f') (integer (length bytes)) p i.memory
+        (record {
           input = i.shows.input;
           output = i.shows.output;
           taken = i.shows.taken;
@@ -88,8 +87,8 @@ module _ (ground : Ground) (h : Held) (into line t : ℕ) (below : AreBelow t (i
         (has_front code pc scanning (length_given h t into) has) w (p, a, tt))
         (λ e x' is worked. (
           (let one = ap (λ r. (state_of r).work - x.work) is in
-          let two = ap (λ r. (state_of (on r (λ bytes. done (integer (length bytes))))).work - x.work) is in
-          omega (arith, one, two)),
+              let two = ap (λ r. (state_of (on r (λ bytes. done (integer (length bytes))))).work - x.work) is in
+              omega (arith, one, two)),
           λ f' shows. subst (λ r. R f r (Halts (code_of e) (report_of e) f')) (sym is)
               (over x x' e f f' p.shown worked shows),
         ))

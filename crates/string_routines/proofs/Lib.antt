@@ -9,4 +9,11 @@ pub mod Fresh
 pub mod Between
 pub mod PutLoop
 pub mod PutsActs
-pub mod Joins
+pub mod Made
+pub mod Written
+pub mod Handing
+pub mod StringWritten
+pub mod StringCopies
+pub mod CopyActs
+pub mod FilledUp
+pub mod BoundedActs

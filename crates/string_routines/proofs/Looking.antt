@@ -1,5 +1,5 @@
 -- A byte looked at in the source.
-use Rattle.std.proofs.Common.{◌≡◌, ◌≢◌, ℕ, zero, suc, ◌+◌, ◌-◌, ◌%◌, ◌^◌, ◌<◌, ◌≤◌, List, [], ◌∷◌, Bool, true, false}
+use Rattle.std.proofs.Common.{◌≡◌, ◌≢◌, ℕ, zero, suc, ◌+◌, ◌-◌, ◌≤◌, List, [], ◌∷◌, Bool, true, false}
 use Rattle.std.proofs.Common.{◌==◌, ◌&&◌, if◌then◌else◌, get_or, drop, take, refl, sym, ap, ◌∙◌, subst, arith}
 use Rattle.std.specs.Prelude.{nat_le, slice_index}
 use Rattle.std.proofs.lemmas.Bool.{le-leb, lt-leb, leb-true, and_from, and_right, cond-true, cond-false}
@@ -20,10 +20,10 @@ use Rattle.obj_memory.specs.Integers.{fit, size_of}
 use Rattle.obj_memory.specs.Access.{read_value}
 use Rattle.obj_memory.specs.Sound.{IsSound}
 use Rattle.source_meaning.specs.State.{State as Source, Outcome as Completed, Gives, Ended, Run, on, ◌>>=◌, done, stop}
-use Rattle.source_meaning.specs.State.{choose}
-use Rattle.source_meaning.specs.Acting.{at_work}
+use Rattle.source_meaning.specs.State.{Paused, choose}
+use Rattle.source_meaning.specs.Acting.{state_of, at_work}
 use Rattle.source_meaning.specs.Bytes.{look}
-use Rattle.source_meaning.specs.Strings.{reach_by, reach, scan_within}
+use Rattle.source_meaning.specs.Strings.{reach_by, reach, scan_within, scan}
 use Rattle.flat_actions.proofs.Judged.{judged_then, located_then}
 
 first_of : (bs : List ℕ) → slice_index (take 1 bs) 0 ≡ get_or bs 0 0
@@ -60,7 +60,8 @@ worked_on n x = at_work (x.work + n) x
 
 -- a look by the verdict on it
 pub looked_by : (x : Source) (v : Value) (line : ℕ) (w : Verdict) → judge 1 v x.objects ≡ w
-    → look v line x ≡ judged_then w line x (λ p. Gives (read_value (Integer UnsignedChar) p x.objects).word (worked_on 1 x))
+    → look v line x ≡ judged_then w line x (λ p. Gives (read_value (Integer UnsignedChar) p x.objects).word
+    (worked_on 1 x))
 looked_by x v line w e =
     located_then 1 v line x _
     ∙ ap (λ w. judged_then w line x (λ p. Gives (read_value (Integer UnsignedChar) p x.objects).word (worked_on 1 x))) e
@@ -127,9 +128,10 @@ abbrev pub with_first : (count : ℕ) → (behind : Run (List ℕ)) → Value �
 with_first k behind v line byte =
     choose (byte == 0) (done []) (scan_within k behind (moved 1 v) line >>= (λ others. done (byte ∷ others)))
 
-pub scan_by : (k : ℕ) (behind : Run (List ℕ)) (x : Source) (v : Value) (line : ℕ) (w : Verdict) → judge 1 v x.objects ≡ w
-    → scan_within (suc k) behind v line x
-    ≡ judged_then w line x (λ p. with_first k behind v line (read_value (Integer UnsignedChar) p x.objects).word (worked_on 1 x))
+pub scan_by : (k : ℕ) (behind : Run (List ℕ)) (x : Source) (v : Value) (line : ℕ) (w : Verdict)
+    → judge 1 v x.objects ≡ w → scan_within (suc k) behind v line x
+    ≡ judged_then w line x (λ p. with_first k behind v line (read_value (Integer UnsignedChar) p x.objects).word
+    (worked_on 1 x))
 scan_by k behind x v line Outside e = ap (λ r. on r (with_first k behind v line)) (looked_by x v line Outside e)
 scan_by k behind x v line Dead e = ap (λ r. on r (with_first k behind v line)) (looked_by x v line Dead e)
 scan_by k behind x v line (Inside p) e = ap (λ r. on r (with_first k behind v line)) (looked_by x v line (Inside p) e)
@@ -155,3 +157,38 @@ beyond objects n b v tag at =
     ∙ cond-false (nat_le b.base v.word && nat_le (v.word + 1) b.bound)
     (if (object_at objects n).is_live then Inside (place_in objects n v.word) else Dead) Outside
     (and_right (nat_le b.base v.word) (nat_le (v.word + 1) b.bound) (lt-leb (v.word + 1) b.bound (omega arith)))
+
+-- a scan takes no work back
+pub scan_within_works : (k : ℕ) (behind : Run (List ℕ)) (x : Source) (v : Value) (line : ℕ)
+    → ((y : Source) → y.work ≤ (state_of (behind y)).work) → x.work ≤ (state_of (scan_within k behind v line x)).work
+scan_within_works zero behind x v line h = h x
+scan_within_works (suc k) behind x v line h =
+    by (scan_within_works k behind (worked_on 1 x) (moved 1 v) line h) (judge 1 v x.objects) refl
+  where
+    added : (byte : ℕ) (r : Completed (List ℕ)) → x.work + 1 ≤ (state_of r).work
+        → x.work + 1 ≤ (state_of (on r (λ others. done (byte ∷ others)))).work
+    added byte (Gives bytes y) le = le
+    added byte (Ended e y) le = le
+    added byte (Paused y) le = le
+
+    chosen : x.work + 1 ≤ (state_of (scan_within k behind (moved 1 v) line (worked_on 1 x))).work
+        → (b : Bool) (byte : ℕ)
+        → x.work ≤ (state_of (choose b (done []) (scan_within k behind (moved 1 v) line >>=
+        (λ others. done (byte ∷ others)))
+        (worked_on 1 x))).work
+    chosen rest true byte = omega arith
+    chosen rest false byte =
+        let le = added byte (scan_within k behind (moved 1 v) line (worked_on 1 x)) rest in omega arith
+
+    by : x.work + 1 ≤ (state_of (scan_within k behind (moved 1 v) line (worked_on 1 x))).work
+        → (w : Verdict) → judge 1 v x.objects ≡ w → x.work ≤ (state_of (scan_within (suc k) behind v line x)).work
+    by rest Outside e = subst (λ r. x.work ≤ (state_of r).work) (sym (scan_by k behind x v line Outside e))
+        (omega arith)
+    by rest Dead e = subst (λ r. x.work ≤ (state_of r).work) (sym (scan_by k behind x v line Dead e)) (omega arith)
+    by rest (Inside p) e =
+        let byte = (read_value (Integer UnsignedChar) p x.objects).word in
+        subst (λ r. x.work ≤ (state_of r).work) (sym (scan_by k behind x v line (Inside p) e))
+        (chosen rest (byte == 0) byte)
+
+pub scan_works : (x : Source) (v : Value) (line : ℕ) → x.work ≤ (state_of (scan v line x)).work
+scan_works x v line = scan_within_works (reach v) (stop (Spatial line)) x v line (λ y. omega arith)

@@ -1,17 +1,13 @@
 -- The loop that puts the bytes of a range out.
-use Rattle.std.proofs.Common.{◌≡◌, ◌≢◌, ℕ, zero, suc, ◌+◌, ◌-◌, ◌*◌, ◌%◌, ◌^◌, ◌<◌, ◌≤◌, ◌⊎◌, inl, inr, ⊎_elim, List, []}
+use Rattle.std.proofs.Common.{◌≡◌, ◌≢◌, ℕ, zero, suc, ◌+◌, ◌*◌, ◌%◌, ◌^◌, ◌<◌, ◌≤◌, ◌⊎◌, inl, inr, List, []}
 use Rattle.std.proofs.Common.{◌∷◌, ◌++◌, true, false, length, get_or, refl, sym, ap, ◌∙◌, subst, arith, append_assoc}
 use Rattle.std.proofs.lemmas.Bool.{cases_eq, eq-eqb, ne_eqb}
 use Rattle.std.proofs.lemmas.List.{append-nil}
 use Rattle.addr_map.specs.Places.{MapSizes}
-use Rattle.behaviours.specs.Shown.{Read}
 use Rattle.rv_isa.specs.declared.instruction.BranchOp.TheVariants.{Beq}
-use Rattle.rv_isa.specs.declared.instruction.RegOp.TheVariants.{Add}
-use Rattle.rv_isa.specs.declared.instruction.LoadOp.TheVariants.{Lbu}
 use Rattle.rv_isa.specs.Results.{reg_result, extended, branch_taken}
-use Rattle.flat_meaning.specs.declared.instruction.RightOperand.TheVariants.{Register, Number}
-use Rattle.flat_meaning.specs.declared.instruction.FlatInstruction.{FlatInstruction}
-use Rattle.flat_meaning.specs.declared.instruction.FlatInstruction.TheVariants.{Move, Operate, Load, Put, JumpBack}
+use Rattle.flat_meaning.specs.declared.instruction.RightOperand.TheVariants.{Register}
+use Rattle.flat_meaning.specs.declared.instruction.FlatInstruction.TheVariants.{Move, JumpBack}
 use Rattle.flat_meaning.specs.Memory.{Bytes, put, load}
 use Rattle.flat_meaning.specs.Spaces.{is_allowed}
 use Rattle.flat_meaning.specs.State.{State}
@@ -19,16 +15,17 @@ use Rattle.flat_meaning.specs.Words.{IsOfWords}
 use Rattle.flat_meaning.specs.Meaning.{Context, Goes}
 use Rattle.flat_meaning.proofs.Stored.{put_other}
 use Rattle.flat_routines.specs.Registers.{AreBelow}
-use Rattle.flat_routines.specs.Routine.{HasAt, Outcome, Continues, Halts, Reaches, Does, Either, Never}
+use Rattle.flat_routines.specs.Routine.{Reaches, Either, Never}
 use Rattle.flat_routines.specs.Effects.{worked, effects}
-use Rattle.flat_routines.specs.Renaming.{through, Agrees, ChangesOnly}
+use Rattle.flat_routines.specs.Renaming.{through}
 use Rattle.flat_routines.proofs.Steps.{has_front, has_self}
 use Rattle.flat_routines.proofs.Rules.{weaken, line, line_on, loop}
 use Rattle.flat_routines.proofs.Distinct.{AreRegisters, register_of, registers_rename, others_stay}
 use Rattle.flat_routines.proofs.Wrapped.{routine}
 use Rattle.shadow_space.proofs.Entries.{context_of, agrees_memory}
+use Rattle.flat_actions.specs.Ranges.{IsObjectRange}
+use Rattle.moving_routines.proofs.Bytes.{byte_loaded, object_allowed}
 use Rattle.string_routines.specs.Putting.{bytes_from, IsToPut, HasPut, IsPutRoutine, put_body, put_code}
-use Rattle.string_routines.proofs.Runtime.{runtime_not_shown}
 
 -- alone: 0 from, 1 to, 2 the cursor, 3 the byte; k bytes are left of n
 record Putting (start : State) (n k : ℕ) (v : State) : Type 0 where
@@ -43,10 +40,6 @@ record Putting (start : State) (n k : ℕ) (v : State) : Type 0 where
   taken : v.taken ≡ start.taken
   accesses : v.accesses ≡ start.accesses
   turns : v.turns ≡ start.turns
-
-one_loaded : (m : Bytes) (a : ℕ) → load 1 m a ≡ m a
-unfolding load
-one_loaded m a = omega arith
 
 at_end : (a b : ℕ) → a ≡ b → branch_taken Beq a b ≡ true
 unfolding branch_taken
@@ -96,7 +89,7 @@ module _ (map : MapSizes) (charge weight n : ℕ) (start : State) (words : IsOfW
       let m = start.memory in
       let at : (v.values 2 + 0) % 2 ^ 64 ≡ a + d = omega arith in
       let is : load 1 v.memory ((v.values 2 + 0) % 2 ^ 64) ≡ m (a + d) =
-      ap (load 1 v.memory) at ∙ one_loaded v.memory (a + d) ∙ ap (λ f. f (a + d)) w.memory in
+      ap (load 1 v.memory) at ∙ byte_loaded v.memory (a + d) ∙ ap (λ f. f (a + d)) w.memory in
       let byte = words.memory (a + d) in
       let low : m (a + d) % 256 ≡ m (a + d) = omega arith in
       let shown = ap (λ z. z % 256) is ∙ low in
@@ -107,8 +100,8 @@ module _ (map : MapSizes) (charge weight n : ℕ) (start : State) (words : IsOfW
         cursor = omega arith;
         end = w.end;
         memory = w.memory;
-        output = append_assoc v.output (load 1 v.memory ((v.values 2 + 0) % 2 ^ 64) % 256 ∷ []) (bytes_from k m (a + suc d))
-            ∙ ap (λ z. v.output ++ z ∷ bytes_from k m (a + suc d)) shown
+        output = append_assoc v.output (load 1 v.memory ((v.values 2 + 0) % 2 ^ 64) % 256 ∷ [])
+            (bytes_from k m (a + suc d)) ∙ ap (λ z. v.output ++ z ∷ bytes_from k m (a + suc d)) shown
             ∙ ap (λ z. v.output ++ m (a + d) ∷ bytes_from k m z) (sym next)
             ∙ w.output;
         input = w.input;
@@ -161,8 +154,10 @@ module _ (map : MapSizes) (charge weight n : ℕ) (start : State) (words : IsOfW
           (Either (λ s'. (i : ℕ) × (i ≤ j) × I i (worked c s')) Never))
           ⊎ ((branch_taken Beq (v.values 2) (v.values 1) ≡ true) × I 0 (worked c v))
       one_turn zero v fits w =
-          inr (at_end (v.values 2) (v.values 1) (let a = w.cursor in let b = w.end in let n = w.count in omega arith),
-          counted 0 v w)
+          inr (
+            at_end (v.values 2) (v.values 1) (let a = w.cursor in let b = w.end in let n = w.count in omega arith),
+            counted 0 v w,
+          )
       one_turn (suc k) v fits w =
           inl (
             before_end (v.values 2) (v.values 1)
@@ -172,9 +167,12 @@ module _ (map : MapSizes) (charge weight n : ℕ) (start : State) (words : IsOfW
             line c (put_code 0 1 2) (put_body 2 3) 2 (worked c v)
                 (λ s'. (i : ℕ) × (i ≤ k) × I i (worked c s')) Never
                 (allowed k v w, (tt, (tt, tt)))
-                (has_front (put_code 0 1 2) 2 (put_body 2 3) (JumpBack 4 ∷ []) (has_self (put_code 0 1 2)).1.1)
-                (k, omega arith, counted k _ (turn k (worked c v)
-                (record { values = fits.values; memory = fits.memory }) (counted (suc k) v w))),
+                (has_front (put_code 0 1 2) 2 (put_body 2 3) (JumpBack 4 ∷ []) (has_self (put_code 0 1 2)).1.1) (
+                  k,
+                  omega arith,
+                  counted k _ (turn k (worked c v)
+                      (record { values = fits.values; memory = fits.memory }) (counted (suc k) v w)),
+                ),
           )
 
 -- by any registers
@@ -220,3 +218,13 @@ same_bytes m a (b ∷ bs) h =
     let rest = same_bytes m (a + 1) bs (λ i l.
     let e : a + suc i ≡ a + 1 + i = omega arith in subst (λ k. m k ≡ get_or bs i 0) e (h (suc i) (omega arith))) in
     ap (λ z. z ∷ bytes_from (length bs) m (a + 1)) first ∙ ap (λ l. b ∷ l) rest
+
+-- bytes of object space may be put out
+pub range_to_put : (map : MapSizes) (from to n : ℕ) (s : State) → IsObjectRange map (s.values from) n
+    → s.values to ≡ s.values from + n → IsToPut map from to n s
+range_to_put map from to n s range end =
+    let first = range.first in let last = range.last in
+    record {
+      end_is = end;
+      allowed = λ i l. object_allowed map (s.values from + i) (s.values from + i) 1 refl (omega arith) (omega arith);
+    }

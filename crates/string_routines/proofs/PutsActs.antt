@@ -1,15 +1,10 @@
 -- `puts` as a whole action.
-use Rattle.std.proofs.Common.{◌≡◌, ℕ, ◌+◌, ◌-◌, ◌*◌, ◌%◌, ◌^◌, ◌<◌, ◌≤◌, List, [], ◌∷◌, ◌++◌, length, true, refl, sym, ap}
+use Rattle.std.proofs.Common.{◌≡◌, ℕ, ◌+◌, ◌-◌, ◌*◌, ◌%◌, ◌<◌, List, [], ◌∷◌, ◌++◌, length, true, refl, sym, ap}
 use Rattle.std.proofs.Common.{◌∙◌, subst, arith, length-append, append_assoc}
-use Rattle.sb_base.specs.declared.ending.Ending.{Ending}
 use Rattle.sb_base.specs.Endings.{code_of, report_of}
-use Rattle.addr_map.specs.declared.region.Region.TheVariants.{Heap}
-use Rattle.addr_map.specs.Places.{objects_begin, region_end}
 use Rattle.obj_memory.specs.declared.value.Value.{Value}
-use Rattle.source_meaning.specs.State.{State as Source, Outcome as Completed, Gives, Ended, on, ◌>>◌, done}
-use Rattle.source_meaning.specs.State.{stop}
-use Rattle.sb_base.specs.declared.ending.Ending.TheVariants.{Spatial}
-use Rattle.source_meaning.specs.Acting.{state_of, at_work}
+use Rattle.source_meaning.specs.State.{State as Source, Outcome as Completed, Gives, on, ◌>>◌, done}
+use Rattle.source_meaning.specs.Acting.{state_of}
 use Rattle.source_meaning.specs.Actions.{integer, put_bytes}
 use Rattle.source_meaning.specs.Strings.{scan}
 use Rattle.source_meaning.specs.Printing.{puts}
@@ -21,22 +16,23 @@ use Rattle.flat_meaning.specs.Words.{IsOfWords}
 use Rattle.flat_meaning.specs.Meaning.{Context, Goes}
 use Rattle.flat_meaning.proofs.Stored.{put_same, put_other}
 use Rattle.flat_routines.specs.declared.registers.Held.{Held}
-use Rattle.flat_routines.specs.Registers.{AreBelow, OthersStay}
+use Rattle.flat_routines.specs.Registers.{AreBelow}
 use Rattle.flat_routines.specs.Routine.{HasAt, Outcome, Continues, Halts, Reaches, Either, Never}
 use Rattle.flat_routines.specs.Effects.{effects}
-use Rattle.flat_routines.specs.Metadata.{held_registers, ShowsNothing}
+use Rattle.flat_routines.specs.Metadata.{held_registers}
 use Rattle.flat_routines.proofs.Steps.{has_front, has_back}
-use Rattle.flat_routines.proofs.Rules.{weaken, next, line_on, arrived}
+use Rattle.flat_routines.proofs.Rules.{next, line_on, arrived}
 use Rattle.flat_objects.specs.StandsFor.{Views, Keys, StandsFor}
 use Rattle.flat_actions.specs.Actions.{Ground, Pointer, Word, IsHeldBy, IsFor, HasGiven, Leaves, IsAction, context_in}
 use Rattle.flat_actions.specs.Actions.{views_of, work_of}
-use Rattle.flat_actions.specs.Scanning.{IsWorked, HasScanned, IsScanned, IsScanRoutine}
+use Rattle.flat_actions.specs.Ranges.{IsObjectRange}
+use Rattle.flat_actions.specs.Scanning.{IsWorked, HasScanned, IsScanRoutine}
 use Rattle.flat_actions.proofs.Standing.{good_still, keeps_same, stays_same}
 use Rattle.string_routines.specs.Putting.{bytes_from, IsToPut, HasPut, IsPutRoutine, newline_given}
 use Rattle.string_routines.proofs.AfterScan.{over, after_scan}
-use Rattle.string_routines.proofs.Between.{scan_between, range_of}
-use Rattle.string_routines.proofs.PutLoop.{same_bytes}
-use Rattle.string_routines.proofs.Runtime.{objects_allowed, does_in}
+use Rattle.string_routines.proofs.Between.{scanned_range}
+use Rattle.string_routines.proofs.PutLoop.{same_bytes, range_to_put}
+use Rattle.string_routines.proofs.Runtime.{does_in}
 
 -- The scan ends with the cursor at the 0 byte; from the start up to there the bytes are put out.
 module _ (ground : Ground) (runtime : ground.is_runtime ≡ true) (h : Held) (into line t : ℕ)
@@ -130,15 +126,13 @@ module _ (ground : Ground) (runtime : ground.is_runtime ≡ true) (h : Held) (in
         let n = length bytes in
         let kept : f'.values h.value ≡ v.word =
         i.others h.value (omega (arith, below.1.0)) ((λ e. omega (arith, e, below.1.0)), tt) ∙ a.0.word in
-        let range = range_of g k (stop (Spatial line)) x.objects v n f.memory p.objects a.1
-        (scan_between functions line x v bytes x' p.objects.sound a.1 is) in
-        let first = range.first in let last = range.last in let cursor = i.cursor_is in
+        let range = scanned_range g k line x v bytes x' f.memory p.objects a.1 is in
+        let cursor = i.cursor_is in
         let run = (does_in ground runtime charge weight putting (IsToPut ground.map h.value t n) (λ s. 2 + 5 * n)
         (λ s. Either (HasPut h.value n (t + 1) s) Never) (puts_all n charge weight)).from code pc f'
-        (has_front code pc putting (newline_given into (t + 1)) has) words (record {
-          end_is = omega arith;
-          allowed = λ j less. objects_allowed ground.map (f'.values h.value + j) 1 (omega arith) (omega arith);
-        }) in
+        (has_front code pc putting (newline_given into (t + 1)) has) words
+        (range_to_put ground.map h.value t n f' (subst (λ z. IsObjectRange ground.map z n) (sym kept) range)
+        (omega arith)) in
         next c code (2 + 5 * n) 3 (Goes pc f') (pc + length putting) (pc + length putting + 3)
         (HasPut h.value n (t + 1) f') Never (R f (Gives bytes x')) words run
         (λ z wz put. line_on c code (newline_given into (t + 1)) 0 (pc + length putting) z (pc + length putting + 3)
@@ -159,7 +153,7 @@ module _ (ground : Ground) (runtime : ground.is_runtime ≡ true) (h : Held) (in
         ((scans functions types k x v charge weight).from code pc f (has_front code pc scanning rest has) w (p, a, tt))
         (λ e x' is worked. (
           (let one = ap (λ r. (state_of r).work - x.work) is in
-          let two = ap (λ r. (state_of (after r)).work - x.work) is in omega (arith, one, two)),
+              let two = ap (λ r. (state_of (after r)).work - x.work) is in omega (arith, one, two)),
           λ f' shows. subst (λ r. R f r (Halts (code_of e) (report_of e) f')) (sym is)
               (over x x' e f f' p.shown worked shows),
         ))
@@ -168,9 +162,10 @@ module _ (ground : Ground) (runtime : ground.is_runtime ≡ true) (h : Held) (in
         let two = ap (λ r. (state_of (after r)).work - x.work) is in
         omega (arith, one, two, length-append bytes (10 ∷ [])))
         (λ bytes x' is f' words worked i.
-        subst (λ r. Reaches c code ((2 + 5 * length bytes) + 3) (Goes (pc + length scanning) f') (pc + length items) (R f r))
-        (sym is)
-        (subst (λ e. Reaches c code ((2 + 5 * length bytes) + 3) (Goes (pc + length scanning) f') e (R f (Gives bytes x')))
+        subst (λ r. Reaches c code ((2 + 5 * length bytes) + 3) (Goes (pc + length scanning) f') (pc + length items)
+        (R f r)) (sym is)
+        (subst (λ e. Reaches c code ((2 + 5 * length bytes) + 3) (Goes (pc + length scanning) f') e
+        (R f (Gives bytes x')))
         len (out code (pc + length scanning) f f' bytes x' (has_back code pc scanning rest has) words p a is worked i)))
 
   pub puts_acts : IsAction ground (λ vs. puts (argument 0 vs) line) (Pointer h ∷ []) (Word into) t 21 8 items

@@ -1,12 +1,8 @@
 -- Accesses of functions of the runtime.
-use Rattle.std.proofs.Common.{◌≡◌, ℕ, ◌+◌, ◌≤◌, List, [], ◌∷◌, ◌++◌, true, not, ◌&&◌, ◌||◌, if◌then◌else◌, ap, sym, ◌∙◌}
+use Rattle.std.proofs.Common.{◌≡◌, ℕ, List, [], ◌∷◌, ◌++◌, true, not, ◌&&◌, if◌then◌else◌, ap, sym}
 use Rattle.std.proofs.Common.{subst}
-use Rattle.std.specs.Prelude.{nat_le}
-use Rattle.std.proofs.lemmas.Bool.{le-leb}
-use Rattle.addr_map.specs.declared.region.Region.TheVariants.{Heap}
-use Rattle.addr_map.specs.Places.{MapSizes, objects_begin, region_end}
 use Rattle.behaviours.specs.Shown.{Access, AccessKind}
-use Rattle.flat_meaning.specs.Spaces.{is_of_objects, is_of_runtime, is_allowed}
+use Rattle.flat_meaning.specs.Spaces.{is_of_objects}
 use Rattle.flat_meaning.specs.Meaning.{Context}
 use Rattle.flat_meaning.specs.declared.instruction.FlatInstruction.{FlatInstruction}
 use Rattle.flat_meaning.specs.State.{State}
@@ -20,13 +16,6 @@ pub runtime_not_shown : (c : Context) → c.is_runtime ≡ true → (a n : ℕ) 
 runtime_not_shown c runtime a n kind accesses =
     ap (λ z. if not z && is_of_objects c.sizes a n
     then accesses ++ record { address = a; size = n; kind = kind } ∷ [] else accesses) runtime
-
--- accesses of object space are allowed
-pub objects_allowed : (m : MapSizes) (a n : ℕ) → objects_begin ≤ a → a + n ≤ region_end m Heap
-    → is_allowed m a n ≡ true
-objects_allowed m a n lo hi =
-    ap (λ b. (b && nat_le (a + n) (region_end m Heap)) || is_of_runtime m a n) (le-leb objects_begin a lo)
-    ∙ ap (λ b. b || is_of_runtime m a n) (le-leb (a + n) (region_end m Heap) hi)
 
 -- what a routine does in functions of the runtime, it does under a ground that is one of them
 pub does_in : (ground : Ground) → ground.is_runtime ≡ true → (charge weight : ℕ) (r : List FlatInstruction)

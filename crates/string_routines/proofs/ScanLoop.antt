@@ -1,6 +1,6 @@
 -- The loop that scans a string finds what the source finds, whatever stands behind the count of bytes.
-use Rattle.std.proofs.Common.{◌≡◌, ◌≢◌, ℕ, zero, suc, ◌+◌, ◌-◌, ◌*◌, ◌%◌, ◌^◌, ◌<◌, ◌≤◌, ◌⊎◌, inl, inr, ⊎_elim, List, []}
-use Rattle.std.proofs.Common.{◌∷◌, ◌++◌, true, false, ◌==◌, length, get_or, refl, sym, ap, ◌∙◌, subst, arith}
+use Rattle.std.proofs.Common.{◌≡◌, ◌≢◌, ℕ, zero, suc, ◌+◌, ◌-◌, ◌*◌, ◌%◌, ◌^◌, ◌<◌, ◌≤◌, ◌⊎◌, inl, inr, List, []}
+use Rattle.std.proofs.Common.{◌∷◌, true, false, ◌==◌, length, get_or, refl, sym, ap, ◌∙◌, subst, arith}
 use Rattle.std.proofs.lemmas.Bool.{cases_eq, eq-eqb, ne_eqb, eqb-true, eqb-false}
 use Rattle.sb_base.specs.declared.ending.Ending.TheVariants.{Spatial}
 use Rattle.sb_base.specs.Endings.{code_of, report_of}
@@ -15,7 +15,8 @@ use Rattle.obj_memory.specs.declared.value.Value.{Value}
 use Rattle.obj_memory.specs.Objects.{Objects, object_at}
 use Rattle.obj_memory.specs.Judgement.{moved}
 use Rattle.obj_memory.specs.Sound.{IsSound}
-use Rattle.source_meaning.specs.State.{State as Source, Outcome as Completed, Gives, Ended, Paused, Run, on, ◌>>=◌, done}
+use Rattle.source_meaning.specs.State.{State as Source, Outcome as Completed, Gives, Ended, Paused, Run, on, ◌>>=◌}
+use Rattle.source_meaning.specs.State.{done}
 use Rattle.source_meaning.specs.State.{choose}
 use Rattle.source_meaning.specs.Acting.{state_of}
 use Rattle.source_meaning.specs.Strings.{scan_within}
@@ -23,17 +24,17 @@ use Rattle.flat_meaning.specs.declared.instruction.RightOperand.TheVariants.{Reg
 use Rattle.flat_meaning.specs.declared.instruction.FlatInstruction.{FlatInstruction}
 use Rattle.flat_meaning.specs.declared.instruction.FlatInstruction.TheVariants.{Operate, Load, Branch, JumpBack, End}
 use Rattle.flat_meaning.specs.Memory.{Bytes, put, load}
-use Rattle.flat_meaning.specs.Spaces.{is_of_objects, is_allowed}
+use Rattle.flat_meaning.specs.Spaces.{is_allowed}
 use Rattle.flat_meaning.specs.State.{State}
 use Rattle.flat_meaning.specs.Meaning.{Context, Goes}
-use Rattle.flat_routines.specs.Local.{counted}
 use Rattle.flat_routines.specs.Routine.{HasAt, Outcome, Continues, Halts, Reaches}
-use Rattle.flat_routines.specs.Effects.{with_shown, worked, effects}
+use Rattle.flat_routines.specs.Effects.{worked, effects}
 use Rattle.flat_routines.specs.Metadata.{ShowsNothing}
 use Rattle.flat_routines.proofs.Rules.{weaken, line_on, branch, arrived, ended, jump_back}
 use Rattle.behaviours.specs.Shown.{Read}
 use Rattle.heap_space.proofs.Regions.{if_differ, if_same}
 use Rattle.flat_actions.specs.Scanning.{IsWorked}
+use Rattle.moving_routines.proofs.Bytes.{byte_loaded}
 use Rattle.string_routines.specs.Scanning.{scan_loop}
 use Rattle.string_routines.proofs.Looking.{worked_on, looked}
 use Rattle.string_routines.proofs.Runtime.{runtime_not_shown}
@@ -73,8 +74,7 @@ one_work x = record { work = omega arith; same = refl }
 one_more : (s : State) (x : Source) (word byte : ℕ) (r : Completed (List ℕ)) (o : Outcome) → s.memory word ≡ byte
     → Found s (worked_on 1 x) (word + 1) r o → Found s x word (on r (λ others. done (byte ∷ others))) o
 one_more s x word byte (Gives bytes x') (Continues v) first h =
-    let worked = h.0.work in let c = h.1.cursor_is in let small = h.1.small in
-    (
+    let worked = h.0.work in let c = h.1.cursor_is in let small = h.1.small in (
       record { work = omega arith; same = h.0.same },
       record { cursor_is = omega arith; small = omega arith; there = at; memory = h.1.memory; shows = h.1.shows },
     )
@@ -90,7 +90,8 @@ one_more s x word byte (Gives bytes x') (Halts status report v) first h = absurd
 one_more s x word byte (Ended e x') (Continues v) first h = absurd h
 one_more s x word byte (Paused x') o first h = absurd h
 
-same_work : (r : Completed (List ℕ)) (byte : ℕ) → (state_of (on r (λ others. done (byte ∷ others)))).work ≡ (state_of r).work
+same_work : (r : Completed (List ℕ)) (byte : ℕ)
+    → (state_of (on r (λ others. done (byte ∷ others)))).work ≡ (state_of r).work
 same_work (Gives bytes x') byte = refl
 same_work (Ended e x') byte = refl
 same_work (Paused x') byte = refl
@@ -98,10 +99,6 @@ same_work (Paused x') byte = refl
 cursor_kept : (f : State) (v : ℕ) → put f.values 7 v 6 ≡ f.values 6
 unfolding put
 cursor_kept f v = refl
-
-one_loaded : (m : Bytes) (a : ℕ) → load 1 m a ≡ m a
-unfolding load
-one_loaded m a = omega arith
 
 pub if_equal : (a b : ℕ) → branch_taken Beq a b ≡ true → a ≡ b
 unfolding branch_taken
@@ -220,7 +217,7 @@ module _ (c : Context) (runtime : c.is_runtime ≡ true) (code : List FlatInstru
       let a : (f.values 6 + 0) % 2 ^ 64 ≡ v.word = omega arith in
       let there = string.bytes v.word h.from below in
       record {
-        byte = ap (load 1 f.memory) a ∙ one_loaded f.memory v.word ∙ ap (λ m. m v.word) h.memory ∙ there;
+        byte = ap (load 1 f.memory) a ∙ byte_loaded f.memory v.word ∙ ap (λ m. m v.word) h.memory ∙ there;
         there = there;
         allowed = ap (λ z. is_allowed c.sizes z 1) a ∙ string.allowed v.word h.from below;
         shows = shows_on f (loaded f) h.shows refl refl refl (runtime_not_shown c runtime _ 1 Read f.accesses) refl;
@@ -266,12 +263,14 @@ module _ (c : Context) (runtime : c.is_runtime ≡ true) (code : List FlatInstru
       others = scan_within k behind (moved 1 v) line (worked_on 1 x)
 
       first : scan_within (suc k) behind v line x
-          ≡ choose (byte == 0) (done []) (scan_within k behind (moved 1 v) line >>= (λ bs. done (byte ∷ bs))) (worked_on 1 x)
+          ≡ choose (byte == 0) (done []) (scan_within k behind (moved 1 v) line >>= (λ bs. done (byte ∷ bs)))
+          (worked_on 1 x)
       first =
           let live = subst (λ os. (object_at os n).is_live ≡ true) (sym h.objects_are) string.live in
-          ap (λ r. on r (λ z. choose (z == 0) (done []) (scan_within k behind (moved 1 v) line >>= (λ bs. done (z ∷ bs)))))
-          (looked functions x n b v line (subst (IsSound functions) (sym h.objects_are) string.sound) h.tag_is live h.from
-          (omega arith)
+          ap (λ r. on r (λ z. choose (z == 0) (done []) (scan_within k behind (moved 1 v) line >>=
+          (λ bs. done (z ∷ bs)))))
+          (looked functions x n b v line (subst (IsSound functions) (sym h.objects_are) string.sound) h.tag_is live
+          h.from (omega arith)
           ∙ ap (λ os. Gives (get_or (object_at os n).bytes (v.word - (object_at os n).address) 0) (worked_on 1 x))
           h.objects_are)
 
@@ -281,8 +280,8 @@ module _ (c : Context) (runtime : c.is_runtime ≡ true) (code : List FlatInstru
       by : (byte ≡ 0) ⊎ (byte ≢ 0) → Scans pc 0 (suc k) x v f
       by (inl none) =
           let is : scan_within (suc k) behind v line x ≡ Gives [] (worked_on 1 x) = first
-          ∙ ap (λ z. choose z (done []) (scan_within k behind (moved 1 v) line >>= (λ bs. done (byte ∷ bs))) (worked_on 1 x))
-          (eq-eqb byte 0 none) in
+          ∙ ap (λ z. choose z (done []) (scan_within k behind (moved 1 v) line >>= (λ bs. done (byte ∷ bs)))
+          (worked_on 1 x)) (eq-eqb byte 0 none) in
           let R = Found start x v.word (Gives [] (worked_on 1 x)) in
           let p = h.cursor_is in let small = string.small in
           record {
@@ -306,23 +305,25 @@ module _ (c : Context) (runtime : c.is_runtime ≡ true) (code : List FlatInstru
       by (inr some) =
           let r = rest (moves_on k x v f below h l.shows) in
           let is : scan_within (suc k) behind v line x ≡ on others (λ bs. done (byte ∷ bs)) = first
-          ∙ ap (λ z. choose z (done []) (scan_within k behind (moved 1 v) line >>= (λ bs. done (byte ∷ bs))) (worked_on 1 x))
-          (ne_eqb byte 0 some) in
+          ∙ ap (λ z. choose z (done []) (scan_within k behind (moved 1 v) line >>= (λ bs. done (byte ∷ bs)))
+          (worked_on 1 x)) (ne_eqb byte 0 some) in
           let R = Found start x v.word (on others (λ bs. done (byte ∷ bs))) in
           record {
             spent = suc r.spent;
             work = ap (λ r. (state_of r).work) is ∙ same_work others byte ∙ r.work ∙ omega arith;
-            reaches = subst (λ z. Reaches c code (6 * suc r.spent + 0) (Goes pc f) end (Found start x v.word z)) (sym is)
+            reaches = subst (λ z. Reaches c code (6 * suc r.spent + 0) (Goes pc f) end (Found start x v.word z))
+                (sym is)
                 (weaken c code (1 + suc (1 + (6 * r.spent + 3))) (6 * suc r.spent + 0) (Goes pc f) end R R (omega arith)
                 (λ o i. i)
-                (line_on c code (Load Lbu 7 6 0 ∷ []) (suc (1 + (6 * r.spent + 3))) pc f end R (l.allowed, tt) (has.0, tt)
+                (line_on c code (Load Lbu 7 6 0 ∷ []) (suc (1 + (6 * r.spent + 3))) pc f end R (l.allowed, tt)
+                (has.0, tt)
                 (branch c code (1 + (6 * r.spent + 3)) (pc + 1) (loaded f) Beq 7 (Number 0) (4 + length limited) end R
                 has.1.0
                 (λ t. absurd (some (sym l.byte ∙ if_equal _ 0 t)))
-                (λ t. line_on c code (Operate Add 6 6 (Number 1) ∷ []) (6 * r.spent + 3) (pc + 1 + 1) (worked c (loaded f))
-                end R (tt, tt) (has.1.1.0, tt)
-                (weaken c code (6 * r.spent + 3) (6 * r.spent + 3) (Goes (pc + 1 + 1 + 1) (stepped f)) end _ R (omega arith)
-                (λ o i. one_more start x v.word byte others o l.there
+                (λ t. line_on c code (Operate Add 6 6 (Number 1) ∷ []) (6 * r.spent + 3) (pc + 1 + 1)
+                (worked c (loaded f)) end R (tt, tt) (has.1.1.0, tt)
+                (weaken c code (6 * r.spent + 3) (6 * r.spent + 3) (Goes (pc + 1 + 1 + 1) (stepped f)) end _ R
+                (omega arith) (λ o i. one_more start x v.word byte others o l.there
                 (subst (λ w. Found start (worked_on 1 x) w others o) (next_word v below) i)) r.reaches)))));
           }
 

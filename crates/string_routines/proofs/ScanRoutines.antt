@@ -1,5 +1,5 @@
 -- The two routines that scan, over any registers.
-use Rattle.std.proofs.Common.{◌≡◌, ◌≢◌, ℕ, ◌+◌, ◌*◌, ◌^◌, ◌<◌, ◌≤◌, ◌⊎◌, inl, inr, List, [], ◌∷◌, ◌++◌, Bool, true, false}
+use Rattle.std.proofs.Common.{◌≡◌, ◌≢◌, ℕ, ◌+◌, ◌*◌, ◌^◌, ◌<◌, ◌≤◌, ◌⊎◌, inl, inr, List, [], ◌∷◌, Bool, true, false}
 use Rattle.std.proofs.Common.{length, map, refl, sym, ap, ◌∙◌, subst, arith, length-append}
 use Rattle.std.proofs.lemmas.Bool.{cases_eq}
 use Rattle.sb_base.specs.declared.ending.Ending.TheVariants.{Spatial, Temporal}
@@ -33,12 +33,12 @@ use Rattle.shadow_space.proofs.Entries.{agrees_shows, agrees_memory}
 use Rattle.space_routines.proofs.Quiet.{shows_both}
 use Rattle.flat_judging.specs.Judging.{IsSameBut}
 use Rattle.flat_actions.specs.Actions.{Ground, Pointer, IsHeldBy, IsFor, context_in, views_of, work_of}
-use Rattle.flat_actions.specs.Scanning.{IsWorked, HasScanned, IsScanned, IsScanRoutine}
+use Rattle.flat_actions.specs.Scanning.{IsScanned, IsScanRoutine}
 use Rattle.flat_actions.proofs.Judged.{after_judge}
 use Rattle.flat_actions.proofs.Standing.{for_still, spells_still, held_still, none_of_none, others_trans}
 use Rattle.string_routines.specs.Scanning.{scan_turns, scan_at_most_turns, IsFirstJudged}
 use Rattle.string_routines.proofs.Looking.{around, scan_outside, scan_dead}
-use Rattle.string_routines.proofs.ScanLoop.{HasFound, Found, no_work}
+use Rattle.string_routines.proofs.ScanLoop.{Found, no_work}
 use Rattle.string_routines.proofs.Scans.{behind_of, IsCount, none_left, some_left, own_turns, scans_alone}
 
 -- they fit their registers
@@ -48,11 +48,13 @@ turns_fit true line = refl
 
 abbrev scan_registers : Held → (limit cursor scratch : ℕ) → ℕ → ℕ
 scan_registers h limit cursor t =
-    register_of (h.value ∷ h.tag.base ∷ h.tag.bound ∷ h.tag.key ∷ h.tag.lock ∷ limit ∷ []) (cursor ∷ []) (t ∷ (t + 1) ∷ [])
+    register_of (h.value ∷ h.tag.base ∷ h.tag.bound ∷ h.tag.key ∷ h.tag.lock ∷ limit ∷ []) (cursor ∷ [])
+    (t ∷ (t + 1) ∷ [])
 
 module _ (ground : Ground) (runtime : ground.is_runtime ≡ true) (mapped : AreMapped ground.map) (h : Held)
     (limit cursor line t : ℕ)
-    (apart : AreNoneOf (limit ∷ held_registers h) (cursor ∷ [])) (below : AreBelow t (cursor ∷ limit ∷ held_registers h)) where
+    (apart : AreNoneOf (limit ∷ held_registers h) (cursor ∷ []))
+    (below : AreBelow t (cursor ∷ limit ∷ held_registers h)) where
   abbrev ins : List ℕ
   ins = h.value ∷ h.tag.base ∷ h.tag.bound ∷ h.tag.key ∷ h.tag.lock ∷ limit ∷ []
 
@@ -60,7 +62,13 @@ module _ (ground : Ground) (runtime : ground.is_runtime ≡ true) (mapped : AreM
   registers = record {
     none = (apart.1.0, (apart.1.1.0, (apart.1.1.1.0, (apart.1.1.1.1.0, (apart.1.1.1.1.1.0, (apart.0, tt))))));
     distinct = (tt, tt);
-    ins_below = (below.1.1.0, (below.1.1.1.0, (below.1.1.1.1.0, (below.1.1.1.1.1.0, (below.1.1.1.1.1.1.0, (below.1.0, tt))))));
+    ins_below = (
+      below.1.1.0,
+      (
+        below.1.1.1.0,
+        (below.1.1.1.1.0, (below.1.1.1.1.1.0, (below.1.1.1.1.1.1.0, (below.1.0, tt)))),
+      ),
+    );
     res_below = (below.0, tt);
     from = (omega arith, (omega arith, tt));
     own_distinct = (((λ e. omega (arith, e)), tt), (tt, tt));
@@ -133,8 +141,8 @@ module _ (ground : Ground) (runtime : ground.is_runtime ≡ true) (mapped : AreM
         went_on (Paused x') f f' u found agrees only = absurd found
 
         was_ended : (r : Completed (List ℕ)) (f f' u : State) (status : ℕ) (report : List ℕ)
-            → Found (through names f) x v.word r (Halts status report u) → Agrees 9 names u f' → ChangesOnly 9 6 names f f'
-            → IsScanned v.word cursor t x f r (Halts status report f')
+            → Found (through names f) x v.word r (Halts status report u) → Agrees 9 names u f'
+            → ChangesOnly 9 6 names f f' → IsScanned v.word cursor t x f r (Halts status report f')
         was_ended (Gives bytes x') f f' u status report found agrees only = absurd found
         was_ended (Ended e x') f f' u status report found agrees only = (
           found.0,
@@ -225,7 +233,8 @@ module _ (ground : Ground) (runtime : ground.is_runtime ≡ true) (mapped : AreM
     scanned_from (Paused x') f f' o s i = absurd i
 
     first_scanned : Does c items
-        (λ f. IsFor g k ground.IsGood x f × IsHeldBy g k x.objects (Pointer h) v f.values × IsCount l v n (f.values limit))
+        (λ f. IsFor g k ground.IsGood x f × IsHeldBy g k x.objects (Pointer h) v f.values
+        × IsCount l v n (f.values limit))
         (λ f. 16 + 8 * work_of scanning x) (λ f. IsScanned v.word cursor t x f (scanning x))
     first_scanned = record {
       from = λ code pc f has w p.
@@ -237,8 +246,8 @@ module _ (ground : Ground) (runtime : ground.is_runtime ≡ true) (mapped : AreM
           let end = pc + 1 + length J + length turns in
           let len : end ≡ pc + length items =
           omega (arith, length-append J turns, ap length judged.items_are) in
-          let run = (judged.judges g k x.objects v 1 ground.is_runtime charge weight mapped).from code (pc + 1) (sized f)
-          (has_front code (pc + 1) J turns here.1) s.words
+          let run = (judged.judges g k x.objects v 1 ground.is_runtime charge weight mapped).from code (pc + 1)
+          (sized f) (has_front code (pc + 1) J turns here.1) s.words
           (record {
             stands = p.0.objects;
             sound = p.1.1;
@@ -246,11 +255,11 @@ module _ (ground : Ground) (runtime : ground.is_runtime ≡ true) (mapped : AreM
             size_is = s.size;
             some = omega arith;
           }) in
-          weaken c code (1 + (10 + (2 + 6 * W))) (16 + 8 * W) (Goes pc f) (pc + length items) R R (omega arith) (λ o i. i)
-          (subst (λ e. Reaches c code (1 + (10 + (2 + 6 * W))) (Goes pc f) e R) len
+          weaken c code (1 + (10 + (2 + 6 * W))) (16 + 8 * W) (Goes pc f) (pc + length items) R R (omega arith)
+          (λ o i. i) (subst (λ e. Reaches c code (1 + (10 + (2 + 6 * W))) (Goes pc f) e R) len
           (line_on c code (Constant t 1 ∷ []) (10 + (2 + 6 * W)) pc f end R (tt, tt) (here.0, tt)
-          (after_judge c code 10 (2 + 6 * W) (pc + 1) (pc + 1 + length J) end (sized f) line (t + 1) (judge 1 v x.objects) R
-          s.words run
+          (after_judge c code 10 (2 + 6 * W) (pc + 1) (pc + 1 + length J) end (sized f) line (t + 1)
+          (judge 1 v x.objects) R s.words run
           (λ e f' same. subst (λ r. IsScanned v.word cursor t x f r
           (Halts (code_of (Spatial line)) (report_of (Spatial line)) f'))
           (sym (scan_outside n (behind_of l line) x v line (none_left l line x v n (f.values limit) p.2) e))
@@ -278,15 +287,17 @@ module _ (ground : Ground) (runtime : ground.is_runtime ≡ true) (mapped : AreM
 -- ---- up to the 0 byte, and at most so many bytes
 
 pub scans_string : (ground : Ground) → ground.is_runtime ≡ true → AreMapped ground.map → (h : Held) (cursor line t : ℕ)
-    → AreNoneOf (held_registers h) (cursor ∷ []) → AreBelow t (cursor ∷ held_registers h) → (items : List FlatInstruction)
+    → AreNoneOf (held_registers h) (cursor ∷ []) → AreBelow t (cursor ∷ held_registers h)
+    → (items : List FlatInstruction)
     → IsFirstJudged h line t (scan_turns h cursor line t) items
     → IsScanRoutine ground (λ v. scan v line) h (λ f. Unit {0}) cursor t items
-scans_string ground runtime mapped h cursor line t apart below items judged functions types k x v charge weight = record {
-  from = λ code pc f has w p.
-      (first_scanned ground runtime mapped h h.value cursor line t (apart.0, apart) (below.0, (below.1.0, below.1)) false
-      (scan_turns h cursor line t) items refl judged functions types k x v (reach v) charge weight).from code pc f has w
-      (p.0, p.1, refl);
-}
+scans_string ground runtime mapped h cursor line t apart below items judged functions types k x v charge weight =
+    record {
+      from = λ code pc f has w p.
+          (first_scanned ground runtime mapped h h.value cursor line t (apart.0, apart) (below.0, (below.1.0, below.1))
+          false (scan_turns h cursor line t) items refl judged functions types k x v (reach v) charge weight).from code
+          pc f has w (p.0, p.1, refl);
+    }
 
 pub scans_at_most : (ground : Ground) → ground.is_runtime ≡ true → AreMapped ground.map
     → (h : Held) (limit cursor line t : ℕ) → AreNoneOf (limit ∷ held_registers h) (cursor ∷ [])
@@ -295,7 +306,8 @@ pub scans_at_most : (ground : Ground) → ground.is_runtime ≡ true → AreMapp
     → IsScanRoutine ground (λ v. scan_within n (done []) v line) h (λ f. f.values limit ≡ n) cursor t items
 scans_at_most ground runtime mapped h limit cursor line t apart below items judged n some functions types k x v charge
     weight = record {
-  from = λ code pc f has w p.
-      (first_scanned ground runtime mapped h limit cursor line t apart below true (scan_at_most_turns h cursor line limit t)
-      items refl judged functions types k x v n charge weight).from code pc f has w (p.0, p.1, (p.2, some));
-}
+      from = λ code pc f has w p.
+          (first_scanned ground runtime mapped h limit cursor line t apart below true
+          (scan_at_most_turns h cursor line limit t)
+          items refl judged functions types k x v n charge weight).from code pc f has w (p.0, p.1, (p.2, some));
+    }

@@ -1,57 +1,42 @@
 -- A string is scanned in flat code as in the source, up to its 0 byte or a limit.
-use Rattle.std.proofs.Common.{◌≡◌, ◌≢◌, ℕ, zero, suc, ◌+◌, ◌-◌, ◌*◌, ◌%◌, ◌^◌, ◌<◌, ◌≤◌, ◌⊎◌, inl, inr, ⊎_elim, List, []}
-use Rattle.std.proofs.Common.{◌∷◌, ◌++◌, Bool, true, false, length, map, get_or, refl, sym, ap, ◌∙◌, subst, arith}
+use Rattle.std.proofs.Common.{◌≡◌, ◌≢◌, ℕ, zero, suc, ◌+◌, ◌-◌, ◌*◌, ◌%◌, ◌^◌, ◌<◌, ◌≤◌, ◌⊎◌, inl, inr, List, []}
+use Rattle.std.proofs.Common.{◌∷◌, ◌++◌, Bool, true, false, length, get_or, refl, sym, ap, ◌∙◌, subst, arith}
 use Rattle.std.proofs.lemmas.Bool.{cases_eq}
-use Rattle.sb_base.specs.declared.ending.Ending.TheVariants.{Spatial, Temporal}
-use Rattle.sb_base.specs.Endings.{code_of, report_of}
-use Rattle.addr_map.specs.declared.region.Region.TheVariants.{Heap}
-use Rattle.addr_map.specs.Places.{MapSizes, AreMapped, objects_begin, region_end}
-use Rattle.rv_isa.specs.declared.instruction.BranchOp.TheVariants.{Beq, Bne}
+use Rattle.sb_base.specs.declared.ending.Ending.TheVariants.{Spatial}
+use Rattle.addr_map.specs.Places.{AreMapped}
+use Rattle.rv_isa.specs.declared.instruction.BranchOp.TheVariants.{Beq}
 use Rattle.rv_isa.specs.declared.instruction.RegOp.TheVariants.{Add}
 use Rattle.rv_isa.specs.Results.{reg_result}
 use Rattle.obj_memory.specs.declared.value.Bounds.{Bounds}
-use Rattle.obj_memory.specs.declared.value.Tag.TheVariants.{OfObject}
 use Rattle.obj_memory.specs.declared.value.Value.{Value}
 use Rattle.obj_memory.specs.declared.value.Place.{Place}
-use Rattle.obj_memory.specs.declared.judgement.Verdict.TheVariants.{Outside, Dead, Inside}
+use Rattle.obj_memory.specs.declared.judgement.Verdict.TheVariants.{Outside, Inside}
 use Rattle.obj_memory.specs.Objects.{Objects, object_at}
-use Rattle.obj_memory.specs.Judgement.{judge, moved}
+use Rattle.obj_memory.specs.Judgement.{judge}
 use Rattle.obj_memory.specs.Sound.{IsSoundTag, IsTagOf}
-use Rattle.source_meaning.specs.State.{State as Source, Outcome as Completed, Gives, Ended, Paused, Run, done, stop}
+use Rattle.source_meaning.specs.State.{State as Source, Gives, Ended, Run, done, stop}
 use Rattle.source_meaning.specs.Acting.{state_of}
 use Rattle.source_meaning.specs.Strings.{reach, scan_within}
 use Rattle.flat_meaning.specs.declared.instruction.RightOperand.TheVariants.{Register}
 use Rattle.flat_meaning.specs.declared.instruction.FlatInstruction.{FlatInstruction}
-use Rattle.flat_meaning.specs.declared.instruction.FlatInstruction.TheVariants.{Constant, Move, Operate, Branch, JumpBack}
-use Rattle.flat_meaning.specs.declared.instruction.FlatInstruction.TheVariants.{End}
+use Rattle.flat_meaning.specs.declared.instruction.FlatInstruction.TheVariants.{Move, Operate}
 use Rattle.flat_meaning.specs.Memory.{Bytes, put}
 use Rattle.flat_meaning.specs.State.{State}
 use Rattle.flat_meaning.specs.Words.{IsOfWords}
 use Rattle.flat_meaning.specs.Meaning.{Context, Goes}
 use Rattle.flat_routines.specs.declared.registers.Held.{Held}
-use Rattle.flat_routines.specs.Registers.{AreBelow, OthersStay}
-use Rattle.flat_routines.specs.Routine.{HasAt, Outcome, Continues, Halts, Reaches, Does, Either}
+use Rattle.flat_routines.specs.Routine.{HasAt, Outcome, Reaches}
 use Rattle.flat_routines.specs.Effects.{worked, effects, AreAllowed}
-use Rattle.flat_routines.specs.Renaming.{rename, all_fit, through, Agrees, ChangesOnly}
-use Rattle.flat_routines.specs.Metadata.{ShowsNothing, held_registers}
+use Rattle.flat_routines.specs.Metadata.{ShowsNothing}
 use Rattle.flat_routines.proofs.Steps.{has_front, has_back, has_self}
 use Rattle.flat_routines.proofs.Rules.{weaken, line_on, branch, arrived}
-use Rattle.flat_routines.proofs.Distinct.{AreRegisters, register_of, registers_rename, others_stay}
 use Rattle.flat_routines.proofs.Regions.{IsLaidOut, laid_out}
-use Rattle.flat_routines.proofs.Wrapped.{routine_that_may_end}
-use Rattle.flat_meaning.proofs.Stored.{put_other}
 use Rattle.flat_objects.specs.StandsFor.{Views, Keys, Spells, StandsFor, spell}
-use Rattle.shadow_space.proofs.Entries.{agrees_shows, agrees_memory}
-use Rattle.space_routines.proofs.Quiet.{shows_both}
-use Rattle.flat_judging.specs.Judging.{IsToJudge}
-use Rattle.flat_judging.proofs.Judges.{judges}
-use Rattle.flat_actions.specs.Actions.{Ground, Pointer, IsHeldBy, IsFor, context_in, views_of, work_of}
-use Rattle.flat_actions.specs.Scanning.{IsWorked, HasScanned, IsScanned}
-use Rattle.flat_actions.proofs.Judged.{after_judge}
+use Rattle.flat_actions.specs.Actions.{Ground, context_in, views_of, work_of}
+use Rattle.moving_routines.proofs.Bytes.{object_allowed}
 use Rattle.string_routines.specs.Scanning.{scan_loop, at_limit}
-use Rattle.string_routines.proofs.Looking.{IsAround, around, lives, reach_is, scan_by, scan_outside, scan_dead, beyond}
-use Rattle.string_routines.proofs.Runtime.{objects_allowed}
-use Rattle.string_routines.proofs.ScanLoop.{IsString, HasFound, Found, no_work, if_equal, if_unequal, IsAt, Scans, Again}
+use Rattle.string_routines.proofs.Looking.{IsAround, around, lives, reach_is, scan_by, beyond}
+use Rattle.string_routines.proofs.ScanLoop.{IsString, Found, no_work, if_equal, if_unequal, IsAt, Scans, Again}
 use Rattle.string_routines.proofs.ScanLoop.{at_worked, bound_tested, scanned}
 
 -- ---- with and without a limit
@@ -116,12 +101,12 @@ module _ (c : Context) (runtime : c.is_runtime ≡ true) (code : List FlatInstru
       start string k x v f
       → (1 ≤ k → Again c runtime code pc line (limit_code l) (behind_of l line) (IsLeft l) has (step_left l) functions
       objects n b start string k x v)
-      → Scans c runtime code pc line (limit_code l) (behind_of l line) (IsLeft l) has (step_left l) functions objects n b
-      start string (pc + 1 + 1 + 1) 3 k x v f
+      → Scans c runtime code pc line (limit_code l) (behind_of l line) (IsLeft l) has (step_left l) functions objects n
+      b start string (pc + 1 + 1 + 1) 3 k x v f
   tail false has k x v f h again =
       let left = h.left in let p = h.cursor_is in let u = h.bound_is in
-      let r = bound_tested c runtime code pc line [] (behind_of false line) (IsLeft false) has (step_left false) functions
-      objects n b start string (pc + 1 + 1 + 1) 5 k x v f has.1.1.1 (omega arith)
+      let r = bound_tested c runtime code pc line [] (behind_of false line) (IsLeft false) has (step_left false)
+      functions objects n b start string (pc + 1 + 1 + 1) 5 k x v f has.1.1.1 (omega arith)
       (λ at. let none : k ≡ 0 = omega arith in
       ap (λ j. scan_within j (behind_of false line) v line x) none)
       (λ below. again (omega arith) below) h in
@@ -148,8 +133,8 @@ module _ (c : Context) (runtime : c.is_runtime ≡ true) (code : List FlatInstru
           record {
             spent = 0;
             work = ap (λ r. (state_of r).work) is ∙ omega arith;
-            reaches = subst (λ r. Reaches c code 3 (Goes (pc + 1 + 1 + 1) f) (pc + 6 + 1) (Found start x v.word r)) (sym is)
-                (branch c code 2 (pc + 1 + 1 + 1) f Beq 6 (Register 8) 3 (pc + 6 + 1) R has.1.1.1.0
+            reaches = subst (λ r. Reaches c code 3 (Goes (pc + 1 + 1 + 1) f) (pc + 6 + 1) (Found start x v.word r))
+                (sym is) (branch c code 2 (pc + 1 + 1 + 1) f Beq 6 (Register 8) 3 (pc + 6 + 1) R has.1.1.1.0
                 (λ t. arrived c code 2 (worked c f) _ _ R (omega arith) (
                   no_work x,
                   record {
@@ -246,7 +231,7 @@ string_of g k objects n b m ok st live t =
       sound = st.sound;
       live = live;
       small = omega arith;
-      allowed = λ a l h. objects_allowed g.sizes a 1 (omega arith) (omega arith);
+      allowed = λ a l h. object_allowed g.sizes a a 1 refl (omega arith) (omega arith);
       bytes = λ a l h.
           let e : o.address + (a - o.address) ≡ a = omega arith in
           subst (λ z. m z ≡ get_or o.bytes (a - o.address) 0) e ((st.here n live).bytes (a - o.address) (omega arith));
@@ -285,7 +270,8 @@ module _ (ground : Ground) (runtime : ground.is_runtime ≡ true) (mapped : AreM
       let live = lives x.objects v a.number a.bounds p.place a.tag_is p.judged in
       let tag = subst (IsSoundTag functions x.objects) a.tag_is p.sound in
       let spelled = p.spells in
-      let bound : f.values 2 ≡ a.bounds.bound = ap (λ z. z.bound) spelled.tag ∙ ap (λ z. (spell g k z).bound) a.tag_is in
+      let bound : f.values 2 ≡ a.bounds.bound = ap (λ z. z.bound) spelled.tag ∙ ap (λ z. (spell g k z).bound) a.tag_is
+      in
       let h = ready c l v n (f.values 5) a f w p.count spelled.word bound refl in
       let y = effects c (prepare l) f in
       let some = some_left l v n (f.values 5) p.count a in
@@ -320,5 +306,6 @@ module _ (ground : Ground) (runtime : ground.is_runtime ≡ true) (mapped : AreM
       (has_front code 0 (prepare l) (own_loop l line) has)
       (subst (λ z. Reaches c code (6 * r.spent + 0) (Goes (0 + length (prepare l)) y) z (R f)) end
       (subst (λ z. Reaches c code (6 * r.spent + 0) (Goes (0 + length (prepare l)) y)
-      (0 + length (prepare l) + 6 + length (limit_code l)) (Found f x v.word (scan_within z (behind_of l line) v line x)))
+      (0 + length (prepare l) + 6 + length (limit_code l))
+      (Found f x v.word (scan_within z (behind_of l line) v line x)))
       n_is r.reaches)))

@@ -1,3 +1,3 @@
-pub mod Runtime
 pub mod Scanning
 pub mod Putting
+pub mod Copying

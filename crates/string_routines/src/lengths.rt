@@ -7,7 +7,7 @@ ghost use Rattle.source_meaning.specs.Library.{argument};
 ghost use Rattle.flat_routines.specs.Registers.{AreBelow};
 ghost use Rattle.flat_routines.specs.Metadata.{held_registers};
 ghost use Rattle.flat_actions.specs.Actions.{IsAction, Pointer, Word};
-ghost use Rattle.string_routines.specs.Runtime.{in_runtime};
+ghost use Rattle.moving_routines.specs.Library.{runtime_ground};
 
 use crate::lists::joined;
 use crate::scanning::scan;
@@ -19,8 +19,8 @@ use sb_base::Line;
 use shadow_space::ShadowForm;
 use std::alloc::{AllocError, Global};
 
-/// `strlen` of the string at the pointer in `string`, at a line, in a function of the runtime: `into` gets the length. It
-/// may write the registers from `scratch` on. The only refusal is that memory fails.
+/// `strlen` of the string at the pointer in `string`, at a line, in a function of the runtime: `into` gets the length.
+/// It may write the registers from `scratch` on. The only refusal is that memory fails.
 pub fn strlen<S: ShadowForm>(
     alloc: Global,
     map: &AddrMap,
@@ -31,8 +31,9 @@ pub fn strlen<S: ShadowForm>(
 ) -> Result<Vec<FlatInstruction>, AllocError>
     requires map { AreMapped map.now }
     requires below { AreBelow scratch (into ∷ held_registers string) }
-    requires room { scratch ≤ 2 ^ 29 }
-    ensures { IfOk result (λ r. IsAction (in_runtime map.now S.entry S.IsGood) (λ vs. strlen_of (argument 0 vs) line)
+    requires room { scratch + 16 ≤ 2 ^ 31 }
+    ensures { IfOk result (λ r. IsAction (runtime_ground map.now S.entry (S.IsGood map.now))
+        (λ vs. strlen_of (argument 0 vs) line)
         (Pointer string ∷ []) (Word into) scratch 17 8 r.items) }
 {
     let scanned = scan::<S>(alloc, map, string, scratch, line, scratch + 1)?;

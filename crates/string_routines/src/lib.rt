@@ -4,11 +4,15 @@
 //! alone: its object cannot die in between.
 #![tactic(auto)]
 
+pub mod bounded;
+pub mod copying;
 pub mod lengths;
 mod lists;
 pub mod printing;
 pub mod scanning;
 
+pub use crate::bounded::strncpy;
+pub use crate::copying::{strcat, strcpy};
 pub use crate::lengths::strlen;
 pub use crate::printing::{put_bytes, puts};
 pub use crate::scanning::{scan, scan_at_most};

@@ -7,7 +7,7 @@ ghost use Rattle.source_meaning.specs.Library.{argument};
 ghost use Rattle.flat_routines.specs.Registers.{AreBelow};
 ghost use Rattle.flat_routines.specs.Metadata.{held_registers};
 ghost use Rattle.flat_actions.specs.Actions.{IsAction, Pointer, Word};
-ghost use Rattle.string_routines.specs.Runtime.{in_runtime};
+ghost use Rattle.moving_routines.specs.Library.{runtime_ground};
 ghost use Rattle.string_routines.specs.Putting.{IsPutRoutine, put_code};
 
 use crate::lists::joined;
@@ -30,7 +30,7 @@ pub fn put_bytes(
     scratch: u32,
 ) -> Result<Vec<FlatInstruction>, AllocError>
     requires below { AreBelow scratch (from ∷ to ∷ []) }
-    requires room { scratch ≤ 2 ^ 30 }
+    requires room { scratch + 8 ≤ 2 ^ 31 }
     ensures { IfOk result (λ r. IsPutRoutine map.now from to scratch r.items) }
 {
     put_instructions(alloc, from, to, scratch)
@@ -42,7 +42,7 @@ fn put_instructions(
     to: u32,
     scratch: u32,
 ) -> Result<Vec<FlatInstruction>, AllocError>
-    requires { scratch ≤ 2 ^ 30 }
+    requires { scratch + 8 ≤ 2 ^ 31 }
     ensures { IfOk result (λ r. r.items ≡ put_code from to scratch) }
 {
     let cursor = scratch;
@@ -73,8 +73,8 @@ fn put_instructions(
     Vec::from_slice(alloc, &code)
 }
 
-/// `puts` of the string at the pointer in `string`, at a line, in a function of the runtime: `into` gets 0. It may write
-/// the registers from `scratch` on. The only refusal is that memory fails.
+/// `puts` of the string at the pointer in `string`, at a line, in a function of the runtime: `into` gets 0. It may
+/// write the registers from `scratch` on. The only refusal is that memory fails.
 pub fn puts<S: ShadowForm>(
     alloc: Global,
     map: &AddrMap,
@@ -85,8 +85,9 @@ pub fn puts<S: ShadowForm>(
 ) -> Result<Vec<FlatInstruction>, AllocError>
     requires map { AreMapped map.now }
     requires below { AreBelow scratch (into ∷ held_registers string) }
-    requires room { scratch ≤ 2 ^ 29 }
-    ensures { IfOk result (λ r. IsAction (in_runtime map.now S.entry S.IsGood) (λ vs. puts_of (argument 0 vs) line)
+    requires room { scratch + 16 ≤ 2 ^ 31 }
+    ensures { IfOk result (λ r. IsAction (runtime_ground map.now S.entry (S.IsGood map.now))
+        (λ vs. puts_of (argument 0 vs) line)
         (Pointer string ∷ []) (Word into) scratch 21 8 r.items) }
 {
     let scanned = scan::<S>(alloc, map, string, scratch, line, scratch + 1)?;

@@ -7,7 +7,7 @@ ghost use Rattle.source_meaning.specs.Strings.{scan as scan_of, scan_within};
 ghost use Rattle.flat_routines.specs.Registers.{AreNoneOf, AreBelow};
 ghost use Rattle.flat_routines.specs.Metadata.{held_registers};
 ghost use Rattle.flat_actions.specs.Scanning.{IsScanRoutine};
-ghost use Rattle.string_routines.specs.Runtime.{in_runtime};
+ghost use Rattle.moving_routines.specs.Library.{runtime_ground};
 ghost use Rattle.string_routines.specs.Scanning.{IsFirstJudged, scan_turns, scan_at_most_turns};
 
 use crate::lists::joined;
@@ -21,8 +21,8 @@ use shadow_space::ShadowForm;
 use std::alloc::{AllocError, Global};
 
 /// Scans the string at the pointer in `string` in a function of the runtime, as the source does: it ends the run where
-/// a byte is refused, and else `cursor` has the address of the 0 byte. It may write the registers from `scratch` on. The
-/// only refusal is that memory fails.
+/// a byte is refused, and else `cursor` has the address of the 0 byte. It may write the registers from `scratch` on.
+/// The only refusal is that memory fails.
 pub fn scan<S: ShadowForm>(
     alloc: Global,
     map: &AddrMap,
@@ -34,15 +34,15 @@ pub fn scan<S: ShadowForm>(
     requires map { AreMapped map.now }
     requires apart { AreNoneOf (held_registers string) (cursor ∷ []) }
     requires below { AreBelow scratch (cursor ∷ held_registers string) }
-    requires room { scratch ≤ 2 ^ 30 }
-    ensures { IfOk result (λ r. IsScanRoutine (in_runtime map.now S.entry S.IsGood) (λ v. scan_of v line) string
-        (λ f. Unit {0}) cursor scratch r.items) }
+    requires room { scratch + 8 ≤ 2 ^ 31 }
+    ensures { IfOk result (λ r. IsScanRoutine (runtime_ground map.now S.entry (S.IsGood map.now)) (λ v. scan_of v line)
+        string (λ f. Unit {0}) cursor scratch r.items) }
 {
     scan_instructions(alloc, string, cursor, line, scratch)
 }
 
-/// Scans at most as many bytes of the string as `limit` holds, at least one: then `cursor` has the address of the 0 byte,
-/// or the one behind so many bytes. In all else it is as `scan`.
+/// Scans at most as many bytes of the string as `limit` holds, at least one: then `cursor` has the address of the 0
+/// byte, or the one behind so many bytes. In all else it is as `scan`.
 pub fn scan_at_most<S: ShadowForm>(
     alloc: Global,
     map: &AddrMap,
@@ -55,16 +55,16 @@ pub fn scan_at_most<S: ShadowForm>(
     requires map { AreMapped map.now }
     requires apart { AreNoneOf (limit ∷ held_registers string) (cursor ∷ []) }
     requires below { AreBelow scratch (cursor ∷ limit ∷ held_registers string) }
-    requires room { scratch ≤ 2 ^ 30 }
+    requires room { scratch + 8 ≤ 2 ^ 31 }
     ensures { IfOk result (λ r. (n : ℕ) → 1 ≤ n
-        → IsScanRoutine (in_runtime map.now S.entry S.IsGood) (λ v. scan_within n (done []) v line) string
+        → IsScanRoutine (runtime_ground map.now S.entry (S.IsGood map.now)) (λ v. scan_within n (done []) v line) string
         (λ f. f.values limit ≡ n) cursor scratch r.items) }
 {
     scan_at_most_instructions(alloc, string, cursor, line, limit, scratch)
 }
 
-/// The instructions of `scan`.
-pub fn scan_instructions(
+// The instructions of `scan`.
+fn scan_instructions(
     alloc: Global,
     string: Held,
     cursor: u32,
@@ -72,7 +72,7 @@ pub fn scan_instructions(
     scratch: u32,
 ) -> Result<Vec<FlatInstruction>, AllocError>
     requires below { AreBelow scratch (held_registers string) }
-    requires room { scratch ≤ 2 ^ 30 }
+    requires room { scratch + 8 ≤ 2 ^ 31 }
     ensures { IfOk result (λ r. IsFirstJudged string line scratch (scan_turns string cursor line scratch) r.items) }
 {
     let turns = [
@@ -105,9 +105,7 @@ pub fn scan_instructions(
             past: 1,
         },
         FlatInstruction::End(Ending::Spatial(line)),
-        FlatInstruction::JumpBack {
-            back: 5,
-        },
+        FlatInstruction::JumpBack { back: 5 },
     ];
     first_judged(alloc, string, line, scratch, &turns)
 }
@@ -121,7 +119,7 @@ fn scan_at_most_instructions(
     scratch: u32,
 ) -> Result<Vec<FlatInstruction>, AllocError>
     requires below { AreBelow scratch (held_registers string) }
-    requires room { scratch ≤ 2 ^ 30 }
+    requires room { scratch + 8 ≤ 2 ^ 31 }
     ensures { IfOk result (λ r. IsFirstJudged string line scratch (scan_at_most_turns string cursor line limit scratch)
         r.items) }
 {
@@ -169,15 +167,13 @@ fn scan_at_most_instructions(
             past: 1,
         },
         FlatInstruction::End(Ending::Spatial(line)),
-        FlatInstruction::JumpBack {
-            back: 6,
-        },
+        FlatInstruction::JumpBack { back: 6 },
     ];
     first_judged(alloc, string, line, scratch, &turns)
 }
 
-/// The first byte of a string is judged, and then its turns begin.
-pub fn first_judged(
+// The first byte of a string is judged, and then its turns begin.
+fn first_judged(
     alloc: Global,
     string: Held,
     line: Line,
@@ -185,7 +181,7 @@ pub fn first_judged(
     turns: &[FlatInstruction],
 ) -> Result<Vec<FlatInstruction>, AllocError>
     requires below { AreBelow scratch (held_registers string) }
-    requires room { scratch ≤ 2 ^ 30 }
+    requires room { scratch + 8 ≤ 2 ^ 31 }
     ensures { IfOk result (λ r. IsFirstJudged string line scratch turns.now r.items) }
 {
     let size = [FlatInstruction::Constant {

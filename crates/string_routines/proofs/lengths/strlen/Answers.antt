@@ -3,7 +3,7 @@ use Rattle.std.proofs.lemmas.Result.{IfOk-weaker}
 use Rattle.source_meaning.specs.Strings.{strlen as strlen_of}
 use Rattle.source_meaning.specs.Library.{argument}
 use Rattle.flat_actions.specs.Actions.{IsAction, Pointer, Word}
-use Rattle.string_routines.specs.Runtime.{in_runtime}
+use Rattle.moving_routines.specs.Library.{runtime_ground}
 use Rattle.string_routines.specs.Scanning.{length_given}
 use Rattle.string_routines.proofs.LengthActs.{strlen_acts}
 use Rattle.string_routines.proofs.lengths.strlen.Goals as goal
@@ -11,7 +11,7 @@ use Rattle.string_routines.proofs.lengths.strlen.Goals as goal
 pub returns : goal.returns
 returns g c =
     let a = c.args in
-    let ground = in_runtime a.map.now g.S.ShadowForm.entry g.S.ShadowForm.IsGood in
+    let ground = runtime_ground a.map.now g.S.ShadowForm.entry (g.S.ShadowForm.IsGood a.map.now) in
     let scanned = c.in_ok-scanned.scanned.items in
     IfOk-weaker _ _ _
     (λ r e. subst (IsAction ground (λ vs. strlen_of (argument 0 vs) a.line) (Pointer a.string ∷ []) (Word a.into)

@@ -1,0 +1,7 @@
+//! Checks, loads and stores in flat code, put inline into the functions of the program: the run ends, and objects and
+//! accesses change, just as in the source.
+#![tactic(auto)]
+
+pub mod testing;
+
+pub use crate::testing::{spatial_check, temporal_check};

@@ -1,1 +1,5 @@
 pub mod Tests
+pub mod Places
+pub mod Shown
+pub mod Integers
+pub mod Pointers

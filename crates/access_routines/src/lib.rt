@@ -2,6 +2,10 @@
 //! accesses change, just as in the source.
 #![tactic(auto)]
 
+pub mod held;
+pub mod loading;
 pub mod testing;
 
+pub use crate::held::HeldScalar;
+pub use crate::loading::load;
 pub use crate::testing::{spatial_check, temporal_check};

@@ -4,8 +4,10 @@
 
 pub mod held;
 pub mod loading;
+pub mod storing;
 pub mod testing;
 
 pub use crate::held::HeldScalar;
 pub use crate::loading::load;
+pub use crate::storing::store;
 pub use crate::testing::{spatial_check, temporal_check};

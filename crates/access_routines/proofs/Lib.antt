@@ -6,3 +6,4 @@ pub mod Pointers
 pub mod Kept
 pub mod IntegerStores
 pub mod PointerStores
+pub mod Judged

@@ -1,5 +1,5 @@
 -- A scalar loaded and stored in flat code.
-use Rattle.std.specs.Prelude.{ℕ, false, List, [], ◌∷◌, ◌++◌, length}
+use Rattle.std.specs.Prelude.{ℕ, ◌+◌, true, false, List, [], ◌∷◌, ◌++◌, length}
 use Rattle.addr_map.specs.Places.{MapSizes}
 use Rattle.rv_isa.specs.declared.instruction.BranchOp.TheVariants.{Beq, Bne}
 use Rattle.rv_isa.specs.declared.instruction.RegOp.TheVariants.{Sll}
@@ -26,7 +26,7 @@ use Rattle.flat_routines.specs.declared.registers.Held.{Held}
 use Rattle.flat_routines.specs.declared.registers.Entry.{Entry}
 use Rattle.flat_routines.specs.Routine.{unless_code}
 use Rattle.flat_routines.specs.Metadata.{View}
-use Rattle.flat_actions.specs.Actions.{Ground, Nowhere, Pointer as InPointer, IsActionIn}
+use Rattle.flat_actions.specs.Actions.{Ground, Nowhere, Pointer as InPointer, IsAction, IsActionIn}
 use Rattle.access_routines.specs.declared.held.HeldScalar.{HeldScalar}
 use Rattle.access_routines.specs.declared.held.HeldScalar.TheVariants.{Integer, Pointer}
 use Rattle.access_routines.specs.Holding.{scalar_in, holder_in}
@@ -122,3 +122,16 @@ IsStoreRoutine ground h from t r =
     → IsActionIn ground (IsToAccess from)
     (λ vs. store (scalar_in from) false (argument 0 vs) line (argument 1 vs) >> done (integer 0))
     (InPointer h ∷ holder_in from ∷ []) Nowhere t (store_steps from) 0 r
+
+-- ---- with both tests before it
+
+-- the access is judged
+abbrev pub IsCheckedLoad : Ground → Held → (into : HeldScalar) → (line scratch : ℕ) → List FlatInstruction → Type 0
+IsCheckedLoad ground h into line t r =
+    IsAction ground (λ vs. load (scalar_in into) true (argument 0 vs) line) (InPointer h ∷ []) (holder_in into) t
+    (8 + load_steps into) 0 r
+
+abbrev pub IsCheckedStore : Ground → Held → (from : HeldScalar) → (line scratch : ℕ) → List FlatInstruction → Type 0
+IsCheckedStore ground h from line t r =
+    IsAction ground (λ vs. store (scalar_in from) true (argument 0 vs) line (argument 1 vs) >> done (integer 0))
+    (InPointer h ∷ holder_in from ∷ []) Nowhere t (8 + store_steps from) 0 r

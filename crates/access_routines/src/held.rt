@@ -1,5 +1,9 @@
 //! Registers that hold the value of a scalar.
 
+ghost use Rattle.std.specs.Prelude.{◌≡◌, ◌≤◌};
+ghost use Rattle.obj_memory.specs.Access.{scalar_size};
+ghost use Rattle.access_routines.specs.Holding.{scalar_in};
+
 use flat_routines::Held;
 use obj_memory::IntType;
 
@@ -10,4 +14,18 @@ pub enum HeldScalar {
     Integer(IntType, u32),
     /// A pointer, with its metadata.
     Pointer(Held),
+}
+
+impl HeldScalar {
+    /// The number of bytes of the scalar.
+    pub fn size(self) -> u64
+        ensures value { result ≡ scalar_size (scalar_in self) }
+        ensures some { 1 ≤ result }
+        ensures few { result ≤ 8 }
+    {
+        match self {
+            HeldScalar::Integer(of, _) => of.size(),
+            HeldScalar::Pointer(_) => 8,
+        }
+    }
 }

@@ -2,11 +2,13 @@
 //! accesses change, just as in the source.
 #![tactic(auto)]
 
+pub mod checked;
 pub mod held;
 pub mod loading;
 pub mod storing;
 pub mod testing;
 
+pub use crate::checked::{checked_load, checked_store};
 pub use crate::held::HeldScalar;
 pub use crate::loading::load;
 pub use crate::storing::store;

@@ -45,7 +45,7 @@ pub fn temporal_check(
     temporal_instructions(alloc, pointer, line, scratch)
 }
 
-fn spatial_instructions(
+pub(crate) fn spatial_instructions(
     alloc: Global,
     pointer: Held,
     size: RightOperand,
@@ -87,7 +87,7 @@ fn spatial_instructions(
     Vec::from_slice(alloc, &code)
 }
 
-fn temporal_instructions(
+pub(crate) fn temporal_instructions(
     alloc: Global,
     pointer: Held,
     line: Line,

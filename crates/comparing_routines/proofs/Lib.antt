@@ -1,0 +1,4 @@
+pub mod Looks
+pub mod Wraps
+pub mod Seeks
+pub mod Sought

@@ -2,3 +2,5 @@ pub mod Looks
 pub mod Wraps
 pub mod Seeks
 pub mod Sought
+pub mod Pairs
+pub mod Compared

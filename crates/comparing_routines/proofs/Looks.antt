@@ -94,6 +94,12 @@ pub record IsAround (objects : Objects) (t : Tag) (a : ℕ) : Type 0 where
   pub lo : bounds.base ≤ a
   pub hi : a + 1 ≤ bounds.bound
 
+pub inside_not_out : (p : Place) → Inside p ≢ Out
+inside_not_out p e = cc
+
+pub dead_not_out : Dead ≢ Out
+dead_not_out e = cc
+
 both_hold : (x y l : Bool) (q : Place) (w : Verdict)
     → (if x && y then (if l then Inside q else Dead) else Out) ≡ w → w ≢ Out → (x ≡ true) × (y ≡ true)
 both_hold true true l q w e ne = (refl, refl)

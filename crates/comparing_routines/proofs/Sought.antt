@@ -41,7 +41,7 @@ use Rattle.flat_actions.specs.Actions.{IsFor, Word, Pointer, views_of, work_of}
 use Rattle.flat_actions.proofs.Judged.{after_judge}
 use Rattle.comparing_routines.specs.Answering.{IsAnswered, runtime_ground}
 use Rattle.comparing_routines.specs.Seeking.{seek_start, seek_code, strchr_code, IsStrchr}
-use Rattle.comparing_routines.proofs.Looks.{IsAround, around, lives, reach_is, bytes_of, look_by}
+use Rattle.comparing_routines.proofs.Looks.{inside_not_out, dead_not_out, IsAround, around, lives, reach_is, bytes_of, look_by}
 use Rattle.comparing_routines.proofs.Seeks.{own, own_into, own_code, has_start, IsCursor, seeks}
 use Rattle.comparing_routines.proofs.Wraps.{refused, AnswersAlone, GivesAs, answers_act}
 
@@ -156,8 +156,7 @@ module _ (map : MapSizes) (mapped : AreMapped map) (entry : View) (IsGood : Byte
     behind : (q : Place) → judge 1 v x.objects ≡ Inside q → (z : State) → IsSameBut 12 y z
         → Reaches c C (3 + (5 + 6 * W)) (Goes 11 z) 31 R
     behind q e z same =
-        let inside : Inside q ≢ Out = λ i. (let j : Inside q ≡ Out = i in cc) in
-        let a = around x.objects v (Inside q) e inside in
+        let a = around x.objects v (Inside q) e (inside_not_out q) in
         let live = lives x.objects v a.number a.bounds q a.tag e in
         let hi = a.hi in
         let left = a.bounds.bound - v.word - 1 in
@@ -181,11 +180,11 @@ module _ (map : MapSizes) (mapped : AreMapped map) (entry : View) (IsGood : Byte
         (line_on c C (Constant 11 1 ∷ []) (10 + (3 + (5 + 6 * W))) 0 f 31 R (tt, tt) ((has_self C).0, tt)
         (after_judge c C 10 (3 + (5 + 6 * W)) 1 11 31 y line 12 (judge 1 v x.objects) R
         (quiet_words c (Constant 11 1 ∷ []) f (tt, tt) w) judged
-        (λ e z same. refused g k (Pointer own_into) x f (strchr v byte line x) (Spatial line) z
+        (λ e z same. refused g k (Pointer own_into) x f (strchr v byte line x) (Spatial line) x.work z
         (seek_out v ch line x (reach v) e) (shows_same z same))
         (λ e z same.
-        let l = one_reached x v Dead e (λ i. (let j : Dead ≡ Out = i in cc)) in
-        refused g k (Pointer own_into) x f (strchr v byte line x) (Temporal line) z
+        let l = one_reached x v Dead e dead_not_out in
+        refused g k (Pointer own_into) x f (strchr v byte line x) (Temporal line) x.work z
         (ap (λ i. seek_within i ch v line x) l.1 ∙ seek_dead v ch line x l.0 e) (shows_same z same))
         (λ q e z wz same. behind q e z same)))
 

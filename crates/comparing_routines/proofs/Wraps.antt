@@ -5,6 +5,7 @@ use Rattle.sb_base.specs.Endings.{code_of, report_of}
 use Rattle.addr_map.specs.Places.{MapSizes}
 use Rattle.obj_memory.specs.declared.value.Value.{Value}
 use Rattle.source_meaning.specs.State.{State as Source, Outcome as Completed, Gives, Ended, Paused, Run}
+use Rattle.source_meaning.specs.Acting.{at_work}
 use Rattle.flat_meaning.specs.declared.instruction.FlatInstruction.{FlatInstruction}
 use Rattle.flat_meaning.specs.Memory.{Bytes}
 use Rattle.flat_meaning.specs.State.{State}
@@ -31,12 +32,13 @@ shows_seen f s v h = record {
   turns = h.turns;
 }
 
--- an access is refused before anything is looked at
-pub refused : (g : Views) (k : Keys) (result : Holder) (x : Source) (f : State) (o : Completed Value) (e : Ending) (z : State)
-    → o ≡ Ended e x → ShowsNothing f z → IsAnswered g k result x f o (Halts (code_of e) (report_of e) z)
-refused g k result x f o e z is shows =
+-- an access is refused
+pub refused : (g : Views) (k : Keys) (result : Holder) (x : Source) (f : State) (o : Completed Value) (e : Ending) (w : ℕ)
+    (z : State) → o ≡ Ended e (at_work w x) → ShowsNothing f z
+    → IsAnswered g k result x f o (Halts (code_of e) (report_of e) z)
+refused g k result x f o e w z is shows =
     subst (λ u. IsAnswered g k result x f u (Halts (code_of e) (report_of e) z)) (sym is)
-    (refl, refl, record { work = x.work; same = refl }, shows)
+    (refl, refl, record { work = w; same = refl }, shows)
 
 -- the routine alone answers, over registers that are seen in others
 abbrev pub AnswersAlone : MapSizes → View → (Bytes → Type 0) → (f : ℕ → ℕ) → List FlatInstruction → List Holder

@@ -1,5 +1,5 @@
 -- `strcmp` in flat code is the source's.
-use Rattle.std.proofs.Common.{◌≡◌, ◌≢◌, ℕ, zero, suc, ◌+◌, ◌-◌, ◌*◌, ◌<◌, ◌≤◌, List, [], ◌∷◌, ◌++◌, length, refl, sym, ap, ◌∙◌}
+use Rattle.std.proofs.Common.{◌≡◌, ℕ, zero, suc, ◌+◌, ◌-◌, ◌*◌, ◌<◌, List, [], ◌∷◌, refl, sym, ap, ◌∙◌}
 use Rattle.std.proofs.Common.{subst, arith, true}
 use Rattle.sb_base.specs.declared.ending.Ending.TheVariants.{Spatial, Temporal}
 use Rattle.addr_map.specs.Places.{MapSizes, AreMapped}
@@ -8,7 +8,7 @@ use Rattle.obj_memory.specs.declared.value.Place.{Place}
 use Rattle.obj_memory.specs.declared.judgement.Verdict.TheVariants.{Outside as Out, Dead, Inside}
 use Rattle.obj_memory.specs.Judgement.{judge, moved}
 use Rattle.obj_memory.specs.Sound.{IsSoundTag}
-use Rattle.source_meaning.specs.State.{State as Source, Outcome as Completed, Gives, Ended, on, done, choose}
+use Rattle.source_meaning.specs.State.{State as Source, Ended, on, done, choose}
 use Rattle.source_meaning.specs.Acting.{at_work, state_of}
 use Rattle.source_meaning.specs.Bytes.{look, order}
 use Rattle.source_meaning.specs.Strings.{reach, go_on, compare_within, strcmp}
@@ -21,7 +21,7 @@ use Rattle.flat_meaning.specs.Words.{IsOfWords}
 use Rattle.flat_meaning.specs.Meaning.{Context, Goes}
 use Rattle.flat_routines.specs.declared.registers.Held.{Held}
 use Rattle.flat_routines.specs.Registers.{AreNoneOf, AreBelow}
-use Rattle.flat_routines.specs.Routine.{Outcome, Continues, Halts, Reaches}
+use Rattle.flat_routines.specs.Routine.{Outcome, Reaches}
 use Rattle.flat_routines.specs.Effects.{effects}
 use Rattle.flat_routines.specs.Metadata.{View, metadata_in, held_registers, ShowsNothing}
 use Rattle.flat_routines.proofs.Steps.{has_self}
@@ -167,8 +167,7 @@ module _ (map : MapSizes) (mapped : AreMapped map) (entry : View) (IsGood : Byte
           choose (go_on z u) (compare_within left (moved 1 a) (moved 1 b) line) (done (order z u))))
       next_is =
           let r = around x.objects a (Inside p) left_inside (inside_not_out p) in
-          let live = lives x.objects a r.number r.bounds p r.tag left_inside in
-          (
+          let live = lives x.objects a r.number r.bounds p r.tag left_inside in (
             byte_of x.objects r.number a.word,
             run_is ∙ ap (λ r. on r (λ z s. on (look b line s) (λ u.
                 choose (go_on z u) (compare_within left (moved 1 a) (moved 1 b) line) (done (order z u)))))
@@ -286,8 +285,13 @@ strcmp_does map entry IsGood a b into line t mapped none none' below below' into
     alone functions types k x (v ∷ []) charge weight s w stands held = absurd held.1
     alone functions types k x (v ∷ u ∷ []) charge weight s w stands held =
         strcmp_alone map mapped entry IsGood functions types k x v u charge weight line _ w
-        (record { objects = stands.objects; spaces = stands.spaces; keys = stands.keys; shown = (let z = stands.shown in
-            record { input = z.input; output = z.output; taken = z.taken; accesses = z.accesses }) })
+        (record {
+          objects = stands.objects;
+          spaces = stands.spaces;
+          keys = stands.keys;
+          shown = (let z = stands.shown in
+              record { input = z.input; output = z.output; taken = z.taken; accesses = z.accesses });
+        })
         (record { word = held.0.0.word; tag = held.0.0.tag }) held.0.1
         (record { word = held.1.0.0.word; tag = held.1.0.0.tag }) held.1.0.1
     alone functions types k x (v ∷ u ∷ z ∷ vs) charge weight s w stands held = absurd held.1.1

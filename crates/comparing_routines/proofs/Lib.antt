@@ -4,3 +4,5 @@ pub mod Seeks
 pub mod Sought
 pub mod Pairs
 pub mod Compared
+pub mod Ranges
+pub mod RangesCompared

@@ -1,35 +1,33 @@
 -- `strcmp` alone: pairs of bytes are compared as in the source.
-use Rattle.std.proofs.Common.{◌≡◌, ◌≢◌, ℕ, zero, suc, ◌+◌, ◌-◌, ◌*◌, ◌/◌, ◌%◌, ◌^◌, ◌<◌, ◌≤◌, ◌⊎◌, inl, inr, ⊎_elim, List, [], ◌∷◌, ◌++◌}
-use Rattle.std.proofs.Common.{Bool, true, false, ◌==◌, ◌&&◌, not, if◌then◌else◌, length, refl, sym, ap, ◌∙◌, subst, arith}
+use Rattle.std.proofs.Common.{◌≡◌, ◌≢◌, ℕ, zero, suc, ◌+◌, ◌-◌, ◌*◌, ◌%◌, ◌^◌, ◌<◌, ◌≤◌, ⊎_elim, List, [], ◌∷◌, ◌++◌}
+use Rattle.std.proofs.Common.{Bool, true, false, ◌==◌, ◌&&◌, not, if◌then◌else◌, refl, sym, ap, ◌∙◌, subst, arith}
 use Rattle.std.specs.Prelude.{nat_lt, nat_le}
-use Rattle.std.proofs.lemmas.Bool.{cases_eq, cases_lt, eq-eqb, ne_eqb, eqb-true, eqb-false, ltb-true, le-ltb, lt-leb, and_right, cond-false}
+use Rattle.std.proofs.lemmas.Bool.{cases_eq, eq-eqb, ne_eqb, eqb-true, eqb-false, ltb-true, le-ltb, lt-leb, and_right, cond-false}
 use Rattle.sb_base.specs.declared.ending.Ending.TheVariants.{Spatial}
 use Rattle.addr_map.specs.Places.{MapSizes}
 use Rattle.rv_isa.specs.declared.instruction.BranchOp.TheVariants.{Beq, Bne}
-use Rattle.rv_isa.specs.declared.instruction.RegOp.TheVariants.{Add, Sub, Sltu}
-use Rattle.rv_isa.specs.declared.instruction.LoadOp.TheVariants.{Lbu}
+use Rattle.rv_isa.specs.declared.instruction.RegOp.TheVariants.{Add}
 use Rattle.rv_isa.specs.Results.{reg_result, extended, branch_taken, bit_of}
 use Rattle.obj_memory.specs.declared.value.Bounds.{Bounds}
 use Rattle.obj_memory.specs.declared.value.Tag.TheVariants.{OfObject}
 use Rattle.obj_memory.specs.declared.value.Value.{Value}
-use Rattle.obj_memory.specs.declared.judgement.Verdict.TheVariants.{Outside as Out, Dead, Inside}
-use Rattle.obj_memory.specs.Objects.{Objects, object_at}
-use Rattle.obj_memory.specs.Judgement.{place_in, judged, judge, moved}
+use Rattle.obj_memory.specs.declared.judgement.Verdict.TheVariants.{Outside as Out}
+use Rattle.obj_memory.specs.Judgement.{judged, judge, moved}
 use Rattle.obj_memory.specs.Operators.{one_if}
 use Rattle.obj_memory.specs.Sound.{IsSound}
-use Rattle.source_meaning.specs.State.{State as Source, Outcome as Completed, Gives, Ended, Run, on, done, stop, choose}
+use Rattle.source_meaning.specs.State.{State as Source, Outcome as Completed, Gives, Ended, Run, on, done, choose}
 use Rattle.source_meaning.specs.Acting.{at_work, state_of}
 use Rattle.source_meaning.specs.Bytes.{look, order}
 use Rattle.source_meaning.specs.Strings.{go_on, compare_within}
 use Rattle.flat_meaning.specs.declared.instruction.RightOperand.TheVariants.{Register, Number}
 use Rattle.flat_meaning.specs.declared.instruction.FlatInstruction.{FlatInstruction}
-use Rattle.flat_meaning.specs.declared.instruction.FlatInstruction.TheVariants.{Move, Operate, Load}
-use Rattle.flat_meaning.specs.Memory.{Bytes, put, load}
+use Rattle.flat_meaning.specs.declared.instruction.FlatInstruction.TheVariants.{Move, Operate}
+use Rattle.flat_meaning.specs.Memory.{put, load}
 use Rattle.flat_meaning.specs.Spaces.{is_allowed}
 use Rattle.flat_meaning.specs.State.{State}
 use Rattle.flat_meaning.specs.Meaning.{Context, Goes}
 use Rattle.flat_routines.specs.declared.registers.Held.{Held}
-use Rattle.flat_routines.specs.Routine.{HasAt, Outcome, Continues, Halts, Reaches}
+use Rattle.flat_routines.specs.Routine.{HasAt, Outcome, Reaches}
 use Rattle.flat_routines.specs.Effects.{worked, effects, AreAllowed}
 use Rattle.flat_routines.specs.Metadata.{ShowsNothing}
 use Rattle.flat_routines.proofs.Steps.{has_self, has_front, has_back}
@@ -216,8 +214,7 @@ module _ (map : MapSizes) (charge weight line : ℕ) (g : Views) (k : Keys) (fun
     may_load : AreAllowed c (pair_code 11 12 13 14) f
     unfolding put
     may_load =
-        let l = h.left_is in let l' = h.left_is' in
-        (
+        let l = h.left_is in let l' = h.left_is' in (
           ap (λ a. is_allowed map a 1) at_first ∙ bytes.allowed p.word h.from (omega arith),
           (ap (λ a. is_allowed map a 1) at_second ∙ bytes'.allowed q.word h.from' (omega arith), tt),
         )

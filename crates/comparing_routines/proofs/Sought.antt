@@ -160,7 +160,8 @@ module _ (map : MapSizes) (mapped : AreMapped map) (entry : View) (IsGood : Byte
         let live = lives x.objects v a.number a.bounds q a.tag e in
         let hi = a.hi in
         let left = a.bounds.bound - v.word - 1 in
-        let reached : reach v ≡ suc left = reach_is v a.number a.bounds a.tag ∙ omega arith in
+        let reach_by : reach v ≡ a.bounds.bound - v.word = reach_is v a.number a.bounds a.tag in
+        let reached : reach v ≡ suc left = omega arith in
         let bytes = bytes_of g k x.objects a.number a.bounds f.memory stands.objects live (sound_of functions x v a sound) in
         let is : strchr v byte line x ≡ seek_within (suc left) ch v line x = ap (λ i. seek_within i ch v line x) reached in
         let z2 = effects c (seek_start own own_into 5 12) z in

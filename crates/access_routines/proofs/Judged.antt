@@ -75,6 +75,16 @@ direct_by functions objects v n (OfObject o b) same e live sound =
       end = omega arith;
     }
 
+-- ---- lists
+
+-- both tests of a size and an access, where the size and the access are known by equations
+pub both_tests_then : (h : Held) (line t size n : ℕ) (r items access : List FlatInstruction)
+    → r ≡ (spatial_code h (Number size) line t ++ temporal_code h line t) ++ items → size ≡ n → items ≡ access
+    → r ≡ (spatial_code h (Number n) line t ++ temporal_code h line t) ++ access
+both_tests_then h line t size n r items access e sizes same =
+    e ∙ ap (λ z. (spatial_code h (Number z) line t ++ temporal_code h line t) ++ items) sizes
+    ∙ ap (λ l. (spatial_code h (Number n) line t ++ temporal_code h line t) ++ l) same
+
 -- ---- in flat code
 
 abbrev pub AreAllBelow : (scratch : ℕ) → List Holder → Type 0
@@ -223,7 +233,7 @@ module _ (ground : Ground) (mapped : AreMapped ground.map) (h : Held) (n line t 
           tested_life =
               let held' = held_still g k x.objects (InPointer h) v [] t f z same.others below
               (none_of_none (held_registers h)) held.0 in
-              (temporal_does h line t below g k x v n ground.is_runtime charge weight mapped).from code (pc + 7) z
+              (temporal_does h line t below g k x v v.word n ground.is_runtime charge weight mapped).from code (pc + 7) z
               (has_back code pc spatial temporal (has_front code pc tests access has)) wz (
                 record {
                   stands = (for_still g k ground.IsGood x f z same.memory same.shows stands).objects;

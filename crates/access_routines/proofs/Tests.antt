@@ -200,9 +200,9 @@ spatial_does h size line t below fits g k x v n runtime charge weight = record {
 -- ---- the life of the object
 
 module _ (h : Held) (line t : ℕ) (below : AreBelow t (held_registers h)) (g : Views) (k : Keys) (x : Source) (v : Value)
-    (n : ℕ) (runtime : Bool) (charge weight : ℕ) (mapped : AreMapped g.sizes) (code : List FlatInstruction) (pc : ℕ)
+    (a n : ℕ) (runtime : Bool) (charge weight : ℕ) (mapped : AreMapped g.sizes) (code : List FlatInstruction) (pc : ℕ)
     (s : State) (has : HasAt code pc (temporal_code h line t)) (w : IsOfWords s) (p : IsToTest g k x.objects v h s)
-    (within : is_within v.tag v.word n ≡ true) where
+    (within : is_within v.tag a n ≡ true) where
   abbrev c : Context
   c = context_of g.sizes runtime charge weight
 
@@ -224,9 +224,9 @@ module _ (h : Held) (line t : ℕ) (below : AreBelow t (held_registers h)) (g : 
 
   same_loaded : IsSameBut t s loaded
   same_loaded =
-      let l = has_lock g k x.objects s.memory v.tag v.word n p.stands p.sound within in
+      let l = has_lock g k x.objects s.memory v.tag a n p.stands p.sound within in
       let lie = locks_laid_out g.sizes mapped in
-      let a = l.first in let first = lie.first in let at = at_lock in
+      let from = l.first in let first = lie.first in let at = at_lock in
       record {
         memory = refl;
         shows = record {
@@ -241,9 +241,9 @@ module _ (h : Held) (line t : ℕ) (below : AreBelow t (held_registers h)) (g : 
 
   may_look : is_allowed c.sizes ((s.values h.tag.lock + 0) % 2 ^ 64) 8 ≡ true
   may_look =
-      let l = has_lock g k x.objects s.memory v.tag v.word n p.stands p.sound within in
+      let l = has_lock g k x.objects s.memory v.tag a n p.stands p.sound within in
       let lie = locks_laid_out g.sizes mapped in
-      let a = l.first in let b = l.last in let first = lie.first in let cells = lie.cells in
+      let from = l.first in let to = l.last in let first = lie.first in let cells = lie.cells in
       let blocks = lie.blocks in let inside = lie.inside in let small = lie.small in let at = at_lock in
       space_allowed c.sizes ((s.values h.tag.lock + 0) % 2 ^ 64) 8 (omega arith) (omega arith)
 
@@ -253,14 +253,14 @@ module _ (h : Held) (line t : ℕ) (below : AreBelow t (held_registers h)) (g : 
       (branch c code 1 (pc + 1) loaded Beq t (Register h.tag.key) 1 (pc + 3) S has.1.0
       (λ e.
       let same = sym word_is ∙ if_equal _ _ e ∙ key_is in
-      let live = lives_by_lock g k x.objects s.memory v.tag v.word n p.stands p.sound within same in
+      let live = lives_by_lock g k x.objects s.memory v.tag a n p.stands p.sound within same in
       arrived c code 1 (worked c loaded) (pc + 1 + 1 + 1) (pc + 3) S (omega arith)
       (subst (λ b. IsTested (pass_or_stop b (Temporal line) x) t s (Continues (worked c loaded))) (sym live)
       (same_at_work t s loaded _ same_loaded)))
       (λ e.
       let differs : load 8 s.memory (spell g k v.tag).lock ≢ (spell g k v.tag).key =
       λ q. if_unequal _ _ e (word_is ∙ q ∙ sym key_is) in
-      let dead = dead_by_lock g k x.objects s.memory v.tag v.word n p.stands p.sound within differs in
+      let dead = dead_by_lock g k x.objects s.memory v.tag a n p.stands p.sound within differs in
       ended c code 0 (Temporal line) (worked c loaded) (pc + 1 + 1) (pc + 3) S has.1.1.0
       (over (counted c (End (Temporal line)) (worked c loaded)) dead (same_at_work t s loaded _ same_loaded))))
     where
@@ -272,7 +272,7 @@ module _ (h : Held) (line t : ℕ) (below : AreBelow t (held_registers h)) (g : 
 
 pub temporal_does : (h : Held) (line t : ℕ) → AreBelow t (held_registers h)
     → IsTemporalRoutine h line t (temporal_code h line t)
-temporal_does h line t below g k x v n runtime charge weight mapped = record {
+temporal_does h line t below g k x v a n runtime charge weight mapped = record {
   from = λ code pc s has w p.
-      tests_life h line t below g k x v n runtime charge weight mapped code pc s has w p.0 p.1;
+      tests_life h line t below g k x v a n runtime charge weight mapped code pc s has w p.0 p.1;
 }

@@ -73,11 +73,11 @@ abbrev pub temporal_code : Held → (line scratch : ℕ) → List FlatInstructio
 temporal_code h line t =
     Load Ld t h.tag.lock 0 ∷ Branch Beq t (Register h.tag.key) 1 ∷ End (Temporal line) ∷ []
 
--- Within 3 steps, where the bounds were tested before: else a tag need not be that of an object, and there is no lock
--- word to look at.
+-- Within 3 steps, where some bytes from some address on are within the bounds of the tag, as those are whose bounds were
+-- tested: else it need not be that of an object, and there is no lock word to look at.
 abbrev pub IsTemporalRoutine : Held → (line scratch : ℕ) → List FlatInstruction → Type 0
 IsTemporalRoutine h line t r =
-    (g : Views) (k : Keys) (x : Source) (v : Value) (n : ℕ) (runtime : Bool) (charge weight : ℕ) → AreMapped g.sizes
+    (g : Views) (k : Keys) (x : Source) (v : Value) (a n : ℕ) (runtime : Bool) (charge weight : ℕ) → AreMapped g.sizes
     → Does (record { sizes = g.sizes; is_runtime = runtime; charge = charge; weight = weight }) r
-    (λ s. IsToTest g k x.objects v h s × (is_within v.tag v.word n ≡ true)) (λ s. 3)
+    (λ s. IsToTest g k x.objects v h s × (is_within v.tag a n ≡ true)) (λ s. 3)
     (λ s. IsTested (test_life v line x) t s)

@@ -174,6 +174,16 @@ module _ (map : MapSizes) (mapped : AreMapped map) (entry : View) (IsGood : Byte
                 (looked functions x r.number r.bounds a line stands.objects.sound r.tag live r.lo r.hi),
           )
 
+      -- the loop answers for the whole
+      compared_then : (z : State) (spent : ℕ) → (state_of (compare_within (suc left) a b line x)).work ≡ x.work + spent
+          → Reaches c C (5 * spent) (Goes 23 z) 37 (IsAnswered g k (Word 10) x f (compare_within (suc left) a b line x))
+          → Reaches c C (5 * W) (Goes 23 z) 37 R
+      compared_then z spent work r =
+          let all : (state_of (strcmp a b line x)).work ≡ x.work + spent = ap (λ o. (state_of o).work) run_is ∙ work in
+          let same : W ≡ spent = omega arith in
+          weaken c C (5 * spent) (5 * W) (Goes 23 z) 37 _ R (omega arith)
+          (λ o h. subst (λ u. IsAnswered g k (Word 10) x f u o) (sym run_is) h) r
+
       behind : (q : Place) → judge 1 b x.objects ≡ Inside q → (z : State) → IsSameBut 14 y z
           → Reaches c C (2 + 5 * W) (Goes 21 z) 37 R
       unfolding put
@@ -213,13 +223,8 @@ module _ (map : MapSizes) (mapped : AreMapped map) (entry : View) (IsGood : Byte
           } in
           let got = compares map charge weight line g k functions x r.number r.bounds s.number s.bounds f
           stands.objects.sound bytes bytes' left left' x.work a b z2 paired in
-          let work = got.work in
-          let all : (state_of (strcmp a b line x)).work ≡ x.work + got.spent = ap (λ o. (state_of o).work) run_is ∙ work in
-          let spent : W ≡ got.spent = omega arith in
           line_on c C (Move 11 0 ∷ Move 12 5 ∷ []) (5 * W) 21 z 37 R (tt, (tt, tt))
-          ((has_cursors line).0, ((has_cursors line).1.0, tt))
-          (weaken c C (5 * got.spent) (5 * W) (Goes 23 z2) 37 _ R (omega arith)
-          (λ o h. subst (λ u. IsAnswered g k (Word 10) x f u o) (sym run_is) h) got.reaches)
+          ((has_cursors line).0, ((has_cursors line).1.0, tt)) (compared_then z2 got.spent got.work got.reaches)
 
       right_part : (z : State) → IsOfWords z → IsSameBut 14 y z → Reaches c C (10 + (2 + 5 * W)) (Goes 11 z) 37 R
       right_part z wz same =

@@ -153,6 +153,18 @@ module _ (map : MapSizes) (mapped : AreMapped map) (entry : View) (IsGood : Byte
       turns = s.turns;
     }
 
+    -- the loop answers for the whole
+    sought_then : (z : State) (left spent : ℕ) → strchr v byte line x ≡ seek_within (suc left) ch v line x
+        → (state_of (seek_within (suc left) ch v line x)).work ≡ x.work + spent
+        → Reaches c C (6 * spent + 5) (Goes 14 z) 31
+        (IsAnswered g k (Pointer own_into) x f (seek_within (suc left) ch v line x))
+        → Reaches c C (5 + 6 * W) (Goes 14 z) 31 R
+    sought_then z left spent is work r =
+        let all : (state_of (strchr v byte line x)).work ≡ x.work + spent = ap (λ o. (state_of o).work) is ∙ work in
+        let same : W ≡ spent = omega arith in
+        weaken c C (6 * spent + 5) (5 + 6 * W) (Goes 14 z) 31 _ R (omega arith)
+        (λ o h. subst (λ u. IsAnswered g k (Pointer own_into) x f u o) (sym is) h) r
+
     behind : (q : Place) → judge 1 v x.objects ≡ Inside q → (z : State) → IsSameBut 12 y z
         → Reaches c C (3 + (5 + 6 * W)) (Goes 11 z) 31 R
     behind q e z same =
@@ -167,13 +179,8 @@ module _ (map : MapSizes) (mapped : AreMapped map) (entry : View) (IsGood : Byte
         let z2 = effects c (seek_start own own_into 5 12) z in
         let r = seeks map charge weight line g k functions x a.number a.bounds f ch stands.objects.sound bytes left x.work v z2
         (started z same left a (omega arith) live) in
-        let work = r.work in
-        let all : (state_of (strchr v byte line x)).work ≡ x.work + r.spent = ap (λ o. (state_of o).work) is ∙ work in
-        let spent : W ≡ r.spent = omega arith in
-        line_on c C (seek_start own own_into 5 12) (5 + 6 * W) 11 z 31 R (tt, (tt, (tt, tt)))
-        (has_start line)
-        (weaken c C (6 * r.spent + 5) (5 + 6 * W) (Goes 14 z2) 31 _ R (omega arith)
-        (λ o h. subst (λ u. IsAnswered g k (Pointer own_into) x f u o) (sym is) h) r.reaches)
+        line_on c C (seek_start own own_into 5 12) (5 + 6 * W) 11 z 31 R (tt, (tt, (tt, tt))) (has_start line)
+        (sought_then z2 left r.spent is r.work r.reaches)
 
     pub strchr_alone : Reaches c C (20 + 6 * W) (Goes 0 f) 31 R
     strchr_alone =

@@ -1,14 +1,12 @@
-use Rattle.std.proofs.Common.{◌≤◌, [], ◌∷◌, ◌++◌, refl, sym, ap, ◌∙◌, subst, arith}
+use Rattle.std.proofs.Common.{◌≤◌, [], ◌∷◌, refl, sym, subst, arith}
 use Rattle.obj_memory.specs.Access.{scalar_size}
 use Rattle.source_meaning.specs.State.{on, done}
 use Rattle.source_meaning.specs.Actions.{integer, write_scalar}
 use Rattle.source_meaning.specs.Library.{argument}
-use Rattle.flat_meaning.specs.declared.instruction.RightOperand.TheVariants.{Number}
 use Rattle.flat_actions.specs.Actions.{Nowhere}
-use Rattle.access_routines.specs.Testing.{spatial_code, temporal_code}
 use Rattle.access_routines.specs.Holding.{scalar_in, holder_in}
 use Rattle.access_routines.specs.Accessing.{IsCheckedStore, program_ground, store_steps}
-use Rattle.access_routines.proofs.Judged.{checked_does}
+use Rattle.access_routines.proofs.Judged.{both_tests_then, checked_does}
 use Rattle.access_routines.proofs.checked.checked_store.Goals as goal
 
 pub returns : goal.returns
@@ -21,11 +19,8 @@ returns g c =
     let size = c.size.ensures.value in
     let some : 1 ≤ n = subst (λ z. 1 ≤ z) size c.size.ensures.some in
     let few : n ≤ 8 = subst (λ z. z ≤ 8) size c.size.ensures.few in
-    let same = c.in_ok-code.ensures
-    ∙ ap (λ z. (spatial_code a.pointer (Number z) a.line a.scratch ++ temporal_code a.pointer a.line a.scratch)
-    ++ c.deref.result.now) size
-    ∙ ap (λ l. (spatial_code a.pointer (Number n) a.line a.scratch ++ temporal_code a.pointer a.line a.scratch) ++ l)
-    c.deref.ensures.value in
+    let same = both_tests_then a.pointer a.line a.scratch c.size.result n c.in_ok-code.code.items c.deref.result.now access
+    c.in_ok-code.ensures size c.deref.ensures.value in
     subst (IsCheckedStore ground a.pointer a.from a.line a.scratch) (sym same)
     (checked_does ground c.requires.map a.pointer n a.line a.scratch c.requires.pointer some (omega arith)
     (holder_in a.from ∷ []) (c.requires.from, tt) Nowhere (store_steps a.from) access

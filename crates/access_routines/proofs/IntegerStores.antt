@@ -1,5 +1,6 @@
 -- An integer stored in flat code is the one that the source writes.
-use Rattle.std.proofs.Common.{◌≡◌, ℕ, ◌+◌, ◌*◌, ◌%◌, ◌^◌, ◌<◌, ◌≤◌, ◌⊎◌, inl, inr, ⊎_elim, List, [], ◌∷◌, ◌++◌, true, false}
+use Rattle.std.proofs.Common.{◌≡◌, ℕ, ◌+◌, ◌*◌, ◌%◌, ◌^◌, ◌<◌, ◌≤◌, ◌⊎◌, inl, inr, ⊎_elim, List, [], ◌∷◌, ◌++◌, true}
+use Rattle.std.proofs.Common.{false}
 use Rattle.std.proofs.Common.{refl, sym, ap, ◌∙◌, subst, arith}
 use Rattle.byteorder.specs.Endian.{little_bytes}
 use Rattle.byteorder.specs.Numbers.{length-bytes_low_first}
@@ -50,7 +51,8 @@ use Rattle.access_routines.specs.Accessing.{IsStoreRoutine, program_ground, stor
 use Rattle.access_routines.proofs.Places.{direct_allowed, of_objects, lies_last, access_allowed}
 use Rattle.access_routines.proofs.Shown.{ShowsOne, is_shown, with_noted, shown_one}
 use Rattle.access_routines.proofs.Integers.{address_is}
-use Rattle.access_routines.proofs.Kept.{IsLocal, KeepsTablesBytes, structures_behind, locks_first, store_keeps, store_is_put, store_good}
+use Rattle.access_routines.proofs.Kept.{IsLocal, KeepsTablesBytes, structures_behind, locks_first, store_keeps}
+use Rattle.access_routines.proofs.Kept.{store_is_put, store_good}
 
 -- the instruction of a type stores as many bytes as the type has
 store_size : (t : IntType) → store_bytes (store_op t) ≡ size_of t
@@ -70,7 +72,8 @@ store_size UnsignedLongLong = refl
 -- ---- in the source
 
 abbrev pub with_written : Scalar → Value → Value → Place → Source → Source
-with_written s v new p x = record (with_noted Write v.word (scalar_size s) x) { objects = write_value s new p x.objects }
+with_written s v new p x = record (with_noted Write v.word (scalar_size s) x)
+    { objects = write_value s new p x.objects }
 
 pub store_is : (s : Scalar) (v : Value) (line : ℕ) (new : Value) (x : Source) (d : IsDirect x.objects v (scalar_size s))
     → (source_store s false v line new >> done (integer 0)) x
@@ -118,7 +121,8 @@ written_elsewhere map old new n p v m m' keeps al beside behind =
     let e = keeps.at p.object in let at = al.address in let room = al.place.room in
     let address = e.address in let size = e.size in
     record {
-      low = λ b l out. beside b l (⊎_elim (λ z. inl (omega arith)) (λ z. inr (omega arith)) (out p.object (e.live ∙ al.live)));
+      low = λ b l out. beside b l (⊎_elim (λ z. inl (omega arith)) (λ z. inr (omega arith))
+          (out p.object (e.live ∙ al.live)));
       behind = λ b l. behind b (let s = structures_behind map in omega arith);
     }
 
@@ -173,7 +177,8 @@ module _ (map : MapSizes) (mapped : AreMapped map) (entry : View) (IsGood : Byte
     objects_stand =
         let n = size_of ty in
         let long = length-bytes_low_first 0 n new.word in
-        let is_put = store_is_put map n f.memory v.word new.word low mapped functions types entry IsGood is_local stands.spaces in
+        let is_put = store_is_put map n f.memory v.word new.word low mapped functions types entry IsGood is_local
+        stands.spaces in
         put_stands g k mapped (laid_out map mapped) x.objects f.memory (store n f.memory v.word new.word) stands.objects
         put p allowed.live (subst (IsPlace x.objects p) (sym long) allowed.place) (little_bytes_below n new.word)
         (subst (λ a. IsPut g put a f.memory (store n f.memory v.word new.word))
@@ -218,10 +223,13 @@ store_integer_does map entry IsGood h ty r t mapped is_local line functions type
     record {
       from = λ code pc f has w p.
           weaken _ code 1
-          (1 + 0 * work_of (source_store (OfInteger ty) false v line new >> done (integer 0)) x) (Goes pc f) (pc + 1) _ _
+          (1 + 0 * work_of (source_store (OfInteger ty) false v line new >> done (integer 0)) x) (Goes pc f) (pc + 1) _
+          _
           (omega arith) (λ o q. q)
-          (stores_integer map mapped entry IsGood is_local functions types k x v new charge weight code pc f w h t r line ty
+          (stores_integer map mapped entry IsGood is_local functions types k x v new charge weight code pc f w h t r
+          line ty
           has p.0 p.1.0 p.1.1.0 p.2);
     }
-store_integer_does map entry IsGood h ty r t mapped is_local line functions types k x (v ∷ new ∷ v' ∷ vs) charge weight =
+store_integer_does map entry IsGood h ty r t mapped is_local line functions types k x (v ∷ new ∷ v' ∷ vs) charge
+    weight =
     record { from = λ code pc f has w p. absurd p.1.1.1 }

@@ -93,7 +93,8 @@ module _ (map : MapSizes) (mapped : AreMapped map) (entry : View) (IsGood : Byte
             input = refl;
             output = refl;
             taken = refl;
-            accesses = is_shown map charge weight v.word _ (size_of ty) _ Read f.accesses at_is (load_size ty) in_objects;
+            accesses = is_shown map charge weight v.word _ (size_of ty) _ Read f.accesses at_is (load_size ty)
+                in_objects;
             turns = refl;
           } in
           let given = given_read g k IsGood (Word r) t x a f loaded (read_value (OfInteger ty) p x.objects) stands refl
@@ -109,9 +110,11 @@ load_integer_does map entry IsGood h ty r t mapped line functions types k x [] c
     record { from = λ code pc f has w p. absurd p.1 }
 load_integer_does map entry IsGood h ty r t mapped line functions types k x (v ∷ []) charge weight = record {
   from = λ code pc f has w p.
-      weaken _ code 1 (1 + 0 * work_of (source_load (OfInteger ty) false v line) x) (Goes pc f) (pc + 1) _ _ (omega arith)
+      weaken _ code 1 (1 + 0 * work_of (source_load (OfInteger ty) false v line) x) (Goes pc f) (pc + 1) _ _
+      (omega arith)
       (λ o q. q)
-      (loads_integer map mapped entry IsGood functions types k x v charge weight code pc f w h t p.0 p.1.0 ty r line has p.2);
+      (loads_integer map mapped entry IsGood functions types k x v charge weight code pc f w h t p.0 p.1.0 ty r line has
+      p.2);
 }
 load_integer_does map entry IsGood h ty r t mapped line functions types k x (v ∷ v' ∷ vs) charge weight =
     record { from = λ code pc f has w p. absurd p.1.1 }

@@ -1,5 +1,6 @@
 -- Both tests and then an access that names its object are an access that is judged.
-use Rattle.std.proofs.Common.{◌≡◌, ℕ, ◌+◌, ◌*◌, ◌^◌, ◌<◌, ◌≤◌, List, [], ◌∷◌, ◌++◌, Bool, true, false, length, refl, sym}
+use Rattle.std.proofs.Common.{◌≡◌, ℕ, ◌+◌, ◌*◌, ◌^◌, ◌<◌, ◌≤◌, List, [], ◌∷◌, ◌++◌, Bool, true, false, length, refl}
+use Rattle.std.proofs.Common.{sym}
 use Rattle.std.proofs.Common.{ap, ◌∙◌, subst, arith, ⊎_elim, length-append}
 use Rattle.std.proofs.lemmas.Bool.{leb-true, and_parts, cases_Bool}
 use Rattle.sb_base.specs.declared.ending.Ending.{Ending}
@@ -51,9 +52,12 @@ module _ (n : ℕ) (v : Value) (line : ℕ) (x : Source) where
   judged_by within live e e2 = two_tests n v line x ∙ step (is_within v.tag v.word n) e
     where
       step : (w : Bool) → w ≡ within
-          → on (pass_or_stop w (Spatial line) x) (λ u s. on (pass_or_stop (is_live_tag v.tag s.objects) (Temporal line) s)
-          (λ u s. located false n v line s)) ≡ by_tests within live
-      step true e = ap (λ l. on (pass_or_stop l (Temporal line) x) (λ u s. located false n v line s)) e2 ∙ ap (λ w. by_tests w live) e
+          → on (pass_or_stop w (Spatial line) x) (λ u s.
+          on (pass_or_stop (is_live_tag v.tag s.objects) (Temporal line) s) (λ u s. located false n v line s))
+          ≡ by_tests within live
+      step true e =
+          ap (λ l. on (pass_or_stop l (Temporal line) x) (λ u s. located false n v line s)) e2
+          ∙ ap (λ w. by_tests w live) e
       step false e = ap (λ w. by_tests w live) e
 
 -- bytes within the bounds of a tag whose object lives are bytes of that object
@@ -142,7 +146,8 @@ leaves_after g k IsGood result t x f f' same (Ended e x') (Continues z) h = h
 leaves_after g k IsGood result t x f f' same (Paused x') (Continues z) h = h
 leaves_after g k IsGood result t x f f' same (Paused x') (Halts status report z) h = h
 
-module _ (ground : Ground) (mapped : AreMapped ground.map) (h : Held) (n line t : ℕ) (below : AreBelow t (held_registers h))
+module _ (ground : Ground) (mapped : AreMapped ground.map) (h : Held) (n line t : ℕ)
+    (below : AreBelow t (held_registers h))
     (some : 1 ≤ n) (small : n < 2 ^ 64) (others : List Holder) (others_below : AreAllBelow t others) (result : Holder)
     (B : ℕ) (access : List FlatInstruction) (F : List Value → Completed Place → Completed Value)
     (ends : (vs : List Value) (e : Ending) (x : Source) → F vs (Ended e x) ≡ Ended e x)
@@ -189,9 +194,11 @@ module _ (ground : Ground) (mapped : AreMapped ground.map) (h : Held) (n line t 
           → is_live_tag v.tag x.objects ≡ true
           → Reaches c code B (Goes (pc + length tests) z) (pc + length (tests ++ access)) R
       accesses z wz same within live =
-          let is : run ≡ F (v ∷ vs) (located false n v line x) = ap (F (v ∷ vs)) (judged_by n v line x true true within live) in
+          let is : run ≡ F (v ∷ vs) (located false n v line x) = ap (F (v ∷ vs))
+          (judged_by n v line x true true within live) in
           let direct = direct_by functions x.objects v n v.tag refl within live held.0.1 in
-          let len : pc + length tests + length access ≡ pc + length (tests ++ access) = omega (arith, length-append tests access) in
+          let len : pc + length tests + length access ≡ pc + length (tests ++ access) = omega
+          (arith, length-append tests access) in
           let r = (does functions types k x (v ∷ vs) charge weight).from code (pc + length tests) z
           (has_back code pc tests access has) wz (
             for_still g k ground.IsGood x f z same.memory same.shows stands,
@@ -233,7 +240,8 @@ module _ (ground : Ground) (mapped : AreMapped ground.map) (h : Held) (n line t 
           tested_life =
               let held' = held_still g k x.objects (InPointer h) v [] t f z same.others below
               (none_of_none (held_registers h)) held.0 in
-              (temporal_does h line t below g k x v v.word n ground.is_runtime charge weight mapped).from code (pc + 7) z
+              (temporal_does h line t below g k x v v.word n ground.is_runtime charge weight mapped).from code (pc + 7)
+              z
               (has_back code pc spatial temporal (has_front code pc tests access has)) wz (
                 record {
                   stands = (for_still g k ground.IsGood x f z same.memory same.shows stands).objects;
@@ -257,7 +265,8 @@ module _ (ground : Ground) (mapped : AreMapped ground.map) (h : Held) (n line t 
           (λ status report s never. absurd never))
           (λ out.
           let is : run ≡ Ended (Spatial line) x =
-          ap (F (v ∷ vs)) (judged_by n v line x false (is_live_tag v.tag x.objects) out refl) ∙ ends (v ∷ vs) (Spatial line) x in
+          ap (F (v ∷ vs)) (judged_by n v line x false (is_live_tag v.tag x.objects) out refl)
+          ∙ ends (v ∷ vs) (Spatial line) x in
           weaken c code 5 (5 + (3 + B)) (Goes pc f) (pc + length (tests ++ access)) R R (omega arith) (λ o q. q)
           (ends_there c code 5 (Goes pc f) (pc + 7) (pc + length (tests ++ access))
           (IsTested (Ended (Spatial line) x) t f) R
@@ -278,7 +287,8 @@ module _ (ground : Ground) (mapped : AreMapped ground.map) (h : Held) (n line t 
           passed (Continues s) q = q
           passed (Halts status report s) q = q
 
-  pub checked_does : IsAction ground (λ vs x. F vs (located true n (argument 0 vs) line x)) (InPointer h ∷ others) result t
+  pub checked_does : IsAction ground (λ vs x. F vs (located true n (argument 0 vs) line x)) (InPointer h ∷ others)
+      result t
       (8 + B) 0 (tests ++ access)
   checked_does functions types k x [] charge weight = record { from = λ code pc f has w p. absurd p.1 }
   checked_does functions types k x (v ∷ vs) charge weight = record {

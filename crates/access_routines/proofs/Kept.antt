@@ -27,7 +27,8 @@ KeepsTablesBytes map m m' = (b : ℕ) → region_start map Locks ≤ b → m' b 
 -- what depends on the shadow space alone
 abbrev pub IsLocal : MapSizes → View → (Bytes → Type 0) → Type 0
 IsLocal map entry IsGood =
-    (m m' : Bytes) → KeepsShadow map m m' → IsGood m → IsGood m' × ((a : ℕ) → IsObjectWord map a → entry m' a ≡ entry m a)
+    (m m' : Bytes) → KeepsShadow map m m' → IsGood m → IsGood m' ×
+    ((a : ℕ) → IsObjectWord map a → entry m' a ≡ entry m a)
 
 record AreLaidBehind (map : MapSizes) : Type 0 where
   locks : region_start map Locks ≡ spaces_begin + region_size map Shadow
@@ -45,25 +46,27 @@ pub structures_behind : (map : MapSizes) → region_start map Locks ≤ region_s
 structures_behind map = (laid_behind map).structures
 
 module _ (map : MapSizes) (mapped : AreMapped map) (functions : ℕ) (types : ℕ → ℕ) (entry : View)
-    (IsGood : Bytes → Type 0) (m m' : Bytes) (keep : KeepsTablesBytes map m m') (good : AreSpacesGood map IsGood m) where
-  pub tables_stay : KeepsTables (views_of map functions types entry) m m'
-  tables_stay =
-      let lie = locks_laid_out map mapped in let behind = (laid_behind map).blocks in
-      record {
-        locks = λ a l. lock_kept map m m' lie (λ i il. keep _ (omega arith)) a l;
-        counter = counter_kept map m m' lie (λ i il. keep _ (omega arith));
-        blocks = rows_kept map m m' (table_laid_out map mapped) (λ i il. keep _ (omega arith)) good.table;
-      }
+    (IsGood : Bytes → Type 0) (m m' : Bytes) (keep : KeepsTablesBytes map m m') (good : AreSpacesGood map IsGood m)
+  where
+    pub tables_stay : KeepsTables (views_of map functions types entry) m m'
+    tables_stay =
+        let lie = locks_laid_out map mapped in let behind = (laid_behind map).blocks in
+        record {
+          locks = λ a l. lock_kept map m m' lie (λ i il. keep _ (omega arith)) a l;
+          counter = counter_kept map m m' lie (λ i il. keep _ (omega arith));
+          blocks = rows_kept map m m' (table_laid_out map mapped) (λ i il. keep _ (omega arith)) good.table;
+        }
 
-  pub spaces_stay : IsGood m' → AreSpacesGood map IsGood m'
-  spaces_stay shadow =
-      let behind = (laid_behind map).blocks in
-      record {
-        shadow = shadow;
-        locks = locks_kept map m m' (locks_laid_out map mapped) (λ i il. keep _ (omega arith)) (global_is_lock map mapped)
-            good.locks;
-        table = table_kept map m m' (table_laid_out map mapped) (λ i il. keep _ (omega arith)) good.table;
-      }
+    pub spaces_stay : IsGood m' → AreSpacesGood map IsGood m'
+    spaces_stay shadow =
+        let behind = (laid_behind map).blocks in
+        record {
+          shadow = shadow;
+          locks = locks_kept map m m' (locks_laid_out map mapped) (λ i il. keep _ (omega arith))
+              (global_is_lock map mapped)
+              good.locks;
+          table = table_kept map m m' (table_laid_out map mapped) (λ i il. keep _ (omega arith)) good.table;
+        }
 
 -- ---- a number stored
 
@@ -73,7 +76,8 @@ byte_is (suc i) v = refl
 
 next_byte : (i v : ℕ) → byte_at i (v / 256) ≡ byte_at (suc i) v
 next_byte i v =
-    byte_is i (v / 256) ∙ ap (λ z. z % 256) (div-div-eq-div-mul v 256 (256 ^ i) ∙ ap (λ z. v / z) (sym (pow-succ' 256 i)))
+    byte_is i (v / 256) ∙ ap (λ z. z % 256) (div-div-eq-div-mul v 256 (256 ^ i)
+    ∙ ap (λ z. v / z) (sym (pow-succ' 256 i)))
 
 -- each of its bytes in memory
 stored_byte : (n i : ℕ) (m : Bytes) (a v : ℕ) → i < n → store n m a v (a + i) ≡ byte_at i v

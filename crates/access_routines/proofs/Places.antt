@@ -64,11 +64,14 @@ load_size UnsignedLongLong = refl
 pub load_fits : (t : IntType) (n : ℕ) → n < 256 ^ size_of t → extended (load_op t) n ≡ fit t n
 unfolding load_op size_of extended fit
 load_fits Char n l = omega arith
-load_fits SignedChar n l = let e : n % 2 ^ 8 ≡ n = omega arith in ap (λ k. if nat_le (2 ^ 7) k then k + (2 ^ 64 - 2 ^ 8) else k) (sym e)
+load_fits SignedChar n l = let e : n % 2 ^ 8 ≡ n = omega arith in ap
+    (λ k. if nat_le (2 ^ 7) k then k + (2 ^ 64 - 2 ^ 8) else k) (sym e)
 load_fits UnsignedChar n l = omega arith
-load_fits Short n l = let e : n % 2 ^ 16 ≡ n = omega arith in ap (λ k. if nat_le (2 ^ 15) k then k + (2 ^ 64 - 2 ^ 16) else k) (sym e)
+load_fits Short n l = let e : n % 2 ^ 16 ≡ n = omega arith in ap
+    (λ k. if nat_le (2 ^ 15) k then k + (2 ^ 64 - 2 ^ 16) else k) (sym e)
 load_fits UnsignedShort n l = omega arith
-load_fits Int n l = let e : n % 2 ^ 32 ≡ n = omega arith in ap (λ k. if nat_le (2 ^ 31) k then k + (2 ^ 64 - 2 ^ 32) else k) (sym e)
+load_fits Int n l = let e : n % 2 ^ 32 ≡ n = omega arith in ap
+    (λ k. if nat_le (2 ^ 31) k then k + (2 ^ 64 - 2 ^ 32) else k) (sym e)
 load_fits UnsignedInt n l = omega arith
 load_fits Long n l = omega arith
 load_fits UnsignedLong n l = omega arith
@@ -105,7 +108,8 @@ module _ (g : Views) (k : Keys) (objects : Objects) (m : Bytes) (ok : IsLaidOut 
       let room = a.place.room in let at = a.address in
       let o = object_at objects p.object in
       let e : o.address + (p.offset + j) ≡ v.word + j = omega arith in
-      subst (λ b. m b ≡ get_or o.bytes (p.offset + j) 0) e ((st.here p.object a.live).bytes (p.offset + j) (omega arith))
+      subst (λ b. m b ≡ get_or o.bytes (p.offset + j) 0) e ((st.here p.object a.live).bytes (p.offset + j)
+      (omega arith))
 
   -- and so is the number that they spell
   pub number_there : load n m v.word ≡ little_number n (bytes_at n p objects)

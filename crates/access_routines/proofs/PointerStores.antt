@@ -57,10 +57,11 @@ use Rattle.flat_actions.proofs.Standing.{entry_stays, none_of_none}
 use Rattle.access_routines.specs.declared.held.HeldScalar.TheVariants.{Pointer}
 use Rattle.access_routines.specs.Accessing.{IsStoreRoutine, program_ground, store_pointer_code}
 use Rattle.access_routines.proofs.Places.{direct_allowed, of_objects, lies_last, word_there, access_allowed}
-use Rattle.access_routines.proofs.Shown.{ShowsOne, shows_one_then, is_shown}
+use Rattle.access_routines.proofs.Shown.{ShowsOne, shows_one_then, one_at_work, is_shown}
 use Rattle.access_routines.proofs.Integers.{address_is}
 use Rattle.access_routines.proofs.Pointers.{effects_words, if_aligned, if_misaligned}
-use Rattle.access_routines.proofs.Kept.{IsLocal, KeepsTablesBytes, locks_first, store_keeps_tables, store_is_put, store_good}
+use Rattle.access_routines.proofs.Kept.{IsLocal, KeepsTablesBytes, locks_first, store_keeps_tables, store_is_put}
+use Rattle.access_routines.proofs.Kept.{store_good}
 use Rattle.access_routines.proofs.Kept.{tables_stay, spaces_stay}
 use Rattle.access_routines.proofs.IntegerStores.{store_is, given_written, written_elsewhere}
 
@@ -99,13 +100,15 @@ module _ (map : MapSizes) (mapped : AreMapped map) (entry : View) (IsGood : Byte
     new_object : object_at (write_tag t p objects) p.object ≡ tagged
     unfolding write_tag
     new_object =
-        ap (λ b. object_at (if b then set objects p.object tagged else objects) p.object) (eq-eqb (p.offset % 8) 0 offset_aligned)
+        ap (λ b. object_at (if b then set objects p.object tagged else objects) p.object)
+        (eq-eqb (p.offset % 8) 0 offset_aligned)
         ∙ object_set objects p.object tagged al.place.made
 
     other_objects : (j : ℕ) → j ≢ p.object → object_at (write_tag t p objects) j ≡ object_at objects j
     unfolding write_tag
     other_objects j ne =
-        ap (λ b. object_at (if b then set objects p.object tagged else objects) j) (eq-eqb (p.offset % 8) 0 offset_aligned)
+        ap (λ b. object_at (if b then set objects p.object tagged else objects) j)
+        (eq-eqb (p.offset % 8) 0 offset_aligned)
         ∙ object_set_other objects p.object j tagged ne
 
     -- the entries of the object
@@ -225,7 +228,8 @@ module _ (map : MapSizes) (mapped : AreMapped map) (entry : View) (IsGood : Byte
     half_stands : StandsFor gx k half m1
     half_stands =
         let long = length-bytes_low_first 0 8 new.word in
-        let is_put = store_is_put map 8 f.memory v.word new.word low mapped functions types entry IsGood is_local stands.spaces in
+        let is_put = store_is_put map 8 f.memory v.word new.word low mapped functions types entry IsGood is_local
+        stands.spaces in
         put_stands gx k mapped (laid_out map mapped) x.objects f.memory m1 stands.objects bytes p allowed.live
         (subst (IsPlace x.objects p) (sym long) allowed.place) (little_bytes_below 8 new.word)
         (subst (λ z. IsPut gx bytes z f.memory m1) (sym allowed.address) is_put)
@@ -239,7 +243,12 @@ module _ (map : MapSizes) (mapped : AreMapped map) (entry : View) (IsGood : Byte
         let keeps = keeps_bytes bytes p x.objects in
         let e = keeps.at p.object in let made = allowed.place.made in let room = allowed.place.room in
         let count = keeps.count in let size = e.size in let address = e.address in let at = allowed.address in
-        record { place = record { made = omega arith; room = omega arith }; live = e.live ∙ allowed.live; address = omega arith }
+        record {
+          place = record { made = omega arith; room = omega arith };
+          live = e.live
+              ∙ allowed.live;
+          address = omega arith;
+        }
 
     -- the state at the end, by its memory
     left : (z : State) (objects : Objects) → objects ≡ write_value OfPointer new p x.objects
@@ -263,9 +272,10 @@ module _ (map : MapSizes) (mapped : AreMapped map) (entry : View) (IsGood : Byte
         let off : p.offset % 8 ≢ 0 = λ e. ne
         (let z = (stands.objects.sound.at p.object).aligned in let at = allowed.address in omega arith) in
         left (worked c y) half (sym (no_tag_written new.tag p half off)) (keeps_bytes bytes p x.objects)
-        (subst (StandsFor gx k half) (sym memory_is) half_stands) (subst (AreSpacesGood map IsGood) (sym memory_is) half_good)
+        (subst (StandsFor gx k half) (sym memory_is) half_stands)
+        (subst (AreSpacesGood map IsGood) (sym memory_is) half_good)
         (λ b l. ap (λ q. q b) memory_is) (λ b l. ap (λ q. q b) memory_is)
-        (record { input = shows.input; output = shows.output; taken = shows.taken; accesses = shows.accesses; turns = shows.turns })
+        (one_at_work a f y _ shows)
         stays
 
     with_entry : v.word % 8 ≡ 0 → (o : Outcome)
@@ -290,7 +300,7 @@ module _ (map : MapSizes) (mapped : AreMapped map) (entry : View) (IsGood : Byte
         left z (write_tag new.tag p half) refl
         (keeps_then _ _ _ (keeps_bytes bytes p x.objects) (keeps_tag new.tag p half)) st good low' keep
         (shows_one_then a f (worked c y) z
-        (record { input = shows.input; output = shows.output; taken = shows.taken; accesses = shows.accesses; turns = shows.turns })
+        (one_at_work a f y _ shows)
         q.shows)
         (λ i l none. q.others i l tt ∙ stays i l tt)
 
@@ -305,12 +315,14 @@ module _ (map : MapSizes) (mapped : AreMapped map) (entry : View) (IsGood : Byte
         subst (λ n. Reaches c code 35 (Goes pc f) n R) end
         (line_on c code start_code 33 pc f (pc + 2 + length U) R may_start (has.0, (has.1.0, tt))
         (unless c code 32 (pc + 2) y Bne t (Number 0) write R rest
-        (λ e. without_entry (if_misaligned v.word (y.values t) shifted (eqb-false (y.values t) 0 (if_differ (y.values t) 0 e))))
+        (λ e. without_entry (if_misaligned v.word (y.values t) shifted
+        (eqb-false (y.values t) 0 (if_differ (y.values t) 0 e))))
         (λ e.
         let zero : y.values t ≡ 0 = eqb-true (y.values t) 0 (if_same (y.values t) 0 e) in
         let aligned = if_aligned v.word (y.values t) shifted zero in
         let at : y.values h.value ≡ v.word = stays h.value below.0 tt ∙ held.0.word in
-        let there = word_there gx k x.objects f.memory (laid_out map mapped) stands.objects v 8 p allowed (omega arith) aligned in
+        let there = word_there gx k x.objects f.memory (laid_out map mapped) stands.objects v 8 p allowed (omega arith)
+        aligned in
         weaken c code 32 32 (Goes (pc + 2 + 1) (worked c y)) (pc + 2 + 1 + length write) _ R (omega arith)
         (with_entry aligned)
         ((writes false charge weight).from code (pc + 2 + 1) (worked c y) rest.1 w2
@@ -320,16 +332,19 @@ pub store_pointer_does : (map : MapSizes) (entry : View) (IsGood : Bytes → Typ
     (write : List FlatInstruction) → AreMapped map → IsLocal map entry IsGood
     → AreBelow t (h.value ∷ held_registers from) → IsWriteRoutine map entry IsGood h.value from.tag t write
     → IsStoreRoutine (program_ground map entry IsGood) h (Pointer from) t (store_pointer_code h from t write)
-store_pointer_does map entry IsGood h from t write mapped is_local below writes line functions types k x [] charge weight =
+store_pointer_does map entry IsGood h from t write mapped is_local below writes line functions types k x [] charge
+    weight =
     record { from = λ code pc f has w p. absurd p.1 }
 store_pointer_does map entry IsGood h from t write mapped is_local below writes line functions types k x (v ∷ []) charge
     weight = record { from = λ code pc f has w p. absurd p.1.1 }
 store_pointer_does map entry IsGood h from t write mapped is_local below writes line functions types k x (v ∷ new ∷ [])
     charge weight = record {
       from = λ code pc f has w p.
-          weaken _ code 35 (35 + 0 * work_of (source_store OfPointer false v line new >> done (integer 0)) x) (Goes pc f)
+          weaken _ code 35 (35 + 0 * work_of (source_store OfPointer false v line new >> done (integer 0)) x)
+          (Goes pc f)
           (pc + length (store_pointer_code h from t write)) _ _ (omega arith) (λ o q. q)
-          (stores_pointer map mapped entry IsGood is_local h from t below write writes functions types k x v new charge weight
+          (stores_pointer map mapped entry IsGood is_local h from t below write writes functions types k x v new charge
+          weight
           line code pc f w has p.0 p.1.0 p.1.1.0 p.2);
     }
 store_pointer_does map entry IsGood h from t write mapped is_local below writes line functions types k x

@@ -48,7 +48,7 @@ use Rattle.access_routines.specs.Accessing.{IsLoadRoutine, program_ground, word_
 use Rattle.access_routines.proofs.Tests.{if_equal, if_unequal}
 use Rattle.access_routines.proofs.Places.{direct_allowed, of_objects, number_there, word_there, entry_there, none_there}
 use Rattle.access_routines.proofs.Places.{access_allowed}
-use Rattle.access_routines.proofs.Shown.{ShowsOne, shows_one_then, is_shown, load_is, given_read}
+use Rattle.access_routines.proofs.Shown.{ShowsOne, shows_one_then, one_at_work, is_shown, load_is, given_read}
 use Rattle.access_routines.proofs.Integers.{address_is}
 
 -- code without jumps leaves words
@@ -95,7 +95,8 @@ if_misaligned a s e z = λ q. z (let r : a ≡ 8 * (a / 8) = omega arith in omeg
 
 -- ---- the word, and the test
 
-module _ (map : MapSizes) (charge weight : ℕ) (h into : Held) (t : ℕ) (apart : AreDistinct (h.value ∷ held_registers into))
+module _ (map : MapSizes) (charge weight : ℕ) (h into : Held) (t : ℕ)
+    (apart : AreDistinct (h.value ∷ held_registers into))
     (below : AreBelow t (h.value ∷ held_registers into)) where
   abbrev c : Context
   c = context_of map false charge weight
@@ -198,9 +199,10 @@ module _ (map : MapSizes) (mapped : AreMapped map) (entry : View) (IsGood : Byte
         → Either (HasRead entry h.value into.tag t (worked cx y)) Never o → R o
     with_entry s e (Halts status report z) never = absurd never
     with_entry s e (Continues z) q =
-        let there = entry_there g k x.objects f.memory (laid_out map mapped) stands.objects v 8 p allowed (omega arith) e in
+        let there = entry_there g k x.objects f.memory (laid_out map mapped) stands.objects v 8 p allowed (omega arith)
+        e in
         given z (q.memory ∙ word.memory) (shows_one_then a f (worked cx y) z
-        (let i = word.shows in record { input = i.input; output = i.output; taken = i.taken; accesses = i.accesses; turns = i.turns })
+        (one_at_work a f y _ word.shows)
         q.shows)
         (q.others into.value (let b = below.1.0 in omega arith) apart.1.0 ∙ word.value)
         (q.read ∙ ap (λ m. entry m (y.values h.value)) word.memory ∙ ap (entry f.memory) word.kept ∙ there)
@@ -214,14 +216,16 @@ module _ (map : MapSizes) (mapped : AreMapped map) (entry : View) (IsGood : Byte
         let w1 = effects_words cx (start_code map charge weight h into t apart below) f may_start w in
         let w2 : IsOfWords (worked cx y) = record { values = w1.values; memory = w1.memory } in
         let len : pc + 8 + length read ≡ end = omega (arith, length-append W read) in
-        line_on cx code (start_code map charge weight h into t apart below) 34 pc f end R may_start (front.0, (front.1.0, tt))
+        line_on cx code (start_code map charge weight h into t apart below) 34 pc f end R may_start
+        (front.0, (front.1.0, tt))
         (branch cx code 33 (pc + 2) y Beq t (Number 0) 5 end R
         (let q : pc + 1 + 1 ≡ pc + 2 = omega arith in
         subst (λ n. slice_get code n ≡ Some (Branch Beq t (Number 0) 5)) q front.1.1.0)
         (λ e.
         let zero = if_equal _ _ e in
         let aligned = if_aligned v.word (y.values t) word.shifted zero in
-        let there = word_there g k x.objects f.memory (laid_out map mapped) stands.objects v 8 p allowed (omega arith) aligned in
+        let there = word_there g k x.objects f.memory (laid_out map mapped) stands.objects v 8 p allowed (omega arith)
+        aligned in
         let run = (reads false charge weight).from code (pc + 8) (worked cx y) back w2
         (subst (IsObjectWord map) (sym word.kept) there, subst IsGood (sym word.memory) stands.spaces.shadow) in
         let to : pc + 8 ≡ pc + 2 + 1 + 5 = omega arith in
@@ -243,8 +247,7 @@ module _ (map : MapSizes) (mapped : AreMapped map) (entry : View) (IsGood : Byte
         (jump_on cx code 0 (pc + 2 + 1 + 4) (length read) z end R jump.0
         (arrived cx code 0 (worked cx z) (pc + 2 + 1 + 4 + 1 + length read) end R (omega (arith, len))
         (given (worked cx z) (n.memory ∙ word.memory)
-        (shows_one_then a f y (worked cx z) word.shows
-        (let s = n.shows in record { input = s.input; output = s.output; taken = s.taken; accesses = s.accesses; turns = s.turns }))
+        (one_at_work a f z _ (shows_one_then a f (worked cx y) z (one_at_work a f y _ word.shows) n.shows))
         (n.others into.value apart.1.0 ∙ word.value)
         (n.entry ∙ none)
         (λ i l u. n.others i u.1 ∙ word.others i l u)))))))
@@ -255,12 +258,14 @@ pub load_pointer_does : (map : MapSizes) (entry : View) (IsGood : Bytes → Type
     → IsLoadRoutine (program_ground map entry IsGood) h (Pointer into) t (load_pointer_code h into t read)
 load_pointer_does map entry IsGood h into t read mapped apart below reads line functions types k x [] charge weight =
     record { from = λ code pc f has w p. absurd p.1 }
-load_pointer_does map entry IsGood h into t read mapped apart below reads line functions types k x (v ∷ []) charge weight =
+load_pointer_does map entry IsGood h into t read mapped apart below reads line functions types k x (v ∷ []) charge
+    weight =
     record {
       from = λ code pc f has w p.
           weaken _ code 36 (36 + 0 * work_of (source_load OfPointer false v line) x) (Goes pc f)
           (pc + length (load_pointer_code h into t read)) _ _ (omega arith) (λ o q. q)
-          (loads_pointer map mapped entry IsGood h into t apart below read reads functions types k x v charge weight line
+          (loads_pointer map mapped entry IsGood h into t apart below read reads functions types k x v charge weight
+          line
           code pc f w has p.0 p.1.0 p.2);
     }
 load_pointer_does map entry IsGood h into t read mapped apart below reads line functions types k x (v ∷ v' ∷ vs) charge

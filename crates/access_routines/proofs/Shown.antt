@@ -39,6 +39,16 @@ shows_one_then a f y z h s = record {
   turns = s.turns ∙ h.turns;
 }
 
+-- work plays no part
+pub one_at_work : (a : Access) (f y : State) (n : ℕ) → ShowsOne a f y → ShowsOne a f (record y { work = n })
+one_at_work a f y n h = record {
+  input = h.input;
+  output = h.output;
+  taken = h.taken;
+  accesses = h.accesses;
+  turns = h.turns;
+}
+
 -- an access of object space in a function of the program
 pub is_shown : (map : MapSizes) (charge weight a b n l : ℕ) (kind : AccessKind) (accesses : List Access) → b ≡ a
     → l ≡ n → is_of_objects map a n ≡ true

@@ -17,7 +17,8 @@ use Rattle.flat_routines.specs.declared.registers.Held.{Held}
 use Rattle.flat_routines.specs.Routine.{Outcome, Continues, Halts}
 use Rattle.flat_routines.proofs.Rules.{weaken}
 use Rattle.flat_objects.specs.StandsFor.{Views, Keys}
-use Rattle.flat_actions.specs.Actions.{Ground, IsFor, Nowhere, Pointer, Leaves, IsAction, IsActionIn, context_in, views_of}
+use Rattle.flat_actions.specs.Actions.{Ground, IsFor, Nowhere, Pointer, Leaves, IsAction, IsActionIn, context_in}
+use Rattle.flat_actions.specs.Actions.{views_of}
 use Rattle.flat_actions.specs.Actions.{work_of}
 use Rattle.flat_actions.proofs.Standing.{given_still, ended_still}
 use Rattle.access_routines.specs.Testing.{IsTested, IsSpatialRoutine, IsTemporalRoutine}
@@ -56,7 +57,8 @@ IsOfObject x vs = (a : ℕ) × (n : ℕ) × (is_within (argument 0 vs).tag a n �
 
 pub temporal_acts : (ground : Ground) (h : Held) (line t : ℕ) (r : List FlatInstruction) → AreMapped ground.map
     → IsTemporalRoutine h line t r
-    → IsActionIn ground IsOfObject (λ vs. test_life (argument 0 vs) line >> done (integer 0)) (Pointer h ∷ []) Nowhere t 3
+    → IsActionIn ground IsOfObject (λ vs. test_life (argument 0 vs) line >> done (integer 0)) (Pointer h ∷ []) Nowhere t
+    3
     0 r
 temporal_acts ground h line t r mapped does functions types k x [] charge weight =
     record { from = λ code pc f has w p. absurd p.1 }

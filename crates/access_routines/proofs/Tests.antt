@@ -147,7 +147,8 @@ module _ (h : Held) (size : RightOperand) (line t : ℕ) (below : AreBelow t (he
         ⊎ ((spell g k v.tag).bound < v.word + n)
         → R (Halts (code_of (Spatial line)) (report_of (Spatial line)) s')
     outside s' same out =
-        subst (λ b. IsTested (pass_or_stop b (Spatial line) x) t s (Halts (code_of (Spatial line)) (report_of (Spatial line)) s'))
+        subst (λ b. IsTested (pass_or_stop b (Spatial line) x) t s
+        (Halts (code_of (Spatial line)) (report_of (Spatial line)) s'))
         (sym (is_outside g k v.tag v.word n out)) (refl, refl, same)
 
     tests_bounds : Reaches c code 5 (Goes pc s) (pc + 7) R
@@ -164,7 +165,8 @@ module _ (h : Held) (size : RightOperand) (line t : ℕ) (below : AreBelow t (he
         let reach : s.values h.value ≤ s.values h.tag.bound = if_not_below _ _ e2 in
         let left : left_in s ≡ s.values h.tag.bound - s.values h.value = omega arith in
         let y = after s in
-        line_on c code (Operate Sub t h.tag.bound (Register h.value) ∷ []) 2 (pc + 1 + 1 + 1 + 1) (worked c (worked c s))
+        line_on c code (Operate Sub t h.tag.bound (Register h.value) ∷ []) 2 (pc + 1 + 1 + 1 + 1)
+        (worked c (worked c s))
         (pc + 7) R (tt, tt) (has.1.1.1.1.0, tt)
         (branch c code 1 (pc + 1 + 1 + 1 + 1 + 1) y Bgeu t size 1 (pc + 7) R has.1.1.1.1.1.0
         (λ e3.
@@ -267,7 +269,8 @@ module _ (h : Held) (line t : ℕ) (below : AreBelow t (held_registers h)) (g : 
       over : (s' : State) → is_live_tag v.tag x.objects ≡ false → IsSameBut t s s'
           → S (Halts (code_of (Temporal line)) (report_of (Temporal line)) s')
       over s' dead same = subst
-          (λ b. IsTested (pass_or_stop b (Temporal line) x) t s (Halts (code_of (Temporal line)) (report_of (Temporal line)) s'))
+          (λ b. IsTested (pass_or_stop b (Temporal line) x) t s
+          (Halts (code_of (Temporal line)) (report_of (Temporal line)) s'))
           (sym dead) (refl, refl, same)
 
 pub temporal_does : (h : Held) (line t : ℕ) → AreBelow t (held_registers h)

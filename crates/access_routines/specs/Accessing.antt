@@ -61,8 +61,8 @@ load_op UnsignedLongLong = Ld
 abbrev pub no_entry : Entry → List FlatInstruction
 no_entry e = Constant e.base 0 ∷ Constant e.bound 0 ∷ Constant e.key 0 ∷ Constant e.lock 0 ∷ []
 
--- An address is a multiple of 8 where its low three bits, alone in a word, are 0. There an entry of so many instructions
--- is read behind this, and elsewhere there is none.
+-- An address is a multiple of 8 where its low three bits, alone in a word, are 0. There an entry of so many
+-- instructions is read behind this, and elsewhere there is none.
 abbrev pub word_code : Held → Held → (scratch entry_length : ℕ) → List FlatInstruction
 word_code h into t n =
     Load Ld into.value h.value 0

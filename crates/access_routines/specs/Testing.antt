@@ -58,8 +58,8 @@ spatial_code h size line t =
     ∷ End (Spatial line)
     ∷ []
 
--- Of whatever objects, in functions of the program and of the runtime: within 5 steps the bounds are tested, of an access
--- of at least one byte.
+-- Of whatever objects, in functions of the program and of the runtime: within 5 steps the bounds are tested, of an
+-- access of at least one byte.
 abbrev pub IsSpatialRoutine : Held → (size : RightOperand) → (line scratch : ℕ) → List FlatInstruction → Type 0
 IsSpatialRoutine h size line t r =
     (g : Views) (k : Keys) (x : Source) (v : Value) (n : ℕ) (runtime : Bool) (charge weight : ℕ)
@@ -73,8 +73,8 @@ abbrev pub temporal_code : Held → (line scratch : ℕ) → List FlatInstructio
 temporal_code h line t =
     Load Ld t h.tag.lock 0 ∷ Branch Beq t (Register h.tag.key) 1 ∷ End (Temporal line) ∷ []
 
--- Within 3 steps, where some bytes from some address on are within the bounds of the tag, as those are whose bounds were
--- tested: else it need not be that of an object, and there is no lock word to look at.
+-- Within 3 steps, where some bytes from some address on are within the bounds of the tag, as those are whose bounds
+-- were tested: else it need not be that of an object, and there is no lock word to look at.
 abbrev pub IsTemporalRoutine : Held → (line scratch : ℕ) → List FlatInstruction → Type 0
 IsTemporalRoutine h line t r =
     (g : Views) (k : Keys) (x : Source) (v : Value) (a n : ℕ) (runtime : Bool) (charge weight : ℕ) → AreMapped g.sizes

@@ -37,8 +37,8 @@ pub fn checked_load<S: ShadowForm>(
     requires into { AreBelow scratch (registers_of (holder_in into)) }
     requires apart { AreApartFrom pointer into }
     requires room { scratch ≤ 2 ^ 31 }
-    ensures { IfOk result (λ r. IsCheckedLoad (program_ground map.now S.entry (S.IsGood map.now)) pointer into line scratch
-        r.items) }
+    ensures { IfOk result (λ r. IsCheckedLoad (program_ground map.now S.entry (S.IsGood map.now)) pointer into line
+        scratch r.items) }
 {
     let access = load::<S>(alloc, map, pointer, into, scratch)?;
     let code = behind_tests(alloc, pointer, into.size(), line, scratch, &access)?;
@@ -60,8 +60,8 @@ pub fn checked_store<S: ShadowForm>(
     requires pointer { AreBelow scratch (held_registers pointer) }
     requires from { AreBelow scratch (registers_of (holder_in from)) }
     requires room { scratch ≤ 2 ^ 31 }
-    ensures { IfOk result (λ r. IsCheckedStore (program_ground map.now S.entry (S.IsGood map.now)) pointer from line scratch
-        r.items) }
+    ensures { IfOk result (λ r. IsCheckedStore (program_ground map.now S.entry (S.IsGood map.now)) pointer from line
+        scratch r.items) }
 {
     let access = store::<S>(alloc, map, pointer, from, scratch)?;
     let code = behind_tests(alloc, pointer, from.size(), line, scratch, &access)?;

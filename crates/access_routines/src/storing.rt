@@ -19,8 +19,8 @@ use rv_isa::{BranchOp, RegOp, StoreOp};
 use shadow_space::ShadowForm;
 use std::alloc::{AllocError, Global};
 
-/// Stores the scalar in the registers of `from` through the pointer in `pointer`, which is to bytes of a live object: of
-/// a pointer the entry too, where the address is a multiple of 8. It may write the registers from `scratch` on. The
+/// Stores the scalar in the registers of `from` through the pointer in `pointer`, which is to bytes of a live object:
+/// of a pointer the entry too, where the address is a multiple of 8. It may write the registers from `scratch` on. The
 /// only refusal is that memory fails.
 pub fn store<S: ShadowForm>(
     alloc: Global,
@@ -83,8 +83,8 @@ fn store_pointer<S: ShadowForm>(
     requires map { AreMapped map.now }
     requires below { AreBelow scratch (pointer.value ∷ held_registers from) }
     requires room { scratch ≤ 2 ^ 31 }
-    ensures { IfOk result (λ r. IsStoreRoutine (program_ground map.now S.entry (S.IsGood map.now)) pointer (Pointer from)
-        scratch r.items) }
+    ensures { IfOk result (λ r. IsStoreRoutine (program_ground map.now S.entry (S.IsGood map.now)) pointer
+        (Pointer from) scratch r.items) }
 {
     S::entries_are_local();
     let write = S::write_entry(alloc, map, pointer.value, from.tag, scratch)?;

@@ -3,7 +3,8 @@
 ghost use Rattle.std.specs.Prelude.{◌≡◌, ◌≤◌, ◌^◌, IfOk};
 ghost use Rattle.flat_routines.specs.Registers.{AreBelow};
 ghost use Rattle.flat_routines.specs.Metadata.{held_registers};
-ghost use Rattle.access_routines.specs.Testing.{IsBelow, IsSpatialRoutine, IsTemporalRoutine, spatial_code, temporal_code};
+ghost use Rattle.access_routines.specs.Testing.{IsBelow, IsSpatialRoutine, IsTemporalRoutine, spatial_code};
+ghost use Rattle.access_routines.specs.Testing.{temporal_code};
 
 use flat_meaning::{FlatInstruction, RightOperand};
 use flat_routines::Held;

@@ -38,9 +38,11 @@ use Rattle.flat_actions.proofs.Standing.{others_trans}
 use Rattle.flat_actions.proofs.Judged.{after_judge}
 use Rattle.comparing_routines.specs.Answering.{IsAnswered, runtime_ground}
 use Rattle.comparing_routines.specs.Comparing.{strcmp_code, IsStrcmp}
-use Rattle.comparing_routines.proofs.Looks.{inside_not_out, dead_not_out, byte_of, looked, around, lives, reach_is, bytes_of, look_by}
+use Rattle.comparing_routines.proofs.Looks.{inside_not_out, dead_not_out, byte_of, looked, around, lives, reach_is}
+use Rattle.comparing_routines.proofs.Looks.{bytes_of, look_by}
 use Rattle.comparing_routines.proofs.Sought.{one_reached, sound_of}
-use Rattle.comparing_routines.proofs.Pairs.{own_left, own_right, own_strcmp, has_left, has_right, has_cursors, ArePaired}
+use Rattle.comparing_routines.proofs.Pairs.{own_left, own_right, own_strcmp, has_left, has_right, has_cursors}
+use Rattle.comparing_routines.proofs.Pairs.{ArePaired}
 use Rattle.comparing_routines.proofs.Pairs.{compares}
 use Rattle.comparing_routines.proofs.Wraps.{refused, AnswersAlone, GivesAs, answers_act}
 
@@ -115,7 +117,8 @@ module _ (map : MapSizes) (mapped : AreMapped map) (entry : View) (IsGood : Byte
         let o = kept z same in
         record {
           word = o 5 (omega arith) ∙ right_there.word;
-          tag = same_metadata (metadata_in z.values own_right.tag) (metadata_in y.values own_right.tag) (o 6 (omega arith))
+          tag = same_metadata (metadata_in z.values own_right.tag) (metadata_in y.values own_right.tag)
+              (o 6 (omega arith))
               (o 7 (omega arith)) (o 8 (omega arith)) (o 9 (omega arith)) ∙ right_there.tag;
         }
 
@@ -125,7 +128,14 @@ module _ (map : MapSizes) (mapped : AreMapped map) (entry : View) (IsGood : Byte
         (omega arith, (omega arith, (omega arith, (omega arith, (omega arith, (omega arith, tt)))))) in
         (judges own_left 13 line 14 below g k x.objects a 1 true charge weight mapped).from C 1 y (has_left line)
         (quiet_words c (Constant 13 1 ∷ []) f (tt, tt) w)
-        (record { stands = stands.objects; sound = left_sound; spells = left_spelled; size_is = size_is; some = omega arith })
+        (record {
+          stands = stands.objects;
+          sound = left_sound;
+          spells = left_spelled;
+          size_is = size_is;
+          some = omega
+              arith;
+        })
 
     right_judged : (z : State) → IsOfWords z → IsSameBut 14 y z
         → Reaches c C 10 (Goes 11 z) 21 (IsJudged (judge 1 b x.objects) line 14 z)
@@ -194,8 +204,10 @@ module _ (map : MapSizes) (mapped : AreMapped map) (entry : View) (IsGood : Byte
           let live' = lives x.objects b s.number s.bounds q s.tag right_inside in
           let hi = r.hi in let hi' = s.hi in
           let left' = s.bounds.bound - b.word - 1 in
-          let bytes = bytes_of g k x.objects r.number r.bounds f.memory stands.objects live (sound_of functions x a r left_sound) in
-          let bytes' = bytes_of g k x.objects s.number s.bounds f.memory stands.objects live' (sound_of functions x b s right_sound) in
+          let bytes = bytes_of g k x.objects r.number r.bounds f.memory stands.objects live
+          (sound_of functions x a r left_sound) in
+          let bytes' = bytes_of g k x.objects s.number s.bounds f.memory stands.objects live'
+          (sound_of functions x b s right_sound) in
           let z2 = effects c (Move 11 0 ∷ Move 12 5 ∷ []) z in
           let o = kept z same in
           let shows = shows_same z same in
@@ -245,7 +257,8 @@ module _ (map : MapSizes) (mapped : AreMapped map) (entry : View) (IsGood : Byte
         (line_on c C (Constant 13 1 ∷ []) (10 + (10 + (2 + 5 * W))) 0 f 37 R (tt, tt) ((has_self C).0, tt)
         (after_judge c C 10 (10 + (2 + 5 * W)) 1 11 37 y line 14 (judge 1 a x.objects) R
         (quiet_words c (Constant 13 1 ∷ []) f (tt, tt) w) left_judged
-        (λ e z same. refused g k (Word 10) x f (strcmp a b line x) (Spatial line) x.work z (left_out a b line x (reach a) e)
+        (λ e z same. refused g k (Word 10) x f (strcmp a b line x) (Spatial line) x.work z
+        (left_out a b line x (reach a) e)
         (shows_same z same))
         (λ e z same.
         let l = one_reached x a Dead e dead_not_out in
@@ -281,11 +294,14 @@ strcmp_does map entry IsGood a b into line t mapped none none' below below' into
         ),
       );
     } in
-    answers_act map entry IsGood ins scratch t (Word into) (Word 10) r (own_strcmp line) refl (Pointer a ∷ Pointer b ∷ [])
+    answers_act map entry IsGood ins scratch t (Word into) (Word 10) r (own_strcmp line) refl
+    (Pointer a ∷ Pointer b ∷ [])
     (λ vs. strcmp (argument 0 vs) (argument 1 vs) line) 24 5 alone given
   where
-    alone : AnswersAlone map entry IsGood (register_of (arguments_of a b) (into ∷ []) (t ∷ (t + 1) ∷ (t + 2) ∷ (t + 3) ∷ []))
-        (own_strcmp line) (Pointer a ∷ Pointer b ∷ []) (Word 10) (λ vs. strcmp (argument 0 vs) (argument 1 vs) line) 24 5
+    alone : AnswersAlone map entry IsGood (register_of (arguments_of a b) (into ∷ [])
+        (t ∷ (t + 1) ∷ (t + 2) ∷ (t + 3) ∷ []))
+        (own_strcmp line) (Pointer a ∷ Pointer b ∷ []) (Word 10) (λ vs. strcmp (argument 0 vs) (argument 1 vs) line) 24
+        5
     alone functions types k x [] charge weight s w stands held = absurd held
     alone functions types k x (v ∷ []) charge weight s w stands held = absurd held.1
     alone functions types k x (v ∷ u ∷ []) charge weight s w stands held =
@@ -301,5 +317,6 @@ strcmp_does map entry IsGood a b into line t mapped none none' below below' into
         (record { word = held.1.0.0.word; tag = held.1.0.0.tag }) held.1.0.1
     alone functions types k x (v ∷ u ∷ z ∷ vs) charge weight s w stands held = absurd held.1.1
 
-    given : GivesAs 15 (register_of (arguments_of a b) (into ∷ []) (t ∷ (t + 1) ∷ (t + 2) ∷ (t + 3) ∷ [])) (Word 10) (Word into)
+    given : GivesAs 15 (register_of (arguments_of a b) (into ∷ []) (t ∷ (t + 1) ∷ (t + 2) ∷ (t + 3) ∷ [])) (Word 10)
+        (Word into)
     given gs k v u s agrees h = sym (agrees.values 10 (omega arith)) ∙ h

@@ -117,7 +117,8 @@ around_by : (objects : Objects) (t : Tag) (a : ℕ) (w : Verdict) → judged 1 t
 around_by objects Untagged a w e ne = absurd (ne (sym e))
 around_by objects (OfFunction f) a w e ne = absurd (ne (sym e))
 around_by objects (OfObject n b) a w e ne =
-    let h = both_hold (nat_le b.base a) (nat_le (a + 1) b.bound) (object_at objects n).is_live (place_in objects n a) w e ne in
+    let h = both_hold (nat_le b.base a) (nat_le (a + 1) b.bound) (object_at objects n).is_live (place_in objects n a) w
+    e ne in
     record { number = n; bounds = b; tag = refl; lo = leb-true _ _ h.0; hi = leb-true _ _ h.1 }
 
 pub around : (objects : Objects) (v : Value) (w : Verdict) → judge 1 v objects ≡ w → w ≢ Out

@@ -2,7 +2,8 @@
 use Rattle.std.proofs.Common.{◌≡◌, ◌≢◌, ℕ, zero, suc, ◌+◌, ◌-◌, ◌*◌, ◌%◌, ◌^◌, ◌<◌, ◌≤◌, ⊎_elim, List, [], ◌∷◌, ◌++◌}
 use Rattle.std.proofs.Common.{Bool, true, false, ◌==◌, ◌&&◌, not, if◌then◌else◌, refl, sym, ap, ◌∙◌, subst, arith}
 use Rattle.std.specs.Prelude.{nat_lt, nat_le}
-use Rattle.std.proofs.lemmas.Bool.{cases_eq, eq-eqb, ne_eqb, eqb-true, eqb-false, ltb-true, le-ltb, lt-leb, and_right, cond-false}
+use Rattle.std.proofs.lemmas.Bool.{cases_eq, eq-eqb, ne_eqb, eqb-true, eqb-false, ltb-true, le-ltb, lt-leb, and_right}
+use Rattle.std.proofs.lemmas.Bool.{cond-false}
 use Rattle.sb_base.specs.declared.ending.Ending.TheVariants.{Spatial}
 use Rattle.addr_map.specs.Places.{MapSizes}
 use Rattle.rv_isa.specs.declared.instruction.BranchOp.TheVariants.{Beq, Bne}
@@ -72,7 +73,8 @@ refused_behind x n b v line tag l =
     ∙ cond-false (nat_le b.base v.word && nat_le (v.word + 1) b.bound) _ Out
     (and_right (nat_le b.base v.word) (nat_le (v.word + 1) b.bound) (lt-leb (v.word + 1) b.bound l)))
 
--- ---- the registers of the routine alone: 0 to 4 and 5 to 9 the strings, 10 the result, 11 and 12 the cursors, 13 and 14
+-- ---- the registers of the routine alone: 0 to 4 and 5 to 9 the strings, 10 the result, 11 and 12 the cursors, 13 and
+-- 14
 -- the bytes
 
 abbrev pub own_left : Held
@@ -117,7 +119,8 @@ has_order : (line : ℕ) → HasAt (own_strcmp line) 34 (order_code 13 14 11 12 
 has_order line =
     has_back (own_strcmp line) 23 (string_loop 11 12 2 7 line 13 14) (order_code 13 14 11 12 10) (has_cursors line).1.1
 
-module _ (map : MapSizes) (charge weight line : ℕ) (g : Views) (k : Keys) (functions : ℕ) (x0 : Source) (n : ℕ) (b : Bounds)
+module _ (map : MapSizes) (charge weight line : ℕ) (g : Views) (k : Keys) (functions : ℕ) (x0 : Source) (n : ℕ)
+    (b : Bounds)
     (n' : ℕ) (b' : Bounds) (f0 : State) (sound : IsSound functions x0.objects)
     (bytes : AreBytesOf map x0.objects n b f0.memory) (bytes' : AreBytesOf map x0.objects n' b' f0.memory) where
   abbrev c : Context
@@ -245,7 +248,8 @@ module _ (map : MapSizes) (charge weight line : ℕ) (g : Views) (k : Keys) (fun
         ap (λ i. (bit_of (nat_lt (z.values 14) i) + (2 ^ 64 - bit_of (nat_lt i (z.values 14)))) % 2 ^ 64) first
         ∙ ap (λ i. (bit_of (nat_lt i x) + (2 ^ 64 - bit_of (nat_lt x i))) % 2 ^ 64) second ∙ order_is x y in
         subst (λ r. Reaches c C 3 (Goes 34 z) 37 (A r)) (sym is)
-        (line_on c C (order_code 13 14 11 12 10) 0 34 z 37 (A (Gives (order x y) x2)) (tt, (tt, (tt, tt))) (has_order line)
+        (line_on c C (order_code 13 14 11 12 10) 0 34 z 37 (A (Gives (order x y) x2)) (tt, (tt, (tt, tt)))
+        (has_order line)
         (arrived c C 0 end 37 37 _ refl (record {
           source = working (w + 1 + 1);
           memory = memory ∙ h.memory;
@@ -389,7 +393,8 @@ module _ (map : MapSizes) (charge weight line : ℕ) (g : Views) (k : Keys) (fun
           second_refused : on (look (moved 1 q) line (at_work (w + 1 + 1 + 1) x0)) (λ u.
               choose (go_on (byte_of x0.objects n (moved 1 p).word) u)
               (compare_within j (moved 1 (moved 1 p)) (moved 1 (moved 1 q)) line)
-              (done (order (byte_of x0.objects n (moved 1 p).word) u))) ≡ Ended (Spatial line) (at_work (w + 1 + 1 + 1) x0)
+              (done (order (byte_of x0.objects n (moved 1 p).word) u))) ≡ Ended (Spatial line)
+              (at_work (w + 1 + 1 + 1) x0)
           second_refused =
               let at' = h.left_is' in let small' = bytes'.small in
               let word : (moved 1 q).word ≡ q.word + 1 = by_cases in
@@ -402,7 +407,8 @@ module _ (map : MapSizes) (charge weight line : ℕ) (g : Views) (k : Keys) (fun
               by_cases = let at' = h.left_is' in let small' = bytes'.small in moved_word q (omega arith)
 
       further : (j j' : ℕ) → left ≡ suc j → left' ≡ suc j'
-          → Compares j (w + 1 + 1) (moved 1 p) (moved 1 q) (worked c (worked c (both_stepped f))) → Compares left w p q f
+          → Compares j (w + 1 + 1) (moved 1 p) (moved 1 q) (worked c (worked c (both_stepped f)))
+          → Compares left w p q f
       further j j' more more' r =
           let is : run left w p q ≡ run j (w + 1 + 1) (moved 1 p) (moved 1 q) =
           goes_on ∙ ap (λ i. compare_within i (moved 1 p) (moved 1 q) line x2) more in
@@ -413,10 +419,12 @@ module _ (map : MapSizes) (charge weight line : ℕ) (g : Views) (k : Keys) (fun
             spent = 2 + r.spent;
             work = ap (λ z. (state_of z).work) is ∙ work ∙ omega arith;
             reaches = subst (λ z. Reaches c C (5 * (2 + r.spent)) (Goes 23 f) 37 (A z)) (sym is)
-                (weaken c C (7 + suc (suc (5 * r.spent))) (5 * (2 + r.spent)) (Goes 23 f) 37 Q Q (omega arith) (λ o i. i)
+                (weaken c C (7 + suc (suc (5 * r.spent))) (5 * (2 + r.spent)) (Goes 23 f) 37 Q Q (omega arith)
+                (λ o i. i)
                 (first_more j more Q (suc (suc (5 * r.spent)))
                 (branch c C (suc (5 * r.spent)) 31 (both_stepped f) Bne 12 (Register 7) 1 37 Q has.1.1.1.1.1.1.1.1.0
-                (λ t. jump_back c C (5 * r.spent) 33 10 23 (worked c (both_stepped f)) 37 Q has.1.1.1.1.1.1.1.1.1.1.0 refl
+                (λ t. jump_back c C (5 * r.spent) 33 10 23 (worked c (both_stepped f)) 37 Q has.1.1.1.1.1.1.1.1.1.1.0
+                refl
                 r.reaches)
                 (λ t. absurd (let same = if_alike _ _ t in omega arith)))));
           }

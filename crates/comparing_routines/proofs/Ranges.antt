@@ -134,149 +134,160 @@ module _ (map : MapSizes) (charge weight line : ℕ) (f0 : State) where
   abbrev stepped : State → State
   stepped f = effects c (Operate Add 12 12 (Number 1) ∷ Operate Add 13 13 (Number 1) ∷ []) (worked c (loaded f))
 
-  module _ (x : ℕ) (xs : List ℕ) (y : ℕ) (ys : List ℕ) (p q : ℕ) (f : State) (h : AreRanged (x ∷ xs) (y ∷ ys) p q f) where
-    at_first : (f.values 12 + 0) % 2 ^ 64 ≡ p
-    at_first = let s = h.first.small in let e = h.cursor in omega arith
+  module _ (x : ℕ) (xs : List ℕ) (y : ℕ) (ys : List ℕ) (p q : ℕ) (f : State) (h : AreRanged (x ∷ xs) (y ∷ ys) p q f)
+    where
+      at_first : (f.values 12 + 0) % 2 ^ 64 ≡ p
+      at_first = let s = h.first.small in let e = h.cursor in omega arith
 
-    at_second : (f.values 13 + 0) % 2 ^ 64 ≡ q
-    at_second = let s = h.second.small in let e = h.other in omega arith
+      at_second : (f.values 13 + 0) % 2 ^ 64 ≡ q
+      at_second = let s = h.second.small in let e = h.other in omega arith
 
-    first_is : (loaded f).values 14 ≡ x
-    unfolding put extended
-    first_is = ap (load 1 f.memory) at_first ∙ one_loaded f.memory p ∙ ap (λ m. m p) h.memory ∙ (here x xs p h.first).0
+      first_is : (loaded f).values 14 ≡ x
+      unfolding put extended
+      first_is =
+          ap (load 1 f.memory) at_first ∙ one_loaded f.memory p ∙ ap (λ m. m p) h.memory ∙ (here x xs p h.first).0
 
-    second_is : (loaded f).values 15 ≡ y
-    unfolding put extended
-    second_is = ap (load 1 f.memory) at_second ∙ one_loaded f.memory q ∙ ap (λ m. m q) h.memory ∙ (here y ys q h.second).0
+      second_is : (loaded f).values 15 ≡ y
+      unfolding put extended
+      second_is =
+          ap (load 1 f.memory) at_second ∙ one_loaded f.memory q ∙ ap (λ m. m q) h.memory
+          ∙ (here y ys q h.second).0
 
-    may_load : AreAllowed c (pair_code 12 13 14 15) f
-    unfolding put
-    may_load = (
-      ap (λ a. is_allowed map a 1) at_first ∙ (here x xs p h.first).1,
-      (ap (λ a. is_allowed map a 1) at_second ∙ (here y ys q h.second).1, tt),
-    )
-
-    quiet : (z : State) → z.input ≡ f.input → z.output ≡ f.output → z.taken ≡ f.taken → z.accesses ≡ f.accesses
-        → z.turns ≡ f.turns → ShowsNothing f0 z
-    quiet z a b c d e = let s = h.shows in record {
-      input = a ∙ s.input;
-      output = b ∙ s.output;
-      taken = c ∙ s.taken;
-      accesses = d ∙ s.accesses;
-      turns = e ∙ s.turns;
-    }
-
-    has : HasAt C 25 (range_loop 12 13 16 14 15)
-    has = has_loop line
-
-    abbrev ordered : State
-    ordered = effects c (order_code 14 15 12 13 11) (worked c (loaded f))
-
-    word_is : ordered.values 11 ≡ (order x y).word
-    unfolding put reg_result
-    word_is =
-        ap (λ i. (bit_of (nat_lt ((loaded f).values 15) i) + (2 ^ 64 - bit_of (nat_lt i ((loaded f).values 15)))) % 2 ^ 64)
-        first_is
-        ∙ ap (λ i. (bit_of (nat_lt i x) + (2 ^ 64 - bit_of (nat_lt x i))) % 2 ^ 64) second_is ∙ order_is x y
-
-    -- they differ
-    differ : x ≢ y
-        → Reaches c C (7 * pairs_compared (x ∷ xs) (y ∷ ys)) (Goes 25 f) 35 (Orders (order_of (x ∷ xs) (y ∷ ys)))
-    differ ne =
-        let one : pairs_compared (x ∷ xs) (y ∷ ys) ≡ 1 =
-        ap (λ b. if b then 1 + pairs_compared xs ys else 1) (ne_eqb x y ne) in
-        let is : order_of (x ∷ xs) (y ∷ ys) ≡ order x y = ap (λ b. if b then order_of xs ys else order x y) (ne_eqb x y ne) in
-        let Q = Orders (order x y) in
-        subst (λ v. Reaches c C (7 * pairs_compared (x ∷ xs) (y ∷ ys)) (Goes 25 f) 35 (Orders v)) (sym is)
-        (weaken c C 6 (7 * pairs_compared (x ∷ xs) (y ∷ ys)) (Goes 25 f) 35 Q Q (omega arith) (λ o r. r)
-        (line_on c C (pair_code 12 13 14 15) 4 25 f 35 Q may_load (has.0, (has.1.0, tt))
-        (branch c C 3 27 (loaded f) Bne 14 (Register 15) 4 35 Q has.1.1.0
-        (λ t. line_on c C (order_code 14 15 12 13 11) 0 32 (worked c (loaded f)) 35 Q (tt, (tt, (tt, tt))) (has_order line)
-        (arrived c C 0 ordered 35 35 Q refl (record {
-          memory = h.memory;
-          shows = quiet ordered refl refl refl refl refl;
-          given = word_is;
-        })))
-        (λ t. absurd (ne (sym first_is ∙ if_alike _ _ t ∙ second_is))))))
-
-    module _ (e : x ≡ y) where
-      more_pairs : pairs_compared (x ∷ xs) (y ∷ ys) ≡ 1 + pairs_compared xs ys
-      more_pairs = ap (λ b. if b then 1 + pairs_compared xs ys else 1) (eq-eqb x y e)
-
-      more_order : order_of (x ∷ xs) (y ∷ ys) ≡ order_of xs ys
-      more_order = ap (λ b. if b then order_of xs ys else order x y) (eq-eqb x y e)
-
-      cursor_is : (stepped f).values 12 ≡ p + 1
-      unfolding put reg_result
-      cursor_is = let s = h.first.small in let q = h.cursor in omega arith
-
-      other_is : (stepped f).values 13 ≡ q + 1
-      unfolding put reg_result
-      other_is = let s = h.second.small in let q = h.other in omega arith
-
-      kept : ((stepped f).values 16 ≡ p + suc (length xs)) × ((stepped f).values 11 ≡ 0)
+      may_load : AreAllowed c (pair_code 12 13 14 15) f
       unfolding put
-      kept = (h.end, h.none)
+      may_load = (
+        ap (λ a. is_allowed map a 1) at_first ∙ (here x xs p h.first).1,
+        (ap (λ a. is_allowed map a 1) at_second ∙ (here y ys q h.second).1, tt),
+      )
 
-      -- up to the test of the end
-      equal : (Q : Outcome → Type 0) (B : ℕ) → Reaches c C B (Goes 30 (stepped f)) 35 Q
-          → Reaches c C (5 + B) (Goes 25 f) 35 Q
-      equal Q B r =
-          let n5 : 2 + suc (2 + B) ≡ 5 + B = omega arith in
-          subst (λ z. Reaches c C z (Goes 25 f) 35 Q) n5
-          (line_on c C (pair_code 12 13 14 15) (suc (2 + B)) 25 f 35 Q may_load (has.0, (has.1.0, tt))
-          (branch c C (2 + B) 27 (loaded f) Bne 14 (Register 15) 4 35 Q has.1.1.0
-          (λ t. absurd (if_apart _ _ t (first_is ∙ e ∙ sym second_is)))
-          (λ t. line_on c C (Operate Add 12 12 (Number 1) ∷ Operate Add 13 13 (Number 1) ∷ []) B 28 (worked c (loaded f)) 35
-          Q (tt, (tt, tt)) (has.1.1.1.0, (has.1.1.1.1.0, tt)) r)))
+      quiet : (z : State) → z.input ≡ f.input → z.output ≡ f.output → z.taken ≡ f.taken → z.accesses ≡ f.accesses
+          → z.turns ≡ f.turns → ShowsNothing f0 z
+      quiet z a b c d e = let s = h.shows in record {
+        input = a ∙ s.input;
+        output = b ∙ s.output;
+        taken = c ∙ s.taken;
+        accesses = d ∙ s.accesses;
+        turns = e ∙ s.turns;
+      }
 
-      -- none are left
-      last : xs ≡ []
+      has : HasAt C 25 (range_loop 12 13 16 14 15)
+      has = has_loop line
+
+      abbrev ordered : State
+      ordered = effects c (order_code 14 15 12 13 11) (worked c (loaded f))
+
+      word_is : ordered.values 11 ≡ (order x y).word
+      unfolding put reg_result
+      word_is =
+          ap (λ i. (bit_of (nat_lt ((loaded f).values 15) i) + (2 ^ 64 - bit_of (nat_lt i ((loaded f).values 15)))) % 2
+          ^
+          64)
+          first_is
+          ∙ ap (λ i. (bit_of (nat_lt i x) + (2 ^ 64 - bit_of (nat_lt x i))) % 2 ^ 64) second_is ∙ order_is x y
+
+      -- they differ
+      differ : x ≢ y
           → Reaches c C (7 * pairs_compared (x ∷ xs) (y ∷ ys)) (Goes 25 f) 35 (Orders (order_of (x ∷ xs) (y ∷ ys)))
-      last none =
-          let is : order_of (x ∷ xs) (y ∷ ys) ≡ integer 0 = more_order ∙ ap (λ l. order_of l ys) none in
-          let n = more_pairs in let Q = Orders (integer 0) in
-          let count : length xs ≡ 0 = ap length none in
-          let cursor = cursor_is in let end = kept.0 in
+      differ ne =
+          let one : pairs_compared (x ∷ xs) (y ∷ ys) ≡ 1 =
+          ap (λ b. if b then 1 + pairs_compared xs ys else 1) (ne_eqb x y ne) in
+          let is : order_of (x ∷ xs) (y ∷ ys) ≡ order x y = ap (λ b. if b then order_of xs ys else order x y)
+          (ne_eqb x y ne) in
+          let Q = Orders (order x y) in
           subst (λ v. Reaches c C (7 * pairs_compared (x ∷ xs) (y ∷ ys)) (Goes 25 f) 35 (Orders v)) (sym is)
           (weaken c C 6 (7 * pairs_compared (x ∷ xs) (y ∷ ys)) (Goes 25 f) 35 Q Q (omega arith) (λ o r. r)
-          (equal Q 1
-          (branch c C 0 30 (stepped f) Beq 12 (Register 16) 4 35 Q has.1.1.1.1.1.0
-          (λ t. arrived c C 0 (worked c (stepped f)) 35 35 Q refl (record {
+          (line_on c C (pair_code 12 13 14 15) 4 25 f 35 Q may_load (has.0, (has.1.0, tt))
+          (branch c C 3 27 (loaded f) Bne 14 (Register 15) 4 35 Q has.1.1.0
+          (λ t. line_on c C (order_code 14 15 12 13 11) 0 32 (worked c (loaded f)) 35 Q (tt, (tt, (tt, tt)))
+          (has_order line)
+          (arrived c C 0 ordered 35 35 Q refl (record {
             memory = h.memory;
-            shows = quiet (worked c (stepped f)) refl refl refl refl refl;
-            given = kept.1;
-          }))
-          (λ t. absurd (if_unequal _ _ t (omega arith))))))
+            shows = quiet ordered refl refl refl refl refl;
+            given = word_is;
+          })))
+          (λ t. absurd (ne (sym first_is ∙ if_alike _ _ t ∙ second_is))))))
 
-      further : 1 ≤ length xs
-          → Reaches c C (7 * pairs_compared xs ys) (Goes 25 (worked c (worked c (stepped f)))) 35 (Orders (order_of xs ys))
-          → Reaches c C (7 * pairs_compared (x ∷ xs) (y ∷ ys)) (Goes 25 f) 35 (Orders (order_of (x ∷ xs) (y ∷ ys)))
-      further some r =
-          let n = more_pairs in let Q = Orders (order_of xs ys) in
-          let cursor = cursor_is in let end = kept.0 in
-          let B = 7 * pairs_compared xs ys in
-          subst (λ v. Reaches c C (7 * pairs_compared (x ∷ xs) (y ∷ ys)) (Goes 25 f) 35 (Orders v)) (sym more_order)
-          (weaken c C (5 + suc (suc B)) (7 * pairs_compared (x ∷ xs) (y ∷ ys)) (Goes 25 f) 35 Q Q (omega arith) (λ o r. r)
-          (equal Q (suc (suc B))
-          (branch c C (suc B) 30 (stepped f) Beq 12 (Register 16) 4 35 Q has.1.1.1.1.1.0
-          (λ t. absurd (let same = if_equal _ _ t in omega arith))
-          (λ t. jump_back c C B 31 6 25 (worked c (stepped f)) 35 Q has.1.1.1.1.1.1.0 refl r))))
+      module _ (e : x ≡ y) where
+        more_pairs : pairs_compared (x ∷ xs) (y ∷ ys) ≡ 1 + pairs_compared xs ys
+        more_pairs = ap (λ b. if b then 1 + pairs_compared xs ys else 1) (eq-eqb x y e)
 
-      next_ranged : AreRanged xs ys (p + 1) (q + 1) (worked c (worked c (stepped f)))
-      next_ranged =
-          let long = h.long in let end = kept.0 in
-          record {
-            long = omega arith;
-            first = later x xs p h.first;
-            second = later y ys q h.second;
-            cursor = cursor_is;
-            other = other_is;
-            end = omega arith;
-            none = kept.1;
-            memory = h.memory;
-            shows = quiet (worked c (worked c (stepped f))) refl refl refl refl refl;
-          }
+        more_order : order_of (x ∷ xs) (y ∷ ys) ≡ order_of xs ys
+        more_order = ap (λ b. if b then order_of xs ys else order x y) (eq-eqb x y e)
+
+        cursor_is : (stepped f).values 12 ≡ p + 1
+        unfolding put reg_result
+        cursor_is = let s = h.first.small in let q = h.cursor in omega arith
+
+        other_is : (stepped f).values 13 ≡ q + 1
+        unfolding put reg_result
+        other_is = let s = h.second.small in let q = h.other in omega arith
+
+        kept : ((stepped f).values 16 ≡ p + suc (length xs)) × ((stepped f).values 11 ≡ 0)
+        unfolding put
+        kept = (h.end, h.none)
+
+        -- up to the test of the end
+        equal : (Q : Outcome → Type 0) (B : ℕ) → Reaches c C B (Goes 30 (stepped f)) 35 Q
+            → Reaches c C (5 + B) (Goes 25 f) 35 Q
+        equal Q B r =
+            let n5 : 2 + suc (2 + B) ≡ 5 + B = omega arith in
+            subst (λ z. Reaches c C z (Goes 25 f) 35 Q) n5
+            (line_on c C (pair_code 12 13 14 15) (suc (2 + B)) 25 f 35 Q may_load (has.0, (has.1.0, tt))
+            (branch c C (2 + B) 27 (loaded f) Bne 14 (Register 15) 4 35 Q has.1.1.0
+            (λ t. absurd (if_apart _ _ t (first_is ∙ e ∙ sym second_is)))
+            (λ t. line_on c C (Operate Add 12 12 (Number 1) ∷ Operate Add 13 13 (Number 1) ∷ []) B 28
+            (worked c (loaded f)) 35
+            Q (tt, (tt, tt)) (has.1.1.1.0, (has.1.1.1.1.0, tt)) r)))
+
+        -- none are left
+        last : xs ≡ []
+            → Reaches c C (7 * pairs_compared (x ∷ xs) (y ∷ ys)) (Goes 25 f) 35 (Orders (order_of (x ∷ xs) (y ∷ ys)))
+        last none =
+            let is : order_of (x ∷ xs) (y ∷ ys) ≡ integer 0 = more_order ∙ ap (λ l. order_of l ys) none in
+            let n = more_pairs in let Q = Orders (integer 0) in
+            let count : length xs ≡ 0 = ap length none in
+            let cursor = cursor_is in let end = kept.0 in
+            subst (λ v. Reaches c C (7 * pairs_compared (x ∷ xs) (y ∷ ys)) (Goes 25 f) 35 (Orders v)) (sym is)
+            (weaken c C 6 (7 * pairs_compared (x ∷ xs) (y ∷ ys)) (Goes 25 f) 35 Q Q (omega arith) (λ o r. r)
+            (equal Q 1
+            (branch c C 0 30 (stepped f) Beq 12 (Register 16) 4 35 Q has.1.1.1.1.1.0
+            (λ t. arrived c C 0 (worked c (stepped f)) 35 35 Q refl (record {
+              memory = h.memory;
+              shows = quiet (worked c (stepped f)) refl refl refl refl refl;
+              given = kept.1;
+            }))
+            (λ t. absurd (if_unequal _ _ t (omega arith))))))
+
+        further : 1 ≤ length xs
+            → Reaches c C (7 * pairs_compared xs ys) (Goes 25 (worked c (worked c (stepped f)))) 35
+            (Orders (order_of xs ys))
+            → Reaches c C (7 * pairs_compared (x ∷ xs) (y ∷ ys)) (Goes 25 f) 35 (Orders (order_of (x ∷ xs) (y ∷ ys)))
+        further some r =
+            let n = more_pairs in let Q = Orders (order_of xs ys) in
+            let cursor = cursor_is in let end = kept.0 in
+            let B = 7 * pairs_compared xs ys in
+            subst (λ v. Reaches c C (7 * pairs_compared (x ∷ xs) (y ∷ ys)) (Goes 25 f) 35 (Orders v)) (sym more_order)
+            (weaken c C (5 + suc (suc B)) (7 * pairs_compared (x ∷ xs) (y ∷ ys)) (Goes 25 f) 35 Q Q (omega arith)
+            (λ o r. r)
+            (equal Q (suc (suc B))
+            (branch c C (suc B) 30 (stepped f) Beq 12 (Register 16) 4 35 Q has.1.1.1.1.1.0
+            (λ t. absurd (let same = if_equal _ _ t in omega arith))
+            (λ t. jump_back c C B 31 6 25 (worked c (stepped f)) 35 Q has.1.1.1.1.1.1.0 refl r))))
+
+        next_ranged : AreRanged xs ys (p + 1) (q + 1) (worked c (worked c (stepped f)))
+        next_ranged =
+            let long = h.long in let end = kept.0 in
+            record {
+              long = omega arith;
+              first = later x xs p h.first;
+              second = later y ys q h.second;
+              cursor = cursor_is;
+              other = other_is;
+              end = omega arith;
+              none = kept.1;
+              memory = h.memory;
+              shows = quiet (worked c (worked c (stepped f))) refl refl refl refl refl;
+            }
 
   compares : (x : ℕ) (xs : List ℕ) (y : ℕ) (ys : List ℕ) (p q : ℕ) (f : State) → AreRanged (x ∷ xs) (y ∷ ys) p q f
       → Reaches c C (7 * pairs_compared (x ∷ xs) (y ∷ ys)) (Goes 25 f) 35 (Orders (order_of (x ∷ xs) (y ∷ ys)))

@@ -70,12 +70,14 @@ behind_start line = seek_loop 6 2 line 11 12 ++ both_ends
 has_behind : (line : ℕ) → HasAt (own_code line) 14 (behind_start line)
 has_behind line =
     has_back (own_code line) 11 (seek_start own own_into 5 12) (behind_start line)
-    (has_back (own_code line) 1 (judge_code own 11 line 12) (seek_code own own_into 5 line 11 12) (has_self (own_code line)).1)
+    (has_back (own_code line) 1 (judge_code own 11 line 12) (seek_code own own_into 5 line 11 12)
+    (has_self (own_code line)).1)
 
 pub has_start : (line : ℕ) → HasAt (own_code line) 11 (seek_start own own_into 5 12)
 has_start line =
     has_front (own_code line) 11 (seek_start own own_into 5 12) (behind_start line)
-    (has_back (own_code line) 1 (judge_code own 11 line 12) (seek_code own own_into 5 line 11 12) (has_self (own_code line)).1)
+    (has_back (own_code line) 1 (judge_code own 11 line 12) (seek_code own own_into 5 line 11 12)
+    (has_self (own_code line)).1)
 
 has_loop : (line : ℕ) → HasAt (own_code line) 14 (seek_loop 6 2 line 11 12)
 has_loop line = has_front (own_code line) 14 (seek_loop 6 2 line 11 12) both_ends (has_behind line)
@@ -89,7 +91,8 @@ has_null line = has_front (own_code line) 21 (null_code own_into) (same_entry_co
 has_same : (line : ℕ) → HasAt (own_code line) 27 (same_entry_code own.tag own_into.tag)
 has_same line = has_back (own_code line) 21 (null_code own_into) (same_entry_code own.tag own_into.tag) (has_ends line)
 
-module _ (map : MapSizes) (charge weight line : ℕ) (g : Views) (k : Keys) (functions : ℕ) (x0 : Source) (n : ℕ) (b : Bounds)
+module _ (map : MapSizes) (charge weight line : ℕ) (g : Views) (k : Keys) (functions : ℕ) (x0 : Source) (n : ℕ)
+    (b : Bounds)
     (f0 : State) (ch : ℕ) (sound : IsSound functions x0.objects)
     (bytes : AreBytesOf map x0.objects n b f0.memory) where
   abbrev c : Context
@@ -193,7 +196,8 @@ module _ (map : MapSizes) (charge weight line : ℕ) (g : Views) (k : Keys) (fun
     abbrev rest : Run Value
     rest = seek_within left ch (moved 1 p) line
 
-    looks : run left w p ≡ choose (byte == ch) (done p) (choose (byte == 0) (done (integer 0)) rest) (at_work (w + 1) x0)
+    looks : run left w p ≡ choose (byte == ch) (done p) (choose (byte == 0) (done (integer 0)) rest)
+        (at_work (w + 1) x0)
     looks =
         let l = h.left_is in
         ap (λ r. on r (λ z. choose (z == ch) (done p) (choose (z == 0) (done (integer 0)) rest)))
@@ -225,7 +229,8 @@ module _ (map : MapSizes) (charge weight line : ℕ) (g : Views) (k : Keys) (fun
     found : byte ≡ ch → Seeks left w p f
     found e =
         let is : run left w p ≡ Gives p (at_work (w + 1) x0) =
-        looks ∙ ap (λ z. choose z (done p) (choose (byte == 0) (done (integer 0)) rest) (at_work (w + 1) x0)) (eq-eqb byte ch e) in
+        looks ∙ ap (λ z. choose z (done p) (choose (byte == 0) (done (integer 0)) rest) (at_work (w + 1) x0))
+        (eq-eqb byte ch e) in
         let Q = A (Gives p (at_work (w + 1) x0)) in
         let z = effects c (same_entry_code own.tag own_into.tag) (worked c (loaded f)) in
         record {
@@ -249,7 +254,8 @@ module _ (map : MapSizes) (charge weight line : ℕ) (g : Views) (k : Keys) (fun
     none ne e =
         let is : run left w p ≡ Gives (integer 0) (at_work (w + 1) x0) =
         looks
-        ∙ ap (λ z. choose z (done p) (choose (byte == 0) (done (integer 0)) rest) (at_work (w + 1) x0)) (ne_eqb byte ch ne)
+        ∙ ap (λ z. choose z (done p) (choose (byte == 0) (done (integer 0)) rest) (at_work (w + 1) x0))
+        (ne_eqb byte ch ne)
         ∙ ap (λ z. choose z (done (integer 0)) rest (at_work (w + 1) x0)) (eq-eqb byte 0 e) in
         let Q = A (Gives (integer 0) (at_work (w + 1) x0)) in
         let zeros = Constant 6 0 ∷ Constant 7 0 ∷ Constant 8 0 ∷ Constant 9 0 ∷ Constant 10 0 ∷ [] in
@@ -295,7 +301,8 @@ module _ (map : MapSizes) (charge weight line : ℕ) (g : Views) (k : Keys) (fun
     goes_on : byte ≢ ch → byte ≢ 0 → run left w p ≡ rest (at_work (w + 1) x0)
     goes_on ne nz =
         looks
-        ∙ ap (λ z. choose z (done p) (choose (byte == 0) (done (integer 0)) rest) (at_work (w + 1) x0)) (ne_eqb byte ch ne)
+        ∙ ap (λ z. choose z (done p) (choose (byte == 0) (done (integer 0)) rest) (at_work (w + 1) x0))
+        (ne_eqb byte ch ne)
         ∙ ap (λ z. choose z (done (integer 0)) rest (at_work (w + 1) x0)) (ne_eqb byte 0 nz)
 
     last : byte ≢ ch → byte ≢ 0 → left ≡ 0 → Seeks left w p f
@@ -318,7 +325,8 @@ module _ (map : MapSizes) (charge weight line : ℕ) (g : Views) (k : Keys) (fun
         differs : (a b : ℕ) → branch_taken Bne a b ≡ true → a ≢ b
         differs a b t = eqb-false a b (if_differ a b t)
 
-    further : byte ≢ ch → byte ≢ 0 → (j : ℕ) → left ≡ suc j → Seeks j (w + 1) (moved 1 p) (worked c (worked c (stepped f)))
+    further : byte ≢ ch → byte ≢ 0 → (j : ℕ) → left ≡ suc j → Seeks j (w + 1) (moved 1 p)
+        (worked c (worked c (stepped f)))
         → Seeks left w p f
     further ne nz j e r =
         let is : run left w p ≡ run j (w + 1) (moved 1 p) =
@@ -330,10 +338,12 @@ module _ (map : MapSizes) (charge weight line : ℕ) (g : Views) (k : Keys) (fun
           spent = suc r.spent;
           work = ap (λ z. (state_of z).work) is ∙ work ∙ omega arith;
           reaches = subst (λ z. Reaches c C (6 * suc r.spent + 5) (Goes 14 f) 31 (A z)) (sym is)
-              (weaken c C (4 + suc (suc (6 * r.spent + 5))) (6 * suc r.spent + 5) (Goes 14 f) 31 Q Q (omega arith) (λ o q. q)
+              (weaken c C (4 + suc (suc (6 * r.spent + 5))) (6 * suc r.spent + 5) (Goes 14 f) 31 Q Q (omega arith)
+              (λ o q. q)
               (another ne nz Q (suc (suc (6 * r.spent + 5)))
               (branch c C (suc (6 * r.spent + 5)) 18 (stepped f) Bne 6 (Register 2) 1 31 Q has.1.1.1.1.0
-              (λ t. jump_back c C (6 * r.spent + 5) 20 6 14 (worked c (stepped f)) 31 Q has.1.1.1.1.1.1.0 refl r.reaches)
+              (λ t. jump_back c C (6 * r.spent + 5) 20 6 14 (worked c (stepped f)) 31 Q has.1.1.1.1.1.1.0 refl
+              r.reaches)
               (λ t. absurd (let q = same _ _ t in omega arith)))));
         }
       where
@@ -356,7 +366,8 @@ module _ (map : MapSizes) (charge weight line : ℕ) (g : Views) (k : Keys) (fun
         }
 
     turn : ((j : ℕ) → left ≡ suc j → Seeks j (w + 1) (moved 1 p) (worked c (worked c (stepped f)))) → Seeks left w p f
-    turn again = ⊎_elim found (λ ne. ⊎_elim (none ne) (λ nz. on_left ne nz left refl) (cases_eq byte 0)) (cases_eq byte ch)
+    turn again =
+        ⊎_elim found (λ ne. ⊎_elim (none ne) (λ nz. on_left ne nz left refl) (cases_eq byte 0)) (cases_eq byte ch)
       where
         on_left : byte ≢ ch → byte ≢ 0 → (i : ℕ) → left ≡ i → Seeks left w p f
         on_left ne nz zero e = last ne nz e
@@ -368,4 +379,5 @@ module _ (map : MapSizes) (charge weight line : ℕ) (g : Views) (k : Keys) (fun
       let q : left ≡ j = omega (arith, e) in
       subst (λ i. Seeks i (w + 1) (moved 1 p) (worked c (worked c (stepped f)))) q
       (seeks left (w + 1) (moved 1 p) (worked c (worked c (stepped f)))
-      (subst (λ i. IsCursor i (moved 1 p) (worked c (worked c (stepped f)))) (sym q) (next_cursor (suc left) w p f h j e))))
+      (subst (λ i. IsCursor i (moved 1 p) (worked c (worked c (stepped f)))) (sym q)
+      (next_cursor (suc left) w p f h j e))))

@@ -19,7 +19,8 @@ use Rattle.flat_routines.proofs.Distinct.{AreRegisters, register_of, registers_r
 use Rattle.flat_routines.proofs.Wrapped.{routine_that_may_end}
 use Rattle.flat_objects.specs.StandsFor.{Views, Keys}
 use Rattle.shadow_space.proofs.Entries.{context_of, agrees_shows, agrees_memory}
-use Rattle.flat_actions.specs.Actions.{IsFor, Holder, registers_of, IsGivenIn, AreHeldBy, Leaves, views_of, work_of, IsAction}
+use Rattle.flat_actions.specs.Actions.{IsFor, Holder, registers_of, IsGivenIn, AreHeldBy, Leaves, views_of, work_of}
+use Rattle.flat_actions.specs.Actions.{IsAction}
 use Rattle.flat_actions.proofs.Standing.{given_still, ended_still}
 use Rattle.comparing_routines.specs.Answering.{runtime_ground, IsAnswered}
 
@@ -33,7 +34,8 @@ shows_seen f s v h = record {
 }
 
 -- an access is refused
-pub refused : (g : Views) (k : Keys) (result : Holder) (x : Source) (f : State) (o : Completed Value) (e : Ending) (w : ℕ)
+pub refused : (g : Views) (k : Keys) (result : Holder) (x : Source) (f : State) (o : Completed Value) (e : Ending)
+    (w : ℕ)
     (z : State) → o ≡ Ended e (at_work w x) → ShowsNothing f z
     → IsAnswered g k result x f o (Halts (code_of e) (report_of e) z)
 refused g k result x f o e w z is shows =

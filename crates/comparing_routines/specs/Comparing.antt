@@ -56,7 +56,8 @@ strcmp_code a b into line cursor other x y =
 
 abbrev pub IsStrcmp : Ground → Held → Held → (into line scratch : ℕ) → List FlatInstruction → Type 0
 IsStrcmp ground a b into line t r =
-    IsAction ground (λ vs. strcmp (argument 0 vs) (argument 1 vs) line) (Pointer a ∷ Pointer b ∷ []) (Word into) t 24 5 r
+    IsAction ground (λ vs. strcmp (argument 0 vs) (argument 1 vs) line) (Pointer a ∷ Pointer b ∷ []) (Word into) t 24
+    5 r
 
 -- ---- ranges
 

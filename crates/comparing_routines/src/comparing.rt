@@ -17,9 +17,9 @@ use sb_base::{Ending, Line};
 use shadow_space::ShadowForm;
 use std::alloc::{AllocError, Global};
 
-/// `strcmp`: gives in `into` how the strings in `left` and `right` compare, -1, 0 or 1. The run ends with a violation at
-/// `line` just where a byte that is looked at is refused. It may write the registers from `scratch` on. The only refusal
-/// is that memory fails.
+/// `strcmp`: gives in `into` how the strings in `left` and `right` compare, -1, 0 or 1. The run ends with a violation
+/// at `line` just where a byte that is looked at is refused. It may write the registers from `scratch` on. The only
+/// refusal is that memory fails.
 pub fn strcmp<S: ShadowForm>(
     alloc: Global,
     map: &AddrMap,
@@ -36,15 +36,15 @@ pub fn strcmp<S: ShadowForm>(
     requires right { AreBelow scratch (held_registers right) }
     requires results { AreBelow scratch (into ∷ []) }
     requires room { scratch ≤ 2 ^ 31 }
-    ensures { IfOk result (λ r. IsStrcmp (runtime_ground map.now S.entry (S.IsGood map.now)) left right into line scratch
-        r.items) }
+    ensures { IfOk result (λ r. IsStrcmp (runtime_ground map.now S.entry (S.IsGood map.now)) left right into line
+        scratch r.items) }
 {
     strcmp_instructions(alloc, left, right, into, line, scratch)
 }
 
-/// `memcmp`: gives in `into` how the bytes in two ranges compare, -1, 0 or 1, as many as `size` holds. The run ends with
-/// a violation at `line` just where a range is refused, which are judged whole before they are compared. It may write
-/// the registers from `scratch` on. The only refusal is that memory fails.
+/// `memcmp`: gives in `into` how the bytes in two ranges compare, -1, 0 or 1, as many as `size` holds. The run ends
+/// with a violation at `line` just where a range is refused, which are judged whole before they are compared. It may
+/// write the registers from `scratch` on. The only refusal is that memory fails.
 pub fn memcmp<S: ShadowForm>(
     alloc: Global,
     map: &AddrMap,

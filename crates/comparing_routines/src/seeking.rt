@@ -36,8 +36,8 @@ pub fn strchr<S: ShadowForm>(
     requires below { AreBelow scratch (byte ∷ held_registers string) }
     requires results { AreBelow scratch (held_registers into) }
     requires room { scratch ≤ 2 ^ 31 }
-    ensures { IfOk result (λ r. IsStrchr (runtime_ground map.now S.entry (S.IsGood map.now)) string byte into line scratch
-        r.items) }
+    ensures { IfOk result (λ r. IsStrchr (runtime_ground map.now S.entry (S.IsGood map.now)) string byte into line
+        scratch r.items) }
 {
     strchr_instructions(alloc, string, byte, into, line, scratch)
 }

@@ -19,7 +19,8 @@ returns g c =
     let size = c.size.ensures.value in
     let some : 1 ≤ n = subst (λ z. 1 ≤ z) size c.size.ensures.some in
     let few : n ≤ 8 = subst (λ z. z ≤ 8) size c.size.ensures.few in
-    let same = both_tests_then a.pointer a.line a.scratch c.size.result n c.in_ok-code.code.items c.deref.result.now access
+    let same = both_tests_then a.pointer a.line a.scratch c.size.result n c.in_ok-code.code.items c.deref.result.now
+    access
     c.in_ok-code.ensures size c.deref.ensures.value in
     subst (IsCheckedStore ground a.pointer a.from a.line a.scratch) (sym same)
     (checked_does ground c.requires.map a.pointer n a.line a.scratch c.requires.pointer some (omega arith)

@@ -13,5 +13,6 @@ returns g c =
     let q = c.requires in
     IfOk-weaker _ _ _
     (λ r e. subst (IsStrchr (runtime_ground a.map.now entry good) a.string a.byte a.into a.line a.scratch) (sym e)
-    (strchr_does a.map.now entry good a.string a.into a.byte a.line a.scratch q.map q.apart q.distinct q.below q.results))
+    (strchr_does a.map.now entry good a.string a.into a.byte a.line a.scratch q.map q.apart q.distinct q.below
+    q.results))
     c.strchr_instructions.ensures

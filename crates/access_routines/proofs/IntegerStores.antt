@@ -32,7 +32,6 @@ use Rattle.flat_meaning.specs.State.{State}
 use Rattle.flat_meaning.specs.Words.{IsOfWords}
 use Rattle.flat_meaning.specs.Meaning.{Context, Goes}
 use Rattle.flat_meaning.proofs.Stored.{store_beside}
-use Rattle.flat_routines.specs.declared.registers.Held.{Held}
 use Rattle.flat_routines.specs.Registers.{OthersStay}
 use Rattle.flat_routines.specs.Routine.{HasAt, Reaches}
 use Rattle.flat_routines.specs.Effects.{effects}
@@ -43,7 +42,8 @@ use Rattle.flat_objects.specs.StandsFor.{Views, Keys, StandsFor}
 use Rattle.flat_objects.specs.Changes.{IsPut}
 use Rattle.flat_objects.proofs.Moves.{put_stands}
 use Rattle.shadow_space.proofs.Entries.{context_of}
-use Rattle.flat_actions.specs.Actions.{AreSpacesGood, IsFor, IsHeldBy, Nowhere, Pointer as InPointer, StaysElsewhere}
+use Rattle.flat_actions.specs.Actions.{AreSpacesGood, IsFor, IsHeldBy, Nowhere, Word}
+use Rattle.flat_actions.specs.Actions.{StaysElsewhere}
 use Rattle.flat_actions.specs.Actions.{HasGiven, Leaves, views_of, work_of}
 use Rattle.flat_actions.proofs.Standing.{keeps_same}
 use Rattle.access_routines.specs.declared.held.HeldScalar.TheVariants.{Integer}
@@ -130,21 +130,22 @@ written_elsewhere map old new n p v m m' keeps al beside behind =
 
 module _ (map : MapSizes) (mapped : AreMapped map) (entry : View) (IsGood : Bytes → Type 0)
     (is_local : IsLocal map entry IsGood) (functions : ℕ) (types : ℕ → ℕ) (k : Keys) (x : Source) (v new : Value)
-    (charge weight : ℕ) (code : List FlatInstruction) (pc : ℕ) (f : State) (w : IsOfWords f) (h : Held) (t r line : ℕ)
-    (ty : IntType) (has : HasAt code pc (store_integer_code h ty r)) where
+    (charge weight : ℕ) (code : List FlatInstruction) (pc : ℕ) (f : State) (w : IsOfWords f) (address : ℕ)
+    (t r line : ℕ)
+    (ty : IntType) (has : HasAt code pc (store_integer_code address ty r)) where
   abbrev g : Views
   g = views_of map functions types entry
 
   abbrev c : Context
   c = context_of map false charge weight
 
-  module _ (stands : IsFor g k IsGood x f) (held : IsHeldBy g k x.objects (InPointer h) v f.values)
+  module _ (stands : IsFor g k IsGood x f) (held : IsHeldBy g k x.objects (Word address) v f.values)
       (given : f.values r ≡ new.word) (d : IsDirect x.objects v (size_of ty)) where
     abbrev p : Place
     p = place_in x.objects d.object v.word
 
     abbrev stored : State
-    stored = effects c (store_integer_code h ty r) f
+    stored = effects c (store_integer_code address ty r) f
 
     abbrev put : List ℕ
     put = little_bytes (size_of ty) new.word
@@ -152,8 +153,8 @@ module _ (map : MapSizes) (mapped : AreMapped map) (entry : View) (IsGood : Byte
     allowed : IsAllowed x.objects v (size_of ty) p
     allowed = direct_allowed x.objects v (size_of ty) d
 
-    at_is : (f.values h.value + 0) % 2 ^ 64 ≡ v.word
-    at_is = address_is (f.values h.value) v.word (w.values h.value) held.0.word
+    at_is : (f.values address + 0) % 2 ^ 64 ≡ v.word
+    at_is = address_is (f.values address) v.word (w.values address) held
 
     in_objects : is_of_objects map v.word (size_of ty) ≡ true
     in_objects = of_objects g k x.objects f.memory (laid_out map mapped) stands.objects v (size_of ty) p allowed
@@ -163,14 +164,14 @@ module _ (map : MapSizes) (mapped : AreMapped map) (entry : View) (IsGood : Byte
         let l = lies_last g k x.objects f.memory (laid_out map mapped) stands.objects v (size_of ty) p allowed in
         let s = (laid_out map mapped).small in omega arith
 
-    may_store : is_allowed map ((f.values h.value + 0) % 2 ^ 64) (store_bytes (store_op ty)) ≡ true
+    may_store : is_allowed map ((f.values address + 0) % 2 ^ 64) (store_bytes (store_op ty)) ≡ true
     may_store =
         ap (λ a. is_allowed map a (store_bytes (store_op ty))) at_is ∙ ap (is_allowed map v.word) (store_size ty)
         ∙ access_allowed map v.word (size_of ty) in_objects
 
     memory_is : stored.memory ≡ store (size_of ty) f.memory v.word new.word
     memory_is =
-        ap (λ n. store n f.memory ((f.values h.value + 0) % 2 ^ 64) (f.values r)) (store_size ty)
+        ap (λ n. store n f.memory ((f.values address + 0) % 2 ^ 64) (f.values r)) (store_size ty)
         ∙ ap (λ a. store (size_of ty) f.memory a (f.values r)) at_is ∙ ap (store (size_of ty) f.memory v.word) given
 
     objects_stand : StandsFor g k (write_bytes put p x.objects) (store (size_of ty) f.memory v.word new.word)
@@ -209,27 +210,30 @@ module _ (map : MapSizes) (mapped : AreMapped map) (entry : View) (IsGood : Byte
         (λ i l none. refl) in
         subst (λ o. Reaches c code 1 (Goes pc f) (pc + 1) (Leaves g k IsGood Nowhere t x f o))
         (sym (store_is (OfInteger ty) v line new x d))
-        (line_on c code (store_integer_code h ty r) 0 pc f (pc + 1) _ (may_store, tt) has
+        (line_on c code (store_integer_code address ty r) 0 pc f (pc + 1) _ (may_store, tt) has
         (arrived c code 0 stored (pc + 1) (pc + 1) _ refl left))
 
-pub store_integer_does : (map : MapSizes) (entry : View) (IsGood : Bytes → Type 0) (h : Held) (ty : IntType) (r t : ℕ)
+pub store_integer_does : (map : MapSizes) (entry : View) (IsGood : Bytes → Type 0) (address : ℕ) (ty : IntType)
+    (r t : ℕ)
     → AreMapped map → IsLocal map entry IsGood
-    → IsStoreRoutine (program_ground map entry IsGood) h (Integer ty r) t (store_integer_code h ty r)
-store_integer_does map entry IsGood h ty r t mapped is_local line functions types k x [] charge weight =
+    → IsStoreRoutine (program_ground map entry IsGood) address (Integer ty r) t (store_integer_code address ty r)
+store_integer_does map entry IsGood address ty r t mapped is_local line functions types k x [] charge weight =
     record { from = λ code pc f has w p. absurd p.1 }
-store_integer_does map entry IsGood h ty r t mapped is_local line functions types k x (v ∷ []) charge weight =
+store_integer_does map entry IsGood address ty r t mapped is_local line functions types k x (v ∷ []) charge weight =
     record { from = λ code pc f has w p. absurd p.1.1 }
-store_integer_does map entry IsGood h ty r t mapped is_local line functions types k x (v ∷ new ∷ []) charge weight =
+store_integer_does map entry IsGood address ty r t mapped is_local line functions types k x (v ∷ new ∷ []) charge
+    weight =
     record {
       from = λ code pc f has w p.
           weaken _ code 1
           (1 + 0 * work_of (source_store (OfInteger ty) false v line new >> done (integer 0)) x) (Goes pc f) (pc + 1) _
           _
           (omega arith) (λ o q. q)
-          (stores_integer map mapped entry IsGood is_local functions types k x v new charge weight code pc f w h t r
+          (stores_integer map mapped entry IsGood is_local functions types k x v new charge weight code pc f w address t
+          r
           line ty
           has p.0 p.1.0 p.1.1.0 p.2);
     }
-store_integer_does map entry IsGood h ty r t mapped is_local line functions types k x (v ∷ new ∷ v' ∷ vs) charge
+store_integer_does map entry IsGood address ty r t mapped is_local line functions types k x (v ∷ new ∷ v' ∷ vs) charge
     weight =
     record { from = λ code pc f has w p. absurd p.1.1.1 }

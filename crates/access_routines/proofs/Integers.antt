@@ -22,7 +22,6 @@ use Rattle.flat_meaning.specs.State.{State}
 use Rattle.flat_meaning.specs.Words.{IsOfWords}
 use Rattle.flat_meaning.specs.Meaning.{Context, Goes}
 use Rattle.flat_meaning.proofs.Stored.{put_same, put_other, load_fits as loaded_below}
-use Rattle.flat_routines.specs.declared.registers.Held.{Held}
 use Rattle.flat_routines.specs.Routine.{HasAt, Reaches}
 use Rattle.flat_routines.specs.Effects.{effects}
 use Rattle.flat_routines.specs.Metadata.{View}
@@ -30,7 +29,7 @@ use Rattle.flat_routines.proofs.Rules.{line_on, arrived, weaken}
 use Rattle.flat_routines.proofs.Regions.{laid_out}
 use Rattle.flat_objects.specs.StandsFor.{Views, Keys}
 use Rattle.shadow_space.proofs.Entries.{context_of}
-use Rattle.flat_actions.specs.Actions.{IsFor, IsHeldBy, Word, Pointer as InPointer, Leaves, views_of, work_of}
+use Rattle.flat_actions.specs.Actions.{IsFor, IsHeldBy, Word, Leaves, views_of, work_of}
 use Rattle.access_routines.specs.declared.held.HeldScalar.TheVariants.{Integer}
 use Rattle.access_routines.specs.Accessing.{IsLoadRoutine, program_ground, load_op, load_integer_code}
 use Rattle.access_routines.proofs.Places.{load_size, load_fits, direct_allowed, of_objects, number_there}
@@ -45,24 +44,24 @@ address_is a v l e = omega arith
 
 module _ (map : MapSizes) (mapped : AreMapped map) (entry : View) (IsGood : Bytes → Type 0) (functions : ℕ)
     (types : ℕ → ℕ) (k : Keys) (x : Source) (v : Value) (charge weight : ℕ) (code : List FlatInstruction) (pc : ℕ)
-    (f : State) (w : IsOfWords f) (h : Held) (t : ℕ) where
+    (f : State) (w : IsOfWords f) (address : ℕ) (t : ℕ) where
   abbrev g : Views
   g = views_of map functions types entry
 
   abbrev c : Context
   c = context_of map false charge weight
 
-  module _ (stands : IsFor g k IsGood x f) (held : IsHeldBy g k x.objects (InPointer h) v f.values) where
-    at_is : (f.values h.value + 0) % 2 ^ 64 ≡ v.word
-    at_is = address_is (f.values h.value) v.word (w.values h.value) held.0.word
+  module _ (stands : IsFor g k IsGood x f) (held : IsHeldBy g k x.objects (Word address) v f.values) where
+    at_is : (f.values address + 0) % 2 ^ 64 ≡ v.word
+    at_is = address_is (f.values address) v.word (w.values address) held
 
-    module _ (ty : IntType) (r line : ℕ) (has : HasAt code pc (load_integer_code h ty r))
+    module _ (ty : IntType) (r line : ℕ) (has : HasAt code pc (load_integer_code address ty r))
         (d : IsDirect x.objects v (size_of ty)) where
       abbrev p : Place
       p = place_in x.objects d.object v.word
 
       abbrev loaded : State
-      loaded = effects c (load_integer_code h ty r) f
+      loaded = effects c (load_integer_code address ty r) f
 
       allowed : IsAllowed x.objects v (size_of ty) p
       allowed = direct_allowed x.objects v (size_of ty) d
@@ -70,7 +69,7 @@ module _ (map : MapSizes) (mapped : AreMapped map) (entry : View) (IsGood : Byte
       in_objects : Rattle.flat_meaning.specs.Spaces.is_of_objects map v.word (size_of ty) ≡ true
       in_objects = of_objects g k x.objects f.memory (laid_out map mapped) stands.objects v (size_of ty) p allowed
 
-      may_load : is_allowed map ((f.values h.value + 0) % 2 ^ 64) (load_bytes (load_op ty)) ≡ true
+      may_load : is_allowed map ((f.values address + 0) % 2 ^ 64) (load_bytes (load_op ty)) ≡ true
       may_load =
           ap (λ a. is_allowed map a (load_bytes (load_op ty))) at_is ∙ ap (is_allowed map v.word) (load_size ty)
           ∙ access_allowed map v.word (size_of ty) in_objects
@@ -101,20 +100,22 @@ module _ (map : MapSizes) (mapped : AreMapped map) (entry : View) (IsGood : Byte
           shows integer_is (λ i l none. put_other f.values r _ i none.0) in
           subst (λ o. Reaches c code 1 (Goes pc f) (pc + 1) (Leaves g k IsGood (Word r) t x f o))
           (sym (load_is (OfInteger ty) v line x d))
-          (line_on c code (load_integer_code h ty r) 0 pc f (pc + 1) _ (may_load, tt) has
+          (line_on c code (load_integer_code address ty r) 0 pc f (pc + 1) _ (may_load, tt) has
           (arrived c code 0 loaded (pc + 1) (pc + 1) _ refl given))
 
-pub load_integer_does : (map : MapSizes) (entry : View) (IsGood : Bytes → Type 0) (h : Held) (ty : IntType) (r t : ℕ)
-    → AreMapped map → IsLoadRoutine (program_ground map entry IsGood) h (Integer ty r) t (load_integer_code h ty r)
-load_integer_does map entry IsGood h ty r t mapped line functions types k x [] charge weight =
+pub load_integer_does : (map : MapSizes) (entry : View) (IsGood : Bytes → Type 0) (address : ℕ) (ty : IntType) (r t : ℕ)
+    → AreMapped map → IsLoadRoutine (program_ground map entry IsGood) address (Integer ty r) t
+    (load_integer_code address ty r)
+load_integer_does map entry IsGood address ty r t mapped line functions types k x [] charge weight =
     record { from = λ code pc f has w p. absurd p.1 }
-load_integer_does map entry IsGood h ty r t mapped line functions types k x (v ∷ []) charge weight = record {
+load_integer_does map entry IsGood address ty r t mapped line functions types k x (v ∷ []) charge weight = record {
   from = λ code pc f has w p.
       weaken _ code 1 (1 + 0 * work_of (source_load (OfInteger ty) false v line) x) (Goes pc f) (pc + 1) _ _
       (omega arith)
       (λ o q. q)
-      (loads_integer map mapped entry IsGood functions types k x v charge weight code pc f w h t p.0 p.1.0 ty r line has
+      (loads_integer map mapped entry IsGood functions types k x v charge weight code pc f w address t p.0 p.1.0 ty r
+      line has
       p.2);
 }
-load_integer_does map entry IsGood h ty r t mapped line functions types k x (v ∷ v' ∷ vs) charge weight =
+load_integer_does map entry IsGood address ty r t mapped line functions types k x (v ∷ v' ∷ vs) charge weight =
     record { from = λ code pc f has w p. absurd p.1.1 }

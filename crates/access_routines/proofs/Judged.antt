@@ -34,7 +34,7 @@ use Rattle.flat_routines.proofs.Steps.{has_front, has_back}
 use Rattle.flat_routines.proofs.Rules.{weaken, ends_there, next}
 use Rattle.flat_objects.specs.StandsFor.{Views, Keys}
 use Rattle.flat_judging.specs.Judging.{IsSameBut}
-use Rattle.flat_actions.specs.Actions.{IsFor, Holder, Pointer as InPointer, registers_of, AreHeldBy}
+use Rattle.flat_actions.specs.Actions.{IsFor, Holder, Word, Pointer as InPointer, registers_of, AreHeldBy}
 use Rattle.flat_actions.specs.Actions.{Leaves, Ground, context_in, IsAction, IsActionIn, views_of, work_of}
 use Rattle.flat_actions.proofs.Standing.{for_still, held_still, none_of_none, others_trans, shown_still}
 use Rattle.access_routines.specs.Testing.{IsTested, spatial_code, temporal_code}
@@ -152,7 +152,7 @@ module _ (ground : Ground) (mapped : AreMapped ground.map) (h : Held) (n line t 
     (B : ℕ) (access : List FlatInstruction) (F : List Value → Completed Place → Completed Value)
     (ends : (vs : List Value) (e : Ending) (x : Source) → F vs (Ended e x) ≡ Ended e x)
     (does : IsActionIn ground (λ x vs. IsDirect x.objects (argument 0 vs) n)
-    (λ vs x. F vs (located false n (argument 0 vs) line x)) (InPointer h ∷ others) result t B 0 access) where
+    (λ vs x. F vs (located false n (argument 0 vs) line x)) (Word h.value ∷ others) result t B 0 access) where
   abbrev spatial : List FlatInstruction
   spatial = spatial_code h (Number n) line t
 
@@ -202,7 +202,8 @@ module _ (ground : Ground) (mapped : AreMapped ground.map) (h : Held) (n line t 
           let r = (does functions types k x (v ∷ vs) charge weight).from code (pc + length tests) z
           (has_back code pc tests access has) wz (
             for_still g k ground.IsGood x f z same.memory same.shows stands,
-            all_held g k x.objects t f z (InPointer h ∷ others) (v ∷ vs) (below, others_below) same.others held,
+            all_held g k x.objects t f z (Word h.value ∷ others) (v ∷ vs) ((below.0, tt), others_below) same.others
+                (held.0.0.word, held.1),
             direct,
           ) in
           subst (λ e. Reaches c code B (Goes (pc + length tests) z) e R) len

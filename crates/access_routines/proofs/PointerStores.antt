@@ -51,7 +51,7 @@ use Rattle.flat_objects.proofs.Moves.{put_stands}
 use Rattle.shadow_space.specs.Form.{HasWritten, IsWriteRoutine}
 use Rattle.shadow_space.proofs.Entries.{context_of}
 use Rattle.heap_space.proofs.Regions.{if_differ, if_same}
-use Rattle.flat_actions.specs.Actions.{AreSpacesGood, IsFor, IsHeldBy, Nowhere, Pointer as InPointer, Leaves}
+use Rattle.flat_actions.specs.Actions.{AreSpacesGood, IsFor, IsHeldBy, Nowhere, Word, Pointer as InPointer, Leaves}
 use Rattle.flat_actions.specs.Actions.{HasGiven, views_of, work_of}
 use Rattle.flat_actions.proofs.Standing.{entry_stays, none_of_none}
 use Rattle.access_routines.specs.declared.held.HeldScalar.TheVariants.{Pointer}
@@ -151,8 +151,9 @@ module _ (map : MapSizes) (mapped : AreMapped map) (entry : View) (IsGood : Byte
 -- ---- the whole
 
 module _ (map : MapSizes) (mapped : AreMapped map) (entry : View) (IsGood : Bytes → Type 0)
-    (is_local : IsLocal map entry IsGood) (h from : Held) (t : ℕ) (below : AreBelow t (h.value ∷ held_registers from))
-    (write : List FlatInstruction) (writes : IsWriteRoutine map entry IsGood h.value from.tag t write)
+    (is_local : IsLocal map entry IsGood) (address : ℕ) (from : Held) (t : ℕ)
+    (below : AreBelow t (address ∷ held_registers from))
+    (write : List FlatInstruction) (writes : IsWriteRoutine map entry IsGood address from.tag t write)
     (functions : ℕ) (types : ℕ → ℕ) (k : Keys) (x : Source) (v new : Value) (charge weight line : ℕ) where
   abbrev gx : Views
   gx = views_of map functions types entry
@@ -161,11 +162,11 @@ module _ (map : MapSizes) (mapped : AreMapped map) (entry : View) (IsGood : Byte
   c = context_of map false charge weight
 
   abbrev start_code : List FlatInstruction
-  start_code = Store Sd h.value 0 from.value ∷ Operate Sll t h.value (Number 61) ∷ []
+  start_code = Store Sd address 0 from.value ∷ Operate Sll t address (Number 61) ∷ []
 
   module _ (code : List FlatInstruction) (pc : ℕ) (f : State) (w : IsOfWords f)
-      (has : HasAt code pc (store_pointer_code h from t write)) (stands : IsFor gx k IsGood x f)
-      (held : IsHeldBy gx k x.objects (InPointer h) v f.values)
+      (has : HasAt code pc (store_pointer_code address from t write)) (stands : IsFor gx k IsGood x f)
+      (held : IsHeldBy gx k x.objects (Word address) v f.values)
       (value : IsHeldBy gx k x.objects (InPointer from) new f.values) (d : IsDirect x.objects v 8) where
     abbrev p : Place
     p = place_in x.objects d.object v.word
@@ -200,8 +201,8 @@ module _ (map : MapSizes) (mapped : AreMapped map) (entry : View) (IsGood : Byte
         let l = lies_last gx k x.objects f.memory (laid_out map mapped) stands.objects v 8 p allowed in
         let s = (laid_out map mapped).small in omega arith
 
-    at_is : (f.values h.value + 0) % 2 ^ 64 ≡ v.word
-    at_is = address_is (f.values h.value) v.word (w.values h.value) held.0.word
+    at_is : (f.values address + 0) % 2 ^ 64 ≡ v.word
+    at_is = address_is (f.values address) v.word (w.values address) held
 
     may_start : AreAllowed c start_code f
     may_start = (ap (λ z. is_allowed map z 8) at_is ∙ access_allowed map v.word 8 in_objects, (tt, tt))
@@ -211,7 +212,7 @@ module _ (map : MapSizes) (mapped : AreMapped map) (entry : View) (IsGood : Byte
 
     shifted : y.values t ≡ v.word * 2 ^ 61 % 2 ^ 64
     unfolding reg_result
-    shifted = put_same f.values t _ ∙ ap (λ z. z * 2 ^ 61 % 2 ^ 64) held.0.word
+    shifted = put_same f.values t _ ∙ ap (λ z. z * 2 ^ 61 % 2 ^ 64) held
 
     stays : OthersStay [] t f y
     stays i l none = put_other f.values t _ i (λ e. omega (arith, e))
@@ -279,11 +280,11 @@ module _ (map : MapSizes) (mapped : AreMapped map) (entry : View) (IsGood : Byte
         stays
 
     with_entry : v.word % 8 ≡ 0 → (o : Outcome)
-        → Either (HasWritten map entry IsGood h.value from.tag t (worked c y)) Never o → R o
+        → Either (HasWritten map entry IsGood address from.tag t (worked c y)) Never o → R o
     unfolding write_value
     with_entry e (Halts status report z) never = absurd never
     with_entry e (Continues z) q =
-        let at : y.values h.value ≡ v.word = stays h.value below.0 tt ∙ held.0.word in
+        let at : y.values address ≡ v.word = stays address below.0 tt ∙ held in
         let entry_is : metadata_in y.values from.tag ≡ spell gx k new.tag =
         entry_stays [] t f y from.tag stays below.1.1 (none_of_none (entry_registers from.tag)) ∙ value.0.tag in
         let first = locks_first map in
@@ -304,14 +305,14 @@ module _ (map : MapSizes) (mapped : AreMapped map) (entry : View) (IsGood : Byte
         q.shows)
         (λ i l none. q.others i l tt ∙ stays i l tt)
 
-    stores_pointer : Reaches c code 35 (Goes pc f) (pc + length (store_pointer_code h from t write)) R
+    stores_pointer : Reaches c code 35 (Goes pc f) (pc + length (store_pointer_code address from t write)) R
     stores_pointer =
         let U = unless_code Bne t (Number 0) write in
         let w1 = effects_words c start_code f may_start w in
         let w2 : IsOfWords (worked c y) = record { values = w1.values; memory = w1.memory } in
         let q : pc + 1 + 1 ≡ pc + 2 = omega arith in
         let rest = subst (λ n. HasAt code n U) q has.1.1 in
-        let end : pc + 2 + length U ≡ pc + length (store_pointer_code h from t write) = omega arith in
+        let end : pc + 2 + length U ≡ pc + length (store_pointer_code address from t write) = omega arith in
         subst (λ n. Reaches c code 35 (Goes pc f) n R) end
         (line_on c code start_code 33 pc f (pc + 2 + length U) R may_start (has.0, (has.1.0, tt))
         (unless c code 32 (pc + 2) y Bne t (Number 0) write R rest
@@ -320,7 +321,7 @@ module _ (map : MapSizes) (mapped : AreMapped map) (entry : View) (IsGood : Byte
         (λ e.
         let zero : y.values t ≡ 0 = eqb-true (y.values t) 0 (if_same (y.values t) 0 e) in
         let aligned = if_aligned v.word (y.values t) shifted zero in
-        let at : y.values h.value ≡ v.word = stays h.value below.0 tt ∙ held.0.word in
+        let at : y.values address ≡ v.word = stays address below.0 tt ∙ held in
         let there = word_there gx k x.objects f.memory (laid_out map mapped) stands.objects v 8 p allowed (omega arith)
         aligned in
         weaken c code 32 32 (Goes (pc + 2 + 1) (worked c y)) (pc + 2 + 1 + length write) _ R (omega arith)
@@ -328,24 +329,28 @@ module _ (map : MapSizes) (mapped : AreMapped map) (entry : View) (IsGood : Byte
         ((writes false charge weight).from code (pc + 2 + 1) (worked c y) rest.1 w2
         (subst (IsObjectWord map) (sym at) there, subst IsGood (sym memory_is) half_good.shadow)))))
 
-pub store_pointer_does : (map : MapSizes) (entry : View) (IsGood : Bytes → Type 0) (h from : Held) (t : ℕ)
+pub store_pointer_does : (map : MapSizes) (entry : View) (IsGood : Bytes → Type 0) (address : ℕ) (from : Held) (t : ℕ)
     (write : List FlatInstruction) → AreMapped map → IsLocal map entry IsGood
-    → AreBelow t (h.value ∷ held_registers from) → IsWriteRoutine map entry IsGood h.value from.tag t write
-    → IsStoreRoutine (program_ground map entry IsGood) h (Pointer from) t (store_pointer_code h from t write)
-store_pointer_does map entry IsGood h from t write mapped is_local below writes line functions types k x [] charge
+    → AreBelow t (address ∷ held_registers from) → IsWriteRoutine map entry IsGood address from.tag t write
+    → IsStoreRoutine (program_ground map entry IsGood) address (Pointer from) t
+    (store_pointer_code address from t write)
+store_pointer_does map entry IsGood address from t write mapped is_local below writes line functions types k x [] charge
     weight =
     record { from = λ code pc f has w p. absurd p.1 }
-store_pointer_does map entry IsGood h from t write mapped is_local below writes line functions types k x (v ∷ []) charge
+store_pointer_does map entry IsGood address from t write mapped is_local below writes line functions types k x (v ∷ [])
+    charge
     weight = record { from = λ code pc f has w p. absurd p.1.1 }
-store_pointer_does map entry IsGood h from t write mapped is_local below writes line functions types k x (v ∷ new ∷ [])
+store_pointer_does map entry IsGood address from t write mapped is_local below writes line functions types k x
+    (v ∷ new ∷ [])
     charge weight = record {
       from = λ code pc f has w p.
           weaken _ code 35 (35 + 0 * work_of (source_store OfPointer false v line new >> done (integer 0)) x)
           (Goes pc f)
-          (pc + length (store_pointer_code h from t write)) _ _ (omega arith) (λ o q. q)
-          (stores_pointer map mapped entry IsGood is_local h from t below write writes functions types k x v new charge
+          (pc + length (store_pointer_code address from t write)) _ _ (omega arith) (λ o q. q)
+          (stores_pointer map mapped entry IsGood is_local address from t below write writes functions types k x v new
+          charge
           weight
           line code pc f w has p.0 p.1.0 p.1.1.0 p.2);
     }
-store_pointer_does map entry IsGood h from t write mapped is_local below writes line functions types k x
+store_pointer_does map entry IsGood address from t write mapped is_local below writes line functions types k x
     (v ∷ new ∷ v' ∷ vs) charge weight = record { from = λ code pc f has w p. absurd p.1.1.1 }

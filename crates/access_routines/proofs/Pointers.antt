@@ -42,7 +42,7 @@ use Rattle.flat_routines.proofs.Words.{same_metadata}
 use Rattle.flat_objects.specs.StandsFor.{Views, Keys, spell}
 use Rattle.shadow_space.specs.Form.{HasRead, IsReadRoutine}
 use Rattle.shadow_space.proofs.Entries.{context_of}
-use Rattle.flat_actions.specs.Actions.{IsFor, IsHeldBy, Pointer as InPointer, Leaves, views_of, work_of}
+use Rattle.flat_actions.specs.Actions.{IsFor, IsHeldBy, Word, Pointer as InPointer, Leaves, views_of, work_of}
 use Rattle.access_routines.specs.declared.held.HeldScalar.TheVariants.{Pointer}
 use Rattle.access_routines.specs.Accessing.{IsLoadRoutine, program_ground, word_code, no_entry, load_pointer_code}
 use Rattle.access_routines.proofs.Tests.{if_equal, if_unequal}
@@ -95,37 +95,37 @@ if_misaligned a s e z = λ q. z (let r : a ≡ 8 * (a / 8) = omega arith in omeg
 
 -- ---- the word, and the test
 
-module _ (map : MapSizes) (charge weight : ℕ) (h into : Held) (t : ℕ)
-    (apart : AreDistinct (h.value ∷ held_registers into))
-    (below : AreBelow t (h.value ∷ held_registers into)) where
+module _ (map : MapSizes) (charge weight : ℕ) (address : ℕ) (into : Held) (t : ℕ)
+    (apart : AreDistinct (address ∷ held_registers into))
+    (below : AreBelow t (address ∷ held_registers into)) where
   abbrev c : Context
   c = context_of map false charge weight
 
   abbrev start_code : List FlatInstruction
-  start_code = Load Ld into.value h.value 0 ∷ Operate Sll t h.value (Number 61) ∷ []
+  start_code = Load Ld into.value address 0 ∷ Operate Sll t address (Number 61) ∷ []
 
   record HasWord (a : ℕ) (f y : State) : Type 0 where
     value : y.values into.value ≡ load 8 f.memory a
     shifted : y.values t ≡ a * 2 ^ 61 % 2 ^ 64
-    kept : y.values h.value ≡ a
+    kept : y.values address ≡ a
     memory : y.memory ≡ f.memory
     shows : ShowsOne (record { address = a; size = 8; kind = Read }) f y
     others : OthersStay (held_registers into) t f y
 
-  has_word : (a : ℕ) (f : State) → IsOfWords f → f.values h.value ≡ a → is_of_objects map a 8 ≡ true
+  has_word : (a : ℕ) (f : State) → IsOfWords f → f.values address ≡ a → is_of_objects map a 8 ≡ true
       → HasWord a f (effects c start_code f)
   unfolding reg_result extended
   has_word a f w at inside =
-      let i = (f.values h.value + 0) % 2 ^ 64 in
-      let is = address_is (f.values h.value) a (w.values h.value) at in
+      let i = (f.values address + 0) % 2 ^ 64 in
+      let is = address_is (f.values address) a (w.values address) at in
       let v1 = put f.values into.value (load 8 f.memory i) in
-      let kept1 : v1 h.value ≡ f.values h.value = put_other f.values into.value _ h.value apart.0.0 in
+      let kept1 : v1 address ≡ f.values address = put_other f.values into.value _ address apart.0.0 in
       let into_t : into.value ≢ t = λ e. (let b = below.1.0 in omega arith) in
-      let h_t : h.value ≢ t = λ e. (let b = below.0 in omega arith) in
+      let h_t : address ≢ t = λ e. (let b = below.0 in omega arith) in
       record {
         value = put_other v1 t _ into.value into_t ∙ put_same f.values into.value _ ∙ ap (load 8 f.memory) is;
         shifted = put_same v1 t _ ∙ ap (λ z. z * 2 ^ 61 % 2 ^ 64) (kept1 ∙ at);
-        kept = put_other v1 t _ h.value h_t ∙ kept1 ∙ at;
+        kept = put_other v1 t _ address h_t ∙ kept1 ∙ at;
         memory = refl;
         shows = record {
           input = refl;
@@ -139,9 +139,10 @@ module _ (map : MapSizes) (charge weight : ℕ) (h into : Held) (t : ℕ)
 
 -- ---- the whole
 
-module _ (map : MapSizes) (mapped : AreMapped map) (entry : View) (IsGood : Bytes → Type 0) (h into : Held) (t : ℕ)
-    (apart : AreDistinct (h.value ∷ held_registers into)) (below : AreBelow t (h.value ∷ held_registers into))
-    (read : List FlatInstruction) (reads : IsReadRoutine map entry IsGood h.value into.tag t read)
+module _ (map : MapSizes) (mapped : AreMapped map) (entry : View) (IsGood : Bytes → Type 0) (address : ℕ) (into : Held)
+    (t : ℕ)
+    (apart : AreDistinct (address ∷ held_registers into)) (below : AreBelow t (address ∷ held_registers into))
+    (read : List FlatInstruction) (reads : IsReadRoutine map entry IsGood address into.tag t read)
     (functions : ℕ) (types : ℕ → ℕ) (k : Keys) (x : Source) (v : Value) (charge weight line : ℕ) where
   abbrev g : Views
   g = views_of map functions types entry
@@ -150,8 +151,8 @@ module _ (map : MapSizes) (mapped : AreMapped map) (entry : View) (IsGood : Byte
   cx = context_of map false charge weight
 
   module _ (code : List FlatInstruction) (pc : ℕ) (f : State) (w : IsOfWords f)
-      (has : HasAt code pc (load_pointer_code h into t read)) (stands : IsFor g k IsGood x f)
-      (held : IsHeldBy g k x.objects (InPointer h) v f.values) (d : IsDirect x.objects v 8) where
+      (has : HasAt code pc (load_pointer_code address into t read)) (stands : IsFor g k IsGood x f)
+      (held : IsHeldBy g k x.objects (Word address) v f.values) (d : IsDirect x.objects v 8) where
     abbrev p : Place
     p = place_in x.objects d.object v.word
 
@@ -162,10 +163,10 @@ module _ (map : MapSizes) (mapped : AreMapped map) (entry : View) (IsGood : Byte
     R = Leaves g k IsGood (InPointer into) t x f (source_load OfPointer false v line x)
 
     abbrev y : State
-    y = effects cx (start_code map charge weight h into t apart below) f
+    y = effects cx (start_code map charge weight address into t apart below) f
 
     abbrev end : ℕ
-    end = pc + length (load_pointer_code h into t read)
+    end = pc + length (load_pointer_code address into t read)
 
     allowed : IsAllowed x.objects v 8 p
     allowed = direct_allowed x.objects v 8 d
@@ -173,12 +174,12 @@ module _ (map : MapSizes) (mapped : AreMapped map) (entry : View) (IsGood : Byte
     in_objects : is_of_objects map v.word 8 ≡ true
     in_objects = of_objects g k x.objects f.memory (laid_out map mapped) stands.objects v 8 p allowed
 
-    word : HasWord map charge weight h into t apart below v.word f y
-    word = has_word map charge weight h into t apart below v.word f w held.0.word in_objects
+    word : HasWord map charge weight address into t apart below v.word f y
+    word = has_word map charge weight address into t apart below v.word f w held in_objects
 
-    may_start : AreAllowed cx (start_code map charge weight h into t apart below) f
+    may_start : AreAllowed cx (start_code map charge weight address into t apart below) f
     may_start = (
-      ap (λ z. is_allowed map z 8) (address_is (f.values h.value) v.word (w.values h.value) held.0.word)
+      ap (λ z. is_allowed map z 8) (address_is (f.values address) v.word (w.values address) held)
           ∙ access_allowed map v.word 8 in_objects,
       (tt, tt),
     )
@@ -196,7 +197,7 @@ module _ (map : MapSizes) (mapped : AreMapped map) (entry : View) (IsGood : Byte
 
     -- with its entry
     with_entry : (z : State) → v.word % 8 ≡ 0 → (o : Outcome)
-        → Either (HasRead entry h.value into.tag t (worked cx y)) Never o → R o
+        → Either (HasRead entry address into.tag t (worked cx y)) Never o → R o
     with_entry s e (Halts status report z) never = absurd never
     with_entry s e (Continues z) q =
         let there = entry_there g k x.objects f.memory (laid_out map mapped) stands.objects v 8 p allowed (omega arith)
@@ -205,18 +206,18 @@ module _ (map : MapSizes) (mapped : AreMapped map) (entry : View) (IsGood : Byte
         (one_at_work a f y _ word.shows)
         q.shows)
         (q.others into.value (let b = below.1.0 in omega arith) apart.1.0 ∙ word.value)
-        (q.read ∙ ap (λ m. entry m (y.values h.value)) word.memory ∙ ap (entry f.memory) word.kept ∙ there)
+        (q.read ∙ ap (λ m. entry m (y.values address)) word.memory ∙ ap (entry f.memory) word.kept ∙ there)
         (λ i l none. q.others i (omega arith) none.1 ∙ word.others i l none)
 
     loads_pointer : Reaches cx code 36 (Goes pc f) end R
     loads_pointer =
-        let W = word_code h into t (length read) in
+        let W = word_code address into t (length read) in
         let front = has_front code pc W read has in
         let back = has_back code pc W read has in
-        let w1 = effects_words cx (start_code map charge weight h into t apart below) f may_start w in
+        let w1 = effects_words cx (start_code map charge weight address into t apart below) f may_start w in
         let w2 : IsOfWords (worked cx y) = record { values = w1.values; memory = w1.memory } in
         let len : pc + 8 + length read ≡ end = omega (arith, length-append W read) in
-        line_on cx code (start_code map charge weight h into t apart below) 34 pc f end R may_start
+        line_on cx code (start_code map charge weight address into t apart below) 34 pc f end R may_start
         (front.0, (front.1.0, tt))
         (branch cx code 33 (pc + 2) y Beq t (Number 0) 5 end R
         (let q : pc + 1 + 1 ≡ pc + 2 = omega arith in
@@ -252,21 +253,24 @@ module _ (map : MapSizes) (mapped : AreMapped map) (entry : View) (IsGood : Byte
         (n.entry ∙ none)
         (λ i l u. n.others i u.1 ∙ word.others i l u)))))))
 
-pub load_pointer_does : (map : MapSizes) (entry : View) (IsGood : Bytes → Type 0) (h into : Held) (t : ℕ)
-    (read : List FlatInstruction) → AreMapped map → AreDistinct (h.value ∷ held_registers into)
-    → AreBelow t (h.value ∷ held_registers into) → IsReadRoutine map entry IsGood h.value into.tag t read
-    → IsLoadRoutine (program_ground map entry IsGood) h (Pointer into) t (load_pointer_code h into t read)
-load_pointer_does map entry IsGood h into t read mapped apart below reads line functions types k x [] charge weight =
+pub load_pointer_does : (map : MapSizes) (entry : View) (IsGood : Bytes → Type 0) (address : ℕ) (into : Held) (t : ℕ)
+    (read : List FlatInstruction) → AreMapped map → AreDistinct (address ∷ held_registers into)
+    → AreBelow t (address ∷ held_registers into) → IsReadRoutine map entry IsGood address into.tag t read
+    → IsLoadRoutine (program_ground map entry IsGood) address (Pointer into) t (load_pointer_code address into t read)
+load_pointer_does map entry IsGood address into t read mapped apart below reads line functions types k x [] charge
+    weight =
     record { from = λ code pc f has w p. absurd p.1 }
-load_pointer_does map entry IsGood h into t read mapped apart below reads line functions types k x (v ∷ []) charge
+load_pointer_does map entry IsGood address into t read mapped apart below reads line functions types k x (v ∷ []) charge
     weight =
     record {
       from = λ code pc f has w p.
           weaken _ code 36 (36 + 0 * work_of (source_load OfPointer false v line) x) (Goes pc f)
-          (pc + length (load_pointer_code h into t read)) _ _ (omega arith) (λ o q. q)
-          (loads_pointer map mapped entry IsGood h into t apart below read reads functions types k x v charge weight
+          (pc + length (load_pointer_code address into t read)) _ _ (omega arith) (λ o q. q)
+          (loads_pointer map mapped entry IsGood address into t apart below read reads functions types k x v charge
+          weight
           line
           code pc f w has p.0 p.1.0 p.2);
     }
-load_pointer_does map entry IsGood h into t read mapped apart below reads line functions types k x (v ∷ v' ∷ vs) charge
+load_pointer_does map entry IsGood address into t read mapped apart below reads line functions types k x (v ∷ v' ∷ vs)
+    charge
     weight = record { from = λ code pc f has w p. absurd p.1.1 }

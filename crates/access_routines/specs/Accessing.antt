@@ -26,7 +26,8 @@ use Rattle.flat_routines.specs.declared.registers.Held.{Held}
 use Rattle.flat_routines.specs.declared.registers.Entry.{Entry}
 use Rattle.flat_routines.specs.Routine.{unless_code}
 use Rattle.flat_routines.specs.Metadata.{View}
-use Rattle.flat_actions.specs.Actions.{Ground, Nowhere, Pointer as InPointer, IsAction, IsActionIn}
+use Rattle.flat_actions.specs.Actions.{Ground, Nowhere, Word, Pointer as InPointer, IsAction}
+use Rattle.flat_actions.specs.Actions.{IsActionIn}
 use Rattle.access_routines.specs.declared.held.HeldScalar.{HeldScalar}
 use Rattle.access_routines.specs.declared.held.HeldScalar.TheVariants.{Integer, Pointer}
 use Rattle.access_routines.specs.Holding.{scalar_in, holder_in}
@@ -63,29 +64,30 @@ no_entry e = Constant e.base 0 ∷ Constant e.bound 0 ∷ Constant e.key 0 ∷ C
 
 -- An address is a multiple of 8 where its low three bits, alone in a word, are 0. There an entry of so many
 -- instructions is read behind this, and elsewhere there is none.
-abbrev pub word_code : Held → Held → (scratch entry_length : ℕ) → List FlatInstruction
-word_code h into t n =
-    Load Ld into.value h.value 0
-    ∷ Operate Sll t h.value (Number 61)
+abbrev pub word_code : (address : ℕ) → Held → (scratch entry_length : ℕ) → List FlatInstruction
+word_code a into t n =
+    Load Ld into.value a 0
+    ∷ Operate Sll t a (Number 61)
     ∷ Branch Beq t (Number 0) 5
     ∷ (no_entry into.tag ++ JumpForward n ∷ [])
 
-abbrev pub load_pointer_code : Held → Held → (scratch : ℕ) → (read : List FlatInstruction) → List FlatInstruction
-load_pointer_code h into t read = word_code h into t (length read) ++ read
+abbrev pub load_pointer_code : (address : ℕ) → Held → (scratch : ℕ) → (read : List FlatInstruction)
+    → List FlatInstruction
+load_pointer_code a into t read = word_code a into t (length read) ++ read
 
-abbrev pub load_integer_code : Held → IntType → (into : ℕ) → List FlatInstruction
-load_integer_code h t r = Load (load_op t) r h.value 0 ∷ []
+abbrev pub load_integer_code : (address : ℕ) → IntType → (into : ℕ) → List FlatInstruction
+load_integer_code a t r = Load (load_op t) r a 0 ∷ []
 
 -- an integer takes one step, and a pointer what its entry takes and a few
 abbrev pub load_steps : HeldScalar → ℕ
 load_steps (Integer t r) = 1
 load_steps (Pointer h) = 36
 
--- whatever line the source would end with
-abbrev pub IsLoadRoutine : Ground → Held → (into : HeldScalar) → (scratch : ℕ) → List FlatInstruction → Type 0
-IsLoadRoutine ground h into t r =
+-- The register of the address alone is needed of the pointer, whatever line the source would end with.
+abbrev pub IsLoadRoutine : Ground → (address : ℕ) → (into : HeldScalar) → (scratch : ℕ) → List FlatInstruction → Type 0
+IsLoadRoutine ground a into t r =
     (line : ℕ)
-    → IsActionIn ground (IsToAccess into) (λ vs. load (scalar_in into) false (argument 0 vs) line) (InPointer h ∷ [])
+    → IsActionIn ground (IsToAccess into) (λ vs. load (scalar_in into) false (argument 0 vs) line) (Word a ∷ [])
     (holder_in into) t (load_steps into) 0 r
 
 -- ---- storing
@@ -104,24 +106,25 @@ store_op UnsignedLong = Sd
 store_op LongLong = Sd
 store_op UnsignedLongLong = Sd
 
-abbrev pub store_integer_code : Held → IntType → (from : ℕ) → List FlatInstruction
-store_integer_code h t r = Store (store_op t) h.value 0 r ∷ []
+abbrev pub store_integer_code : (address : ℕ) → IntType → (from : ℕ) → List FlatInstruction
+store_integer_code a t r = Store (store_op t) a 0 r ∷ []
 
 -- the word, and where the address is a multiple of 8 its entry
-abbrev pub store_pointer_code : Held → Held → (scratch : ℕ) → (write : List FlatInstruction) → List FlatInstruction
-store_pointer_code h from t write =
-    Store Sd h.value 0 from.value ∷ Operate Sll t h.value (Number 61) ∷ unless_code Bne t (Number 0) write
+abbrev pub store_pointer_code : (address : ℕ) → Held → (scratch : ℕ) → (write : List FlatInstruction)
+    → List FlatInstruction
+store_pointer_code a from t write =
+    Store Sd a 0 from.value ∷ Operate Sll t a (Number 61) ∷ unless_code Bne t (Number 0) write
 
 abbrev pub store_steps : HeldScalar → ℕ
 store_steps (Integer t r) = 1
 store_steps (Pointer h) = 35
 
-abbrev pub IsStoreRoutine : Ground → Held → (from : HeldScalar) → (scratch : ℕ) → List FlatInstruction → Type 0
-IsStoreRoutine ground h from t r =
+abbrev pub IsStoreRoutine : Ground → (address : ℕ) → (from : HeldScalar) → (scratch : ℕ) → List FlatInstruction → Type 0
+IsStoreRoutine ground a from t r =
     (line : ℕ)
     → IsActionIn ground (IsToAccess from)
     (λ vs. store (scalar_in from) false (argument 0 vs) line (argument 1 vs) >> done (integer 0))
-    (InPointer h ∷ holder_in from ∷ []) Nowhere t (store_steps from) 0 r
+    (Word a ∷ holder_in from ∷ []) Nowhere t (store_steps from) 0 r
 
 -- ---- with both tests before it
 

@@ -1,8 +1,7 @@
 -- Registers that hold the value of a scalar.
-use Rattle.std.specs.Prelude.{◌∷◌}
+use Rattle.std.specs.Prelude.{ℕ, ◌∷◌}
 use Rattle.obj_memory.specs.declared.value.Scalar.{Scalar}
 use Rattle.obj_memory.specs.declared.value.Scalar.TheVariants.{Integer as OfInteger, Pointer as OfPointer}
-use Rattle.flat_routines.specs.declared.registers.Held.{Held}
 use Rattle.flat_routines.specs.Registers.{AreDistinct}
 use Rattle.flat_routines.specs.Metadata.{held_registers}
 use Rattle.flat_actions.specs.Actions.{Holder, Word, Pointer as InPointer}
@@ -21,6 +20,6 @@ holder_in (Pointer h) = InPointer h
 
 -- Registers into which a scalar may be loaded through a pointer: that of the address is needed again before those of an
 -- entry are written.
-abbrev pub AreApartFrom : Held → HeldScalar → Type 0
-AreApartFrom h (Integer t r) = Unit {0}
-AreApartFrom h (Pointer into) = AreDistinct (h.value ∷ held_registers into)
+abbrev pub IsApartFrom : (address : ℕ) → HeldScalar → Type 0
+IsApartFrom a (Integer t r) = Unit {0}
+IsApartFrom a (Pointer into) = AreDistinct (a ∷ held_registers into)

@@ -7,7 +7,7 @@ ghost use Rattle.flat_routines.specs.Registers.{AreBelow};
 ghost use Rattle.flat_routines.specs.Metadata.{held_registers};
 ghost use Rattle.flat_actions.specs.Actions.{registers_of};
 ghost use Rattle.access_routines.specs.Testing.{spatial_code, temporal_code};
-ghost use Rattle.access_routines.specs.Holding.{holder_in, AreApartFrom};
+ghost use Rattle.access_routines.specs.Holding.{holder_in, IsApartFrom};
 ghost use Rattle.access_routines.specs.Accessing.{IsCheckedLoad, IsCheckedStore, program_ground};
 
 use crate::held::HeldScalar;
@@ -35,12 +35,12 @@ pub fn checked_load<S: ShadowForm>(
     requires map { AreMapped map.now }
     requires pointer { AreBelow scratch (held_registers pointer) }
     requires into { AreBelow scratch (registers_of (holder_in into)) }
-    requires apart { AreApartFrom pointer into }
+    requires apart { IsApartFrom pointer.value into }
     requires room { scratch ≤ 2 ^ 31 }
     ensures { IfOk result (λ r. IsCheckedLoad (program_ground map.now S.entry (S.IsGood map.now)) pointer into line
         scratch r.items) }
 {
-    let access = load::<S>(alloc, map, pointer, into, scratch)?;
+    let access = load::<S>(alloc, map, pointer.value, into, scratch)?;
     let code = behind_tests(alloc, pointer, into.size(), line, scratch, &access)?;
     Ok(code)
 }
@@ -63,7 +63,7 @@ pub fn checked_store<S: ShadowForm>(
     ensures { IfOk result (λ r. IsCheckedStore (program_ground map.now S.entry (S.IsGood map.now)) pointer from line
         scratch r.items) }
 {
-    let access = store::<S>(alloc, map, pointer, from, scratch)?;
+    let access = store::<S>(alloc, map, pointer.value, from, scratch)?;
     let code = behind_tests(alloc, pointer, from.size(), line, scratch, &access)?;
     Ok(code)
 }

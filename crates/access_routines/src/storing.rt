@@ -19,40 +19,40 @@ use rv_isa::{BranchOp, RegOp, StoreOp};
 use shadow_space::ShadowForm;
 use std::alloc::{AllocError, Global};
 
-/// Stores the scalar in the registers of `from` through the pointer in `pointer`, which is to bytes of a live object:
-/// of a pointer the entry too, where the address is a multiple of 8. It may write the registers from `scratch` on. The
-/// only refusal is that memory fails.
+/// Stores the scalar in the registers of `from` through a pointer, which is to bytes of a live object: of a pointer the
+/// entry too, where the address is a multiple of 8. The register of the address alone is needed of the pointer that is
+/// written through. It may write the registers from `scratch` on. The only refusal is that memory fails.
 pub fn store<S: ShadowForm>(
     alloc: Global,
     map: &AddrMap,
-    pointer: Held,
+    address: u32,
     from: HeldScalar,
     scratch: u32,
 ) -> Result<Vec<FlatInstruction>, AllocError>
     requires map { AreMapped map.now }
-    requires below { AreBelow scratch (pointer.value ∷ registers_of (holder_in from)) }
+    requires below { AreBelow scratch (address ∷ registers_of (holder_in from)) }
     requires room { scratch ≤ 2 ^ 31 }
-    ensures { IfOk result (λ r. IsStoreRoutine (program_ground map.now S.entry (S.IsGood map.now)) pointer from scratch
+    ensures { IfOk result (λ r. IsStoreRoutine (program_ground map.now S.entry (S.IsGood map.now)) address from scratch
         r.items) }
 {
     S::entries_are_local();
     match from {
-        HeldScalar::Integer(of, register) => store_integer(alloc, pointer, of, register),
-        HeldScalar::Pointer(held) => store_pointer::<S>(alloc, map, pointer, held, scratch),
+        HeldScalar::Integer(of, register) => store_integer(alloc, address, of, register),
+        HeldScalar::Pointer(held) => store_pointer::<S>(alloc, map, address, held, scratch),
     }
 }
 
 fn store_integer(
     alloc: Global,
-    pointer: Held,
+    address: u32,
     of: IntType,
     from: u32,
 ) -> Result<Vec<FlatInstruction>, AllocError>
-    ensures { IfOk result (λ r. r.items ≡ store_integer_code pointer of from) }
+    ensures { IfOk result (λ r. r.items ≡ store_integer_code address of from) }
 {
     let code = [FlatInstruction::Store {
         op: store_operator(of),
-        at: pointer.value,
+        at: address,
         offset: 0,
         from,
     }];
@@ -76,38 +76,38 @@ fn store_operator(of: IntType) -> StoreOp
 fn store_pointer<S: ShadowForm>(
     alloc: Global,
     map: &AddrMap,
-    pointer: Held,
+    address: u32,
     from: Held,
     scratch: u32,
 ) -> Result<Vec<FlatInstruction>, AllocError>
     requires map { AreMapped map.now }
-    requires below { AreBelow scratch (pointer.value ∷ held_registers from) }
+    requires below { AreBelow scratch (address ∷ held_registers from) }
     requires room { scratch ≤ 2 ^ 31 }
-    ensures { IfOk result (λ r. IsStoreRoutine (program_ground map.now S.entry (S.IsGood map.now)) pointer
+    ensures { IfOk result (λ r. IsStoreRoutine (program_ground map.now S.entry (S.IsGood map.now)) address
         (Pointer from) scratch r.items) }
 {
     S::entries_are_local();
-    let write = S::write_entry(alloc, map, pointer.value, from.tag, scratch)?;
-    let code = with_entry(alloc, pointer, from, scratch, &write)?;
+    let write = S::write_entry(alloc, map, address, from.tag, scratch)?;
+    let code = with_entry(alloc, address, from, scratch, &write)?;
     Ok(code)
 }
 
 // The word, and behind it the instructions that write its entry.
 fn with_entry(
     alloc: Global,
-    pointer: Held,
+    address: u32,
     from: Held,
     scratch: u32,
     write: &[FlatInstruction],
 ) -> Result<Vec<FlatInstruction>, AllocError>
     requires { length write.now ≤ 32 }
-    ensures { IfOk result (λ r. r.items ≡ store_pointer_code pointer from scratch write.now) }
+    ensures { IfOk result (λ r. r.items ≡ store_pointer_code address from scratch write.now) }
 {
     let past = write.len() as u32;
     let word = [
         FlatInstruction::Store {
             op: StoreOp::Sd,
-            at: pointer.value,
+            at: address,
             offset: 0,
             from: from.value,
         },
@@ -115,7 +115,7 @@ fn with_entry(
         FlatInstruction::Operate {
             op: RegOp::Sll,
             into: scratch,
-            left: pointer.value,
+            left: address,
             right: RightOperand::Number(61),
         },
         FlatInstruction::Branch {

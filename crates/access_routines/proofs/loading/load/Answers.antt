@@ -13,7 +13,7 @@ returns-in-Integer g c =
     let r = c.in-Integer.register in
     let ground = program_ground a.map.now entry good in
     IfOk-weaker _ _ _
-    (λ v e. subst (IsLoadRoutine ground a.pointer a.into a.scratch) (sym e)
-    (subst (λ h. IsLoadRoutine ground a.pointer h a.scratch (load_integer_code a.pointer of r)) (sym c.in-Integer.is)
-    (load_integer_does a.map.now entry good a.pointer of r a.scratch c.requires.map)))
+    (λ v e. subst (IsLoadRoutine ground a.address a.into a.scratch) (sym e)
+    (subst (λ h. IsLoadRoutine ground a.address h a.scratch (load_integer_code a.address of r)) (sym c.in-Integer.is)
+    (load_integer_does a.map.now entry good a.address of r a.scratch c.requires.map)))
     c.load_integer.ensures

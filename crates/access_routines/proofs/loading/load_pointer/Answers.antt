@@ -9,7 +9,7 @@ returns g c =
     let a = c.args in
     let entry = g.S.ShadowForm.entry in
     let good = g.S.ShadowForm.IsGood a.map.now in
-    let same = c.in_ok-code.ensures ∙ ap (load_pointer_code a.pointer a.into a.scratch) c.deref.ensures.value in
-    subst (IsLoadRoutine (program_ground a.map.now entry good) a.pointer (Pointer a.into) a.scratch) (sym same)
-    (load_pointer_does a.map.now entry good a.pointer a.into a.scratch c.in_ok-read.read.items c.requires.map
+    let same = c.in_ok-code.ensures ∙ ap (load_pointer_code a.address a.into a.scratch) c.deref.ensures.value in
+    subst (IsLoadRoutine (program_ground a.map.now entry good) a.address (Pointer a.into) a.scratch) (sym same)
+    (load_pointer_does a.map.now entry good a.address a.into a.scratch c.in_ok-read.read.items c.requires.map
     c.requires.apart c.requires.below c.in_ok-read.ensures.does)

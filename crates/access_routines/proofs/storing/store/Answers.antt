@@ -13,8 +13,8 @@ returns-in-Integer g c =
     let r = c.in-Integer.register in
     let ground = program_ground a.map.now entry good in
     IfOk-weaker _ _ _
-    (λ v e. subst (IsStoreRoutine ground a.pointer a.from a.scratch) (sym e)
-    (subst (λ h. IsStoreRoutine ground a.pointer h a.scratch (store_integer_code a.pointer of r)) (sym c.in-Integer.is)
-    (store_integer_does a.map.now entry good a.pointer of r a.scratch c.requires.map
+    (λ v e. subst (IsStoreRoutine ground a.address a.from a.scratch) (sym e)
+    (subst (λ h. IsStoreRoutine ground a.address h a.scratch (store_integer_code a.address of r)) (sym c.in-Integer.is)
+    (store_integer_does a.map.now entry good a.address of r a.scratch c.requires.map
     (λ m m' keep h. c.entries_are_local.ensures a.map.now m m' c.requires.map keep h))))
     c.store_integer.ensures

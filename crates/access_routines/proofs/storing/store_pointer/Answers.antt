@@ -9,8 +9,8 @@ returns g c =
     let a = c.args in
     let entry = g.S.ShadowForm.entry in
     let good = g.S.ShadowForm.IsGood a.map.now in
-    let same = c.in_ok-code.ensures ∙ ap (store_pointer_code a.pointer a.from a.scratch) c.deref.ensures.value in
-    subst (IsStoreRoutine (program_ground a.map.now entry good) a.pointer (Pointer a.from) a.scratch) (sym same)
-    (store_pointer_does a.map.now entry good a.pointer a.from a.scratch c.in_ok-write.write.items c.requires.map
+    let same = c.in_ok-code.ensures ∙ ap (store_pointer_code a.address a.from a.scratch) c.deref.ensures.value in
+    subst (IsStoreRoutine (program_ground a.map.now entry good) a.address (Pointer a.from) a.scratch) (sym same)
+    (store_pointer_does a.map.now entry good a.address a.from a.scratch c.in_ok-write.write.items c.requires.map
     (λ m m' keep h. c.entries_are_local.ensures a.map.now m m' c.requires.map keep h)
     c.requires.below c.in_ok-write.ensures.does)

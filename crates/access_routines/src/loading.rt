@@ -19,9 +19,9 @@ use rv_isa::{BranchOp, LoadOp, RegOp};
 use shadow_space::ShadowForm;
 use std::alloc::{AllocError, Global};
 
-/// Loads a scalar through a pointer, which is to bytes of a live object, into the registers of `into`: a pointer with the
-/// entry of the word where its address is a multiple of 8, and with none elsewhere. The register of the address alone is
-/// needed of the pointer. It may write the registers from `scratch` on. The only refusal is that memory fails.
+/// Loads a scalar through a pointer, which is to bytes of a live object, into the registers of `into`: a pointer with
+/// the entry of the word where its address is a multiple of 8, and with none elsewhere. The register of the address
+/// alone is needed of the pointer. It may write the registers from `scratch` on. The only refusal is that memory fails.
 pub fn load<S: ShadowForm>(
     alloc: Global,
     map: &AddrMap,

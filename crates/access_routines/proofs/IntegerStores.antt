@@ -42,12 +42,12 @@ use Rattle.flat_objects.specs.StandsFor.{Views, Keys, StandsFor}
 use Rattle.flat_objects.specs.Changes.{IsPut}
 use Rattle.flat_objects.proofs.Moves.{put_stands}
 use Rattle.shadow_space.proofs.Entries.{context_of}
-use Rattle.flat_actions.specs.Actions.{AreSpacesGood, IsFor, IsHeldBy, Nowhere, Word}
+use Rattle.flat_actions.specs.Actions.{AreSpacesGood, IsFor, IsHeldBy, Nowhere, Word, program_ground}
 use Rattle.flat_actions.specs.Actions.{StaysElsewhere}
 use Rattle.flat_actions.specs.Actions.{HasGiven, Leaves, views_of, work_of}
 use Rattle.flat_actions.proofs.Standing.{keeps_same}
 use Rattle.access_routines.specs.declared.held.HeldScalar.TheVariants.{Integer}
-use Rattle.access_routines.specs.Accessing.{IsStoreRoutine, program_ground, store_op, store_integer_code}
+use Rattle.access_routines.specs.Accessing.{IsStoreRoutine, store_op, store_integer_code}
 use Rattle.access_routines.proofs.Places.{direct_allowed, of_objects, lies_last, access_allowed}
 use Rattle.access_routines.proofs.Shown.{ShowsOne, is_shown, with_noted, shown_one}
 use Rattle.access_routines.proofs.Integers.{address_is}

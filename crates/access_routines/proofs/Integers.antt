@@ -29,9 +29,9 @@ use Rattle.flat_routines.proofs.Rules.{line_on, arrived, weaken}
 use Rattle.flat_routines.proofs.Regions.{laid_out}
 use Rattle.flat_objects.specs.StandsFor.{Views, Keys}
 use Rattle.shadow_space.proofs.Entries.{context_of}
-use Rattle.flat_actions.specs.Actions.{IsFor, IsHeldBy, Word, Leaves, views_of, work_of}
+use Rattle.flat_actions.specs.Actions.{IsFor, IsHeldBy, Word, Leaves, views_of, work_of, program_ground}
 use Rattle.access_routines.specs.declared.held.HeldScalar.TheVariants.{Integer}
-use Rattle.access_routines.specs.Accessing.{IsLoadRoutine, program_ground, load_op, load_integer_code}
+use Rattle.access_routines.specs.Accessing.{IsLoadRoutine, load_op, load_integer_code}
 use Rattle.access_routines.proofs.Places.{load_size, load_fits, direct_allowed, of_objects, number_there}
 use Rattle.access_routines.proofs.Places.{access_allowed}
 use Rattle.access_routines.proofs.Shown.{ShowsOne, is_shown, load_is, given_read}

@@ -52,10 +52,11 @@ use Rattle.shadow_space.specs.Form.{HasWritten, IsWriteRoutine}
 use Rattle.shadow_space.proofs.Entries.{context_of}
 use Rattle.heap_space.proofs.Regions.{if_differ, if_same}
 use Rattle.flat_actions.specs.Actions.{AreSpacesGood, IsFor, IsHeldBy, Nowhere, Word, Pointer as InPointer, Leaves}
+use Rattle.flat_actions.specs.Actions.{program_ground}
 use Rattle.flat_actions.specs.Actions.{HasGiven, views_of, work_of}
 use Rattle.flat_actions.proofs.Standing.{entry_stays, none_of_none}
 use Rattle.access_routines.specs.declared.held.HeldScalar.TheVariants.{Pointer}
-use Rattle.access_routines.specs.Accessing.{IsStoreRoutine, program_ground, store_pointer_code}
+use Rattle.access_routines.specs.Accessing.{IsStoreRoutine, store_pointer_code}
 use Rattle.access_routines.proofs.Places.{direct_allowed, of_objects, lies_last, word_there, access_allowed}
 use Rattle.access_routines.proofs.Shown.{ShowsOne, shows_one_then, one_at_work, is_shown}
 use Rattle.access_routines.proofs.Integers.{address_is}

@@ -43,8 +43,9 @@ use Rattle.flat_objects.specs.StandsFor.{Views, Keys, spell}
 use Rattle.shadow_space.specs.Form.{HasRead, IsReadRoutine}
 use Rattle.shadow_space.proofs.Entries.{context_of}
 use Rattle.flat_actions.specs.Actions.{IsFor, IsHeldBy, Word, Pointer as InPointer, Leaves, views_of, work_of}
+use Rattle.flat_actions.specs.Actions.{program_ground}
 use Rattle.access_routines.specs.declared.held.HeldScalar.TheVariants.{Pointer}
-use Rattle.access_routines.specs.Accessing.{IsLoadRoutine, program_ground, word_code, no_entry, load_pointer_code}
+use Rattle.access_routines.specs.Accessing.{IsLoadRoutine, word_code, no_entry, load_pointer_code}
 use Rattle.access_routines.proofs.Tests.{if_equal, if_unequal}
 use Rattle.access_routines.proofs.Places.{direct_allowed, of_objects, number_there, word_there, entry_there, none_there}
 use Rattle.access_routines.proofs.Places.{access_allowed}

@@ -1,6 +1,5 @@
 -- A scalar loaded and stored in flat code.
 use Rattle.std.specs.Prelude.{ℕ, ◌+◌, true, false, List, [], ◌∷◌, ◌++◌, length}
-use Rattle.addr_map.specs.Places.{MapSizes}
 use Rattle.rv_isa.specs.declared.instruction.BranchOp.TheVariants.{Beq, Bne}
 use Rattle.rv_isa.specs.declared.instruction.RegOp.TheVariants.{Sll}
 use Rattle.rv_isa.specs.declared.instruction.LoadOp.{LoadOp}
@@ -21,22 +20,14 @@ use Rattle.flat_meaning.specs.declared.instruction.RightOperand.TheVariants.{Num
 use Rattle.flat_meaning.specs.declared.instruction.FlatInstruction.{FlatInstruction}
 use Rattle.flat_meaning.specs.declared.instruction.FlatInstruction.TheVariants.{Constant, Operate, Load, Store, Branch}
 use Rattle.flat_meaning.specs.declared.instruction.FlatInstruction.TheVariants.{JumpForward}
-use Rattle.flat_meaning.specs.Memory.{Bytes}
 use Rattle.flat_routines.specs.declared.registers.Held.{Held}
 use Rattle.flat_routines.specs.declared.registers.Entry.{Entry}
 use Rattle.flat_routines.specs.Routine.{unless_code}
-use Rattle.flat_routines.specs.Metadata.{View}
 use Rattle.flat_actions.specs.Actions.{Ground, Nowhere, Word, Pointer as InPointer, IsAction}
 use Rattle.flat_actions.specs.Actions.{IsActionIn}
 use Rattle.access_routines.specs.declared.held.HeldScalar.{HeldScalar}
 use Rattle.access_routines.specs.declared.held.HeldScalar.TheVariants.{Integer, Pointer}
 use Rattle.access_routines.specs.Holding.{scalar_in, holder_in}
-
--- ---- functions of the program
-
--- each access of object space is shown
-abbrev pub program_ground : MapSizes → View → (Bytes → Type 0) → Ground
-program_ground map entry IsGood = record { map = map; entry = entry; IsGood = IsGood; is_runtime = false }
 
 -- the address is a pointer to bytes of a live object, of a scalar
 abbrev pub IsToAccess : HeldScalar → Source → List Value → Type 0

@@ -1,14 +1,14 @@
 //! Accesses with both tests before them.
 
-ghost use Rattle.std.specs.Prelude.{◌≡◌, ◌≤◌, ◌^◌, IfOk, ◌∷◌, ◌++◌};
+ghost use Rattle.std.specs.Prelude.{◌≡◌, ◌≤◌, ◌^◌, IfOk, ◌++◌};
 ghost use Rattle.addr_map.specs.Places.{AreMapped};
 ghost use Rattle.flat_meaning.specs.declared.instruction.RightOperand.TheVariants.{Number};
 ghost use Rattle.flat_routines.specs.Registers.{AreBelow};
 ghost use Rattle.flat_routines.specs.Metadata.{held_registers};
-ghost use Rattle.flat_actions.specs.Actions.{registers_of};
+ghost use Rattle.flat_actions.specs.Actions.{registers_of, program_ground};
 ghost use Rattle.access_routines.specs.Testing.{spatial_code, temporal_code};
 ghost use Rattle.access_routines.specs.Holding.{holder_in, IsApartFrom};
-ghost use Rattle.access_routines.specs.Accessing.{IsCheckedLoad, IsCheckedStore, program_ground};
+ghost use Rattle.access_routines.specs.Accessing.{IsCheckedLoad, IsCheckedStore};
 
 use crate::held::HeldScalar;
 use crate::loading::load;

@@ -4,9 +4,9 @@ ghost use Rattle.std.specs.Prelude.{◌≡◌, ◌≤◌, ◌^◌, IfOk, ◌∷�
 ghost use Rattle.addr_map.specs.Places.{AreMapped};
 ghost use Rattle.flat_routines.specs.Registers.{AreDistinct, AreBelow};
 ghost use Rattle.flat_routines.specs.Metadata.{held_registers};
-ghost use Rattle.flat_actions.specs.Actions.{registers_of};
+ghost use Rattle.flat_actions.specs.Actions.{registers_of, program_ground};
 ghost use Rattle.access_routines.specs.Holding.{holder_in, IsApartFrom};
-ghost use Rattle.access_routines.specs.Accessing.{IsLoadRoutine, program_ground, load_op, load_integer_code};
+ghost use Rattle.access_routines.specs.Accessing.{IsLoadRoutine, load_op, load_integer_code};
 ghost use Rattle.access_routines.specs.Accessing.{load_pointer_code};
 ghost use Rattle.access_routines.specs.declared.held.HeldScalar.TheVariants.{Pointer};
 

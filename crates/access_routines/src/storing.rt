@@ -4,9 +4,9 @@ ghost use Rattle.std.specs.Prelude.{◌≡◌, ◌≤◌, ◌^◌, IfOk, ◌∷�
 ghost use Rattle.addr_map.specs.Places.{AreMapped};
 ghost use Rattle.flat_routines.specs.Registers.{AreBelow};
 ghost use Rattle.flat_routines.specs.Metadata.{held_registers};
-ghost use Rattle.flat_actions.specs.Actions.{registers_of};
+ghost use Rattle.flat_actions.specs.Actions.{registers_of, program_ground};
 ghost use Rattle.access_routines.specs.Holding.{holder_in};
-ghost use Rattle.access_routines.specs.Accessing.{IsStoreRoutine, program_ground, store_op, store_integer_code};
+ghost use Rattle.access_routines.specs.Accessing.{IsStoreRoutine, store_op, store_integer_code};
 ghost use Rattle.access_routines.specs.Accessing.{store_pointer_code};
 ghost use Rattle.access_routines.specs.declared.held.HeldScalar.TheVariants.{Pointer};
 

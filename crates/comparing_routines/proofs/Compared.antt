@@ -33,10 +33,10 @@ use Rattle.shadow_space.proofs.Entries.{context_of}
 use Rattle.space_routines.proofs.Quiet.{quiet_words, shows_both}
 use Rattle.flat_judging.specs.Judging.{IsSameBut, IsJudged}
 use Rattle.flat_judging.proofs.Judges.{judges}
-use Rattle.flat_actions.specs.Actions.{IsFor, Word, Pointer, views_of, work_of}
+use Rattle.flat_actions.specs.Actions.{IsFor, Word, Pointer, views_of, work_of, runtime_ground}
 use Rattle.flat_actions.proofs.Standing.{others_trans}
 use Rattle.flat_actions.proofs.Judged.{after_judge}
-use Rattle.comparing_routines.specs.Answering.{IsAnswered, runtime_ground}
+use Rattle.comparing_routines.specs.Answering.{IsAnswered}
 use Rattle.comparing_routines.specs.Comparing.{strcmp_code, IsStrcmp}
 use Rattle.comparing_routines.proofs.Looks.{inside_not_out, dead_not_out, byte_of, looked, around, lives, reach_is}
 use Rattle.comparing_routines.proofs.Looks.{bytes_of, look_by}

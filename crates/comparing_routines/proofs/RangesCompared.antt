@@ -48,9 +48,9 @@ use Rattle.shadow_space.proofs.Entries.{context_of}
 use Rattle.space_routines.proofs.Quiet.{quiet_words, worked_words}
 use Rattle.flat_judging.specs.Judging.{IsSameBut, IsJudged}
 use Rattle.flat_judging.proofs.Judges.{judges}
-use Rattle.flat_actions.specs.Actions.{IsFor, Word, Pointer, views_of, work_of}
+use Rattle.flat_actions.specs.Actions.{IsFor, Word, Pointer, views_of, work_of, runtime_ground}
 use Rattle.flat_actions.proofs.Judged.{judged_then, located_then, after_judge}
-use Rattle.comparing_routines.specs.Answering.{IsAnswered, runtime_ground}
+use Rattle.comparing_routines.specs.Answering.{IsAnswered}
 use Rattle.comparing_routines.specs.Comparing.{memcmp_code, IsMemcmp}
 use Rattle.comparing_routines.proofs.Seeks.{if_equal, if_unequal}
 use Rattle.comparing_routines.proofs.Pairs.{own_left, own_right}

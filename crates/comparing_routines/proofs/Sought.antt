@@ -37,9 +37,9 @@ use Rattle.shadow_space.proofs.Entries.{context_of}
 use Rattle.space_routines.proofs.Quiet.{quiet_words}
 use Rattle.flat_judging.specs.Judging.{judge_code, IsSameBut, IsJudged}
 use Rattle.flat_judging.proofs.Judges.{judges}
-use Rattle.flat_actions.specs.Actions.{IsFor, Word, Pointer, views_of, work_of}
+use Rattle.flat_actions.specs.Actions.{IsFor, Word, Pointer, views_of, work_of, runtime_ground}
 use Rattle.flat_actions.proofs.Judged.{after_judge}
-use Rattle.comparing_routines.specs.Answering.{IsAnswered, runtime_ground}
+use Rattle.comparing_routines.specs.Answering.{IsAnswered}
 use Rattle.comparing_routines.specs.Seeking.{seek_start, seek_code, strchr_code, IsStrchr}
 use Rattle.comparing_routines.proofs.Looks.{inside_not_out, dead_not_out, IsAround, around, lives, reach_is, bytes_of}
 use Rattle.comparing_routines.proofs.Looks.{look_by}

@@ -20,9 +20,10 @@ use Rattle.flat_routines.proofs.Wrapped.{routine_that_may_end}
 use Rattle.flat_objects.specs.StandsFor.{Views, Keys}
 use Rattle.shadow_space.proofs.Entries.{context_of, agrees_shows, agrees_memory}
 use Rattle.flat_actions.specs.Actions.{IsFor, Holder, registers_of, IsGivenIn, AreHeldBy, Leaves, views_of, work_of}
+use Rattle.flat_actions.specs.Actions.{runtime_ground}
 use Rattle.flat_actions.specs.Actions.{IsAction}
 use Rattle.flat_actions.proofs.Standing.{given_still, ended_still}
-use Rattle.comparing_routines.specs.Answering.{runtime_ground, IsAnswered}
+use Rattle.comparing_routines.specs.Answering.{IsAnswered}
 
 shows_seen : (f : ℕ → ℕ) (s v : State) → ShowsNothing (through f s) v → ShowsNothing s v
 shows_seen f s v h = record {

@@ -1,20 +1,14 @@
 -- What functions of the runtime leave that look at objects, change none, and show nothing.
-use Rattle.std.specs.Prelude.{◌≡◌, ℕ, true}
+use Rattle.std.specs.Prelude.{◌≡◌, ℕ}
 use Rattle.sb_base.specs.Endings.{code_of, report_of}
-use Rattle.addr_map.specs.Places.{MapSizes}
 use Rattle.obj_memory.specs.declared.value.Value.{Value}
 use Rattle.source_meaning.specs.State.{State as Source, Outcome as Completed, Gives, Ended, Paused}
 use Rattle.source_meaning.specs.Acting.{at_work}
-use Rattle.flat_meaning.specs.Memory.{Bytes}
 use Rattle.flat_meaning.specs.State.{State}
 use Rattle.flat_routines.specs.Routine.{Outcome, Continues, Halts}
-use Rattle.flat_routines.specs.Metadata.{View, ShowsNothing}
+use Rattle.flat_routines.specs.Metadata.{ShowsNothing}
 use Rattle.flat_objects.specs.StandsFor.{Views, Keys}
-use Rattle.flat_actions.specs.Actions.{Ground, Holder, IsGivenIn}
-
--- functions of the runtime, whose accesses of object space are not shown
-abbrev pub runtime_ground : MapSizes → View → (Bytes → Type 0) → Ground
-runtime_ground map entry IsGood = record { map = map; entry = entry; IsGood = IsGood; is_runtime = true }
+use Rattle.flat_actions.specs.Actions.{Holder, IsGivenIn}
 
 -- only work was done in the source
 pub record IsWorking (x x' : Source) : Type 0 where

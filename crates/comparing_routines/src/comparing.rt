@@ -4,12 +4,12 @@ ghost use Rattle.std.specs.Prelude.{◌≡◌, ◌+◌, ◌≤◌, ◌^◌, IfOk
 ghost use Rattle.addr_map.specs.Places.{AreMapped};
 ghost use Rattle.flat_routines.specs.Registers.{AreNoneOf, AreBelow};
 ghost use Rattle.flat_routines.specs.Metadata.{held_registers};
-ghost use Rattle.comparing_routines.specs.Answering.{runtime_ground};
 ghost use Rattle.comparing_routines.specs.Comparing.{IsStrcmp, IsMemcmp, strcmp_code, memcmp_code, string_loop};
 ghost use Rattle.comparing_routines.specs.Comparing.{range_loop, order_code, pair_code};
+ghost use Rattle.flat_actions.specs.Actions.{runtime_ground};
 
-use crate::judged::judge_instructions;
 use addr_map::AddrMap;
+use flat_judging::judge_instructions;
 use flat_meaning::{FlatInstruction, RightOperand};
 use flat_routines::Held;
 use rv_isa::{BranchOp, LoadOp, RegOp};

@@ -2,7 +2,6 @@
 #![tactic(auto)]
 
 pub mod comparing;
-mod judged;
 pub mod seeking;
 
 pub use crate::comparing::{memcmp, strcmp};

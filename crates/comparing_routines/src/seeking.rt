@@ -4,12 +4,12 @@ ghost use Rattle.std.specs.Prelude.{◌≡◌, ◌+◌, ◌≤◌, ◌^◌, IfOk
 ghost use Rattle.addr_map.specs.Places.{AreMapped};
 ghost use Rattle.flat_routines.specs.Registers.{AreNoneOf, AreDistinct, AreBelow};
 ghost use Rattle.flat_routines.specs.Metadata.{held_registers};
-ghost use Rattle.comparing_routines.specs.Answering.{runtime_ground};
 ghost use Rattle.comparing_routines.specs.Seeking.{IsStrchr, strchr_code, seek_start, seek_loop, null_code};
 ghost use Rattle.comparing_routines.specs.Seeking.{same_entry_code};
+ghost use Rattle.flat_actions.specs.Actions.{runtime_ground};
 
-use crate::judged::judge_instructions;
 use addr_map::AddrMap;
+use flat_judging::judge_instructions;
 use flat_meaning::{FlatInstruction, RightOperand};
 use flat_routines::{Entry, Held};
 use rv_isa::{BranchOp, LoadOp, RegOp};

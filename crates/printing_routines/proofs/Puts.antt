@@ -23,7 +23,7 @@ use Rattle.shadow_space.proofs.Entries.{context_of}
 use Rattle.flat_actions.specs.Actions.{Holder, Nowhere, Word, Pointer, registers_of}
 use Rattle.string_routines.specs.Putting.{bytes_from, HasPut, IsPutRoutine}
 use Rattle.string_routines.proofs.PutLoop.{same_bytes}
-use Rattle.string_routines.proofs.Runtime.{objects_allowed}
+use Rattle.moving_routines.proofs.Bytes.{object_allowed}
 use Rattle.printing_routines.specs.Digits.{HasPrinted}
 use Rattle.printing_routines.specs.Numbers.{number_bytes}
 use Rattle.printing_routines.specs.Formats.{cursor_of, byte_code, count_string, IsPutPart, ArePuts}
@@ -91,7 +91,7 @@ module _ (map : MapSizes) (mapped : AreMapped map) (charge weight : ℕ) (t w : 
       (Either (HasPrinted bytes t w f) Never) words
       ((puts n charge weight).from code pc f (has_front code pc putting (count_string h k t w) has) words (record {
         end_is = ends;
-        allowed = λ i l. objects_allowed map (f.values h.value + i) 1 (omega arith) (omega arith);
+        allowed = λ i l. object_allowed map (f.values h.value + i) (f.values h.value + i) 1 refl (omega arith) (omega arith);
       }))
       (λ z wz put.
       line c code (count_string h k t w) (pc + length putting) z (HasPrinted bytes t w f) Never (tt, (tt, tt))

@@ -6,7 +6,6 @@
 
 pub mod digits;
 pub mod formats;
-mod lists;
 pub mod numbers;
 
 pub use crate::formats::{Printed, printf};

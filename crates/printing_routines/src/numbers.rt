@@ -8,9 +8,9 @@ ghost use Rattle.flat_meaning.specs.declared.instruction.FlatInstruction.TheVari
 ghost use Rattle.printing_routines.specs.Numbers.{IsNumberRoutine, number_code, sign_code, low_code, base_code};
 
 use crate::digits::base_instructions;
-use crate::lists::joined;
 use addr_map::AddrMap;
 use c_tree::Directive;
+use flat_actions::joined;
 use flat_meaning::{FlatInstruction, RightOperand};
 use rv_isa::{BranchOp, RegOp, RegOp32};
 use std::alloc::{AllocError, Global};

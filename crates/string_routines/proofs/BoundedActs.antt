@@ -33,7 +33,7 @@ use Rattle.flat_actions.specs.Actions.{views_of, work_of}
 use Rattle.flat_actions.specs.Ranges.{IsObjectRange, IsByteMoveRoutine, IsFillRoutine}
 use Rattle.flat_actions.specs.Scanning.{IsWorked, HasScanned, IsScanRoutine}
 use Rattle.flat_actions.proofs.Standing.{for_still, for_worked, spells_still, none_of_none}
-use Rattle.moving_routines.specs.Library.{guarded_code}
+use Rattle.flat_actions.specs.Lists.{guarded_code}
 use Rattle.moving_routines.proofs.Tagged.{IsLocal}
 use Rattle.moving_routines.proofs.Steps.{does_weaken}
 use Rattle.moving_routines.proofs.Moves.{allowed_range}

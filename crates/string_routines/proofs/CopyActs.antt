@@ -28,7 +28,7 @@ use Rattle.flat_actions.specs.Actions.{views_of, work_of}
 use Rattle.flat_actions.specs.Ranges.{IsByteMoveRoutine}
 use Rattle.flat_actions.specs.Scanning.{IsWorked, HasScanned, IsScanRoutine}
 use Rattle.flat_actions.proofs.Standing.{for_still, for_worked, held_still, entry_stays, none_of_none}
-use Rattle.moving_routines.specs.Library.{give_code}
+use Rattle.flat_actions.specs.Lists.{give_code}
 use Rattle.moving_routines.proofs.Tagged.{IsLocal}
 use Rattle.string_routines.specs.Copying.{size_code}
 use Rattle.string_routines.proofs.Handing.{IsSince, left_from, act_then_gives}

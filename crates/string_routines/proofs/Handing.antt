@@ -16,7 +16,7 @@ use Rattle.flat_routines.proofs.Rules.{Holds, in_sequence}
 use Rattle.flat_objects.specs.StandsFor.{Views, Keys, Spells}
 use Rattle.flat_actions.specs.Actions.{Nowhere, Pointer, HasGiven, Leaves}
 use Rattle.flat_actions.proofs.Standing.{for_still, spells_still, none_of_none, others_trans}
-use Rattle.moving_routines.specs.Library.{give_code}
+use Rattle.flat_actions.specs.Lists.{give_code}
 use Rattle.moving_routines.proofs.Guarded.{HasHanded, hands, spell_kept}
 
 -- registers below t, memory and what is shown are as before

@@ -1,18 +1,17 @@
 //! `strncpy`.
 
-ghost use Rattle.std.specs.Prelude.{◌≡◌, ℕ, ◌+◌, ◌<◌, ◌≤◌, ◌^◌, ◌++◌, IfOk, [], ◌∷◌};
+ghost use Rattle.std.specs.Prelude.{◌+◌, ◌<◌, ◌≤◌, ◌^◌, IfOk, [], ◌∷◌};
 ghost use Rattle.addr_map.specs.Places.{AreMapped};
 ghost use Rattle.source_meaning.specs.Strings.{strncpy as strncpy_of};
 ghost use Rattle.source_meaning.specs.Library.{argument};
 ghost use Rattle.flat_routines.specs.Registers.{AreBelow, AreDistinct, AreNoneOf};
 ghost use Rattle.flat_routines.specs.Metadata.{held_registers};
-ghost use Rattle.flat_actions.specs.Actions.{IsAction, Pointer, Word};
-ghost use Rattle.moving_routines.specs.Library.{runtime_ground};
+ghost use Rattle.flat_actions.specs.Actions.{IsAction, Pointer, Word, runtime_ground};
 ghost use Rattle.string_routines.specs.Copying.{IsFilledUp};
 
-use crate::lists::{guarded, joined};
 use crate::scanning::scan_at_most;
 use addr_map::AddrMap;
+use flat_actions::{guarded, joined};
 use flat_judging::judge;
 use flat_meaning::{FlatInstruction, RightOperand};
 use flat_routines::Held;

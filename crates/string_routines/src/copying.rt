@@ -1,18 +1,17 @@
 //! `strcpy` and `strcat`.
 
-ghost use Rattle.std.specs.Prelude.{◌≡◌, ℕ, ◌+◌, ◌≤◌, ◌^◌, ◌++◌, IfOk, [], ◌∷◌};
+ghost use Rattle.std.specs.Prelude.{◌+◌, ◌≤◌, ◌^◌, IfOk, [], ◌∷◌};
 ghost use Rattle.addr_map.specs.Places.{AreMapped};
 ghost use Rattle.source_meaning.specs.Strings.{strcpy as strcpy_of, strcat as strcat_of};
 ghost use Rattle.source_meaning.specs.Library.{argument};
 ghost use Rattle.flat_routines.specs.Registers.{AreBelow, AreDistinct, AreNoneOf};
 ghost use Rattle.flat_routines.specs.Metadata.{held_registers};
-ghost use Rattle.flat_actions.specs.Actions.{IsAction, Pointer};
-ghost use Rattle.moving_routines.specs.Library.{runtime_ground};
+ghost use Rattle.flat_actions.specs.Actions.{IsAction, Pointer, runtime_ground};
 ghost use Rattle.string_routines.specs.Copying.{IsCopied};
 
-use crate::lists::{give_instructions, joined};
 use crate::scanning::scan;
 use addr_map::AddrMap;
+use flat_actions::{give_instructions, joined};
 use flat_judging::judge;
 use flat_meaning::{FlatInstruction, RightOperand};
 use flat_routines::Held;

@@ -7,7 +7,6 @@
 pub mod bounded;
 pub mod copying;
 pub mod lengths;
-mod lists;
 pub mod printing;
 pub mod scanning;
 

@@ -1,18 +1,17 @@
 //! Bytes put out, and `puts`.
 
-ghost use Rattle.std.specs.Prelude.{◌≡◌, ℕ, ◌+◌, ◌≤◌, ◌^◌, IfOk, [], ◌∷◌};
+ghost use Rattle.std.specs.Prelude.{◌≡◌, ◌+◌, ◌≤◌, ◌^◌, IfOk, [], ◌∷◌};
 ghost use Rattle.addr_map.specs.Places.{AreMapped};
 ghost use Rattle.source_meaning.specs.Printing.{puts as puts_of};
 ghost use Rattle.source_meaning.specs.Library.{argument};
 ghost use Rattle.flat_routines.specs.Registers.{AreBelow};
 ghost use Rattle.flat_routines.specs.Metadata.{held_registers};
-ghost use Rattle.flat_actions.specs.Actions.{IsAction, Pointer, Word};
-ghost use Rattle.moving_routines.specs.Library.{runtime_ground};
+ghost use Rattle.flat_actions.specs.Actions.{IsAction, Pointer, Word, runtime_ground};
 ghost use Rattle.string_routines.specs.Putting.{IsPutRoutine, put_code};
 
-use crate::lists::joined;
 use crate::scanning::scan;
 use addr_map::AddrMap;
+use flat_actions::joined;
 use flat_meaning::{FlatInstruction, RightOperand};
 use flat_routines::Held;
 use rv_isa::{BranchOp, LoadOp, RegOp};

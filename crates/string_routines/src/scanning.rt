@@ -1,17 +1,17 @@
 //! Strings scanned.
 
-ghost use Rattle.std.specs.Prelude.{◌≡◌, ℕ, ◌+◌, ◌≤◌, ◌^◌, IfOk, List, [], ◌∷◌, ◌++◌, true};
+ghost use Rattle.std.specs.Prelude.{◌≡◌, ℕ, ◌+◌, ◌≤◌, ◌^◌, IfOk, [], ◌∷◌};
 ghost use Rattle.addr_map.specs.Places.{AreMapped};
 ghost use Rattle.source_meaning.specs.State.{done};
 ghost use Rattle.source_meaning.specs.Strings.{scan as scan_of, scan_within};
 ghost use Rattle.flat_routines.specs.Registers.{AreNoneOf, AreBelow};
 ghost use Rattle.flat_routines.specs.Metadata.{held_registers};
 ghost use Rattle.flat_actions.specs.Scanning.{IsScanRoutine};
-ghost use Rattle.moving_routines.specs.Library.{runtime_ground};
 ghost use Rattle.string_routines.specs.Scanning.{IsFirstJudged, scan_turns, scan_at_most_turns};
+ghost use Rattle.flat_actions.specs.Actions.{runtime_ground};
 
-use crate::lists::joined;
 use addr_map::AddrMap;
+use flat_actions::joined;
 use flat_judging::judge;
 use flat_meaning::{FlatInstruction, RightOperand};
 use flat_routines::Held;

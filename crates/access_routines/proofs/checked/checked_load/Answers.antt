@@ -4,9 +4,10 @@ use Rattle.source_meaning.specs.State.{on}
 use Rattle.source_meaning.specs.Actions.{read_scalar}
 use Rattle.source_meaning.specs.Library.{argument}
 use Rattle.access_routines.specs.Holding.{scalar_in, holder_in}
-use Rattle.access_routines.specs.Accessing.{IsCheckedLoad, program_ground, load_steps}
+use Rattle.access_routines.specs.Accessing.{IsCheckedLoad, load_steps}
 use Rattle.access_routines.proofs.Judged.{both_tests_then, checked_does}
 use Rattle.access_routines.proofs.checked.checked_load.Goals as goal
+use Rattle.flat_actions.specs.Actions.{program_ground}
 
 pub returns : goal.returns
 returns g c =

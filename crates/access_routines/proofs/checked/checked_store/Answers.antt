@@ -3,9 +3,9 @@ use Rattle.obj_memory.specs.Access.{scalar_size}
 use Rattle.source_meaning.specs.State.{on, done}
 use Rattle.source_meaning.specs.Actions.{integer, write_scalar}
 use Rattle.source_meaning.specs.Library.{argument}
-use Rattle.flat_actions.specs.Actions.{Nowhere}
+use Rattle.flat_actions.specs.Actions.{Nowhere, program_ground}
 use Rattle.access_routines.specs.Holding.{scalar_in, holder_in}
-use Rattle.access_routines.specs.Accessing.{IsCheckedStore, program_ground, store_steps}
+use Rattle.access_routines.specs.Accessing.{IsCheckedStore, store_steps}
 use Rattle.access_routines.proofs.Judged.{both_tests_then, checked_does}
 use Rattle.access_routines.proofs.checked.checked_store.Goals as goal
 

@@ -1,8 +1,9 @@
 use Rattle.std.proofs.Common.{sym, subst}
 use Rattle.std.proofs.lemmas.Result.{IfOk-weaker}
-use Rattle.access_routines.specs.Accessing.{IsLoadRoutine, program_ground, load_integer_code}
+use Rattle.access_routines.specs.Accessing.{IsLoadRoutine, load_integer_code}
 use Rattle.access_routines.proofs.Integers.{load_integer_does}
 use Rattle.access_routines.proofs.loading.load.Goals as goal
+use Rattle.flat_actions.specs.Actions.{program_ground}
 
 pub returns-in-Integer : goal.returns-in-Integer
 returns-in-Integer g c =

@@ -1,8 +1,9 @@
 use Rattle.std.proofs.Common.{sym, subst}
 use Rattle.std.proofs.lemmas.Result.{IfOk-weaker}
-use Rattle.access_routines.specs.Accessing.{IsStoreRoutine, program_ground, store_integer_code}
+use Rattle.access_routines.specs.Accessing.{IsStoreRoutine, store_integer_code}
 use Rattle.access_routines.proofs.IntegerStores.{store_integer_does}
 use Rattle.access_routines.proofs.storing.store.Goals as goal
+use Rattle.flat_actions.specs.Actions.{program_ground}
 
 pub returns-in-Integer : goal.returns-in-Integer
 returns-in-Integer g c =

@@ -1,8 +1,9 @@
 use Rattle.std.proofs.Common.{ap, sym, subst, ◌∙◌}
-use Rattle.access_routines.specs.Accessing.{IsStoreRoutine, program_ground, store_pointer_code}
+use Rattle.access_routines.specs.Accessing.{IsStoreRoutine, store_pointer_code}
 use Rattle.access_routines.specs.declared.held.HeldScalar.TheVariants.{Pointer}
 use Rattle.access_routines.proofs.PointerStores.{store_pointer_does}
 use Rattle.access_routines.proofs.storing.store_pointer.Goals as goal
+use Rattle.flat_actions.specs.Actions.{program_ground}
 
 pub returns : goal.returns
 returns g c =

@@ -1,9 +1,9 @@
 use Rattle.std.proofs.Common.{sym, subst}
 use Rattle.std.proofs.lemmas.Result.{IfOk-weaker}
-use Rattle.comparing_routines.specs.Answering.{runtime_ground}
 use Rattle.comparing_routines.specs.Comparing.{IsStrcmp}
 use Rattle.comparing_routines.proofs.Compared.{strcmp_does}
 use Rattle.comparing_routines.proofs.comparing.strcmp.Goals as goal
+use Rattle.flat_actions.specs.Actions.{runtime_ground}
 
 pub returns : goal.returns
 returns g c =

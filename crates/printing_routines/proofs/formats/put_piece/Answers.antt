@@ -1,5 +1,5 @@
 use Rattle.std.proofs.Common.{◌+◌, ◌++◌, sym, ◌∙◌, subst}
-use Rattle.string_routines.proofs.Joins.{joined_as}
+use Rattle.moving_routines.proofs.Steps.{joined_are}
 use Rattle.printing_routines.specs.Formats.{count_string}
 use Rattle.printing_routines.specs.Printed.{PutsNext}
 use Rattle.printing_routines.proofs.Steps.{puts_number, puts_string, joined_parts}
@@ -27,5 +27,5 @@ returns-in_ok-extend_from_slice-in-String c =
     (puts_string a.map.now a.scratch a.own a.index a.code.now.items new h put
     (joined_parts a.code.now.items _ (put ++ count) new c.in_ok-extend_from_slice-in-String.ensures.items
     (c.deref-in-String-3.ensures.value
-    ∙ joined_as _ _ _ put count c.in_ok-part-in-String.ensures c.deref-in-String.ensures.value counted))
+    ∙ joined_are _ _ _ put count c.in_ok-part-in-String.ensures c.deref-in-String.ensures.value counted))
     c.in_ok-put-in-String.ensures)

@@ -1,5 +1,5 @@
 use Rattle.std.proofs.Common.{◌++◌, sym, ap, ◌∙◌, subst}
-use Rattle.string_routines.specs.Runtime.{in_runtime}
+use Rattle.flat_actions.specs.Actions.{runtime_ground}
 use Rattle.printing_routines.specs.Printed.{ScansNext}
 use Rattle.printing_routines.proofs.Steps.{scans_string}
 use Rattle.printing_routines.proofs.formats.put_scan.Goals as goal
@@ -7,7 +7,7 @@ use Rattle.printing_routines.proofs.formats.put_scan.Goals as goal
 pub returns-in_ok-extend_from_slice : goal.returns-in_ok-extend_from_slice
 returns-in_ok-extend_from_slice g c =
     let a = c.args in
-    let ground = in_runtime a.map.now g.S.ShadowForm.entry g.S.ShadowForm.IsGood in
+    let ground = runtime_ground a.map.now g.S.ShadowForm.entry (g.S.ShadowForm.IsGood a.map.now) in
     let first = c.in_ok-scanned.scanned.items in
     subst (λ p. ScansNext ground a.line a.scratch a.own p a.index a.code.now.items c.extend_from_slice.new.self.items)
     (sym c.in-String.is)

@@ -2,8 +2,8 @@ use Rattle.std.proofs.Common.{[], ◌∷◌, ◌+◌, ◌++◌, refl, sym, ap, �
 use Rattle.std.proofs.lemmas.Result.{IfOk-weaker}
 use Rattle.source_meaning.specs.Strings.{strncpy as strncpy_of}
 use Rattle.source_meaning.specs.Library.{argument}
-use Rattle.flat_actions.specs.Actions.{IsAction, Pointer, Word}
-use Rattle.moving_routines.specs.Library.{runtime_ground, guarded_code}
+use Rattle.flat_actions.specs.Actions.{IsAction, Pointer, Word, runtime_ground}
+use Rattle.flat_actions.specs.Lists.{guarded_code}
 use Rattle.string_routines.specs.Copying.{count_code, tail_code}
 use Rattle.string_routines.proofs.BoundedActs.{strncpy_acts}
 use Rattle.moving_routines.proofs.Steps.{joined_are}

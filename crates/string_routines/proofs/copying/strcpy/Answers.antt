@@ -2,8 +2,8 @@ use Rattle.std.proofs.Common.{◌≡◌, [], ◌∷◌, ◌+◌, ◌++◌, refl,
 use Rattle.std.proofs.lemmas.Result.{IfOk-weaker}
 use Rattle.source_meaning.specs.Strings.{strcpy as strcpy_of}
 use Rattle.source_meaning.specs.Library.{argument}
-use Rattle.flat_actions.specs.Actions.{IsAction, Pointer}
-use Rattle.moving_routines.specs.Library.{runtime_ground, give_code}
+use Rattle.flat_actions.specs.Actions.{IsAction, Pointer, runtime_ground}
+use Rattle.flat_actions.specs.Lists.{give_code}
 use Rattle.string_routines.specs.Copying.{size_code}
 use Rattle.moving_routines.proofs.Steps.{joined_are}
 use Rattle.string_routines.proofs.CopyActs.{strcpy_acts}

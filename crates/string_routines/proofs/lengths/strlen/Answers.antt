@@ -2,8 +2,7 @@ use Rattle.std.proofs.Common.{[], ◌∷◌, ◌++◌, sym, ap, ◌∙◌, subst
 use Rattle.std.proofs.lemmas.Result.{IfOk-weaker}
 use Rattle.source_meaning.specs.Strings.{strlen as strlen_of}
 use Rattle.source_meaning.specs.Library.{argument}
-use Rattle.flat_actions.specs.Actions.{IsAction, Pointer, Word}
-use Rattle.moving_routines.specs.Library.{runtime_ground}
+use Rattle.flat_actions.specs.Actions.{IsAction, Pointer, Word, runtime_ground}
 use Rattle.string_routines.specs.Scanning.{length_given}
 use Rattle.string_routines.proofs.LengthActs.{strlen_acts}
 use Rattle.string_routines.proofs.lengths.strlen.Goals as goal

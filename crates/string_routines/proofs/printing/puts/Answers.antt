@@ -2,8 +2,7 @@ use Rattle.std.proofs.Common.{[], ◌∷◌, ◌+◌, ◌++◌, refl, sym, ◌�
 use Rattle.std.proofs.lemmas.Result.{IfOk-weaker}
 use Rattle.source_meaning.specs.Printing.{puts as puts_of}
 use Rattle.source_meaning.specs.Library.{argument}
-use Rattle.flat_actions.specs.Actions.{IsAction, Pointer, Word}
-use Rattle.moving_routines.specs.Library.{runtime_ground}
+use Rattle.flat_actions.specs.Actions.{IsAction, Pointer, Word, runtime_ground}
 use Rattle.string_routines.specs.Putting.{newline_given}
 use Rattle.moving_routines.proofs.Steps.{joined_are}
 use Rattle.string_routines.proofs.PutsActs.{puts_acts}

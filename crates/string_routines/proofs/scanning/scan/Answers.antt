@@ -1,8 +1,8 @@
 use Rattle.std.proofs.Common.{refl}
 use Rattle.std.proofs.lemmas.Result.{IfOk-weaker}
-use Rattle.moving_routines.specs.Library.{runtime_ground}
 use Rattle.string_routines.proofs.ScanRoutines.{scans_string}
 use Rattle.string_routines.proofs.scanning.scan.Goals as goal
+use Rattle.flat_actions.specs.Actions.{runtime_ground}
 
 pub returns : goal.returns
 returns g c =

@@ -3,3 +3,5 @@ pub mod Joined
 pub mod Zeros
 pub mod Zeroed
 pub mod FreeLocks
+pub mod TableRows
+pub mod BlockBirth

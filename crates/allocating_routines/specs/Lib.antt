@@ -1,2 +1,3 @@
 pub mod Zeroing
 pub mod Premises
+pub mod Births

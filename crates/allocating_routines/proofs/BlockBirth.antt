@@ -21,7 +21,7 @@ use Rattle.source_meaning.proofs.Holding.{length-new}
 use Rattle.flat_meaning.specs.Memory.{Bytes, load}
 use Rattle.flat_routines.specs.Metadata.{View}
 use Rattle.flat_routines.proofs.Regions.{laid_out}
-use Rattle.flat_objects.specs.StandsFor.{Views, Keys, BlockRow, IsRowOf, IsTable, StandsFor}
+use Rattle.flat_objects.specs.StandsFor.{Views, Keys, BlockRow, IsKeyed, IsRowOf, IsTable, StandsFor}
 use Rattle.flat_objects.specs.Changes.{IsFresh, AreBorn}
 use Rattle.flat_objects.proofs.Changing.{live_is_made, word_of, beside_bytes}
 use Rattle.flat_objects.proofs.Lives.{born}
@@ -49,9 +49,8 @@ pub held_after : (n lock : ℕ) (k : Keys) (j : ℕ) → n ≤ j
 held_after n lock k j l =
     cond-false (nat_lt j n) (k.held j) (record { key = 2 + k.made; lock = lock }) (le-ltb j n l)
 
-pub keys_keep : (objects n lock : ℕ) → (os : Rattle.obj_memory.specs.Objects.Objects) → length os ≤ n → (k : Keys)
-    → KeepsHeld os k (with_key n lock k)
-keys_keep objects n lock os le k = record {
+pub keys_keep : (n lock : ℕ) (objects : Objects) (k : Keys) → length objects ≤ n → KeepsHeld objects k (with_key n lock k)
+keys_keep n lock objects k le = record {
   own = λ j l. own_before n lock k j (omega arith);
   held = λ j l. held_before n lock k j (omega arith);
 }
@@ -65,7 +64,7 @@ free_is_unused g k objects m lock st empty n live e =
     let at : (k.held n).key ≡ 0 = sym (st.locks.live n live) ∙ ap (load 8 m) e ∙ empty in
     by (object_at objects n).storage refl held at
   where
-    by : (s : Storage) → (object_at objects n).storage ≡ s → Rattle.flat_objects.specs.StandsFor.IsKeyed g.sizes k n (object_at objects n)
+    by : (s : Storage) → (object_at objects n).storage ≡ s → IsKeyed g.sizes k n (object_at objects n)
         → (k.held n).key ≡ 0 → ⊥
     by Static q held at = let z = (held.static q).0 in omega arith
     by Automatic q held at = let z = (held.other (λ y. (let no : Automatic ≡ Static = sym q ∙ y in cc))).0 in omega arith

@@ -5,3 +5,5 @@ pub mod Zeroed
 pub mod FreeLocks
 pub mod TableRows
 pub mod BlockBirth
+pub mod BlockMemory
+pub mod SourceBlocks

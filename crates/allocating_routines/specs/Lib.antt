@@ -1,3 +1,4 @@
 pub mod Zeroing
 pub mod Premises
 pub mod Births
+pub mod Allocating

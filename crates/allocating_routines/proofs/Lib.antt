@@ -7,3 +7,4 @@ pub mod TableRows
 pub mod BlockBirth
 pub mod BlockMemory
 pub mod SourceBlocks
+pub mod Seeks

@@ -70,6 +70,29 @@ free_is_unused g k objects m lock st empty n live e =
     by Automatic q held at = let z = (held.other (λ y. (let no : Automatic ≡ Static = sym q ∙ y in cc))).0 in omega arith
     by Allocated q held at = let z = (held.other (λ y. (let no : Allocated ≡ Static = sym q ∙ y in cc))).0 in omega arith
 
+-- ---- the place of a block lies in the heap
+
+pub record LiesInHeap (map : MapSizes) (p z : ℕ) : Type 0 where
+  pub first : region_start map Heap ≤ p
+  pub aligned : p % 16 ≡ 0
+  pub last : p + block_room z ≤ region_end map Heap
+  pub begins : objects_begin ≤ p
+  pub holds : z ≤ block_room z
+
+pub place_lies : (map : MapSizes) → AreMapped map → (objects : Objects) (p z : ℕ)
+    → least_place (region_start map Heap) (region_last map Heap) z objects ≡ Some p → LiesInHeap map p z
+place_lies map mapped objects p z found =
+    let place = least_place_found (region_start map Heap) (region_last map Heap) z objects p found in
+    let lie = table_laid_out map mapped in let a = lie.heap_aligned in let f = lie.heap_first in
+    let step = place.is_step in let in_heap = place.in_heap in let e = last_of_heap map lie in
+    record {
+      first = omega arith;
+      aligned = omega arith;
+      last = omega arith;
+      begins = omega arith;
+      holds = room_holds z;
+    }
+
 -- ---- the birth
 
 module _ (map : MapSizes) (mapped : AreMapped map) (functions : ℕ) (types : ℕ → ℕ) (entry : View)
@@ -89,24 +112,8 @@ module _ (map : MapSizes) (mapped : AreMapped map) (functions : ℕ) (types : �
   place : IsBlockPlace (region_start map Heap) (region_last map Heap) z old p
   place = least_place_found (region_start map Heap) (region_last map Heap) z old p found
 
-  record LiesInHeap : Type 0 where
-    first : region_start map Heap ≤ p
-    aligned : p % 16 ≡ 0
-    last : p + block_room z ≤ region_end map Heap
-    begins : objects_begin ≤ p
-    holds : z ≤ block_room z
-
-  lies : LiesInHeap
-  lies =
-      let lie = table_laid_out map mapped in let a = lie.heap_aligned in let f = lie.heap_first in
-      let step = place.is_step in let in_heap = place.in_heap in let e = last_of_heap map lie in
-      record {
-        first = omega arith;
-        aligned = omega arith;
-        last = omega arith;
-        begins = omega arith;
-        holds = room_holds z;
-      }
+  lies : LiesInHeap map p z
+  lies = place_lies map mapped old p z found
 
   -- it meets no live object
   clear_of : (n : ℕ) → (object_at old n).is_live ≡ true → (s : Storage) → (object_at old n).storage ≡ s

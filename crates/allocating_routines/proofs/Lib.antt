@@ -8,3 +8,4 @@ pub mod BlockBirth
 pub mod BlockMemory
 pub mod SourceBlocks
 pub mod Seeks
+pub mod Allocates

@@ -1,17 +1,24 @@
 -- Code without jumps between routines whose instructions are not known.
-use Rattle.std.proofs.Common.{◌≡◌, ◌≢◌, ℕ, ◌+◌, ◌<◌, ◌≤◌, List, [], ◌∷◌, ◌++◌, true, map, length, sym, ap, ◌∙◌, subst}
-use Rattle.std.proofs.Common.{arith}
+use Rattle.std.proofs.Common.{◌≡◌, ◌≢◌, ℕ, suc, ◌+◌, ◌<◌, ◌≤◌, List, [], ◌∷◌, ◌++◌, true, false, Some, map, length, sym}
+use Rattle.std.proofs.Common.{ap, ◌∙◌, subst, arith}
+use Rattle.std.specs.Prelude.{slice_get}
+use Rattle.std.proofs.lemmas.Bool.{eq-eqb, ne_eqb, lt-ltb, le-ltb}
 use Rattle.std.proofs.lemmas.List.{length-map}
+use Rattle.rv_isa.specs.declared.instruction.BranchOp.{BranchOp}
+use Rattle.rv_isa.specs.declared.instruction.BranchOp.TheVariants.{Beq, Bltu}
+use Rattle.rv_isa.specs.Results.{branch_taken}
+use Rattle.flat_meaning.specs.declared.instruction.RightOperand.{RightOperand}
 use Rattle.flat_meaning.specs.declared.instruction.FlatInstruction.{FlatInstruction}
+use Rattle.flat_meaning.specs.declared.instruction.FlatInstruction.TheVariants.{Branch}
 use Rattle.flat_meaning.specs.State.{State}
 use Rattle.flat_meaning.specs.Words.{IsOfWords}
 use Rattle.flat_meaning.specs.Meaning.{Context, Goes}
 use Rattle.flat_routines.specs.Registers.{IsNoneOf, OthersStay}
 use Rattle.flat_routines.specs.Routine.{HasAt, Outcome, Continues, Halts, Reaches, Either, Never}
-use Rattle.flat_routines.specs.Effects.{effects, AreAllowed}
+use Rattle.flat_routines.specs.Effects.{worked, effects, AreAllowed}
 use Rattle.flat_routines.specs.Renaming.{rename, all_fit, Agrees, through}
 use Rattle.flat_routines.specs.Metadata.{ShowsNothing}
-use Rattle.flat_routines.proofs.Rules.{Holds, next}
+use Rattle.flat_routines.proofs.Rules.{Holds, taken, next, branch}
 use Rattle.flat_routines.proofs.Distinct.{AreRegisters, register_of, registers_rename, others_stay}
 use Rattle.flat_routines.proofs.Wrapped.{straight_routine}
 
@@ -61,3 +68,48 @@ module _ (c : Context) (ins res own : List ℕ) (t : ℕ) (g : AreRegisters ins 
       (d.from code pc s has w allowed))
       (λ s' w' h. on s' w' h)
       (λ status report s' never. absurd never)
+
+-- ---- a branch whose condition is known
+
+module _ (c : Context) (code : List FlatInstruction) where
+  pub goes_past : (b pc : ℕ) (s : State) (op : BranchOp) (x : ℕ) (y : RightOperand) (past end : ℕ)
+      (R : Outcome → Type 0) → slice_get code pc ≡ Some (Branch op x y past) → taken op x y s ≡ true
+      → Reaches c code b (Goes (pc + 1 + past) (worked c s)) end R → Reaches c code (suc b) (Goes pc s) end R
+  goes_past b pc s op x y past end R at e r =
+      branch c code b pc s op x y past end R at (λ h. r) (λ h. absurd (let no : true ≡ false = sym e ∙ h in cc))
+
+  pub goes_into : (b pc : ℕ) (s : State) (op : BranchOp) (x : ℕ) (y : RightOperand) (past end : ℕ)
+      (R : Outcome → Type 0) → slice_get code pc ≡ Some (Branch op x y past) → taken op x y s ≡ false
+      → Reaches c code b (Goes (pc + 1) (worked c s)) end R → Reaches c code (suc b) (Goes pc s) end R
+  goes_into b pc s op x y past end R at e r =
+      branch c code b pc s op x y past end R at (λ h. absurd (let no : true ≡ false = sym h ∙ e in cc)) (λ h. r)
+
+pub shows_worked : (c : Context) (s s1 : State) → ShowsNothing s s1 → ShowsNothing s (worked c s1)
+shows_worked c s s1 h = record {
+  input = h.input;
+  output = h.output;
+  taken = h.taken;
+  accesses = h.accesses;
+  turns = h.turns;
+}
+
+pub words_worked : (c : Context) (s : State) → IsOfWords s → IsOfWords (worked c s)
+words_worked c s w = record { values = w.values; memory = w.memory }
+
+-- the operands of branches
+
+pub are_equal : (a b : ℕ) → a ≡ b → branch_taken Beq a b ≡ true
+unfolding branch_taken
+are_equal a b e = eq-eqb a b e
+
+pub are_not_equal : (a b : ℕ) → a ≢ b → branch_taken Beq a b ≡ false
+unfolding branch_taken
+are_not_equal a b e = ne_eqb a b e
+
+pub is_less : (a b : ℕ) → a < b → branch_taken Bltu a b ≡ true
+unfolding branch_taken
+is_less a b l = lt-ltb a b l
+
+pub is_not_less : (a b : ℕ) → b ≤ a → branch_taken Bltu a b ≡ false
+unfolding branch_taken
+is_not_less a b l = le-ltb a b l

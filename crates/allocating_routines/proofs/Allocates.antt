@@ -402,3 +402,159 @@ module _ (map : MapSizes) (mapped : AreMapped map) (entry : View) (IsGood : Byte
                   });
               others = others6;
             }
+
+  -- ---- all of it
+
+  abbrev Goal : (code : List FlatInstruction) → (pc : ℕ) → State → Completed Value → Type 0
+  Goal code pc s o =
+      Reaches c code (60 + 20 * ((state_of o).work - x.work)) (Goes pc s) (pc + length whole) (Result s o)
+
+  module _ (code : List FlatInstruction) (pc : ℕ) (s : State) (has : HasAt code pc whole) (w : IsOfWords s)
+      (f : IsFor g k IsGood x s) (size_is : s.values size ≡ z) (standing : AreStanding map x) where
+    abbrev count : ℕ
+    count = block_total map s.memory
+
+    at_place : HasAt code (pc + 3) (place ++ (untagged (t + 2) into ++ unless_code Beq (t + 2) (Number 0) body))
+    at_place = has_back code pc (keys_code map t (t + 1))
+        (place ++ (untagged (t + 2) into ++ unless_code Beq (t + 2) (Number 0) body)) has
+
+    at_null : HasAt code (pc + 3 + length place) (untagged (t + 2) into ++ unless_code Beq (t + 2) (Number 0) body)
+    at_null = has_back code (pc + 3) place (untagged (t + 2) into ++ unless_code Beq (t + 2) (Number 0) body) at_place
+
+    at_branch : HasAt code (behind pc) (unless_code Beq (t + 2) (Number 0) body)
+    at_branch = has_back code (pc + 3 + length place) (untagged (t + 2) into) (unless_code Beq (t + 2) (Number 0) body)
+        at_null
+
+    at_fresh : HasAt code (behind pc + 3) (fresh ++ (zero ++ whole_bounds (t + 2) size into))
+    at_fresh =
+        let e : behind pc + 1 + 2 ≡ behind pc + 3 = omega arith in
+        subst (λ n. HasAt code n (fresh ++ (zero ++ whole_bounds (t + 2) size into))) e
+        (has_back code (behind pc + 1) (key_test map t line) (fresh ++ (zero ++ whole_bounds (t + 2) size into))
+        at_branch.1)
+
+    at_zero : HasAt code (behind pc + 3 + length fresh) (zero ++ whole_bounds (t + 2) size into)
+    at_zero = has_back code (behind pc + 3) fresh (zero ++ whole_bounds (t + 2) size into) at_fresh
+
+    at_bounds : HasAt code (behind pc + 3 + length fresh + length zero) (whole_bounds (t + 2) size into)
+    at_bounds = has_back code (behind pc + 3 + length fresh) zero (whole_bounds (t + 2) size into) at_zero
+
+    sought : (b : ℕ) (R : Outcome → Type 0)
+        → ((s3 : State) → IsOfWords s3 → IsSought map size into t x.keys z s s3
+        → Reaches c code b (Goes (behind pc) s3) (pc + length whole) R)
+        → Reaches c code (3 + ((32 + 20 * count) + (5 + b))) (Goes pc s) (pc + length whole) R
+    sought b R on = seeks map mapped size into t below apart distinct place places charge weight code
+        (unless_code Beq (t + 2) (Number 0) body) b pc x.keys z s (pc + length whole) R w has
+        (keys_counted s w f standing) size_is f.spaces.table on
+
+    null_reached : place_of map z (block_rows map s.memory) ≡ None → Goal code pc s (allocate set z line x)
+    null_reached none =
+        let o = no_place set z line x (sym (in_source s w f standing) ∙ none) in
+        let same = count_is s w f standing in
+        let end : behind pc + 1 + length body ≡ pc + length whole = omega (arith, whole_length, body_length) in
+        subst (Goal code pc s) (sym o)
+        (weaken c code (3 + ((32 + 20 * count) + (5 + 1)))
+        (60 + 20 * ((sought_in x).work - x.work)) (Goes pc s) (pc + length whole) _ _ (omega arith) (λ y q. q)
+        (sought 1 (Result s (Gives (integer 0) (sought_in x)))
+        (λ s3 w3 d3.
+        let d = subst (λ o. IsPlacedIn map o z ((x.keys + 2) % 2 ^ 64) (s3.values (t + 2)) s.memory s3.memory) none d3.placed in
+        goes_past c code 0 (behind pc) (behind pc + 1 + length body) s3 Beq (t + 2) (Number 0) (length body)
+        (pc + length whole) (Result s (Gives (integer 0) (sought_in x))) at_branch.0 refl (are_equal (s3.values (t + 2)) 0 d.0)
+        (arrived c code 0 (worked c s3) (behind pc + 1 + length body) (pc + length whole)
+        (Result s (Gives (integer 0) (sought_in x))) end (null_given s w f standing s3 d3 none)))))
+
+    -- a place is no null
+    some_place : (p : ℕ) → place_of map z (block_rows map s.memory) ≡ Some p → (s3 : State)
+        → IsSought map size into t x.keys z s s3 → s3.values (t + 2) ≢ 0
+    some_place p found s3 d3 e =
+        let d = subst (λ o. IsPlacedIn map o z ((x.keys + 2) % 2 ^ 64) (s3.values (t + 2)) s.memory s3.memory) found d3.placed in
+        let lies = place_lies map mapped x.objects p z
+        (least_is map set same_sizes x.objects z p (sym (in_source s w f standing) ∙ found)) in
+        let at = d.0 in let begins = lies.begins in omega arith
+
+    spent_reached : (p : ℕ) → place_of map z (block_rows map s.memory) ≡ Some p → map.budgets.keys ≤ x.keys
+        → Goal code pc s (allocate set z line x)
+    spent_reached p found spent =
+        let o = no_key set z line p x (sym (in_source s w f standing) ∙ found)
+        (ap (λ (y : MapSizes). nat_lt x.keys y.budgets.keys) same_sizes ∙ le-ltb x.keys map.budgets.keys spent) in
+        let same = count_is s w f standing in
+        subst (Goal code pc s) (sym o)
+        (weaken c code (3 + ((32 + 20 * count) + (5 + 3)))
+        (60 + 20 * ((sought_in x).work - x.work)) (Goes pc s) (pc + length whole) _ _ (omega arith) (λ y q. q)
+        (sought 3 (Result s (Ended (KeysSpent line) (sought_in x)))
+        (λ s3 w3 d3.
+        goes_into c code 2 (behind pc) s3 Beq (t + 2) (Number 0) (length body) (pc + length whole)
+        (Result s (Ended (KeysSpent line) (sought_in x))) at_branch.0
+        (are_not_equal (s3.values (t + 2)) 0 (some_place p found s3 d3))
+        (let made = d3.made in let most = mapped.budgets.keys in
+        goes_into c code 1 (behind pc + 1) (worked c s3) Bltu t (Number map.budgets.keys) 1 (pc + length whole)
+        (Result s (Ended (KeysSpent line) (sought_in x))) at_branch.1.0
+        (is_not_less (s3.values t) (map.budgets.keys % 2 ^ 64) (omega arith))
+        (ended c code 0 (KeysSpent line) (worked c (worked c s3)) (behind pc + 1 + 1) (pc + length whole)
+        (Result s (Ended (KeysSpent line) (sought_in x))) at_branch.1.1.0 (spent_ended s w f standing s3 d3))))))
+
+    block_reached : (p : ℕ) → place_of map z (block_rows map s.memory) ≡ Some p → x.keys < map.budgets.keys
+        → Goal code pc s (allocate set z line x)
+    block_reached p found left =
+        let o = makes_block set z line p x (sym (in_source s w f standing) ∙ found)
+        (ap (λ (y : MapSizes). nat_lt x.keys y.budgets.keys) same_sizes ∙ lt-ltb x.keys map.budgets.keys left) in
+        let same = count_is s w f standing in
+        let end : behind pc + 3 + length fresh + length zero + 2 ≡ pc + length whole =
+        omega (arith, whole_length, body_length) in
+        let R = Result s (Gives (pointer_to (length x.objects) (with_new Allocated p z x.objects)) (made_in p z x)) in
+        subst (Goal code pc s) (sym o)
+        (weaken c code (3 + ((32 + 20 * count) + (5 + suc (suc (14 + ((42 + 5 * z) + (2 + 0)))))))
+        (60 + 20 * ((made_in p z x).work - x.work)) (Goes pc s) (pc + length whole) R R (omega arith) (λ y q. q)
+        (sought (suc (suc (14 + ((42 + 5 * z) + (2 + 0))))) R
+        (λ s3 w3 d3.
+        goes_into c code (suc (14 + ((42 + 5 * z) + (2 + 0)))) (behind pc) s3 Beq (t + 2) (Number 0) (length body)
+        (pc + length whole) R at_branch.0 (are_not_equal (s3.values (t + 2)) 0 (some_place p found s3 d3))
+        (let made = d3.made in let most = mapped.budgets.keys in
+        goes_past c code (14 + ((42 + 5 * z) + (2 + 0))) (behind pc + 1) (behind pc + 3) (worked c s3) Bltu t
+        (Number map.budgets.keys) 1 (pc + length whole) R at_branch.1.0 (omega arith) (is_less (s3.values t) (map.budgets.keys % 2 ^ 64) (omega arith))
+        (next c code 14 ((42 + 5 * z) + (2 + 0)) (Goes (behind pc + 3) (worked c (worked c s3)))
+        (behind pc + 3 + length fresh) (pc + length whole)
+        (HasFresh map into.tag.key into.tag.lock (t + 4) (worked c (worked c s3))) Never R
+        (words_worked c (worked c s3) (words_worked c s3 w3))
+        ((freshens true charge weight).from code (behind pc + 3) (worked c (worked c s3))
+        (has_front code (behind pc + 3) fresh (zero ++ whole_bounds (t + 2) size into) at_fresh)
+        (words_worked c (worked c s3) (words_worked c s3 w3))
+        (can_fresh s w f standing p found left s3 d3))
+        (λ s4 w4 d4.
+        let at4 = at4 s w f standing p found left s3 d3 s4 d4 in
+        let lies = lies s w f standing p found left s3 d3 in
+        let first = lies.begins in let last = lies.last in let holds = lies.holds in let aligned = lies.aligned in
+        next c code (42 + 5 * z) (2 + 0) (Goes (behind pc + 3 + length fresh) s4)
+        (behind pc + 3 + length fresh + length zero) (pc + length whole)
+        (HasZeroed map entry IsGood (t + 2) z (t + 4) s4) Never R w4
+        ((zeroes z charge weight).from code (behind pc + 3 + length fresh) s4
+        (has_front code (behind pc + 3 + length fresh) zero (whole_bounds (t + 2) size into) at_zero) w4
+        (
+          record {
+            size = size4 s w f standing p found left s3 d3 s4 d4;
+            aligned = omega arith;
+            range = record { first = omega arith; last = omega arith };
+          },
+          good4 s w f standing p found left s3 d3 s4 d4,
+        ))
+        (λ s5 w5 d5.
+        stretch_on c ((t + 2) ∷ size ∷ []) (into.tag.base ∷ into.tag.bound ∷ []) [] (t + 4)
+        (bounds_registers s w f standing p found left s3 d3 s4 d4 s5 d5)
+        (whole_bounds 0 1 (own s w f standing p found left s3 d3 s4 d4 s5 d5)) refl code 0
+        (behind pc + 3 + length fresh + length zero) s5 (pc + length whole) R w5 at_bounds (tt, (tt, tt))
+        (λ s6 w6 d6.
+        arrived c code 0 s6 (behind pc + 3 + length fresh + length zero + 2) (pc + length whole) R end
+        (block_given s w f standing p found left s3 d3 s4 d4 s5 d5 s6 d6)))
+        (λ status report s' never. absurd never))
+        (λ status report s' never. absurd never))))))
+
+    reached : Goal code pc s (allocate set z line x)
+    reached = by (place_of map z (block_rows map s.memory)) refl
+      where
+        by : (o : Option ℕ) → place_of map z (block_rows map s.memory) ≡ o → Goal code pc s (allocate set z line x)
+        by None e = null_reached e
+        by (Some p) e = ⊎_elim (λ less. block_reached p e less) (λ spent. spent_reached p e spent)
+            (cases_lt x.keys map.budgets.keys)
+
+  pub allocates : Does c whole (λ s. IsFor g k IsGood x s × (s.values size ≡ z) × AreStanding map x)
+      (λ s. 60 + 20 * work_of (allocate set z line) x) (λ s. Result s (allocate set z line x))
+  allocates = record { from = λ code pc s has w p. reached code pc s has w p.0 p.1 p.2 }

@@ -6,3 +6,7 @@ use Rattle.flat_meaning.specs.declared.instruction.FlatInstruction.{FlatInstruct
 pub by_body : (code : List FlatInstruction → List FlatInstruction) (r slice items : List FlatInstruction)
     → r ≡ code slice → slice ≡ items → r ≡ code items
 by_body code r slice items e f = e ∙ ap code f
+
+pub by_three : (code : (a b d : List FlatInstruction) → List FlatInstruction) (r a b d x y z : List FlatInstruction)
+    → r ≡ code a b d → a ≡ x → b ≡ y → d ≡ z → r ≡ code x y z
+by_three code r a b d x y z e p q s = e ∙ ap (λ l. code l b d) p ∙ ap (λ l. code x l d) q ∙ ap (code x y) s

@@ -9,3 +9,4 @@ pub mod BlockMemory
 pub mod SourceBlocks
 pub mod Seeks
 pub mod Allocates
+pub mod Mallocs

@@ -72,11 +72,13 @@ module _ (c : Context) (ins res own : List ℕ) (t : ℕ) (g : AreRegisters ins 
 -- ---- a branch whose condition is known
 
 module _ (c : Context) (code : List FlatInstruction) where
-  pub goes_past : (b pc : ℕ) (s : State) (op : BranchOp) (x : ℕ) (y : RightOperand) (past end : ℕ)
-      (R : Outcome → Type 0) → slice_get code pc ≡ Some (Branch op x y past) → taken op x y s ≡ true
-      → Reaches c code b (Goes (pc + 1 + past) (worked c s)) end R → Reaches c code (suc b) (Goes pc s) end R
-  goes_past b pc s op x y past end R at e r =
-      branch c code b pc s op x y past end R at (λ h. r) (λ h. absurd (let no : true ≡ false = sym e ∙ h in cc))
+  pub goes_past : (b pc to : ℕ) (s : State) (op : BranchOp) (x : ℕ) (y : RightOperand) (past end : ℕ)
+      (R : Outcome → Type 0) → slice_get code pc ≡ Some (Branch op x y past) → pc + 1 + past ≡ to
+      → taken op x y s ≡ true → Reaches c code b (Goes to (worked c s)) end R → Reaches c code (suc b) (Goes pc s) end R
+  goes_past b pc to s op x y past end R at there e r =
+      branch c code b pc s op x y past end R at
+      (λ h. subst (λ n. Reaches c code b (Goes n (worked c s)) end R) (sym there) r)
+      (λ h. absurd (let no : true ≡ false = sym e ∙ h in cc))
 
   pub goes_into : (b pc : ℕ) (s : State) (op : BranchOp) (x : ℕ) (y : RightOperand) (past end : ℕ)
       (R : Outcome → Type 0) → slice_get code pc ≡ Some (Branch op x y past) → taken op x y s ≡ false

@@ -2,7 +2,9 @@
 //! the objects of a block that is entered and left.
 #![tactic(auto)]
 
+pub mod allocating;
 mod lists;
 pub mod zeroing;
 
+pub use crate::allocating::malloc;
 pub use crate::zeroing::zero;

@@ -1,0 +1,214 @@
+//! `malloc`.
+
+ghost use Rattle.std.specs.Prelude.{◌≡◌, ℕ, ◌+◌, ◌≤◌, ◌<◌, ◌^◌, ◌++◌, IfOk, [], ◌∷◌, length};
+ghost use Rattle.addr_map.specs.Places.{AreMapped};
+ghost use Rattle.flat_routines.specs.Registers.{AreBelow, AreDistinct, AreNoneOf};
+ghost use Rattle.flat_routines.specs.Metadata.{held_registers};
+ghost use Rattle.allocating_routines.specs.Allocating.{IsMallocRoutine, keys_code, untagged, key_test, whole_bounds};
+ghost use Rattle.allocating_routines.specs.Allocating.{make_code, malloc_code};
+
+use crate::lists::{joined, unless};
+use crate::zeroing::zero;
+use addr_map::{AddrMap, Region};
+use flat_meaning::{FlatInstruction, RightOperand};
+use flat_routines::Held;
+use rv_isa::{BranchOp, LoadOp, RegOp};
+use sb_base::{Ending, Line};
+use shadow_space::ShadowForm;
+use std::alloc::{AllocError, Global};
+
+/// Gives in `into` a pointer to a new block of as many bytes as `size` holds, all zero, with a key of its own; or null,
+/// where there is no place for it. Where there is one, and no key is left, the run ends at `line`. It may write the
+/// registers from `scratch` on. The only refusal is that memory fails.
+pub fn malloc<S: ShadowForm>(
+    alloc: Global,
+    map: &AddrMap,
+    size: u32,
+    into: Held,
+    line: Line,
+    scratch: u32,
+) -> Result<Vec<FlatInstruction>, AllocError>
+    requires map { AreMapped map.now }
+    requires below { AreBelow scratch (size ∷ held_registers into) }
+    requires apart { AreNoneOf (size ∷ []) (held_registers into) }
+    requires distinct { AreDistinct (held_registers into) }
+    requires room { scratch + 16 ≤ 2 ^ 31 }
+    ensures { IfOk result (λ r. IsMallocRoutine map.now S.entry (S.IsGood map.now) size into line scratch r.items) }
+{
+    S::entries_are_local();
+    let key = scratch + 1;
+    let address = scratch + 2;
+    let own = scratch + 4;
+    let place = heap_space::place(alloc, map, size, key, address, own)?;
+    let fresh = lock_space::fresh(alloc, map, into.tag.key, into.tag.lock, own)?;
+    let zeros = zero::<S>(alloc, map, address, size, own)?;
+    let r = malloc_list(
+        alloc,
+        map,
+        place.as_slice(),
+        fresh.as_slice(),
+        zeros.as_slice(),
+        size,
+        into,
+        line,
+        scratch,
+    )?;
+    Ok(r)
+}
+
+fn malloc_list(
+    alloc: Global,
+    map: &AddrMap,
+    place: &[FlatInstruction],
+    fresh: &[FlatInstruction],
+    zeros: &[FlatInstruction],
+    size: u32,
+    into: Held,
+    line: Line,
+    scratch: u32,
+) -> Result<Vec<FlatInstruction>, AllocError>
+    requires { scratch + 16 ≤ 2 ^ 31 }
+    ensures { IfOk result (λ r. r.items
+        ≡ malloc_code map.now place.now fresh.now zeros.now size into line scratch (scratch + 1) (scratch + 2)) }
+{
+    let address = scratch + 2;
+    let keys = keys_list(alloc, map, scratch, scratch + 1)?;
+    let null = untagged_list(alloc, address, into)?;
+    let make = make_list(alloc, map, fresh, zeros, size, into, line, scratch, address)?;
+    let branch = unless(
+        alloc,
+        BranchOp::Beq,
+        address,
+        RightOperand::Number(0),
+        make.as_slice(),
+    )?;
+    let after = joined(alloc, null.as_slice(), branch.as_slice())?;
+    let rest = joined(alloc, place, after.as_slice())?;
+    joined(alloc, keys.as_slice(), rest.as_slice())
+}
+
+fn keys_list(
+    alloc: Global,
+    map: &AddrMap,
+    made: u32,
+    key: u32,
+) -> Result<Vec<FlatInstruction>, AllocError>
+    ensures { IfOk result (λ r. r.items ≡ keys_code map.now made key) }
+{
+    let (cells, _) = map.region(Region::FreeLocks);
+    let code = [
+        FlatInstruction::Constant {
+            into: made,
+            value: cells,
+        },
+        FlatInstruction::Load {
+            op: LoadOp::Ld,
+            into: made,
+            at: made,
+            offset: 0,
+        },
+        FlatInstruction::Operate {
+            op: RegOp::Add,
+            into: key,
+            left: made,
+            right: RightOperand::Number(2),
+        },
+    ];
+    Vec::from_slice(alloc, &code)
+}
+
+fn untagged_list(
+    alloc: Global,
+    address: u32,
+    into: Held,
+) -> Result<Vec<FlatInstruction>, AllocError>
+    ensures { IfOk result (λ r. r.items ≡ untagged address into) }
+{
+    let code = [
+        FlatInstruction::Move {
+            into: into.value,
+            from: address,
+        },
+        FlatInstruction::Constant {
+            into: into.tag.base,
+            value: 0,
+        },
+        FlatInstruction::Constant {
+            into: into.tag.bound,
+            value: 0,
+        },
+        FlatInstruction::Constant {
+            into: into.tag.key,
+            value: 0,
+        },
+        FlatInstruction::Constant {
+            into: into.tag.lock,
+            value: 0,
+        },
+    ];
+    Vec::from_slice(alloc, &code)
+}
+
+fn make_list(
+    alloc: Global,
+    map: &AddrMap,
+    fresh: &[FlatInstruction],
+    zeros: &[FlatInstruction],
+    size: u32,
+    into: Held,
+    line: Line,
+    made: u32,
+    address: u32,
+) -> Result<Vec<FlatInstruction>, AllocError>
+    ensures { IfOk result (λ r. r.items ≡ make_code map.now fresh.now zeros.now size into line made address) }
+{
+    let test = key_test(alloc, map, made, line)?;
+    let bounds = whole_bounds(alloc, address, size, into)?;
+    let last = joined(alloc, zeros, bounds.as_slice())?;
+    let rest = joined(alloc, fresh, last.as_slice())?;
+    joined(alloc, test.as_slice(), rest.as_slice())
+}
+
+fn key_test(
+    alloc: Global,
+    map: &AddrMap,
+    made: u32,
+    line: Line,
+) -> Result<Vec<FlatInstruction>, AllocError>
+    ensures { IfOk result (λ r. r.items ≡ key_test map.now made line) }
+{
+    let keys = map.budgets().keys();
+    let code = [
+        FlatInstruction::Branch {
+            op: BranchOp::Bltu,
+            left: made,
+            right: RightOperand::Number(keys),
+            past: 1,
+        },
+        FlatInstruction::End(Ending::Keys(line)),
+    ];
+    Vec::from_slice(alloc, &code)
+}
+
+fn whole_bounds(
+    alloc: Global,
+    address: u32,
+    size: u32,
+    into: Held,
+) -> Result<Vec<FlatInstruction>, AllocError>
+    ensures { IfOk result (λ r. r.items ≡ whole_bounds address size into) }
+{
+    let code = [
+        FlatInstruction::Move {
+            into: into.tag.base,
+            from: address,
+        },
+        FlatInstruction::Operate {
+            op: RegOp::Add,
+            into: into.tag.bound,
+            left: address,
+            right: RightOperand::Register(size),
+        },
+    ];
+    Vec::from_slice(alloc, &code)
+}

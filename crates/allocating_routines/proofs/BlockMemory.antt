@@ -11,13 +11,14 @@ use Rattle.lock_space.specs.Locks.{key_counter, IsFree, AreLocksGood, KeepsButLo
 use Rattle.lock_space.specs.Routines.{OtherLocksStay}
 use Rattle.lock_space.proofs.Spaces.{locks_laid_out}
 use Rattle.lock_space.proofs.Local.{lock_kept, counter_kept, good_kept as locks_kept}
-use Rattle.heap_space.specs.Rows.{with_row}
+use Rattle.heap_space.specs.Rows.{with_row, without_row}
 use Rattle.heap_space.specs.Table.{block_rows, IsTableGood, KeepsButTable, KeepsTable}
 use Rattle.heap_space.proofs.Regions.{table_laid_out}
 use Rattle.heap_space.proofs.Local.{rows_kept, good_kept as table_kept}
 use Rattle.flat_actions.specs.Actions.{AreSpacesGood}
 use Rattle.allocating_routines.specs.Zeroing.{IsZeroed}
 use Rattle.allocating_routines.specs.Births.{IsZeroRange, IsKeyTaken, IsBlockMade}
+use Rattle.allocating_routines.specs.Freeing.{IsBlockEnded}
 use Rattle.allocating_routines.proofs.Zeroed.{AreLocal}
 
 -- how the spaces follow one another
@@ -124,3 +125,25 @@ module _ (map : MapSizes) (mapped : AreMapped map) (entry : View) (IsGood : Byte
       behind = λ b l. (let a = lie.table in let c = lie.locks in
           zeroed.spaces b (omega arith) ∙ taken b (inr (omega arith)) ∙ table b (inr (omega arith)));
     }
+
+  -- ---- a block is taken from the table, and its lock word released
+
+  pub block_ended : (start lock : ℕ) (m0 m1 m2 : Bytes) → AreSpacesGood map IsGood m0 → IsLock map lock
+      → block_rows map m1 ≡ without_row start (block_rows map m0) → KeepsButTable map m0 m1 → IsTableGood map m1
+      → key_counter map m2 ≡ key_counter map m1 → load 8 m2 lock ≡ 0 → OtherLocksStay map lock m1 m2
+      → AreLocksGood map m2 → KeepsButLocks map m1 m2 → IsBlockEnded map entry IsGood start lock m0 m2
+  block_ended start lock m0 m1 m2 good is_lock rows table good_table counter released others locks keep =
+      let good1 = good_by_table m0 m1 table good good_table in
+      let words = locks_laid_out map mapped in
+      record {
+        low = λ b l. keep b (inl (let a = lie.shadow in omega arith))
+            ∙ table b (inl (let a = lie.shadow in let c = lie.locks in omega arith));
+        entries = λ b word. (local m1 m2 (shadow_by_locks m1 m2 keep) good1.shadow).1 b word
+            ∙ (local m0 m1 (shadow_by_table m0 m1 table) good.shadow).1 b word;
+        released = released;
+        others = λ a l ne. others a l ne ∙ lock_kept map m0 m1 words (locks_by_table m0 m1 table) a l;
+        counter = counter ∙ counter_kept map m0 m1 words (locks_by_table m0 m1 table);
+        rows = rows_kept map m1 m2 (table_laid_out map mapped) (table_by_locks m1 m2 keep) good1.table ∙ rows;
+        good = good_by_locks m1 m2 keep good1 locks;
+        behind = λ b l. (let a = lie.table in let c = lie.locks in keep b (inr (omega arith)) ∙ table b (inr (omega arith)));
+      }

@@ -10,3 +10,7 @@ pub mod SourceBlocks
 pub mod Seeks
 pub mod Allocates
 pub mod Mallocs
+pub mod SourceFrees
+pub mod FoundRows
+pub mod BlockDeath
+pub mod Frees

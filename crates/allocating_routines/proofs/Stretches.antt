@@ -1,11 +1,11 @@
 -- Code without jumps between routines whose instructions are not known.
-use Rattle.std.proofs.Common.{◌≡◌, ◌≢◌, ℕ, suc, ◌+◌, ◌<◌, ◌≤◌, List, [], ◌∷◌, ◌++◌, true, false, Some, map, length, sym}
+use Rattle.std.proofs.Common.{◌≡◌, ◌≢◌, ℕ, suc, ◌+◌, ◌<◌, ◌≤◌, List, [], ◌∷◌, ◌++◌, true, false, not, Some, map, length, sym}
 use Rattle.std.proofs.Common.{ap, ◌∙◌, subst, arith}
 use Rattle.std.specs.Prelude.{slice_get}
 use Rattle.std.proofs.lemmas.Bool.{eq-eqb, ne_eqb, lt-ltb, le-ltb}
 use Rattle.std.proofs.lemmas.List.{length-map}
 use Rattle.rv_isa.specs.declared.instruction.BranchOp.{BranchOp}
-use Rattle.rv_isa.specs.declared.instruction.BranchOp.TheVariants.{Beq, Bltu}
+use Rattle.rv_isa.specs.declared.instruction.BranchOp.TheVariants.{Beq, Bne, Bltu}
 use Rattle.rv_isa.specs.Results.{branch_taken}
 use Rattle.flat_meaning.specs.declared.instruction.RightOperand.{RightOperand}
 use Rattle.flat_meaning.specs.declared.instruction.FlatInstruction.{FlatInstruction}
@@ -115,3 +115,11 @@ is_less a b l = lt-ltb a b l
 pub is_not_less : (a b : ℕ) → b ≤ a → branch_taken Bltu a b ≡ false
 unfolding branch_taken
 is_not_less a b l = le-ltb a b l
+
+pub differ : (a b : ℕ) → a ≢ b → branch_taken Bne a b ≡ true
+unfolding branch_taken
+differ a b e = ap not (ne_eqb a b e)
+
+pub do_not_differ : (a b : ℕ) → a ≡ b → branch_taken Bne a b ≡ false
+unfolding branch_taken
+do_not_differ a b e = ap not (eq-eqb a b e)

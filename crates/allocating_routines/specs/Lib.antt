@@ -2,3 +2,4 @@ pub mod Zeroing
 pub mod Premises
 pub mod Births
 pub mod Allocating
+pub mod Freeing

@@ -1,0 +1,179 @@
+-- `free` as an action.
+use Rattle.std.proofs.Common.{◌≡◌, ◌≢◌, ℕ, suc, ◌+◌, ◌-◌, ◌*◌, ◌%◌, ◌^◌, ◌<◌, ◌≤◌, List, [], ◌∷◌, ◌++◌, Bool, true, false}
+use Rattle.std.proofs.Common.{Option, Some, None, length, refl, sym, ap, ◌∙◌, subst, arith, length-append, ⊎_elim}
+use Rattle.std.proofs.lemmas.Bool.{cases_eq, cases_Bool}
+use Rattle.sb_base.specs.declared.ending.Ending.{Ending}
+use Rattle.sb_base.specs.declared.ending.Ending.TheVariants.{Temporal, BadFree}
+use Rattle.sb_base.specs.Endings.{code_of, report_of}
+use Rattle.addr_map.specs.declared.region.Region.TheVariants.{Cells}
+use Rattle.addr_map.specs.Places.{MapSizes, AreMapped, spaces_begin, region_end}
+use Rattle.rv_isa.specs.declared.instruction.BranchOp.TheVariants.{Beq, Bne}
+use Rattle.rv_isa.specs.declared.instruction.LoadOp.TheVariants.{Ld}
+use Rattle.rv_isa.specs.Results.{extended}
+use Rattle.obj_memory.specs.declared.object.Storage.TheVariants.{Allocated}
+use Rattle.obj_memory.specs.declared.value.Bounds.{Bounds}
+use Rattle.obj_memory.specs.declared.value.Tag.{Tag}
+use Rattle.obj_memory.specs.declared.value.Tag.TheVariants.{Untagged, OfFunction, OfObject}
+use Rattle.obj_memory.specs.declared.value.Value.{Value}
+use Rattle.obj_memory.specs.Objects.{object_at, with_dead}
+use Rattle.obj_memory.specs.Heap.{block_count}
+use Rattle.obj_memory.specs.Sound.{IsSoundTag}
+use Rattle.source_meaning.specs.State.{State as Source, Outcome as Completed, Gives, Ended}
+use Rattle.source_meaning.specs.Acting.{at_work, state_of}
+use Rattle.source_meaning.specs.Actions.{integer}
+use Rattle.source_meaning.specs.Heap.{is_block_start, free}
+use Rattle.source_meaning.specs.Library.{argument}
+use Rattle.flat_meaning.specs.declared.instruction.RightOperand.TheVariants.{Register, Number}
+use Rattle.flat_meaning.specs.declared.instruction.FlatInstruction.{FlatInstruction}
+use Rattle.flat_meaning.specs.declared.instruction.FlatInstruction.TheVariants.{Load, End}
+use Rattle.flat_meaning.specs.Memory.{Bytes, put, load}
+use Rattle.flat_meaning.specs.State.{State}
+use Rattle.flat_meaning.specs.Words.{IsOfWords}
+use Rattle.flat_meaning.specs.Meaning.{Context, Goes}
+use Rattle.flat_routines.specs.declared.registers.Held.{Held}
+use Rattle.flat_routines.specs.Registers.{AreBelow, OthersStay}
+use Rattle.flat_routines.specs.Local.{counted}
+use Rattle.flat_routines.specs.Routine.{HasAt, Outcome, Continues, Halts, Reaches, Does, Never}
+use Rattle.flat_routines.specs.Effects.{worked, effects}
+use Rattle.flat_routines.specs.Metadata.{View, held_registers, ShowsNothing}
+use Rattle.flat_routines.proofs.Steps.{has_front, has_back}
+use Rattle.flat_routines.proofs.Rules.{next, ended, arrived, weaken}
+use Rattle.flat_routines.proofs.Distinct.{AreRegisters}
+use Rattle.flat_objects.specs.StandsFor.{Views, Keys, spell, IsLock, StandsFor}
+use Rattle.flat_objects.proofs.Changing.{live_is_made}
+use Rattle.shadow_space.proofs.Entries.{context_of, agrees_shows, agrees_memory}
+use Rattle.lock_space.specs.Routines.{HasReleased, CanRelease, IsReleaseRoutine}
+use Rattle.lock_space.proofs.Spaces.{locks_laid_out, allowed_at}
+use Rattle.lock_space.proofs.Local.{lock_kept}
+use Rattle.heap_space.specs.Rows.{HasStart, size_of, without_row}
+use Rattle.heap_space.specs.Table.{block_total, block_rows}
+use Rattle.heap_space.specs.Routines.{HasFound, IsFound, HasRemoved, IsFindRoutine}
+use Rattle.heap_space.specs.Routines.{IsReleaseRoutine as IsUnlistRoutine}
+use Rattle.flat_actions.specs.Actions.{AreSpacesGood, IsFor, Pointer, Nowhere, AreHeldBy, IsHeldBy, Leaves, HasGiven}
+use Rattle.flat_actions.specs.Actions.{HasEnded, views_of, context_in, work_of}
+use Rattle.flat_actions.proofs.Standing.{shown_still, given_still, ended_still, keeps_same}
+use Rattle.allocating_routines.specs.Allocating.{runtime_ground}
+use Rattle.allocating_routines.specs.Freeing.{IsFreeRoutine, IsBlockEnded, life_test, found_test, end_code, free_code}
+use Rattle.allocating_routines.proofs.Stretches.{IsDone, stretch_on, goes_past, goes_into, shows_both, shows_worked}
+use Rattle.allocating_routines.proofs.Stretches.{words_worked, are_equal, are_not_equal, differ, do_not_differ}
+use Rattle.allocating_routines.proofs.Zeroed.{AreLocal}
+use Rattle.allocating_routines.proofs.BlockMemory.{good_by_table, locks_by_table, block_ended}
+use Rattle.allocating_routines.proofs.BlockDeath.{lock_is_own, lock_is_used, block_died, death_elsewhere}
+use Rattle.allocating_routines.proofs.FoundRows.{parts_of_start, found_is_start, not_found_is_none}
+use Rattle.allocating_routines.proofs.Allocates.{rows_are_blocks}
+use Rattle.allocating_routines.proofs.SourceBlocks.{sought_in}
+use Rattle.allocating_routines.proofs.SourceFrees.{ended_in, frees_null, frees_untagged, frees_function, frees_dead}
+use Rattle.allocating_routines.proofs.SourceFrees.{frees_no_start, frees_block}
+
+module _ (map : MapSizes) (mapped : AreMapped map) (entry : View) (IsGood : Bytes → Type 0)
+    (local : AreLocal map entry IsGood) (h : Held) (line t : ℕ) (below : AreBelow t (held_registers h))
+    (find unlist unlock : List FlatInstruction)
+    (finds : IsFindRoutine map h.value h.tag.key (t + 1) (t + 2) (t + 4) find)
+    (unlists : IsUnlistRoutine map h.value (t + 4) unlist) (unlocks : IsReleaseRoutine map h.tag.lock (t + 4) unlock)
+    (functions : ℕ) (types : ℕ → ℕ) (k : Keys) (x : Source) (v : Value) (charge weight : ℕ) where
+  abbrev c : Context
+  c = context_of map true charge weight
+
+  abbrev g : Views
+  g = views_of map functions types entry
+
+  abbrev body : List FlatInstruction
+  body = end_code find unlist unlock h line t (t + 2)
+
+  abbrev whole : List FlatInstruction
+  whole = free_code find unlist unlock h line t (t + 2)
+
+  abbrev Result : State → Completed Value → Outcome → Type 0
+  Result s o = Leaves g k IsGood Nowhere t x s o
+
+  abbrev Goal : (code : List FlatInstruction) → (pc : ℕ) → State → Completed Value → Type 0
+  Goal code pc s o =
+      Reaches c code (20 + 26 * ((state_of o).work - x.work)) (Goes pc s) (pc + length whole) (Result s o)
+
+  body_length : length body ≡ 7 + length find + length unlist + length unlock
+  body_length = omega (arith, length-append find (found_test (t + 2) line ++ (unlist ++ unlock)),
+      length-append unlist unlock)
+
+  -- ---- where the routines stand
+
+  module _ (code : List FlatInstruction) (pc : ℕ) (s : State) (has : HasAt code pc whole) (w : IsOfWords s)
+      (f : IsFor g k IsGood x s) (held : IsHeldBy g k x.objects (Pointer h) v s.values) where
+    abbrev count : ℕ
+    count = block_total map s.memory
+
+    count_is : count ≡ block_count x.objects
+    count_is = rows_are_blocks map k x.objects s.memory f.objects.table f.objects.disjoint
+
+    at_find : HasAt code (pc + 6) (find ++ (found_test (t + 2) line ++ (unlist ++ unlock)))
+    at_find =
+        let e : pc + 1 + 5 ≡ pc + 6 = omega arith in
+        subst (λ n. HasAt code n (find ++ (found_test (t + 2) line ++ (unlist ++ unlock)))) e
+        (has_back code (pc + 1) (life_test h line t) (find ++ (found_test (t + 2) line ++ (unlist ++ unlock))) has.1)
+
+    at_found : HasAt code (pc + 6 + length find) (found_test (t + 2) line ++ (unlist ++ unlock))
+    at_found = has_back code (pc + 6) find (found_test (t + 2) line ++ (unlist ++ unlock)) at_find
+
+    at_unlist : HasAt code (pc + 6 + length find + 2) (unlist ++ unlock)
+    at_unlist = has_back code (pc + 6 + length find) (found_test (t + 2) line) (unlist ++ unlock) at_found
+
+    at_unlock : HasAt code (pc + 6 + length find + 2 + length unlist) unlock
+    at_unlock = has_back code (pc + 6 + length find + 2) unlist unlock at_unlist
+
+    -- ---- the tag in registers
+
+    word_is : s.values h.value ≡ v.word
+    word_is = held.0.word
+
+    key_is : s.values h.tag.key ≡ (spell g k v.tag).key
+    key_is = ap (λ q. q.key) held.0.tag
+
+    lock_is : s.values h.tag.lock ≡ (spell g k v.tag).lock
+    lock_is = ap (λ q. q.lock) held.0.tag
+
+    still : (n : ℕ) (e : Ending) (s' : State) → ShowsNothing s s'
+        → HasEnded e (at_work n x) (code_of e) (report_of e) s (counted c (End e) s')
+    still n e s' shows =
+        ended_still e x n (code_of e) (report_of e) s (counted c (End e) s') f.shown
+        (record {
+          input = shows.input;
+          output = shows.output;
+          taken = shows.taken;
+          accesses = shows.accesses;
+          turns = shows.turns;
+        }) refl refl
+
+    itself : ShowsNothing s s
+    itself = record { input = refl; output = refl; taken = refl; accesses = refl; turns = refl }
+
+    -- ---- null
+
+    frees_nothing : v.word ≡ 0 → Goal code pc s (free v line x)
+    frees_nothing e =
+        let end : pc + 1 + length body ≡ pc + length whole = omega arith in
+        subst (Goal code pc s) (sym (frees_null v line x e))
+        (weaken c code 1 (20 + 26 * (x.work - x.work)) (Goes pc s) (pc + length whole) _ _ (omega arith) (λ y q. q)
+        (goes_past c code 0 pc (pc + 1 + length body) s Beq h.value (Number 0) (length body) (pc + length whole)
+        (Result s (Gives (integer 0) x)) has.0 refl (are_equal (s.values h.value) 0 (word_is ∙ e))
+        (arrived c code 0 (worked c s) (pc + 1 + length body) (pc + length whole) (Result s (Gives (integer 0) x)) end
+        (given_still g k IsGood Nowhere t x x.work s (worked c s) (integer 0) f refl (shows_worked c s s itself) tt
+        (λ r l none. refl)))))
+
+    -- ---- no object
+
+    module _ (some : v.word ≢ 0) where
+      no_object : (spell g k v.tag).lock ≡ 0 → free v line x ≡ Ended (BadFree line) (sought_in x)
+          → Goal code pc s (free v line x)
+      no_object empty o =
+          subst (Goal code pc s) (sym o)
+          (weaken c code 3 (20 + 26 * ((sought_in x).work - x.work)) (Goes pc s) (pc + length whole) _ _ (omega arith)
+          (λ y q. q)
+          (goes_into c code 2 pc s Beq h.value (Number 0) (length body) (pc + length whole)
+          (Result s (Ended (BadFree line) (sought_in x))) has.0
+          (are_not_equal (s.values h.value) 0 (λ e. some (sym word_is ∙ e)))
+          (goes_into c code 1 (pc + 1) (worked c s) Bne h.tag.lock (Number 0) 1 (pc + length whole)
+          (Result s (Ended (BadFree line) (sought_in x))) has.1.0
+          (do_not_differ (s.values h.tag.lock) 0 (lock_is ∙ empty))
+          (ended c code 0 (BadFree line) (worked c (worked c s)) (pc + 1 + 1) (pc + length whole)
+          (Result s (Ended (BadFree line) (sought_in x))) has.1.1.0
+          (still (sought_in x).work (BadFree line) (worked c (worked c s))
+          (shows_worked c s (worked c s) (shows_worked c s s itself)))))))

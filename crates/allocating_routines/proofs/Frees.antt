@@ -177,3 +177,161 @@ module _ (map : MapSizes) (mapped : AreMapped map) (entry : View) (IsGood : Byte
           (Result s (Ended (BadFree line) (sought_in x))) has.1.1.0
           (still (sought_in x).work (BadFree line) (worked c (worked c s))
           (shows_worked c s (worked c s) (shows_worked c s s itself)))))))
+
+      -- ---- an object
+
+      module _ (n : ℕ) (b : Bounds) (tagged : v.tag ≡ OfObject n b) where
+        abbrev lock : ℕ
+        lock = (k.held n).lock
+
+        abbrev key : ℕ
+        key = (k.held n).key
+
+        made : n < length x.objects
+        made = (subst (IsSoundTag functions x.objects) tagged held.1).made
+
+        is_lock : IsLock map lock
+        is_lock = (f.objects.keyed.each n made).lock
+
+        key_there : s.values h.tag.key ≡ key
+        key_there = key_is ∙ ap (λ q. (spell g k q).key) tagged
+
+        lock_there : s.values h.tag.lock ≡ lock
+        lock_there = lock_is ∙ ap (λ q. (spell g k q).lock) tagged
+
+        record IsLoaded (s1 : State) : Type 0 where
+          word : s1.values t ≡ load 8 s.memory lock
+          memory : s1.memory ≡ s.memory
+          shows : ShowsNothing s s1
+          others : OthersStay [] t s s1
+
+        load_registers : AreRegisters (h.tag.lock ∷ []) [] (t ∷ []) t
+        load_registers = record {
+          none = (tt, tt);
+          distinct = tt;
+          ins_below = (below.1.1.1.1.0, tt);
+          res_below = tt;
+          from = (omega arith, tt);
+          own_distinct = (tt, tt);
+        }
+
+        loaded_by : (s1 : State)
+            → IsDone c (h.tag.lock ∷ []) [] (t ∷ []) t load_registers (Load Ld 1 0 0 ∷ []) refl (worked c (worked c s)) s1
+            → IsLoaded s1
+        unfolding put extended
+        loaded_by s1 d =
+            let lie = locks_laid_out map mapped in
+            let first = is_lock.first in let last = is_lock.last in let cells = lie.cells in let blocks = lie.blocks in
+            let small = lie.small in let there = lock_there in
+            let at : (s.values h.tag.lock + 0) % 2 ^ 64 ≡ lock = omega arith in
+            record {
+              word = sym (d.agrees.values 1 (omega arith)) ∙ ap (load 8 s.memory) at;
+              memory = agrees_memory 2 _ _ s1 d.agrees;
+              shows = agrees_shows 2 _ _ s s1 d.agrees
+                  (record { input = refl; output = refl; taken = refl; accesses = refl; turns = refl });
+              others = d.others;
+            }
+
+        load_allowed : Rattle.flat_meaning.specs.Spaces.is_allowed map ((s.values h.tag.lock + 0) % 2 ^ 64) 8 ≡ true
+        load_allowed =
+            let lie = locks_laid_out map mapped in
+            let first = is_lock.first in let last = is_lock.last in let cells = lie.cells in let blocks = lie.blocks in
+            let small = lie.small in let there = lock_there in let begins = lie.first in let inside = lie.inside in
+            allowed_at map ((s.values h.tag.lock + 0) % 2 ^ 64) lock 8 (omega arith) (omega arith) (omega arith)
+
+        loads : (bound : ℕ) (R : Outcome → Type 0)
+            → ((s1 : State) → IsOfWords s1 → IsLoaded s1
+            → Reaches c code bound (Goes (pc + 1 + 1 + 1 + 1) s1) (pc + length whole) R)
+            → Reaches c code (suc (suc (1 + bound))) (Goes pc s) (pc + length whole) R
+        loads bound R on =
+            goes_into c code (suc (1 + bound)) pc s Beq h.value (Number 0) (length body) (pc + length whole) R has.0
+            (are_not_equal (s.values h.value) 0 (λ e. some (sym word_is ∙ e)))
+            (goes_past c code (1 + bound) (pc + 1) (pc + 1 + 1 + 1) (worked c s) Bne h.tag.lock (Number 0) 1
+            (pc + length whole) R has.1.0 refl
+            (differ (s.values h.tag.lock) 0 (λ e. let there = lock_there in let first = is_lock.first in
+            let lie = locks_laid_out map mapped in let begins = lie.first in omega arith))
+            (stretch_on c (h.tag.lock ∷ []) [] (t ∷ []) t load_registers (Load Ld 1 0 0 ∷ []) refl code bound
+            (pc + 1 + 1 + 1) (worked c (worked c s)) (pc + length whole) R
+            (words_worked c (worked c s) (words_worked c s w)) (has.1.1.1.0, tt) (load_allowed, tt)
+            (λ s1 w1 d1. on s1 w1 (loaded_by s1 d1))))
+
+        -- it is dead
+        frees_late : (object_at x.objects n).is_live ≡ false → Goal code pc s (free v line x)
+        frees_late dead =
+            let R = Result s (Ended (Temporal line) x) in
+            subst (Goal code pc s) (sym (frees_dead v line n b x some tagged dead))
+            (weaken c code (suc (suc (1 + suc (suc 0)))) (20 + 26 * (x.work - x.work)) (Goes pc s) (pc + length whole) _ _
+            (omega arith) (λ y q. q)
+            (loads (suc (suc 0)) R
+            (λ s1 w1 l.
+            goes_into c code 1 (pc + 1 + 1 + 1 + 1) s1 Beq t (Register h.tag.key) 1 (pc + length whole) R has.1.1.1.1.0
+            (are_not_equal (s1.values t) (s1.values h.tag.key)
+            (λ e. f.objects.locks.dead n made dead
+            (sym l.word ∙ e ∙ l.others h.tag.key below.1.1.1.0 tt ∙ key_there)))
+            (ended c code 0 (Temporal line) (worked c s1) (pc + 1 + 1 + 1 + 1 + 1) (pc + length whole) R
+            has.1.1.1.1.1.0 (still x.work (Temporal line) (worked c s1) (shows_worked c s s1 l.shows))))))
+
+        module _ (live : (object_at x.objects n).is_live ≡ true) where
+          abbrev answer : Option ℕ
+          answer = size_of v.word key (block_rows map s.memory)
+
+          record IsAnswered (s2 : State) : Type 0 where
+            found : IsFound answer (s2.values (t + 1)) (s2.values (t + 2))
+            memory : s2.memory ≡ s.memory
+            shows : ShowsNothing s s2
+            others : OthersStay [] t s s2
+
+          answered_by : (s1 s2 : State) → IsLoaded s1
+              → HasFound map h.value h.tag.key (t + 1) (t + 2) (t + 4) (worked c s1) s2 → IsAnswered s2
+          answered_by s1 s2 l d =
+              let value : s1.values h.value ≡ v.word = l.others h.value below.0 tt ∙ word_is in
+              let keyed : s1.values h.tag.key ≡ key = l.others h.tag.key below.1.1.1.0 tt ∙ key_there in
+              record {
+                found = rw (sym value, sym keyed, sym l.memory) d.answer;
+                memory = d.memory ∙ l.memory;
+                shows = shows_both s (worked c s1) s2 (shows_worked c s s1 l.shows) d.shows;
+                others = λ r m none. d.others r (omega arith) ((λ e. omega arith), ((λ e. omega arith), tt)) ∙ l.others r m tt;
+              }
+
+          answers : (bound : ℕ) (R : Outcome → Type 0)
+              → ((s2 : State) → IsOfWords s2 → IsAnswered s2
+              → Reaches c code bound (Goes (pc + 6 + length find) s2) (pc + length whole) R)
+              → Reaches c code (suc (suc (1 + suc ((8 + 10 * count) + bound)))) (Goes pc s) (pc + length whole) R
+          answers bound R on =
+              loads (suc ((8 + 10 * count) + bound)) R
+              (λ s1 w1 l.
+              goes_past c code ((8 + 10 * count) + bound) (pc + 1 + 1 + 1 + 1) (pc + 6) s1 Beq t (Register h.tag.key) 1
+              (pc + length whole) R has.1.1.1.1.0 (omega arith)
+              (are_equal (s1.values t) (s1.values h.tag.key)
+              (l.word ∙ f.objects.locks.live n live ∙ sym key_there ∙ sym (l.others h.tag.key below.1.1.1.0 tt)))
+              (next c code (8 + 10 * count) bound (Goes (pc + 6) (worked c s1)) (pc + 6 + length find)
+              (pc + length whole) (HasFound map h.value h.tag.key (t + 1) (t + 2) (t + 4) (worked c s1)) Never R
+              (words_worked c s1 w1)
+              ((finds count true charge weight).from code (pc + 6) (worked c s1)
+              (has_front code (pc + 6) find (found_test (t + 2) line ++ (unlist ++ unlock)) at_find)
+              (words_worked c s1 w1)
+              (
+                subst (Rattle.heap_space.specs.Table.IsTableGood map) (sym l.memory) f.spaces.table,
+                ap (block_total map) l.memory,
+              ))
+              (λ s2 w2 d2. on s2 w2 (answered_by s1 s2 l d2))
+              (λ status report s' never. absurd never)))
+
+          -- no block starts there
+          frees_inside : answer ≡ None → Goal code pc s (free v line x)
+          frees_inside none =
+              let R = Result s (Ended (BadFree line) (sought_in x)) in
+              let same = count_is in
+              subst (Goal code pc s)
+              (sym (frees_no_start v line n b x some tagged live
+              (not_found_is_none g k x.objects s.memory f.objects n v.word live none)))
+              (weaken c code (suc (suc (1 + suc ((8 + 10 * count) + suc (suc 0)))))
+              (20 + 26 * ((sought_in x).work - x.work)) (Goes pc s) (pc + length whole) _ _ (omega arith) (λ y q. q)
+              (answers (suc (suc 0)) R
+              (λ s2 w2 a.
+              let none_there : s2.values (t + 2) ≡ 0 = subst (λ o. IsFound o (s2.values (t + 1)) (s2.values (t + 2))) none
+              a.found in
+              goes_into c code 1 (pc + 6 + length find) s2 Bne (t + 2) (Number 0) 1 (pc + length whole) R at_found.0
+              (do_not_differ (s2.values (t + 2)) 0 none_there)
+              (ended c code 0 (BadFree line) (worked c s2) (pc + 6 + length find + 1) (pc + length whole) R
+              at_found.1.0 (still (sought_in x).work (BadFree line) (worked c s2) (shows_worked c s s2 a.shows))))))

@@ -10,7 +10,7 @@ use Rattle.addr_map.specs.Places.{MapSizes, AreMapped, spaces_begin, region_end}
 use Rattle.rv_isa.specs.declared.instruction.BranchOp.TheVariants.{Beq, Bne}
 use Rattle.rv_isa.specs.declared.instruction.LoadOp.TheVariants.{Ld}
 use Rattle.rv_isa.specs.Results.{extended}
-use Rattle.obj_memory.specs.declared.object.Storage.TheVariants.{Allocated}
+use Rattle.obj_memory.specs.declared.object.Storage.TheVariants.{Static, Allocated}
 use Rattle.obj_memory.specs.declared.value.Bounds.{Bounds}
 use Rattle.obj_memory.specs.declared.value.Tag.{Tag}
 use Rattle.obj_memory.specs.declared.value.Tag.TheVariants.{Untagged, OfFunction, OfObject}
@@ -27,6 +27,7 @@ use Rattle.flat_meaning.specs.declared.instruction.RightOperand.TheVariants.{Reg
 use Rattle.flat_meaning.specs.declared.instruction.FlatInstruction.{FlatInstruction}
 use Rattle.flat_meaning.specs.declared.instruction.FlatInstruction.TheVariants.{Load, End}
 use Rattle.flat_meaning.specs.Memory.{Bytes, put, load}
+use Rattle.flat_meaning.specs.Spaces.{is_allowed}
 use Rattle.flat_meaning.specs.State.{State}
 use Rattle.flat_meaning.specs.Words.{IsOfWords}
 use Rattle.flat_meaning.specs.Meaning.{Context, Goes}
@@ -39,14 +40,14 @@ use Rattle.flat_routines.specs.Metadata.{View, held_registers, ShowsNothing}
 use Rattle.flat_routines.proofs.Steps.{has_front, has_back}
 use Rattle.flat_routines.proofs.Rules.{next, ended, arrived, weaken}
 use Rattle.flat_routines.proofs.Distinct.{AreRegisters}
-use Rattle.flat_objects.specs.StandsFor.{Views, Keys, spell, IsLock, StandsFor}
+use Rattle.flat_objects.specs.StandsFor.{Views, Keys, spell, IsLock, global_lock, StandsFor}
 use Rattle.flat_objects.proofs.Changing.{live_is_made}
 use Rattle.shadow_space.proofs.Entries.{context_of, agrees_shows, agrees_memory}
 use Rattle.lock_space.specs.Routines.{HasReleased, CanRelease, IsReleaseRoutine}
 use Rattle.lock_space.proofs.Spaces.{locks_laid_out, allowed_at}
 use Rattle.lock_space.proofs.Local.{lock_kept}
 use Rattle.heap_space.specs.Rows.{HasStart, size_of, without_row}
-use Rattle.heap_space.specs.Table.{block_total, block_rows}
+use Rattle.heap_space.specs.Table.{block_total, block_rows, IsTableGood, KeepsButTable}
 use Rattle.heap_space.specs.Routines.{HasFound, IsFound, HasRemoved, IsFindRoutine}
 use Rattle.heap_space.specs.Routines.{IsReleaseRoutine as IsUnlistRoutine}
 use Rattle.flat_actions.specs.Actions.{AreSpacesGood, IsFor, Pointer, Nowhere, AreHeldBy, IsHeldBy, Leaves, HasGiven}
@@ -232,7 +233,7 @@ module _ (map : MapSizes) (mapped : AreMapped map) (entry : View) (IsGood : Byte
               others = d.others;
             }
 
-        load_allowed : Rattle.flat_meaning.specs.Spaces.is_allowed map ((s.values h.tag.lock + 0) % 2 ^ 64) 8 ≡ true
+        load_allowed : is_allowed map ((s.values h.tag.lock + 0) % 2 ^ 64) 8 ≡ true
         load_allowed =
             let lie = locks_laid_out map mapped in
             let first = is_lock.first in let last = is_lock.last in let cells = lie.cells in let blocks = lie.blocks in
@@ -311,7 +312,7 @@ module _ (map : MapSizes) (mapped : AreMapped map) (entry : View) (IsGood : Byte
               (has_front code (pc + 6) find (found_test (t + 2) line ++ (unlist ++ unlock)) at_find)
               (words_worked c s1 w1)
               (
-                subst (Rattle.heap_space.specs.Table.IsTableGood map) (sym l.memory) f.spaces.table,
+                subst (IsTableGood map) (sym l.memory) f.spaces.table,
                 ap (block_total map) l.memory,
               ))
               (λ s2 w2 d2. on s2 w2 (answered_by s1 s2 l d2))
@@ -335,3 +336,173 @@ module _ (map : MapSizes) (mapped : AreMapped map) (entry : View) (IsGood : Byte
               (do_not_differ (s2.values (t + 2)) 0 none_there)
               (ended c code 0 (BadFree line) (worked c s2) (pc + 6 + length find + 1) (pc + length whole) R
               at_found.1.0 (still (sought_in x).work (BadFree line) (worked c s2) (shows_worked c s s2 a.shows))))))
+
+          -- a block starts there, and dies
+          module _ (z : ℕ) (there : answer ≡ Some z) where
+            starts : (is_block_start (object_at x.objects n) v.word ≡ true) × HasStart v.word (block_rows map s.memory)
+            starts = found_is_start g k x.objects s.memory f.objects n v.word live z there
+
+            block : (object_at x.objects n).storage ≡ Allocated
+            block = (parts_of_start (object_at x.objects n) v.word starts.0).0
+
+            start_is : v.word ≡ (object_at x.objects n).address
+            start_is = (parts_of_start (object_at x.objects n) v.word starts.0).1
+
+            module _ (s2 : State) (a : IsAnswered s2) (s3 : State)
+                (d3 : HasRemoved map h.value (t + 4) (worked c s2) s3) where
+              table3 : KeepsButTable map s.memory s3.memory
+              table3 = rw (sym a.memory) d3.memory
+
+              value2 : s2.values h.value ≡ (object_at x.objects n).address
+              value2 = a.others h.value below.0 tt ∙ word_is ∙ start_is
+
+              rows3 : block_rows map s3.memory
+                  ≡ without_row (object_at x.objects n).address (block_rows map s.memory)
+              rows3 = rw (sym value2, sym a.memory) d3.rows
+
+              lock3 : s3.values h.tag.lock ≡ lock
+              lock3 =
+                  d3.others h.tag.lock (let l = below.1.1.1.1.0 in omega arith) tt
+                  ∙ a.others h.tag.lock below.1.1.1.1.0 tt ∙ lock_there
+
+              good3 : AreSpacesGood map IsGood s3.memory
+              good3 = good_by_table map mapped entry IsGood local s.memory s3.memory table3 f.spaces d3.good
+
+              can_release : CanRelease map s3.memory (s3.values h.tag.lock)
+              can_release = subst (CanRelease map s3.memory) (sym lock3) (record {
+                good = good3.locks;
+                lock = is_lock;
+                not_global = own_lock;
+                used = λ e. used_lock (sym (lock_kept map s.memory s3.memory (locks_laid_out map mapped)
+                    (locks_by_table map mapped entry IsGood local s.memory s3.memory table3) lock is_lock) ∙ e);
+              })
+                where
+                  own_lock : lock ≢ global_lock map
+                  own_lock = ((f.objects.keyed.each n made).other
+                      (λ e. let none : Allocated ≡ Static = sym block ∙ e in cc)).2
+
+                  used_lock : load 8 s.memory lock ≢ 0
+                  used_lock e =
+                      let q = ((f.objects.keyed.each n made).other
+                      (λ e. let none : Allocated ≡ Static = sym block ∙ e in cc)).0 in
+                      let held = f.objects.locks.live n live in omega arith
+
+              module _ (s4 : State) (d4 : HasReleased map h.tag.lock (t + 4) s3 s4) where
+                ended_block : IsBlockEnded map entry IsGood (object_at x.objects n).address lock s.memory s4.memory
+                ended_block =
+                    block_ended map mapped entry IsGood local (object_at x.objects n).address lock s.memory s3.memory
+                    s4.memory f.spaces is_lock rows3 table3 d3.good d4.counter (rw (sym lock3) d4.released)
+                    (rw (sym lock3) d4.other_locks) d4.good d4.memory
+
+                shown4 : ShowsNothing s s4
+                shown4 = shows_both s s3 s4
+                    (shows_both s (worked c s2) s3 (shows_worked c s s2 a.shows) d3.shows) d4.shows
+
+                given4 : HasGiven g k IsGood Nowhere t x s (integer 0) (ended_in n x) s4
+                given4 = record {
+                  keys = k;
+                  held = keeps_same x.objects k;
+                  stands = record {
+                    objects = block_died map mapped functions types entry IsGood k x.objects n s.memory s4.memory
+                        f.objects f.spaces live block ended_block;
+                    spaces = ended_block.good;
+                    keys = f.keys;
+                    shown = (let q = shown_still x s s4 shown4 f.shown in record {
+                      input = q.input;
+                      output = q.output;
+                      taken = q.taken;
+                      accesses = q.accesses;
+                    });
+                  };
+                  given = tt;
+                  turns = shown4.turns;
+                  elsewhere = death_elsewhere map mapped functions types entry IsGood k x.objects n s.memory s4.memory
+                      f.objects f.spaces live block ended_block;
+                  others = λ r l none.
+                      d4.others r (omega arith) tt ∙ d3.others r (omega arith) tt ∙ a.others r l tt;
+                }
+
+            frees_it : Goal code pc s (free v line x)
+            frees_it =
+                let R = Result s (Gives (integer 0) (ended_in n x)) in
+                let same = count_is in
+                let end : pc + 6 + length find + 2 + length unlist + length unlock ≡ pc + length whole =
+                omega (arith, body_length) in
+                subst (Goal code pc s) (sym (frees_block v line n b x some tagged live starts.0))
+                (weaken c code (suc (suc (1 + suc ((8 + 10 * count) + suc ((16 + 16 * count) + (11 + 0))))))
+                (20 + 26 * ((ended_in n x).work - x.work)) (Goes pc s) (pc + length whole) R R (omega arith) (λ y q. q)
+                (answers (suc ((16 + 16 * count) + (11 + 0))) R
+                (λ s2 w2 a.
+                let one : s2.values (t + 2) ≡ 1 =
+                (subst (λ o. IsFound o (s2.values (t + 1)) (s2.values (t + 2))) there a.found).0 in
+                let value : s2.values h.value ≡ v.word = a.others h.value below.0 tt ∙ word_is in
+                goes_past c code ((16 + 16 * count) + (11 + 0)) (pc + 6 + length find) (pc + 6 + length find + 2) s2 Bne
+                (t + 2) (Number 0) 1 (pc + length whole) R at_found.0 (omega arith)
+                (differ (s2.values (t + 2)) 0 (λ e. omega arith))
+                (next c code (16 + 16 * count) (11 + 0) (Goes (pc + 6 + length find + 2) (worked c s2))
+                (pc + 6 + length find + 2 + length unlist) (pc + length whole)
+                (HasRemoved map h.value (t + 4) (worked c s2)) Never R (words_worked c s2 w2)
+                ((unlists count true charge weight).from code (pc + 6 + length find + 2) (worked c s2)
+                (has_front code (pc + 6 + length find + 2) unlist unlock at_unlist) (words_worked c s2 w2)
+                (
+                  (
+                    subst (IsTableGood map) (sym a.memory) f.spaces.table,
+                    ap (block_total map) a.memory,
+                  ),
+                  rw (value, a.memory) starts.1,
+                ))
+                (λ s3 w3 d3.
+                next c code 11 0 (Goes (pc + 6 + length find + 2 + length unlist) s3)
+                (pc + 6 + length find + 2 + length unlist + length unlock) (pc + length whole)
+                (HasReleased map h.tag.lock (t + 4) s3) Never R w3
+                ((unlocks true charge weight).from code (pc + 6 + length find + 2 + length unlist) s3 at_unlock w3
+                (can_release s2 a s3 d3))
+                (λ s4 w4 d4.
+                arrived c code 0 s4 (pc + 6 + length find + 2 + length unlist + length unlock) (pc + length whole) R end
+                (given4 s2 a s3 d3 s4 d4))
+                (λ status report s' never. absurd never))
+                (λ status report s' never. absurd never)))))
+
+          frees_live : Goal code pc s (free v line x)
+          frees_live = by answer refl
+            where
+              by : (o : Option ℕ) → answer ≡ o → Goal code pc s (free v line x)
+              by None e = frees_inside e
+              by (Some z) e = frees_it z e
+
+        frees_object : Goal code pc s (free v line x)
+        frees_object = ⊎_elim (λ live. frees_live live) (λ dead. frees_late dead)
+            (cases_Bool (object_at x.objects n).is_live)
+
+      frees_some : Goal code pc s (free v line x)
+      frees_some = by v.tag refl
+        where
+          by : (q : Tag) → v.tag ≡ q → Goal code pc s (free v line x)
+          by Untagged e = no_object (ap (λ q. (spell g k q).lock) e) (frees_untagged v line x some e)
+          by (OfFunction i) e = no_object (ap (λ q. (spell g k q).lock) e) (frees_function v line i x some e)
+          by (OfObject n b) e = frees_object n b e
+
+    frees : Goal code pc s (free v line x)
+    frees = ⊎_elim (λ null. frees_nothing null) (λ some. frees_some some) (cases_eq v.word 0)
+
+pub free_does : (map : MapSizes) → AreMapped map → (entry : View) (IsGood : Bytes → Type 0)
+    → AreLocal map entry IsGood → (h : Held) (line t : ℕ) → AreBelow t (held_registers h)
+    → (find unlist unlock : List FlatInstruction) → IsFindRoutine map h.value h.tag.key (t + 1) (t + 2) (t + 4) find
+    → IsUnlistRoutine map h.value (t + 4) unlist → IsReleaseRoutine map h.tag.lock (t + 4) unlock
+    → IsFreeRoutine map entry IsGood h line t (free_code find unlist unlock h line t (t + 2))
+free_does map mapped entry IsGood local h line t below find unlist unlock finds unlists unlocks functions types k x vs
+    charge weight = record { from = λ code pc s has w p. by vs code pc s has w p.0 p.1 }
+  where
+    by : (vs : List Value) (code : List FlatInstruction) (pc : ℕ) (s : State)
+        → HasAt code pc (free_code find unlist unlock h line t (t + 2)) → IsOfWords s
+        → IsFor (views_of map functions types entry) k IsGood x s
+        → AreHeldBy (views_of map functions types entry) k x.objects (Pointer h ∷ []) vs s.values
+        → Reaches (context_in (runtime_ground map entry IsGood) charge weight) code
+        (20 + 26 * work_of (free (argument 0 vs) line) x) (Goes pc s)
+        (pc + length (free_code find unlist unlock h line t (t + 2)))
+        (Leaves (views_of map functions types entry) k IsGood Nowhere t x s (free (argument 0 vs) line x))
+    by [] code pc s has w f held = absurd held
+    by (v ∷ []) code pc s has w f held =
+        frees map mapped entry IsGood local h line t below find unlist unlock finds unlists unlocks functions types k x v
+        charge weight code pc s has w f held.0
+    by (v ∷ u ∷ vs) code pc s has w f held = absurd held.1

@@ -3,8 +3,10 @@
 #![tactic(auto)]
 
 pub mod allocating;
+pub mod freeing;
 mod lists;
 pub mod zeroing;
 
 pub use crate::allocating::malloc;
+pub use crate::freeing::free;
 pub use crate::zeroing::zero;

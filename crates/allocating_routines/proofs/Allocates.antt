@@ -57,7 +57,8 @@ use Rattle.flat_actions.proofs.Standing.{shown_still, given_still, ended_still}
 use Rattle.allocating_routines.specs.Zeroing.{HasZeroed, IsZeroRoutine}
 use Rattle.allocating_routines.specs.Premises.{AreStanding}
 use Rattle.allocating_routines.specs.Births.{with_key, IsBlockMade}
-use Rattle.allocating_routines.specs.Allocating.{keys_code, untagged, key_test, whole_bounds, make_code, malloc_code}
+use Rattle.allocating_routines.specs.Allocating.{IsAllocateRoutine, keys_code, untagged, key_test, whole_bounds, make_code}
+use Rattle.allocating_routines.specs.Allocating.{malloc_code}
 use Rattle.allocating_routines.proofs.Stretches.{IsDone, stretch_on, goes_past, goes_into, shows_both, shows_worked}
 use Rattle.allocating_routines.proofs.Stretches.{words_worked, are_equal, are_not_equal, is_less, is_not_less}
 use Rattle.allocating_routines.proofs.Zeroed.{AreLocal}
@@ -555,6 +556,19 @@ module _ (map : MapSizes) (mapped : AreMapped map) (entry : View) (IsGood : Byte
         by (Some p) e = ⊎_elim (λ less. block_reached p e less) (λ spent. spent_reached p e spent)
             (cases_lt x.keys map.budgets.keys)
 
-  pub allocates : Does c whole (λ s. IsFor g k IsGood x s × (s.values size ≡ z) × AreStanding map x)
+  allocates : Does c whole (λ s. IsFor g k IsGood x s × (s.values size ≡ z) × AreStanding map x)
       (λ s. 60 + 20 * work_of (allocate set z line) x) (λ s. Result s (allocate set z line x))
   allocates = record { from = λ code pc s has w p. reached code pc s has w p.0 p.1 p.2 }
+
+pub allocate_does : (map : MapSizes) → AreMapped map → (entry : View) (IsGood : Bytes → Type 0)
+    → AreLocal map entry IsGood → (size : ℕ) (into : Held) (line t : ℕ) → AreBelow t (size ∷ held_registers into)
+    → IsNoneOf size (held_registers into) → AreDistinct (held_registers into) → (place fresh zero : List FlatInstruction)
+    → IsPlaceRoutine map size (t + 1) (t + 2) (t + 4) place
+    → IsFreshRoutine map into.tag.key into.tag.lock (t + 4) fresh
+    → IsZeroRoutine map entry IsGood (t + 2) size (t + 4) zero
+    → IsAllocateRoutine map entry IsGood size into line t
+    (malloc_code map place fresh zero size into line t (t + 1) (t + 2))
+allocate_does map mapped entry IsGood local size into line t below apart distinct place fresh zero places freshens zeroes
+    set same functions types k x z charge weight =
+    allocates map mapped entry IsGood local size into t below apart distinct place fresh zero places freshens zeroes line
+    set same functions types k x z charge weight

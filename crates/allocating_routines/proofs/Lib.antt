@@ -14,3 +14,5 @@ pub mod SourceFrees
 pub mod FoundRows
 pub mod BlockDeath
 pub mod Frees
+pub mod Leaving
+pub mod Callocs

@@ -1,11 +1,12 @@
-//! `malloc`.
+//! `malloc` and `calloc`.
 
 ghost use Rattle.std.specs.Prelude.{◌≡◌, ℕ, ◌+◌, ◌≤◌, ◌<◌, ◌^◌, ◌++◌, IfOk, [], ◌∷◌, length};
 ghost use Rattle.addr_map.specs.Places.{AreMapped};
 ghost use Rattle.flat_routines.specs.Registers.{AreBelow, AreDistinct, AreNoneOf};
 ghost use Rattle.flat_routines.specs.Metadata.{held_registers};
-ghost use Rattle.allocating_routines.specs.Allocating.{IsMallocRoutine, keys_code, untagged, key_test, whole_bounds};
-ghost use Rattle.allocating_routines.specs.Allocating.{make_code, malloc_code};
+ghost use Rattle.allocating_routines.specs.Allocating.{IsAllocateRoutine, IsMallocRoutine, IsCallocRoutine, keys_code};
+ghost use Rattle.allocating_routines.specs.Allocating.{untagged, key_test, whole_bounds, make_code, malloc_code};
+ghost use Rattle.allocating_routines.specs.Allocating.{product_code, null_code, calloc_code};
 
 use crate::lists::{joined, unless};
 use crate::zeroing::zero;
@@ -34,6 +35,48 @@ pub fn malloc<S: ShadowForm>(
     requires distinct { AreDistinct (held_registers into) }
     requires room { scratch + 16 ≤ 2 ^ 31 }
     ensures { IfOk result (λ r. IsMallocRoutine map.now S.entry (S.IsGood map.now) size into line scratch r.items) }
+{
+    allocate::<S>(alloc, map, size, into, line, scratch)
+}
+
+/// Gives in `into` a pointer to a new block of zero bytes, as many as the product of what `count` and `size` hold; or
+/// null, where the product is 2^64 or more, or as for `malloc`.
+pub fn calloc<S: ShadowForm>(
+    alloc: Global,
+    map: &AddrMap,
+    count: u32,
+    size: u32,
+    into: Held,
+    line: Line,
+    scratch: u32,
+) -> Result<Vec<FlatInstruction>, AllocError>
+    requires map { AreMapped map.now }
+    requires below { AreBelow scratch (count ∷ size ∷ held_registers into) }
+    requires distinct { AreDistinct (held_registers into) }
+    requires room { scratch + 32 ≤ 2 ^ 31 }
+    ensures { IfOk result
+        (λ r. IsCallocRoutine map.now S.entry (S.IsGood map.now) count size into line scratch r.items) }
+{
+    let block = allocate::<S>(alloc, map, scratch + 1, into, line, scratch + 2)?;
+    let r = calloc_list(alloc, block.as_slice(), count, size, into, scratch)?;
+    Ok(r)
+}
+
+// A block of as many bytes as `size` holds, for whatever routine asks for one.
+pub(crate) fn allocate<S: ShadowForm>(
+    alloc: Global,
+    map: &AddrMap,
+    size: u32,
+    into: Held,
+    line: Line,
+    scratch: u32,
+) -> Result<Vec<FlatInstruction>, AllocError>
+    requires map { AreMapped map.now }
+    requires below { AreBelow scratch (size ∷ held_registers into) }
+    requires apart { AreNoneOf (size ∷ []) (held_registers into) }
+    requires distinct { AreDistinct (held_registers into) }
+    requires room { scratch + 16 ≤ 2 ^ 31 }
+    ensures { IfOk result (λ r. IsAllocateRoutine map.now S.entry (S.IsGood map.now) size into line scratch r.items) }
 {
     S::entries_are_local();
     let key = scratch + 1;
@@ -208,6 +251,84 @@ fn whole_bounds(
             into: into.tag.bound,
             left: address,
             right: RightOperand::Register(size),
+        },
+    ];
+    Vec::from_slice(alloc, &code)
+}
+
+fn calloc_list(
+    alloc: Global,
+    block: &[FlatInstruction],
+    count: u32,
+    size: u32,
+    into: Held,
+    scratch: u32,
+) -> Result<Vec<FlatInstruction>, AllocError>
+    requires { scratch + 16 ≤ 2 ^ 31 }
+    ensures { IfOk result (λ r. r.items ≡ calloc_code block.now count size into scratch (scratch + 1)) }
+{
+    let product = product_list(alloc, count, size, scratch, scratch + 1)?;
+    let null = null_list(alloc, into)?;
+    let branch = unless(
+        alloc,
+        BranchOp::Bne,
+        scratch,
+        RightOperand::Number(0),
+        block,
+    )?;
+    let rest = joined(alloc, null.as_slice(), branch.as_slice())?;
+    joined(alloc, product.as_slice(), rest.as_slice())
+}
+
+fn product_list(
+    alloc: Global,
+    count: u32,
+    size: u32,
+    upper: u32,
+    lower: u32,
+) -> Result<Vec<FlatInstruction>, AllocError>
+    ensures { IfOk result (λ r. r.items ≡ product_code count size upper lower) }
+{
+    let code = [
+        FlatInstruction::Operate {
+            op: RegOp::Mulhu,
+            into: upper,
+            left: count,
+            right: RightOperand::Register(size),
+        },
+        FlatInstruction::Operate {
+            op: RegOp::Mul,
+            into: lower,
+            left: count,
+            right: RightOperand::Register(size),
+        },
+    ];
+    Vec::from_slice(alloc, &code)
+}
+
+fn null_list(alloc: Global, into: Held) -> Result<Vec<FlatInstruction>, AllocError>
+    ensures { IfOk result (λ r. r.items ≡ null_code into) }
+{
+    let code = [
+        FlatInstruction::Constant {
+            into: into.value,
+            value: 0,
+        },
+        FlatInstruction::Constant {
+            into: into.tag.base,
+            value: 0,
+        },
+        FlatInstruction::Constant {
+            into: into.tag.bound,
+            value: 0,
+        },
+        FlatInstruction::Constant {
+            into: into.tag.key,
+            value: 0,
+        },
+        FlatInstruction::Constant {
+            into: into.tag.lock,
+            value: 0,
         },
     ];
     Vec::from_slice(alloc, &code)

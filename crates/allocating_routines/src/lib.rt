@@ -7,6 +7,6 @@ pub mod freeing;
 mod lists;
 pub mod zeroing;
 
-pub use crate::allocating::malloc;
+pub use crate::allocating::{calloc, malloc};
 pub use crate::freeing::free;
 pub use crate::zeroing::zero;

@@ -16,20 +16,24 @@ use Rattle.allocating_routines.proofs.TableRows.{has_start}
 
 -- ---- rows
 
+by_some : (n z : ℕ) → Some n ≡ Some z → n ≡ z
+by_some n z e = cc
+
 pub found_row : (a k z : ℕ) (rows : List BlockRow) → size_of a k rows ≡ Some z
     → (i : ℕ) × (i < length rows) × ((get_or rows i no_row).start ≡ a) × ((get_or rows i no_row).key ≡ k)
+    × ((get_or rows i no_row).size ≡ z)
 found_row a k z [] e = absurd cc
 found_row a k z (r ∷ rs) e = by (λ h. found_row a k z rs h) (r.start == a) (r.key == k) refl refl e
   where
     by : (size_of a k rs ≡ Some z → (i : ℕ) × (i < length rs) × ((get_or rs i no_row).start ≡ a)
-        × ((get_or rs i no_row).key ≡ k))
+        × ((get_or rs i no_row).key ≡ k) × ((get_or rs i no_row).size ≡ z))
         → (b c : Bool) → (r.start == a) ≡ b → (r.key == k) ≡ c
         → (if b && c then Some r.size else size_of a k rs) ≡ Some z
         → (i : ℕ) × (i < length (r ∷ rs)) × ((get_or (r ∷ rs) i no_row).start ≡ a)
-        × ((get_or (r ∷ rs) i no_row).key ≡ k)
-    by again true true p q h = (0, omega arith, eqb-true r.start a p, eqb-true r.key k q)
-    by again true false p q h = let x = again h in (suc x.0, (let l = x.1 in omega arith), x.2, x.3)
-    by again false c p q h = let x = again h in (suc x.0, (let l = x.1 in omega arith), x.2, x.3)
+        × ((get_or (r ∷ rs) i no_row).key ≡ k) × ((get_or (r ∷ rs) i no_row).size ≡ z)
+    by again true true p q h = (0, omega arith, eqb-true r.start a p, eqb-true r.key k q, by_some r.size z h)
+    by again true false p q h = let x = again h in (suc x.0, (let l = x.1 in omega arith), x.2, x.3, x.4)
+    by again false c p q h = let x = again h in (suc x.0, (let l = x.1 in omega arith), x.2, x.3, x.4)
 
 pub no_row_found : (a k : ℕ) (rows : List BlockRow) → size_of a k rows ≡ None → (i : ℕ) → i < length rows
     → (get_or rows i no_row).start ≡ a → (get_or rows i no_row).key ≡ k → ⊥
@@ -64,7 +68,7 @@ parts_of_start o a e = by o.storage (a == o.address) refl refl e
 module _ (g : Views) (k : Keys) (objects : Objects) (m : Bytes) (st : StandsFor g k objects m) (n a : ℕ)
     (live : (object_at objects n).is_live ≡ true) where
   pub found_is_start : (z : ℕ) → size_of a (k.held n).key (g.blocks m) ≡ Some z
-      → (is_block_start (object_at objects n) a ≡ true) × HasStart a (g.blocks m)
+      → (is_block_start (object_at objects n) a ≡ true) × HasStart a (g.blocks m) × (z ≡ (object_at objects n).size)
   found_is_start z e =
       let r = found_row a (k.held n).key z (g.blocks m) e in
       let b = st.table.block_of r.0 r.1 in
@@ -76,6 +80,7 @@ module _ (g : Views) (k : Keys) (objects : Objects) (m : Bytes) (st : StandsFor 
         start_of (object_at objects n) a (subst (λ j. (object_at objects j).storage ≡ Allocated) same b.1.block)
             (sym r.2 ∙ b.1.start ∙ ap (λ j. (object_at objects j).address) same),
         has_start a (g.blocks m) r.0 r.1 r.2,
+        sym r.4 ∙ b.1.size ∙ ap (λ j. (object_at objects j).size) same,
       )
 
   pub not_found_is_none : size_of a (k.held n).key (g.blocks m) ≡ None

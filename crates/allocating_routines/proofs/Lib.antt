@@ -13,6 +13,8 @@ pub mod Mallocs
 pub mod SourceFrees
 pub mod FoundRows
 pub mod BlockDeath
+pub mod FreedTests
+pub mod BlockEnds
 pub mod Frees
 pub mod Leaving
 pub mod Callocs

@@ -18,3 +18,4 @@ pub mod BlockEnds
 pub mod Frees
 pub mod Leaving
 pub mod Callocs
+pub mod SourceReallocs

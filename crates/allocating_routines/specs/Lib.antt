@@ -3,3 +3,4 @@ pub mod Premises
 pub mod Births
 pub mod Allocating
 pub mod Freeing
+pub mod Reallocating

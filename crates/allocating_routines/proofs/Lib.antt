@@ -19,3 +19,4 @@ pub mod Frees
 pub mod Leaving
 pub mod Callocs
 pub mod SourceReallocs
+pub mod Replaces

@@ -5,7 +5,7 @@ use Rattle.obj_memory.specs.declared.value.Value.{Value}
 use Rattle.flat_meaning.specs.Memory.{Bytes}
 use Rattle.flat_meaning.specs.State.{State}
 use Rattle.flat_routines.specs.Registers.{OthersStay}
-use Rattle.flat_routines.specs.Routine.{Outcome, Continues, Halts}
+use Rattle.flat_routines.specs.Routine.{Outcome, Continues, Halts, Either}
 use Rattle.flat_routines.specs.Metadata.{ShowsNothing}
 use Rattle.flat_objects.specs.StandsFor.{Views, Keys}
 use Rattle.flat_actions.specs.Actions.{Holder, registers_of, HasGiven, HasEnded, Leaves}
@@ -36,3 +36,9 @@ module _ (g : Views) (k : Keys) (IsGood : Bytes → Type 0) (result : Holder) (t
   leaves_from (Gives v x') (Halts status report s') h = absurd h
   leaves_from (Ended e x') (Continues s') h = absurd h
   leaves_from (Paused x') y h = absurd h
+
+-- a fact of an outcome, by whether the run goes on
+pub either_of : (Q : Outcome → Type 0) (y : Outcome) → Q y
+    → Either (λ s. Q (Continues s)) (λ status report s. Q (Halts status report s)) y
+either_of Q (Continues s) q = q
+either_of Q (Halts status report s) q = q

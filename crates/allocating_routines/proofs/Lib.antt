@@ -20,3 +20,4 @@ pub mod Leaving
 pub mod Callocs
 pub mod SourceReallocs
 pub mod Replaces
+pub mod Reallocs

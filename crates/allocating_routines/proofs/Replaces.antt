@@ -9,6 +9,7 @@ use Rattle.obj_memory.specs.declared.object.Storage.TheVariants.{Allocated}
 use Rattle.obj_memory.specs.declared.value.Value.{Value}
 use Rattle.obj_memory.specs.declared.value.Place.{Place}
 use Rattle.obj_memory.specs.Objects.{ObjectState, Objects, object_at, new_object, with_new, with_dead}
+use Rattle.obj_memory.specs.Heap.{block_count}
 use Rattle.obj_memory.specs.Judgement.{place_in}
 use Rattle.obj_memory.specs.Access.{move_range}
 use Rattle.obj_memory.specs.Sound.{IsPlace, KeepsObjects}
@@ -25,11 +26,11 @@ use Rattle.flat_meaning.specs.Words.{IsOfWords}
 use Rattle.flat_meaning.specs.Meaning.{Context, Goes}
 use Rattle.flat_routines.specs.declared.registers.Held.{Held}
 use Rattle.flat_routines.specs.Registers.{AreBelow, AreNoneOf, IsNoneOf, OthersStay}
-use Rattle.flat_routines.specs.Routine.{HasAt, Outcome, Reaches, Never}
+use Rattle.flat_routines.specs.Routine.{HasAt, Outcome, Continues, Reaches, Never}
 use Rattle.flat_routines.specs.Effects.{worked, effects}
 use Rattle.flat_routines.specs.Metadata.{View, held_registers, ShowsNothing}
 use Rattle.flat_routines.proofs.Steps.{has_front, has_back}
-use Rattle.flat_routines.proofs.Rules.{next, weaken}
+use Rattle.flat_routines.proofs.Rules.{next, weaken, arrived}
 use Rattle.flat_routines.proofs.Distinct.{AreRegisters}
 use Rattle.flat_routines.proofs.Regions.{laid_out}
 use Rattle.flat_objects.specs.StandsFor.{Views, Keys, Spells, IsHere, StandsFor}
@@ -43,11 +44,12 @@ use Rattle.heap_space.specs.Routines.{IsReleaseRoutine as IsUnlistRoutine}
 use Rattle.heap_space.proofs.Regions.{not_below, is_below}
 use Rattle.flat_actions.specs.Actions.{IsFor, Pointer, HasGiven, StaysElsewhere, views_of}
 use Rattle.flat_actions.specs.Ranges.{IsObjectRange, IsToMove, HasMovedTagged, IsTaggedMoveRoutine}
-use Rattle.flat_actions.proofs.Standing.{shown_still, spells_still, none_of_none}
+use Rattle.flat_actions.proofs.Standing.{good_still, shown_still, spells_still, none_of_none}
 use Rattle.allocating_routines.specs.Reallocating.{lesser_code, replace_code}
 use Rattle.allocating_routines.proofs.Stretches.{IsDone, stretch_on, goes_past, goes_into, shows_both, shows_worked}
 use Rattle.allocating_routines.proofs.Stretches.{words_worked}
 use Rattle.allocating_routines.proofs.Zeroed.{AreLocal}
+use Rattle.allocating_routines.proofs.Allocates.{rows_are_blocks}
 use Rattle.allocating_routines.proofs.BlockBirth.{LiesInHeap}
 use Rattle.allocating_routines.proofs.BlockEnds.{HasEndedBlock, ends_block}
 use Rattle.allocating_routines.proofs.SourceBlocks.{made_in}
@@ -342,3 +344,37 @@ module _ (map : MapSizes) (mapped : AreMapped map) (entry : View) (IsGood : Byte
           elsewhere = elsewhere6;
           others = λ r m none. others6 r m tt ∙ h3.others r (omega arith) none;
         }
+
+  -- ---- all of it
+
+  pub replaces_reached : (code : List FlatInstruction) (pc end : ℕ) (R : Outcome → Type 0) → IsOfWords s3
+      → HasAt code pc (replace_code move unlist unlock size (t + 1))
+      → pc + 2 + length move + length unlist + length unlock ≡ end
+      → ((s6 : State) → HasGiven g k IsGood (Pointer into) t x s2 (new_pointer x.objects p z) (ended_in n x2) s6
+      → R (Continues s6))
+      → Reaches c code (suc (1 + ((40 + 16 * l) + ((16 + 16 * block_count x2.objects) + (11 + 0))))) (Goes pc s3) end R
+  replaces_reached code pc end R w has at_end on =
+      let two = has_back code pc (lesser_code size (t + 1)) (move ++ (unlist ++ unlock)) has in
+      let three = has_back code (pc + 2) move (unlist ++ unlock) two in
+      let count = block_count x2.objects in
+      lessens code ((40 + 16 * l) + ((16 + 16 * count) + (11 + 0))) pc end R w
+      (has_front code pc (lesser_code size (t + 1)) (move ++ (unlist ++ unlock)) has)
+      (λ s4 w4 q4.
+      next c code (40 + 16 * l) ((16 + 16 * count) + (11 + 0)) (Goes (pc + 2) s4) (pc + 2 + length move) end
+      (HasMovedTagged map entry IsGood into.value old.value l (t + 4) s4) Never R w4
+      ((moves l charge weight).from code (pc + 2) s4 (has_front code (pc + 2) move (unlist ++ unlock) two) w4
+      (to_move s4 q4, good_still map IsGood s3.memory s4.memory q4.memory h3.stands.spaces))
+      (λ s5 w5 q5.
+      let stands = stands5 s4 q4 s5 q5 in
+      let same = rows_are_blocks map k1 x2.objects s5.memory stands.objects.table stands.objects.disjoint in
+      weaken c code ((16 + 16 * block_total map s5.memory) + (11 + 0)) ((16 + 16 * count) + (11 + 0))
+      (Goes (pc + 2 + length move) s5) end R R (omega arith) (λ y q. q)
+      (ends_block map mapped entry IsGood local old.value old.tag.lock t (old_below.0, (old_below.1.1.1.1.0, tt)) unlist
+      unlock unlists unlocks functions types k1 x2 n (live2 s4 q4 s5 q5) (block2 s4 q4 s5 q5) charge weight s5 stands
+      (start5 s4 q4 s5 q5) (lock5 s4 q4 s5 q5) code 0 (pc + 2 + length move) end R w5
+      (has_front code (pc + 2 + length move) unlist unlock three)
+      (has_back code (pc + 2 + length move) unlist unlock three)
+      (λ s6 w6 q6.
+      arrived c code 0 s6 (pc + 2 + length move + length unlist + length unlock) end R at_end
+      (on s6 (given6 s4 q4 s5 q5 s6 q6)))))
+      (λ status report s' never. absurd never))

@@ -1,3 +1,4 @@
 pub mod Actions
 pub mod Ranges
 pub mod Scanning
+pub mod Start

@@ -1,2 +1,4 @@
 pub mod Entries
 pub mod Clearing
+pub mod Starting
+pub mod DirectStart

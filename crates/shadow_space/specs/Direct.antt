@@ -1,7 +1,8 @@
 -- The direct form: the entry of a word stands at four times its address. Objects begin at 0x10000000, and the shadow
 -- space
 -- at four times that.
-use Rattle.std.specs.Prelude.{ℕ, ◌*◌, List, [], ◌∷◌, ◌++◌}
+use Rattle.std.specs.Prelude.{ℕ, ◌-◌, ◌*◌, List, [], ◌∷◌, ◌++◌, replicate}
+use Rattle.addr_map.specs.Places.{MapSizes, objects_begin, whole_pages}
 use Rattle.rv_isa.specs.declared.instruction.BranchOp.TheVariants.{Bgeu}
 use Rattle.rv_isa.specs.declared.instruction.RegOp.TheVariants.{Add, Sll}
 use Rattle.rv_isa.specs.declared.instruction.LoadOp.TheVariants.{Ld}
@@ -12,6 +13,8 @@ use Rattle.flat_meaning.specs.declared.instruction.FlatInstruction.TheVariants.{
 use Rattle.flat_routines.specs.declared.registers.Entry.{Entry}
 use Rattle.flat_routines.specs.Routine.{until_code}
 use Rattle.flat_routines.specs.Metadata.{View, metadata_at}
+use Rattle.shadow_space.specs.declared.start.StartEntry.{StartEntry}
+use Rattle.shadow_space.specs.Start.{metadata_of, with_entry, begun}
 
 abbrev pub direct_entry : View
 direct_entry m a = metadata_at m (4 * a)
@@ -44,3 +47,11 @@ clear_one c z = store_entry c (same_register z) ++ Operate Add c c (Number 32) �
 abbrev pub direct_clear : (first bytes cursor end zero : ℕ) → List FlatInstruction
 direct_clear first bytes c e z =
     begin_clear first bytes c e z ++ until_code Bgeu c (Register e) (clear_one c z)
+
+-- the entries that stand in bytes, from the first of object space on
+abbrev pub direct_put : List ℕ → StartEntry → List ℕ
+direct_put bytes e = with_entry (4 * (e.at - objects_begin)) (metadata_of e) bytes
+
+-- four bytes for each of static objects
+abbrev pub direct_start : MapSizes → List StartEntry → List ℕ
+direct_start s es = begun direct_put es (replicate (4 * whole_pages s.global_bytes) 0)

@@ -1,14 +1,20 @@
 //! The direct form.
 
-ghost use Rattle.std.specs.Prelude.{◌≡◌, ◌+◌, ◌≤◌, ◌^◌, IfOk};
+ghost use Rattle.std.specs.Prelude.{◌≡◌, ◌+◌, ◌≤◌, ◌^◌, IfOk, length};
+ghost use Rattle.addr_map.specs.Places.{AreMapped};
 ghost use Rattle.shadow_space.specs.Direct.{direct_entry, direct_read, direct_write, direct_clear};
+ghost use Rattle.shadow_space.specs.Start.{AreStartEntries, StartsShadow};
 
 use crate::form::ShadowForm;
+use crate::start::{StartEntry, put_entry};
 use addr_map::AddrMap;
 use flat_meaning::{FlatInstruction, RightOperand};
 use flat_routines::Entry;
 use rv_isa::{BranchOp, LoadOp, RegOp, StoreOp};
 use std::alloc::{AllocError, Global};
+
+// The first address of object space.
+const OBJECTS: u64 = 0x1000_0000;
 
 /// The form in which the entry of each word has a place of its own, at four times the word's address.
 pub struct Direct;
@@ -49,6 +55,25 @@ impl ShadowForm for Direct {
     }
 
     fn entries_are_local() {}
+
+    fn start(alloc: Global, map: &AddrMap, entries: &[StartEntry]) -> Result<Vec<u8>, AllocError> {
+        start_bytes(alloc, map, entries)
+    }
+}
+
+// The entry of the first word stands first.
+fn start_bytes(alloc: Global, map: &AddrMap, entries: &[StartEntry]) -> Result<Vec<u8>, AllocError>
+    requires map { AreMapped map.now }
+    requires entries { AreStartEntries map.now entries.now }
+    ensures does { IfOk result (λ r. StartsShadow map.now direct_entry (λ _. Unit {0}) entries.now r.items) }
+    ensures short { IfOk result (λ r. length r.items ≤ 2 ^ 25) }
+{
+    let size = 4 * (map.global_bytes().div_ceil(4096) * 4096);
+    let mut bytes = vec![in alloc; 0; size as usize]?;
+    for entry in entries {
+        put_entry(&mut bytes, (4 * (entry.at - OBJECTS)) as usize, entry);
+    }
+    Ok(bytes)
 }
 
 // Four times an address is its bits shifted by two.

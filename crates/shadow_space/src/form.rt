@@ -6,7 +6,9 @@ ghost use Rattle.flat_meaning.specs.Memory.{Bytes};
 ghost use Rattle.flat_routines.specs.Registers.{AreDistinct, AreBelow};
 ghost use Rattle.flat_routines.specs.Metadata.{View, IsObjectWord, KeepsShadow, entry_registers};
 ghost use Rattle.shadow_space.specs.Form.{IsReadRoutine, IsWriteRoutine, IsClearRoutine};
+ghost use Rattle.shadow_space.specs.Start.{AreStartEntries, StartsShadow};
 
+use crate::start::StartEntry;
 use addr_map::AddrMap;
 use flat_meaning::FlatInstruction;
 use flat_routines::Entry;
@@ -70,4 +72,13 @@ pub trait ShadowForm {
     fn entries_are_local()
         ensures { (map : MapSizes) (m m' : Bytes) → AreMapped map → KeepsShadow map m m' → IsGood map m
             → IsGood map m' × ((a : ℕ) → IsObjectWord map a → entry m' a ≡ entry m a) };
+
+    /// The bytes with which the region of the shadow space begins, where all behind them is zero: then each of these
+    /// words of static objects reads as its entry, every other word as one without a pointer, and what holds whenever
+    /// a routine is called does. At most 32 MiB; the only refusal is that memory fails.
+    fn start(alloc: Global, map: &AddrMap, entries: &[StartEntry]) -> Result<Vec<u8>, AllocError>
+        requires map { AreMapped map.now }
+        requires entries { AreStartEntries map.now entries.now }
+        ensures does { IfOk result (λ r. StartsShadow map.now entry (IsGood map.now) entries.now r.items) }
+        ensures short { IfOk result (λ r. length r.items ≤ 2 ^ 25) };
 }

@@ -7,6 +7,8 @@
 
 pub mod direct;
 pub mod form;
+pub mod start;
 
 pub use crate::direct::Direct;
 pub use crate::form::ShadowForm;
+pub use crate::start::StartEntry;

@@ -80,7 +80,7 @@ module _ (s : MapSizes) (lie : AreLevelsLaidOut s) (m : Bytes) (g : AreTablesGoo
       let below = t.1 in let at = t.2 in let o = offset_below s a w in
       (omega arith, omega arith)
 
-  cell_kept : (q : ℕ) → q < pages s → table_of after q ≡ table_of m q
+  pub cell_kept : (q : ℕ) → q < pages s → table_of after q ≡ table_of m q
   cell_kept q l =
       let b = spot_within in let lo = b.0 in
       load_kept 8 m after (page_cell q)

@@ -6,6 +6,7 @@
 #![tactic(auto)]
 
 pub mod laws;
+pub mod start;
 pub mod two_level;
 
 pub use crate::two_level::TwoLevel;

@@ -5,11 +5,12 @@ ghost use Rattle.addr_map.specs.Places.{AreMapped};
 ghost use Rattle.two_level_shadow.specs.Tables.{two_level_entry, AreTablesGood, first_table};
 ghost use Rattle.two_level_shadow.specs.Code.{two_level_read, two_level_write, two_level_clear};
 
+use crate::start::start_bytes;
 use addr_map::AddrMap;
 use flat_meaning::{FlatInstruction, RightOperand};
 use flat_routines::Entry;
 use rv_isa::{BranchOp, LoadOp, RegOp, StoreOp};
-use shadow_space::ShadowForm;
+use shadow_space::{ShadowForm, StartEntry};
 use std::alloc::{AllocError, Global};
 
 // The first address of object space, that of the shadow space, and that of the first level behind the cell of the
@@ -60,10 +61,14 @@ impl ShadowForm for TwoLevel {
     }
 
     fn entries_are_local() {}
+
+    fn start(alloc: Global, map: &AddrMap, entries: &[StartEntry]) -> Result<Vec<u8>, AllocError> {
+        start_bytes(alloc, map, entries)
+    }
 }
 
 // The address of the first table: behind the cell and a word for each page.
-fn first_table(map: &AddrMap) -> u64
+pub(crate) fn first_table(map: &AddrMap) -> u64
     ensures { result ≡ first_table map.now }
 {
     let budgets = map.budgets();

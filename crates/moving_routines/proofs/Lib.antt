@@ -1,0 +1,13 @@
+pub mod Steps
+pub mod Copying
+pub mod Cells
+pub mod Bytes
+pub mod Fills
+pub mod Words
+pub mod Tagged
+pub mod Judged
+pub mod Guarded
+pub mod Moves
+pub mod Acts
+pub mod Sets
+pub mod Copies

@@ -1,0 +1,14 @@
+//! Ranges of object space that functions of the runtime move and fill, and the library's `memcpy`, `memmove`, `memset`
+//! and the assignment of structures, as whole actions, for any form of the shadow space.
+#![tactic(auto)]
+
+pub mod filling;
+pub mod library;
+mod lists;
+pub mod moving;
+pub mod structures;
+
+pub use crate::filling::fill;
+pub use crate::library::{memmove, memset};
+pub use crate::moving::{move_bytes, move_tagged};
+pub use crate::structures::copy_structure;

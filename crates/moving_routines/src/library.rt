@@ -1,0 +1,123 @@
+//! `memcpy`, `memmove` and `memset` (C99 7.21.2, 7.21.6) as whole actions.
+
+ghost use Rattle.std.specs.Prelude.{◌≡◌, ℕ, ◌+◌, ◌≤◌, ◌<◌, ◌^◌, ◌++◌, IfOk, [], ◌∷◌, length};
+ghost use Rattle.addr_map.specs.Places.{AreMapped};
+ghost use Rattle.flat_routines.specs.Registers.{AreBelow, AreNoneOf, AreDistinct};
+ghost use Rattle.flat_routines.specs.Metadata.{held_registers};
+ghost use Rattle.moving_routines.specs.Library.{runtime_ground, MovesObjects, CopiesObjects, SetsObjects};
+ghost use Rattle.moving_routines.specs.Library.{guarded_code};
+
+use crate::filling::fill;
+use crate::lists::{joined, unless};
+use crate::moving::move_tagged;
+use addr_map::AddrMap;
+use flat_judging::judge;
+use flat_meaning::{FlatInstruction, RightOperand};
+use flat_routines::Held;
+use rv_isa::BranchOp;
+use sb_base::Line;
+use shadow_space::ShadowForm;
+use std::alloc::{AllocError, Global};
+
+/// `memmove` and `memcpy`, of as many bytes as `size` holds: the destination is judged, then the source, and the bytes
+/// are moved with their tags; nothing is judged where there are none. What it gives, the pointer in `to`, is put into
+/// the registers of `into`. It may write the registers from `scratch` on. The only refusal is that memory fails.
+pub fn memmove<S: ShadowForm>(
+    alloc: Global,
+    map: &AddrMap,
+    to: Held,
+    from: Held,
+    size: u32,
+    into: Held,
+    line: Line,
+    scratch: u32,
+) -> Result<Vec<FlatInstruction>, AllocError>
+    requires map { AreMapped map.now }
+    requires to { AreBelow scratch (held_registers to) }
+    requires from { AreBelow scratch (held_registers from) }
+    requires size { size < scratch }
+    requires into { AreBelow scratch (held_registers into) }
+    requires distinct { AreDistinct (held_registers into) }
+    requires others { AreNoneOf (held_registers to) (held_registers into) }
+    requires room { scratch + 8 ≤ 2 ^ 31 }
+    ensures memmove { IfOk result (λ r. MovesObjects (runtime_ground map.now S.entry (S.IsGood map.now)) to from size
+        into line scratch r.items) }
+    ensures memcpy { IfOk result (λ r. CopiesObjects (runtime_ground map.now S.entry (S.IsGood map.now)) to from size
+        into line scratch r.items) }
+{
+    let first = judge(alloc, to, size, line, scratch)?;
+    let second = judge(alloc, from, size, line, scratch)?;
+    let act = move_tagged::<S>(alloc, map, to.value, from.value, size, scratch)?;
+    let rest = joined(alloc, second.as_slice(), act.as_slice())?;
+    let whole = joined(alloc, first.as_slice(), rest.as_slice())?;
+    let code = guarded(alloc, size, to, into, whole.as_slice())?;
+    Ok(code)
+}
+
+/// `memset`, of as many bytes as `size` holds, with the low byte of `byte`: the range is judged and then filled;
+/// nothing is judged where there are no bytes. What it gives, the pointer in `to`, is put into the registers of `into`.
+/// It may write the registers from `scratch` on. The only refusal is that memory fails.
+pub fn memset<S: ShadowForm>(
+    alloc: Global,
+    map: &AddrMap,
+    to: Held,
+    byte: u32,
+    size: u32,
+    into: Held,
+    line: Line,
+    scratch: u32,
+) -> Result<Vec<FlatInstruction>, AllocError>
+    requires map { AreMapped map.now }
+    requires to { AreBelow scratch (held_registers to) }
+    requires byte { byte < scratch }
+    requires size { size < scratch }
+    requires into { AreBelow scratch (held_registers into) }
+    requires distinct { AreDistinct (held_registers into) }
+    requires others { AreNoneOf (held_registers to) (held_registers into) }
+    requires room { scratch + 8 ≤ 2 ^ 31 }
+    ensures { IfOk result (λ r. SetsObjects (runtime_ground map.now S.entry (S.IsGood map.now)) to byte size into line
+        scratch r.items) }
+{
+    S::entries_are_local();
+    let first = judge(alloc, to, size, line, scratch)?;
+    let act = fill(alloc, map, to.value, byte, size, scratch)?;
+    let whole = joined(alloc, first.as_slice(), act.as_slice())?;
+    let code = guarded(alloc, size, to, into, whole.as_slice())?;
+    Ok(code)
+}
+
+// An act that is passed over where there are no bytes, after which a pointer is given.
+fn guarded(
+    alloc: Global,
+    size: u32,
+    from: Held,
+    into: Held,
+    act: &[FlatInstruction],
+) -> Result<Vec<FlatInstruction>, AllocError>
+    ensures { IfOk result (λ r. r.items ≡ guarded_code size from into act.now) }
+{
+    let first = unless(alloc, BranchOp::Beq, size, RightOperand::Number(0), act)?;
+    let give = [
+        FlatInstruction::Move {
+            into: into.value,
+            from: from.value,
+        },
+        FlatInstruction::Move {
+            into: into.tag.base,
+            from: from.tag.base,
+        },
+        FlatInstruction::Move {
+            into: into.tag.bound,
+            from: from.tag.bound,
+        },
+        FlatInstruction::Move {
+            into: into.tag.key,
+            from: from.tag.key,
+        },
+        FlatInstruction::Move {
+            into: into.tag.lock,
+            from: from.tag.lock,
+        },
+    ];
+    joined(alloc, first.as_slice(), &give)
+}

@@ -1,0 +1,27 @@
+use Rattle.std.proofs.Common.{arith}
+use Rattle.shadow_space.proofs.Starting.{place_of_entry}
+use Rattle.shadow_space.proofs.DirectStart.{bytes_started}
+use Rattle.shadow_space.proofs.direct.start_bytes.Goals as goal
+
+pub overflow_mul-entry : goal.overflow_mul-entry
+overflow_mul-entry c = omega (
+  arith,
+  place_of_entry c.args.map.now c.args.entries.now c.loop-entry.entry-index
+      (record { at = 0; base = 0; bound = 0; key = 0; lock = 0 }) c.loop-entry-test.true c.loop-entry.invariant.2,
+  c.requires.map.globals,
+)
+
+pub put_entry-requires : goal.put_entry-requires
+put_entry-requires c = record {
+  inside = omega (
+    arith,
+    place_of_entry c.args.map.now c.args.entries.now c.loop-entry.entry-index
+        (record { at = 0; base = 0; bound = 0; key = 0; lock = 0 }) c.loop-entry-test.true c.loop-entry.invariant.2,
+    c.loop-entry.invariant.1,
+  );
+}
+
+pub returns-clause-does : goal.returns-clause-does
+returns-clause-does c =
+    bytes_started c.args.map.now c.args.entries.now c.loop-entry.entry-index c.loop-entry.bytes.items c.requires.map
+    c.requires.entries c.loop-entry-test.false c.loop-entry.invariant.0

@@ -39,11 +39,15 @@ lesser_code a b = Branch Bgeu a (Register b) 1 ∷ Move b a ∷ []
 abbrev pub replace_code : (move unlist unlock : List FlatInstruction) → (size lesser : ℕ) → List FlatInstruction
 replace_code move unlist unlock size l = lesser_code size l ++ (move ++ (unlist ++ unlock))
 
--- over the routines that find a block, allocate one, move a range, take a block from the table and release a lock word
+-- over a routine that finds a block, one that allocates one, and what replaces a block
+abbrev pub guarded_code : (find allocate replace : List FlatInstruction) → (old into : Held) → (line word found : ℕ)
+    → List FlatInstruction
+guarded_code find allocate replace old into line x found =
+    unless_code Beq old.value (Number 0) (tests_code find old line x found)
+    ++ (allocate ++ unless_code Beq old.value (Number 0) (unless_code Beq into.value (Number 0) replace))
+
+-- and over those that move a range, take a block from the table and release a lock word
 abbrev pub realloc_code : (find allocate move unlist unlock : List FlatInstruction) → (old : Held) → (size : ℕ)
     → (into : Held) → (line word lesser found : ℕ) → List FlatInstruction
 realloc_code find allocate move unlist unlock old size into line x l found =
-    unless_code Beq old.value (Number 0) (tests_code find old line x found)
-    ++ (allocate
-    ++ unless_code Beq old.value (Number 0)
-    (unless_code Beq into.value (Number 0) (replace_code move unlist unlock size l)))
+    guarded_code find allocate (replace_code move unlist unlock size l) old into line x found

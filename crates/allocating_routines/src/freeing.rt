@@ -94,7 +94,8 @@ fn end_list(
     joined(alloc, life.as_slice(), after.as_slice())
 }
 
-fn life_test(
+// Whether the pointer has the tag of an object that lives.
+pub(crate) fn life_test(
     alloc: Global,
     pointer: Held,
     line: Line,
@@ -128,7 +129,8 @@ fn life_test(
     Vec::from_slice(alloc, &code)
 }
 
-fn found_test(alloc: Global, found: u32, line: Line) -> Result<Vec<FlatInstruction>, AllocError>
+// Whether a block was found.
+pub(crate) fn found_test(alloc: Global, found: u32, line: Line) -> Result<Vec<FlatInstruction>, AllocError>
     ensures { IfOk result (λ r. r.items ≡ found_test found line) }
 {
     let code = [

@@ -5,8 +5,10 @@
 pub mod allocating;
 pub mod freeing;
 mod lists;
+pub mod reallocating;
 pub mod zeroing;
 
 pub use crate::allocating::{calloc, malloc};
 pub use crate::freeing::free;
+pub use crate::reallocating::realloc;
 pub use crate::zeroing::zero;

@@ -21,3 +21,4 @@ pub mod Callocs
 pub mod SourceReallocs
 pub mod Replaces
 pub mod Reallocs
+pub mod SourceEntries

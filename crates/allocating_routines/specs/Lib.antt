@@ -4,3 +4,4 @@ pub mod Births
 pub mod Allocating
 pub mod Freeing
 pub mod Reallocating
+pub mod Entering

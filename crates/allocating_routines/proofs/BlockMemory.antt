@@ -17,7 +17,7 @@ use Rattle.heap_space.proofs.Regions.{table_laid_out}
 use Rattle.heap_space.proofs.Local.{rows_kept, good_kept as table_kept}
 use Rattle.flat_actions.specs.Actions.{AreSpacesGood}
 use Rattle.allocating_routines.specs.Zeroing.{IsZeroed}
-use Rattle.allocating_routines.specs.Births.{IsZeroRange, IsKeyTaken, IsBlockMade}
+use Rattle.allocating_routines.specs.Births.{IsZeroRange, IsKeyTaken, IsBlockMade, IsRangeMade}
 use Rattle.allocating_routines.specs.Freeing.{IsBlockEnded}
 use Rattle.allocating_routines.proofs.Zeroed.{AreLocal}
 
@@ -125,6 +125,38 @@ module _ (map : MapSizes) (mapped : AreMapped map) (entry : View) (IsGood : Byte
       behind = λ b l. (let a = lie.table in let c = lie.locks in
           zeroed.spaces b (omega arith) ∙ taken b (inr (omega arith)) ∙ table b (inr (omega arith)));
     }
+
+  -- ---- a range of the object stack becomes objects
+
+  pub range_made : (first bytes lock : ℕ) (m0 m1 m2 : Bytes) → AreSpacesGood map IsGood m0
+      → IsKeyTaken map lock m0 m1 → KeepsButLocks map m0 m1 → AreSpacesGood map IsGood m1
+      → IsZeroed map entry first bytes m1 m2 → AreSpacesGood map IsGood m2
+      → IsRangeMade map entry IsGood first bytes lock m0 m2
+  range_made first bytes lock m0 m1 m2 good key taken good1 zeroed good2 =
+      let words = locks_laid_out map mapped in
+      let locks : KeepsLocks map m1 m2 = λ i l. zeroed.spaces (region_start map Locks + i) (omega arith) in
+      let table : KeepsTable map m1 m2 = λ i l. zeroed.spaces (region_start map Blocks + i)
+      (let a = lie.locks in omega arith) in
+      record {
+        range = record {
+          zeros = zeroed.zeros;
+          low = λ b l out. zeroed.beside b l out ∙ taken b (inl (let a = lie.shadow in omega arith));
+          cleared = zeroed.cleared;
+          entries = λ b word out. zeroed.entries b word out
+              ∙ (local m0 m1 (shadow_by_locks m0 m1 taken) good.shadow).1 b word;
+        };
+        key = record {
+          was_free = key.was_free;
+          locked = lock_kept map m1 m2 words locks lock key.was_free.lock ∙ key.locked;
+          others = λ a l ne. lock_kept map m1 m2 words locks a l ∙ key.others a l ne;
+          counter = counter_kept map m1 m2 words locks ∙ key.counter;
+        };
+        rows = rows_kept map m1 m2 (table_laid_out map mapped) table good1.table
+            ∙ rows_kept map m0 m1 (table_laid_out map mapped) (table_by_locks m0 m1 taken) good.table;
+        good = good2;
+        behind = λ b l. (let a = lie.table in let c = lie.locks in
+            zeroed.spaces b (omega arith) ∙ taken b (inr (omega arith)));
+      }
 
   -- ---- a block is taken from the table, and its lock word released
 

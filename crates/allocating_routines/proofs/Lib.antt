@@ -22,3 +22,5 @@ pub mod SourceReallocs
 pub mod Replaces
 pub mod Reallocs
 pub mod SourceEntries
+pub mod EntryBirths
+pub mod BlockDeaths

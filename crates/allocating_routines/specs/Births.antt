@@ -42,3 +42,12 @@ pub record IsBlockMade (map : MapSizes) (entry : View) (IsGood : Bytes → Type 
       ≡ with_row (record { start = place; size = size; key = key_counter map m }) (block_rows map m)
   pub good : AreSpacesGood map IsGood m'
   pub behind : (b : ℕ) → region_start map StructureValues ≤ b → m' b ≡ m b
+
+-- a range of the object stack is zero, and a lock word has a new key
+pub record IsRangeMade (map : MapSizes) (entry : View) (IsGood : Bytes → Type 0) (first bytes lock : ℕ) (m m' : Bytes)
+    : Type 0 where
+  pub range : IsZeroRange map entry first bytes m m'
+  pub key : IsKeyTaken map lock m m'
+  pub rows : block_rows map m' ≡ block_rows map m
+  pub good : AreSpacesGood map IsGood m'
+  pub behind : (b : ℕ) → region_start map StructureValues ≤ b → m' b ≡ m b

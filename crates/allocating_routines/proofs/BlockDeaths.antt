@@ -14,7 +14,7 @@ use Rattle.source_meaning.proofs.Holding.{length-dead}
 use Rattle.flat_meaning.specs.Memory.{Bytes, load}
 use Rattle.flat_routines.specs.Metadata.{View, IsObjectWord}
 use Rattle.flat_routines.proofs.Regions.{laid_out}
-use Rattle.flat_objects.specs.StandsFor.{Views, Keys, no_row, IsRowOf, IsTable, StandsFor, global_lock}
+use Rattle.flat_objects.specs.StandsFor.{Views, Keys, no_row, IsLock, global_lock, IsRowOf, IsTable, StandsFor}
 use Rattle.flat_objects.specs.Changes.{AreDead}
 use Rattle.flat_objects.proofs.Changing.{live_is_made, word_of}
 use Rattle.flat_objects.proofs.Lives.{died}
@@ -108,6 +108,30 @@ is_home n (InObject o ∷ hs) = ⊎_elim
     (λ ne. ⊎_elim (λ h. inl (inr h)) (λ none. inr (λ h. ⊎_elim (λ e. ne e) (λ q. none q) h)) (is_home n hs))
     (cases_eq n o)
 
+-- ---- their lock word
+
+module _ (g : Views) (k : Keys) (x : Source) (homes : List Home) (lock : ℕ) (m : Bytes)
+    (st : StandsFor g k x.objects m) (of : AreOfLock k x homes lock) where
+  not_static : (n : ℕ) → IsHomeOf n homes → (object_at x.objects n).storage ≢ Static
+  not_static n h e = let no : Automatic ≡ Static = sym (of.under n h).1 ∙ e in cc
+
+  pub lock_not_global : lock ≢ global_lock g.sizes
+  lock_not_global e =
+      let u = of.under of.some of.some_home in
+      ((st.keyed.each of.some u.0).other (not_static of.some of.some_home)).2 (u.2 ∙ e)
+
+  pub lock_used : load 8 m lock ≢ 0
+  lock_used e =
+      let u = of.under of.some of.some_home in
+      let key = ((st.keyed.each of.some u.0).other (not_static of.some of.some_home)).0 in
+      let held = st.locks.live of.some of.some_live in
+      let at : (k.held of.some).key ≡ 0 = sym held ∙ ap (load 8 m) u.2 ∙ e in
+      omega arith
+
+  pub lock_is_one : IsLock g.sizes lock
+  lock_is_one =
+      let u = of.under of.some of.some_home in subst (IsLock g.sizes) u.2 (st.keyed.each of.some u.0).lock
+
 -- ---- the deaths
 
 module _ (map : MapSizes) (mapped : AreMapped map) (functions : ℕ) (types : ℕ → ℕ) (entry : View)
@@ -124,22 +148,6 @@ module _ (map : MapSizes) (mapped : AreMapped map) (functions : ℕ) (types : �
 
   abbrev new : Objects
   new = without_homes homes old
-
-  not_static : (n : ℕ) → IsHomeOf n homes → (object_at old n).storage ≢ Static
-  not_static n h e = let no : Automatic ≡ Static = sym (of.under n h).1 ∙ e in cc
-
-  pub lock_not_global : lock ≢ global_lock map
-  lock_not_global e =
-      let u = of.under of.some of.some_home in
-      ((st.keyed.each of.some u.0).other (not_static of.some of.some_home)).2 (u.2 ∙ e)
-
-  pub lock_used : load 8 m lock ≢ 0
-  lock_used e =
-      let u = of.under of.some of.some_home in
-      let key = ((st.keyed.each of.some u.0).other (not_static of.some of.some_home)).0 in
-      let held = st.locks.live of.some of.some_live in
-      let at : (k.held of.some).key ≡ 0 = sym held ∙ ap (load 8 m) u.2 ∙ e in
-      omega arith
 
   -- what lives still is no home
   still : (n : ℕ) → (object_at new n).is_live ≡ true
@@ -188,7 +196,7 @@ module _ (map : MapSizes) (mapped : AreMapped map) (functions : ℕ) (types : �
         stays = λ n l ne. without_other homes n old (λ h. ne (of.under n h).2);
         sound = without_sound functions homes old st.sound;
         disjoint = without_disjoint homes old st.disjoint;
-        not_global = lock_not_global;
+        not_global = lock_not_global g k x homes lock m st of;
         free = released;
         counter = counter;
         keeps = record {

@@ -31,7 +31,7 @@ use Rattle.allocating_routines.proofs.BlockBirth.{own_before, own_after, held_be
 use Rattle.allocating_routines.proofs.SourceEntries.{placed_objects, end_by_bytes, IsNewIn, ArePlacedFrom, placed_from}
 use Rattle.allocating_routines.proofs.SourceEntries.{some_placed, placed_sound, placed_separate}
 
-stack_in_space : (s : MapSizes) → AreMapped s
+pub stack_in_space : (s : MapSizes) → AreMapped s
     → (objects_begin ≤ region_start s Stack) × (region_end s Stack ≤ region_end s Heap)
 unfolding region_start region_size
 stack_in_space s h = (omega arith, omega arith)

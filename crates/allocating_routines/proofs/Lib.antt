@@ -24,3 +24,5 @@ pub mod Reallocs
 pub mod SourceEntries
 pub mod EntryBirths
 pub mod BlockDeaths
+pub mod LeftBlocks
+pub mod Enters

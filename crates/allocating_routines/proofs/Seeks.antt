@@ -31,17 +31,17 @@ use Rattle.allocating_routines.proofs.Stretches.{IsDone, stretch_on, shows_both}
 
 module _ (map : MapSizes) (lie : AreLocksLaidOut map) (charge weight keys : ℕ) (v : State)
     (counted : key_counter map v.memory ≡ 2 + keys) where
-  abbrev c0 : Context
+  abbrev pub c0 : Context
   c0 = context_of map true charge weight
 
-  keys_allowed : AreAllowed c0 (keys_code map 0 1) v
+  pub keys_allowed : AreAllowed c0 (keys_code map 0 1) v
   unfolding put reg_result
   keys_allowed =
       let f = lie.first in let d = lie.cells in let b = lie.blocks in let i = lie.inside in let s = lie.small in
       let at : (region_start map FreeLocks % 2 ^ 64 + 0) % 2 ^ 64 ≡ keys_cell map = omega arith in
       (tt, (allowed_at map _ (keys_cell map) 8 at (omega arith) (omega arith), (tt, tt)))
 
-  found_keys : (effects c0 (keys_code map 0 1) v).values 0 ≡ keys
+  pub found_keys : (effects c0 (keys_code map 0 1) v).values 0 ≡ keys
   unfolding put reg_result extended
   found_keys =
       let d = lie.cells in let b = lie.blocks in let s = lie.small in
@@ -57,7 +57,7 @@ module _ (map : MapSizes) (lie : AreLocksLaidOut map) (charge weight keys : ℕ)
       let there : load 8 v.memory (keys_cell map) ≡ keys = omega arith in
       ap (λ x. (load 8 v.memory x + 2) % 2 ^ 64) at ∙ ap (λ n. (n + 2) % 2 ^ 64) there
 
-  keys_shown : ShowsNothing v (effects c0 (keys_code map 0 1) v)
+  pub keys_shown : ShowsNothing v (effects c0 (keys_code map 0 1) v)
   unfolding put reg_result
   keys_shown = record { input = refl; output = refl; taken = refl; accesses = refl; turns = refl }
 

@@ -1,6 +1,6 @@
 -- The routine of a block that is entered.
 use Rattle.std.proofs.Common.{◌≡◌, ◌≢◌, ℕ, suc, ◌+◌, ◌-◌, ◌*◌, ◌/◌, ◌%◌, ◌^◌, ◌<◌, ◌≤◌, ◌⊎◌, List, [], ◌∷◌, ◌++◌, Bool}
-use Rattle.std.proofs.Common.{true, false, length, refl, sym, ap, ◌∙◌, subst, arith, length-append, ⊎_elim}
+use Rattle.std.proofs.Common.{true, false, inl, inr, length, refl, sym, ap, ◌∙◌, subst, arith, length-append, ⊎_elim}
 use Rattle.std.specs.Prelude.{nat_lt, nat_le}
 use Rattle.std.proofs.lemmas.Bool.{cases_lt, lt-ltb, le-ltb, le-leb, lt-leb}
 use Rattle.sb_base.specs.declared.ending.Ending.{Ending}
@@ -42,7 +42,7 @@ use Rattle.heap_space.specs.Table.{block_total, block_rows, row_cell}
 use Rattle.heap_space.proofs.Lists.{rows_length}
 use Rattle.flat_actions.specs.Actions.{AreSpacesGood, IsFor, HasEnded, views_of}
 use Rattle.flat_actions.proofs.Standing.{shown_still, ended_still}
-use Rattle.allocating_routines.specs.Zeroing.{HasZeroed, IsZeroRoutine}
+use Rattle.allocating_routines.specs.Zeroing.{IsZeroed, HasZeroed, IsZeroRoutine}
 use Rattle.allocating_routines.specs.Allocating.{keys_code, key_test}
 use Rattle.allocating_routines.specs.Births.{with_key, IsRangeMade}
 use Rattle.allocating_routines.specs.Entering.{block_bytes, CanEnter, EntryRegisters, registers_in, HasEntered, IsEntered}
@@ -296,3 +296,212 @@ module _ (map : MapSizes) (mapped : AreMapped map) (entry : View) (IsGood : Byte
           (is_not_less (s2.values t) (map.budgets.keys % 2 ^ 64) (omega arith))
           (ended c code 0 (KeysSpent line) (worked c s2) (pc + 10 + 1) (pc + length whole) R at_keys.1.0
           (over (KeysSpent line) (worked c s2) (shows_worked c s s2 d2.shows))))))
+
+      -- ---- the objects
+
+      module _ (left : x.keys < map.budgets.keys) where
+        few_keys : x.keys < 2 ^ 62
+        few_keys = let most = mapped.budgets.keys in omega arith
+
+        beneath : base < region_end map Stack
+        beneath = let e = end_is in let some = some_bytes vs 0 can.some can.sized in omega arith
+
+        rows_few : length (block_rows map s.memory) ≤ map.budgets.blocks
+        rows_few =
+            let e = rows_length s.memory (row_cell map 0) (block_total map s.memory) in
+            let few = f.spaces.table.few in omega arith
+
+        module _ (s2 : State) (d2 : HasCounted s2) where
+          abbrev y2 : State
+          y2 = worked c s2
+
+          can_fresh : CanFresh map y2.memory
+          can_fresh =
+              let lie = stack_laid_out map mapped in let aligned = lie.aligned in
+              let bottom = can.separate.bottom in
+              let free = free_for_automatics g k x.objects s.memory mapped f.objects f.spaces.locks can.bytes
+              can.separate.placed rows_few base
+              (λ n live e. (let l = can.separate.below n live (ap is_allocated e) in omega arith))
+              (omega arith) (omega arith) beneath in
+              let now = keys_counted in let few = few_keys in
+              subst (CanFresh map) (sym d2.memory) (record {
+                good = f.spaces.locks;
+                some = free.0;
+                some_free = free.1;
+                few = omega arith;
+              })
+
+          module _ (s3 : State) (d3 : HasFresh map to.key to.lock (t + 4) y2 s3) where
+            abbrev lock : ℕ
+            lock = s3.values to.lock
+
+            good2 : AreSpacesGood map IsGood y2.memory
+            good2 = subst (AreSpacesGood map IsGood) (sym d2.memory) f.spaces
+
+            good3 : AreSpacesGood map IsGood s3.memory
+            good3 = good_by_locks map mapped entry IsGood local y2.memory s3.memory d3.memory good2 d3.good
+
+            first3 : s3.values to.first ≡ base
+            first3 = d3.others to.first (let l = to_below.0 in omega arith) (distinct.0.1.0, (distinct.0.1.1.0, tt))
+                ∙ d2.first
+
+            bytes3 : s3.values bytes ≡ T
+            bytes3 = d3.others bytes (let l = ins_below.1.0 in omega arith) (apart.1.0.1.1.0, (apart.1.0.1.1.1.0, tt))
+                ∙ d2.bytes_there
+
+            module _ (s4 : State) (d4 : HasZeroed map entry IsGood to.first T (t + 4) s3 s4) where
+              made : IsRangeMade map entry IsGood base T lock s.memory s4.memory
+              made = subst (λ m. IsRangeMade map entry IsGood base T lock m s4.memory) d2.memory
+                  (range_made map mapped entry IsGood local base T lock y2.memory s3.memory s4.memory good2
+                  (record { was_free = d3.was_free; locked = d3.locked; others = d3.other_locks; counter = d3.counter })
+                  d3.memory good3
+                  (subst (λ a. IsZeroed map entry a T s3.memory s4.memory)
+                  first3 d4.memory) d4.good)
+
+              last_registers : AreRegisters (to.first ∷ bytes ∷ []) (to.end ∷ []) [] (t + 4)
+              last_registers =
+                  let a = to_below.0 in let b = to_below.1.0 in let e = ins_below.1.0 in
+                  record {
+                    none = ((distinct.0.0, tt), ((apart.1.0.1.0, tt), tt));
+                    distinct = (tt, tt);
+                    ins_below = (omega arith, (omega arith, tt));
+                    res_below = (omega arith, tt);
+                    from = tt;
+                    own_distinct = tt;
+                  }
+
+              module _ (s5 : State)
+                  (d5 : IsDone c (to.first ∷ bytes ∷ []) (to.end ∷ []) [] (t + 4) last_registers (end_of_block 0 1 2)
+                  refl s4 s5) where
+                memory5 : s5.memory ≡ s4.memory
+                memory5 = agrees_memory 3 _ _ s5 d5.agrees
+
+                abbrev k' : Keys
+                k' = with_key (length x.objects) lock k
+
+                shown : ShowsNothing s s5
+                shown =
+                    let a = shows_both s y2 s3 (shows_worked c s s2 d2.shows) d3.shows in
+                    shows_both s s4 s5 (shows_both s s3 s4 a d4.shows)
+                    (agrees_shows 3 _ _ s4 s5 d5.agrees
+                    (record { input = refl; output = refl; taken = refl; accesses = refl; turns = refl }))
+
+                stands : IsFor g k' IsGood (entered_in vs x) s5
+                stands = record {
+                  objects = subst (StandsFor g k' (entered_in vs x).objects) (sym memory5)
+                      (entry_born map mapped functions types entry IsGood k x.stacked x.objects vs lock s.memory s4.memory
+                      f.objects can.separate can.some fits made);
+                  spaces = subst (AreSpacesGood map IsGood) (sym memory5) d4.good;
+                  keys = (let e = f.keys in omega arith);
+                  shown = (let h = shown_still x s s5 shown f.shown in record {
+                    input = h.input;
+                    output = h.output;
+                    taken = h.taken;
+                    accesses = h.accesses;
+                  });
+                }
+
+                first5 : s5.values to.first ≡ base
+                first5 = d5.others to.first (let l = to_below.0 in omega arith) (distinct.0.0, tt)
+                    ∙ d4.others to.first (let l = to_below.0 in omega arith) tt ∙ first3
+
+                end5 : s5.values to.end ≡ objects_end vs x.stacked
+                unfolding put reg_result
+                end5 =
+                    let a = d4.others to.first (let l = to_below.0 in omega arith) tt ∙ first3 in
+                    let b = d4.others bytes (let l = ins_below.1.0 in omega arith) tt ∙ bytes3 in
+                    let e = end_is in let small = stack_small in
+                    sym (d5.agrees.values 2 (omega arith)) ∙ omega arith
+
+                key5 : s5.values to.key ≡ 2 + k.made
+                key5 = d5.others to.key (let l = to_below.1.1.0 in omega arith) ((λ e. distinct.1.0.0 (sym e)), tt)
+                    ∙ d4.others to.key (let l = to_below.1.1.0 in omega arith) tt
+                    ∙ d3.new_key ∙ ap (key_counter map) d2.memory ∙ f.objects.counted
+
+                lock5 : s5.values to.lock ≡ lock
+                lock5 = d5.others to.lock (let l = to_below.1.1.1.0 in omega arith) ((λ e. distinct.1.0.1.0 (sym e)), tt)
+                    ∙ d4.others to.lock (let l = to_below.1.1.1.0 in omega arith) tt
+
+                has_entered : HasEntered g k IsGood to t x s (entered_in vs x) s5
+                has_entered = record {
+                  keys = k';
+                  held = keys_keep (length x.objects) lock x.objects k (omega arith);
+                  stands = stands;
+                  first_is = first5;
+                  end_is = end5;
+                  share = λ n l. (let a = key5 in let b = lock5 in
+                      held_after (length x.objects) lock k n l
+                      ∙ ap (λ y. record { key = y; lock = lock }) (sym key5)
+                      ∙ ap (λ y. record { key = s5.values to.key; lock = y }) (sym lock5));
+                  turns = shown.turns;
+                  low = λ a l out. (let e = end_is in
+                      ap (λ m. m a) memory5
+                      ∙ made.range.low a l (⊎_elim (λ y. inl y) (λ y. inr (omega arith)) out));
+                  behind = λ a l. ap (λ m. m a) memory5 ∙ made.behind a l;
+                  others = λ r l none. d5.others r (omega arith) (none.1.0, tt) ∙ d4.others r (omega arith) tt
+                      ∙ d3.others r (omega arith) (none.1.1.0, (none.1.1.1.0, tt)) ∙ d2.others r l (none.0, tt);
+                }
+
+        entered : Goal code pc s (enter_block set vs line x)
+        entered =
+            let o = enters_block set vs line x space_is can.some
+            (ap (λ (y : MapSizes). nat_lt x.keys y.budgets.keys) same_sizes ∙ lt-ltb x.keys map.budgets.keys left) in
+            let R = IsEntered g k IsGood to t x s (Gives (block_of vs x) (entered_in vs x)) in
+            let few = few_bytes vs 0 can.sized in
+            let end : pc + 12 + length fresh + length zero + 1 ≡ pc + length whole = omega (arith, whole_length) in
+            subst (Goal code pc s) (sym o)
+            (weaken c code (5 + suc (3 + suc (14 + ((42 + 5 * T) + (1 + 0)))))
+            (100 + 40 * ((entered_in vs x).work - x.work)) (Goes pc s) (pc + length whole) R R (omega arith) (λ y q. q)
+            (counts (suc (14 + ((42 + 5 * T) + (1 + 0)))) R
+            (λ s2 w2 d2.
+            let made' = d2.made in let most = mapped.budgets.keys in
+            goes_past c code (14 + ((42 + 5 * T) + (1 + 0))) (pc + 10) (pc + 12) s2 Bltu t (Number map.budgets.keys) 1
+            (pc + length whole) R at_keys.0 (omega arith)
+            (is_less (s2.values t) (map.budgets.keys % 2 ^ 64) (omega arith))
+            (next c code 14 ((42 + 5 * T) + (1 + 0)) (Goes (pc + 12) (worked c s2)) (pc + 12 + length fresh)
+            (pc + length whole) (HasFresh map to.key to.lock (t + 4) (worked c s2)) Never R (words_worked c s2 w2)
+            ((freshens true charge weight).from code (pc + 12) (worked c s2)
+            (has_front code (pc + 12) fresh (zero ++ last) at_fresh) (words_worked c s2 w2) (can_fresh s2 d2))
+            (λ s3 w3 d3.
+            let first = first3 s2 d2 s3 d3 in let e = end_is in let space = stack_in_space map mapped in
+            let s0 = space.0 in let s1 = space.1 in let bottom = can.separate.bottom in
+            next c code (42 + 5 * T) (1 + 0) (Goes (pc + 12 + length fresh) s3) (pc + 12 + length fresh + length zero)
+            (pc + length whole) (HasZeroed map entry IsGood to.first T (t + 4) s3) Never R w3
+            ((zeroes T charge weight).from code (pc + 12 + length fresh) s3
+            (has_front code (pc + 12 + length fresh) zero last at_zero) w3
+            (
+              record {
+                size = bytes3 s2 d2 s3 d3;
+                aligned = omega arith;
+                range = record { first = omega arith; last = omega arith };
+              },
+              good3 s2 d2 s3 d3,
+            ))
+            (λ s4 w4 d4.
+            stretch_on c (to.first ∷ bytes ∷ []) (to.end ∷ []) [] (t + 4) (last_registers s2 d2 s3 d3 s4 d4)
+            (end_of_block 0 1 2) refl code 0 (pc + 12 + length fresh + length zero) s4 (pc + length whole) R w4 at_last
+            (tt, tt)
+            (λ s5 w5 d5.
+            arrived c code 0 s5 (pc + 12 + length fresh + length zero + 1) (pc + length whole) R end
+            (has_entered s2 d2 s3 d3 s4 d4 s5 d5)))
+            (λ status report s' never. absurd never))
+            (λ status report s' never. absurd never)))))
+
+    enters : Goal code pc s (enter_block set vs line x)
+    enters = ⊎_elim
+        (λ beyond. no_room beyond)
+        (λ fits. ⊎_elim (λ left. entered fits left) (λ spent. no_key fits spent) (cases_lt x.keys map.budgets.keys))
+        (cases_lt (region_end map Stack) (objects_end vs x.stacked))
+
+pub enter_does : (map : MapSizes) → AreMapped map → (entry : View) (IsGood : Bytes → Type 0)
+    → AreLocal map entry IsGood → (top bytes : ℕ) (to : EntryRegisters) (line t : ℕ) → AreBelow t (top ∷ bytes ∷ [])
+    → AreBelow t (registers_in to) → AreNoneOf (top ∷ bytes ∷ []) (registers_in to) → AreDistinct (registers_in to)
+    → (fresh zero : List FlatInstruction) → IsFreshRoutine map to.key to.lock (t + 4) fresh
+    → IsZeroRoutine map entry IsGood to.first bytes (t + 4) zero
+    → IsEnterRoutine map entry IsGood top bytes to line t (enter_code map fresh zero top bytes to line t (t + 1))
+enter_does map mapped entry IsGood local top bytes to line t ins_below to_below apart distinct fresh zero freshens zeroes
+    set same functions types k x vs charge weight = record {
+  from = λ code pc s has w p.
+      enters map mapped entry IsGood local top bytes to line t ins_below to_below apart distinct fresh zero freshens
+      zeroes set same functions types k x vs charge weight code pc s has w p.0 p.1 p.2 p.3;
+}

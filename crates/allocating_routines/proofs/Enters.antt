@@ -42,10 +42,11 @@ use Rattle.heap_space.specs.Table.{block_total, block_rows, row_cell}
 use Rattle.heap_space.proofs.Lists.{rows_length}
 use Rattle.flat_actions.specs.Actions.{AreSpacesGood, IsFor, HasEnded, views_of}
 use Rattle.flat_actions.proofs.Standing.{shown_still, ended_still}
+use Rattle.allocating_routines.specs.declared.entering.EntryRegisters.{EntryRegisters}
 use Rattle.allocating_routines.specs.Zeroing.{IsZeroed, HasZeroed, IsZeroRoutine}
 use Rattle.allocating_routines.specs.Allocating.{keys_code, key_test}
 use Rattle.allocating_routines.specs.Births.{with_key, IsRangeMade}
-use Rattle.allocating_routines.specs.Entering.{block_bytes, CanEnter, EntryRegisters, registers_in, HasEntered, IsEntered}
+use Rattle.allocating_routines.specs.Entering.{block_bytes, CanEnter, registers_in, HasEntered, IsEntered}
 use Rattle.allocating_routines.specs.Entering.{IsEnterRoutine, round_code, room_code, room_test, end_of_block, enter_code}
 use Rattle.allocating_routines.proofs.Stretches.{IsDone, stretch_on, goes_past, goes_into, shows_both, shows_worked}
 use Rattle.allocating_routines.proofs.Stretches.{words_worked, is_less, is_not_less}
@@ -111,6 +112,10 @@ module _ (map : MapSizes) (mapped : AreMapped map) (entry : View) (IsGood : Byte
     shows : ShowsNothing s s1
     others : OthersStay (to.first ∷ []) t s s1
 
+  stack_ends : region_start map Heap ≡ region_end map Stack
+  unfolding region_start
+  stack_ends = refl
+
   stack_small : region_end map Stack < 2 ^ 32
   unfolding region_start region_size
   stack_small = omega (arith, mapped.globals, mapped.budgets.stack.greatest)
@@ -129,6 +134,7 @@ module _ (map : MapSizes) (mapped : AreMapped map) (entry : View) (IsGood : Byte
     unfolding put reg_result
     rounded s1 d =
         let small = stack_small in let e = top_is in let below = base_below in let l = can.separate.top in
+        let ends = stack_ends in
         record {
           first = sym (d.agrees.values 1 (omega arith)) ∙ omega arith;
           room = sym (d.agrees.values 2 (omega arith)) ∙ omega arith;

@@ -5,8 +5,8 @@ use Rattle.std.specs.Prelude.{if◌then◌else◌}
 use Rattle.sb_base.specs.declared.ending.Ending.TheVariants.{Stack as StackSpent}
 use Rattle.rv_isa.specs.declared.instruction.BranchOp.TheVariants.{Bgeu}
 use Rattle.rv_isa.specs.declared.instruction.RegOp.TheVariants.{Add, Sub, Sll, Srl}
-use Rattle.addr_map.specs.declared.region.Region.TheVariants.{Stack, StructureValues}
-use Rattle.addr_map.specs.Places.{MapSizes, spaces_begin, region_start, region_end}
+use Rattle.addr_map.specs.declared.region.Region.TheVariants.{Heap, StructureValues}
+use Rattle.addr_map.specs.Places.{MapSizes, spaces_begin, region_start}
 use Rattle.obj_memory.specs.declared.object.Storage.TheVariants.{Automatic}
 use Rattle.obj_memory.specs.Objects.{object_at}
 use Rattle.obj_memory.specs.Heap.{rounded_up}
@@ -26,6 +26,7 @@ use Rattle.flat_routines.specs.Routine.{Does, Outcome, Continues, Halts, Either,
 use Rattle.flat_routines.specs.Metadata.{View, ShowsNothing}
 use Rattle.flat_objects.specs.StandsFor.{Views, Keys}
 use Rattle.flat_actions.specs.Actions.{IsFor, KeepsHeld, HasEnded, views_of, context_in, work_of}
+use Rattle.allocating_routines.specs.declared.entering.EntryRegisters.{EntryRegisters}
 use Rattle.allocating_routines.specs.Premises.{HaveBytes}
 use Rattle.allocating_routines.specs.Allocating.{runtime_ground, keys_code, key_test}
 
@@ -47,14 +48,6 @@ pub record CanEnter (map : MapSizes) (vs : List Variable) (x : Source) : Type 0 
   pub sized : AreSized vs
   pub separate : AreSeparate map x.stacked x.objects
   pub bytes : HaveBytes x.objects
-
--- registers that get where the first object stands, the new end of the object stack, and the key and lock word of all
--- objects of the block
-pub record EntryRegisters : Type 0 where
-  pub first : ℕ
-  pub end : ℕ
-  pub key : ℕ
-  pub lock : ℕ
 
 abbrev pub registers_in : EntryRegisters → List ℕ
 registers_in r = r.first ∷ r.end ∷ r.key ∷ r.lock ∷ []
@@ -101,9 +94,9 @@ abbrev pub round_code : (top first : ℕ) → List FlatInstruction
 round_code top first =
     Operate Add first top (Number 15) ∷ Operate Srl first first (Number 4) ∷ Operate Sll first first (Number 4) ∷ []
 
--- the run ends where the objects would end behind the object stack
+-- the bytes from an address to the end of the object stack, where the heap begins; the run ends where they are too few
 abbrev pub room_code : MapSizes → (first room : ℕ) → List FlatInstruction
-room_code map first x = Constant x (region_end map Stack) ∷ Operate Sub x x (Register first) ∷ []
+room_code map first x = Constant x (region_start map Heap) ∷ Operate Sub x x (Register first) ∷ []
 
 abbrev pub room_test : (bytes room line : ℕ) → List FlatInstruction
 room_test bytes x line = Branch Bgeu x (Register bytes) 1 ∷ End (StackSpent line) ∷ []

@@ -130,7 +130,8 @@ fn malloc_list(
     joined(alloc, keys.as_slice(), rest.as_slice())
 }
 
-fn keys_list(
+// How many keys were made, and the next one.
+pub(crate) fn keys_list(
     alloc: Global,
     map: &AddrMap,
     made: u32,
@@ -212,7 +213,8 @@ fn make_list(
     joined(alloc, test.as_slice(), rest.as_slice())
 }
 
-fn key_test(
+// The run ends where no key is left.
+pub(crate) fn key_test(
     alloc: Global,
     map: &AddrMap,
     made: u32,

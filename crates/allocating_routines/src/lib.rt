@@ -3,12 +3,14 @@
 #![tactic(auto)]
 
 pub mod allocating;
+pub mod entering;
 pub mod freeing;
 mod lists;
 pub mod reallocating;
 pub mod zeroing;
 
 pub use crate::allocating::{calloc, malloc};
+pub use crate::entering::{enter, leave, EntryRegisters};
 pub use crate::freeing::free;
 pub use crate::reallocating::realloc;
 pub use crate::zeroing::zero;

@@ -7,41 +7,40 @@ use Rattle.std.proofs.lemmas.Bool.{cases_lt, lt-ltb, le-ltb}
 use Rattle.sb_base.specs.declared.ending.Ending.TheVariants.{Keys as KeysSpent}
 use Rattle.sb_base.specs.Endings.{code_of, report_of}
 use Rattle.addr_map.specs.declared.region.Region.TheVariants.{Heap}
-use Rattle.addr_map.specs.Places.{MapSizes, AreMapped, objects_begin, region_start, region_last, region_end}
+use Rattle.addr_map.specs.Places.{MapSizes, AreMapped, region_start, region_last, region_end}
 use Rattle.rv_isa.specs.declared.instruction.BranchOp.TheVariants.{Beq, Bltu}
 use Rattle.rv_isa.specs.Results.{reg_result}
 use Rattle.obj_memory.specs.declared.object.Storage.TheVariants.{Allocated}
 use Rattle.obj_memory.specs.declared.value.Tag.TheVariants.{OfObject}
 use Rattle.obj_memory.specs.declared.value.Value.{Value}
-use Rattle.obj_memory.specs.Objects.{Objects, object_at, new_object, with_new, pointer_to}
-use Rattle.obj_memory.specs.Heap.{block_count, block_room, least_place}
+use Rattle.obj_memory.specs.Objects.{Objects, new_object, with_new, pointer_to}
+use Rattle.obj_memory.specs.Heap.{block_count, least_place}
 use Rattle.obj_memory.specs.Sound.{AreDisjoint}
 use Rattle.obj_memory.proofs.Making.{new_last}
-use Rattle.obj_memory.proofs.Placing.{least_place_found, room_holds}
 use Rattle.source_meaning.specs.State.{State as Source, Outcome as Completed, Gives, Ended, Setting}
-use Rattle.source_meaning.specs.Acting.{at_work, state_of}
+use Rattle.source_meaning.specs.Acting.{state_of}
 use Rattle.source_meaning.specs.Actions.{integer}
 use Rattle.source_meaning.specs.Heap.{block_place, allocate}
-use Rattle.flat_meaning.specs.declared.instruction.RightOperand.TheVariants.{Register, Number}
+use Rattle.flat_meaning.specs.declared.instruction.RightOperand.TheVariants.{Number}
 use Rattle.flat_meaning.specs.declared.instruction.FlatInstruction.{FlatInstruction}
 use Rattle.flat_meaning.specs.declared.instruction.FlatInstruction.TheVariants.{End}
-use Rattle.flat_meaning.specs.Memory.{Bytes, put, load}
+use Rattle.flat_meaning.specs.Memory.{Bytes, put}
 use Rattle.flat_meaning.specs.State.{State}
 use Rattle.flat_meaning.specs.Words.{IsOfWords}
 use Rattle.flat_meaning.specs.Meaning.{Context, Goes}
 use Rattle.flat_routines.specs.declared.registers.Held.{Held}
-use Rattle.flat_routines.specs.Registers.{AreDistinct, AreBelow, AreNoneOf, IsNoneOf, OthersStay}
+use Rattle.flat_routines.specs.Registers.{AreDistinct, AreBelow, IsNoneOf, OthersStay}
 use Rattle.flat_routines.specs.Local.{counted}
-use Rattle.flat_routines.specs.Routine.{HasAt, Outcome, Continues, Halts, Reaches, Does, Never, unless_code}
-use Rattle.flat_routines.specs.Effects.{worked, effects}
+use Rattle.flat_routines.specs.Routine.{HasAt, Outcome, Reaches, Does, Never, unless_code}
+use Rattle.flat_routines.specs.Effects.{worked}
 use Rattle.flat_routines.specs.Metadata.{View, held_registers, ShowsNothing}
 use Rattle.flat_routines.proofs.Steps.{has_front, has_back}
 use Rattle.flat_routines.proofs.Rules.{next, ended, arrived, weaken}
-use Rattle.flat_routines.proofs.Distinct.{AreRegisters, register_of}
+use Rattle.flat_routines.proofs.Distinct.{AreRegisters}
 use Rattle.flat_routines.proofs.Words.{same_metadata}
 use Rattle.flat_objects.specs.StandsFor.{Views, Keys, Spells, IsTable, StandsFor}
 use Rattle.shadow_space.proofs.Entries.{context_of, agrees_shows, agrees_memory}
-use Rattle.lock_space.specs.Locks.{key_counter, IsFree}
+use Rattle.lock_space.specs.Locks.{key_counter}
 use Rattle.lock_space.specs.Routines.{HasFresh, CanFresh, IsFreshRoutine}
 use Rattle.lock_space.proofs.Spaces.{locks_laid_out}
 use Rattle.lock_space.proofs.Local.{lock_kept, counter_kept}
@@ -52,7 +51,7 @@ use Rattle.heap_space.proofs.Lists.{rows_length, too_many}
 use Rattle.heap_space.proofs.Counting.{rows_counted}
 use Rattle.heap_space.proofs.Objects.{place_by_rows}
 use Rattle.heap_space.proofs.Regions.{table_laid_out, last_of_heap}
-use Rattle.flat_actions.specs.Actions.{AreSpacesGood, IsShown, IsFor, Pointer, Leaves, HasGiven, HasEnded, views_of, work_of}
+use Rattle.flat_actions.specs.Actions.{AreSpacesGood, IsFor, Pointer, Leaves, HasGiven, HasEnded, views_of, work_of}
 use Rattle.flat_actions.proofs.Standing.{shown_still, given_still, ended_still}
 use Rattle.allocating_routines.specs.Zeroing.{HasZeroed, IsZeroRoutine}
 use Rattle.allocating_routines.specs.Premises.{AreStanding}
@@ -116,8 +115,11 @@ pub pointer_is : (objects : Objects) (p z : ℕ)
     ≡ record { word = p; tag = OfObject (length objects) (record { base = p; bound = p + z }) }
 unfolding pointer_to new_object
 pointer_is objects p z =
-    ap (λ o. record { word = o.address; tag = OfObject (length objects)
-    (record { base = o.address; bound = o.address + o.size }) }) (new_last Allocated p z objects)
+    ap (λ o. record {
+      word = o.address;
+      tag = OfObject (length objects)
+          (record { base = o.address; bound = o.address + o.size });
+    }) (new_last Allocated p z objects)
 
 module _ (map : MapSizes) (mapped : AreMapped map) (entry : View) (IsGood : Bytes → Type 0)
     (local : AreLocal map entry IsGood) (size : ℕ) (into : Held) (t : ℕ)
@@ -148,8 +150,11 @@ module _ (map : MapSizes) (mapped : AreMapped map) (entry : View) (IsGood : Byte
   behind pc = pc + 3 + length place + 5
 
   body_length : length body ≡ 4 + length fresh + length zero
-  body_length = omega (arith, length-append fresh (zero ++ whole_bounds (t + 2) size into),
-      length-append zero (whole_bounds (t + 2) size into))
+  body_length = omega (
+    arith,
+    length-append fresh (zero ++ whole_bounds (t + 2) size into),
+    length-append zero (whole_bounds (t + 2) size into),
+  )
 
   whole_length : length whole ≡ 13 + length place + length fresh + length zero
   whole_length = omega (arith, body_length, length-append place (untagged (t + 2) into ++ unless_code Beq (t + 2) (Number 0) body))
@@ -528,8 +533,7 @@ module _ (map : MapSizes) (mapped : AreMapped map) (entry : View) (IsGood : Byte
         (behind pc + 3 + length fresh + length zero) (pc + length whole)
         (HasZeroed map entry IsGood (t + 2) z (t + 4) s4) Never R w4
         ((zeroes z charge weight).from code (behind pc + 3 + length fresh) s4
-        (has_front code (behind pc + 3 + length fresh) zero (whole_bounds (t + 2) size into) at_zero) w4
-        (
+        (has_front code (behind pc + 3 + length fresh) zero (whole_bounds (t + 2) size into) at_zero) w4 (
           record {
             size = size4 s w f standing p found left s3 d3 s4 d4;
             aligned = omega arith;

@@ -1,15 +1,15 @@
 -- A block of the heap is born.
-use Rattle.std.proofs.Common.{◌≡◌, ◌≢◌, ℕ, suc, ◌+◌, ◌*◌, ◌/◌, ◌%◌, ◌<◌, ◌≤◌, ◌⊎◌, inl, inr, ⊎_elim, Bool, true, false}
-use Rattle.std.proofs.Common.{if◌then◌else◌, Some, length, get_or, replicate, refl, sym, ap, ◌∙◌, subst, arith}
+use Rattle.std.proofs.Common.{◌≡◌, ◌≢◌, ℕ, ◌+◌, ◌*◌, ◌/◌, ◌%◌, ◌<◌, ◌≤◌, ◌⊎◌, inl, inr, ⊎_elim, true}
+use Rattle.std.proofs.Common.{Some, length, refl, sym, ap, ◌∙◌, subst, arith}
 use Rattle.std.specs.Prelude.{nat_lt}
-use Rattle.std.proofs.lemmas.Bool.{cond-true, cond-false, lt-ltb, le-ltb, cases_lt}
+use Rattle.std.proofs.lemmas.Bool.{cond-true, cond-false, lt-ltb, le-ltb}
 use Rattle.addr_map.specs.declared.region.Region.TheVariants.{Globals, Stack, Heap}
-use Rattle.addr_map.specs.Places.{MapSizes, AreMapped, objects_begin, spaces_begin, region_start, region_last, region_end}
+use Rattle.addr_map.specs.Places.{MapSizes, AreMapped, objects_begin, region_start, region_last, region_end}
 use Rattle.addr_map.proofs.Order.{in_order}
 use Rattle.obj_memory.specs.declared.object.Storage.{Storage}
 use Rattle.obj_memory.specs.declared.object.Storage.TheVariants.{Static, Automatic, Allocated}
 use Rattle.obj_memory.specs.declared.value.Tag.TheVariants.{Untagged}
-use Rattle.obj_memory.specs.Objects.{ObjectState, Objects, object_at, new_object, with_new}
+use Rattle.obj_memory.specs.Objects.{Objects, object_at, new_object, with_new}
 use Rattle.obj_memory.specs.Heap.{block_room, object_room, least_place}
 use Rattle.obj_memory.specs.Sound.{IsBlockPlace, AreBeside, DoNotMeet}
 use Rattle.obj_memory.proofs.Listed.{every_replicate}

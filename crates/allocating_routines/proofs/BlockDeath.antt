@@ -1,5 +1,5 @@
 -- A block of the heap dies.
-use Rattle.std.proofs.Common.{◌≡◌, ◌≢◌, ℕ, ◌+◌, ◌*◌, ◌<◌, ◌≤◌, ◌⊎◌, inl, inr, ⊎_elim, true, false, length, refl, sym, ap}
+use Rattle.std.proofs.Common.{◌≡◌, ◌≢◌, ℕ, ◌+◌, ◌*◌, ◌<◌, ◌≤◌, inl, inr, ⊎_elim, true, false, length, sym, ap}
 use Rattle.std.proofs.Common.{◌∙◌, subst, arith}
 use Rattle.std.proofs.lemmas.Bool.{cases_eq}
 use Rattle.addr_map.specs.declared.region.Region.TheVariants.{Heap}
@@ -18,7 +18,7 @@ use Rattle.flat_objects.specs.StandsFor.{Views, Keys, BlockRow, IsRowOf, IsTable
 use Rattle.flat_objects.specs.Changes.{AreDead}
 use Rattle.flat_objects.proofs.Changing.{live_is_made, word_of}
 use Rattle.flat_objects.proofs.Lives.{died}
-use Rattle.heap_space.specs.Rows.{AreInOrder, without_row}
+use Rattle.heap_space.specs.Rows.{AreInOrder}
 use Rattle.heap_space.specs.Table.{block_rows}
 use Rattle.flat_actions.specs.Actions.{AreSpacesGood, StaysElsewhere, views_of}
 use Rattle.allocating_routines.specs.Freeing.{IsBlockEnded}

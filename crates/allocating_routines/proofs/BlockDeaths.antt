@@ -1,6 +1,6 @@
 -- The objects of a block that is left die.
-use Rattle.std.proofs.Common.{◌≡◌, ◌≢◌, ℕ, ◌+◌, ◌*◌, ◌<◌, ◌≤◌, ◌⊎◌, inl, inr, ⊎_elim, List, [], ◌∷◌, true, false, length}
-use Rattle.std.proofs.Common.{get_or, refl, sym, ap, ◌∙◌, subst, arith}
+use Rattle.std.proofs.Common.{◌≡◌, ◌≢◌, ℕ, ◌+◌, ◌*◌, ◌<◌, ◌⊎◌, inl, inr, ⊎_elim, List, [], ◌∷◌, true, false, length}
+use Rattle.std.proofs.Common.{refl, sym, ap, ◌∙◌, subst, arith}
 use Rattle.std.proofs.lemmas.Bool.{cases_eq}
 use Rattle.addr_map.specs.Places.{MapSizes, AreMapped, spaces_begin}
 use Rattle.obj_memory.specs.declared.object.Storage.TheVariants.{Static, Automatic, Allocated}
@@ -14,9 +14,9 @@ use Rattle.source_meaning.proofs.Holding.{length-dead}
 use Rattle.flat_meaning.specs.Memory.{Bytes, load}
 use Rattle.flat_routines.specs.Metadata.{View, IsObjectWord}
 use Rattle.flat_routines.proofs.Regions.{laid_out}
-use Rattle.flat_objects.specs.StandsFor.{Views, Keys, no_row, IsLock, global_lock, IsRowOf, IsTable, StandsFor}
+use Rattle.flat_objects.specs.StandsFor.{Views, Keys, IsLock, global_lock, IsTable, StandsFor}
 use Rattle.flat_objects.specs.Changes.{AreDead}
-use Rattle.flat_objects.proofs.Changing.{live_is_made, word_of}
+use Rattle.flat_objects.proofs.Changing.{word_of}
 use Rattle.flat_objects.proofs.Lives.{died}
 use Rattle.lock_space.specs.Locks.{key_counter}
 use Rattle.lock_space.specs.Routines.{OtherLocksStay}
@@ -164,23 +164,28 @@ module _ (map : MapSizes) (mapped : AreMapped map) (functions : ℕ) (types : �
     block_of = λ i l. (let r = st.table.block_of i l in
         let none : IsHomeOf r.0 homes → ⊥ =
         λ h. (let no : Automatic ≡ Allocated = sym (of.under r.0 h).1 ∙ r.1.block in cc) in
-        let same = without_other homes r.0 old none in
-        (r.0, record {
-          live = ap (λ o. o.is_live) same ∙ r.1.live;
-          block = ap (λ o. o.storage) same ∙ r.1.block;
-          start = r.1.start ∙ sym (ap (λ o. o.address) same);
-          size = r.1.size ∙ sym (ap (λ o. o.size) same);
-          key = r.1.key;
-        }));
+        let same = without_other homes r.0 old none in (
+          r.0,
+          record {
+            live = ap (λ o. o.is_live) same ∙ r.1.live;
+            block = ap (λ o. o.storage) same ∙ r.1.block;
+            start = r.1.start ∙ sym (ap (λ o. o.address) same);
+            size = r.1.size ∙ sym (ap (λ o. o.size) same);
+            key = r.1.key;
+          },
+        ));
     row_of = λ n live block. (let s = still n live in
-        let r = st.table.row_of n s.2 (ap (λ o. o.storage) (sym s.1) ∙ block) in
-        (r.0, r.1, record {
-          live = live;
-          block = block;
-          start = r.2.start ∙ sym (ap (λ o. o.address) s.1);
-          size = r.2.size ∙ sym (ap (λ o. o.size) s.1);
-          key = r.2.key;
-        }));
+        let r = st.table.row_of n s.2 (ap (λ o. o.storage) (sym s.1) ∙ block) in (
+          r.0,
+          r.1,
+          record {
+            live = live;
+            block = block;
+            start = r.2.start ∙ sym (ap (λ o. o.address) s.1);
+            size = r.2.size ∙ sym (ap (λ o. o.size) s.1);
+            key = r.2.key;
+          },
+        ));
   })
 
   deaths : AreDead g k old new lock m m'

@@ -1,13 +1,13 @@
 -- The memory while a block is made: its row, then its key, then its bytes.
-use Rattle.std.proofs.Common.{◌≡◌, ℕ, suc, ◌+◌, ◌-◌, ◌*◌, ◌/◌, ◌<◌, ◌≤◌, ◌⊎◌, inl, inr, ⊎_elim, sym, ap, ◌∙◌, subst, arith}
+use Rattle.std.proofs.Common.{◌≡◌, ℕ, suc, ◌+◌, ◌≤◌, inl, inr, sym, ap, ◌∙◌, arith}
 use Rattle.addr_map.specs.declared.region.Region.TheVariants.{Heap, Shadow, Locks, Blocks, StructureValues}
 use Rattle.addr_map.specs.Places.{MapSizes, AreMapped, spaces_begin, region_size, region_start, region_end}
-use Rattle.flat_meaning.specs.Memory.{Bytes, load, KeepsBut}
-use Rattle.flat_routines.specs.Metadata.{View, IsObjectWord, KeepsShadow}
+use Rattle.flat_meaning.specs.Memory.{Bytes, load}
+use Rattle.flat_routines.specs.Metadata.{View, KeepsShadow}
 use Rattle.flat_routines.proofs.Regions.{laid_out}
 use Rattle.flat_objects.specs.StandsFor.{IsLock}
 use Rattle.flat_objects.proofs.Changing.{global_is_lock}
-use Rattle.lock_space.specs.Locks.{key_counter, IsFree, AreLocksGood, KeepsButLocks, KeepsLocks}
+use Rattle.lock_space.specs.Locks.{key_counter, AreLocksGood, KeepsButLocks, KeepsLocks}
 use Rattle.lock_space.specs.Routines.{OtherLocksStay}
 use Rattle.lock_space.proofs.Spaces.{locks_laid_out}
 use Rattle.lock_space.proofs.Local.{lock_kept, counter_kept, good_kept as locks_kept}
@@ -17,7 +17,7 @@ use Rattle.heap_space.proofs.Regions.{table_laid_out}
 use Rattle.heap_space.proofs.Local.{rows_kept, good_kept as table_kept}
 use Rattle.flat_actions.specs.Actions.{AreSpacesGood}
 use Rattle.allocating_routines.specs.Zeroing.{IsZeroed}
-use Rattle.allocating_routines.specs.Births.{IsZeroRange, IsKeyTaken, IsBlockMade, IsRangeMade}
+use Rattle.allocating_routines.specs.Births.{IsKeyTaken, IsBlockMade, IsRangeMade}
 use Rattle.allocating_routines.specs.Freeing.{IsBlockEnded}
 use Rattle.allocating_routines.proofs.Zeroed.{AreLocal}
 

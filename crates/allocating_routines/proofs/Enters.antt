@@ -1,21 +1,19 @@
 -- The routine of a block that is entered.
-use Rattle.std.proofs.Common.{◌≡◌, ◌≢◌, ℕ, suc, ◌+◌, ◌-◌, ◌*◌, ◌/◌, ◌%◌, ◌^◌, ◌<◌, ◌≤◌, ◌⊎◌, List, [], ◌∷◌, ◌++◌, Bool}
-use Rattle.std.proofs.Common.{true, false, inl, inr, length, refl, sym, ap, ◌∙◌, subst, arith, length-append, ⊎_elim}
+use Rattle.std.proofs.Common.{◌≡◌, ℕ, suc, ◌+◌, ◌-◌, ◌*◌, ◌%◌, ◌^◌, ◌<◌, ◌≤◌, List, [], ◌∷◌, ◌++◌}
+use Rattle.std.proofs.Common.{true, inl, inr, length, refl, sym, ap, ◌∙◌, subst, arith, length-append, ⊎_elim}
 use Rattle.std.specs.Prelude.{nat_lt, nat_le}
 use Rattle.std.proofs.lemmas.Bool.{cases_lt, lt-ltb, le-ltb, le-leb, lt-leb}
 use Rattle.sb_base.specs.declared.ending.Ending.{Ending}
 use Rattle.sb_base.specs.declared.ending.Ending.TheVariants.{Stack as StackSpent, Keys as KeysSpent}
 use Rattle.sb_base.specs.Endings.{code_of, report_of}
 use Rattle.addr_map.specs.declared.region.Region.TheVariants.{Stack, Heap}
-use Rattle.addr_map.specs.Places.{MapSizes, AreMapped, objects_begin, spaces_begin, region_size, region_start, region_end}
+use Rattle.addr_map.specs.Places.{MapSizes, AreMapped, region_size, region_start, region_end}
 use Rattle.rv_isa.specs.declared.instruction.BranchOp.TheVariants.{Bgeu, Bltu}
 use Rattle.rv_isa.specs.Results.{reg_result}
-use Rattle.obj_memory.specs.declared.object.Storage.TheVariants.{Automatic}
-use Rattle.obj_memory.specs.Objects.{object_at}
 use Rattle.obj_memory.specs.Heap.{rounded_up, is_allocated}
 use Rattle.c_tree.specs.declared.program.Variable.{Variable}
 use Rattle.source_meaning.specs.State.{State as Source, Outcome as Completed, Gives, Ended, Setting}
-use Rattle.source_meaning.specs.Acting.{at_work, state_of}
+use Rattle.source_meaning.specs.Acting.{state_of}
 use Rattle.source_meaning.specs.Blocks.{objects_end, Block, enter_block}
 use Rattle.flat_meaning.specs.declared.instruction.RightOperand.TheVariants.{Register, Number}
 use Rattle.flat_meaning.specs.declared.instruction.FlatInstruction.{FlatInstruction}
@@ -26,8 +24,8 @@ use Rattle.flat_meaning.specs.Words.{IsOfWords}
 use Rattle.flat_meaning.specs.Meaning.{Context, Goes}
 use Rattle.flat_routines.specs.Registers.{AreDistinct, AreBelow, AreNoneOf, OthersStay}
 use Rattle.flat_routines.specs.Local.{counted}
-use Rattle.flat_routines.specs.Routine.{HasAt, Outcome, Continues, Halts, Reaches, Never}
-use Rattle.flat_routines.specs.Effects.{worked, effects}
+use Rattle.flat_routines.specs.Routine.{HasAt, Outcome, Reaches, Never}
+use Rattle.flat_routines.specs.Effects.{worked}
 use Rattle.flat_routines.specs.Renaming.{through}
 use Rattle.flat_routines.specs.Metadata.{View, ShowsNothing}
 use Rattle.flat_routines.proofs.Steps.{has_front, has_back}
@@ -53,10 +51,10 @@ use Rattle.allocating_routines.proofs.Stretches.{words_worked, is_less, is_not_l
 use Rattle.allocating_routines.proofs.Zeroed.{AreLocal}
 use Rattle.allocating_routines.proofs.FreeLocks.{stack_laid_out, free_for_automatics}
 use Rattle.allocating_routines.proofs.BlockBirth.{held_after, keys_keep}
-use Rattle.allocating_routines.proofs.BlockMemory.{spaces_follow, good_by_locks, range_made}
+use Rattle.allocating_routines.proofs.BlockMemory.{good_by_locks, range_made}
 use Rattle.allocating_routines.proofs.EntryBirths.{stack_in_space, entry_born}
 use Rattle.allocating_routines.proofs.Seeks.{keys_allowed, found_keys, keys_shown}
-use Rattle.allocating_routines.proofs.SourceEntries.{placing_work, entered_in, block_of, no_space, no_more_keys}
+use Rattle.allocating_routines.proofs.SourceEntries.{entered_in, block_of, no_space, no_more_keys}
 use Rattle.allocating_routines.proofs.SourceEntries.{enters_block, end_by_bytes, some_bytes, few_bytes}
 use Rattle.heap_space.proofs.Regions.{not_below, is_below}
 
@@ -474,8 +472,7 @@ module _ (map : MapSizes) (mapped : AreMapped map) (entry : View) (IsGood : Byte
             next c code (42 + 5 * T) (1 + 0) (Goes (pc + 12 + length fresh) s3) (pc + 12 + length fresh + length zero)
             (pc + length whole) (HasZeroed map entry IsGood to.first T (t + 4) s3) Never R w3
             ((zeroes T charge weight).from code (pc + 12 + length fresh) s3
-            (has_front code (pc + 12 + length fresh) zero last at_zero) w3
-            (
+            (has_front code (pc + 12 + length fresh) zero last at_zero) w3 (
               record {
                 size = bytes3 s2 d2 s3 d3;
                 aligned = omega arith;
@@ -507,7 +504,7 @@ pub enter_does : (map : MapSizes) → AreMapped map → (entry : View) (IsGood :
     → IsEnterRoutine map entry IsGood top bytes to line t (enter_code map fresh zero top bytes to line t (t + 1))
 enter_does map mapped entry IsGood local top bytes to line t ins_below to_below apart distinct fresh zero freshens zeroes
     set same functions types k x vs charge weight = record {
-  from = λ code pc s has w p.
-      enters map mapped entry IsGood local top bytes to line t ins_below to_below apart distinct fresh zero freshens
-      zeroes set same functions types k x vs charge weight code pc s has w p.0 p.1 p.2 p.3;
-}
+      from = λ code pc s has w p.
+          enters map mapped entry IsGood local top bytes to line t ins_below to_below apart distinct fresh zero freshens
+          zeroes set same functions types k x vs charge weight code pc s has w p.0 p.1 p.2 p.3;
+    }

@@ -1,18 +1,15 @@
 -- The objects of an entered block are born.
-use Rattle.std.proofs.Common.{◌≡◌, ◌≢◌, ℕ, suc, ◌+◌, ◌-◌, ◌*◌, ◌/◌, ◌%◌, ◌<◌, ◌≤◌, ◌⊎◌, inl, inr, ⊎_elim, true, false}
-use Rattle.std.proofs.Common.{List, length, get_or, replicate, refl, sym, ap, ◌∙◌, subst, arith}
+use Rattle.std.proofs.Common.{◌≡◌, ◌≢◌, ℕ, ◌+◌, ◌-◌, ◌*◌, ◌/◌, ◌%◌, ◌<◌, ◌≤◌, ◌⊎◌, inl, inr, ⊎_elim, true}
+use Rattle.std.proofs.Common.{List, length, get_or, refl, sym, ap, ◌∙◌, subst, arith}
 use Rattle.std.proofs.lemmas.Bool.{cases_lt, cases_Bool}
-use Rattle.addr_map.specs.declared.region.Region.TheVariants.{Globals, Stack, Heap}
+use Rattle.addr_map.specs.declared.region.Region.TheVariants.{Stack, Heap}
 use Rattle.addr_map.specs.Places.{MapSizes, AreMapped, objects_begin, region_size, region_start, region_end}
-use Rattle.addr_map.proofs.Order.{in_order}
-use Rattle.obj_memory.specs.declared.object.Storage.{Storage}
-use Rattle.obj_memory.specs.declared.object.Storage.TheVariants.{Static, Automatic, Allocated}
+use Rattle.obj_memory.specs.declared.object.Storage.TheVariants.{Automatic, Allocated}
 use Rattle.obj_memory.specs.declared.value.Tag.TheVariants.{Untagged}
-use Rattle.obj_memory.specs.Objects.{ObjectState, Objects, object_at, new_object}
+use Rattle.obj_memory.specs.Objects.{Objects, object_at, new_object}
 use Rattle.obj_memory.specs.Heap.{rounded_up, is_allocated}
 use Rattle.obj_memory.proofs.Listed.{every_replicate}
 use Rattle.c_tree.specs.declared.program.Variable.{Variable}
-use Rattle.source_meaning.specs.State.{State as Source}
 use Rattle.source_meaning.specs.Blocks.{objects_end, has_objects}
 use Rattle.source_meaning.specs.Keeping.{AreSeparate}
 use Rattle.source_meaning.proofs.Separating.{behind_stack}
@@ -28,7 +25,7 @@ use Rattle.flat_actions.specs.Actions.{views_of}
 use Rattle.allocating_routines.specs.Births.{with_key, IsRangeMade}
 use Rattle.allocating_routines.specs.Entering.{block_bytes}
 use Rattle.allocating_routines.proofs.BlockBirth.{own_before, own_after, held_before, held_after, free_is_unused}
-use Rattle.allocating_routines.proofs.SourceEntries.{placed_objects, end_by_bytes, IsNewIn, ArePlacedFrom, placed_from}
+use Rattle.allocating_routines.proofs.SourceEntries.{placed_objects, end_by_bytes, ArePlacedFrom, placed_from}
 use Rattle.allocating_routines.proofs.SourceEntries.{some_placed, placed_sound, placed_separate}
 
 pub stack_in_space : (s : MapSizes) → AreMapped s

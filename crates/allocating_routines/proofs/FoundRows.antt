@@ -1,5 +1,5 @@
 -- A row is found by start and key just where a live block with the key starts there.
-use Rattle.std.proofs.Common.{◌≡◌, ◌≢◌, ℕ, zero, suc, ◌+◌, ◌<◌, ◌≤◌, List, [], ◌∷◌, Bool, true, false, ◌&&◌, Option, Some}
+use Rattle.std.proofs.Common.{◌≡◌, ℕ, zero, suc, ◌<◌, List, [], ◌∷◌, Bool, true, false, ◌&&◌, Some}
 use Rattle.std.proofs.Common.{None, if◌then◌else◌, length, get_or, refl, sym, ap, ◌∙◌, subst, arith, ⊎_elim}
 use Rattle.std.specs.Prelude.{◌==◌}
 use Rattle.std.proofs.lemmas.Bool.{cases_eq, cases_Bool, eq-eqb, eqb-true, and_from}
@@ -9,7 +9,7 @@ use Rattle.obj_memory.specs.Objects.{ObjectState, Objects, object_at}
 use Rattle.obj_memory.specs.Heap.{is_allocated}
 use Rattle.source_meaning.specs.Heap.{is_block_start}
 use Rattle.flat_meaning.specs.Memory.{Bytes}
-use Rattle.flat_objects.specs.StandsFor.{Views, Keys, BlockRow, no_row, IsRowOf, StandsFor}
+use Rattle.flat_objects.specs.StandsFor.{Views, Keys, BlockRow, no_row, StandsFor}
 use Rattle.flat_objects.proofs.Changing.{live_is_made}
 use Rattle.heap_space.specs.Rows.{HasStart, size_of}
 use Rattle.allocating_routines.proofs.TableRows.{has_start}
@@ -75,8 +75,7 @@ module _ (g : Views) (k : Keys) (objects : Objects) (m : Bytes) (st : StandsFor 
       let same : b.0 ≡ n = ⊎_elim (λ y. y)
       (λ ne. absurd (st.keyed.alone b.0 n (live_is_made objects b.0 b.1.live) (live_is_made objects n live) ne
       b.1.block (sym b.1.key ∙ r.3)))
-      (cases_eq b.0 n) in
-      (
+      (cases_eq b.0 n) in (
         start_of (object_at objects n) a (subst (λ j. (object_at objects j).storage ≡ Allocated) same b.1.block)
             (sym r.2 ∙ b.1.start ∙ ap (λ j. (object_at objects j).address) same),
         has_start a (g.blocks m) r.0 r.1 r.2,

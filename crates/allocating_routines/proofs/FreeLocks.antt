@@ -1,22 +1,22 @@
 -- Some lock word is free: each that is used is that of a live object, every live block has a row of its own, and the
 -- live automatic objects stand at different multiples of 16 of the object stack.
-use Rattle.std.proofs.Common.{◌≡◌, ◌≢◌, ℕ, zero, suc, ◌+◌, ◌-◌, ◌*◌, ◌/◌, ◌%◌, ◌<◌, ◌≤◌, ◌⊎◌, inl, inr, ⊎_elim, List}
+use Rattle.std.proofs.Common.{◌≡◌, ◌≢◌, ℕ, zero, suc, ◌+◌, ◌-◌, ◌/◌, ◌%◌, ◌<◌, ◌≤◌, ◌⊎◌, inl, inr, ⊎_elim}
 use Rattle.std.proofs.Common.{true, false, length, get_or, refl, sym, ap, ◌∙◌, subst, arith}
 use Rattle.std.proofs.lemmas.Bool.{cases_Bool, cases_eq, cases_lt}
-use Rattle.addr_map.specs.declared.region.Region.TheVariants.{Stack, Locks}
+use Rattle.addr_map.specs.declared.region.Region.TheVariants.{Stack}
 use Rattle.addr_map.specs.Places.{MapSizes, AreMapped, region_size, region_start, region_end}
 use Rattle.obj_memory.specs.declared.object.Storage.{Storage}
 use Rattle.obj_memory.specs.declared.object.Storage.TheVariants.{Static, Automatic, Allocated}
 use Rattle.obj_memory.specs.Objects.{Objects, object_at}
 use Rattle.obj_memory.specs.Heap.{object_room}
 use Rattle.obj_memory.specs.Sound.{AreBeside}
-use Rattle.source_meaning.specs.Keeping.{region_of, IsInRegion, ArePlaced}
+use Rattle.source_meaning.specs.Keeping.{region_of, ArePlaced}
 use Rattle.flat_meaning.specs.Memory.{Bytes, load}
 use Rattle.flat_objects.specs.StandsFor.{Views, Keys, no_row, IsLock, global_lock, IsRowOf, StandsFor}
 use Rattle.flat_objects.proofs.Changing.{live_is_made}
 use Rattle.space_routines.proofs.Few.{at_most_of}
 use Rattle.lock_space.specs.Locks.{lock_total, used_locks, first_lock, listed_lock, IsFree, AreLocksGood}
-use Rattle.lock_space.proofs.Spaces.{AreLocksLaidOut, locks_laid_out}
+use Rattle.lock_space.proofs.Spaces.{locks_laid_out}
 use Rattle.allocating_routines.specs.Premises.{HaveBytes}
 
 -- how the object stack lies

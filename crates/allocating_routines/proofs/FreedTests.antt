@@ -1,28 +1,22 @@
 -- The tests of a pointer that frees a block: by its tag and its lock word, then by the table.
-use Rattle.std.proofs.Common.{◌≡◌, ◌≢◌, ℕ, suc, ◌+◌, ◌-◌, ◌*◌, ◌%◌, ◌^◌, ◌<◌, ◌≤◌, List, [], ◌∷◌, ◌++◌, Bool, true, false}
-use Rattle.std.proofs.Common.{Option, Some, None, length, refl, sym, ap, ◌∙◌, subst, arith, length-append, ⊎_elim}
-use Rattle.std.proofs.lemmas.Bool.{cases_eq, cases_Bool}
+use Rattle.std.proofs.Common.{◌≡◌, ℕ, suc, ◌+◌, ◌*◌, ◌%◌, ◌^◌, ◌<◌, ◌≤◌, List, [], ◌∷◌, ◌++◌, Bool, true, false}
+use Rattle.std.proofs.Common.{Option, Some, None, length, refl, sym, ap, ◌∙◌, subst, arith}
 use Rattle.sb_base.specs.declared.ending.Ending.{Ending}
 use Rattle.sb_base.specs.declared.ending.Ending.TheVariants.{Temporal, BadFree}
 use Rattle.sb_base.specs.Endings.{code_of, report_of}
-use Rattle.addr_map.specs.declared.region.Region.TheVariants.{Cells}
-use Rattle.addr_map.specs.Places.{MapSizes, AreMapped, spaces_begin, region_end}
+use Rattle.addr_map.specs.Places.{MapSizes, AreMapped}
 use Rattle.rv_isa.specs.declared.instruction.BranchOp.TheVariants.{Beq, Bne}
 use Rattle.rv_isa.specs.declared.instruction.LoadOp.TheVariants.{Ld}
 use Rattle.rv_isa.specs.Results.{extended}
-use Rattle.obj_memory.specs.declared.object.Storage.TheVariants.{Static, Allocated}
+use Rattle.obj_memory.specs.declared.object.Storage.TheVariants.{Allocated}
 use Rattle.obj_memory.specs.declared.value.Bounds.{Bounds}
 use Rattle.obj_memory.specs.declared.value.Tag.{Tag}
 use Rattle.obj_memory.specs.declared.value.Tag.TheVariants.{Untagged, OfFunction, OfObject}
 use Rattle.obj_memory.specs.declared.value.Value.{Value}
-use Rattle.obj_memory.specs.Objects.{object_at, with_dead}
-use Rattle.obj_memory.specs.Heap.{block_count}
+use Rattle.obj_memory.specs.Objects.{object_at}
 use Rattle.obj_memory.specs.Sound.{IsSoundTag}
-use Rattle.source_meaning.specs.State.{State as Source, Outcome as Completed, Gives, Ended}
-use Rattle.source_meaning.specs.Acting.{at_work, state_of}
-use Rattle.source_meaning.specs.Actions.{integer}
+use Rattle.source_meaning.specs.State.{State as Source, Gives, Ended}
 use Rattle.source_meaning.specs.Heap.{is_block_start, freed}
-use Rattle.source_meaning.specs.Library.{argument}
 use Rattle.flat_meaning.specs.declared.instruction.RightOperand.TheVariants.{Register, Number}
 use Rattle.flat_meaning.specs.declared.instruction.FlatInstruction.{FlatInstruction}
 use Rattle.flat_meaning.specs.declared.instruction.FlatInstruction.TheVariants.{Load, End}
@@ -34,34 +28,24 @@ use Rattle.flat_meaning.specs.Meaning.{Context, Goes}
 use Rattle.flat_routines.specs.declared.registers.Held.{Held}
 use Rattle.flat_routines.specs.Registers.{AreBelow, OthersStay}
 use Rattle.flat_routines.specs.Local.{counted}
-use Rattle.flat_routines.specs.Routine.{HasAt, Outcome, Continues, Halts, Reaches, Does, Never}
-use Rattle.flat_routines.specs.Effects.{worked, effects}
+use Rattle.flat_routines.specs.Routine.{HasAt, Outcome, Halts, Reaches, Never}
+use Rattle.flat_routines.specs.Effects.{worked}
 use Rattle.flat_routines.specs.Metadata.{View, held_registers, ShowsNothing}
 use Rattle.flat_routines.proofs.Steps.{has_front, has_back}
-use Rattle.flat_routines.proofs.Rules.{next, ended, arrived, weaken}
+use Rattle.flat_routines.proofs.Rules.{next, ended, weaken}
 use Rattle.flat_routines.proofs.Distinct.{AreRegisters}
-use Rattle.flat_objects.specs.StandsFor.{Views, Keys, spell, IsLock, global_lock, StandsFor}
-use Rattle.flat_objects.proofs.Changing.{live_is_made}
+use Rattle.flat_objects.specs.StandsFor.{Views, Keys, spell, IsLock}
 use Rattle.shadow_space.proofs.Entries.{context_of, agrees_shows, agrees_memory}
-use Rattle.lock_space.specs.Routines.{HasReleased, CanRelease, IsReleaseRoutine}
 use Rattle.lock_space.proofs.Spaces.{locks_laid_out, allowed_at}
-use Rattle.lock_space.proofs.Local.{lock_kept}
-use Rattle.heap_space.specs.Rows.{HasStart, size_of, without_row}
-use Rattle.heap_space.specs.Table.{block_total, block_rows, IsTableGood, KeepsButTable}
-use Rattle.heap_space.specs.Routines.{HasFound, IsFound, HasRemoved, IsFindRoutine}
-use Rattle.heap_space.specs.Routines.{IsReleaseRoutine as IsUnlistRoutine}
-use Rattle.flat_actions.specs.Actions.{AreSpacesGood, IsFor, Pointer, Nowhere, AreHeldBy, IsHeldBy, Leaves, HasGiven}
-use Rattle.flat_actions.specs.Actions.{HasEnded, views_of, context_in, work_of}
-use Rattle.flat_actions.proofs.Standing.{shown_still, given_still, ended_still, keeps_same}
-use Rattle.allocating_routines.specs.Allocating.{runtime_ground}
-use Rattle.allocating_routines.specs.Freeing.{IsFreeRoutine, IsBlockEnded, life_test, found_test, end_code, free_code}
+use Rattle.heap_space.specs.Rows.{HasStart, size_of}
+use Rattle.heap_space.specs.Table.{block_total, block_rows, IsTableGood}
+use Rattle.heap_space.specs.Routines.{HasFound, IsFound, IsFindRoutine}
+use Rattle.flat_actions.specs.Actions.{IsFor, Pointer, IsHeldBy}
+use Rattle.flat_actions.specs.Actions.{views_of}
+use Rattle.allocating_routines.specs.Freeing.{life_test, found_test}
 use Rattle.allocating_routines.proofs.Stretches.{IsDone, stretch_on, goes_past, goes_into, shows_both, shows_worked}
 use Rattle.allocating_routines.proofs.Stretches.{words_worked, are_equal, are_not_equal, differ, do_not_differ}
-use Rattle.allocating_routines.proofs.Zeroed.{AreLocal}
-use Rattle.allocating_routines.proofs.BlockMemory.{good_by_table, locks_by_table, block_ended}
-use Rattle.allocating_routines.proofs.BlockDeath.{lock_is_own, lock_is_used, block_died, death_elsewhere}
 use Rattle.allocating_routines.proofs.FoundRows.{parts_of_start, found_is_start, not_found_is_none}
-use Rattle.allocating_routines.proofs.Allocates.{rows_are_blocks}
 use Rattle.allocating_routines.proofs.SourceBlocks.{sought_in}
 use Rattle.allocating_routines.proofs.SourceFrees.{freed_untagged, freed_function, freed_dead}
 use Rattle.allocating_routines.proofs.SourceFrees.{freed_no_start, freed_block}

@@ -1,70 +1,52 @@
 -- `free` as an action.
-use Rattle.std.proofs.Common.{◌≡◌, ◌≢◌, ℕ, suc, ◌+◌, ◌-◌, ◌*◌, ◌%◌, ◌^◌, ◌<◌, ◌≤◌, List, [], ◌∷◌, ◌++◌, Bool, true, false}
-use Rattle.std.proofs.Common.{Option, Some, None, length, refl, sym, ap, ◌∙◌, subst, arith, length-append, ⊎_elim}
-use Rattle.std.proofs.lemmas.Bool.{cases_eq, cases_Bool}
+use Rattle.std.proofs.Common.{◌≡◌, ◌≢◌, ℕ, suc, ◌+◌, ◌-◌, ◌*◌, List, [], ◌∷◌, ◌++◌, true}
+use Rattle.std.proofs.Common.{length, refl, sym, ap, ◌∙◌, subst, arith, length-append, ⊎_elim}
+use Rattle.std.proofs.lemmas.Bool.{cases_eq}
 use Rattle.sb_base.specs.declared.ending.Ending.{Ending}
 use Rattle.sb_base.specs.declared.ending.Ending.TheVariants.{Temporal, BadFree}
 use Rattle.sb_base.specs.Endings.{code_of, report_of}
-use Rattle.addr_map.specs.declared.region.Region.TheVariants.{Cells}
-use Rattle.addr_map.specs.Places.{MapSizes, AreMapped, spaces_begin, region_end}
-use Rattle.rv_isa.specs.declared.instruction.BranchOp.TheVariants.{Beq, Bne}
-use Rattle.rv_isa.specs.declared.instruction.LoadOp.TheVariants.{Ld}
-use Rattle.rv_isa.specs.Results.{extended}
-use Rattle.obj_memory.specs.declared.object.Storage.TheVariants.{Static, Allocated}
-use Rattle.obj_memory.specs.declared.value.Bounds.{Bounds}
-use Rattle.obj_memory.specs.declared.value.Tag.{Tag}
-use Rattle.obj_memory.specs.declared.value.Tag.TheVariants.{Untagged, OfFunction, OfObject}
+use Rattle.addr_map.specs.Places.{MapSizes, AreMapped}
+use Rattle.rv_isa.specs.declared.instruction.BranchOp.TheVariants.{Beq}
 use Rattle.obj_memory.specs.declared.value.Value.{Value}
-use Rattle.obj_memory.specs.Objects.{object_at, with_dead}
+use Rattle.obj_memory.specs.Objects.{object_at}
 use Rattle.obj_memory.specs.Heap.{block_count}
-use Rattle.obj_memory.specs.Sound.{IsSoundTag}
 use Rattle.source_meaning.specs.State.{State as Source, Outcome as Completed, Gives, Ended}
 use Rattle.source_meaning.specs.Acting.{at_work, state_of}
 use Rattle.source_meaning.specs.Actions.{integer}
-use Rattle.source_meaning.specs.Heap.{is_block_start, freed, free}
+use Rattle.source_meaning.specs.Heap.{freed, free}
 use Rattle.source_meaning.specs.Library.{argument}
-use Rattle.flat_meaning.specs.declared.instruction.RightOperand.TheVariants.{Register, Number}
+use Rattle.flat_meaning.specs.declared.instruction.RightOperand.TheVariants.{Number}
 use Rattle.flat_meaning.specs.declared.instruction.FlatInstruction.{FlatInstruction}
-use Rattle.flat_meaning.specs.declared.instruction.FlatInstruction.TheVariants.{Load, End}
-use Rattle.flat_meaning.specs.Memory.{Bytes, put, load}
-use Rattle.flat_meaning.specs.Spaces.{is_allowed}
+use Rattle.flat_meaning.specs.Memory.{Bytes}
 use Rattle.flat_meaning.specs.State.{State}
 use Rattle.flat_meaning.specs.Words.{IsOfWords}
 use Rattle.flat_meaning.specs.Meaning.{Context, Goes}
 use Rattle.flat_routines.specs.declared.registers.Held.{Held}
-use Rattle.flat_routines.specs.Registers.{AreBelow, OthersStay}
-use Rattle.flat_routines.specs.Local.{counted}
-use Rattle.flat_routines.specs.Routine.{HasAt, Outcome, Continues, Halts, Reaches, Does, Never}
-use Rattle.flat_routines.specs.Effects.{worked, effects}
+use Rattle.flat_routines.specs.Registers.{AreBelow}
+use Rattle.flat_routines.specs.Routine.{HasAt, Outcome, Continues, Halts, Reaches}
+use Rattle.flat_routines.specs.Effects.{worked}
 use Rattle.flat_routines.specs.Metadata.{View, held_registers, ShowsNothing}
 use Rattle.flat_routines.proofs.Steps.{has_front, has_back}
-use Rattle.flat_routines.proofs.Rules.{next, ended, arrived, weaken}
-use Rattle.flat_routines.proofs.Distinct.{AreRegisters}
-use Rattle.flat_objects.specs.StandsFor.{Views, Keys, spell, IsLock, global_lock, StandsFor}
+use Rattle.flat_routines.proofs.Rules.{arrived, weaken}
+use Rattle.flat_objects.specs.StandsFor.{Views, Keys, spell}
 use Rattle.flat_objects.proofs.Changing.{live_is_made}
-use Rattle.shadow_space.proofs.Entries.{context_of, agrees_shows, agrees_memory}
-use Rattle.lock_space.specs.Routines.{HasReleased, CanRelease, IsReleaseRoutine}
-use Rattle.lock_space.proofs.Spaces.{locks_laid_out, allowed_at}
-use Rattle.lock_space.proofs.Local.{lock_kept}
-use Rattle.heap_space.specs.Rows.{HasStart, size_of, without_row}
-use Rattle.heap_space.specs.Table.{block_total, block_rows, IsTableGood, KeepsButTable}
-use Rattle.heap_space.specs.Routines.{HasFound, IsFound, HasRemoved, IsFindRoutine}
+use Rattle.shadow_space.proofs.Entries.{context_of}
+use Rattle.lock_space.specs.Routines.{IsReleaseRoutine}
+use Rattle.heap_space.specs.Table.{block_total}
+use Rattle.heap_space.specs.Routines.{IsFindRoutine}
 use Rattle.heap_space.specs.Routines.{IsReleaseRoutine as IsUnlistRoutine}
-use Rattle.flat_actions.specs.Actions.{AreSpacesGood, IsFor, Pointer, Nowhere, AreHeldBy, IsHeldBy, Leaves, HasGiven}
-use Rattle.flat_actions.specs.Actions.{HasEnded, views_of, context_in, work_of}
-use Rattle.flat_actions.proofs.Standing.{for_still, shown_still, given_still, ended_still, keeps_same}
+use Rattle.flat_actions.specs.Actions.{IsFor, Pointer, Nowhere, AreHeldBy, IsHeldBy, Leaves}
+use Rattle.flat_actions.specs.Actions.{views_of, context_in, work_of}
+use Rattle.flat_actions.proofs.Standing.{for_still, given_still, ended_still, keeps_same}
 use Rattle.allocating_routines.specs.Allocating.{runtime_ground}
-use Rattle.allocating_routines.specs.Freeing.{IsFreeRoutine, IsBlockEnded, life_test, found_test, end_code, free_code}
-use Rattle.allocating_routines.proofs.Stretches.{IsDone, stretch_on, goes_past, goes_into, shows_both, shows_worked}
-use Rattle.allocating_routines.proofs.Stretches.{words_worked, are_equal, are_not_equal, differ, do_not_differ}
+use Rattle.allocating_routines.specs.Freeing.{IsFreeRoutine, life_test, found_test, end_code, free_code}
+use Rattle.allocating_routines.proofs.Stretches.{goes_past, goes_into, shows_both, shows_worked}
+use Rattle.allocating_routines.proofs.Stretches.{words_worked, are_equal, are_not_equal}
 use Rattle.allocating_routines.proofs.Zeroed.{AreLocal}
-use Rattle.allocating_routines.proofs.BlockMemory.{good_by_table, locks_by_table, block_ended}
-use Rattle.allocating_routines.proofs.BlockDeath.{lock_is_own, lock_is_used, block_died, death_elsewhere}
-use Rattle.allocating_routines.proofs.FoundRows.{parts_of_start, found_is_start, not_found_is_none}
 use Rattle.allocating_routines.proofs.Allocates.{rows_are_blocks}
 use Rattle.allocating_routines.proofs.SourceBlocks.{sought_in}
 use Rattle.allocating_routines.proofs.SourceFrees.{then_dead, frees_null, frees_by}
-use Rattle.allocating_routines.proofs.FreedTests.{IsFreed, IsTested, AreOutcomes, tested}
+use Rattle.allocating_routines.proofs.FreedTests.{AreOutcomes, tested}
 use Rattle.allocating_routines.proofs.BlockEnds.{ends_block}
 
 module _ (map : MapSizes) (mapped : AreMapped map) (entry : View) (IsGood : Bytes → Type 0)
@@ -90,8 +72,11 @@ module _ (map : MapSizes) (mapped : AreMapped map) (entry : View) (IsGood : Byte
       (Leaves g k IsGood Nowhere t x s o)
 
   body_length : length body ≡ 7 + length find + length unlist + length unlock
-  body_length = omega (arith, length-append find (found_test (t + 2) line ++ (unlist ++ unlock)),
-      length-append unlist unlock)
+  body_length = omega (
+    arith,
+    length-append find (found_test (t + 2) line ++ (unlist ++ unlock)),
+    length-append unlist unlock,
+  )
 
   module _ (code : List FlatInstruction) (pc : ℕ) (s : State) (has : HasAt code pc whole) (w : IsOfWords s)
       (f : IsFor g k IsGood x s) (held : IsHeldBy g k x.objects (Pointer h) v s.values) where
@@ -164,37 +149,37 @@ module _ (map : MapSizes) (mapped : AreMapped map) (entry : View) (IsGood : Byte
           (16 + 16 * block_total map s.memory) + (11 + 0),
           (let z = work_is (o_is e) in let y = count_is in omega arith),
           λ s2 w2 d2.
-          (let f2 = for_still g k IsGood x s1 s2 d2.memory d2.shows f1 in
-          let made = live_is_made x.objects n q.live in
-          let value : s2.values h.value ≡ (object_at x.objects n).address =
-          d2.others h.value below.0 tt ∙ held.0.word ∙ q.start in
-          let locked : s2.values h.tag.lock ≡ (k.held n).lock =
-          d2.others h.tag.lock below.1.1.1.1.0 tt ∙ ap (λ m. m.lock) held.0.tag
-          ∙ ap (λ y. (spell g k y).lock) q.tagged in
-          let same : block_total map s2.memory ≡ block_total map s.memory = ap (block_total map) d2.memory in
-          weaken c code ((16 + 16 * block_total map s2.memory) + (11 + 0))
-          ((16 + 16 * block_total map s.memory) + (11 + 0)) (Goes (pc + 1 + 5 + length find + 2) s2) (pc + length whole)
-          R R (omega arith) (λ y r. r)
-          (ends_block map mapped entry IsGood local h.value h.tag.lock t (below.0, (below.1.1.1.1.0, tt)) unlist unlock
-          unlists unlocks functions types k x n q.live q.block charge weight s2 f2 value locked code 0
-          (pc + 1 + 5 + length find + 2) (pc + length whole) R w2
-          (has_front code (pc + 1 + 5 + length find + 2) unlist unlock at_ends)
-          (has_back code (pc + 1 + 5 + length find + 2) unlist unlock at_ends)
-          (λ s4 w4 d4.
-          arrived c code 0 s4 (pc + 1 + 5 + length find + 2 + length unlist + length unlock) (pc + length whole) R end_is
-          (subst (λ o. Leaves g k IsGood Nowhere t x s o (Continues s4)) (sym (o_is e))
-          (record {
-            keys = k;
-            held = keeps_same x.objects k;
-            stands = d4.stands;
-            given = tt;
-            turns = d4.shows.turns ∙ d2.shows.turns;
-            elsewhere = record {
-              low = λ a l out. d4.low a l ∙ ap (λ m. m a) d2.memory;
-              behind = λ a l. d4.behind a l ∙ ap (λ m. m a) d2.memory;
-            };
-            others = λ r l none. d4.others r l tt ∙ d2.others r l tt;
-          }))))),
+              (let f2 = for_still g k IsGood x s1 s2 d2.memory d2.shows f1 in
+              let made = live_is_made x.objects n q.live in
+              let value : s2.values h.value ≡ (object_at x.objects n).address =
+              d2.others h.value below.0 tt ∙ held.0.word ∙ q.start in
+              let locked : s2.values h.tag.lock ≡ (k.held n).lock =
+              d2.others h.tag.lock below.1.1.1.1.0 tt ∙ ap (λ m. m.lock) held.0.tag
+              ∙ ap (λ y. (spell g k y).lock) q.tagged in
+              let same : block_total map s2.memory ≡ block_total map s.memory = ap (block_total map) d2.memory in
+              weaken c code ((16 + 16 * block_total map s2.memory) + (11 + 0))
+              ((16 + 16 * block_total map s.memory) + (11 + 0)) (Goes (pc + 1 + 5 + length find + 2) s2) (pc + length whole)
+              R R (omega arith) (λ y r. r)
+              (ends_block map mapped entry IsGood local h.value h.tag.lock t (below.0, (below.1.1.1.1.0, tt)) unlist unlock
+              unlists unlocks functions types k x n q.live q.block charge weight s2 f2 value locked code 0
+              (pc + 1 + 5 + length find + 2) (pc + length whole) R w2
+              (has_front code (pc + 1 + 5 + length find + 2) unlist unlock at_ends)
+              (has_back code (pc + 1 + 5 + length find + 2) unlist unlock at_ends)
+              (λ s4 w4 d4.
+              arrived c code 0 s4 (pc + 1 + 5 + length find + 2 + length unlist + length unlock) (pc + length whole) R end_is
+              (subst (λ o. Leaves g k IsGood Nowhere t x s o (Continues s4)) (sym (o_is e))
+              (record {
+                keys = k;
+                held = keeps_same x.objects k;
+                stands = d4.stands;
+                given = tt;
+                turns = d4.shows.turns ∙ d2.shows.turns;
+                elsewhere = record {
+                  low = λ a l out. d4.low a l ∙ ap (λ m. m a) d2.memory;
+                  behind = λ a l. d4.behind a l ∙ ap (λ m. m a) d2.memory;
+                };
+                others = λ r l none. d4.others r l tt ∙ d2.others r l tt;
+              }))))),
         );
       }
 

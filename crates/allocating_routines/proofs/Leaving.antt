@@ -1,5 +1,5 @@
 -- What is left of a state is left of one before it that differs in registers.
-use Rattle.std.proofs.Common.{◌≡◌, ℕ, ◌<◌, ◌≤◌, List, sym, ap, ◌∙◌, subst, arith}
+use Rattle.std.proofs.Common.{◌≡◌, ℕ, ◌≤◌, ap, ◌∙◌, arith}
 use Rattle.source_meaning.specs.State.{State as Source, Outcome as Completed, Gives, Ended, Paused}
 use Rattle.obj_memory.specs.declared.value.Value.{Value}
 use Rattle.flat_meaning.specs.Memory.{Bytes}
@@ -8,7 +8,7 @@ use Rattle.flat_routines.specs.Registers.{OthersStay}
 use Rattle.flat_routines.specs.Routine.{Outcome, Continues, Halts, Either}
 use Rattle.flat_routines.specs.Metadata.{ShowsNothing}
 use Rattle.flat_objects.specs.StandsFor.{Views, Keys}
-use Rattle.flat_actions.specs.Actions.{Holder, registers_of, HasGiven, HasEnded, Leaves}
+use Rattle.flat_actions.specs.Actions.{Holder, registers_of, Leaves}
 
 module _ (g : Views) (k : Keys) (IsGood : Bytes → Type 0) (result : Holder) (t u : ℕ) (le : t ≤ u) (x : Source)
     (s s1 : State) (memory : s1.memory ≡ s.memory) (shows : ShowsNothing s s1)

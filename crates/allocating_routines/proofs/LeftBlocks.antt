@@ -1,9 +1,7 @@
 -- The routine of a block that is left.
-use Rattle.std.proofs.Common.{◌≡◌, ℕ, ◌+◌, ◌<◌, ◌≤◌, inl, inr, List, true, length, refl, sym, ap, ◌∙◌, subst, arith}
-use Rattle.addr_map.specs.declared.region.Region.TheVariants.{Locks, StructureValues}
-use Rattle.addr_map.specs.Places.{MapSizes, AreMapped, spaces_begin, region_start}
-use Rattle.source_meaning.specs.State.{State as Source}
-use Rattle.source_meaning.specs.Blocks.{Block, leave_block}
+use Rattle.std.proofs.Common.{ℕ, ◌+◌, inl, inr, List, true, length, arith}
+use Rattle.addr_map.specs.Places.{MapSizes, AreMapped}
+use Rattle.source_meaning.specs.Blocks.{leave_block}
 use Rattle.flat_meaning.specs.declared.instruction.FlatInstruction.{FlatInstruction}
 use Rattle.flat_meaning.specs.Memory.{Bytes}
 use Rattle.flat_meaning.specs.State.{State}
@@ -11,9 +9,8 @@ use Rattle.flat_meaning.specs.Meaning.{Goes}
 use Rattle.flat_routines.specs.Routine.{Outcome, Continues, Halts, Either, Never}
 use Rattle.flat_routines.specs.Metadata.{View}
 use Rattle.flat_routines.proofs.Rules.{weaken}
-use Rattle.flat_objects.specs.StandsFor.{Views, Keys}
 use Rattle.shadow_space.proofs.Entries.{context_of}
-use Rattle.lock_space.specs.Routines.{HasReleased, CanRelease, IsReleaseRoutine}
+use Rattle.lock_space.specs.Routines.{HasReleased, IsReleaseRoutine}
 use Rattle.heap_space.proofs.Local.{rows_kept}
 use Rattle.heap_space.proofs.Regions.{table_laid_out}
 use Rattle.flat_actions.specs.Actions.{IsFor, views_of}

@@ -1,8 +1,7 @@
 -- `malloc` as an action.
-use Rattle.std.proofs.Common.{ℕ, ◌+◌, ◌*◌, ◌≡◌, List, [], ◌∷◌, length}
+use Rattle.std.proofs.Common.{ℕ, ◌+◌, ◌*◌, List, [], ◌∷◌, length}
 use Rattle.addr_map.specs.Places.{MapSizes}
 use Rattle.obj_memory.specs.declared.value.Value.{Value}
-use Rattle.source_meaning.specs.State.{State as Source}
 use Rattle.source_meaning.specs.Heap.{malloc}
 use Rattle.source_meaning.specs.Library.{argument}
 use Rattle.flat_meaning.specs.declared.instruction.FlatInstruction.{FlatInstruction}
@@ -13,7 +12,6 @@ use Rattle.flat_meaning.specs.Meaning.{Goes}
 use Rattle.flat_routines.specs.declared.registers.Held.{Held}
 use Rattle.flat_routines.specs.Routine.{HasAt, Reaches}
 use Rattle.flat_routines.specs.Metadata.{View}
-use Rattle.flat_objects.specs.StandsFor.{Keys}
 use Rattle.flat_actions.specs.Actions.{IsFor, Word, Pointer, AreHeldBy, Leaves, views_of, context_in, work_of}
 use Rattle.allocating_routines.specs.Premises.{AreStanding}
 use Rattle.allocating_routines.specs.Allocating.{runtime_ground, IsAllocateRoutine, IsMallocRoutine}

@@ -31,20 +31,19 @@ use Rattle.flat_routines.specs.Metadata.{View, held_registers, ShowsNothing}
 use Rattle.flat_routines.proofs.Steps.{has_front, has_back}
 use Rattle.flat_routines.proofs.Rules.{next, arrived, weaken}
 use Rattle.flat_objects.specs.StandsFor.{Views, Keys, spell}
-use Rattle.flat_objects.proofs.Changing.{live_is_made}
 use Rattle.shadow_space.proofs.Entries.{context_of}
 use Rattle.lock_space.specs.Routines.{IsReleaseRoutine}
 use Rattle.heap_space.specs.Table.{block_total}
 use Rattle.heap_space.specs.Routines.{IsFindRoutine}
 use Rattle.heap_space.specs.Routines.{IsReleaseRoutine as IsUnlistRoutine}
-use Rattle.flat_actions.specs.Actions.{IsFor, Word, Pointer, AreHeldBy, IsHeldBy, Leaves, HasGiven, views_of, context_in}
+use Rattle.flat_actions.specs.Actions.{IsFor, Word, Pointer, AreHeldBy, IsHeldBy, Leaves, views_of, context_in}
 use Rattle.flat_actions.specs.Actions.{work_of}
 use Rattle.flat_actions.specs.Ranges.{IsTaggedMoveRoutine}
 use Rattle.flat_actions.proofs.Standing.{for_still, ended_still}
 use Rattle.allocating_routines.specs.Premises.{AreStanding}
 use Rattle.allocating_routines.specs.Allocating.{runtime_ground, IsAllocateRoutine}
-use Rattle.allocating_routines.specs.Freeing.{life_test, found_test}
-use Rattle.allocating_routines.specs.Reallocating.{IsReallocRoutine, tests_code, lesser_code, replace_code, realloc_code}
+use Rattle.allocating_routines.specs.Freeing.{found_test}
+use Rattle.allocating_routines.specs.Reallocating.{IsReallocRoutine, tests_code, replace_code, realloc_code}
 use Rattle.allocating_routines.proofs.Stretches.{goes_past, goes_into, shows_both, shows_worked, words_worked, are_equal}
 use Rattle.allocating_routines.proofs.Stretches.{are_not_equal, above_none}
 use Rattle.allocating_routines.proofs.Zeroed.{AreLocal}
@@ -277,45 +276,43 @@ module _ (map : MapSizes) (mapped : AreMapped map) (entry : View) (IsGood : Byte
 
         no_place : a ≡ Gives (integer 0) (sought_in x) → Then
         no_place o =
-            let r = run_replaced o in
-            (
+            let r = run_replaced o in (
               (60 + 20 * work_of (allocate set z line) x) + 2,
               (let y = work_is r in let m = count_is in
-              let n = ap (λ o. (state_of o).work - x.work) o in omega arith),
+                  let n = ap (λ o. (state_of o).work - x.work) o in omega arith),
               λ s2 w2 d2.
-              block_reached s2 w2 d2.memory (shows_both s s1 s2 (shows_worked c s s itself) d2.shows) d2.others 2 R
-              (λ s3 w3 l.
-              let l' = subst (λ o. Leaves g k IsGood (Pointer into) (t + 4) x s2 o (Continues s3)) o l in
-              let w' = still_some s2 s3 d2.others (Gives (integer 0) (sought_in x)) l' in
-              goes_into c code 1 Z s3 Beq h.value (Number 0) (length (unless_code Beq into.value (Number 0) replace)) end R
-              at_guarded.0 (are_not_equal (s3.values h.value) 0 (λ y. some (sym w' ∙ y)))
-              (goes_past c code 0 (Z + 1) (Z + 1 + 1 + length replace) (worked c s3) Beq into.value (Number 0)
-              (length replace) end R at_guarded.1.0 refl (are_equal (s3.values into.value) 0 l'.given.word)
-              (arrived c code 0 (worked c (worked c s3)) (Z + 1 + 1 + length replace) end R inner_end
-              (subst (λ o. Leaves g k IsGood (Pointer into) t x s o (Continues (worked c (worked c s3)))) (sym r)
-              (back s2 w2 d2.memory (shows_both s s1 s2 (shows_worked c s s itself) d2.shows) d2.others
-              (Gives (integer 0) (sought_in x)) (Continues (worked c (worked c s3)))
-              (again s2 (worked c s3) (Gives (integer 0) (sought_in x))
-              (again s2 s3 (Gives (integer 0) (sought_in x)) l')))))))
-              (λ status report s3 l. absurd (subst (λ o. Leaves g k IsGood (Pointer into) (t + 4) x s2 o
-              (Halts status report s3)) o l)),
+                  block_reached s2 w2 d2.memory (shows_both s s1 s2 (shows_worked c s s itself) d2.shows) d2.others 2 R
+                  (λ s3 w3 l.
+                  let l' = subst (λ o. Leaves g k IsGood (Pointer into) (t + 4) x s2 o (Continues s3)) o l in
+                  let w' = still_some s2 s3 d2.others (Gives (integer 0) (sought_in x)) l' in
+                  goes_into c code 1 Z s3 Beq h.value (Number 0) (length (unless_code Beq into.value (Number 0) replace)) end R
+                  at_guarded.0 (are_not_equal (s3.values h.value) 0 (λ y. some (sym w' ∙ y)))
+                  (goes_past c code 0 (Z + 1) (Z + 1 + 1 + length replace) (worked c s3) Beq into.value (Number 0)
+                  (length replace) end R at_guarded.1.0 refl (are_equal (s3.values into.value) 0 l'.given.word)
+                  (arrived c code 0 (worked c (worked c s3)) (Z + 1 + 1 + length replace) end R inner_end
+                  (subst (λ o. Leaves g k IsGood (Pointer into) t x s o (Continues (worked c (worked c s3)))) (sym r)
+                  (back s2 w2 d2.memory (shows_both s s1 s2 (shows_worked c s s itself) d2.shows) d2.others
+                  (Gives (integer 0) (sought_in x)) (Continues (worked c (worked c s3)))
+                  (again s2 (worked c s3) (Gives (integer 0) (sought_in x))
+                  (again s2 s3 (Gives (integer 0) (sought_in x)) l')))))))
+                  (λ status report s3 l. absurd (subst (λ o. Leaves g k IsGood (Pointer into) (t + 4) x s2 o
+                  (Halts status report s3)) o l)),
             )
 
         no_key : a ≡ Ended (KeysSpent line) (sought_in x) → Then
         no_key o =
-            let r = run_replaced o in
-            (
+            let r = run_replaced o in (
               (60 + 20 * work_of (allocate set z line) x) + 0,
               (let y = work_is r in let m = count_is in
-              let n = ap (λ o. (state_of o).work - x.work) o in omega arith),
+                  let n = ap (λ o. (state_of o).work - x.work) o in omega arith),
               λ s2 w2 d2.
-              block_reached s2 w2 d2.memory (shows_both s s1 s2 (shows_worked c s s itself) d2.shows) d2.others 0 R
-              (λ s3 w3 l. absurd (subst (λ o. Leaves g k IsGood (Pointer into) (t + 4) x s2 o (Continues s3)) o l))
-              (λ status report s3 l.
-              subst (λ o. Leaves g k IsGood (Pointer into) t x s o (Halts status report s3)) (sym r)
-              (back s2 w2 d2.memory (shows_both s s1 s2 (shows_worked c s s itself) d2.shows) d2.others
-              (Ended (KeysSpent line) (sought_in x)) (Halts status report s3)
-              (subst (λ o. Leaves g k IsGood (Pointer into) (t + 4) x s2 o (Halts status report s3)) o l))),
+                  block_reached s2 w2 d2.memory (shows_both s s1 s2 (shows_worked c s s itself) d2.shows) d2.others 0 R
+                  (λ s3 w3 l. absurd (subst (λ o. Leaves g k IsGood (Pointer into) (t + 4) x s2 o (Continues s3)) o l))
+                  (λ status report s3 l.
+                  subst (λ o. Leaves g k IsGood (Pointer into) t x s o (Halts status report s3)) (sym r)
+                  (back s2 w2 d2.memory (shows_both s s1 s2 (shows_worked c s s itself) d2.shows) d2.others
+                  (Ended (KeysSpent line) (sought_in x)) (Halts status report s3)
+                  (subst (λ o. Leaves g k IsGood (Pointer into) (t + 4) x s2 o (Halts status report s3)) o l))),
             )
 
         made : (p : ℕ) → a ≡ Gives (new_pointer x.objects p z) (made_in p z x)
@@ -328,45 +325,44 @@ module _ (map : MapSizes) (mapped : AreMapped map) (entry : View) (IsGood : Byte
             let x2 = moved_in n z (place_in x1.objects (length x.objects) p) x1 in
             let r : run ≡ Gives new (ended_in n x2) = run_replaced o ∙ replaced_by x.objects p z n line x1 not_null in
             let l = lesser_of n z x1.objects in
-            let inner = suc (suc (suc (1 + ((40 + 16 * l) + ((16 + 16 * block_count x2.objects) + (11 + 0)))))) in
-            (
+            let inner = suc (suc (suc (1 + ((40 + 16 * l) + ((16 + 16 * block_count x2.objects) + (11 + 0)))))) in (
               (60 + 20 * work_of (allocate set z line) x) + inner,
               (let y = work_is r in let m = count_is in
-              let n = ap (λ o. (state_of o).work - x.work) o in omega arith),
+                  let n = ap (λ o. (state_of o).work - x.work) o in omega arith),
               λ s2 w2 d2.
-              block_reached s2 w2 d2.memory (shows_both s s1 s2 (shows_worked c s s itself) d2.shows) d2.others inner R
-              (λ s3 w3 l3.
-              let y = subst (λ o. Leaves g k IsGood (Pointer into) (t + 4) x s2 o (Continues s3)) o l3 in
-              let y' = again s2 (worked c s3) (Gives new x1) (again s2 s3 (Gives new x1) y) in
-              let value = still_some s2 s3 d2.others (Gives new x1) y in
-              let locked : s3.values h.tag.lock ≡ (k.held n).lock =
-              y.others h.tag.lock (let l = old_below.1.1.1.1.0 in omega arith) old_apart.1.1.1.1.0
-              ∙ d2.others h.tag.lock old_below.1.1.1.1.0 tt ∙ ap (λ m. m.lock) held.0.tag
-              ∙ ap (λ y. (spell g k y).lock) q.tagged in
-              let sized : s3.values (t + 1) ≡ (object_at x.objects n).size =
-              y.others (t + 1) (omega arith) (above_none t (t + 1) (held_registers into) into_below (omega arith))
-              ∙ d2.size in
-              let wanted : s3.values size ≡ z =
-              y.others size (omega (arith, size_below)) size_apart ∙ d2.others size size_below tt ∙ size_is in
-              goes_into c code (suc (suc (1 + ((40 + 16 * l) + ((16 + 16 * block_count x2.objects) + (11 + 0)))))) Z s3 Beq
-              h.value (Number 0) (length (unless_code Beq into.value (Number 0) replace)) end R at_guarded.0
-              (are_not_equal (s3.values h.value) 0 (λ y. some (sym value ∙ y)))
-              (goes_into c code (suc (1 + ((40 + 16 * l) + ((16 + 16 * block_count x2.objects) + (11 + 0))))) (Z + 1)
-              (worked c s3) Beq into.value (Number 0) (length replace) end R at_guarded.1.0
-              (are_not_equal (s3.values into.value) 0 (λ j. not_null (sym y.given.word ∙ j)))
-              (replaces_reached map mapped entry IsGood local h size into t old_below size_below into_below move unlist
-              unlock moves unlists unlocks functions types k x n z p q.live q.block lies charge weight s2
-              (f2 s2 w2 d2.memory (shows_both s s1 s2 (shows_worked c s s itself) d2.shows) d2.others)
-              (worked c (worked c s3)) y' (value ∙ q.start) locked sized wanted code (Z + 1 + 1) end R
-              (words_worked c (worked c s3) (words_worked c s3 w3)) at_guarded.1.1
-              (omega (arith, inner_end, replace_length))
-              (λ s6 y6.
-              subst (λ o. Leaves g k IsGood (Pointer into) t x s o (Continues s6)) (sym r)
-              (leaves_from g k IsGood (Pointer into) t t (omega arith) x s s2 d2.memory
-              (shows_both s s1 s2 (shows_worked c s s itself) d2.shows) (λ r l none. d2.others r l tt)
-              (Gives new (ended_in n x2)) (Continues s6) y6)))))
-              (λ status report s3 l3. absurd (subst (λ o. Leaves g k IsGood (Pointer into) (t + 4) x s2 o
-              (Halts status report s3)) o l3)),
+                  block_reached s2 w2 d2.memory (shows_both s s1 s2 (shows_worked c s s itself) d2.shows) d2.others inner R
+                  (λ s3 w3 l3.
+                  let y = subst (λ o. Leaves g k IsGood (Pointer into) (t + 4) x s2 o (Continues s3)) o l3 in
+                  let y' = again s2 (worked c s3) (Gives new x1) (again s2 s3 (Gives new x1) y) in
+                  let value = still_some s2 s3 d2.others (Gives new x1) y in
+                  let locked : s3.values h.tag.lock ≡ (k.held n).lock =
+                  y.others h.tag.lock (let l = old_below.1.1.1.1.0 in omega arith) old_apart.1.1.1.1.0
+                  ∙ d2.others h.tag.lock old_below.1.1.1.1.0 tt ∙ ap (λ m. m.lock) held.0.tag
+                  ∙ ap (λ y. (spell g k y).lock) q.tagged in
+                  let sized : s3.values (t + 1) ≡ (object_at x.objects n).size =
+                  y.others (t + 1) (omega arith) (above_none t (t + 1) (held_registers into) into_below (omega arith))
+                  ∙ d2.size in
+                  let wanted : s3.values size ≡ z =
+                  y.others size (omega (arith, size_below)) size_apart ∙ d2.others size size_below tt ∙ size_is in
+                  goes_into c code (suc (suc (1 + ((40 + 16 * l) + ((16 + 16 * block_count x2.objects) + (11 + 0)))))) Z s3 Beq
+                  h.value (Number 0) (length (unless_code Beq into.value (Number 0) replace)) end R at_guarded.0
+                  (are_not_equal (s3.values h.value) 0 (λ y. some (sym value ∙ y)))
+                  (goes_into c code (suc (1 + ((40 + 16 * l) + ((16 + 16 * block_count x2.objects) + (11 + 0))))) (Z + 1)
+                  (worked c s3) Beq into.value (Number 0) (length replace) end R at_guarded.1.0
+                  (are_not_equal (s3.values into.value) 0 (λ j. not_null (sym y.given.word ∙ j)))
+                  (replaces_reached map mapped entry IsGood local h size into t old_below size_below into_below move unlist
+                  unlock moves unlists unlocks functions types k x n z p q.live q.block lies charge weight s2
+                  (f2 s2 w2 d2.memory (shows_both s s1 s2 (shows_worked c s s itself) d2.shows) d2.others)
+                  (worked c (worked c s3)) y' (value ∙ q.start) locked sized wanted code (Z + 1 + 1) end R
+                  (words_worked c (worked c s3) (words_worked c s3 w3)) at_guarded.1.1
+                  (omega (arith, inner_end, replace_length))
+                  (λ s6 y6.
+                  subst (λ o. Leaves g k IsGood (Pointer into) t x s o (Continues s6)) (sym r)
+                  (leaves_from g k IsGood (Pointer into) t t (omega arith) x s s2 d2.memory
+                  (shows_both s s1 s2 (shows_worked c s s itself) d2.shows) (λ r l none. d2.others r l tt)
+                  (Gives new (ended_in n x2)) (Continues s6) y6)))))
+                  (λ status report s3 l3. absurd (subst (λ o. Leaves g k IsGood (Pointer into) (t + 4) x s2 o
+                  (Halts status report s3)) o l3)),
             )
 
         by_allocation : IsAllocated map set z line x → Then

@@ -1,19 +1,16 @@
 -- A new block takes the place of an old one: bytes and tags are moved, and the old block dies.
-use Rattle.std.proofs.Common.{◌≡◌, ◌≢◌, ℕ, suc, ◌+◌, ◌-◌, ◌*◌, ◌%◌, ◌^◌, ◌<◌, ◌≤◌, ◌⊎◌, inl, inr, ⊎_elim, List, [], ◌∷◌}
-use Rattle.std.proofs.Common.{◌++◌, true, length, min, refl, sym, ap, ◌∙◌, subst, arith}
+use Rattle.std.proofs.Common.{◌≡◌, ◌≢◌, ℕ, suc, ◌+◌, ◌-◌, ◌*◌, ◌<◌, ◌≤◌, ◌⊎◌, inl, inr, ⊎_elim, List, [], ◌∷◌}
+use Rattle.std.proofs.Common.{◌++◌, true, length, refl, sym, ap, ◌∙◌, subst, arith}
 use Rattle.std.proofs.lemmas.Bool.{cases_eq, cases_lt}
-use Rattle.addr_map.specs.declared.region.Region.TheVariants.{Heap, StructureValues}
-use Rattle.addr_map.specs.Places.{MapSizes, AreMapped, objects_begin, spaces_begin, region_start, region_end}
+use Rattle.addr_map.specs.Places.{MapSizes, AreMapped, spaces_begin}
 use Rattle.rv_isa.specs.declared.instruction.BranchOp.TheVariants.{Bgeu}
 use Rattle.obj_memory.specs.declared.object.Storage.TheVariants.{Allocated}
-use Rattle.obj_memory.specs.declared.value.Value.{Value}
 use Rattle.obj_memory.specs.declared.value.Place.{Place}
-use Rattle.obj_memory.specs.Objects.{ObjectState, Objects, object_at, new_object, with_new, with_dead}
+use Rattle.obj_memory.specs.Objects.{ObjectState, object_at, new_object}
 use Rattle.obj_memory.specs.Heap.{block_count}
 use Rattle.obj_memory.specs.Judgement.{place_in}
-use Rattle.obj_memory.specs.Access.{move_range}
 use Rattle.obj_memory.specs.Sound.{IsPlace, KeepsObjects}
-use Rattle.obj_memory.proofs.Making.{new_last, new_other, dead_is_dead, dead_other}
+use Rattle.obj_memory.proofs.Making.{new_last, new_other, dead_other}
 use Rattle.obj_memory.proofs.Keeping.{keeps_moved}
 use Rattle.source_meaning.specs.State.{State as Source}
 use Rattle.source_meaning.proofs.Holding.{length-new}
@@ -25,15 +22,15 @@ use Rattle.flat_meaning.specs.State.{State}
 use Rattle.flat_meaning.specs.Words.{IsOfWords}
 use Rattle.flat_meaning.specs.Meaning.{Context, Goes}
 use Rattle.flat_routines.specs.declared.registers.Held.{Held}
-use Rattle.flat_routines.specs.Registers.{AreBelow, AreNoneOf, IsNoneOf, OthersStay}
+use Rattle.flat_routines.specs.Registers.{AreBelow, OthersStay}
 use Rattle.flat_routines.specs.Routine.{HasAt, Outcome, Continues, Reaches, Never}
-use Rattle.flat_routines.specs.Effects.{worked, effects}
+use Rattle.flat_routines.specs.Effects.{worked}
 use Rattle.flat_routines.specs.Metadata.{View, held_registers, ShowsNothing}
 use Rattle.flat_routines.proofs.Steps.{has_front, has_back}
 use Rattle.flat_routines.proofs.Rules.{next, weaken, arrived}
 use Rattle.flat_routines.proofs.Distinct.{AreRegisters}
 use Rattle.flat_routines.proofs.Regions.{laid_out}
-use Rattle.flat_objects.specs.StandsFor.{Views, Keys, Spells, IsHere, StandsFor}
+use Rattle.flat_objects.specs.StandsFor.{Views, Keys, IsHere}
 use Rattle.flat_objects.specs.Changes.{IsMoved}
 use Rattle.flat_objects.proofs.Changing.{live_is_made}
 use Rattle.flat_objects.proofs.Moves.{move_stands}
@@ -43,7 +40,7 @@ use Rattle.heap_space.specs.Table.{block_total}
 use Rattle.heap_space.specs.Routines.{IsReleaseRoutine as IsUnlistRoutine}
 use Rattle.heap_space.proofs.Regions.{not_below, is_below}
 use Rattle.flat_actions.specs.Actions.{IsFor, Pointer, HasGiven, StaysElsewhere, views_of}
-use Rattle.flat_actions.specs.Ranges.{IsObjectRange, IsToMove, HasMovedTagged, IsTaggedMoveRoutine}
+use Rattle.flat_actions.specs.Ranges.{IsToMove, HasMovedTagged, IsTaggedMoveRoutine}
 use Rattle.flat_actions.proofs.Standing.{good_still, shown_still, spells_still, none_of_none}
 use Rattle.allocating_routines.specs.Reallocating.{lesser_code, replace_code}
 use Rattle.allocating_routines.proofs.Stretches.{IsDone, stretch_on, goes_past, goes_into, shows_both, shows_worked}
@@ -277,8 +274,7 @@ module _ (map : MapSizes) (mapped : AreMapped map) (entry : View) (IsGood : Byte
             × ((object_at final.objects j).address ≡ (object_at x1.objects j).address)
             × ((object_at final.objects j).size ≡ (object_at x1.objects j).size)
         lives_on j ne lj =
-            let other = dead_other n j x2.objects ne in
-            (
+            let other = dead_other n j x2.objects ne in (
               ap (λ o. o.is_live) other ∙ (keeps.at j).live ∙ lj,
               ap (λ o. o.address) other ∙ (keeps.at j).address,
               ap (λ o. o.size) other ∙ (keeps.at j).size,

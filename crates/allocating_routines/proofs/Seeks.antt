@@ -1,12 +1,11 @@
 -- A place for a block is sought: how many keys were made, the place, and a pointer to it without a tag.
-use Rattle.std.proofs.Common.{◌≡◌, ◌≢◌, ℕ, ◌+◌, ◌*◌, ◌%◌, ◌^◌, ◌<◌, ◌≤◌, List, [], ◌∷◌, ◌++◌, true, length, refl, sym, ap}
+use Rattle.std.proofs.Common.{◌≡◌, ℕ, ◌+◌, ◌*◌, ◌%◌, ◌^◌, ◌≤◌, List, [], ◌∷◌, ◌++◌, true, length, refl, sym, ap}
 use Rattle.std.proofs.Common.{◌∙◌, subst, arith}
 use Rattle.addr_map.specs.declared.region.Region.TheVariants.{FreeLocks}
 use Rattle.addr_map.specs.Places.{MapSizes, AreMapped, region_start}
 use Rattle.rv_isa.specs.Results.{reg_result, extended}
-use Rattle.source_meaning.specs.State.{State as Source}
 use Rattle.flat_meaning.specs.declared.instruction.FlatInstruction.{FlatInstruction}
-use Rattle.flat_meaning.specs.Memory.{Bytes, put, load}
+use Rattle.flat_meaning.specs.Memory.{put, load}
 use Rattle.flat_meaning.specs.State.{State}
 use Rattle.flat_meaning.specs.Words.{IsOfWords}
 use Rattle.flat_meaning.specs.Meaning.{Context, Goes}

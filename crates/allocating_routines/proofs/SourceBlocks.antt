@@ -1,5 +1,5 @@
 -- Blocks of the heap in the source: `malloc` by whether a place is found and a key is left.
-use Rattle.std.proofs.Common.{◌≡◌, ℕ, ◌+◌, Bool, true, false, Option, Some, None, length, refl, ap, ◌∙◌}
+use Rattle.std.proofs.Common.{◌≡◌, ℕ, ◌+◌, Bool, true, false, Some, None, length, ap, ◌∙◌}
 use Rattle.std.specs.Prelude.{nat_lt}
 use Rattle.sb_base.specs.declared.ending.Ending.TheVariants.{Keys}
 use Rattle.obj_memory.specs.declared.object.Storage.TheVariants.{Allocated}

@@ -1,8 +1,8 @@
 -- Blocks that are entered, in the source: which objects stand where.
-use Rattle.std.proofs.Common.{◌≡◌, ◌≢◌, ℕ, zero, suc, ◌+◌, ◌-◌, ◌*◌, ◌/◌, ◌%◌, ◌<◌, ◌≤◌, ◌⊎◌, inl, inr, ⊎_elim, List, []}
-use Rattle.std.proofs.Common.{◌∷◌, Bool, true, false, ◌||◌, if◌then◌else◌, length, refl, sym, ap, ◌∙◌, subst, arith}
+use Rattle.std.proofs.Common.{◌≡◌, ℕ, ◌+◌, ◌*◌, ◌%◌, ◌<◌, ◌≤◌, ⊎_elim, List, []}
+use Rattle.std.proofs.Common.{◌∷◌, Bool, true, false, ◌||◌, if◌then◌else◌, length, refl, sym, ap, ◌∙◌, arith}
 use Rattle.std.specs.Prelude.{nat_le, nat_lt}
-use Rattle.std.proofs.lemmas.Bool.{cases_lt, cases_Bool, cond-true, cond-false}
+use Rattle.std.proofs.lemmas.Bool.{cases_lt}
 use Rattle.sb_base.specs.declared.ending.Ending.TheVariants.{Stack as StackSpent, Keys as KeysSpent}
 use Rattle.addr_map.specs.declared.region.Region.TheVariants.{Stack}
 use Rattle.addr_map.specs.Places.{MapSizes, AreMapped, region_end}
@@ -15,7 +15,7 @@ use Rattle.obj_memory.proofs.Soundness.{sound_new}
 use Rattle.c_tree.specs.declared.program.Variable.{Variable}
 use Rattle.c_tree.specs.Kinds.{size_of_kind}
 use Rattle.source_meaning.specs.State.{State as Source, Outcome as Completed, Gives, Ended, Home, NoObject, InObject, Setting}
-use Rattle.source_meaning.specs.State.{on, choose, done, change, stop, skip, ◌>>=◌, ◌>>◌}
+use Rattle.source_meaning.specs.State.{on, choose, done, change, stop, skip, ◌>>◌}
 use Rattle.source_meaning.specs.Actions.{take_key}
 use Rattle.source_meaning.specs.Blocks.{pass_or_stop, objects_end, has_objects, test_keys, place_object, place_variables}
 use Rattle.source_meaning.specs.Blocks.{homes_over, Block, place_block, enter_block}
@@ -257,8 +257,7 @@ placed_from (v ∷ vs) top objects = by (λ o os. placed_from vs o os) v.is_obje
           longer = omega arith;
           same = λ n l. r.same n (omega arith) ∙ new_other Automatic a z n objects l;
           fresh = λ n l h. ⊎_elim
-              (λ (first : n < length mid). (let here : length objects ≡ n = omega arith in
-              (
+              (λ (first : n < length mid). (let here : length objects ≡ n = omega arith in (
                 a,
                 z,
                 r.same n first ∙ ap (object_at mid) (sym here) ∙ new_last Automatic a z objects,

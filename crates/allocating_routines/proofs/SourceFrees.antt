@@ -1,16 +1,13 @@
 -- `free` in the source, by what the tag of the pointer names.
-use Rattle.std.proofs.Common.{◌≡◌, ◌≢◌, ℕ, ◌+◌, Bool, true, false, refl, ap, ◌∙◌}
-use Rattle.std.specs.Prelude.{◌==◌}
+use Rattle.std.proofs.Common.{◌≡◌, ◌≢◌, ℕ, Bool, true, false, ap, ◌∙◌}
 use Rattle.std.proofs.lemmas.Bool.{eq-eqb, ne_eqb}
 use Rattle.sb_base.specs.declared.ending.Ending.TheVariants.{Temporal, BadFree}
 use Rattle.obj_memory.specs.declared.value.Bounds.{Bounds}
-use Rattle.obj_memory.specs.declared.value.Tag.{Tag}
 use Rattle.obj_memory.specs.declared.value.Tag.TheVariants.{Untagged, OfFunction, OfObject}
 use Rattle.obj_memory.specs.declared.value.Value.{Value}
 use Rattle.obj_memory.specs.Objects.{object_at, with_dead}
-use Rattle.obj_memory.specs.Heap.{block_count}
-use Rattle.source_meaning.specs.State.{State as Source, Outcome as Completed, Run, Gives, Ended, on, choose, done, stop}
-use Rattle.source_meaning.specs.State.{◌>>=◌, ◌>>◌}
+use Rattle.source_meaning.specs.State.{State as Source, Outcome as Completed, Gives, Ended, on, choose, done, stop}
+use Rattle.source_meaning.specs.State.{◌>>◌}
 use Rattle.source_meaning.specs.Actions.{integer}
 use Rattle.source_meaning.specs.Heap.{bad_free, is_block_start, freed_by, freed, release, free}
 use Rattle.allocating_routines.proofs.SourceBlocks.{sought_in}

@@ -1,21 +1,18 @@
 -- `realloc` in the source, by the block that is freed and by what is allocated.
-use Rattle.std.proofs.Common.{◌≡◌, ◌≢◌, ℕ, ◌+◌, ◌<◌, ◌≤◌, Bool, true, false, Option, Some, None, length, min, refl, sym, ap}
-use Rattle.std.proofs.Common.{◌∙◌, subst, arith, ⊎_elim}
-use Rattle.std.specs.Prelude.{nat_lt}
+use Rattle.std.proofs.Common.{◌≡◌, ◌≢◌, ℕ, ◌+◌, Bool, Option, Some, None, length, min, refl, ap}
+use Rattle.std.proofs.Common.{◌∙◌, ⊎_elim}
 use Rattle.std.proofs.lemmas.Bool.{eq-eqb, ne_eqb, cases_lt, lt-ltb, le-ltb}
-use Rattle.sb_base.specs.declared.ending.Ending.{Ending}
 use Rattle.sb_base.specs.declared.ending.Ending.TheVariants.{Keys as KeysSpent}
 use Rattle.addr_map.specs.Places.{MapSizes, AreMapped}
-use Rattle.obj_memory.specs.declared.object.Storage.TheVariants.{Allocated}
 use Rattle.obj_memory.specs.declared.value.Tag.TheVariants.{OfObject}
 use Rattle.obj_memory.specs.declared.value.Value.{Value}
 use Rattle.obj_memory.specs.declared.value.Place.{Place}
 use Rattle.obj_memory.specs.declared.judgement.Verdict.{Verdict}
 use Rattle.obj_memory.specs.declared.judgement.Verdict.TheVariants.{Inside}
-use Rattle.obj_memory.specs.Objects.{Objects, object_at, with_new, with_dead}
-use Rattle.obj_memory.specs.Judgement.{place_in, named_in, named}
+use Rattle.obj_memory.specs.Objects.{Objects, object_at}
+use Rattle.obj_memory.specs.Judgement.{place_in, named}
 use Rattle.obj_memory.specs.Access.{move_range}
-use Rattle.source_meaning.specs.State.{State as Source, Outcome as Completed, Run, Gives, Ended, on, choose, done, Setting}
+use Rattle.source_meaning.specs.State.{State as Source, Outcome as Completed, Gives, Ended, on, choose, done, Setting}
 use Rattle.source_meaning.specs.State.{read_state, ◌>>=◌, ◌>>◌}
 use Rattle.source_meaning.specs.Actions.{integer, is_zero, place_or_stop, move_bytes}
 use Rattle.source_meaning.specs.Heap.{block_place, allocate, freed, release, move_block, replace_block, realloc}

@@ -1,5 +1,5 @@
 -- The routine that makes a range of object space zero, over any form of the shadow space.
-use Rattle.std.proofs.Common.{◌≡◌, ℕ, ◌+◌, ◌-◌, ◌*◌, ◌/◌, ◌%◌, ◌^◌, ◌<◌, ◌≤◌, ◌⊎◌, inl, inr, ⊎_elim, List, [], ◌∷◌}
+use Rattle.std.proofs.Common.{◌≡◌, ℕ, ◌+◌, ◌-◌, ◌*◌, ◌/◌, ◌%◌, ◌^◌, ◌<◌, ◌≤◌, ◌⊎◌, inl, inr, List, [], ◌∷◌}
 use Rattle.std.proofs.Common.{◌++◌, true, length, refl, sym, ap, ◌∙◌, subst, arith, length-append}
 use Rattle.addr_map.specs.declared.region.Region.TheVariants.{Heap, Shadow, Locks, Blocks}
 use Rattle.addr_map.specs.Places.{MapSizes, AreMapped, objects_begin, spaces_begin, region_size, region_start}
@@ -17,7 +17,7 @@ use Rattle.flat_routines.specs.Effects.{effects}
 use Rattle.flat_routines.specs.Renaming.{through}
 use Rattle.flat_routines.specs.Metadata.{View, no_metadata, IsObjectWord, KeepsShadow, ShowsNothing}
 use Rattle.flat_routines.proofs.Steps.{has_front, has_back, has_self}
-use Rattle.flat_routines.proofs.Rules.{line, next, line_on, weaken}
+use Rattle.flat_routines.proofs.Rules.{line, next, weaken}
 use Rattle.flat_routines.proofs.Distinct.{AreRegisters, register_of, registers_rename, others_stay}
 use Rattle.flat_routines.proofs.Regions.{IsLaidOut, laid_out}
 use Rattle.flat_routines.proofs.Wrapped.{routine}
@@ -29,10 +29,9 @@ use Rattle.lock_space.proofs.Local.{good_kept as locks_kept}
 use Rattle.heap_space.proofs.Regions.{table_laid_out}
 use Rattle.heap_space.proofs.Local.{good_kept as table_kept}
 use Rattle.flat_actions.specs.Actions.{AreSpacesGood}
-use Rattle.flat_actions.specs.Ranges.{IsObjectRange}
 use Rattle.allocating_routines.specs.Zeroing.{IsToZero, IsZeroed, HasZeroed, IsZeroRoutine, word_bytes, begin_zero}
 use Rattle.allocating_routines.specs.Zeroing.{zero_until, to_the_end, zero_bytes, zero_code}
-use Rattle.allocating_routines.proofs.Stretches.{IsDone, stretch_on, others_both, others_below, shows_both}
+use Rattle.allocating_routines.proofs.Stretches.{stretch_on, others_below, shows_both}
 use Rattle.allocating_routines.proofs.Zeros.{Filling, fills}
 
 -- what holds of a form of the shadow space: entries depend on its bytes alone
@@ -233,8 +232,7 @@ module _ (map : MapSizes) (mapped : AreMapped map) (entry : View) (IsGood : Byte
       let a = p.aligned in
       let shadow : KeepsShadow map m1 m2 = λ i l. two (spaces_begin + i) (inr (omega arith)) in
       let still = local m1 m2 shadow good in
-      let behind = locks_behind map in
-      (
+      let behind = locks_behind map in (
         still.0,
         record {
           zeros = zeros;
@@ -285,8 +283,7 @@ module _ (map : MapSizes) (mapped : AreMapped map) (entry : View) (IsGood : Byte
             next c code (32 + 32 * count) (6 + (count * 4 + (n - 8 * count) * 4)) (Goes (pc + 2) s1)
             (pc + 2 + length clear) (pc + 2 + length clear + 12) (HasCleared map entry IsGood first count (t + 1) s1)
             Never _ w1
-            ((clears count true charge weight).from code (pc + 2) s1 (has_front code (pc + 2) clear tail two) w1
-            (
+            ((clears count true charge weight).from code (pc + 2) s1 (has_front code (pc + 2) clear tail two) w1 (
               record {
                 begins = omega arith;
                 ends = omega arith;

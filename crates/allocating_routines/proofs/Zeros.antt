@@ -1,25 +1,24 @@
 -- A range of object space becomes zero.
-use Rattle.std.proofs.Common.{◌≡◌, ℕ, zero, suc, ◌+◌, ◌-◌, ◌*◌, ◌/◌, ◌%◌, ◌^◌, ◌<◌, ◌≤◌, ◌⊎◌, inl, inr, ⊎_elim, List}
-use Rattle.std.proofs.Common.{[], ◌∷◌, ◌++◌, Bool, true, ◌&&◌, ◌||◌, length, refl, sym, ap, ◌∙◌, subst, arith}
+use Rattle.std.proofs.Common.{◌≡◌, ℕ, zero, suc, ◌+◌, ◌-◌, ◌*◌, ◌%◌, ◌^◌, ◌<◌, ◌≤◌, inl, inr, ⊎_elim, List}
+use Rattle.std.proofs.Common.{[], ◌∷◌, true, ◌||◌, refl, sym, ap, ◌∙◌, subst, arith}
 use Rattle.std.specs.Prelude.{nat_le}
 use Rattle.std.proofs.lemmas.Bool.{le-leb, and_from, cases_lt}
 use Rattle.std.proofs.Math.Nat.{suc-mul}
-use Rattle.addr_map.specs.declared.region.Region.TheVariants.{Heap, Cells}
-use Rattle.addr_map.specs.Places.{MapSizes, objects_begin, spaces_begin, region_end}
+use Rattle.addr_map.specs.declared.region.Region.TheVariants.{Heap}
+use Rattle.addr_map.specs.Places.{MapSizes, objects_begin, region_end}
 use Rattle.rv_isa.specs.declared.instruction.BranchOp.TheVariants.{Bgeu}
 use Rattle.rv_isa.specs.declared.instruction.StoreOp.{StoreOp}
-use Rattle.rv_isa.specs.declared.instruction.StoreOp.TheVariants.{Sb, Sd}
 use Rattle.rv_isa.specs.Results.{reg_result, store_bytes}
 use Rattle.flat_meaning.specs.declared.instruction.RightOperand.TheVariants.{Register}
 use Rattle.flat_meaning.specs.declared.instruction.FlatInstruction.{FlatInstruction}
 use Rattle.flat_meaning.specs.declared.instruction.FlatInstruction.TheVariants.{JumpBack}
 use Rattle.flat_meaning.specs.Memory.{Bytes, put, store, KeepsBut}
-use Rattle.flat_meaning.specs.Spaces.{is_of_objects, is_of_runtime, is_allowed}
+use Rattle.flat_meaning.specs.Spaces.{is_of_runtime, is_allowed}
 use Rattle.flat_meaning.specs.State.{State}
 use Rattle.flat_meaning.specs.Words.{IsOfWords}
 use Rattle.flat_meaning.specs.Meaning.{Context, Goes}
 use Rattle.flat_meaning.proofs.Stored.{put_same, store_beside, keeps_within, keeps_both}
-use Rattle.flat_routines.specs.Routine.{Outcome, Continues, Halts, HasAt, Reaches, Either, Never, until_code}
+use Rattle.flat_routines.specs.Routine.{Outcome, Continues, Halts, HasAt, Reaches, Either, Never}
 use Rattle.flat_routines.specs.Effects.{worked, effects, AreAllowed}
 use Rattle.flat_routines.specs.Metadata.{ShowsNothing}
 use Rattle.flat_routines.proofs.Steps.{has_front}

@@ -1,7 +1,7 @@
 -- Keys of objects that are born together, and what is made of the memory for a block of the heap.
 use Rattle.std.specs.Prelude.{◌≡◌, ℕ, suc, ◌+◌, ◌*◌, ◌/◌, ◌<◌, ◌≤◌, ◌⊎◌, nat_lt, if◌then◌else◌}
-use Rattle.addr_map.specs.declared.region.Region.TheVariants.{Heap, StructureValues}
-use Rattle.addr_map.specs.Places.{MapSizes, spaces_begin, region_start, region_end}
+use Rattle.addr_map.specs.declared.region.Region.TheVariants.{StructureValues}
+use Rattle.addr_map.specs.Places.{MapSizes, spaces_begin, region_start}
 use Rattle.flat_meaning.specs.Memory.{Bytes, Beside, load}
 use Rattle.flat_routines.specs.Metadata.{View, no_metadata, IsObjectWord}
 use Rattle.flat_objects.specs.StandsFor.{Keys}

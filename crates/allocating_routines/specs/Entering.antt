@@ -1,7 +1,6 @@
 -- Blocks that are entered and left, in flat code: all objects of a block are born under one lock word with one key, and
 -- die together.
-use Rattle.std.specs.Prelude.{◌≡◌, ◌≢◌, ℕ, ◌+◌, ◌*◌, ◌<◌, ◌≤◌, ◌⊎◌, Bool, true, false, List, [], ◌∷◌, ◌++◌, length}
-use Rattle.std.specs.Prelude.{if◌then◌else◌}
+use Rattle.std.specs.Prelude.{◌≡◌, ℕ, ◌+◌, ◌*◌, ◌<◌, ◌≤◌, ◌⊎◌, true, List, [], ◌∷◌, ◌++◌, length}
 use Rattle.sb_base.specs.declared.ending.Ending.TheVariants.{Stack as StackSpent}
 use Rattle.rv_isa.specs.declared.instruction.BranchOp.TheVariants.{Bgeu}
 use Rattle.rv_isa.specs.declared.instruction.RegOp.TheVariants.{Add, Sub, Sll, Srl}
@@ -23,7 +22,7 @@ use Rattle.flat_meaning.specs.Memory.{Bytes}
 use Rattle.flat_meaning.specs.State.{State}
 use Rattle.flat_routines.specs.Registers.{OthersStay}
 use Rattle.flat_routines.specs.Routine.{Does, Outcome, Continues, Halts, Either, Never}
-use Rattle.flat_routines.specs.Metadata.{View, ShowsNothing}
+use Rattle.flat_routines.specs.Metadata.{View}
 use Rattle.flat_objects.specs.StandsFor.{Views, Keys}
 use Rattle.flat_actions.specs.Actions.{IsFor, KeepsHeld, HasEnded, views_of, context_in, work_of}
 use Rattle.allocating_routines.specs.declared.entering.EntryRegisters.{EntryRegisters}
@@ -131,12 +130,12 @@ pub record AreOfLock (k : Keys) (x : Source) (homes : List Home) (lock : ℕ) : 
   pub home : (n : ℕ) → (object_at x.objects n).is_live ≡ true → (k.held n).lock ≡ lock → IsHomeOf n homes
 
 pub record HasLeft (g : Views) (k : Keys) (IsGood : Bytes → Type 0) (scratch : ℕ) (x' : Source) (f f' : State) : Type 0
-    where
-  pub stands : IsFor g k IsGood x' f'
-  pub turns : f'.turns ≡ f.turns
-  pub low : (a : ℕ) → a < spaces_begin → f'.memory a ≡ f.memory a
-  pub behind : (a : ℕ) → region_start g.sizes StructureValues ≤ a → f'.memory a ≡ f.memory a
-  pub others : OthersStay [] scratch f f'
+  where
+    pub stands : IsFor g k IsGood x' f'
+    pub turns : f'.turns ≡ f.turns
+    pub low : (a : ℕ) → a < spaces_begin → f'.memory a ≡ f.memory a
+    pub behind : (a : ℕ) → region_start g.sizes StructureValues ≤ a → f'.memory a ≡ f.memory a
+    pub others : OthersStay [] scratch f f'
 
 -- a register holds the lock word of the block: within 11 steps its objects die
 abbrev pub IsLeaveRoutine : MapSizes → View → (Bytes → Type 0) → (lock scratch : ℕ) → List FlatInstruction → Type 0

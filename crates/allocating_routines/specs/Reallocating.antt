@@ -1,5 +1,5 @@
 -- `realloc` in flat code.
-use Rattle.std.specs.Prelude.{◌≡◌, ℕ, ◌+◌, List, [], ◌∷◌, ◌++◌}
+use Rattle.std.specs.Prelude.{◌≡◌, ℕ, List, [], ◌∷◌, ◌++◌}
 use Rattle.rv_isa.specs.declared.instruction.BranchOp.TheVariants.{Beq, Bgeu}
 use Rattle.addr_map.specs.Places.{MapSizes}
 use Rattle.source_meaning.specs.State.{Setting}

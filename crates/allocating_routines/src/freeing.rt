@@ -130,7 +130,11 @@ pub(crate) fn life_test(
 }
 
 // Whether a block was found.
-pub(crate) fn found_test(alloc: Global, found: u32, line: Line) -> Result<Vec<FlatInstruction>, AllocError>
+pub(crate) fn found_test(
+    alloc: Global,
+    found: u32,
+    line: Line,
+) -> Result<Vec<FlatInstruction>, AllocError>
     ensures { IfOk result (λ r. r.items ≡ found_test found line) }
 {
     let code = [

@@ -10,7 +10,7 @@ pub mod reallocating;
 pub mod zeroing;
 
 pub use crate::allocating::{calloc, malloc};
-pub use crate::entering::{enter, leave, EntryRegisters};
+pub use crate::entering::{EntryRegisters, enter, leave};
 pub use crate::freeing::free;
 pub use crate::reallocating::realloc;
 pub use crate::zeroing::zero;

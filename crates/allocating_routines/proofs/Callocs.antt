@@ -30,9 +30,10 @@ use Rattle.flat_routines.proofs.Words.{same_metadata}
 use Rattle.flat_objects.specs.StandsFor.{Views, Keys, Spells}
 use Rattle.shadow_space.proofs.Entries.{context_of, agrees_shows, agrees_memory}
 use Rattle.flat_actions.specs.Actions.{IsFor, Word, Pointer, AreHeldBy, Leaves, views_of, context_in, work_of}
+use Rattle.flat_actions.specs.Actions.{runtime_ground}
 use Rattle.flat_actions.proofs.Standing.{for_still, given_still}
 use Rattle.allocating_routines.specs.Premises.{AreStanding}
-use Rattle.allocating_routines.specs.Allocating.{runtime_ground, IsAllocateRoutine, IsCallocRoutine, product_code, null_code}
+use Rattle.allocating_routines.specs.Allocating.{IsAllocateRoutine, IsCallocRoutine, product_code, null_code}
 use Rattle.allocating_routines.specs.Allocating.{calloc_code}
 use Rattle.allocating_routines.proofs.Stretches.{IsDone, stretch_on, goes_past, goes_into, shows_both, shows_worked}
 use Rattle.allocating_routines.proofs.Stretches.{words_worked, differ, do_not_differ, above_none, below_more}

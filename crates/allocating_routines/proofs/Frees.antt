@@ -35,10 +35,9 @@ use Rattle.lock_space.specs.Routines.{IsReleaseRoutine}
 use Rattle.heap_space.specs.Table.{block_total}
 use Rattle.heap_space.specs.Routines.{IsFindRoutine}
 use Rattle.heap_space.specs.Routines.{IsReleaseRoutine as IsUnlistRoutine}
-use Rattle.flat_actions.specs.Actions.{IsFor, Pointer, Nowhere, AreHeldBy, IsHeldBy, Leaves}
+use Rattle.flat_actions.specs.Actions.{IsFor, Pointer, Nowhere, AreHeldBy, IsHeldBy, Leaves, runtime_ground}
 use Rattle.flat_actions.specs.Actions.{views_of, context_in, work_of}
 use Rattle.flat_actions.proofs.Standing.{for_still, given_still, ended_still, keeps_same}
-use Rattle.allocating_routines.specs.Allocating.{runtime_ground}
 use Rattle.allocating_routines.specs.Freeing.{IsFreeRoutine, life_test, found_test, end_code, free_code}
 use Rattle.allocating_routines.proofs.Stretches.{goes_past, goes_into, shows_both, shows_worked}
 use Rattle.allocating_routines.proofs.Stretches.{words_worked, are_equal, are_not_equal}

@@ -37,11 +37,12 @@ use Rattle.heap_space.specs.Table.{block_total}
 use Rattle.heap_space.specs.Routines.{IsFindRoutine}
 use Rattle.heap_space.specs.Routines.{IsReleaseRoutine as IsUnlistRoutine}
 use Rattle.flat_actions.specs.Actions.{IsFor, Word, Pointer, AreHeldBy, IsHeldBy, Leaves, views_of, context_in}
+use Rattle.flat_actions.specs.Actions.{runtime_ground}
 use Rattle.flat_actions.specs.Actions.{work_of}
 use Rattle.flat_actions.specs.Ranges.{IsTaggedMoveRoutine}
 use Rattle.flat_actions.proofs.Standing.{for_still, ended_still}
 use Rattle.allocating_routines.specs.Premises.{AreStanding}
-use Rattle.allocating_routines.specs.Allocating.{runtime_ground, IsAllocateRoutine}
+use Rattle.allocating_routines.specs.Allocating.{IsAllocateRoutine}
 use Rattle.allocating_routines.specs.Freeing.{found_test}
 use Rattle.allocating_routines.specs.Reallocating.{IsReallocRoutine, tests_code, replace_code, realloc_code}
 use Rattle.allocating_routines.proofs.Stretches.{goes_past, goes_into, shows_both, shows_worked, words_worked, are_equal}

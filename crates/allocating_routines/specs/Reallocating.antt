@@ -12,9 +12,8 @@ use Rattle.flat_meaning.specs.Memory.{Bytes}
 use Rattle.flat_routines.specs.declared.registers.Held.{Held}
 use Rattle.flat_routines.specs.Routine.{unless_code}
 use Rattle.flat_routines.specs.Metadata.{View}
-use Rattle.flat_actions.specs.Actions.{Word, Pointer, IsActionIn}
+use Rattle.flat_actions.specs.Actions.{Word, Pointer, IsActionIn, runtime_ground}
 use Rattle.allocating_routines.specs.Premises.{AreStanding}
-use Rattle.allocating_routines.specs.Allocating.{runtime_ground}
 use Rattle.allocating_routines.specs.Freeing.{life_test, found_test}
 
 -- under every setting with these sizes, within 100 steps and 30 for each unit of work

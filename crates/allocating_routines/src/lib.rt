@@ -5,7 +5,6 @@
 pub mod allocating;
 pub mod entering;
 pub mod freeing;
-mod lists;
 pub mod reallocating;
 pub mod zeroing;
 

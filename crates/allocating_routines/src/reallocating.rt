@@ -1,6 +1,6 @@
 //! `realloc`.
 
-ghost use Rattle.std.specs.Prelude.{◌≡◌, ℕ, ◌+◌, ◌≤◌, ◌<◌, ◌^◌, ◌++◌, IfOk, [], ◌∷◌, length};
+ghost use Rattle.std.specs.Prelude.{◌≡◌, ◌+◌, ◌≤◌, ◌<◌, ◌^◌, IfOk, ◌∷◌};
 ghost use Rattle.addr_map.specs.Places.{AreMapped};
 ghost use Rattle.flat_routines.specs.Registers.{AreBelow, AreDistinct, AreNoneOf};
 ghost use Rattle.flat_routines.specs.Metadata.{held_registers};
@@ -9,8 +9,8 @@ ghost use Rattle.allocating_routines.specs.Reallocating.{guarded_code};
 
 use crate::allocating::allocate;
 use crate::freeing::{found_test, life_test};
-use crate::lists::{joined, unless};
 use addr_map::AddrMap;
+use flat_actions::{joined, unless};
 use flat_meaning::{FlatInstruction, RightOperand};
 use flat_routines::Held;
 use moving_routines::move_tagged;

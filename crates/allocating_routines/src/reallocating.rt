@@ -5,7 +5,7 @@ ghost use Rattle.addr_map.specs.Places.{AreMapped};
 ghost use Rattle.flat_routines.specs.Registers.{AreBelow, AreDistinct, AreNoneOf};
 ghost use Rattle.flat_routines.specs.Metadata.{held_registers};
 ghost use Rattle.allocating_routines.specs.Reallocating.{IsReallocRoutine, tests_code, lesser_code, replace_code};
-ghost use Rattle.allocating_routines.specs.Reallocating.{guarded_code};
+ghost use Rattle.allocating_routines.specs.Reallocating.{reallocating_code};
 
 use crate::allocating::allocate;
 use crate::freeing::{found_test, life_test};
@@ -83,7 +83,7 @@ fn realloc_list(
 ) -> Result<Vec<FlatInstruction>, AllocError>
     requires { scratch + 16 ≤ 2 ^ 31 }
     ensures { IfOk result
-        (λ r. r.items ≡ guarded_code find.now block.now replace.now old into line scratch (scratch + 2)) }
+        (λ r. r.items ≡ reallocating_code find.now block.now replace.now old into line scratch (scratch + 2)) }
 {
     let tests = tests_list(alloc, find, old, line, scratch, scratch + 2)?;
     let first = unless(

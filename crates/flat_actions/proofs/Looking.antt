@@ -18,7 +18,7 @@ use Rattle.obj_memory.specs.Judgement.{place_in, judge, judged}
 use Rattle.obj_memory.specs.Integers.{fit, size_of}
 use Rattle.obj_memory.specs.Access.{read_value}
 use Rattle.obj_memory.specs.Sound.{IsSound}
-use Rattle.source_meaning.specs.State.{State as Source, Gives, on}
+use Rattle.source_meaning.specs.State.{State as Source, Gives}
 use Rattle.source_meaning.specs.Acting.{at_work}
 use Rattle.source_meaning.specs.Bytes.{look}
 use Rattle.source_meaning.specs.Strings.{reach_by, reach}

@@ -39,6 +39,7 @@ use Rattle.flat_actions.specs.Actions.{Leaves, Ground, context_in, IsAction, IsA
 use Rattle.flat_actions.proofs.Standing.{for_still, held_still, none_of_none, others_trans, shown_still}
 use Rattle.access_routines.specs.Testing.{IsTested, spatial_code, temporal_code}
 use Rattle.access_routines.proofs.Tests.{spatial_does, temporal_does}
+use Rattle.flat_actions.proofs.Standing.{same_then}
 
 -- ---- in the source
 
@@ -105,19 +106,6 @@ all_held g k objects t f f' (r ∷ hs) (v ∷ vs) below stay h = (
   held_still g k objects r v [] t f f' stay below.0 (none_of_none (registers_of r)) h.0,
   all_held g k objects t f f' hs vs below.1 stay h.1,
 )
-
-same_then : (t : ℕ) (a b c : State) → IsSameBut t a b → IsSameBut t b c → IsSameBut t a c
-same_then t a b c h k = record {
-  memory = k.memory ∙ h.memory;
-  shows = (let s = h.shows in let z = k.shows in record {
-    input = z.input ∙ s.input;
-    output = z.output ∙ s.output;
-    taken = z.taken ∙ s.taken;
-    accesses = z.accesses ∙ s.accesses;
-    turns = z.turns ∙ s.turns;
-  });
-  others = others_trans [] t a b c h.others k.others;
-}
 
 -- what is left where nothing changed before
 leaves_after : (g : Views) (k : Keys) (IsGood : Bytes → Type 0) (result : Holder) (t : ℕ) (x : Source) (f f' : State)

@@ -30,21 +30,23 @@ use Rattle.flat_routines.proofs.Distinct.{AreRegisters, register_of}
 use Rattle.flat_routines.proofs.Words.{same_metadata}
 use Rattle.flat_objects.specs.StandsFor.{Views, Keys, spell, Spells, StandsFor}
 use Rattle.shadow_space.proofs.Entries.{context_of}
-use Rattle.space_routines.proofs.Quiet.{quiet_words, shows_both}
+use Rattle.space_routines.proofs.Quiet.{quiet_words}
 use Rattle.flat_judging.specs.Judging.{IsSameBut, IsJudged}
 use Rattle.flat_judging.proofs.Judges.{judges}
 use Rattle.flat_actions.specs.Actions.{IsFor, Word, Pointer, views_of, work_of, runtime_ground}
-use Rattle.flat_actions.proofs.Standing.{others_trans}
 use Rattle.flat_actions.proofs.Judged.{after_judge}
 use Rattle.comparing_routines.specs.Answering.{IsAnswered}
 use Rattle.comparing_routines.specs.Comparing.{strcmp_code, IsStrcmp}
-use Rattle.comparing_routines.proofs.Looks.{inside_not_out, dead_not_out, byte_of, looked, around, lives, reach_is}
-use Rattle.comparing_routines.proofs.Looks.{bytes_of, look_by}
+use Rattle.flat_actions.proofs.Looking.{inside_not_out, dead_not_out, looked, around, lives, reach_is}
+use Rattle.comparing_routines.proofs.Looks.{byte_of}
+use Rattle.flat_actions.proofs.Looking.{looked_by}
+use Rattle.comparing_routines.proofs.Looks.{bytes_of}
 use Rattle.comparing_routines.proofs.Sought.{one_reached, sound_of}
 use Rattle.comparing_routines.proofs.Pairs.{own_left, own_right, own_strcmp, has_left, has_right, has_cursors}
 use Rattle.comparing_routines.proofs.Pairs.{ArePaired}
 use Rattle.comparing_routines.proofs.Pairs.{compares}
 use Rattle.comparing_routines.proofs.Wraps.{refused, AnswersAlone, GivesAs, answers_act}
+use Rattle.flat_actions.proofs.Standing.{same_then}
 
 -- ---- where a first byte is refused
 
@@ -53,20 +55,13 @@ left_out : (a b : Value) (line : ℕ) (x : Source) (left : ℕ) → judge 1 a x.
 left_out a b line x zero e = refl
 left_out a b line x (suc left) e =
     ap (λ r. on r (λ z s. on (look b line s) (λ u. choose (go_on z u) (compare_within left (moved 1 a) (moved 1 b) line)
-    (done (order z u))))) (look_by x a line Out e)
+    (done (order z u))))) (looked_by x a line Out e)
 
 left_dead : (a b : Value) (line : ℕ) (x : Source) (left : ℕ) → judge 1 a x.objects ≡ Dead
     → compare_within (suc left) a b line x ≡ Ended (Temporal line) x
 left_dead a b line x left e =
     ap (λ r. on r (λ z s. on (look b line s) (λ u. choose (go_on z u) (compare_within left (moved 1 a) (moved 1 b) line)
-    (done (order z u))))) (look_by x a line Dead e)
-
-pub same_then : (t : ℕ) (a b c : State) → IsSameBut t a b → IsSameBut t b c → IsSameBut t a c
-same_then t a b c h k = record {
-  memory = k.memory ∙ h.memory;
-  shows = shows_both a b c h.shows k.shows;
-  others = others_trans [] t a b c h.others k.others;
-}
+    (done (order z u))))) (looked_by x a line Dead e)
 
 -- ---- the routine alone
 
@@ -168,8 +163,8 @@ module _ (map : MapSizes) (mapped : AreMapped map) (entry : View) (IsGood : Byte
       run_is : strcmp a b line x ≡ compare_within (suc left) a b line x
       run_is =
           let r = around x.objects a (Inside p) left_inside (inside_not_out p) in
-          let hi = r.hi in
-          let e : reach a ≡ suc left = reach_is a r.number r.bounds r.tag ∙ omega arith in
+          let hi = r.below in
+          let e : reach a ≡ suc left = reach_is a r.number r.bounds r.tag_is ∙ omega arith in
           ap (λ i. compare_within i a b line x) e
 
       -- the first byte of the second string is looked at then
@@ -177,11 +172,11 @@ module _ (map : MapSizes) (mapped : AreMapped map) (entry : View) (IsGood : Byte
           choose (go_on z u) (compare_within left (moved 1 a) (moved 1 b) line) (done (order z u))))
       next_is =
           let r = around x.objects a (Inside p) left_inside (inside_not_out p) in
-          let live = lives x.objects a r.number r.bounds p r.tag left_inside in (
+          let live = lives x.objects a r.number r.bounds p r.tag_is left_inside in (
             byte_of x.objects r.number a.word,
             run_is ∙ ap (λ r. on r (λ z s. on (look b line s) (λ u.
                 choose (go_on z u) (compare_within left (moved 1 a) (moved 1 b) line) (done (order z u)))))
-                (looked functions x r.number r.bounds a line stands.objects.sound r.tag live r.lo r.hi),
+                (looked functions x r.number r.bounds a line stands.objects.sound r.tag_is live r.from r.below),
           )
 
       -- the loop answers for the whole
@@ -200,9 +195,9 @@ module _ (map : MapSizes) (mapped : AreMapped map) (entry : View) (IsGood : Byte
       behind q right_inside z same =
           let r = around x.objects a (Inside p) left_inside (inside_not_out p) in
           let s = around x.objects b (Inside q) right_inside (inside_not_out q) in
-          let live = lives x.objects a r.number r.bounds p r.tag left_inside in
-          let live' = lives x.objects b s.number s.bounds q s.tag right_inside in
-          let hi = r.hi in let hi' = s.hi in
+          let live = lives x.objects a r.number r.bounds p r.tag_is left_inside in
+          let live' = lives x.objects b s.number s.bounds q s.tag_is right_inside in
+          let hi = r.below in let hi' = s.below in
           let left' = s.bounds.bound - b.word - 1 in
           let bytes = bytes_of g k x.objects r.number r.bounds f.memory stands.objects live
           (sound_of functions x a r left_sound) in
@@ -214,16 +209,16 @@ module _ (map : MapSizes) (mapped : AreMapped map) (entry : View) (IsGood : Byte
           let paired : ArePaired map charge weight line g k functions x r.number r.bounds s.number s.bounds f
           stands.objects.sound bytes bytes' left left' a b z2 =
           record {
-            tag = r.tag;
-            from = r.lo;
+            tag = r.tag_is;
+            from = r.from;
             left_is = omega arith;
-            tag' = s.tag;
-            from' = s.lo;
+            tag' = s.tag_is;
+            from' = s.from;
             left_is' = omega arith;
             cursor = o 0 (omega arith) ∙ left_spells.word;
             other = o 5 (omega arith) ∙ right_spells.word;
-            bound = o 2 (omega arith) ∙ ap (λ q. q.bound) left_spells.tag ∙ ap (λ t. (spell g k t).bound) r.tag;
-            other_bound = o 7 (omega arith) ∙ ap (λ q. q.bound) right_spells.tag ∙ ap (λ t. (spell g k t).bound) s.tag;
+            bound = o 2 (omega arith) ∙ ap (λ q. q.bound) left_spells.tag ∙ ap (λ t. (spell g k t).bound) r.tag_is;
+            other_bound = o 7 (omega arith) ∙ ap (λ q. q.bound) right_spells.tag ∙ ap (λ t. (spell g k t).bound) s.tag_is;
             memory = same.memory;
             shows = record {
               input = shows.input;
@@ -243,11 +238,11 @@ module _ (map : MapSizes) (mapped : AreMapped map) (entry : View) (IsGood : Byte
           after_judge c C 10 (2 + 5 * W) 11 21 37 z line 14 (judge 1 b x.objects) R wz (right_judged z wz same)
           (λ e z2 same2. refused g k (Word 10) x f (strcmp a b line x) (Spatial line) (x.work + 1) z2
           (next_is.1 ∙ ap (λ r. on r (λ u. choose (go_on next_is.0 u) (compare_within left (moved 1 a) (moved 1 b) line)
-          (done (order next_is.0 u)))) (look_by x1 b line Out e))
+          (done (order next_is.0 u)))) (looked_by x1 b line Out e))
           (shows_same z2 (same_then 14 y z z2 same same2)))
           (λ e z2 same2. refused g k (Word 10) x f (strcmp a b line x) (Temporal line) (x.work + 1) z2
           (next_is.1 ∙ ap (λ r. on r (λ u. choose (go_on next_is.0 u) (compare_within left (moved 1 a) (moved 1 b) line)
-          (done (order next_is.0 u)))) (look_by x1 b line Dead e))
+          (done (order next_is.0 u)))) (looked_by x1 b line Dead e))
           (shows_same z2 (same_then 14 y z z2 same same2)))
           (λ q e z2 wz2 same2. behind q e z2 (same_then 14 y z z2 same same2))
 

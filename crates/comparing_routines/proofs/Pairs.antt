@@ -40,7 +40,8 @@ use Rattle.flat_judging.specs.Judging.{judge_code}
 use Rattle.flat_actions.specs.Actions.{Word}
 use Rattle.comparing_routines.specs.Answering.{IsAnswered, IsWorking}
 use Rattle.comparing_routines.specs.Comparing.{order_code, pair_code, string_loop, strcmp_code}
-use Rattle.comparing_routines.proofs.Looks.{byte_of, looked, look_by, AreBytesOf, one_loaded}
+use Rattle.flat_actions.proofs.Looking.{looked, looked_by}
+use Rattle.comparing_routines.proofs.Looks.{byte_of, AreBytesOf, one_loaded}
 use Rattle.comparing_routines.proofs.Seeks.{if_equal, if_unequal}
 
 -- ---- how two bytes compare
@@ -68,7 +69,7 @@ refused_behind : (x : Source) (n : ℕ) (b : Bounds) (v : Value) (line : ℕ) �
     → look v line x ≡ Ended (Spatial line) x
 unfolding judge
 refused_behind x n b v line tag l =
-    look_by x v line Out
+    looked_by x v line Out
     (ap (λ t. judged 1 t v.word x.objects) tag
     ∙ cond-false (nat_le b.base v.word && nat_le (v.word + 1) b.bound) _ Out
     (and_right (nat_le b.base v.word) (nat_le (v.word + 1) b.bound) (lt-leb (v.word + 1) b.bound l)))

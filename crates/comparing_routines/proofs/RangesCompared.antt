@@ -54,7 +54,7 @@ use Rattle.comparing_routines.specs.Answering.{IsAnswered}
 use Rattle.comparing_routines.specs.Comparing.{memcmp_code, IsMemcmp}
 use Rattle.comparing_routines.proofs.Seeks.{if_equal, if_unequal}
 use Rattle.comparing_routines.proofs.Pairs.{own_left, own_right}
-use Rattle.comparing_routines.proofs.Compared.{same_then}
+use Rattle.flat_actions.proofs.Standing.{same_then}
 use Rattle.comparing_routines.proofs.Ranges.{own_memcmp, has_first, has_second, has_range_start, range_start, StandsAt}
 use Rattle.comparing_routines.proofs.Ranges.{AreRanged, HasOrder, compares_ranges}
 use Rattle.comparing_routines.proofs.Wraps.{refused, AnswersAlone, GivesAs, answers_act}

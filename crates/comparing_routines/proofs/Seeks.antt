@@ -37,7 +37,8 @@ use Rattle.flat_judging.specs.Judging.{judge_code}
 use Rattle.flat_actions.specs.Actions.{Pointer}
 use Rattle.comparing_routines.specs.Answering.{IsAnswered, IsWorking}
 use Rattle.comparing_routines.specs.Seeking.{seek_loop, null_code, same_entry_code, seek_start, seek_code, strchr_code}
-use Rattle.comparing_routines.proofs.Looks.{byte_of, looked, AreBytesOf, one_loaded}
+use Rattle.flat_actions.proofs.Looking.{looked}
+use Rattle.comparing_routines.proofs.Looks.{byte_of, AreBytesOf, one_loaded}
 
 -- ---- branches
 

@@ -41,8 +41,9 @@ use Rattle.flat_actions.specs.Actions.{IsFor, Word, Pointer, views_of, work_of, 
 use Rattle.flat_actions.proofs.Judged.{after_judge}
 use Rattle.comparing_routines.specs.Answering.{IsAnswered}
 use Rattle.comparing_routines.specs.Seeking.{seek_start, seek_code, strchr_code, IsStrchr}
-use Rattle.comparing_routines.proofs.Looks.{inside_not_out, dead_not_out, IsAround, around, lives, reach_is, bytes_of}
-use Rattle.comparing_routines.proofs.Looks.{look_by}
+use Rattle.flat_actions.proofs.Looking.{inside_not_out, dead_not_out, IsAround, around, lives, reach_is}
+use Rattle.comparing_routines.proofs.Looks.{bytes_of}
+use Rattle.flat_actions.proofs.Looking.{looked_by}
 use Rattle.comparing_routines.proofs.Seeks.{own, own_into, own_code, has_start, IsCursor, seeks}
 use Rattle.comparing_routines.proofs.Wraps.{refused, AnswersAlone, GivesAs, answers_act}
 
@@ -54,27 +55,27 @@ seek_out v ch line x zero e = refl
 seek_out v ch line x (suc left) e =
     ap (λ r. on r (λ z. choose (z == ch) (done v) (choose (z == 0) (done (integer 0))
     (seek_within left ch (moved 1 v) line))))
-    (look_by x v line Out e)
+    (looked_by x v line Out e)
 
 seek_dead : (v : Value) (ch line : ℕ) (x : Source) (left : ℕ) → judge 1 v x.objects ≡ Dead
     → seek_within (suc left) ch v line x ≡ Ended (Temporal line) x
 seek_dead v ch line x left e =
     ap (λ r. on r (λ z. choose (z == ch) (done v) (choose (z == 0) (done (integer 0))
     (seek_within left ch (moved 1 v) line))))
-    (look_by x v line Dead e)
+    (looked_by x v line Dead e)
 
 -- how many bytes are left behind the first
 pub one_reached : (x : Source) (v : Value) (w : Verdict) → judge 1 v x.objects ≡ w → w ≢ Out
     → (left : ℕ) × (reach v ≡ suc left)
 one_reached x v w e ne =
     let a = around x.objects v w e ne in
-    let hi = a.hi in let r = reach_is v a.number a.bounds a.tag in
+    let hi = a.below in let r = reach_is v a.number a.bounds a.tag_is in
     (a.bounds.bound - v.word - 1, omega arith)
 
 -- a tag of an object is sound by its bounds
-pub sound_of : (functions : ℕ) (x : Source) (v : Value) (a : IsAround x.objects v.tag v.word)
+pub sound_of : (functions : ℕ) (x : Source) (v : Value) (a : IsAround v.tag v.word)
     → IsSoundTag functions x.objects v.tag → IsTagOf x.objects a.number a.bounds
-sound_of functions x v a h = subst (IsSoundTag functions x.objects) a.tag h
+sound_of functions x v a h = subst (IsSoundTag functions x.objects) a.tag_is h
 
 -- ---- the routine alone
 
@@ -104,7 +105,7 @@ module _ (map : MapSizes) (mapped : AreMapped map) (entry : View) (IsGood : Byte
 
     module _ (stands : IsFor g k IsGood x f) (spells : Spells g k v own f.values)
         (sound : IsSoundTag functions x.objects v.tag) (byte_is : f.values 5 ≡ byte.word) where
-      started : (z : State) → IsSameBut 12 y z → (left : ℕ) → (a : IsAround x.objects v.tag v.word)
+      started : (z : State) → IsSameBut 12 y z → (left : ℕ) → (a : IsAround v.tag v.word)
           → v.word + suc left ≡ a.bounds.bound → (live : _)
           → IsCursor map charge weight line g k functions x a.number a.bounds f ch stands.objects.sound
           (bytes_of g k x.objects a.number a.bounds f.memory stands.objects live (sound_of functions x v a sound))
@@ -117,11 +118,11 @@ module _ (map : MapSizes) (mapped : AreMapped map) (entry : View) (IsGood : Byte
           let bound : z.values 2 ≡ (spell g k v.tag).bound = at 2 (omega arith) ∙ ap (λ q. q.bound) spells.tag in
           let s = same.shows in
           record {
-            tag = a.tag;
-            from = a.lo;
+            tag = a.tag_is;
+            from = a.from;
             left_is = e;
             cursor = at 0 (omega arith) ∙ spells.word;
-            bound = bound ∙ ap (λ t. (spell g k t).bound) a.tag;
+            bound = bound ∙ ap (λ t. (spell g k t).bound) a.tag_is;
             sought = omega arith;
             entry = same_metadata (metadata_in z.values own.tag) (metadata_in f.values own.tag) (at 1 (omega arith))
                 (at 2 (omega arith)) (at 3 (omega arith)) (at 4 (omega arith)) ∙ spells.tag;
@@ -182,10 +183,10 @@ module _ (map : MapSizes) (mapped : AreMapped map) (entry : View) (IsGood : Byte
           → Reaches c C (3 + (5 + 6 * W)) (Goes 11 z) 31 R
       behind q e z same =
           let a = around x.objects v (Inside q) e (inside_not_out q) in
-          let live = lives x.objects v a.number a.bounds q a.tag e in
-          let hi = a.hi in
+          let live = lives x.objects v a.number a.bounds q a.tag_is e in
+          let hi = a.below in
           let left = a.bounds.bound - v.word - 1 in
-          let reach_by : reach v ≡ a.bounds.bound - v.word = reach_is v a.number a.bounds a.tag in
+          let reach_by : reach v ≡ a.bounds.bound - v.word = reach_is v a.number a.bounds a.tag_is in
           let reached : reach v ≡ suc left = omega arith in
           let bytes = bytes_of g k x.objects a.number a.bounds f.memory stands.objects live
           (sound_of functions x v a sound) in

@@ -11,11 +11,9 @@ use Rattle.c_tree.specs.declared.format.Piece.{Piece}
 use Rattle.c_tree.specs.declared.format.Piece.TheVariants as piece
 use Rattle.source_meaning.specs.State.{State as Source, Outcome as Completed, Gives, Ended, Paused, Run, on, ◌>>=◌}
 use Rattle.source_meaning.specs.State.{done, stop}
-use Rattle.source_meaning.specs.Acting.{at_work, state_of, ActsBy, IsAction}
+use Rattle.source_meaning.specs.Acting.{state_of}
 use Rattle.source_meaning.specs.Actions.{integer}
-use Rattle.source_meaning.proofs.LibraryActs.{acts_routine}
-use Rattle.source_meaning.specs.Strings.{scan, strlen}
-use Rattle.c_tree.specs.declared.expression.Routine.TheVariants.{Strlen}
+use Rattle.source_meaning.specs.Strings.{scan}
 use Rattle.source_meaning.specs.Printing.{argument_bytes, formatted}
 use Rattle.flat_meaning.specs.declared.instruction.FlatInstruction.{FlatInstruction}
 use Rattle.flat_meaning.specs.State.{State}
@@ -39,6 +37,7 @@ use Rattle.string_routines.proofs.AfterScan.{after_scan}
 use Rattle.printing_routines.specs.Numbers.{number_bytes}
 use Rattle.printing_routines.specs.Formats.{cursor_of, AreScans}
 use Rattle.printing_routines.proofs.Printable.{IsPrintableBy, IsPrintable, AreLow, directive_count, by_kept}
+use Rattle.string_routines.proofs.Looking.{scan_works}
 
 -- an argument that is no string has its bytes at once
 pub number_done : (d : Directive) (v : Value) (line : ℕ) → d ≢ directive.String
@@ -85,30 +84,15 @@ same_work (Gives a x) f = refl
 same_work (Ended e x) f = refl
 same_work (Paused x) f = refl
 
-acts_later : {A : Type 0} (r : Run A) → IsAction r → (x : Source) → x.work ≤ (state_of (r x)).work
-acts_later {A = A} r acts x = by (r x) (r (at_work 0 x)) (acts.acts x 0)
-  where
-    by : (o p : Completed A) → ActsBy 0 x o p → x.work ≤ (state_of o).work
-    by (Gives a x') p h = h.2.later.work
-    by (Ended e x') p h = h.2.later.work
-    by (Paused x') p h = absurd h
-
-scan_later : (m : MapSizes) (v : Value) (line : ℕ) (x : Source) → x.work ≤ (state_of (scan v line x)).work
-scan_later m v line x =
-    let l = acts_later (strlen v line)
-    (acts_routine (record { functions = []; results = []; sizes = m }) Strlen (v ∷ []) line) x in
-    let e = same_work (scan v line x) (λ bytes. integer (length bytes)) in
-    omega arith
-
-argument_later : (m : MapSizes) (d : Directive) (v : Value) (line : ℕ) (x : Source)
+argument_later : (d : Directive) (v : Value) (line : ℕ) (x : Source)
     → x.work ≤ (state_of (argument_bytes d v line x)).work
-argument_later m directive.Int v line x = omega arith
-argument_later m directive.UnsignedInt v line x = omega arith
-argument_later m directive.Hexadecimal v line x = omega arith
-argument_later m directive.Character v line x = omega arith
-argument_later m directive.Long v line x = omega arith
-argument_later m directive.UnsignedLong v line x = omega arith
-argument_later m directive.String v line x = scan_later m v line x
+argument_later directive.Int v line x = omega arith
+argument_later directive.UnsignedInt v line x = omega arith
+argument_later directive.Hexadecimal v line x = omega arith
+argument_later directive.Character v line x = omega arith
+argument_later directive.Long v line x = omega arith
+argument_later directive.UnsignedLong v line x = omega arith
+argument_later directive.String v line x = scan_works x v line
 
 then_later : {A B : Type 0} (o : Completed A) (next : A → Run B) (n : ℕ) → n ≤ (state_of o).work
     → ((a : A) (x : Source) → n ≤ x.work → n ≤ (state_of (next a x)).work) → n ≤ (state_of (on o next)).work
@@ -116,17 +100,17 @@ then_later (Gives a x) next n l h = h a x l
 then_later (Ended e x) next n l h = l
 then_later (Paused x) next n l h = l
 
-pub formatted_later : (m : MapSizes) (ps : List Piece) (vs : List Value) (line : ℕ) (x : Source)
+pub formatted_later : (ps : List Piece) (vs : List Value) (line : ℕ) (x : Source)
     → x.work ≤ (state_of (formatted ps vs line x)).work
-formatted_later m [] vs line x = omega arith
-formatted_later m (piece.Byte b ∷ ps) vs line x =
-    let l = formatted_later m ps vs line x in
+formatted_later [] vs line x = omega arith
+formatted_later (piece.Byte b ∷ ps) vs line x =
+    let l = formatted_later ps vs line x in
     let e = same_work (formatted ps vs line x) (λ others. b ∷ others) in omega arith
-formatted_later m (piece.Directive d ∷ ps) vs line x =
+formatted_later (piece.Directive d ∷ ps) vs line x =
     then_later (argument_bytes d (get_or vs 0 (integer 0)) line x)
     (λ bytes. formatted ps (drop 1 vs) line >>= (λ others. done (bytes ++ others))) x.work
-    (argument_later m d (get_or vs 0 (integer 0)) line x)
-    (λ bytes y le. (let l = formatted_later m ps (drop 1 vs) line y in
+    (argument_later d (get_or vs 0 (integer 0)) line x)
+    (λ bytes y le. (let l = formatted_later ps (drop 1 vs) line y in
     let e = same_work (formatted ps (drop 1 vs) line y) (λ others. bytes ++ others) in omega arith))
 
 -- ---- arguments that are held on
@@ -265,7 +249,7 @@ module _ (ground : Ground) (line t w : ℕ) (functions : ℕ) (types : ℕ → �
       let one = ap (λ r. (state_of r).work - x.work) is in
       let two = ap (λ r. (state_of (on r next)).work - x.work) is in
       let three = same_work (formatted ps vs line y) (λ others. bytes ++ others) in
-      let later = formatted_later ground.map ps vs line y in
+      let later = formatted_later ps vs line y in
       omega (arith, one, two, three, later))
       (λ bytes y is f1 words1 worked scanned.
       let stay : (r : ℕ) → r < cursor_of t i → f1.values r ≡ f.values r =

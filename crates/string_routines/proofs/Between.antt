@@ -21,8 +21,9 @@ use Rattle.source_meaning.specs.Strings.{reach, scan_within, scan}
 use Rattle.flat_meaning.specs.Memory.{Bytes}
 use Rattle.flat_objects.specs.StandsFor.{Views, Keys, StandsFor}
 use Rattle.flat_actions.specs.Ranges.{IsObjectRange}
-use Rattle.string_routines.proofs.Looking.{IsAround, around, lives, scan_by, with_first, worked_on}
-use Rattle.string_routines.proofs.Looking.{looked}
+use Rattle.flat_actions.proofs.Looking.{IsAround, around, lives, worked_on}
+use Rattle.string_routines.proofs.Looking.{scan_by, with_first}
+use Rattle.flat_actions.proofs.Looking.{looked}
 
 -- A scan ends at a 0 byte before the bound, or what stands behind the count gives something.
 pub data HowEnded (behind : Run (List ℕ)) (objects : Objects) (v : Value) (number : ℕ) (bounds : Bounds) (n : ℕ)

@@ -36,7 +36,7 @@ use Rattle.heap_space.proofs.Regions.{if_differ, if_same}
 use Rattle.flat_actions.specs.Scanning.{IsWorked}
 use Rattle.moving_routines.proofs.Bytes.{byte_loaded}
 use Rattle.string_routines.specs.Scanning.{scan_loop}
-use Rattle.string_routines.proofs.Looking.{worked_on, looked}
+use Rattle.flat_actions.proofs.Looking.{worked_on, looked}
 use Rattle.string_routines.proofs.Runtime.{runtime_not_shown}
 
 -- what is scanned: bytes of a live object up to a bound, at which flat code may look

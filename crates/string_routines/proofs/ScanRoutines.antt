@@ -37,7 +37,8 @@ use Rattle.flat_actions.specs.Scanning.{IsScanned, IsScanRoutine}
 use Rattle.flat_actions.proofs.Judged.{after_judge}
 use Rattle.flat_actions.proofs.Standing.{for_still, spells_still, held_still, none_of_none, others_trans}
 use Rattle.string_routines.specs.Scanning.{scan_turns, scan_at_most_turns, IsFirstJudged}
-use Rattle.string_routines.proofs.Looking.{around, scan_outside, scan_dead}
+use Rattle.flat_actions.proofs.Looking.{around}
+use Rattle.string_routines.proofs.Looking.{scan_outside, scan_dead}
 use Rattle.string_routines.proofs.ScanLoop.{Found, no_work}
 use Rattle.string_routines.proofs.Scans.{behind_of, IsCount, none_left, some_left, own_turns, scans_alone}
 

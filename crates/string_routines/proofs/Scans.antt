@@ -35,7 +35,8 @@ use Rattle.flat_objects.specs.StandsFor.{Views, Keys, Spells, StandsFor, spell}
 use Rattle.flat_actions.specs.Actions.{Ground, context_in, views_of, work_of}
 use Rattle.moving_routines.proofs.Bytes.{object_allowed}
 use Rattle.string_routines.specs.Scanning.{scan_loop, at_limit}
-use Rattle.string_routines.proofs.Looking.{IsAround, around, lives, reach_is, scan_by, beyond}
+use Rattle.flat_actions.proofs.Looking.{IsAround, around, lives, reach_is}
+use Rattle.string_routines.proofs.Looking.{scan_by, beyond}
 use Rattle.string_routines.proofs.ScanLoop.{IsString, Found, no_work, if_equal, if_unequal, IsAt, Scans, Again}
 use Rattle.string_routines.proofs.ScanLoop.{at_worked, bound_tested, scanned}
 

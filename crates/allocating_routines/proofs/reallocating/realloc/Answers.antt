@@ -1,6 +1,6 @@
 use Rattle.std.proofs.Common.{sym, subst, ◌∙◌, ◌+◌}
 use Rattle.allocating_routines.specs.Reallocating.{IsReallocRoutine, replace_code, reallocating_code}
-use Rattle.allocating_routines.proofs.Joined.{by_three}
+use Rattle.flat_actions.proofs.ByParts.{by_three}
 use Rattle.allocating_routines.proofs.Reallocs.{realloc_does}
 use Rattle.allocating_routines.proofs.reallocating.realloc.Goals as goal
 

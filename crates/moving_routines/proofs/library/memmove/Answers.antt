@@ -1,7 +1,7 @@
 use Rattle.std.proofs.Common.{sym, subst, ◌∙◌}
 use Rattle.flat_actions.specs.Lists.{guarded_code}
 use Rattle.moving_routines.specs.Library.{MovesObjects}
-use Rattle.moving_routines.proofs.Steps.{joined_are, by_body}
+use Rattle.flat_actions.proofs.ByParts.{joined_are, by_body}
 use Rattle.moving_routines.proofs.Acts.{moves_as}
 use Rattle.moving_routines.proofs.library.memmove.Goals as goal
 use Rattle.flat_actions.specs.Actions.{runtime_ground}

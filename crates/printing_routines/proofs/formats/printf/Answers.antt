@@ -1,7 +1,7 @@
 use Rattle.std.proofs.Common.{[], ◌∷◌, ◌++◌, refl, ◌∙◌, arith}
 use Rattle.std.proofs.lemmas.Result.{IfOk-weaker}
 use Rattle.flat_meaning.specs.declared.instruction.FlatInstruction.TheVariants.{Constant}
-use Rattle.moving_routines.proofs.Steps.{joined_are}
+use Rattle.flat_actions.proofs.ByParts.{joined_are}
 use Rattle.printing_routines.specs.Formats.{counted_code}
 use Rattle.printing_routines.proofs.Steps.{few_arguments, prints_these}
 use Rattle.printing_routines.proofs.formats.printf.Goals as goal

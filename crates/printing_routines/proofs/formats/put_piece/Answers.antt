@@ -1,5 +1,5 @@
 use Rattle.std.proofs.Common.{◌+◌, ◌++◌, sym, ◌∙◌, subst}
-use Rattle.moving_routines.proofs.Steps.{joined_are}
+use Rattle.flat_actions.proofs.ByParts.{joined_are}
 use Rattle.printing_routines.specs.Formats.{count_string}
 use Rattle.printing_routines.specs.Printed.{PutsNext}
 use Rattle.printing_routines.proofs.Steps.{puts_number, puts_string, joined_parts}

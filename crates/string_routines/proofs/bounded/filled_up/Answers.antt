@@ -2,7 +2,7 @@ use Rattle.std.proofs.Common.{◌+◌, ◌++◌, refl, ◌∙◌}
 use Rattle.std.proofs.lemmas.Result.{IfOk-weaker}
 use Rattle.string_routines.specs.Copying.{count_code, tail_code}
 use Rattle.string_routines.proofs.Made.{is_filled_up}
-use Rattle.moving_routines.proofs.Steps.{joined_are}
+use Rattle.flat_actions.proofs.ByParts.{joined_are}
 use Rattle.string_routines.proofs.bounded.filled_up.Goals as goal
 
 pub returns : goal.returns

@@ -6,7 +6,7 @@ use Rattle.flat_actions.specs.Actions.{IsAction, Pointer, Word, runtime_ground}
 use Rattle.flat_actions.specs.Lists.{guarded_code}
 use Rattle.string_routines.specs.Copying.{count_code, tail_code}
 use Rattle.string_routines.proofs.BoundedActs.{strncpy_acts}
-use Rattle.moving_routines.proofs.Steps.{joined_are}
+use Rattle.flat_actions.proofs.ByParts.{joined_are}
 use Rattle.string_routines.proofs.bounded.strncpy.Goals as goal
 
 pub returns : goal.returns

@@ -2,7 +2,7 @@ use Rattle.std.proofs.Common.{◌+◌, ◌++◌, refl, ◌∙◌}
 use Rattle.std.proofs.lemmas.Result.{IfOk-weaker}
 use Rattle.string_routines.specs.Copying.{size_code}
 use Rattle.string_routines.proofs.Made.{is_copied}
-use Rattle.moving_routines.proofs.Steps.{joined_are}
+use Rattle.flat_actions.proofs.ByParts.{joined_are}
 use Rattle.string_routines.proofs.copying.copied.Goals as goal
 use Rattle.flat_actions.specs.Actions.{runtime_ground}
 

@@ -5,7 +5,7 @@ use Rattle.source_meaning.specs.Library.{argument}
 use Rattle.flat_actions.specs.Actions.{IsAction, Pointer, runtime_ground}
 use Rattle.flat_actions.specs.Lists.{give_code}
 use Rattle.string_routines.specs.Copying.{size_code}
-use Rattle.moving_routines.proofs.Steps.{joined_are}
+use Rattle.flat_actions.proofs.ByParts.{joined_are}
 use Rattle.string_routines.proofs.CopyActs.{strcat_acts}
 use Rattle.string_routines.proofs.copying.strcat.Goals as goal
 

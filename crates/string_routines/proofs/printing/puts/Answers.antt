@@ -4,7 +4,7 @@ use Rattle.source_meaning.specs.Printing.{puts as puts_of}
 use Rattle.source_meaning.specs.Library.{argument}
 use Rattle.flat_actions.specs.Actions.{IsAction, Pointer, Word, runtime_ground}
 use Rattle.string_routines.specs.Putting.{newline_given}
-use Rattle.moving_routines.proofs.Steps.{joined_are}
+use Rattle.flat_actions.proofs.ByParts.{joined_are}
 use Rattle.string_routines.proofs.PutsActs.{puts_acts}
 use Rattle.string_routines.proofs.printing.puts.Goals as goal
 

@@ -19,7 +19,6 @@ use Rattle.source_meaning.specs.State.{Paused, choose}
 use Rattle.source_meaning.specs.Acting.{state_of}
 use Rattle.source_meaning.specs.Strings.{reach, scan_within, scan}
 use Rattle.flat_actions.proofs.Judged.{judged_then}
-
 use Rattle.flat_actions.proofs.Looking.{worked_on, looked_by}
 
 -- what a scan does with its first byte

@@ -29,6 +29,23 @@ use Rattle.allocating_routines.specs.declared.entering.EntryRegisters.{EntryRegi
 use Rattle.allocating_routines.specs.Premises.{HaveBytes}
 use Rattle.allocating_routines.specs.Allocating.{runtime_ground, keys_code, key_test}
 
+-- ---- the objects of a block
+
+-- an object is among the homes of a block
+abbrev pub IsHomeOf : (n : ℕ) → List Home → Type 0
+IsHomeOf n [] = ⊥
+IsHomeOf n (NoObject ∷ hs) = IsHomeOf n hs
+IsHomeOf n (InObject o ∷ hs) = (n ≡ o) ⊎ IsHomeOf n hs
+
+-- The live objects under a lock word are just those of the block, of which some live, and which are automatic.
+pub record AreOfLock (k : Keys) (x : Source) (homes : List Home) (lock : ℕ) : Type 0 where
+  pub some : ℕ
+  pub some_live : (object_at x.objects some).is_live ≡ true
+  pub some_home : IsHomeOf some homes
+  pub under : (n : ℕ) → IsHomeOf n homes
+      → (n < length x.objects) × ((object_at x.objects n).storage ≡ Automatic) × ((k.held n).lock ≡ lock)
+  pub home : (n : ℕ) → (object_at x.objects n).is_live ≡ true → (k.held n).lock ≡ lock → IsHomeOf n homes
+
 -- ---- a block is entered
 
 -- each variable that is an object has a byte
@@ -53,7 +70,7 @@ registers_in r = r.first ∷ r.end ∷ r.key ∷ r.lock ∷ []
 
 -- it was entered; of object space only the bytes of the block may have changed
 pub record HasEntered (g : Views) (k : Keys) (IsGood : Bytes → Type 0) (to : EntryRegisters) (scratch : ℕ) (x : Source)
-    (f : State) (x' : Source) (f' : State) : Type 0 where
+    (f : State) (homes : List Home) (x' : Source) (f' : State) : Type 0 where
   pub keys : Keys
   pub held : KeepsHeld x.objects k keys
   pub stands : IsFor g keys IsGood x' f'
@@ -61,6 +78,7 @@ pub record HasEntered (g : Views) (k : Keys) (IsGood : Bytes → Type 0) (to : E
   pub end_is : f'.values to.end ≡ x'.stacked
   pub share : (n : ℕ) → length x.objects ≤ n
       → keys.held n ≡ record { key = f'.values to.key; lock = f'.values to.lock }
+  pub of_lock : AreOfLock keys x' homes (f'.values to.lock)
   pub turns : f'.turns ≡ f.turns
   pub low : (a : ℕ) → a < spaces_begin → (a < rounded_up 16 x.stacked) ⊎ (x'.stacked ≤ a) → f'.memory a ≡ f.memory a
   pub behind : (a : ℕ) → region_start g.sizes StructureValues ≤ a → f'.memory a ≡ f.memory a
@@ -68,7 +86,7 @@ pub record HasEntered (g : Views) (k : Keys) (IsGood : Bytes → Type 0) (to : E
 
 abbrev pub IsEntered : Views → Keys → (IsGood : Bytes → Type 0) → EntryRegisters → (scratch : ℕ) → Source → State
     → Completed Block → Outcome → Type 0
-IsEntered g k IsGood to t x f (Gives b x') (Continues f') = HasEntered g k IsGood to t x f x' f'
+IsEntered g k IsGood to t x f (Gives b x') (Continues f') = HasEntered g k IsGood to t x f b.homes x' f'
 IsEntered g k IsGood to t x f (Ended e x') (Halts status report f') = HasEnded e x' status report f f'
 IsEntered g k IsGood to t x f (Gives b x') (Halts status report f') = ⊥
 IsEntered g k IsGood to t x f (Ended e x') (Continues f') = ⊥
@@ -113,21 +131,6 @@ enter_code map fresh zero top bytes to line k key =
     ++ (key_test map k line ++ (fresh ++ (zero ++ end_of_block to.first bytes to.end)))))
 
 -- ---- a block is left
-
--- an object is among the homes of a block
-abbrev pub IsHomeOf : (n : ℕ) → List Home → Type 0
-IsHomeOf n [] = ⊥
-IsHomeOf n (NoObject ∷ hs) = IsHomeOf n hs
-IsHomeOf n (InObject o ∷ hs) = (n ≡ o) ⊎ IsHomeOf n hs
-
--- The live objects under a lock word are just those of the block, of which some live, and which are automatic.
-pub record AreOfLock (k : Keys) (x : Source) (homes : List Home) (lock : ℕ) : Type 0 where
-  pub some : ℕ
-  pub some_live : (object_at x.objects some).is_live ≡ true
-  pub some_home : IsHomeOf some homes
-  pub under : (n : ℕ) → IsHomeOf n homes
-      → (n < length x.objects) × ((object_at x.objects n).storage ≡ Automatic) × ((k.held n).lock ≡ lock)
-  pub home : (n : ℕ) → (object_at x.objects n).is_live ≡ true → (k.held n).lock ≡ lock → IsHomeOf n homes
 
 pub record HasLeft (g : Views) (k : Keys) (IsGood : Bytes → Type 0) (scratch : ℕ) (x' : Source) (f f' : State) : Type 0
   where

@@ -26,3 +26,4 @@ pub mod EntryBirths
 pub mod BlockDeaths
 pub mod LeftBlocks
 pub mod Enters
+pub mod KeptBytes

@@ -42,7 +42,7 @@ use Rattle.flat_objects.specs.StandsFor.{Views, Keys, StandsFor}
 use Rattle.flat_objects.specs.Changes.{IsPut}
 use Rattle.flat_objects.proofs.Moves.{put_stands}
 use Rattle.shadow_space.proofs.Entries.{context_of}
-use Rattle.flat_actions.specs.Actions.{AreSpacesGood, IsFor, IsHeldBy, Nowhere, Word, program_ground}
+use Rattle.flat_actions.specs.Actions.{AreSpacesGood, IsFor, IsHeldBy, Nowhere, Word, program_basis}
 use Rattle.flat_actions.specs.Actions.{StaysElsewhere}
 use Rattle.flat_actions.specs.Actions.{HasGiven, Leaves, views_of, work_of}
 use Rattle.flat_actions.proofs.Standing.{keeps_same}
@@ -216,7 +216,7 @@ module _ (map : MapSizes) (mapped : AreMapped map) (entry : View) (IsGood : Byte
 pub store_integer_does : (map : MapSizes) (entry : View) (IsGood : Bytes → Type 0) (address : ℕ) (ty : IntType)
     (r t : ℕ)
     → AreMapped map → IsLocal map entry IsGood
-    → IsStoreRoutine (program_ground map entry IsGood) address (Integer ty r) t (store_integer_code address ty r)
+    → IsStoreRoutine (program_basis map entry IsGood) address (Integer ty r) t (store_integer_code address ty r)
 store_integer_does map entry IsGood address ty r t mapped is_local line functions types k x [] charge weight =
     record { from = λ code pc f has w p. absurd p.1 }
 store_integer_does map entry IsGood address ty r t mapped is_local line functions types k x (v ∷ []) charge weight =

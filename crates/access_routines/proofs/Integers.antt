@@ -29,7 +29,7 @@ use Rattle.flat_routines.proofs.Rules.{line_on, arrived, weaken}
 use Rattle.flat_routines.proofs.Regions.{laid_out}
 use Rattle.flat_objects.specs.StandsFor.{Views, Keys}
 use Rattle.shadow_space.proofs.Entries.{context_of}
-use Rattle.flat_actions.specs.Actions.{IsFor, IsHeldBy, Word, Leaves, views_of, work_of, program_ground}
+use Rattle.flat_actions.specs.Actions.{IsFor, IsHeldBy, Word, Leaves, views_of, work_of, program_basis}
 use Rattle.access_routines.specs.declared.held.HeldScalar.TheVariants.{Integer}
 use Rattle.access_routines.specs.Accessing.{IsLoadRoutine, load_op, load_integer_code}
 use Rattle.access_routines.proofs.Places.{load_size, load_fits, direct_allowed, of_objects, number_there}
@@ -104,7 +104,7 @@ module _ (map : MapSizes) (mapped : AreMapped map) (entry : View) (IsGood : Byte
           (arrived c code 0 loaded (pc + 1) (pc + 1) _ refl given))
 
 pub load_integer_does : (map : MapSizes) (entry : View) (IsGood : Bytes → Type 0) (address : ℕ) (ty : IntType) (r t : ℕ)
-    → AreMapped map → IsLoadRoutine (program_ground map entry IsGood) address (Integer ty r) t
+    → AreMapped map → IsLoadRoutine (program_basis map entry IsGood) address (Integer ty r) t
     (load_integer_code address ty r)
 load_integer_does map entry IsGood address ty r t mapped line functions types k x [] charge weight =
     record { from = λ code pc f has w p. absurd p.1 }

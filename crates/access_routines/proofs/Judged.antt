@@ -35,7 +35,7 @@ use Rattle.flat_routines.proofs.Rules.{weaken, ends_there, next}
 use Rattle.flat_objects.specs.StandsFor.{Views, Keys}
 use Rattle.flat_judging.specs.Judging.{IsSameBut}
 use Rattle.flat_actions.specs.Actions.{IsFor, Holder, Word, Pointer as InPointer, registers_of, AreHeldBy}
-use Rattle.flat_actions.specs.Actions.{Leaves, Ground, context_in, IsAction, IsActionIn, views_of, work_of}
+use Rattle.flat_actions.specs.Actions.{Leaves, Basis, context_in, IsAction, IsActionIn, views_of, work_of}
 use Rattle.flat_actions.proofs.Standing.{for_still, held_still, none_of_none, others_trans, shown_still}
 use Rattle.access_routines.specs.Testing.{IsTested, spatial_code, temporal_code}
 use Rattle.access_routines.proofs.Tests.{spatial_does, temporal_does}
@@ -134,12 +134,12 @@ leaves_after g k IsGood result t x f f' same (Ended e x') (Continues z) h = h
 leaves_after g k IsGood result t x f f' same (Paused x') (Continues z) h = h
 leaves_after g k IsGood result t x f f' same (Paused x') (Halts status report z) h = h
 
-module _ (ground : Ground) (mapped : AreMapped ground.map) (h : Held) (n line t : ℕ)
+module _ (basis : Basis) (mapped : AreMapped basis.map) (h : Held) (n line t : ℕ)
     (below : AreBelow t (held_registers h))
     (some : 1 ≤ n) (small : n < 2 ^ 64) (others : List Holder) (others_below : AreAllBelow t others) (result : Holder)
     (B : ℕ) (access : List FlatInstruction) (F : List Value → Completed Place → Completed Value)
     (ends : (vs : List Value) (e : Ending) (x : Source) → F vs (Ended e x) ≡ Ended e x)
-    (does : IsActionIn ground (λ x vs. IsDirect x.objects (argument 0 vs) n)
+    (does : IsActionIn basis (λ x vs. IsDirect x.objects (argument 0 vs) n)
     (λ vs x. F vs (located false n (argument 0 vs) line x)) (Word h.value ∷ others) result t B 0 access) where
   abbrev spatial : List FlatInstruction
   spatial = spatial_code h (Number n) line t
@@ -153,24 +153,24 @@ module _ (ground : Ground) (mapped : AreMapped ground.map) (h : Held) (n line t 
   module _ (functions : ℕ) (types : ℕ → ℕ) (k : Keys) (x : Source) (v : Value) (vs : List Value) (charge weight : ℕ)
       (code : List FlatInstruction) (pc : ℕ) (f : State) (has : HasAt code pc (tests ++ access)) (w : IsOfWords f) where
     abbrev g : Views
-    g = views_of ground.map functions types ground.entry
+    g = views_of basis.map functions types basis.entry
 
     abbrev c : Context
-    c = context_in ground charge weight
+    c = context_in basis charge weight
 
     abbrev run : Completed Value
     run = F (v ∷ vs) (located true n v line x)
 
     abbrev R : Outcome → Type 0
-    R = Leaves g k ground.IsGood result t x f run
+    R = Leaves g k basis.IsGood result t x f run
 
-    module _ (stands : IsFor g k ground.IsGood x f)
+    module _ (stands : IsFor g k basis.IsGood x f)
         (held : AreHeldBy g k x.objects (InPointer h ∷ others) (v ∷ vs) f.values) where
       -- a test stops the run
       stopped : (e : Ending) (status : ℕ) (report : List ℕ) (z : State) → run ≡ Ended e x → status ≡ code_of e
           → report ≡ report_of e → IsSameBut t f z → R (Halts status report z)
       stopped e status report z is a b same =
-          subst (λ o. Leaves g k ground.IsGood result t x f o (Halts status report z)) (sym is) (record {
+          subst (λ o. Leaves g k basis.IsGood result t x f o (Halts status report z)) (sym is) (record {
             status_is = a;
             report_is = b;
             shown = shown_still x f z same.shows stands.shown;
@@ -189,7 +189,7 @@ module _ (ground : Ground) (mapped : AreMapped ground.map) (h : Held) (n line t 
           (arith, length-append tests access) in
           let r = (does functions types k x (v ∷ vs) charge weight).from code (pc + length tests) z
           (has_back code pc tests access has) wz (
-            for_still g k ground.IsGood x f z same.memory same.shows stands,
+            for_still g k basis.IsGood x f z same.memory same.shows stands,
             all_held g k x.objects t f z (Word h.value ∷ others) (v ∷ vs) ((below.0, tt), others_below) same.others
                 (held.0.0.word, held.1),
             direct,
@@ -197,8 +197,8 @@ module _ (ground : Ground) (mapped : AreMapped ground.map) (h : Held) (n line t 
           subst (λ e. Reaches c code B (Goes (pc + length tests) z) e R) len
           (weaken c code (B + 0 * work_of (λ x. F (v ∷ vs) (located false n v line x)) x) B (Goes (pc + length tests) z)
           (pc + length tests + length access) _ R (omega arith)
-          (λ o q. subst (λ u. Leaves g k ground.IsGood result t x f u o) (sym is)
-          (leaves_after g k ground.IsGood result t x f z same (F (v ∷ vs) (located false n v line x)) o q)) r)
+          (λ o q. subst (λ u. Leaves g k basis.IsGood result t x f u o) (sym is)
+          (leaves_after g k basis.IsGood result t x f z same (F (v ∷ vs) (located false n v line x)) o q)) r)
 
       -- from the second test on
       lives : (z : State) → IsOfWords z → IsSameBut t f z → is_within v.tag v.word n ≡ true
@@ -229,11 +229,11 @@ module _ (ground : Ground) (mapped : AreMapped ground.map) (h : Held) (n line t 
           tested_life =
               let held' = held_still g k x.objects (InPointer h) v [] t f z same.others below
               (none_of_none (held_registers h)) held.0 in
-              (temporal_does h line t below g k x v v.word n ground.is_runtime charge weight mapped).from code (pc + 7)
+              (temporal_does h line t below g k x v v.word n basis.is_runtime charge weight mapped).from code (pc + 7)
               z
               (has_back code pc spatial temporal (has_front code pc tests access has)) wz (
                 record {
-                  stands = (for_still g k ground.IsGood x f z same.memory same.shows stands).objects;
+                  stands = (for_still g k basis.IsGood x f z same.memory same.shows stands).objects;
                   sound = held.0.1;
                   spells = held'.0;
                 },
@@ -268,7 +268,7 @@ module _ (ground : Ground) (mapped : AreMapped ground.map) (h : Held) (n line t 
           tested_bounds : Reaches c code 5 (Goes pc f) (pc + 7)
               (IsTested (pass_or_stop (is_within v.tag v.word n) (Spatial line) x) t f)
           tested_bounds =
-              (spatial_does h (Number n) line t below tt g k x v n ground.is_runtime charge weight).from code pc f
+              (spatial_does h (Number n) line t below tt g k x v n basis.is_runtime charge weight).from code pc f
               (has_front code pc spatial temporal (has_front code pc tests access has)) w
               (record { stands = stands.objects; sound = held.0.1; spells = held.0.0 }, omega arith, some)
 
@@ -276,7 +276,7 @@ module _ (ground : Ground) (mapped : AreMapped ground.map) (h : Held) (n line t 
           passed (Continues s) q = q
           passed (Halts status report s) q = q
 
-  pub checked_does : IsAction ground (λ vs x. F vs (located true n (argument 0 vs) line x)) (InPointer h ∷ others)
+  pub checked_does : IsAction basis (λ vs x. F vs (located true n (argument 0 vs) line x)) (InPointer h ∷ others)
       result t
       (8 + B) 0 (tests ++ access)
   checked_does functions types k x [] charge weight = record { from = λ code pc f has w p. absurd p.1 }

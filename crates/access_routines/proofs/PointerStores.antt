@@ -52,7 +52,7 @@ use Rattle.shadow_space.specs.Form.{HasWritten, IsWriteRoutine}
 use Rattle.shadow_space.proofs.Entries.{context_of}
 use Rattle.heap_space.proofs.Regions.{if_differ, if_same}
 use Rattle.flat_actions.specs.Actions.{AreSpacesGood, IsFor, IsHeldBy, Nowhere, Word, Pointer as InPointer, Leaves}
-use Rattle.flat_actions.specs.Actions.{program_ground}
+use Rattle.flat_actions.specs.Actions.{program_basis}
 use Rattle.flat_actions.specs.Actions.{HasGiven, views_of, work_of}
 use Rattle.flat_actions.proofs.Standing.{entry_stays, none_of_none}
 use Rattle.access_routines.specs.declared.held.HeldScalar.TheVariants.{Pointer}
@@ -333,7 +333,7 @@ module _ (map : MapSizes) (mapped : AreMapped map) (entry : View) (IsGood : Byte
 pub store_pointer_does : (map : MapSizes) (entry : View) (IsGood : Bytes → Type 0) (address : ℕ) (from : Held) (t : ℕ)
     (write : List FlatInstruction) → AreMapped map → IsLocal map entry IsGood
     → AreBelow t (address ∷ held_registers from) → IsWriteRoutine map entry IsGood address from.tag t write
-    → IsStoreRoutine (program_ground map entry IsGood) address (Pointer from) t
+    → IsStoreRoutine (program_basis map entry IsGood) address (Pointer from) t
     (store_pointer_code address from t write)
 store_pointer_does map entry IsGood address from t write mapped is_local below writes line functions types k x [] charge
     weight =

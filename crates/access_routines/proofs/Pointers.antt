@@ -43,7 +43,7 @@ use Rattle.flat_objects.specs.StandsFor.{Views, Keys, spell}
 use Rattle.shadow_space.specs.Form.{HasRead, IsReadRoutine}
 use Rattle.shadow_space.proofs.Entries.{context_of}
 use Rattle.flat_actions.specs.Actions.{IsFor, IsHeldBy, Word, Pointer as InPointer, Leaves, views_of, work_of}
-use Rattle.flat_actions.specs.Actions.{program_ground}
+use Rattle.flat_actions.specs.Actions.{program_basis}
 use Rattle.access_routines.specs.declared.held.HeldScalar.TheVariants.{Pointer}
 use Rattle.access_routines.specs.Accessing.{IsLoadRoutine, word_code, no_entry, load_pointer_code}
 use Rattle.access_routines.proofs.Tests.{if_equal, if_unequal}
@@ -257,7 +257,7 @@ module _ (map : MapSizes) (mapped : AreMapped map) (entry : View) (IsGood : Byte
 pub load_pointer_does : (map : MapSizes) (entry : View) (IsGood : Bytes → Type 0) (address : ℕ) (into : Held) (t : ℕ)
     (read : List FlatInstruction) → AreMapped map → AreDistinct (address ∷ held_registers into)
     → AreBelow t (address ∷ held_registers into) → IsReadRoutine map entry IsGood address into.tag t read
-    → IsLoadRoutine (program_ground map entry IsGood) address (Pointer into) t (load_pointer_code address into t read)
+    → IsLoadRoutine (program_basis map entry IsGood) address (Pointer into) t (load_pointer_code address into t read)
 load_pointer_does map entry IsGood address into t read mapped apart below reads line functions types k x [] charge
     weight =
     record { from = λ code pc f has w p. absurd p.1 }

@@ -17,7 +17,7 @@ use Rattle.flat_routines.specs.declared.registers.Held.{Held}
 use Rattle.flat_routines.specs.Routine.{Outcome, Continues, Halts}
 use Rattle.flat_routines.proofs.Rules.{weaken}
 use Rattle.flat_objects.specs.StandsFor.{Views, Keys}
-use Rattle.flat_actions.specs.Actions.{Ground, IsFor, Nowhere, Pointer, Leaves, IsAction, IsActionIn, context_in}
+use Rattle.flat_actions.specs.Actions.{Basis, IsFor, Nowhere, Pointer, Leaves, IsAction, IsActionIn, context_in}
 use Rattle.flat_actions.specs.Actions.{views_of}
 use Rattle.flat_actions.specs.Actions.{work_of}
 use Rattle.flat_actions.proofs.Standing.{given_still, ended_still}
@@ -34,42 +34,42 @@ tested_leaves g k IsGood t x f stands false e (Halts status report z) h =
     ended_still e x x.work status report f z stands.shown h.2.shows h.0 h.1
 
 -- of a known number of bytes
-pub spatial_acts : (ground : Ground) (h : Held) (n line t : ℕ) (r : List FlatInstruction) → 1 ≤ n → n < 2 ^ 64
+pub spatial_acts : (basis : Basis) (h : Held) (n line t : ℕ) (r : List FlatInstruction) → 1 ≤ n → n < 2 ^ 64
     → IsSpatialRoutine h (Number n) line t r
-    → IsAction ground (λ vs. test_bounds n (argument 0 vs) line >> done (integer 0)) (Pointer h ∷ []) Nowhere t 5 0 r
-spatial_acts ground h n line t r some small does functions types k x [] charge weight =
+    → IsAction basis (λ vs. test_bounds n (argument 0 vs) line >> done (integer 0)) (Pointer h ∷ []) Nowhere t 5 0 r
+spatial_acts basis h n line t r some small does functions types k x [] charge weight =
     record { from = λ code pc f has w p. absurd p.1 }
-spatial_acts ground h n line t r some small does functions types k x (v ∷ []) charge weight = record {
+spatial_acts basis h n line t r some small does functions types k x (v ∷ []) charge weight = record {
   from = λ code pc f has w p.
-      let g = views_of ground.map functions types ground.entry in
-      weaken (context_in ground charge weight) code 5
+      let g = views_of basis.map functions types basis.entry in
+      weaken (context_in basis charge weight) code 5
       (5 + 0 * work_of (test_bounds n v line >> done (integer 0)) x) (Goes pc f) (pc + length r) _ _ (omega arith)
-      (tested_leaves g k ground.IsGood t x f p.0 (is_within v.tag v.word n) _)
-      ((does g k x v n ground.is_runtime charge weight).from code pc f has w
+      (tested_leaves g k basis.IsGood t x f p.0 (is_within v.tag v.word n) _)
+      ((does g k x v n basis.is_runtime charge weight).from code pc f has w
       (record { stands = p.0.objects; sound = p.1.0.1; spells = p.1.0.0 }, omega arith, some));
 }
-spatial_acts ground h n line t r some small does functions types k x (v ∷ u ∷ vs) charge weight =
+spatial_acts basis h n line t r some small does functions types k x (v ∷ u ∷ vs) charge weight =
     record { from = λ code pc f has w p. absurd p.1.1 }
 
 -- where the tag is known to be that of an object
 abbrev pub IsOfObject : Source → List Value → Type 0
 IsOfObject x vs = (a : ℕ) × (n : ℕ) × (is_within (argument 0 vs).tag a n ≡ true)
 
-pub temporal_acts : (ground : Ground) (h : Held) (line t : ℕ) (r : List FlatInstruction) → AreMapped ground.map
+pub temporal_acts : (basis : Basis) (h : Held) (line t : ℕ) (r : List FlatInstruction) → AreMapped basis.map
     → IsTemporalRoutine h line t r
-    → IsActionIn ground IsOfObject (λ vs. test_life (argument 0 vs) line >> done (integer 0)) (Pointer h ∷ []) Nowhere t
+    → IsActionIn basis IsOfObject (λ vs. test_life (argument 0 vs) line >> done (integer 0)) (Pointer h ∷ []) Nowhere t
     3
     0 r
-temporal_acts ground h line t r mapped does functions types k x [] charge weight =
+temporal_acts basis h line t r mapped does functions types k x [] charge weight =
     record { from = λ code pc f has w p. absurd p.1 }
-temporal_acts ground h line t r mapped does functions types k x (v ∷ []) charge weight = record {
+temporal_acts basis h line t r mapped does functions types k x (v ∷ []) charge weight = record {
   from = λ code pc f has w p.
-      let g = views_of ground.map functions types ground.entry in
-      weaken (context_in ground charge weight) code 3
+      let g = views_of basis.map functions types basis.entry in
+      weaken (context_in basis charge weight) code 3
       (3 + 0 * work_of (test_life v line >> done (integer 0)) x) (Goes pc f) (pc + length r) _ _ (omega arith)
-      (tested_leaves g k ground.IsGood t x f p.0 (is_live_tag v.tag x.objects) _)
-      ((does g k x v p.2.0 p.2.1 ground.is_runtime charge weight mapped).from code pc f has w
+      (tested_leaves g k basis.IsGood t x f p.0 (is_live_tag v.tag x.objects) _)
+      ((does g k x v p.2.0 p.2.1 basis.is_runtime charge weight mapped).from code pc f has w
       (record { stands = p.0.objects; sound = p.1.0.1; spells = p.1.0.0 }, p.2.2));
 }
-temporal_acts ground h line t r mapped does functions types k x (v ∷ u ∷ vs) charge weight =
+temporal_acts basis h line t r mapped does functions types k x (v ∷ u ∷ vs) charge weight =
     record { from = λ code pc f has w p. absurd p.1.1 }

@@ -23,7 +23,7 @@ use Rattle.flat_meaning.specs.declared.instruction.FlatInstruction.TheVariants.{
 use Rattle.flat_routines.specs.declared.registers.Held.{Held}
 use Rattle.flat_routines.specs.declared.registers.Entry.{Entry}
 use Rattle.flat_routines.specs.Routine.{unless_code}
-use Rattle.flat_actions.specs.Actions.{Ground, Nowhere, Word, Pointer as InPointer, IsAction}
+use Rattle.flat_actions.specs.Actions.{Basis, Nowhere, Word, Pointer as InPointer, IsAction}
 use Rattle.flat_actions.specs.Actions.{IsActionIn}
 use Rattle.access_routines.specs.declared.held.HeldScalar.{HeldScalar}
 use Rattle.access_routines.specs.declared.held.HeldScalar.TheVariants.{Integer, Pointer}
@@ -75,10 +75,10 @@ load_steps (Integer t r) = 1
 load_steps (Pointer h) = 36
 
 -- The register of the address alone is needed of the pointer, whatever line the source would end with.
-abbrev pub IsLoadRoutine : Ground → (address : ℕ) → (into : HeldScalar) → (scratch : ℕ) → List FlatInstruction → Type 0
-IsLoadRoutine ground a into t r =
+abbrev pub IsLoadRoutine : Basis → (address : ℕ) → (into : HeldScalar) → (scratch : ℕ) → List FlatInstruction → Type 0
+IsLoadRoutine basis a into t r =
     (line : ℕ)
-    → IsActionIn ground (IsToAccess into) (λ vs. load (scalar_in into) false (argument 0 vs) line) (Word a ∷ [])
+    → IsActionIn basis (IsToAccess into) (λ vs. load (scalar_in into) false (argument 0 vs) line) (Word a ∷ [])
     (holder_in into) t (load_steps into) 0 r
 
 -- ---- storing
@@ -110,22 +110,22 @@ abbrev pub store_steps : HeldScalar → ℕ
 store_steps (Integer t r) = 1
 store_steps (Pointer h) = 35
 
-abbrev pub IsStoreRoutine : Ground → (address : ℕ) → (from : HeldScalar) → (scratch : ℕ) → List FlatInstruction → Type 0
-IsStoreRoutine ground a from t r =
+abbrev pub IsStoreRoutine : Basis → (address : ℕ) → (from : HeldScalar) → (scratch : ℕ) → List FlatInstruction → Type 0
+IsStoreRoutine basis a from t r =
     (line : ℕ)
-    → IsActionIn ground (IsToAccess from)
+    → IsActionIn basis (IsToAccess from)
     (λ vs. store (scalar_in from) false (argument 0 vs) line (argument 1 vs) >> done (integer 0))
     (Word a ∷ holder_in from ∷ []) Nowhere t (store_steps from) 0 r
 
 -- ---- with both tests before it
 
 -- the access is judged
-abbrev pub IsCheckedLoad : Ground → Held → (into : HeldScalar) → (line scratch : ℕ) → List FlatInstruction → Type 0
-IsCheckedLoad ground h into line t r =
-    IsAction ground (λ vs. load (scalar_in into) true (argument 0 vs) line) (InPointer h ∷ []) (holder_in into) t
+abbrev pub IsCheckedLoad : Basis → Held → (into : HeldScalar) → (line scratch : ℕ) → List FlatInstruction → Type 0
+IsCheckedLoad basis h into line t r =
+    IsAction basis (λ vs. load (scalar_in into) true (argument 0 vs) line) (InPointer h ∷ []) (holder_in into) t
     (8 + load_steps into) 0 r
 
-abbrev pub IsCheckedStore : Ground → Held → (from : HeldScalar) → (line scratch : ℕ) → List FlatInstruction → Type 0
-IsCheckedStore ground h from line t r =
-    IsAction ground (λ vs. store (scalar_in from) true (argument 0 vs) line (argument 1 vs) >> done (integer 0))
+abbrev pub IsCheckedStore : Basis → Held → (from : HeldScalar) → (line scratch : ℕ) → List FlatInstruction → Type 0
+IsCheckedStore basis h from line t r =
+    IsAction basis (λ vs. store (scalar_in from) true (argument 0 vs) line (argument 1 vs) >> done (integer 0))
     (InPointer h ∷ holder_in from ∷ []) Nowhere t (8 + store_steps from) 0 r

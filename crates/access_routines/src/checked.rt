@@ -5,7 +5,7 @@ ghost use Rattle.addr_map.specs.Places.{AreMapped};
 ghost use Rattle.flat_meaning.specs.declared.instruction.RightOperand.TheVariants.{Number};
 ghost use Rattle.flat_routines.specs.Registers.{AreBelow};
 ghost use Rattle.flat_routines.specs.Metadata.{held_registers};
-ghost use Rattle.flat_actions.specs.Actions.{registers_of, program_ground};
+ghost use Rattle.flat_actions.specs.Actions.{registers_of, program_basis};
 ghost use Rattle.access_routines.specs.Testing.{spatial_code, temporal_code};
 ghost use Rattle.access_routines.specs.Holding.{holder_in, IsApartFrom};
 ghost use Rattle.access_routines.specs.Accessing.{IsCheckedLoad, IsCheckedStore};
@@ -37,7 +37,7 @@ pub fn checked_load<S: ShadowForm>(
     requires into { AreBelow scratch (registers_of (holder_in into)) }
     requires apart { IsApartFrom pointer.value into }
     requires room { scratch ≤ 2 ^ 31 }
-    ensures { IfOk result (λ r. IsCheckedLoad (program_ground map.now S.entry (S.IsGood map.now)) pointer into line
+    ensures { IfOk result (λ r. IsCheckedLoad (program_basis map.now S.entry (S.IsGood map.now)) pointer into line
         scratch r.items) }
 {
     let access = load::<S>(alloc, map, pointer.value, into, scratch)?;
@@ -60,7 +60,7 @@ pub fn checked_store<S: ShadowForm>(
     requires pointer { AreBelow scratch (held_registers pointer) }
     requires from { AreBelow scratch (registers_of (holder_in from)) }
     requires room { scratch ≤ 2 ^ 31 }
-    ensures { IfOk result (λ r. IsCheckedStore (program_ground map.now S.entry (S.IsGood map.now)) pointer from line
+    ensures { IfOk result (λ r. IsCheckedStore (program_basis map.now S.entry (S.IsGood map.now)) pointer from line
         scratch r.items) }
 {
     let access = store::<S>(alloc, map, pointer.value, from, scratch)?;

@@ -4,7 +4,7 @@ ghost use Rattle.std.specs.Prelude.{◌≡◌, ◌≤◌, ◌^◌, IfOk, ◌∷�
 ghost use Rattle.addr_map.specs.Places.{AreMapped};
 ghost use Rattle.flat_routines.specs.Registers.{AreDistinct, AreBelow};
 ghost use Rattle.flat_routines.specs.Metadata.{held_registers};
-ghost use Rattle.flat_actions.specs.Actions.{registers_of, program_ground};
+ghost use Rattle.flat_actions.specs.Actions.{registers_of, program_basis};
 ghost use Rattle.access_routines.specs.Holding.{holder_in, IsApartFrom};
 ghost use Rattle.access_routines.specs.Accessing.{IsLoadRoutine, load_op, load_integer_code};
 ghost use Rattle.access_routines.specs.Accessing.{load_pointer_code};
@@ -33,7 +33,7 @@ pub fn load<S: ShadowForm>(
     requires below { AreBelow scratch (address ∷ registers_of (holder_in into)) }
     requires apart { IsApartFrom address into }
     requires room { scratch ≤ 2 ^ 31 }
-    ensures { IfOk result (λ r. IsLoadRoutine (program_ground map.now S.entry (S.IsGood map.now)) address into scratch
+    ensures { IfOk result (λ r. IsLoadRoutine (program_basis map.now S.entry (S.IsGood map.now)) address into scratch
         r.items) }
 {
     match into {
@@ -87,7 +87,7 @@ fn load_pointer<S: ShadowForm>(
     requires below { AreBelow scratch (address ∷ held_registers into) }
     requires apart { AreDistinct (address ∷ held_registers into) }
     requires room { scratch ≤ 2 ^ 31 }
-    ensures { IfOk result (λ r. IsLoadRoutine (program_ground map.now S.entry (S.IsGood map.now)) address (Pointer into)
+    ensures { IfOk result (λ r. IsLoadRoutine (program_basis map.now S.entry (S.IsGood map.now)) address (Pointer into)
         scratch r.items) }
 {
     let read = S::read_entry(alloc, map, address, into.tag, scratch)?;

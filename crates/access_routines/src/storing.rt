@@ -4,7 +4,7 @@ ghost use Rattle.std.specs.Prelude.{◌≡◌, ◌≤◌, ◌^◌, IfOk, ◌∷�
 ghost use Rattle.addr_map.specs.Places.{AreMapped};
 ghost use Rattle.flat_routines.specs.Registers.{AreBelow};
 ghost use Rattle.flat_routines.specs.Metadata.{held_registers};
-ghost use Rattle.flat_actions.specs.Actions.{registers_of, program_ground};
+ghost use Rattle.flat_actions.specs.Actions.{registers_of, program_basis};
 ghost use Rattle.access_routines.specs.Holding.{holder_in};
 ghost use Rattle.access_routines.specs.Accessing.{IsStoreRoutine, store_op, store_integer_code};
 ghost use Rattle.access_routines.specs.Accessing.{store_pointer_code};
@@ -32,7 +32,7 @@ pub fn store<S: ShadowForm>(
     requires map { AreMapped map.now }
     requires below { AreBelow scratch (address ∷ registers_of (holder_in from)) }
     requires room { scratch ≤ 2 ^ 31 }
-    ensures { IfOk result (λ r. IsStoreRoutine (program_ground map.now S.entry (S.IsGood map.now)) address from scratch
+    ensures { IfOk result (λ r. IsStoreRoutine (program_basis map.now S.entry (S.IsGood map.now)) address from scratch
         r.items) }
 {
     S::entries_are_local();
@@ -83,7 +83,7 @@ fn store_pointer<S: ShadowForm>(
     requires map { AreMapped map.now }
     requires below { AreBelow scratch (address ∷ held_registers from) }
     requires room { scratch ≤ 2 ^ 31 }
-    ensures { IfOk result (λ r. IsStoreRoutine (program_ground map.now S.entry (S.IsGood map.now)) address
+    ensures { IfOk result (λ r. IsStoreRoutine (program_basis map.now S.entry (S.IsGood map.now)) address
         (Pointer from) scratch r.items) }
 {
     S::entries_are_local();

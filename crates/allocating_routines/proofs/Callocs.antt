@@ -30,7 +30,7 @@ use Rattle.flat_routines.proofs.Words.{same_metadata}
 use Rattle.flat_objects.specs.StandsFor.{Views, Keys, Spells}
 use Rattle.shadow_space.proofs.Entries.{context_of, agrees_shows, agrees_memory}
 use Rattle.flat_actions.specs.Actions.{IsFor, Word, Pointer, AreHeldBy, Leaves, views_of, context_in, work_of}
-use Rattle.flat_actions.specs.Actions.{runtime_ground}
+use Rattle.flat_actions.specs.Actions.{runtime_basis}
 use Rattle.flat_actions.proofs.Standing.{for_still, given_still}
 use Rattle.allocating_routines.specs.Premises.{AreStanding}
 use Rattle.allocating_routines.specs.Allocating.{IsAllocateRoutine, IsCallocRoutine, product_code, null_code}
@@ -218,7 +218,7 @@ calloc_does map mapped entry IsGood count size into line t below distinct alloca
         → IsFor (views_of map functions types entry) k IsGood x s
         → AreHeldBy (views_of map functions types entry) k x.objects (Word count ∷ Word size ∷ []) vs s.values
         → AreStanding map x
-        → Reaches (context_in (runtime_ground map entry IsGood) charge weight) code
+        → Reaches (context_in (runtime_basis map entry IsGood) charge weight) code
         (70 + 20 * work_of (calloc set (argument 0 vs) (argument 1 vs) line) x) (Goes pc s)
         (pc + length (calloc_code allocate' count size into t (t + 1)))
         (Leaves (views_of map functions types entry) k IsGood (Pointer into) t x s

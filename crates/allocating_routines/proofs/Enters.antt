@@ -54,9 +54,9 @@ use Rattle.allocating_routines.proofs.Zeroed.{AreLocal}
 use Rattle.allocating_routines.proofs.FreeLocks.{stack_laid_out, free_for_automatics}
 use Rattle.allocating_routines.proofs.BlockBirth.{held_after, keys_keep}
 use Rattle.allocating_routines.proofs.BlockMemory.{good_by_locks, range_made}
-use Rattle.allocating_routines.proofs.EntryBirths.{stack_in_space, entry_born}
+use Rattle.allocating_routines.proofs.EntryBirths.{stack_in_space, entry_born, entry_of_lock}
 use Rattle.allocating_routines.proofs.Seeks.{keys_allowed, found_keys, keys_shown}
-use Rattle.allocating_routines.proofs.SourceEntries.{entered_in, block_of, no_space, no_more_keys}
+use Rattle.allocating_routines.proofs.SourceEntries.{homes_from, entered_in, block_of, no_space, no_more_keys}
 use Rattle.allocating_routines.proofs.SourceEntries.{enters_block, end_by_bytes, some_bytes, few_bytes}
 use Rattle.heap_space.proofs.Regions.{not_below, is_below}
 
@@ -428,7 +428,7 @@ module _ (map : MapSizes) (mapped : AreMapped map) (entry : View) (IsGood : Byte
                 lock5 = d5.others to.lock (let l = to_below.1.1.1.0 in omega arith) ((λ e. distinct.1.0.1.0 (sym e)), tt)
                     ∙ d4.others to.lock (let l = to_below.1.1.1.0 in omega arith) tt
 
-                has_entered : HasEntered g k IsGood to t x s (entered_in vs x) s5
+                has_entered : HasEntered g k IsGood to t x s (homes_from vs (length x.objects)) (entered_in vs x) s5
                 has_entered = record {
                   keys = k';
                   held = keys_keep (length x.objects) lock x.objects k (omega arith);
@@ -439,6 +439,8 @@ module _ (map : MapSizes) (mapped : AreMapped map) (entry : View) (IsGood : Byte
                       held_after (length x.objects) lock k n l
                       ∙ ap (λ y. record { key = y; lock = lock }) (sym key5)
                       ∙ ap (λ y. record { key = s5.values to.key; lock = y }) (sym lock5));
+                  of_lock = entry_of_lock map mapped functions types entry IsGood k x.stacked x.objects vs lock s.memory
+                      s4.memory f.objects can.separate can.some fits made (entered_in vs x) refl (s5.values to.lock) lock5;
                   turns = shown.turns;
                   low = λ a l out. (let e = end_is in
                       ap (λ m. m a) memory5

@@ -10,6 +10,7 @@ use Rattle.obj_memory.specs.Objects.{Objects, object_at, new_object}
 use Rattle.obj_memory.specs.Heap.{rounded_up, is_allocated}
 use Rattle.obj_memory.proofs.Listed.{every_replicate}
 use Rattle.c_tree.specs.declared.program.Variable.{Variable}
+use Rattle.source_meaning.specs.State.{State as Source}
 use Rattle.source_meaning.specs.Blocks.{objects_end, has_objects}
 use Rattle.source_meaning.specs.Keeping.{AreSeparate}
 use Rattle.source_meaning.proofs.Separating.{behind_stack}
@@ -23,10 +24,11 @@ use Rattle.flat_objects.proofs.Lives.{born}
 use Rattle.heap_space.specs.Table.{block_rows}
 use Rattle.flat_actions.specs.Actions.{views_of}
 use Rattle.allocating_routines.specs.Births.{with_key, IsRangeMade}
-use Rattle.allocating_routines.specs.Entering.{block_bytes}
+use Rattle.allocating_routines.specs.Entering.{block_bytes, AreOfLock}
 use Rattle.allocating_routines.proofs.BlockBirth.{own_before, own_after, held_before, held_after, free_is_unused}
 use Rattle.allocating_routines.proofs.SourceEntries.{placed_objects, end_by_bytes, ArePlacedFrom, placed_from}
 use Rattle.allocating_routines.proofs.SourceEntries.{some_placed, placed_sound, placed_separate}
+use Rattle.allocating_routines.proofs.SourceEntries.{homes_from, object_count, placed_count, home_between, between_home}
 
 pub stack_in_space : (s : MapSizes) → AreMapped s
     → (objects_begin ≤ region_start s Stack) × (region_end s Stack ≤ region_end s Heap)
@@ -154,3 +156,35 @@ module _ (map : MapSizes) (mapped : AreMapped map) (functions : ℕ) (types : �
 
   pub entry_born : StandsFor g k' new m'
   entry_born = born g k k' mapped old new lock m m' st births
+
+  -- just these live under the lock word
+  live_at : (n : ℕ) → length old ≤ n → n < length new → (object_at new n).is_live ≡ true
+  unfolding new_object
+  live_at n l h = let q = placed.fresh n l h in ap (λ o. o.is_live) q.2
+
+  pub entry_of_lock : (x : Source) → x.objects ≡ new → (register : ℕ) → register ≡ lock
+      → AreOfLock k' x (homes_from vs (length old)) register
+  entry_of_lock x objects register at =
+      let more = some_placed vs top old some in let count = placed_count vs top old in
+      let here : length x.objects ≡ length new = ap length objects in
+      let last : (n : ℕ) → n < length old + object_count vs → n < length new = λ n l. omega arith in
+      record {
+        some = length old;
+        some_live = ap (λ os. (object_at os (length old)).is_live) objects
+            ∙ live_at (length old) (omega arith) more;
+        some_home = between_home vs (length old) (length old) (omega arith) (omega arith);
+        under = λ n h. (let q = home_between vs (length old) n h in let lo = q.0 in let hi = last n q.1 in (
+          omega arith,
+          ap (λ os. (object_at os n).storage) objects ∙ automatic_at n lo hi,
+          ap (λ y. y.lock) (held_after (length old) lock k n lo) ∙ sym at,
+        ));
+        home = λ n live same. (let live' : (object_at new n).is_live ≡ true =
+            ap (λ os. (object_at os n).is_live) (sym objects) ∙ live in
+            let made = live_is_made new n live' in
+            ⊎_elim
+            (λ (was : n < length old). absurd (free_is_unused g k old m lock st b.key.was_free.empty n
+            (ap (λ o. o.is_live) (sym (placed.same n was)) ∙ live')
+            (ap (λ y. y.lock) (sym (held_before (length old) lock k n was)) ∙ same ∙ at)))
+            (λ (from : length old ≤ n). between_home vs (length old) n from (omega arith))
+            (cases_lt n (length old)));
+      }

@@ -35,7 +35,7 @@ use Rattle.lock_space.specs.Routines.{IsReleaseRoutine}
 use Rattle.heap_space.specs.Table.{block_total}
 use Rattle.heap_space.specs.Routines.{IsFindRoutine}
 use Rattle.heap_space.specs.Routines.{IsReleaseRoutine as IsUnlistRoutine}
-use Rattle.flat_actions.specs.Actions.{IsFor, Pointer, Nowhere, AreHeldBy, IsHeldBy, Leaves, runtime_ground}
+use Rattle.flat_actions.specs.Actions.{IsFor, Pointer, Nowhere, AreHeldBy, IsHeldBy, Leaves, runtime_basis}
 use Rattle.flat_actions.specs.Actions.{views_of, context_in, work_of}
 use Rattle.flat_actions.proofs.Standing.{for_still, given_still, ended_still, keeps_same}
 use Rattle.allocating_routines.specs.Freeing.{IsFreeRoutine, life_test, found_test, end_code, free_code}
@@ -208,7 +208,7 @@ free_does map mapped entry IsGood local h line t below find unlist unlock finds 
         → HasAt code pc (free_code find unlist unlock h line t (t + 2)) → IsOfWords s
         → IsFor (views_of map functions types entry) k IsGood x s
         → AreHeldBy (views_of map functions types entry) k x.objects (Pointer h ∷ []) vs s.values
-        → Reaches (context_in (runtime_ground map entry IsGood) charge weight) code
+        → Reaches (context_in (runtime_basis map entry IsGood) charge weight) code
         (20 + 26 * work_of (free (argument 0 vs) line) x) (Goes pc s)
         (pc + length (free_code find unlist unlock h line t (t + 2)))
         (Leaves (views_of map functions types entry) k IsGood Nowhere t x s (free (argument 0 vs) line x))

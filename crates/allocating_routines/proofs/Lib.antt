@@ -25,3 +25,5 @@ pub mod EntryBirths
 pub mod BlockDeaths
 pub mod LeftBlocks
 pub mod Enters
+pub mod KeptBytes
+pub mod ZeroedObjects

@@ -13,7 +13,7 @@ use Rattle.flat_routines.specs.declared.registers.Held.{Held}
 use Rattle.flat_routines.specs.Routine.{HasAt, Reaches}
 use Rattle.flat_routines.specs.Metadata.{View}
 use Rattle.flat_actions.specs.Actions.{IsFor, Word, Pointer, AreHeldBy, Leaves, views_of, context_in, work_of}
-use Rattle.flat_actions.specs.Actions.{runtime_ground}
+use Rattle.flat_actions.specs.Actions.{runtime_basis}
 use Rattle.allocating_routines.specs.Premises.{AreStanding}
 use Rattle.allocating_routines.specs.Allocating.{IsAllocateRoutine, IsMallocRoutine}
 
@@ -26,7 +26,7 @@ malloc_does map entry IsGood size into line t r allocates set same functions typ
     by : (vs : List Value) (code : List FlatInstruction) (pc : ℕ) (s : State) → HasAt code pc r → IsOfWords s
         → IsFor (views_of map functions types entry) k IsGood x s
         → AreHeldBy (views_of map functions types entry) k x.objects (Word size ∷ []) vs s.values → AreStanding map x
-        → Reaches (context_in (runtime_ground map entry IsGood) charge weight) code
+        → Reaches (context_in (runtime_basis map entry IsGood) charge weight) code
         (60 + 20 * work_of (malloc set (argument 0 vs) line) x) (Goes pc s) (pc + length r)
         (Leaves (views_of map functions types entry) k IsGood (Pointer into) t x s (malloc set (argument 0 vs) line x))
     by [] code pc s has w f held standing = absurd held

@@ -37,7 +37,7 @@ use Rattle.heap_space.specs.Table.{block_total}
 use Rattle.heap_space.specs.Routines.{IsFindRoutine}
 use Rattle.heap_space.specs.Routines.{IsReleaseRoutine as IsUnlistRoutine}
 use Rattle.flat_actions.specs.Actions.{IsFor, Word, Pointer, AreHeldBy, IsHeldBy, Leaves, views_of, context_in}
-use Rattle.flat_actions.specs.Actions.{runtime_ground}
+use Rattle.flat_actions.specs.Actions.{runtime_basis}
 use Rattle.flat_actions.specs.Actions.{work_of}
 use Rattle.flat_actions.specs.Ranges.{IsTaggedMoveRoutine}
 use Rattle.flat_actions.proofs.Standing.{for_still, ended_still}
@@ -414,7 +414,7 @@ realloc_does map mapped entry IsGood local h size into line t old_below size_bel
         → IsFor (views_of map functions types entry) k IsGood x s
         → AreHeldBy (views_of map functions types entry) k x.objects (Pointer h ∷ Word size ∷ []) vs s.values
         → AreStanding map x
-        → Reaches (context_in (runtime_ground map entry IsGood) charge weight) code
+        → Reaches (context_in (runtime_basis map entry IsGood) charge weight) code
         (100 + 30 * work_of (realloc set (argument 0 vs) (argument 1 vs) line) x) (Goes pc s)
         (pc + length (realloc_code find block' move unlist unlock h size into line t (t + 1) (t + 2)))
         (Leaves (views_of map functions types entry) k IsGood (Pointer into) t x s

@@ -1,8 +1,8 @@
 -- Blocks that are entered, in the source: which objects stand where.
-use Rattle.std.proofs.Common.{◌≡◌, ℕ, ◌+◌, ◌*◌, ◌%◌, ◌<◌, ◌≤◌, ⊎_elim, List, []}
+use Rattle.std.proofs.Common.{inl, inr, ◌≡◌, ℕ, ◌+◌, ◌*◌, ◌%◌, ◌<◌, ◌≤◌, ⊎_elim, List, []}
 use Rattle.std.proofs.Common.{◌∷◌, Bool, true, false, ◌||◌, if◌then◌else◌, length, refl, sym, ap, ◌∙◌, arith}
 use Rattle.std.specs.Prelude.{nat_le, nat_lt}
-use Rattle.std.proofs.lemmas.Bool.{cases_lt}
+use Rattle.std.proofs.lemmas.Bool.{cases_eq, cases_lt}
 use Rattle.sb_base.specs.declared.ending.Ending.TheVariants.{Stack as StackSpent, Keys as KeysSpent}
 use Rattle.addr_map.specs.declared.region.Region.TheVariants.{Stack}
 use Rattle.addr_map.specs.Places.{MapSizes, AreMapped, region_end}
@@ -23,7 +23,7 @@ use Rattle.source_meaning.specs.Keeping.{AreSeparate}
 use Rattle.source_meaning.specs.Places.{stack_end}
 use Rattle.source_meaning.proofs.Holding.{length-new}
 use Rattle.source_meaning.proofs.Separating.{separate_automatic}
-use Rattle.allocating_routines.specs.Entering.{AreSized, block_bytes}
+use Rattle.allocating_routines.specs.Entering.{AreSized, block_bytes, IsHomeOf}
 
 -- ---- the objects of a block
 
@@ -318,3 +318,53 @@ placed_separate sizes mapped (v ∷ vs) top objects h l =
         let end = grows vs (a + z) in
         again (a + z) (with_new Automatic a z objects)
         (separate_automatic sizes top a z objects mapped h (omega arith) (omega arith)) m
+
+-- ---- the homes
+
+-- how many objects the block has
+abbrev pub object_count : List Variable → ℕ
+object_count [] = 0
+object_count (v ∷ vs) = (if v.is_object then 1 else 0) + object_count vs
+
+pub placed_count : (vs : List Variable) (top : ℕ) (objects : Objects)
+    → length (placed_objects vs top objects) ≡ length objects + object_count vs
+placed_count [] top objects = omega arith
+placed_count (v ∷ vs) top objects = by (λ o os. placed_count vs o os) v.is_object
+  where
+    by : ((o : ℕ) (os : Objects) → length (placed_objects vs o os) ≡ length os + object_count vs) → (b : Bool)
+        → length (placed_objects vs (if b then rounded_up 16 top + size_of_kind v.kind else top)
+        (if b then with_new Automatic (rounded_up 16 top) (size_of_kind v.kind) objects else objects))
+        ≡ length objects + ((if b then 1 else 0) + object_count vs)
+    by again false = let e = again top objects in omega arith
+    by again true =
+        let many = length-new Automatic (rounded_up 16 top) (size_of_kind v.kind) objects in
+        let e = again (rounded_up 16 top + size_of_kind v.kind)
+        (with_new Automatic (rounded_up 16 top) (size_of_kind v.kind) objects) in
+        omega arith
+
+-- they are the numbers from one on
+pub home_between : (vs : List Variable) (k n : ℕ) → IsHomeOf n (homes_from vs k) → (k ≤ n) × (n < k + object_count vs)
+home_between [] k n h = absurd h
+home_between (v ∷ vs) k n h = by (λ i q. home_between vs i n q) v.is_object h
+  where
+    by : ((i : ℕ) → IsHomeOf n (homes_from vs i) → (i ≤ n) × (n < i + object_count vs)) → (b : Bool)
+        → IsHomeOf n ((if b then InObject k else NoObject) ∷ homes_from vs (if b then k + 1 else k))
+        → (k ≤ n) × (n < k + ((if b then 1 else 0) + object_count vs))
+    by again true q = ⊎_elim
+        (λ e. (omega arith, omega arith))
+        (λ r. (let x = again (k + 1) r in let lo = x.0 in let hi = x.1 in (omega arith, omega arith)))
+        q
+    by again false q = let x = again k q in let lo = x.0 in let hi = x.1 in (omega arith, omega arith)
+
+pub between_home : (vs : List Variable) (k n : ℕ) → k ≤ n → n < k + object_count vs → IsHomeOf n (homes_from vs k)
+between_home [] k n lo hi = absurd (omega arith)
+between_home (v ∷ vs) k n lo hi = by (λ i l h. between_home vs i n l h) v.is_object hi
+  where
+    by : ((i : ℕ) → i ≤ n → n < i + object_count vs → IsHomeOf n (homes_from vs i)) → (b : Bool)
+        → n < k + ((if b then 1 else 0) + object_count vs)
+        → IsHomeOf n ((if b then InObject k else NoObject) ∷ homes_from vs (if b then k + 1 else k))
+    by again true h = ⊎_elim
+        (λ (e : n ≡ k). inl e)
+        (λ ne. inr (again (k + 1) (omega (arith, ne)) (omega arith)))
+        (cases_eq n k)
+    by again false h = again k lo (omega arith)

@@ -18,7 +18,7 @@ use Rattle.flat_routines.specs.Routine.{Does, unless_code}
 use Rattle.flat_routines.specs.Metadata.{View}
 use Rattle.flat_objects.specs.StandsFor.{Keys}
 use Rattle.flat_actions.specs.Actions.{IsFor, Word, Pointer, Leaves, IsActionIn, views_of, context_in, work_of}
-use Rattle.flat_actions.specs.Actions.{runtime_ground}
+use Rattle.flat_actions.specs.Actions.{runtime_basis}
 use Rattle.allocating_routines.specs.Premises.{AreStanding}
 
 -- A block of as many bytes as a register holds is allocated, or null given: from every state that stands for one of the
@@ -29,7 +29,7 @@ IsAllocateRoutine map entry IsGood size into line t r =
     (set : Setting) → set.sizes ≡ map
     → (functions : ℕ) (types : ℕ → ℕ) (k : Keys) (x : Source) (z charge weight : ℕ) →
     let g = views_of map functions types entry in
-    Does (context_in (runtime_ground map entry IsGood) charge weight) r
+    Does (context_in (runtime_basis map entry IsGood) charge weight) r
     (λ s. IsFor g k IsGood x s × (s.values size ≡ z) × AreStanding map x) (λ s. 60 + 20 * work_of (allocate set z line) x)
     (λ s. Leaves g k IsGood (Pointer into) t x s (allocate set z line x))
 
@@ -38,7 +38,7 @@ abbrev pub IsMallocRoutine : MapSizes → View → (Bytes → Type 0) → (size 
     → List FlatInstruction → Type 0
 IsMallocRoutine map entry IsGood size into line t r =
     (g : Setting) → g.sizes ≡ map
-    → IsActionIn (runtime_ground map entry IsGood) (λ x vs. AreStanding map x) (λ vs. malloc g (argument 0 vs) line)
+    → IsActionIn (runtime_basis map entry IsGood) (λ x vs. AreStanding map x) (λ vs. malloc g (argument 0 vs) line)
     (Word size ∷ []) (Pointer into) t 60 20 r
 
 -- ---- its instructions
@@ -86,7 +86,7 @@ abbrev pub IsCallocRoutine : MapSizes → View → (Bytes → Type 0) → (count
     → List FlatInstruction → Type 0
 IsCallocRoutine map entry IsGood count size into line t r =
     (g : Setting) → g.sizes ≡ map
-    → IsActionIn (runtime_ground map entry IsGood) (λ x vs. AreStanding map x)
+    → IsActionIn (runtime_basis map entry IsGood) (λ x vs. AreStanding map x)
     (λ vs. calloc g (argument 0 vs) (argument 1 vs) line) (Word count ∷ Word size ∷ []) (Pointer into) t 70 20 r
 
 -- the upper and the lower half of a product

@@ -24,10 +24,27 @@ use Rattle.flat_routines.specs.Registers.{OthersStay}
 use Rattle.flat_routines.specs.Routine.{Does, Outcome, Continues, Halts, Either, Never}
 use Rattle.flat_routines.specs.Metadata.{View}
 use Rattle.flat_objects.specs.StandsFor.{Views, Keys}
-use Rattle.flat_actions.specs.Actions.{IsFor, KeepsHeld, HasEnded, views_of, context_in, work_of, runtime_ground}
+use Rattle.flat_actions.specs.Actions.{IsFor, KeepsHeld, HasEnded, views_of, context_in, work_of, runtime_basis}
 use Rattle.allocating_routines.specs.declared.entering.EntryRegisters.{EntryRegisters}
 use Rattle.allocating_routines.specs.Premises.{HaveBytes}
 use Rattle.allocating_routines.specs.Allocating.{keys_code, key_test}
+
+-- ---- the objects of a block
+
+-- an object is among the homes of a block
+abbrev pub IsHomeOf : (n : ℕ) → List Home → Type 0
+IsHomeOf n [] = ⊥
+IsHomeOf n (NoObject ∷ hs) = IsHomeOf n hs
+IsHomeOf n (InObject o ∷ hs) = (n ≡ o) ⊎ IsHomeOf n hs
+
+-- The live objects under a lock word are just those of the block, of which some live, and which are automatic.
+pub record AreOfLock (k : Keys) (x : Source) (homes : List Home) (lock : ℕ) : Type 0 where
+  pub some : ℕ
+  pub some_live : (object_at x.objects some).is_live ≡ true
+  pub some_home : IsHomeOf some homes
+  pub under : (n : ℕ) → IsHomeOf n homes
+      → (n < length x.objects) × ((object_at x.objects n).storage ≡ Automatic) × ((k.held n).lock ≡ lock)
+  pub home : (n : ℕ) → (object_at x.objects n).is_live ≡ true → (k.held n).lock ≡ lock → IsHomeOf n homes
 
 -- ---- a block is entered
 
@@ -53,7 +70,7 @@ registers_in r = r.first ∷ r.end ∷ r.key ∷ r.lock ∷ []
 
 -- it was entered; of object space only the bytes of the block may have changed
 pub record HasEntered (g : Views) (k : Keys) (IsGood : Bytes → Type 0) (to : EntryRegisters) (scratch : ℕ) (x : Source)
-    (f : State) (x' : Source) (f' : State) : Type 0 where
+    (f : State) (homes : List Home) (x' : Source) (f' : State) : Type 0 where
   pub keys : Keys
   pub held : KeepsHeld x.objects k keys
   pub stands : IsFor g keys IsGood x' f'
@@ -61,6 +78,7 @@ pub record HasEntered (g : Views) (k : Keys) (IsGood : Bytes → Type 0) (to : E
   pub end_is : f'.values to.end ≡ x'.stacked
   pub share : (n : ℕ) → length x.objects ≤ n
       → keys.held n ≡ record { key = f'.values to.key; lock = f'.values to.lock }
+  pub of_lock : AreOfLock keys x' homes (f'.values to.lock)
   pub turns : f'.turns ≡ f.turns
   pub low : (a : ℕ) → a < spaces_begin → (a < rounded_up 16 x.stacked) ⊎ (x'.stacked ≤ a) → f'.memory a ≡ f.memory a
   pub behind : (a : ℕ) → region_start g.sizes StructureValues ≤ a → f'.memory a ≡ f.memory a
@@ -68,7 +86,7 @@ pub record HasEntered (g : Views) (k : Keys) (IsGood : Bytes → Type 0) (to : E
 
 abbrev pub IsEntered : Views → Keys → (IsGood : Bytes → Type 0) → EntryRegisters → (scratch : ℕ) → Source → State
     → Completed Block → Outcome → Type 0
-IsEntered g k IsGood to t x f (Gives b x') (Continues f') = HasEntered g k IsGood to t x f x' f'
+IsEntered g k IsGood to t x f (Gives b x') (Continues f') = HasEntered g k IsGood to t x f b.homes x' f'
 IsEntered g k IsGood to t x f (Ended e x') (Halts status report f') = HasEnded e x' status report f f'
 IsEntered g k IsGood to t x f (Gives b x') (Halts status report f') = ⊥
 IsEntered g k IsGood to t x f (Ended e x') (Continues f') = ⊥
@@ -81,7 +99,7 @@ IsEnterRoutine map entry IsGood top bytes to line t r =
     (set : Setting) → set.sizes ≡ map
     → (functions : ℕ) (types : ℕ → ℕ) (k : Keys) (x : Source) (vs : List Variable) (charge weight : ℕ) →
     let g = views_of map functions types entry in
-    Does (context_in (runtime_ground map entry IsGood) charge weight) r
+    Does (context_in (runtime_basis map entry IsGood) charge weight) r
     (λ f. IsFor g k IsGood x f × (f.values top ≡ x.stacked) × (f.values bytes ≡ block_bytes vs) × CanEnter map vs x)
     (λ f. 100 + 40 * work_of (enter_block set vs line) x)
     (λ f. IsEntered g k IsGood to t x f (enter_block set vs line x))
@@ -114,21 +132,6 @@ enter_code map fresh zero top bytes to line k key =
 
 -- ---- a block is left
 
--- an object is among the homes of a block
-abbrev pub IsHomeOf : (n : ℕ) → List Home → Type 0
-IsHomeOf n [] = ⊥
-IsHomeOf n (NoObject ∷ hs) = IsHomeOf n hs
-IsHomeOf n (InObject o ∷ hs) = (n ≡ o) ⊎ IsHomeOf n hs
-
--- The live objects under a lock word are just those of the block, of which some live, and which are automatic.
-pub record AreOfLock (k : Keys) (x : Source) (homes : List Home) (lock : ℕ) : Type 0 where
-  pub some : ℕ
-  pub some_live : (object_at x.objects some).is_live ≡ true
-  pub some_home : IsHomeOf some homes
-  pub under : (n : ℕ) → IsHomeOf n homes
-      → (n < length x.objects) × ((object_at x.objects n).storage ≡ Automatic) × ((k.held n).lock ≡ lock)
-  pub home : (n : ℕ) → (object_at x.objects n).is_live ≡ true → (k.held n).lock ≡ lock → IsHomeOf n homes
-
 pub record HasLeft (g : Views) (k : Keys) (IsGood : Bytes → Type 0) (scratch : ℕ) (x' : Source) (f f' : State) : Type 0
   where
     pub stands : IsFor g k IsGood x' f'
@@ -142,6 +145,6 @@ abbrev pub IsLeaveRoutine : MapSizes → View → (Bytes → Type 0) → (lock s
 IsLeaveRoutine map entry IsGood lock t r =
     (functions : ℕ) (types : ℕ → ℕ) (k : Keys) (x : Source) (b : Block) (charge weight : ℕ) →
     let g = views_of map functions types entry in
-    Does (context_in (runtime_ground map entry IsGood) charge weight) r
+    Does (context_in (runtime_basis map entry IsGood) charge weight) r
     (λ f. IsFor g k IsGood x f × AreOfLock k x b.homes (f.values lock)) (λ f. 11)
     (λ f. Either (HasLeft g k IsGood t (leave_block b x) f) Never)

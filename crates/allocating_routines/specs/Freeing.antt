@@ -18,13 +18,13 @@ use Rattle.lock_space.specs.Locks.{key_counter}
 use Rattle.lock_space.specs.Routines.{OtherLocksStay}
 use Rattle.heap_space.specs.Rows.{without_row}
 use Rattle.heap_space.specs.Table.{block_rows}
-use Rattle.flat_actions.specs.Actions.{AreSpacesGood, Pointer, Nowhere, IsAction, runtime_ground}
+use Rattle.flat_actions.specs.Actions.{AreSpacesGood, Pointer, Nowhere, IsAction, runtime_basis}
 
 -- within 20 steps and 26 for each unit of work
 abbrev pub IsFreeRoutine : MapSizes → View → (Bytes → Type 0) → (pointer : Held) → (line scratch : ℕ)
     → List FlatInstruction → Type 0
 IsFreeRoutine map entry IsGood h line t r =
-    IsAction (runtime_ground map entry IsGood) (λ vs. free (argument 0 vs) line) (Pointer h ∷ []) Nowhere t 20 26 r
+    IsAction (runtime_basis map entry IsGood) (λ vs. free (argument 0 vs) line) (Pointer h ∷ []) Nowhere t 20 26 r
 
 -- ---- its instructions
 

@@ -12,7 +12,7 @@ use Rattle.flat_meaning.specs.Memory.{Bytes}
 use Rattle.flat_routines.specs.declared.registers.Held.{Held}
 use Rattle.flat_routines.specs.Routine.{unless_code}
 use Rattle.flat_routines.specs.Metadata.{View}
-use Rattle.flat_actions.specs.Actions.{Word, Pointer, IsActionIn, runtime_ground}
+use Rattle.flat_actions.specs.Actions.{Word, Pointer, IsActionIn, runtime_basis}
 use Rattle.allocating_routines.specs.Premises.{AreStanding}
 use Rattle.allocating_routines.specs.Freeing.{life_test, found_test}
 
@@ -21,7 +21,7 @@ abbrev pub IsReallocRoutine : MapSizes → View → (Bytes → Type 0) → (old 
     → (line scratch : ℕ) → List FlatInstruction → Type 0
 IsReallocRoutine map entry IsGood old size into line t r =
     (g : Setting) → g.sizes ≡ map
-    → IsActionIn (runtime_ground map entry IsGood) (λ x vs. AreStanding map x)
+    → IsActionIn (runtime_basis map entry IsGood) (λ x vs. AreStanding map x)
     (λ vs. realloc g (argument 0 vs) (argument 1 vs) line) (Pointer old ∷ Word size ∷ []) (Pointer into) t 100 30 r
 
 -- ---- its instructions

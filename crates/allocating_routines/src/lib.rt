@@ -5,6 +5,7 @@
 pub mod allocating;
 pub mod entering;
 pub mod freeing;
+pub mod laws;
 pub mod reallocating;
 pub mod zeroing;
 

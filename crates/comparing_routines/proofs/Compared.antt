@@ -33,7 +33,7 @@ use Rattle.shadow_space.proofs.Entries.{context_of}
 use Rattle.space_routines.proofs.Quiet.{quiet_words}
 use Rattle.flat_judging.specs.Judging.{IsSameBut, IsJudged}
 use Rattle.flat_judging.proofs.Judges.{judges}
-use Rattle.flat_actions.specs.Actions.{IsFor, Word, Pointer, views_of, work_of, runtime_ground}
+use Rattle.flat_actions.specs.Actions.{IsFor, Word, Pointer, views_of, work_of, runtime_basis}
 use Rattle.flat_actions.proofs.Judged.{after_judge}
 use Rattle.comparing_routines.specs.Answering.{IsAnswered}
 use Rattle.comparing_routines.specs.Comparing.{strcmp_code, IsStrcmp}
@@ -271,7 +271,7 @@ arguments_of a b =
 pub strcmp_does : (map : MapSizes) (entry : View) (IsGood : Bytes → Type 0) (a b : Held) (into line t : ℕ)
     → AreMapped map → AreNoneOf (held_registers a) (into ∷ []) → AreNoneOf (held_registers b) (into ∷ [])
     → AreBelow t (held_registers a) → AreBelow t (held_registers b) → AreBelow t (into ∷ [])
-    → IsStrcmp (runtime_ground map entry IsGood) a b into line t (strcmp_code a b into line t (t + 1) (t + 2) (t + 3))
+    → IsStrcmp (runtime_basis map entry IsGood) a b into line t (strcmp_code a b into line t (t + 1) (t + 2) (t + 3))
 strcmp_does map entry IsGood a b into line t mapped none none' below below' into_below =
     let ins = arguments_of a b in
     let scratch = t ∷ (t + 1) ∷ (t + 2) ∷ (t + 3) ∷ [] in

@@ -48,7 +48,7 @@ use Rattle.shadow_space.proofs.Entries.{context_of}
 use Rattle.space_routines.proofs.Quiet.{quiet_words, worked_words}
 use Rattle.flat_judging.specs.Judging.{IsSameBut, IsJudged}
 use Rattle.flat_judging.proofs.Judges.{judges}
-use Rattle.flat_actions.specs.Actions.{IsFor, Word, Pointer, views_of, work_of, runtime_ground}
+use Rattle.flat_actions.specs.Actions.{IsFor, Word, Pointer, views_of, work_of, runtime_basis}
 use Rattle.flat_actions.proofs.Judged.{judged_then, located_then, after_judge}
 use Rattle.comparing_routines.specs.Answering.{IsAnswered}
 use Rattle.comparing_routines.specs.Comparing.{memcmp_code, IsMemcmp}
@@ -347,7 +347,7 @@ scratch_of t = t ∷ (t + 1) ∷ (t + 2) ∷ (t + 3) ∷ (t + 4) ∷ []
 pub memcmp_does : (map : MapSizes) (entry : View) (IsGood : Bytes → Type 0) (a b : Held) (size into line t : ℕ)
     → AreMapped map → AreNoneOf (held_registers a) (into ∷ []) → AreNoneOf (size ∷ held_registers b) (into ∷ [])
     → AreBelow t (held_registers a) → AreBelow t (size ∷ held_registers b) → AreBelow t (into ∷ [])
-    → IsMemcmp (runtime_ground map entry IsGood) a b size into line t
+    → IsMemcmp (runtime_basis map entry IsGood) a b size into line t
     (memcmp_code a b size into line t (t + 1) (t + 2) (t + 3) (t + 4))
 memcmp_does map entry IsGood a b size into line t mapped none none' below below' into_below =
     let ins = arguments_of a b size in

@@ -37,7 +37,7 @@ use Rattle.shadow_space.proofs.Entries.{context_of}
 use Rattle.space_routines.proofs.Quiet.{quiet_words}
 use Rattle.flat_judging.specs.Judging.{judge_code, IsSameBut, IsJudged}
 use Rattle.flat_judging.proofs.Judges.{judges}
-use Rattle.flat_actions.specs.Actions.{IsFor, Word, Pointer, views_of, work_of, runtime_ground}
+use Rattle.flat_actions.specs.Actions.{IsFor, Word, Pointer, views_of, work_of, runtime_basis}
 use Rattle.flat_actions.proofs.Judged.{after_judge}
 use Rattle.comparing_routines.specs.Answering.{IsAnswered}
 use Rattle.comparing_routines.specs.Seeking.{seek_start, seek_code, strchr_code, IsStrchr}
@@ -221,7 +221,7 @@ arguments_of h byte = h.value ∷ h.tag.base ∷ h.tag.bound ∷ h.tag.key ∷ h
 pub strchr_does : (map : MapSizes) (entry : View) (IsGood : Bytes → Type 0) (h into : Held) (byte line t : ℕ)
     → AreMapped map → AreNoneOf (byte ∷ held_registers h) (held_registers into) → AreDistinct (held_registers into)
     → AreBelow t (byte ∷ held_registers h) → AreBelow t (held_registers into)
-    → IsStrchr (runtime_ground map entry IsGood) h byte into line t (strchr_code h byte into line t (t + 1))
+    → IsStrchr (runtime_basis map entry IsGood) h byte into line t (strchr_code h byte into line t (t + 1))
 strchr_does map entry IsGood h into byte line t mapped none distinct below into_below =
     let ins = arguments_of h byte in
     let scratch = t ∷ (t + 1) ∷ [] in

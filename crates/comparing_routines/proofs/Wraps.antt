@@ -20,7 +20,7 @@ use Rattle.flat_routines.proofs.Wrapped.{routine_that_may_end}
 use Rattle.flat_objects.specs.StandsFor.{Views, Keys}
 use Rattle.shadow_space.proofs.Entries.{context_of, agrees_shows, agrees_memory}
 use Rattle.flat_actions.specs.Actions.{IsFor, Holder, registers_of, IsGivenIn, AreHeldBy, Leaves, views_of, work_of}
-use Rattle.flat_actions.specs.Actions.{runtime_ground}
+use Rattle.flat_actions.specs.Actions.{runtime_basis}
 use Rattle.flat_actions.specs.Actions.{IsAction}
 use Rattle.flat_actions.proofs.Standing.{given_still, ended_still}
 use Rattle.comparing_routines.specs.Answering.{IsAnswered}
@@ -93,7 +93,7 @@ module _ (sizes : MapSizes) (entry : View) (IsGood : Bytes → Type 0) (ins own 
           (agrees_shows count f y s s' agrees (shows_seen f s y h.3)) h.0 h.1)
       ended (Paused x') status report h = absurd h
 
-    pub answers_act : IsAction (runtime_ground sizes entry IsGood) run arguments result t constant factor
+    pub answers_act : IsAction (runtime_basis sizes entry IsGood) run arguments result t constant factor
         (map (rename f) code)
     answers_act functions types k x vs charge weight =
         let g = views_of sizes functions types entry in

@@ -13,7 +13,7 @@ use Rattle.flat_meaning.specs.declared.instruction.FlatInstruction.TheVariants.{
 use Rattle.flat_meaning.specs.declared.instruction.FlatInstruction.TheVariants.{JumpBack, End}
 use Rattle.flat_routines.specs.declared.registers.Held.{Held}
 use Rattle.flat_judging.specs.Judging.{judge_code}
-use Rattle.flat_actions.specs.Actions.{Ground, Word, Pointer, IsAction}
+use Rattle.flat_actions.specs.Actions.{Basis, Word, Pointer, IsAction}
 
 -- how two bytes compare: whether the first is greater, less whether it is less, which is -1, 0 or 1
 abbrev pub order_code : (x y less greater into : ℕ) → List FlatInstruction
@@ -54,9 +54,9 @@ strcmp_code a b into line cursor other x y =
     ∷ Move other b.value
     ∷ (string_loop cursor other a.tag.bound b.tag.bound line x y ++ order_code x y cursor other into))))
 
-abbrev pub IsStrcmp : Ground → Held → Held → (into line scratch : ℕ) → List FlatInstruction → Type 0
-IsStrcmp ground a b into line t r =
-    IsAction ground (λ vs. strcmp (argument 0 vs) (argument 1 vs) line) (Pointer a ∷ Pointer b ∷ []) (Word into) t 24
+abbrev pub IsStrcmp : Basis → Held → Held → (into line scratch : ℕ) → List FlatInstruction → Type 0
+IsStrcmp basis a b into line t r =
+    IsAction basis (λ vs. strcmp (argument 0 vs) (argument 1 vs) line) (Pointer a ∷ Pointer b ∷ []) (Word into) t 24
     5 r
 
 -- ---- ranges
@@ -84,7 +84,7 @@ memcmp_code a b size into line cursor other x y end =
     ∷ Operate Add end a.value (Register size)
     ∷ (range_loop cursor other end x y ++ order_code x y cursor other into))))
 
-abbrev pub IsMemcmp : Ground → Held → Held → (size into line scratch : ℕ) → List FlatInstruction → Type 0
-IsMemcmp ground a b size into line t r =
-    IsAction ground (λ vs. memcmp (argument 0 vs) (argument 1 vs) (argument 2 vs) line)
+abbrev pub IsMemcmp : Basis → Held → Held → (size into line scratch : ℕ) → List FlatInstruction → Type 0
+IsMemcmp basis a b size into line t r =
+    IsAction basis (λ vs. memcmp (argument 0 vs) (argument 1 vs) (argument 2 vs) line)
     (Pointer a ∷ Pointer b ∷ Word size ∷ []) (Word into) t 26 4 r

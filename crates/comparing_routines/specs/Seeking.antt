@@ -13,7 +13,7 @@ use Rattle.flat_meaning.specs.declared.instruction.FlatInstruction.TheVariants.{
 use Rattle.flat_routines.specs.declared.registers.Held.{Held}
 use Rattle.flat_routines.specs.declared.registers.Entry.{Entry}
 use Rattle.flat_judging.specs.Judging.{judge_code}
-use Rattle.flat_actions.specs.Actions.{Ground, Word, Pointer, IsAction}
+use Rattle.flat_actions.specs.Actions.{Basis, Word, Pointer, IsAction}
 
 -- From the cursor on to the first byte that is sought, behind which 16 instructions on its pointer is given; or to the
 -- first 0 byte, behind which null is; or to the bound.
@@ -57,7 +57,7 @@ abbrev pub strchr_code : Held → (byte : ℕ) → Held → (line t sought : ℕ
 strchr_code h byte into line t sought =
     Constant t 1 ∷ (judge_code h t line sought ++ seek_code h into byte line t sought)
 
-abbrev pub IsStrchr : Ground → Held → (byte : ℕ) → Held → (line scratch : ℕ) → List FlatInstruction → Type 0
-IsStrchr ground h byte into line t r =
-    IsAction ground (λ vs. strchr (argument 0 vs) (argument 1 vs) line) (Pointer h ∷ Word byte ∷ []) (Pointer into) t 20
+abbrev pub IsStrchr : Basis → Held → (byte : ℕ) → Held → (line scratch : ℕ) → List FlatInstruction → Type 0
+IsStrchr basis h byte into line t r =
+    IsAction basis (λ vs. strchr (argument 0 vs) (argument 1 vs) line) (Pointer h ∷ Word byte ∷ []) (Pointer into) t 20
     6 r

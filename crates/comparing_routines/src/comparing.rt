@@ -6,7 +6,7 @@ ghost use Rattle.flat_routines.specs.Registers.{AreNoneOf, AreBelow};
 ghost use Rattle.flat_routines.specs.Metadata.{held_registers};
 ghost use Rattle.comparing_routines.specs.Comparing.{IsStrcmp, IsMemcmp, strcmp_code, memcmp_code, string_loop};
 ghost use Rattle.comparing_routines.specs.Comparing.{range_loop, order_code, pair_code};
-ghost use Rattle.flat_actions.specs.Actions.{runtime_ground};
+ghost use Rattle.flat_actions.specs.Actions.{runtime_basis};
 
 use addr_map::AddrMap;
 use flat_judging::judge_instructions;
@@ -36,7 +36,7 @@ pub fn strcmp<S: ShadowForm>(
     requires right { AreBelow scratch (held_registers right) }
     requires results { AreBelow scratch (into ∷ []) }
     requires room { scratch ≤ 2 ^ 31 }
-    ensures { IfOk result (λ r. IsStrcmp (runtime_ground map.now S.entry (S.IsGood map.now)) left right into line
+    ensures { IfOk result (λ r. IsStrcmp (runtime_basis map.now S.entry (S.IsGood map.now)) left right into line
         scratch r.items) }
 {
     strcmp_instructions(alloc, left, right, into, line, scratch)
@@ -62,7 +62,7 @@ pub fn memcmp<S: ShadowForm>(
     requires right { AreBelow scratch (size ∷ held_registers right) }
     requires results { AreBelow scratch (into ∷ []) }
     requires room { scratch ≤ 2 ^ 31 }
-    ensures { IfOk result (λ r. IsMemcmp (runtime_ground map.now S.entry (S.IsGood map.now)) left right size into line
+    ensures { IfOk result (λ r. IsMemcmp (runtime_basis map.now S.entry (S.IsGood map.now)) left right size into line
         scratch r.items) }
 {
     memcmp_instructions(alloc, left, right, size, into, line, scratch)

@@ -6,7 +6,7 @@ ghost use Rattle.flat_routines.specs.Registers.{AreNoneOf, AreDistinct, AreBelow
 ghost use Rattle.flat_routines.specs.Metadata.{held_registers};
 ghost use Rattle.comparing_routines.specs.Seeking.{IsStrchr, strchr_code, seek_start, seek_loop, null_code};
 ghost use Rattle.comparing_routines.specs.Seeking.{same_entry_code};
-ghost use Rattle.flat_actions.specs.Actions.{runtime_ground};
+ghost use Rattle.flat_actions.specs.Actions.{runtime_basis};
 
 use addr_map::AddrMap;
 use flat_judging::judge_instructions;
@@ -36,7 +36,7 @@ pub fn strchr<S: ShadowForm>(
     requires below { AreBelow scratch (byte ∷ held_registers string) }
     requires results { AreBelow scratch (held_registers into) }
     requires room { scratch ≤ 2 ^ 31 }
-    ensures { IfOk result (λ r. IsStrchr (runtime_ground map.now S.entry (S.IsGood map.now)) string byte into line
+    ensures { IfOk result (λ r. IsStrchr (runtime_basis map.now S.entry (S.IsGood map.now)) string byte into line
         scratch r.items) }
 {
     strchr_instructions(alloc, string, byte, into, line, scratch)

@@ -137,35 +137,35 @@ work_of run x = (state_of (run x)).work - x.work
 
 -- the map, how entries are read, what holds of the shadow space, and whether the action is in a function of the
 -- runtime: then its accesses of object space are not shown
-pub record Ground : Type 1 where
+pub record Basis : Type 1 where
   pub map : MapSizes
   pub entry : View
   pub IsGood : Bytes → Type 0
   pub is_runtime : Bool
 
 -- a function of the runtime; and one of the program, where each access of object space is shown
-abbrev pub runtime_ground : MapSizes → View → (Bytes → Type 0) → Ground
-runtime_ground map entry IsGood = record { map = map; entry = entry; IsGood = IsGood; is_runtime = true }
+abbrev pub runtime_basis : MapSizes → View → (Bytes → Type 0) → Basis
+runtime_basis map entry IsGood = record { map = map; entry = entry; IsGood = IsGood; is_runtime = true }
 
-abbrev pub program_ground : MapSizes → View → (Bytes → Type 0) → Ground
-program_ground map entry IsGood = record { map = map; entry = entry; IsGood = IsGood; is_runtime = false }
+abbrev pub program_basis : MapSizes → View → (Bytes → Type 0) → Basis
+program_basis map entry IsGood = record { map = map; entry = entry; IsGood = IsGood; is_runtime = false }
 
-abbrev pub context_in : Ground → (charge weight : ℕ) → Context
-context_in ground charge weight =
-    record { sizes = ground.map; is_runtime = ground.is_runtime; charge = charge; weight = weight }
+abbrev pub context_in : Basis → (charge weight : ℕ) → Context
+context_in basis charge weight =
+    record { sizes = basis.map; is_runtime = basis.is_runtime; charge = charge; weight = weight }
 
 -- From every state that stands for one of the source, with values in registers that do for the arguments, where P holds
 -- of the source's state and these values, it leaves what the run leaves, within so many steps and so many for each unit
 -- of the work of the run; whatever the types of the program's functions, and its calls.
-abbrev pub IsActionIn : Ground → (P : Source → List Value → Type 0) → (run : List Value → Run Value)
+abbrev pub IsActionIn : Basis → (P : Source → List Value → Type 0) → (run : List Value → Run Value)
     → (arguments : List Holder) → (result : Holder) → (scratch constant factor : ℕ) → List FlatInstruction → Type 0
-IsActionIn ground P run arguments result t constant factor r =
+IsActionIn basis P run arguments result t constant factor r =
     (functions : ℕ) (types : ℕ → ℕ) (k : Keys) (x : Source) (vs : List Value) (charge weight : ℕ) →
-    let g = views_of ground.map functions types ground.entry in
-    Does (context_in ground charge weight) r
-    (λ f. IsFor g k ground.IsGood x f × AreHeldBy g k x.objects arguments vs f.values × P x vs)
-    (λ f. constant + factor * work_of (run vs) x) (λ f. Leaves g k ground.IsGood result t x f (run vs x))
+    let g = views_of basis.map functions types basis.entry in
+    Does (context_in basis charge weight) r
+    (λ f. IsFor g k basis.IsGood x f × AreHeldBy g k x.objects arguments vs f.values × P x vs)
+    (λ f. constant + factor * work_of (run vs) x) (λ f. Leaves g k basis.IsGood result t x f (run vs x))
 
-abbrev pub IsAction : Ground → (run : List Value → Run Value) → (arguments : List Holder) → (result : Holder)
+abbrev pub IsAction : Basis → (run : List Value → Run Value) → (arguments : List Holder) → (result : Holder)
     → (scratch constant factor : ℕ) → List FlatInstruction → Type 0
-IsAction ground = IsActionIn ground (λ x vs. Unit {0})
+IsAction basis = IsActionIn basis (λ x vs. Unit {0})

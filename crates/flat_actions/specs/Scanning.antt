@@ -10,7 +10,7 @@ use Rattle.flat_routines.specs.Registers.{OthersStay}
 use Rattle.flat_routines.specs.Routine.{Does, Outcome, Continues, Halts}
 use Rattle.flat_routines.specs.Metadata.{ShowsNothing}
 use Rattle.flat_objects.specs.StandsFor.{Keys}
-use Rattle.flat_actions.specs.Actions.{Ground, Pointer, IsHeldBy, IsFor, context_in, views_of, work_of}
+use Rattle.flat_actions.specs.Actions.{Basis, Pointer, IsHeldBy, IsFor, context_in, views_of, work_of}
 
 -- a state of the source with more work done
 pub record IsWorked (x x' : Source) : Type 0 where
@@ -35,12 +35,12 @@ IsScanned word cursor t x f (Ended e x') (Continues f') = ⊥
 IsScanned word cursor t x f (Paused x') o = ⊥
 
 -- within 16 steps and 8 for each byte that is looked at
-abbrev pub IsScanRoutine : Ground → (run : Value → Run (List ℕ)) → Held → (P : State → Type 0) → (cursor scratch : ℕ)
+abbrev pub IsScanRoutine : Basis → (run : Value → Run (List ℕ)) → Held → (P : State → Type 0) → (cursor scratch : ℕ)
     → List FlatInstruction → Type 0
-IsScanRoutine ground run h P cursor t r =
+IsScanRoutine basis run h P cursor t r =
     (functions : ℕ) (types : ℕ → ℕ) (k : Keys) (x : Source) (v : Value)
     (charge weight : ℕ) →
-    let g = views_of ground.map functions types ground.entry in
-    Does (context_in ground charge weight) r
-    (λ f. IsFor g k ground.IsGood x f × IsHeldBy g k x.objects (Pointer h) v f.values × P f)
+    let g = views_of basis.map functions types basis.entry in
+    Does (context_in basis charge weight) r
+    (λ f. IsFor g k basis.IsGood x f × IsHeldBy g k x.objects (Pointer h) v f.values × P f)
     (λ f. 16 + 8 * work_of (run v) x) (λ f. IsScanned v.word cursor t x f (run v x))

@@ -23,7 +23,7 @@ use Rattle.flat_routines.specs.Effects.{worked}
 use Rattle.flat_routines.specs.Metadata.{View, held_registers}
 use Rattle.flat_objects.specs.StandsFor.{Views, Keys, Spells}
 use Rattle.flat_judging.specs.Judging.{IsSameBut, IsToJudge, IsJudged, IsJudgeRoutine}
-use Rattle.flat_actions.specs.Actions.{views_of, AreSpacesGood, IsFor, Nowhere, Pointer, Leaves, runtime_ground}
+use Rattle.flat_actions.specs.Actions.{views_of, AreSpacesGood, IsFor, Nowhere, Pointer, Leaves, runtime_basis}
 use Rattle.flat_actions.specs.Ranges.{IsObjectRange, IsToMove, HasMovedTagged, IsTaggedMoveRoutine}
 use Rattle.flat_actions.proofs.Standing.{for_still, spells_still, none_of_none}
 use Rattle.flat_actions.proofs.Judged.{judged_then, located_then}
@@ -216,7 +216,7 @@ pub moves_as : (map : MapSizes) → AreMapped map → (entry : View) (IsGood : B
     → AreNoneOf (held_registers to) (held_registers into) → (first second act : List FlatInstruction)
     → IsJudgeRoutine to n line t first → IsJudgeRoutine from n line t second
     → IsTaggedMoveRoutine map entry IsGood to.value from.value n t act
-    → MovesObjects (runtime_ground map entry IsGood) to from n into line t
+    → MovesObjects (runtime_basis map entry IsGood) to from n into line t
     (guarded_code n to into (first ++ (second ++ act)))
 moves_as map mapped entry IsGood to from n into line t bt bf bn bi distinct none first second act jt jf moves functions
     types k x [] charge weight = record { from = λ code pc f has w p. absurd p.1 }

@@ -23,7 +23,7 @@ use Rattle.flat_routines.specs.Metadata.{View, held_registers}
 use Rattle.flat_routines.proofs.Rules.{weaken}
 use Rattle.flat_objects.specs.StandsFor.{Views, Keys}
 use Rattle.flat_judging.specs.Judging.{IsSameBut}
-use Rattle.flat_actions.specs.Actions.{views_of, AreSpacesGood, IsFor, Nowhere, Leaves, runtime_ground}
+use Rattle.flat_actions.specs.Actions.{views_of, AreSpacesGood, IsFor, Nowhere, Leaves, runtime_basis}
 use Rattle.flat_actions.specs.Ranges.{IsObjectRange, IsToMove, HasMovedTagged, IsTaggedMoveRoutine}
 use Rattle.flat_actions.proofs.Standing.{for_still}
 use Rattle.moving_routines.specs.Structures.{CopiesStructure}
@@ -156,7 +156,7 @@ module _ (map : MapSizes) (mapped : AreMapped map) (entry : View) (IsGood : Byte
 pub copies_as : (map : MapSizes) → AreMapped map → (entry : View) (IsGood : Bytes → Type 0) (to from : Held)
     (size t : ℕ) → size < 2 ^ 64 → AreBelow t (held_registers to) → AreBelow t (held_registers from)
     → (act : List FlatInstruction) → IsTaggedMoveRoutine map entry IsGood to.value from.value t (t + 1) act
-    → CopiesStructure (runtime_ground map entry IsGood) size to from t (Constant t size ∷ act)
+    → CopiesStructure (runtime_basis map entry IsGood) size to from t (Constant t size ∷ act)
 copies_as map mapped entry IsGood to from size t small bt bf act moves line functions types k x [] charge weight =
     record { from = λ code pc f has w p. absurd p.1 }
 copies_as map mapped entry IsGood to from size t small bt bf act moves line functions types k x (dv ∷ []) charge

@@ -27,7 +27,7 @@ use Rattle.flat_routines.specs.Effects.{worked}
 use Rattle.flat_routines.specs.Metadata.{View, held_registers}
 use Rattle.flat_objects.specs.StandsFor.{Views, Keys}
 use Rattle.flat_judging.specs.Judging.{IsSameBut, IsToJudge, IsJudged, IsJudgeRoutine}
-use Rattle.flat_actions.specs.Actions.{views_of, IsFor, Nowhere, Pointer, Leaves, runtime_ground}
+use Rattle.flat_actions.specs.Actions.{views_of, IsFor, Nowhere, Pointer, Leaves, runtime_basis}
 use Rattle.flat_actions.specs.Ranges.{IsObjectRange, IsToFill, HasFilled, IsFillRoutine}
 use Rattle.flat_actions.proofs.Standing.{for_still}
 use Rattle.flat_actions.specs.Lists.{guarded_code}
@@ -152,7 +152,7 @@ pub sets_as : (map : MapSizes) → AreMapped map → (entry : View) (IsGood : By
     → AreBelow t (held_registers into) → AreDistinct (held_registers into)
     → AreNoneOf (held_registers to) (held_registers into) → (judging act : List FlatInstruction)
     → IsJudgeRoutine to n line t judging → IsFillRoutine map to.value byte n t act
-    → SetsObjects (runtime_ground map entry IsGood) to byte n into line t (guarded_code n to into (judging ++ act))
+    → SetsObjects (runtime_basis map entry IsGood) to byte n into line t (guarded_code n to into (judging ++ act))
 sets_as map mapped entry IsGood local to byte n into line t bt bb bn bi distinct none judging act j fills functions
     types k x [] charge weight = record { from = λ code pc f has w p. absurd p.1 }
 sets_as map mapped entry IsGood local to byte n into line t bt bb bn bi distinct none judging act j fills functions

@@ -4,25 +4,25 @@ use Rattle.source_meaning.specs.Memory.{memmove, memcpy, memset}
 use Rattle.source_meaning.specs.Library.{argument}
 use Rattle.flat_meaning.specs.declared.instruction.FlatInstruction.{FlatInstruction}
 use Rattle.flat_routines.specs.declared.registers.Held.{Held}
-use Rattle.flat_actions.specs.Actions.{Ground, Word, Pointer, IsAction}
+use Rattle.flat_actions.specs.Actions.{Basis, Word, Pointer, IsAction}
 
 -- `memmove`, within 66 steps and 16 for each byte
-abbrev pub MovesObjects : Ground → (to from : Held) → (size : ℕ) → (into : Held) → (line scratch : ℕ)
+abbrev pub MovesObjects : Basis → (to from : Held) → (size : ℕ) → (into : Held) → (line scratch : ℕ)
     → List FlatInstruction → Type 0
-MovesObjects ground to from n into line t =
-    IsAction ground (λ vs. memmove (argument 0 vs) (argument 1 vs) (argument 2 vs) line)
+MovesObjects basis to from n into line t =
+    IsAction basis (λ vs. memmove (argument 0 vs) (argument 1 vs) (argument 2 vs) line)
     (Pointer to ∷ Pointer from ∷ Word n ∷ []) (Pointer into) t 66 16
 
 -- `memcpy` does the same
-abbrev pub CopiesObjects : Ground → (to from : Held) → (size : ℕ) → (into : Held) → (line scratch : ℕ)
+abbrev pub CopiesObjects : Basis → (to from : Held) → (size : ℕ) → (into : Held) → (line scratch : ℕ)
     → List FlatInstruction → Type 0
-CopiesObjects ground to from n into line t =
-    IsAction ground (λ vs. memcpy (argument 0 vs) (argument 1 vs) (argument 2 vs) line)
+CopiesObjects basis to from n into line t =
+    IsAction basis (λ vs. memcpy (argument 0 vs) (argument 1 vs) (argument 2 vs) line)
     (Pointer to ∷ Pointer from ∷ Word n ∷ []) (Pointer into) t 66 16
 
 -- `memset`, within 24 steps and 5 for each byte
-abbrev pub SetsObjects : Ground → (to : Held) → (byte size : ℕ) → (into : Held) → (line scratch : ℕ)
+abbrev pub SetsObjects : Basis → (to : Held) → (byte size : ℕ) → (into : Held) → (line scratch : ℕ)
     → List FlatInstruction → Type 0
-SetsObjects ground to byte n into line t =
-    IsAction ground (λ vs. memset (argument 0 vs) (argument 1 vs) (argument 2 vs) line)
+SetsObjects basis to byte n into line t =
+    IsAction basis (λ vs. memset (argument 0 vs) (argument 1 vs) (argument 2 vs) line)
     (Pointer to ∷ Word byte ∷ Word n ∷ []) (Pointer into) t 24 5

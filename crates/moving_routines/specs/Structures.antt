@@ -7,7 +7,7 @@ use Rattle.source_meaning.specs.Library.{argument}
 use Rattle.source_meaning.specs.Keeping.{IsDirect}
 use Rattle.flat_meaning.specs.declared.instruction.FlatInstruction.{FlatInstruction}
 use Rattle.flat_routines.specs.declared.registers.Held.{Held}
-use Rattle.flat_actions.specs.Actions.{Ground, Nowhere, Pointer, IsActionIn}
+use Rattle.flat_actions.specs.Actions.{Basis, Nowhere, Pointer, IsActionIn}
 
 -- both pointers are to so many bytes of live objects
 pub record AreDirect (size : ℕ) (x : Source) (vs : List Value) : Type 0 where
@@ -16,9 +16,9 @@ pub record AreDirect (size : ℕ) (x : Source) (vs : List Value) : Type 0 where
 
 -- A structure of so many bytes is moved from one object that its pointer names to another, within 41 steps and 16 for
 -- each byte. Nothing is judged: at no line can the run end.
-abbrev pub CopiesStructure : Ground → (size : ℕ) → (to from : Held) → (scratch : ℕ) → List FlatInstruction → Type 0
-CopiesStructure ground size to from t r =
+abbrev pub CopiesStructure : Basis → (size : ℕ) → (to from : Held) → (scratch : ℕ) → List FlatInstruction → Type 0
+CopiesStructure basis size to from t r =
     (line : ℕ)
-    → IsActionIn ground (AreDirect size)
+    → IsActionIn basis (AreDirect size)
     (λ vs. copy_structure size false (argument 0 vs) line (argument 1 vs) >> done (integer 0))
     (Pointer to ∷ Pointer from ∷ []) Nowhere t 41 16 r

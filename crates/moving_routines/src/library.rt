@@ -5,7 +5,7 @@ ghost use Rattle.addr_map.specs.Places.{AreMapped};
 ghost use Rattle.flat_routines.specs.Registers.{AreBelow, AreNoneOf, AreDistinct};
 ghost use Rattle.flat_routines.specs.Metadata.{held_registers};
 ghost use Rattle.moving_routines.specs.Library.{MovesObjects, CopiesObjects, SetsObjects};
-ghost use Rattle.flat_actions.specs.Actions.{runtime_ground};
+ghost use Rattle.flat_actions.specs.Actions.{runtime_basis};
 
 use crate::filling::fill;
 use crate::moving::move_tagged;
@@ -39,9 +39,9 @@ pub fn memmove<S: ShadowForm>(
     requires distinct { AreDistinct (held_registers into) }
     requires others { AreNoneOf (held_registers to) (held_registers into) }
     requires room { scratch + 8 ≤ 2 ^ 31 }
-    ensures memmove { IfOk result (λ r. MovesObjects (runtime_ground map.now S.entry (S.IsGood map.now)) to from size
+    ensures memmove { IfOk result (λ r. MovesObjects (runtime_basis map.now S.entry (S.IsGood map.now)) to from size
         into line scratch r.items) }
-    ensures memcpy { IfOk result (λ r. CopiesObjects (runtime_ground map.now S.entry (S.IsGood map.now)) to from size
+    ensures memcpy { IfOk result (λ r. CopiesObjects (runtime_basis map.now S.entry (S.IsGood map.now)) to from size
         into line scratch r.items) }
 {
     let first = judge(alloc, to, size, line, scratch)?;
@@ -74,7 +74,7 @@ pub fn memset<S: ShadowForm>(
     requires distinct { AreDistinct (held_registers into) }
     requires others { AreNoneOf (held_registers to) (held_registers into) }
     requires room { scratch + 8 ≤ 2 ^ 31 }
-    ensures { IfOk result (λ r. SetsObjects (runtime_ground map.now S.entry (S.IsGood map.now)) to byte size into line
+    ensures { IfOk result (λ r. SetsObjects (runtime_basis map.now S.entry (S.IsGood map.now)) to byte size into line
         scratch r.items) }
 {
     S::entries_are_local();

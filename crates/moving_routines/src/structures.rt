@@ -5,7 +5,7 @@ ghost use Rattle.addr_map.specs.Places.{AreMapped};
 ghost use Rattle.flat_routines.specs.Registers.{AreBelow};
 ghost use Rattle.flat_routines.specs.Metadata.{held_registers};
 ghost use Rattle.moving_routines.specs.Structures.{CopiesStructure};
-ghost use Rattle.flat_actions.specs.Actions.{runtime_ground};
+ghost use Rattle.flat_actions.specs.Actions.{runtime_basis};
 
 use crate::moving::move_tagged;
 use addr_map::AddrMap;
@@ -29,7 +29,7 @@ pub fn copy_structure<S: ShadowForm>(
     requires to { AreBelow scratch (held_registers to) }
     requires from { AreBelow scratch (held_registers from) }
     requires room { scratch + 16 ≤ 2 ^ 31 }
-    ensures does { IfOk result (λ r. CopiesStructure (runtime_ground map.now S.entry (S.IsGood map.now)) size to from
+    ensures does { IfOk result (λ r. CopiesStructure (runtime_basis map.now S.entry (S.IsGood map.now)) size to from
         scratch r.items) }
 {
     let first = [FlatInstruction::Constant {

@@ -29,7 +29,7 @@ use Rattle.flat_routines.proofs.Rules.{weaken, next, line as straight, line_on, 
 use Rattle.flat_objects.specs.StandsFor.{Views, Keys, StandsFor}
 use Rattle.space_routines.proofs.Quiet.{quiet_words}
 use Rattle.integer_operators.proofs.Values.{int_by_word}
-use Rattle.flat_actions.specs.Actions.{Ground, Holder, Word, context_in, views_of, IsFor, AreHeldBy, HasGiven}
+use Rattle.flat_actions.specs.Actions.{Basis, Holder, Word, context_in, views_of, IsFor, AreHeldBy, HasGiven}
 use Rattle.flat_actions.specs.Actions.{HasEnded, Leaves, IsAction}
 use Rattle.flat_actions.specs.Scanning.{IsWorked}
 use Rattle.flat_actions.proofs.Standing.{ended_still, good_still, keeps_same, stays_same}
@@ -49,16 +49,16 @@ int_of_count n =
 module _ (map : MapSizes) (mapped : AreMapped map) (entry : View) (IsGood : Bytes → Type 0) (line : ℕ) (ps : List Piece)
     (hs : List Holder) (into t w : ℕ) (gives : into < t) (low : AreLow t hs)
     (room : cursor_of t 0 + directive_count ps ≤ w) (code_of_it : List FlatInstruction) where
-  abbrev ground : Ground
-  ground = record { map = map; entry = entry; IsGood = IsGood; is_runtime = true }
+  abbrev basis : Basis
+  basis = record { map = map; entry = entry; IsGood = IsGood; is_runtime = true }
 
-  module _ (print : IsPrintCode ground line ps hs into t w code_of_it) (functions : ℕ) (types : ℕ → ℕ) (k : Keys)
+  module _ (print : IsPrintCode basis line ps hs into t w code_of_it) (functions : ℕ) (types : ℕ → ℕ) (k : Keys)
       (x : Source) (vs : List Value) (charge weight : ℕ) where
     abbrev g : Views
     g = views_of map functions types entry
 
     abbrev c : Context
-    c = context_in ground charge weight
+    c = context_in basis charge weight
 
     abbrev after : List ℕ → Run Value
     after bytes = put_bytes bytes >> done (integer (fit Int (length bytes)))
@@ -194,10 +194,10 @@ module _ (map : MapSizes) (mapped : AreMapped map) (entry : View) (IsGood : Byte
         (ended_still e x x'.work status report f f1 p.shown h.3 h.0 h.1)))
     from_formatted (Paused x') code pc f has words p run = absurd run.holds
 
-  pub prints : (print : IsPrintCode ground line ps hs into t w code_of_it) (format : List ℕ) → pieces format ≡ Some ps
-      → IsAction ground (λ vs. print_formatted format vs line) hs (Word into) t (4 + 32 * length ps) 16 code_of_it
+  pub prints : (print : IsPrintCode basis line ps hs into t w code_of_it) (format : List ℕ) → pieces format ≡ Some ps
+      → IsAction basis (λ vs. print_formatted format vs line) hs (Word into) t (4 + 32 * length ps) 16 code_of_it
   prints print format is functions types k x vs charge weight =
-      subst (λ qs. Does (context_in ground charge weight) code_of_it
+      subst (λ qs. Does (context_in basis charge weight) code_of_it
       (λ f. IsFor (views_of map functions types entry) k IsGood x f
       × AreHeldBy (views_of map functions types entry) k x.objects hs vs f.values × Unit {0})
       (λ f. 4 + 32 * length ps
@@ -208,7 +208,7 @@ module _ (map : MapSizes) (mapped : AreMapped map) (entry : View) (IsGood : Byte
       (sym (ap pieces_or_none is))
       (record {
         from = λ code pc f has words p.
-            subst (λ z. Reaches (context_in ground charge weight) code
+            subst (λ z. Reaches (context_in basis charge weight) code
             (4 + 32 * length ps + 16 * ((state_of (on (formatted ps vs line x)
             (λ bytes. put_bytes bytes >> done (integer (fit Int (length bytes)))))).work - x.work)) (Goes pc f)
             (pc + length z)
@@ -217,6 +217,6 @@ module _ (map : MapSizes) (mapped : AreMapped map) (entry : View) (IsGood : Byte
             (sym print.code_is)
             (from_formatted print functions types k x vs charge weight (formatted ps vs line x) code pc f
             (subst (HasAt code pc) print.code_is has) words p.0
-            (runs_scans ground line t w functions types k charge weight ps hs vs 0 print.scanning print.scans room low x
+            (runs_scans basis line t w functions types k charge weight ps hs vs 0 print.scanning print.scans room low x
             code pc f (has_front code pc print.scanning _ (subst (HasAt code pc) print.code_is has)) words p.0 p.1));
       })

@@ -27,7 +27,7 @@ use Rattle.flat_routines.proofs.Steps.{has_front, has_back}
 use Rattle.flat_routines.proofs.Rules.{weaken, next, arrived}
 use Rattle.flat_objects.specs.StandsFor.{Views, Keys}
 use Rattle.space_routines.proofs.Quiet.{shows_both, shows_itself}
-use Rattle.flat_actions.specs.Actions.{Ground, context_in, views_of, IsFor, Holder, Nowhere, Word, Pointer}
+use Rattle.flat_actions.specs.Actions.{Basis, context_in, views_of, IsFor, Holder, Nowhere, Word, Pointer}
 use Rattle.flat_actions.specs.Actions.{registers_of}
 use Rattle.flat_actions.specs.Actions.{IsHeldBy, AreHeldBy, work_of}
 use Rattle.flat_actions.specs.Scanning.{IsWorked, IsScanRoutine}
@@ -129,12 +129,12 @@ all_held_still g k x x' (h ∷ hs) [] t f f' same stay low held = absurd held
 
 -- ---- all scans
 
-module _ (ground : Ground) (line t w : ℕ) (functions : ℕ) (types : ℕ → ℕ) (k : Keys) (charge weight : ℕ) where
+module _ (basis : Basis) (line t w : ℕ) (functions : ℕ) (types : ℕ → ℕ) (k : Keys) (charge weight : ℕ) where
   abbrev g : Views
-  g = views_of ground.map functions types ground.entry
+  g = views_of basis.map functions types basis.entry
 
   abbrev c : Context
-  c = context_in ground charge weight
+  c = context_in basis charge weight
 
   abbrev bound : List Piece → List Value → Source → ℕ
   bound ps vs x = 16 * length ps + 8 * work_of (formatted ps vs line) x
@@ -142,14 +142,14 @@ module _ (ground : Ground) (line t w : ℕ) (functions : ℕ) (types : ℕ → �
   abbrev Runs : List Piece → List Holder → List Value → (i : ℕ) → List FlatInstruction → Type 0
   Runs ps hs vs i seg =
       (x : Source) (code : List FlatInstruction) (pc : ℕ) (f : State) → HasAt code pc seg → IsOfWords f
-      → IsFor g k ground.IsGood x f → AreHeldBy g k x.objects hs vs f.values
+      → IsFor g k basis.IsGood x f → AreHeldBy g k x.objects hs vs f.values
       → Reaches c code (bound ps vs x) (Goes pc f) (pc + length seg)
-      (IsFormatted ground.map t ps hs vs i x f (formatted ps vs line x))
+      (IsFormatted basis.map t ps hs vs i x f (formatted ps vs line x))
 
   -- a byte is put before what is formatted
   with_byte : (b : ℕ) (ps : List Piece) (hs : List Holder) (vs : List Value) (i : ℕ) (x : Source) (f : State)
-      (r : Completed (List ℕ)) (o : Outcome) → IsFormatted ground.map t ps hs vs i x f r o
-      → IsFormatted ground.map t (piece.Byte b ∷ ps) hs vs i x f (on r (λ others. done (b ∷ others))) o
+      (r : Completed (List ℕ)) (o : Outcome) → IsFormatted basis.map t ps hs vs i x f r o
+      → IsFormatted basis.map t (piece.Byte b ∷ ps) hs vs i x f (on r (λ others. done (b ∷ others))) o
   with_byte b ps hs vs i x f (Gives bytes x') (Continues f') h = (h.0, h.1, (bytes, refl, h.2))
   with_byte b ps hs vs i x f (Ended e x') (Halts status report f') h = h
   with_byte b ps hs vs i x f (Gives bytes x') (Halts status report f') h = h
@@ -160,9 +160,9 @@ module _ (ground : Ground) (line t w : ℕ) (functions : ℕ) (types : ℕ → �
   with_argument : (d : Directive) (h : Holder) (v : Value) (first : List ℕ) (ps : List Piece) (hs : List Holder)
       (vs : List Value) (i : ℕ) (x y : Source) (f f1 : State) (r : Completed (List ℕ)) (o : Outcome) → IsWorked x y
       → IsAfterScans t i f f1 → AreBelow t (registers_of h)
-      → IsPrintableBy ground.map d h v (cursor_of t i) f1 first
-      → IsFormatted ground.map t ps hs vs (i + 1) y f1 r o
-      → IsFormatted ground.map t (piece.Directive d ∷ ps) (h ∷ hs) (v ∷ vs) i x f
+      → IsPrintableBy basis.map d h v (cursor_of t i) f1 first
+      → IsFormatted basis.map t ps hs vs (i + 1) y f1 r o
+      → IsFormatted basis.map t (piece.Directive d ∷ ps) (h ∷ hs) (v ∷ vs) i x f
       (on r (λ others. done (first ++ others))) o
   with_argument d h v first ps hs vs i x y f f1 (Gives bytes x') (Continues f') worked after low by q = (
     worked_both x y x' worked q.0,
@@ -175,7 +175,7 @@ module _ (ground : Ground) (line t w : ℕ) (functions : ℕ) (types : ℕ → �
       first,
       bytes,
       refl,
-      by_kept ground.map t f1 f' q.1.memory d h v (cursor_of t i) first
+      by_kept basis.map t f1 f' q.1.memory d h v (cursor_of t i) first
           (λ r l. q.1.others r (omega arith)) (q.1.others (cursor_of t i) (omega arith)) low by,
       q.2,
     ),
@@ -196,7 +196,7 @@ module _ (ground : Ground) (line t w : ℕ) (functions : ℕ) (types : ℕ → �
   runs_none : (hs : List Holder) (vs : List Value) (i : ℕ) → Runs [] hs vs i []
   runs_none hs vs i x code pc f has words p held =
       arrived c code (bound [] vs x) f pc (pc + 0)
-      (IsFormatted ground.map t [] hs vs i x f (Gives [] x)) (omega arith) (self_worked x, self_after i f, refl)
+      (IsFormatted basis.map t [] hs vs i x f (Gives [] x)) (omega arith) (self_worked x, self_after i f, refl)
 
   runs_byte : (b : ℕ) (ps : List Piece) (hs : List Holder) (vs : List Value) (i : ℕ) (seg : List FlatInstruction)
       → Runs ps hs vs i seg → Runs (piece.Byte b ∷ ps) hs vs i seg
@@ -218,7 +218,7 @@ module _ (ground : Ground) (line t w : ℕ) (functions : ℕ) (types : ℕ → �
       weaken c code (bound ps vs x) (bound (piece.Directive d ∷ ps) (v ∷ vs) x) (Goes pc f) (pc + length seg) _ _
       (omega arith)
       (λ o h.
-      subst (λ q. IsFormatted ground.map t (piece.Directive d ∷ ps) (Word r ∷ hs) (v ∷ vs) i x f q o) (sym is)
+      subst (λ q. IsFormatted basis.map t (piece.Directive d ∷ ps) (Word r ∷ hs) (v ∷ vs) i x f q o) (sym is)
       (with_argument d (Word r) v (number_bytes d v.word) ps hs vs i x x f f (formatted ps vs line x) o (self_worked x)
       (self_after i f) low (held.0, refl) h))
       (run x code pc f has words p held.1)
@@ -226,11 +226,11 @@ module _ (ground : Ground) (line t w : ℕ) (functions : ℕ) (types : ℕ → �
   -- a string
   runs_string : (h : Held) (v : Value) (ps : List Piece) (hs : List Holder) (vs : List Value) (i : ℕ)
       (first rest : List FlatInstruction) → cursor_of t i < w → AreBelow t (held_registers h) → AreLow t hs
-      → IsScanRoutine ground (λ v. scan v line) h (λ f. Unit {0}) (cursor_of t i) w first → Runs ps hs vs (i + 1) rest
+      → IsScanRoutine basis (λ v. scan v line) h (λ f. Unit {0}) (cursor_of t i) w first → Runs ps hs vs (i + 1) rest
       → Runs (piece.Directive directive.String ∷ ps) (Pointer h ∷ hs) (v ∷ vs) i (first ++ rest)
   runs_string h v ps hs vs i first rest room low lows scans run x code pc f has words p held =
       let all = piece.Directive directive.String ∷ ps in
-      let R = IsFormatted ground.map t all (Pointer h ∷ hs) (v ∷ vs) i x f (formatted all (v ∷ vs) line x) in
+      let R = IsFormatted basis.map t all (Pointer h ∷ hs) (v ∷ vs) i x f (formatted all (v ∷ vs) line x) in
       let middle = pc + length first in
       let len : pc + length first + length rest ≡ pc + length (first ++ rest) = omega (arith, length-append first rest)
       in
@@ -242,7 +242,7 @@ module _ (ground : Ground) (line t w : ℕ) (functions : ℕ) (types : ℕ → �
       (λ e y is worked. (
         (let one = ap (λ r. (state_of r).work - x.work) is in
             let two = ap (λ r. (state_of (on r next)).work - x.work) is in omega (arith, one, two)),
-        λ f' shows. subst (λ r. IsFormatted ground.map t all (Pointer h ∷ hs) (v ∷ vs) i x f (on r next)
+        λ f' shows. subst (λ r. IsFormatted basis.map t all (Pointer h ∷ hs) (v ∷ vs) i x f (on r next)
             (Halts (code_of e) (report_of e) f')) (sym is) (refl, refl, worked, shows),
       ))
       (λ bytes y is more.
@@ -258,14 +258,14 @@ module _ (ground : Ground) (line t w : ℕ) (functions : ℕ) (types : ℕ → �
       let word : f.values h.value ≡ v.word = held.0.0.word in
       let range = range_of g k (stop (Spatial line)) x.objects v (length bytes) f.memory p.objects held.0.1
       (scan_between functions line x v bytes y p.objects.sound held.0.1 is) in
-      let stands : IsFor g k ground.IsGood y f1 =
-      subst (λ z. IsFor g k ground.IsGood z f1) (sym worked.same)
-      (for_worked g k ground.IsGood x y.work f1
-      (for_still g k ground.IsGood x f f1 scanned.memory scanned.shows p)) in
+      let stands : IsFor g k basis.IsGood y f1 =
+      subst (λ z. IsFor g k basis.IsGood z f1) (sym worked.same)
+      (for_worked g k basis.IsGood x y.work f1
+      (for_still g k basis.IsGood x f f1 scanned.memory scanned.shows p)) in
       subst (λ r. Reaches c code (bound ps vs y) (Goes middle f1) (pc + length (first ++ rest))
-      (IsFormatted ground.map t all (Pointer h ∷ hs) (v ∷ vs) i x f (on r next))) (sym is)
+      (IsFormatted basis.map t all (Pointer h ∷ hs) (v ∷ vs) i x f (on r next))) (sym is)
       (subst (λ e. Reaches c code (bound ps vs y) (Goes middle f1) e
-      (IsFormatted ground.map t all (Pointer h ∷ hs) (v ∷ vs) i x f (next bytes y))) len
+      (IsFormatted basis.map t all (Pointer h ∷ hs) (v ∷ vs) i x f (next bytes y))) len
       (weaken c code (bound ps vs y) (bound ps vs y) (Goes middle f1) (middle + length rest) _ _ (omega arith)
       (λ o q. with_argument directive.String (Pointer h) v bytes ps hs vs i x y f f1 (formatted ps vs line y) o worked
       (record { memory = scanned.memory; shows = scanned.shows; others = stay }) low (record {
@@ -282,7 +282,7 @@ module _ (ground : Ground) (line t w : ℕ) (functions : ℕ) (types : ℕ → �
 
   -- all pieces
   pub runs_scans : (ps : List Piece) (hs : List Holder) (vs : List Value) (i : ℕ) (seg : List FlatInstruction)
-      → AreScans ground line t w ps hs i seg → cursor_of t i + directive_count ps ≤ w → AreLow t hs → Runs ps hs vs i
+      → AreScans basis line t w ps hs i seg → cursor_of t i + directive_count ps ≤ w → AreLow t hs → Runs ps hs vs i
       seg
   runs_scans [] hs vs i seg scans room low = subst (Runs [] hs vs i) (sym scans) (runs_none hs vs i)
   runs_scans (piece.Byte b ∷ ps) hs vs i seg scans room low =

@@ -12,7 +12,7 @@ use Rattle.c_tree.specs.declared.format.Directive.{Directive}
 use Rattle.source_meaning.specs.Strings.{scan}
 use Rattle.flat_meaning.specs.declared.instruction.FlatInstruction.{FlatInstruction}
 use Rattle.flat_routines.specs.declared.registers.Held.{Held}
-use Rattle.flat_actions.specs.Actions.{Ground, Word, IsAction}
+use Rattle.flat_actions.specs.Actions.{Basis, Word, IsAction}
 use Rattle.flat_actions.specs.Scanning.{IsScanRoutine}
 use Rattle.string_routines.specs.Putting.{IsPutRoutine}
 use Rattle.printing_routines.specs.declared.formats.Printed.{Printed}
@@ -24,15 +24,15 @@ use Rattle.printing_routines.specs.Printed.{pieces_of, holders_of, argument_coun
 use Rattle.printing_routines.proofs.Printable.{AreLow, directive_count}
 use Rattle.printing_routines.proofs.Prints.{prints}
 
-pub scans_byte : (g : Ground) (line t w b i : ℕ) (code : List FlatInstruction) → ScansNext g line t w (Byte b) i code
+pub scans_byte : (g : Basis) (line t w b i : ℕ) (code : List FlatInstruction) → ScansNext g line t w (Byte b) i code
     code
 scans_byte g line t w b i code ps left s = record { on = λ rest h. s.on rest h }
 
-pub scans_number : (g : Ground) (line t w : ℕ) (d : Directive) (r i : ℕ) (code : List FlatInstruction)
+pub scans_number : (g : Basis) (line t w : ℕ) (d : Directive) (r i : ℕ) (code : List FlatInstruction)
     → ScansNext g line t w (Number d r) i code code
 scans_number g line t w d r i code ps left s = record { on = λ rest h. s.on rest h }
 
-pub scans_string : (g : Ground) (line t w : ℕ) (h : Held) (i : ℕ) (old first new : List FlatInstruction)
+pub scans_string : (g : Basis) (line t w : ℕ) (h : Held) (i : ℕ) (old first new : List FlatInstruction)
     → new ≡ old ++ first → IsScanRoutine g (λ v. scan v line) h (λ f. Unit {0}) (cursor_of t i) w first
     → ScansNext g line t w (String h) i old new
 scans_string g line t w h i old first new e is ps left s = record {
@@ -79,7 +79,7 @@ past (suc n) [] l = refl
 past zero (p ∷ ps) l = absurd (omega arith)
 past (suc n) (p ∷ ps) l = past n ps (omega arith)
 
-pub scans_done : (g : Ground) (line t w : ℕ) (ps : List Printed) (n i : ℕ) (code : List FlatInstruction) → length ps ≤ n
+pub scans_done : (g : Basis) (line t w : ℕ) (ps : List Printed) (n i : ℕ) (code : List FlatInstruction) → length ps ≤ n
     → ScansSoFar g line t w ps (drop n ps) i code → ScanThese g line t w ps 0 code
 scans_done g line t w ps n i code l s =
     let end : ScanThese g line t w (drop n ps) i [] =
@@ -94,7 +94,7 @@ puts_done m t w ps n i code l s =
 
 -- ---- by pieces and holders
 
-pub scan_pieces : (g : Ground) (line t w : ℕ) (ps : List Printed) (i : ℕ) (code : List FlatInstruction)
+pub scan_pieces : (g : Basis) (line t w : ℕ) (ps : List Printed) (i : ℕ) (code : List FlatInstruction)
     → ArePrintable t ps → ScanThese g line t w ps i code → AreScans g line t w (pieces_of ps) (holders_of ps) i code
 scan_pieces g line t w [] i code p h = h
 scan_pieces g line t w (Byte b ∷ ps) i code p h = scan_pieces g line t w ps i code p h

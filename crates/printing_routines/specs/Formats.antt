@@ -12,7 +12,7 @@ use Rattle.flat_meaning.specs.declared.instruction.RightOperand.TheVariants.{Reg
 use Rattle.flat_meaning.specs.declared.instruction.FlatInstruction.{FlatInstruction}
 use Rattle.flat_meaning.specs.declared.instruction.FlatInstruction.TheVariants.{Constant, Operate, Operate32, Put}
 use Rattle.flat_routines.specs.declared.registers.Held.{Held}
-use Rattle.flat_actions.specs.Actions.{Ground, Holder, Nowhere, Word, Pointer}
+use Rattle.flat_actions.specs.Actions.{Basis, Holder, Nowhere, Word, Pointer}
 use Rattle.flat_actions.specs.Scanning.{IsScanRoutine}
 use Rattle.string_routines.specs.Putting.{IsPutRoutine}
 use Rattle.printing_routines.specs.Numbers.{IsNumberRoutine}
@@ -35,13 +35,13 @@ AreArgumentsFor _ _ = ⊥
 abbrev pub cursor_of : (scratch i : ℕ) → ℕ
 cursor_of t i = t + 1 + i
 
-abbrev pub IsScanPart : Ground → (line : ℕ) → Directive → Holder → (cursor own : ℕ) → List FlatInstruction → Type 0
+abbrev pub IsScanPart : Basis → (line : ℕ) → Directive → Holder → (cursor own : ℕ) → List FlatInstruction → Type 0
 IsScanPart g line d Nowhere k w code = ⊥
 IsScanPart g line d (Word r) k w code = (d ≢ directive.String) × (code ≡ [])
 IsScanPart g line d (Pointer h) k w code =
     (d ≡ directive.String) × IsScanRoutine g (λ v. scan v line) h (λ f. Unit {0}) k w code
 
-abbrev pub AreScans : Ground → (line scratch own : ℕ) → List Piece → List Holder → (i : ℕ) → List FlatInstruction
+abbrev pub AreScans : Basis → (line scratch own : ℕ) → List Piece → List Holder → (i : ℕ) → List FlatInstruction
     → Type 0
 AreScans g line t w [] hs i code = code ≡ []
 AreScans g line t w (piece.Byte b ∷ ps) hs i code = AreScans g line t w ps hs i code
@@ -77,7 +77,7 @@ ArePuts m t w (piece.Directive d ∷ ps) (h ∷ hs) i code =
 abbrev pub counted_code : (into count : ℕ) → List FlatInstruction
 counted_code into c = Operate32 Addw into c (Number 0) ∷ []
 
-pub record IsPrintCode (g : Ground) (line : ℕ) (ps : List Piece) (hs : List Holder) (into t w : ℕ)
+pub record IsPrintCode (g : Basis) (line : ℕ) (ps : List Piece) (hs : List Holder) (into t w : ℕ)
     (code : List FlatInstruction) : Type 0 where
   pub scanning : List FlatInstruction
   pub putting : List FlatInstruction

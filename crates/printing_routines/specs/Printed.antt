@@ -8,7 +8,7 @@ use Rattle.source_meaning.specs.Strings.{scan}
 use Rattle.flat_meaning.specs.declared.instruction.FlatInstruction.{FlatInstruction}
 use Rattle.flat_routines.specs.Registers.{AreBelow}
 use Rattle.flat_routines.specs.Metadata.{held_registers}
-use Rattle.flat_actions.specs.Actions.{Ground, Holder, Word, Pointer}
+use Rattle.flat_actions.specs.Actions.{Basis, Holder, Word, Pointer}
 use Rattle.flat_actions.specs.Scanning.{IsScanRoutine}
 use Rattle.string_routines.specs.Putting.{IsPutRoutine}
 use Rattle.printing_routines.specs.declared.formats.Printed.{Printed}
@@ -44,7 +44,7 @@ ArePrintable t (Number d r ∷ ps) = (d ≢ directive.String) × (r < t) × AreP
 ArePrintable t (String h ∷ ps) = AreBelow t (held_registers h) × ArePrintable t ps
 
 -- the strings are scanned, the one of argument i up to the register of cursor i
-abbrev pub ScanThese : Ground → (line scratch own : ℕ) → List Printed → (i : ℕ) → List FlatInstruction → Type 0
+abbrev pub ScanThese : Basis → (line scratch own : ℕ) → List Printed → (i : ℕ) → List FlatInstruction → Type 0
 ScanThese g line t w [] i code = code ≡ []
 ScanThese g line t w (Byte b ∷ ps) i code = ScanThese g line t w ps i code
 ScanThese g line t w (Number d r ∷ ps) i code = ScanThese g line t w ps (i + 1) code
@@ -66,7 +66,7 @@ PutThese m t w (String h ∷ ps) i code =
     × IsPutRoutine m h.value (cursor_of t i) w first × PutThese m t w ps (i + 1) rest
 
 -- behind what is done comes all that is left
-pub record ScansSoFar (g : Ground) (line t w : ℕ) (ps left : List Printed) (i : ℕ) (code : List FlatInstruction) :
+pub record ScansSoFar (g : Basis) (line t w : ℕ) (ps left : List Printed) (i : ℕ) (code : List FlatInstruction) :
     Type 0 where
   pub on : (rest : List FlatInstruction) → ScanThese g line t w left i rest → ScanThese g line t w ps 0 (code ++ rest)
 
@@ -81,7 +81,7 @@ index_after (Number d r) i = i + 1
 index_after (String h) i = i + 1
 
 -- one more piece is scanned, or put out, whatever else there is
-abbrev pub ScansNext : Ground → (line scratch own : ℕ) → Printed → (i : ℕ) → (old new : List FlatInstruction) → Type 0
+abbrev pub ScansNext : Basis → (line scratch own : ℕ) → Printed → (i : ℕ) → (old new : List FlatInstruction) → Type 0
 ScansNext g line t w p i old new =
     (ps left : List Printed) → ScansSoFar g line t w ps (p ∷ left) i old
     → ScansSoFar g line t w ps left (index_after p i) new

@@ -5,7 +5,7 @@ ghost use Rattle.addr_map.specs.Places.{AreMapped};
 ghost use Rattle.c_tree.specs.Format.{pieces};
 ghost use Rattle.source_meaning.specs.Printing.{print_formatted};
 ghost use Rattle.flat_actions.specs.Actions.{IsAction, Word};
-ghost use Rattle.flat_actions.specs.Actions.{runtime_ground};
+ghost use Rattle.flat_actions.specs.Actions.{runtime_basis};
 ghost use Rattle.printing_routines.specs.Formats.{byte_code, count_string};
 ghost use Rattle.printing_routines.specs.Printed.{pieces_of, holders_of, argument_count, ArePrintable, ScanThese};
 ghost use Rattle.printing_routines.specs.Printed.{PutThese, ScansNext, PutsNext, index_after};
@@ -59,7 +59,7 @@ fn put_scan<S: ShadowForm>(
     requires printable { ArePrintable scratch (piece.now ∷ []) }
     requires cursor { scratch + 1 + index + argument_count (piece.now ∷ []) ≤ own }
     requires room { own ≤ 2 ^ 30 }
-    ensures { OnOk result (ScansNext (runtime_ground map.now S.entry (S.IsGood map.now)) line scratch own piece.now index
+    ensures { OnOk result (ScansNext (runtime_basis map.now S.entry (S.IsGood map.now)) line scratch own piece.now index
         code.old.items code.new.items) }
 {
     if let Printed::String(string) = piece {
@@ -82,7 +82,7 @@ fn scans<S: ShadowForm>(
     requires printable { ArePrintable scratch printed.now }
     requires cursors { scratch + 1 + argument_count printed.now ≤ own }
     requires room { own ≤ 2 ^ 30 }
-    ensures { IfOk result (λ r. ScanThese (runtime_ground map.now S.entry (S.IsGood map.now)) line scratch own printed.now 0 r.items) }
+    ensures { IfOk result (λ r. ScanThese (runtime_basis map.now S.entry (S.IsGood map.now)) line scratch own printed.now 0 r.items) }
 {
     let mut code = Vec::new(alloc);
     let mut index = 0;
@@ -229,7 +229,7 @@ pub fn printf<S: ShadowForm>(
     requires result { into < scratch }
     requires room { scratch + 1 + length printed.now ≤ 2 ^ 29 }
     ensures { IfOk result (λ r. (format : List ℕ) → pieces format ≡ Some (pieces_of printed.now)
-        → IsAction (runtime_ground map.now S.entry (S.IsGood map.now)) (λ vs. print_formatted format vs line)
+        → IsAction (runtime_basis map.now S.entry (S.IsGood map.now)) (λ vs. print_formatted format vs line)
         (holders_of printed.now) (Word into) scratch (4 + 32 * length printed.now) 16 r.items) }
 {
     let own = scratch + 1 + printed.len() as u32;

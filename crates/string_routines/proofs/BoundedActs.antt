@@ -28,7 +28,7 @@ use Rattle.flat_routines.proofs.Rules.{weaken}
 use Rattle.flat_routines.proofs.Regions.{laid_out}
 use Rattle.flat_objects.specs.StandsFor.{Views, Keys, Spells, StandsFor}
 use Rattle.flat_judging.specs.Judging.{IsToJudge, IsSameBut, IsJudged, IsJudgeRoutine}
-use Rattle.flat_actions.specs.Actions.{Ground, Pointer, Word, Nowhere, IsHeldBy, IsFor, Leaves, IsAction, context_in}
+use Rattle.flat_actions.specs.Actions.{Basis, Pointer, Word, Nowhere, IsHeldBy, IsFor, Leaves, IsAction, context_in}
 use Rattle.flat_actions.specs.Actions.{views_of, work_of}
 use Rattle.flat_actions.specs.Ranges.{IsObjectRange, IsByteMoveRoutine, IsFillRoutine}
 use Rattle.flat_actions.specs.Scanning.{IsWorked, HasScanned, IsScanRoutine}
@@ -79,17 +79,17 @@ bounded_gives dv sv n line x w x' e = by (scan_within n (done []) sv line x) e
     by (Paused y) q = cc
 
 -- Registers: t is the cursor, and those from t + 1 on are free.
-module _ (ground : Ground) (runtime : ground.is_runtime ≡ true) (mapped : AreMapped ground.map)
-    (local : IsLocal ground.map ground.entry ground.IsGood) (d s : Held) (size : ℕ) (into : Held) (line t : ℕ)
+module _ (basis : Basis) (runtime : basis.is_runtime ≡ true) (mapped : AreMapped basis.map)
+    (local : IsLocal basis.map basis.entry basis.IsGood) (d s : Held) (size : ℕ) (into : Held) (line t : ℕ)
     (below_d : AreBelow t (held_registers d)) (below_s : AreBelow t (held_registers s)) (below_size : size < t)
     (below_into : AreBelow t (held_registers into)) (distinct : AreDistinct (held_registers into))
     (none : AreNoneOf (held_registers d) (held_registers into))
     (scanning judging moving filling : List FlatInstruction)
-    (scans : (n : ℕ) → 1 ≤ n → IsScanRoutine ground (λ v. scan_within n (done []) v line) s (λ f. f.values size ≡ n) t
+    (scans : (n : ℕ) → 1 ≤ n → IsScanRoutine basis (λ v. scan_within n (done []) v line) s (λ f. f.values size ≡ n) t
     (t + 1) scanning)
     (judges : IsJudgeRoutine d size line (t + 1) judging)
-    (moves : IsByteMoveRoutine ground.map d.value s.value (t + 1) (t + 4) moving)
-    (fills : IsFillRoutine ground.map (t + 2) (t + 3) (t + 1) (t + 4) filling) where
+    (moves : IsByteMoveRoutine basis.map d.value s.value (t + 1) (t + 4) moving)
+    (fills : IsFillRoutine basis.map (t + 2) (t + 3) (t + 1) (t + 4) filling) where
   abbrev writing : List FlatInstruction
   writing =
       count_code (t + 1) s.value t
@@ -101,13 +101,13 @@ module _ (ground : Ground) (runtime : ground.is_runtime ≡ true) (mapped : AreM
   module _ (functions : ℕ) (types : ℕ → ℕ) (k : Keys) (x : Source) (dv sv : Value) (n : ℕ) (charge weight : ℕ)
       (sound : IsSoundTag functions x.objects dv.tag) (some : 1 ≤ n) where
     abbrev g : Views
-    g = views_of ground.map functions types ground.entry
+    g = views_of basis.map functions types basis.entry
 
     abbrev c : Context
-    c = context_in ground charge weight
+    c = context_in basis charge weight
 
     pub record IsToBound (f : State) : Type 0 where
-      pub stands : IsFor g k ground.IsGood x f
+      pub stands : IsFor g k basis.IsGood x f
       pub spells : Spells g k dv d f.values
       pub source : IsHeldBy g k x.objects (Pointer s) sv f.values
       pub size_is : f.values size ≡ n
@@ -116,7 +116,7 @@ module _ (ground : Ground) (runtime : ground.is_runtime ≡ true) (mapped : AreM
 
     module _ (w : ℕ) (bytes : List ℕ) (few : length bytes ≤ n) (m : Bytes) (words : (b : ℕ) → m b < 256)
         (there : (i : ℕ) → i < length bytes → m (sv.word + i) ≡ get_or bytes i 0)
-        (st : StandsFor g k x.objects m) (range : IsObjectRange ground.map sv.word (length bytes)) where
+        (st : StandsFor g k x.objects m) (range : IsObjectRange basis.map sv.word (length bytes)) where
       abbrev y : Source
       y = at_work w x
 
@@ -124,7 +124,7 @@ module _ (ground : Ground) (runtime : ground.is_runtime ≡ true) (mapped : AreM
       new = filled_up n bytes
 
       record IsToFinish (f : State) : Type 0 where
-        stands : IsFor g k ground.IsGood y f
+        stands : IsFor g k basis.IsGood y f
         spells : Spells g k dv d f.values
         size_is : f.values size ≡ n
         start_is : f.values s.value ≡ sv.word
@@ -133,7 +133,7 @@ module _ (ground : Ground) (runtime : ground.is_runtime ≡ true) (mapped : AreM
 
       keeps : (f f' : State) → IsToFinish f → IsSameBut (t + 1) f f' → IsToFinish f'
       keeps f f' p same = record {
-        stands = for_still g k ground.IsGood y f f' same.memory same.shows p.stands;
+        stands = for_still g k basis.IsGood y f f' same.memory same.shows p.stands;
         spells = spells_still g k dv d [] (t + 1) f f' same.others
             (below_more t (t + 1) (held_registers d) (omega arith) below_d) (none_of_none (held_registers d)) p.spells;
         size_is = same.others size (omega arith) tt ∙ p.size_is;
@@ -156,18 +156,18 @@ module _ (ground : Ground) (runtime : ground.is_runtime ≡ true) (mapped : AreM
             size_is = p.size_is ∙ sym long;
             some = omega arith;
           })
-          (λ f o p h. h) (judges g k y.objects dv (length new) ground.is_runtime charge weight mapped)
+          (λ f o p h. h) (judges g k y.objects dv (length new) basis.is_runtime charge weight mapped)
 
       writes_it : (p : Place) → IsAllowed y.objects dv (length new) p
           → Does c writing IsToFinish (λ f. 28 + 8 * length new) (λ f. Either (HasWritten new dv.word (t + 1) f) Never)
       writes_it p allowed =
           let long = filled_length n bytes few in
-          let room = subst (IsObjectRange ground.map dv.word) long
+          let room = subst (IsObjectRange basis.map dv.word) long
           (allowed_range g k x.objects m dv (length new) p st allowed) in
           let last = room.last in let end = range.last in
-          let ok = laid_out ground.map mapped in let small = ok.small in
+          let ok = laid_out basis.map mapped in let small = ok.small in
           does_weaken c writing (28 + 8 * n) (28 + 8 * length new)
-          (IsToFillUp ground runtime d.value s.value size t below_d.0 below_s.0 below_size moving filling moves fills
+          (IsToFillUp basis runtime d.value s.value size t below_d.0 below_s.0 below_size moving filling moves fills
           charge weight n sv.word dv.word bytes few range room (omega arith) (omega arith))
           IsToFinish (λ f. Either (HasWritten new dv.word (t + 1) f) Never)
           (λ f. Either (HasWritten new dv.word (t + 1) f) Never) (omega arith)
@@ -179,18 +179,18 @@ module _ (ground : Ground) (runtime : ground.is_runtime ≡ true) (mapped : AreM
             there = λ i less. ap (λ z. z (sv.word + i)) q.memory ∙ there i less;
           })
           (λ f o q h. h)
-          (fills_up ground runtime d.value s.value size t below_d.0 below_s.0 below_size moving filling moves fills
+          (fills_up basis runtime d.value s.value size t below_d.0 below_s.0 below_size moving filling moves fills
           charge weight n sv.word dv.word bytes few range room (omega arith) (omega arith))
 
       finishes : Does c (judging ++ writing) IsToFinish
           (λ f. 10 + (28 + 8 * work_done (written_run n dv dv new line y) y))
-          (λ f. Leaves g k ground.IsGood Nowhere (t + 1) y f (written_run n dv dv new line y))
+          (λ f. Leaves g k basis.IsGood Nowhere (t + 1) y f (written_run n dv dv new line y))
       finishes =
           subst (λ z. Does c (judging ++ writing) IsToFinish
           (λ f. 10 + (28 + 8 * work_done (written_run z dv dv new line y) y))
-          (λ f. Leaves g k ground.IsGood Nowhere (t + 1) y f (written_run z dv dv new line y)))
+          (λ f. Leaves g k basis.IsGood Nowhere (t + 1) y f (written_run z dv dv new line y)))
           (filled_length n bytes few)
-          (judged_writes ground.map mapped ground.entry ground.IsGood local functions types k (t + 1) y c judging
+          (judged_writes basis.map mapped basis.entry basis.IsGood local functions types k (t + 1) y c judging
           writing dv
           dv new line IsToFinish 28 (filled_small m sv.word n bytes few words there) sound (λ f p. p.stands) keeps
           judges_it writes_it)
@@ -198,7 +198,7 @@ module _ (ground : Ground) (runtime : ground.is_runtime ≡ true) (mapped : AreM
     -- ---- behind the scan
 
     abbrev R : State → Completed (List ℕ) → Outcome → Type 0
-    R f r = Leaves g k ground.IsGood Nowhere t x f (on r (λ bytes. written_run n dv dv (filled_up n bytes) line))
+    R f r = Leaves g k basis.IsGood Nowhere t x f (on r (λ bytes. written_run n dv dv (filled_up n bytes) line))
 
     abbrev behind : List ℕ → Source → ℕ
     behind bytes x' = 10 + (28 + 8 * work_done (written_run n dv dv (filled_up n bytes) line x') x')
@@ -224,11 +224,11 @@ module _ (ground : Ground) (runtime : ground.is_runtime ≡ true) (mapped : AreM
         (R f (Gives bytes z))) (sym worked.same)
         (weaken c code (behind bytes y) (behind bytes y) (Goes pc f') (pc + length (judging ++ writing)) _
         (R f (Gives bytes y)) (omega arith)
-        (λ o q. left_from g k ground.IsGood t (t + 1) x'.work x f f' (written_run n dv dv (filled_up n bytes) line y) o
+        (λ o q. left_from g k basis.IsGood t (t + 1) x'.work x f f' (written_run n dv dv (filled_up n bytes) line y) o
         (omega arith) h q)
         ((finishes x'.work bytes few f.memory w.memory i.there p.stands.objects range).from code pc f' has words
         (record {
-          stands = for_worked g k ground.IsGood x x'.work f' (for_still g k ground.IsGood x f f' i.memory i.shows
+          stands = for_worked g k basis.IsGood x x'.work f' (for_still g k basis.IsGood x f f' i.memory i.shows
               p.stands);
           spells = spells_still g k dv d [] t f f' h.others below_d (none_of_none (held_registers d)) p.spells;
           size_is = h.others size below_size tt ∙ p.size_is;
@@ -241,7 +241,7 @@ module _ (ground : Ground) (runtime : ground.is_runtime ≡ true) (mapped : AreM
         none_given bs q = cc
 
     pub bounds : Does c act IsToBound (λ f. 54 + 8 * work_done (bounded dv sv n line x) x)
-        (λ f. Leaves g k ground.IsGood Nowhere t x f (bounded dv sv n line x))
+        (λ f. Leaves g k basis.IsGood Nowhere t x f (bounded dv sv n line x))
     bounds = record {
       from = λ code pc f has w p.
           let o = scan_within n (done []) sv line x in
@@ -278,23 +278,23 @@ module _ (ground : Ground) (runtime : ground.is_runtime ≡ true) (mapped : AreM
   module _ (functions : ℕ) (types : ℕ → ℕ) (k : Keys) (x : Source) (dv sv nv : Value) (charge weight : ℕ)
       (sound : IsSoundTag functions x.objects dv.tag) where
     abbrev held : Views
-    held = views_of ground.map functions types ground.entry
+    held = views_of basis.map functions types basis.entry
 
     record IsBefore (f : State) : Type 0 where
-      stands : IsFor held k ground.IsGood x f
+      stands : IsFor held k basis.IsGood x f
       spells : Spells held k dv d f.values
       source : IsHeldBy held k x.objects (Pointer s) sv f.values
       size_is : f.values size ≡ nv.word
 
-    whole : Does (context_in ground charge weight) (guarded_code size d into act) IsBefore
+    whole : Does (context_in basis charge weight) (guarded_code size d into act) IsBefore
         (λ f. 60 + 8 * work_of (strncpy dv sv nv line) x)
-        (λ f. Leaves held k ground.IsGood (Pointer into) t x f (strncpy dv sv nv line x))
+        (λ f. Leaves held k basis.IsGood (Pointer into) t x f (strncpy dv sv nv line x))
     whole =
-        guarded held k ground.IsGood t x (context_in ground charge weight) d into size dv nv
+        guarded held k basis.IsGood t x (context_in basis charge weight) d into size dv nv
         (bounded dv sv nv.word line) act IsBefore 54 8 below_d below_into distinct none
         (λ f p. record { stands = p.stands; spells = p.spells; sound = sound; size_is = p.size_is })
         (λ f p. record {
-          stands = for_still held k ground.IsGood x f _ refl
+          stands = for_still held k basis.IsGood x f _ refl
               (record { input = refl; output = refl; taken = refl; accesses = refl; turns = refl }) p.stands;
           spells = record { word = p.spells.word; tag = p.spells.tag };
           source = (record { word = p.source.0.word; tag = p.source.0.tag }, p.source.1);
@@ -302,15 +302,15 @@ module _ (ground : Ground) (runtime : ground.is_runtime ≡ true) (mapped : AreM
         })
         (bounded_gives dv sv nv.word line x)
         (λ some. let positive : 1 ≤ nv.word = omega (arith, some) in
-        does_weaken (context_in ground charge weight) act (54 + 8 * work_done (bounded dv sv nv.word line x) x)
+        does_weaken (context_in basis charge weight) act (54 + 8 * work_done (bounded dv sv nv.word line x) x)
         (54 + 8 * work_done (bounded dv sv nv.word line x) x)
         (IsToBound functions types k x dv sv nv.word charge weight sound positive) IsBefore
-        (λ f. Leaves held k ground.IsGood Nowhere t x f (bounded dv sv nv.word line x))
-        (λ f. Leaves held k ground.IsGood Nowhere t x f (bounded dv sv nv.word line x)) (omega arith)
+        (λ f. Leaves held k basis.IsGood Nowhere t x f (bounded dv sv nv.word line x))
+        (λ f. Leaves held k basis.IsGood Nowhere t x f (bounded dv sv nv.word line x)) (omega arith)
         (λ f p. record { stands = p.stands; spells = p.spells; source = p.source; size_is = p.size_is })
         (λ f o p h. h) (bounds functions types k x dv sv nv.word charge weight sound positive))
 
-  pub strncpy_acts : IsAction ground (λ vs. strncpy (argument 0 vs) (argument 1 vs) (argument 2 vs) line)
+  pub strncpy_acts : IsAction basis (λ vs. strncpy (argument 0 vs) (argument 1 vs) (argument 2 vs) line)
       (Pointer d ∷ Pointer s ∷ Word size ∷ []) (Pointer into) t 60 8 (guarded_code size d into act)
   strncpy_acts functions types k x [] charge weight = record { from = λ code pc f has w p. absurd p.1 }
   strncpy_acts functions types k x (dv ∷ []) charge weight = record { from = λ code pc f has w p. absurd p.1.1 }

@@ -23,7 +23,7 @@ use Rattle.flat_routines.specs.Metadata.{held_registers, entry_registers}
 use Rattle.flat_routines.proofs.Rules.{weaken}
 use Rattle.flat_objects.specs.StandsFor.{Views, Keys, Spells}
 use Rattle.flat_judging.specs.Judging.{IsJudgeRoutine}
-use Rattle.flat_actions.specs.Actions.{Ground, Pointer, Nowhere, IsHeldBy, IsFor, Leaves, IsAction, context_in}
+use Rattle.flat_actions.specs.Actions.{Basis, Pointer, Nowhere, IsHeldBy, IsFor, Leaves, IsAction, context_in}
 use Rattle.flat_actions.specs.Actions.{views_of, work_of}
 use Rattle.flat_actions.specs.Ranges.{IsByteMoveRoutine}
 use Rattle.flat_actions.specs.Scanning.{IsWorked, HasScanned, IsScanRoutine}
@@ -38,46 +38,46 @@ use Rattle.string_routines.proofs.StringCopies.{copied, copied_gives, copied_wor
 
 -- ---- `strcpy`
 
-module _ (ground : Ground) (runtime : ground.is_runtime ≡ true) (mapped : AreMapped ground.map)
-    (local : IsLocal ground.map ground.entry ground.IsGood) (d s into : Held) (line t : ℕ)
+module _ (basis : Basis) (runtime : basis.is_runtime ≡ true) (mapped : AreMapped basis.map)
+    (local : IsLocal basis.map basis.entry basis.IsGood) (d s into : Held) (line t : ℕ)
     (below_d : AreBelow t (held_registers d)) (below_s : AreBelow t (held_registers s))
     (below_into : AreBelow t (held_registers into)) (distinct : AreDistinct (held_registers into))
     (none : AreNoneOf (held_registers d) (held_registers into))
     (scanning judging moving : List FlatInstruction)
-    (scans : IsScanRoutine ground (λ v. scan v line) s (λ f. Unit {0}) t (t + 1) scanning)
+    (scans : IsScanRoutine basis (λ v. scan v line) s (λ f. Unit {0}) t (t + 1) scanning)
     (judges : IsJudgeRoutine d (t + 1) line (t + 1 + 1) judging)
-    (moves : IsByteMoveRoutine ground.map d.value s.value (t + 1) (t + 1 + 1) moving) where
+    (moves : IsByteMoveRoutine basis.map d.value s.value (t + 1) (t + 1 + 1) moving) where
   abbrev act : List FlatInstruction
   act = scanning ++ (size_code (t + 1) s.value t ++ (judging ++ moving))
 
   strcpy_whole : (functions : ℕ) (types : ℕ → ℕ) (k : Keys) (x : Source) (dv sv : Value) (charge weight : ℕ)
       (code : List FlatInstruction) (pc : ℕ) (f : State) → HasAt code pc (act ++ give_code d into) → IsOfWords f
-      → IsFor (views_of ground.map functions types ground.entry) k ground.IsGood x f
-      → IsHeldBy (views_of ground.map functions types ground.entry) k x.objects (Pointer d) dv f.values
-      → IsHeldBy (views_of ground.map functions types ground.entry) k x.objects (Pointer s) sv f.values
-      → Reaches (context_in ground charge weight) code (49 + 8 * work_of (strcpy dv sv line) x) (Goes pc f)
+      → IsFor (views_of basis.map functions types basis.entry) k basis.IsGood x f
+      → IsHeldBy (views_of basis.map functions types basis.entry) k x.objects (Pointer d) dv f.values
+      → IsHeldBy (views_of basis.map functions types basis.entry) k x.objects (Pointer s) sv f.values
+      → Reaches (context_in basis charge weight) code (49 + 8 * work_of (strcpy dv sv line) x) (Goes pc f)
       (pc + length (act ++ give_code d into))
-      (Leaves (views_of ground.map functions types ground.entry) k ground.IsGood (Pointer into) t x f
+      (Leaves (views_of basis.map functions types basis.entry) k basis.IsGood (Pointer into) t x f
       (strcpy dv sv line x))
   strcpy_whole functions types k x dv sv charge weight code pc f has w p a b =
-      let g = views_of ground.map functions types ground.entry in
-      let c = context_in ground charge weight in
+      let g = views_of basis.map functions types basis.entry in
+      let c = context_in basis charge weight in
       let is = copied_is dv dv sv line x in
       let r = copied dv dv sv line x in
       let n = ap (λ o. 49 + 8 * ((state_of o).work - x.work)) is in
       weaken c code (44 + 8 * work_of (copied dv dv sv line) x + 5) (49 + 8 * work_of (strcpy dv sv line) x) (Goes pc f)
-      (pc + length (act ++ give_code d into)) (Leaves g k ground.IsGood (Pointer into) t x f r) _ (omega arith)
-      (λ o h. subst (λ q. Leaves g k ground.IsGood (Pointer into) t x f q o) (sym is) h)
-      ((act_then_gives g k ground.IsGood t x c d into dv r act
-      (IsToCopy ground runtime mapped local line d s t below_d below_s scanning judging moving scans judges moves
+      (pc + length (act ++ give_code d into)) (Leaves g k basis.IsGood (Pointer into) t x f r) _ (omega arith)
+      (λ o h. subst (λ q. Leaves g k basis.IsGood (Pointer into) t x f q o) (sym is) h)
+      ((act_then_gives g k basis.IsGood t x c d into dv r act
+      (IsToCopy basis runtime mapped local line d s t below_d below_s scanning judging moving scans judges moves
       functions types k x dv dv sv charge weight a.1)
       (44 + 8 * work_of (copied dv dv sv line) x) below_d below_into distinct none (λ f q. q.spells) (λ f q. a.1)
       (copied_gives dv dv sv line x)
-      (copies ground runtime mapped local line d s t below_d below_s scanning judging moving scans judges moves
+      (copies basis runtime mapped local line d s t below_d below_s scanning judging moving scans judges moves
       functions types k x dv dv sv charge weight a.1)).from code pc f has w
       (record { stands = p; spells = a.0; source = b }))
 
-  pub strcpy_acts : IsAction ground (λ vs. strcpy (argument 0 vs) (argument 1 vs) line) (Pointer d ∷ Pointer s ∷ [])
+  pub strcpy_acts : IsAction basis (λ vs. strcpy (argument 0 vs) (argument 1 vs) line) (Pointer d ∷ Pointer s ∷ [])
       (Pointer into) t 49 8 (act ++ give_code d into)
   strcpy_acts functions types k x [] charge weight = record { from = λ code pc f has w p. absurd p.1 }
   strcpy_acts functions types k x (dv ∷ []) charge weight = record { from = λ code pc f has w p. absurd p.1.1 }
@@ -95,16 +95,16 @@ module _ (ground : Ground) (runtime : ground.is_runtime ≡ true) (mapped : AreM
 abbrev pub end_of : Held → (register : ℕ) → Held
 end_of d e = record { value = e; tag = d.tag }
 
-module _ (ground : Ground) (runtime : ground.is_runtime ≡ true) (mapped : AreMapped ground.map)
-    (local : IsLocal ground.map ground.entry ground.IsGood) (d s into : Held) (line t : ℕ)
+module _ (basis : Basis) (runtime : basis.is_runtime ≡ true) (mapped : AreMapped basis.map)
+    (local : IsLocal basis.map basis.entry basis.IsGood) (d s into : Held) (line t : ℕ)
     (below_d : AreBelow t (held_registers d)) (below_s : AreBelow t (held_registers s))
     (below_into : AreBelow t (held_registers into)) (distinct : AreDistinct (held_registers into))
     (none : AreNoneOf (held_registers d) (held_registers into))
     (first scanning judging moving : List FlatInstruction)
-    (scans_first : IsScanRoutine ground (λ v. scan v line) d (λ f. Unit {0}) t (t + 1) first)
-    (scans : IsScanRoutine ground (λ v. scan v line) s (λ f. Unit {0}) (t + 1) (t + 1 + 1) scanning)
+    (scans_first : IsScanRoutine basis (λ v. scan v line) d (λ f. Unit {0}) t (t + 1) first)
+    (scans : IsScanRoutine basis (λ v. scan v line) s (λ f. Unit {0}) (t + 1) (t + 1 + 1) scanning)
     (judges : IsJudgeRoutine (end_of d t) (t + 1 + 1) line (t + 1 + 1 + 1) judging)
-    (moves : IsByteMoveRoutine ground.map t s.value (t + 1 + 1) (t + 1 + 1 + 1) moving) where
+    (moves : IsByteMoveRoutine basis.map t s.value (t + 1 + 1) (t + 1 + 1 + 1) moving) where
   abbrev copying : List FlatInstruction
   copying = scanning ++ (size_code (t + 1 + 1) s.value (t + 1) ++ (judging ++ moving))
 
@@ -120,13 +120,13 @@ module _ (ground : Ground) (runtime : ground.is_runtime ≡ true) (mapped : AreM
   module _ (functions : ℕ) (types : ℕ → ℕ) (k : Keys) (x : Source) (dv sv : Value) (charge weight : ℕ)
       (sound : IsSoundTag functions x.objects dv.tag) where
     abbrev g : Views
-    g = views_of ground.map functions types ground.entry
+    g = views_of basis.map functions types basis.entry
 
     abbrev c : Context
-    c = context_in ground charge weight
+    c = context_in basis charge weight
 
     record IsToCat (f : State) : Type 0 where
-      stands : IsFor g k ground.IsGood x f
+      stands : IsFor g k basis.IsGood x f
       spells : Spells g k dv d f.values
       source : IsHeldBy g k x.objects (Pointer s) sv f.values
 
@@ -134,7 +134,7 @@ module _ (ground : Ground) (runtime : ground.is_runtime ≡ true) (mapped : AreM
     after r = on r (λ before. copied (moved (length before) dv) dv sv line)
 
     abbrev R : State → Completed (List ℕ) → Outcome → Type 0
-    R f r = Leaves g k ground.IsGood Nowhere t x f (after r)
+    R f r = Leaves g k basis.IsGood Nowhere t x f (after r)
 
     abbrev behind : List ℕ → Source → ℕ
     behind before x' = 44 + 8 * work_of (copied (moved (length before) dv) dv sv line) x'
@@ -172,12 +172,12 @@ module _ (ground : Ground) (runtime : ground.is_runtime ≡ true) (mapped : AreM
         (sym worked.same)
         (weaken c code (behind before y) (behind before y) (Goes pc f') (pc + length copying) _ (R f (Gives before y))
         (omega arith)
-        (λ o q. left_from g k ground.IsGood t (t + 1) x'.work x f f' (copied ev dv sv line y) o (omega arith) h q)
-        ((copies ground runtime mapped local line (end_of d t) s (t + 1) below_end below_source scanning judging moving
+        (λ o q. left_from g k basis.IsGood t (t + 1) x'.work x f f' (copied ev dv sv line y) o (omega arith) h q)
+        ((copies basis runtime mapped local line (end_of d t) s (t + 1) below_end below_source scanning judging moving
         scans
         judges moves functions types k y ev dv sv charge weight (end_sound (length before))).from code pc f' has words
         (record {
-          stands = for_worked g k ground.IsGood x x'.work f' (for_still g k ground.IsGood x f f' i.memory i.shows
+          stands = for_worked g k basis.IsGood x x'.work f' (for_still g k basis.IsGood x f f' i.memory i.shows
               p.stands);
           spells = end_spelled f f' before p.spells i;
           source = held_still g k x.objects (Pointer s) sv [] t f f' h.others below_s (none_of_none (held_registers s))
@@ -192,7 +192,7 @@ module _ (ground : Ground) (runtime : ground.is_runtime ≡ true) (mapped : AreM
     cat_is (Paused y) = refl
 
     cats : Does c cat_act IsToCat (λ f. 60 + 8 * work_of (strcat dv sv line) x)
-        (λ f. Leaves g k ground.IsGood Nowhere t x f (after (scan dv line x)))
+        (λ f. Leaves g k basis.IsGood Nowhere t x f (after (scan dv line x)))
     cats = record {
       from = λ code pc f has w p.
           let o = scan dv line x in
@@ -233,17 +233,17 @@ module _ (ground : Ground) (runtime : ground.is_runtime ≡ true) (mapped : AreM
         → IsOfWords f → IsToCat f
         → Reaches c code (65 + 8 * work_of (strcat dv sv line) x) (Goes pc f)
         (pc + length (cat_act ++ give_code d into))
-        (Leaves g k ground.IsGood (Pointer into) t x f (strcat dv sv line x))
+        (Leaves g k basis.IsGood (Pointer into) t x f (strcat dv sv line x))
     strcat_whole code pc f has w p =
         weaken c code (60 + 8 * work_of (strcat dv sv line) x + 5) (65 + 8 * work_of (strcat dv sv line) x) (Goes pc f)
         (pc + length (cat_act ++ give_code d into))
-        (Leaves g k ground.IsGood (Pointer into) t x f (after (scan dv line x))) _ (omega arith)
-        (λ o h. subst (λ q. Leaves g k ground.IsGood (Pointer into) t x f q o) (sym (cat_is (scan dv line x))) h)
-        ((act_then_gives g k ground.IsGood t x c d into dv (after (scan dv line x)) cat_act IsToCat
+        (Leaves g k basis.IsGood (Pointer into) t x f (after (scan dv line x))) _ (omega arith)
+        (λ o h. subst (λ q. Leaves g k basis.IsGood (Pointer into) t x f q o) (sym (cat_is (scan dv line x))) h)
+        ((act_then_gives g k basis.IsGood t x c d into dv (after (scan dv line x)) cat_act IsToCat
         (60 + 8 * work_of (strcat dv sv line) x) below_d below_into distinct none (λ f q. q.spells) (λ f q. sound)
         cat_gives cats).from code pc f has w p)
 
-  pub strcat_acts : IsAction ground (λ vs. strcat (argument 0 vs) (argument 1 vs) line) (Pointer d ∷ Pointer s ∷ [])
+  pub strcat_acts : IsAction basis (λ vs. strcat (argument 0 vs) (argument 1 vs) line) (Pointer d ∷ Pointer s ∷ [])
       (Pointer into) t 65 8 (cat_act ++ give_code d into)
   strcat_acts functions types k x [] charge weight = record { from = λ code pc f has w p. absurd p.1 }
   strcat_acts functions types k x (dv ∷ []) charge weight = record { from = λ code pc f has w p. absurd p.1.1 }

@@ -18,7 +18,7 @@ use Rattle.flat_routines.specs.Metadata.{ShowsNothing}
 use Rattle.flat_routines.proofs.Steps.{has_front, has_back}
 use Rattle.flat_routines.proofs.Rules.{weaken, next, line_on}
 use Rattle.space_routines.proofs.Quiet.{shows_both, quiet_words}
-use Rattle.flat_actions.specs.Actions.{Ground, context_in}
+use Rattle.flat_actions.specs.Actions.{Basis, context_in}
 use Rattle.flat_actions.specs.Ranges.{IsObjectRange, IsToMove, HasMovedBytes, IsByteMoveRoutine, IsToFill, HasFilled}
 use Rattle.flat_actions.specs.Ranges.{IsFillRoutine}
 use Rattle.string_routines.specs.Copying.{HasWritten, count_code, tail_code, filled_up}
@@ -42,15 +42,15 @@ filled_rest n bytes i l h =
     ∙ get_or-replicate (n - length bytes) (i - length bytes) 0 0 (omega arith)
 
 -- Registers: to where, from where and how many; cur is behind the last byte, and those from cur + 1 on are free.
-module _ (ground : Ground) (runtime : ground.is_runtime ≡ true) (to from size cur : ℕ) (to_below : to < cur)
+module _ (basis : Basis) (runtime : basis.is_runtime ≡ true) (to from size cur : ℕ) (to_below : to < cur)
     (from_below : from < cur) (size_below : size < cur) (moving filling : List FlatInstruction)
-    (moves : IsByteMoveRoutine ground.map to from (cur + 1) (cur + 4) moving)
-    (fills : IsFillRoutine ground.map (cur + 2) (cur + 3) (cur + 1) (cur + 4) filling)
-    (charge weight n a d : ℕ) (bytes : List ℕ) (few : length bytes ≤ n) (range : IsObjectRange ground.map a
+    (moves : IsByteMoveRoutine basis.map to from (cur + 1) (cur + 4) moving)
+    (fills : IsFillRoutine basis.map (cur + 2) (cur + 3) (cur + 1) (cur + 4) filling)
+    (charge weight n a d : ℕ) (bytes : List ℕ) (few : length bytes ≤ n) (range : IsObjectRange basis.map a
     (length bytes))
-    (room : IsObjectRange ground.map d n) (room_small : d + n < 2 ^ 63) (small : a + length bytes < 2 ^ 63) where
+    (room : IsObjectRange basis.map d n) (room_small : d + n < 2 ^ 63) (small : a + length bytes < 2 ^ 63) where
   abbrev c : Context
-  c = context_in ground charge weight
+  c = context_in basis charge weight
 
   abbrev m : ℕ
   m = length bytes
@@ -177,13 +177,13 @@ module _ (ground : Ground) (runtime : ground.is_runtime ≡ true) (to from size 
         (has_front code pc counting (moving ++ (tailing ++ filling)) has)
         (next c code (16 + 7 * m) (3 + (8 + 5 * (n - m))) (Goes (pc + 1) f1) (pc + 1 + length moving) end
         (HasMovedBytes to from m (cur + 4) f1) Never R w1
-        ((does_in ground runtime charge weight moving (IsToMove ground.map to from (cur + 1) m) (λ s. 16 + 7 * m)
+        ((does_in basis runtime charge weight moving (IsToMove basis.map to from (cur + 1) m) (λ s. 16 + 7 * m)
         (λ s. Either (HasMovedBytes to from m (cur + 4) s) Never) (moves m charge weight)).from code (pc + 1) f1
         (has_front code (pc + 1) moving (tailing ++ filling) has1) w1 (record {
           size_is = h1.count_is;
-          to_range = subst (λ z. IsObjectRange ground.map z m) (sym to_is)
+          to_range = subst (λ z. IsObjectRange basis.map z m) (sym to_is)
               (record { first = room.first; last = omega arith });
-          from_range = subst (λ z. IsObjectRange ground.map z m) (sym from_is) range;
+          from_range = subst (λ z. IsObjectRange basis.map z m) (sym from_is) range;
         }))
         (λ f2 w2 moved.
         let f3 = effects c tailing f2 in
@@ -205,12 +205,12 @@ module _ (ground : Ground) (runtime : ground.is_runtime ≡ true) (to from size 
         h1.others to_is from_is moved refl
         (record { input = refl; output = refl; taken = refl; accesses = refl; turns = refl }) h3.others h3.address_is
         h3.zero_is i)
-        ((does_in ground runtime charge weight filling (IsToFill ground.map (cur + 2) (cur + 1) (n - m))
+        ((does_in basis runtime charge weight filling (IsToFill basis.map (cur + 2) (cur + 1) (n - m))
         (λ s. 8 + 5 * (n - m)) (λ s. Either (HasFilled (cur + 2) (cur + 3) (n - m) (cur + 4) s) Never)
         (fills (n - m) charge weight)).from code (pc + 1 + length moving + 3) f3 has3
         (quiet_words c tailing f2 (tt, (tt, (tt, tt))) w2) (record {
           size_is = h3.rest_is;
-          to_range = subst (λ z. IsObjectRange ground.map z (n - m)) (sym h3.address_is)
+          to_range = subst (λ z. IsObjectRange basis.map z (n - m)) (sym h3.address_is)
               (record { first = omega arith; last = omega arith });
         }))))
         (λ status report f2 never. absurd never))));

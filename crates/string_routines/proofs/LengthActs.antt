@@ -23,34 +23,34 @@ use Rattle.flat_routines.specs.Metadata.{held_registers}
 use Rattle.flat_routines.proofs.Steps.{has_front, has_back}
 use Rattle.flat_routines.proofs.Rules.{line_on, arrived}
 use Rattle.flat_objects.specs.StandsFor.{Views, Keys}
-use Rattle.flat_actions.specs.Actions.{Ground, Pointer, Word, IsHeldBy, IsFor, HasGiven, Leaves, IsAction, context_in}
+use Rattle.flat_actions.specs.Actions.{Basis, Pointer, Word, IsHeldBy, IsFor, HasGiven, Leaves, IsAction, context_in}
 use Rattle.flat_actions.specs.Actions.{views_of, work_of}
 use Rattle.flat_actions.specs.Scanning.{IsWorked, HasScanned, IsScanRoutine}
 use Rattle.flat_actions.proofs.Standing.{given_still}
 use Rattle.string_routines.specs.Scanning.{length_given}
 use Rattle.string_routines.proofs.AfterScan.{over, after_scan}
 
-module _ (ground : Ground) (h : Held) (into line t : ℕ) (below : AreBelow t (into ∷ held_registers h))
+module _ (basis : Basis) (h : Held) (into line t : ℕ) (below : AreBelow t (into ∷ held_registers h))
     (scanning : List FlatInstruction)
-    (scans : IsScanRoutine ground (λ v. scan v line) h (λ f. Unit {0}) t (t + 1) scanning) where
+    (scans : IsScanRoutine basis (λ v. scan v line) h (λ f. Unit {0}) t (t + 1) scanning) where
   abbrev items : List FlatInstruction
   items = scanning ++ length_given h t into
 
   module _ (functions : ℕ) (types : ℕ → ℕ) (k : Keys) (x : Source) (v : Value) (charge weight : ℕ) where
     abbrev g : Views
-    g = views_of ground.map functions types ground.entry
+    g = views_of basis.map functions types basis.entry
 
     abbrev c : Context
-    c = context_in ground charge weight
+    c = context_in basis charge weight
 
     abbrev R : State → Completed (List ℕ) → Outcome → Type 0
-    R f r = Leaves g k ground.IsGood (Word into) t x f (on r (λ bytes. done (integer (length bytes))))
+    R f r = Leaves g k basis.IsGood (Word into) t x f (on r (λ bytes. done (integer (length bytes))))
 
     abbrev after : State → State
     after f = effects c (length_given h t into) f
 
     -- the cursor's distance from the start is the length
-    given : (f f' : State) (bytes : List ℕ) (x' : Source) → IsFor g k ground.IsGood x f → f.values h.value ≡ v.word
+    given : (f f' : State) (bytes : List ℕ) (x' : Source) → IsFor g k basis.IsGood x f → f.values h.value ≡ v.word
         → IsOfWords f → IsWorked x x' → HasScanned v.word bytes t (t + 1) f f'
         → R f (Gives bytes x') (Continues (after f'))
     unfolding put reg_result
@@ -59,9 +59,9 @@ module _ (ground : Ground) (h : Held) (into line t : ℕ) (below : AreBelow t (i
         let cursor = i.cursor_is in let small = i.small in let w = words.values h.value in
         let length_is : (after f').values into ≡ length bytes =
         put_same f'.values into ((f'.values t + (2 ^ 64 - f'.values h.value)) % 2 ^ 64) ∙ omega arith in
-        subst (λ y. HasGiven g k ground.IsGood (Word into) t x f (integer (length bytes)) y (after f'))
+        subst (λ y. HasGiven g k basis.IsGood (Word into) t x f (integer (length bytes)) y (after f'))
         (sym worked.same)
-        (given_still g k ground.IsGood (Word into) t x x'.work f (after f') (integer (length bytes)) p i.memory
+        (given_still g k basis.IsGood (Word into) t x x'.work f (after f') (integer (length bytes)) p i.memory
         (record {
           input = i.shows.input;
           output = i.shows.output;
@@ -76,7 +76,7 @@ module _ (ground : Ground) (h : Held) (into line t : ℕ) (below : AreBelow t (i
         not_cursor e = omega (arith, e, below.1.0)
 
     whole : (code : List FlatInstruction) (pc : ℕ) (f : State) → HasAt code pc items → IsOfWords f
-        → IsFor g k ground.IsGood x f → IsHeldBy g k x.objects (Pointer h) v f.values
+        → IsFor g k basis.IsGood x f → IsHeldBy g k x.objects (Pointer h) v f.values
         → Reaches c code (17 + 8 * work_of (strlen v line) x) (Goes pc f) (pc + length items) (R f (scan v line x))
     whole code pc f has w p a =
         let len : pc + length scanning + 1 ≡ pc + length items =
@@ -102,7 +102,7 @@ module _ (ground : Ground) (h : Held) (into line t : ℕ) (below : AreBelow t (i
         (arrived c code 0 (after f') (pc + length scanning + 1) (pc + length items) (R f (scan v line x)) len
         (subst (λ r. R f r (Continues (after f'))) (sym is) (given f f' bytes x' p a.0.word w worked i))))
 
-  pub strlen_acts : IsAction ground (λ vs. strlen (argument 0 vs) line) (Pointer h ∷ []) (Word into) t 17 8 items
+  pub strlen_acts : IsAction basis (λ vs. strlen (argument 0 vs) line) (Pointer h ∷ []) (Word into) t 17 8 items
   strlen_acts functions types k x [] charge weight = record { from = λ code pc f has w p. absurd p.1 }
   strlen_acts functions types k x (v ∷ []) charge weight = record {
     from = λ code pc f has w p. whole functions types k x v charge weight code pc f has w p.0 p.1.0;

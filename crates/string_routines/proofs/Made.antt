@@ -5,18 +5,18 @@ use Rattle.source_meaning.specs.Strings.{scan}
 use Rattle.flat_meaning.specs.declared.instruction.FlatInstruction.{FlatInstruction}
 use Rattle.flat_routines.specs.declared.registers.Held.{Held}
 use Rattle.flat_judging.specs.Judging.{IsJudgeRoutine}
-use Rattle.flat_actions.specs.Actions.{Ground}
+use Rattle.flat_actions.specs.Actions.{Basis}
 use Rattle.flat_actions.specs.Ranges.{IsByteMoveRoutine, IsFillRoutine}
 use Rattle.flat_actions.specs.Scanning.{IsScanRoutine}
 use Rattle.string_routines.specs.Copying.{size_code, IsCopied, count_code, tail_code, IsFilledUp}
 
-pub is_copied : (ground : Ground) (to from : Held) (line t : ℕ) (items scanning judging moving : List FlatInstruction)
-    → IsScanRoutine ground (λ v. scan v line) from (λ f. Unit {0}) t (t + 1) scanning
+pub is_copied : (basis : Basis) (to from : Held) (line t : ℕ) (items scanning judging moving : List FlatInstruction)
+    → IsScanRoutine basis (λ v. scan v line) from (λ f. Unit {0}) t (t + 1) scanning
     → IsJudgeRoutine to (t + 1) line (t + 1 + 1) judging
-    → IsByteMoveRoutine ground.map to.value from.value (t + 1) (t + 1 + 1) moving
+    → IsByteMoveRoutine basis.map to.value from.value (t + 1) (t + 1 + 1) moving
     → items ≡ scanning ++ (size_code (t + 1) from.value t ++ (judging ++ moving))
-    → IsCopied ground to from line t items
-is_copied ground to from line t items scanning judging moving s j m e = record {
+    → IsCopied basis to from line t items
+is_copied basis to from line t items scanning judging moving s j m e = record {
   scanning = scanning;
   judging = judging;
   moving = moving;

@@ -23,7 +23,7 @@ use Rattle.flat_routines.specs.Metadata.{held_registers}
 use Rattle.flat_routines.proofs.Steps.{has_front, has_back}
 use Rattle.flat_routines.proofs.Rules.{next, line_on, arrived}
 use Rattle.flat_objects.specs.StandsFor.{Views, Keys, StandsFor}
-use Rattle.flat_actions.specs.Actions.{Ground, Pointer, Word, IsHeldBy, IsFor, HasGiven, Leaves, IsAction, context_in}
+use Rattle.flat_actions.specs.Actions.{Basis, Pointer, Word, IsHeldBy, IsFor, HasGiven, Leaves, IsAction, context_in}
 use Rattle.flat_actions.specs.Actions.{views_of, work_of}
 use Rattle.flat_actions.specs.Ranges.{IsObjectRange}
 use Rattle.flat_actions.specs.Scanning.{IsWorked, HasScanned, IsScanRoutine}
@@ -35,10 +35,10 @@ use Rattle.string_routines.proofs.PutLoop.{same_bytes, range_to_put}
 use Rattle.string_routines.proofs.Runtime.{does_in}
 
 -- The scan ends with the cursor at the 0 byte; from the start up to there the bytes are put out.
-module _ (ground : Ground) (runtime : ground.is_runtime ≡ true) (h : Held) (into line t : ℕ)
+module _ (basis : Basis) (runtime : basis.is_runtime ≡ true) (h : Held) (into line t : ℕ)
     (below : AreBelow t (into ∷ held_registers h)) (scanning putting : List FlatInstruction)
-    (scans : IsScanRoutine ground (λ v. scan v line) h (λ f. Unit {0}) t (t + 1) scanning)
-    (puts_all : IsPutRoutine ground.map h.value t (t + 1) putting) where
+    (scans : IsScanRoutine basis (λ v. scan v line) h (λ f. Unit {0}) t (t + 1) scanning)
+    (puts_all : IsPutRoutine basis.map h.value t (t + 1) putting) where
   abbrev rest : List FlatInstruction
   rest = putting ++ newline_given into (t + 1)
 
@@ -47,16 +47,16 @@ module _ (ground : Ground) (runtime : ground.is_runtime ≡ true) (h : Held) (in
 
   module _ (functions : ℕ) (types : ℕ → ℕ) (k : Keys) (x : Source) (v : Value) (charge weight : ℕ) where
     abbrev g : Views
-    g = views_of ground.map functions types ground.entry
+    g = views_of basis.map functions types basis.entry
 
     abbrev c : Context
-    c = context_in ground charge weight
+    c = context_in basis charge weight
 
     abbrev after : Completed (List ℕ) → Completed Value
     after r = on r (λ bytes. put_bytes (bytes ++ 10 ∷ []) >> done (integer 0))
 
     abbrev R : State → Completed (List ℕ) → Outcome → Type 0
-    R f r = Leaves g k ground.IsGood (Word into) t x f (after r)
+    R f r = Leaves g k basis.IsGood (Word into) t x f (after r)
 
     -- what is shown in the end
     abbrev printed : List ℕ → Source → Source
@@ -77,7 +77,7 @@ module _ (ground : Ground) (runtime : ground.is_runtime ≡ true) (h : Held) (in
       others = λ r less none. put_other _ into 0 r none ∙ put_other f.values (t + 1) 10 r (λ e. omega (arith, e, less));
     }
 
-    given : (f f' z : State) (bytes : List ℕ) (x' : Source) → IsFor g k ground.IsGood x f
+    given : (f f' z : State) (bytes : List ℕ) (x' : Source) → IsFor g k basis.IsGood x f
         → f.values h.value ≡ v.word → IsWorked x x' → HasScanned v.word bytes t (t + 1) f f'
         → HasPut h.value (length bytes) (t + 1) f' z → R f (Gives bytes x') (Continues (ending z))
     given f f' z bytes x' p word worked i put =
@@ -88,14 +88,14 @@ module _ (ground : Ground) (runtime : ground.is_runtime ≡ true) (h : Held) (in
         ∙ same_bytes f.memory v.word bytes i.there in
         let memory : z.memory ≡ f.memory = put.memory ∙ i.memory in
         let s = p.shown in let q = i.shows in
-        subst (λ y. HasGiven g k ground.IsGood (Word into) t x f (integer 0) (printed bytes y) (ending z))
+        subst (λ y. HasGiven g k basis.IsGood (Word into) t x f (integer 0) (printed bytes y) (ending z))
         (sym worked.same)
         (record {
           keys = k;
           held = keeps_same x.objects k;
           stands = record {
             objects = subst (StandsFor g k x.objects) (sym memory) p.objects;
-            spaces = good_still ground.map ground.IsGood f.memory z.memory memory p.spaces;
+            spaces = good_still basis.map basis.IsGood f.memory z.memory memory p.spaces;
             keys = p.keys;
             shown = record {
               input = put.input ∙ q.input ∙ s.input;
@@ -109,7 +109,7 @@ module _ (ground : Ground) (runtime : ground.is_runtime ≡ true) (h : Held) (in
           };
           given = e.given;
           turns = put.turns ∙ q.turns;
-          elsewhere = stays_same ground.map x.objects f.memory z.memory memory;
+          elsewhere = stays_same basis.map x.objects f.memory z.memory memory;
           others = λ r less none. e.others r less none.0 ∙ put.others r (omega (arith, less)) tt
               ∙ i.others r (omega (arith, less)) ((λ e. omega (arith, e, less)), tt);
         })
@@ -119,7 +119,7 @@ module _ (ground : Ground) (runtime : ground.is_runtime ≡ true) (h : Held) (in
 
     -- from the end of the string on
     out : (code : List FlatInstruction) (pc : ℕ) (f f' : State) (bytes : List ℕ) (x' : Source) → HasAt code pc rest
-        → IsOfWords f' → IsFor g k ground.IsGood x f → IsHeldBy g k x.objects (Pointer h) v f.values
+        → IsOfWords f' → IsFor g k basis.IsGood x f → IsHeldBy g k x.objects (Pointer h) v f.values
         → scan v line x ≡ Gives bytes x' → IsWorked x x' → HasScanned v.word bytes t (t + 1) f f'
         → Reaches c code ((2 + 5 * length bytes) + 3) (Goes pc f') (pc + length putting + 3) (R f (Gives bytes x'))
     out code pc f f' bytes x' has words p a is worked i =
@@ -128,10 +128,10 @@ module _ (ground : Ground) (runtime : ground.is_runtime ≡ true) (h : Held) (in
         i.others h.value (omega (arith, below.1.0)) ((λ e. omega (arith, e, below.1.0)), tt) ∙ a.0.word in
         let range = scanned_range g k line x v bytes x' f.memory p.objects a.1 is in
         let cursor = i.cursor_is in
-        let run = (does_in ground runtime charge weight putting (IsToPut ground.map h.value t n) (λ s. 2 + 5 * n)
+        let run = (does_in basis runtime charge weight putting (IsToPut basis.map h.value t n) (λ s. 2 + 5 * n)
         (λ s. Either (HasPut h.value n (t + 1) s) Never) (puts_all n charge weight)).from code pc f'
         (has_front code pc putting (newline_given into (t + 1)) has) words
-        (range_to_put ground.map h.value t n f' (subst (λ z. IsObjectRange ground.map z n) (sym kept) range)
+        (range_to_put basis.map h.value t n f' (subst (λ z. IsObjectRange basis.map z n) (sym kept) range)
         (omega arith)) in
         next c code (2 + 5 * n) 3 (Goes pc f') (pc + length putting) (pc + length putting + 3)
         (HasPut h.value n (t + 1) f') Never (R f (Gives bytes x')) words run
@@ -142,7 +142,7 @@ module _ (ground : Ground) (runtime : ground.is_runtime ≡ true) (h : Held) (in
         (λ status report z never. absurd never)
 
     whole : (code : List FlatInstruction) (pc : ℕ) (f : State) → HasAt code pc items → IsOfWords f
-        → IsFor g k ground.IsGood x f → IsHeldBy g k x.objects (Pointer h) v f.values
+        → IsFor g k basis.IsGood x f → IsHeldBy g k x.objects (Pointer h) v f.values
         → Reaches c code (21 + 8 * work_of (puts v line) x) (Goes pc f) (pc + length items) (R f (scan v line x))
     whole code pc f has w p a =
         let len : pc + length scanning + length putting + 3 ≡ pc + length items =
@@ -168,7 +168,7 @@ module _ (ground : Ground) (runtime : ground.is_runtime ≡ true) (h : Held) (in
         (R f (Gives bytes x')))
         len (out code (pc + length scanning) f f' bytes x' (has_back code pc scanning rest has) words p a is worked i)))
 
-  pub puts_acts : IsAction ground (λ vs. puts (argument 0 vs) line) (Pointer h ∷ []) (Word into) t 21 8 items
+  pub puts_acts : IsAction basis (λ vs. puts (argument 0 vs) line) (Pointer h ∷ []) (Word into) t 21 8 items
   puts_acts functions types k x [] charge weight = record { from = λ code pc f has w p. absurd p.1 }
   puts_acts functions types k x (v ∷ []) charge weight = record {
     from = λ code pc f has w p. whole functions types k x v charge weight code pc f has w p.0 p.1.0;

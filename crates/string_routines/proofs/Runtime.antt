@@ -8,7 +8,7 @@ use Rattle.flat_meaning.specs.declared.instruction.FlatInstruction.{FlatInstruct
 use Rattle.flat_meaning.specs.State.{State}
 use Rattle.flat_routines.specs.Effects.{with_shown}
 use Rattle.flat_routines.specs.Routine.{Outcome, Does}
-use Rattle.flat_actions.specs.Actions.{Ground, context_in}
+use Rattle.flat_actions.specs.Actions.{Basis, context_in}
 
 -- they are not shown
 pub runtime_not_shown : (c : Context) → c.is_runtime ≡ true → (a n : ℕ) (kind : AccessKind) (accesses : List Access)
@@ -17,11 +17,11 @@ runtime_not_shown c runtime a n kind accesses =
     ap (λ z. if not z && is_of_objects c.sizes a n
     then accesses ++ record { address = a; size = n; kind = kind } ∷ [] else accesses) runtime
 
--- what a routine does in functions of the runtime, it does under a ground that is one of them
-pub does_in : (ground : Ground) → ground.is_runtime ≡ true → (charge weight : ℕ) (r : List FlatInstruction)
+-- what a routine does in functions of the runtime, it does under a basis that is one of them
+pub does_in : (basis : Basis) → basis.is_runtime ≡ true → (charge weight : ℕ) (r : List FlatInstruction)
     (P : State → Type 0) (B : State → ℕ) (Q : State → Outcome → Type 0)
-    → Does (record { sizes = ground.map; is_runtime = true; charge = charge; weight = weight }) r P B Q
-    → Does (context_in ground charge weight) r P B Q
-does_in ground runtime charge weight r P B Q does =
-    subst (λ b. Does (record { sizes = ground.map; is_runtime = b; charge = charge; weight = weight }) r P B Q)
+    → Does (record { sizes = basis.map; is_runtime = true; charge = charge; weight = weight }) r P B Q
+    → Does (context_in basis charge weight) r P B Q
+does_in basis runtime charge weight r P B Q does =
+    subst (λ b. Does (record { sizes = basis.map; is_runtime = b; charge = charge; weight = weight }) r P B Q)
     (sym runtime) does

@@ -32,7 +32,7 @@ use Rattle.flat_objects.specs.StandsFor.{Views, Keys}
 use Rattle.shadow_space.proofs.Entries.{agrees_shows, agrees_memory}
 use Rattle.space_routines.proofs.Quiet.{shows_both}
 use Rattle.flat_judging.specs.Judging.{IsSameBut}
-use Rattle.flat_actions.specs.Actions.{Ground, Pointer, IsHeldBy, IsFor, context_in, views_of, work_of}
+use Rattle.flat_actions.specs.Actions.{Basis, Pointer, IsHeldBy, IsFor, context_in, views_of, work_of}
 use Rattle.flat_actions.specs.Scanning.{IsScanned, IsScanRoutine}
 use Rattle.flat_actions.proofs.Judged.{after_judge}
 use Rattle.flat_actions.proofs.Standing.{for_still, spells_still, held_still, none_of_none, others_trans}
@@ -52,7 +52,7 @@ scan_registers h limit cursor t =
     register_of (h.value ∷ h.tag.base ∷ h.tag.bound ∷ h.tag.key ∷ h.tag.lock ∷ limit ∷ []) (cursor ∷ [])
     (t ∷ (t + 1) ∷ [])
 
-module _ (ground : Ground) (runtime : ground.is_runtime ≡ true) (mapped : AreMapped ground.map) (h : Held)
+module _ (basis : Basis) (runtime : basis.is_runtime ≡ true) (mapped : AreMapped basis.map) (h : Held)
     (limit cursor line t : ℕ)
     (apart : AreNoneOf (limit ∷ held_registers h) (cursor ∷ []))
     (below : AreBelow t (cursor ∷ limit ∷ held_registers h)) where
@@ -80,26 +80,26 @@ module _ (ground : Ground) (runtime : ground.is_runtime ≡ true) (mapped : AreM
     names = scan_registers h limit cursor t
 
     abbrev IsBefore : State → Type 0
-    IsBefore f = IsFor (views_of ground.map functions types ground.entry) k ground.IsGood x f
-        × IsHeldBy (views_of ground.map functions types ground.entry) k x.objects (Pointer h) v f.values
+    IsBefore f = IsFor (views_of basis.map functions types basis.entry) k basis.IsGood x f
+        × IsHeldBy (views_of basis.map functions types basis.entry) k x.objects (Pointer h) v f.values
         × IsCount l v n (f.values limit)
         × ((q : Place) × (judge 1 v x.objects ≡ Inside q))
 
-    scans : Does (context_in ground charge weight) (map (rename names) (own_turns l line)) IsBefore
+    scans : Does (context_in basis charge weight) (map (rename names) (own_turns l line)) IsBefore
         (λ f. 2 + 6 * work_of (scan_within n (behind_of l line) v line) x)
         (λ f. IsScanned v.word cursor t x f (scan_within n (behind_of l line) v line x))
     scans =
-        routine_that_may_end (context_in ground charge weight) 9 6 names (own_turns l line) IsBefore
+        routine_that_may_end (context_in basis charge weight) 9 6 names (own_turns l line) IsBefore
         (registers_rename ins (cursor ∷ []) (t ∷ (t + 1) ∷ []) t registers) (turns_fit l line)
         (λ f. 2 + 6 * work_of (scan_within n (behind_of l line) v line) x)
         (λ f u. Found (through names f) x v.word (scan_within n (behind_of l line) v line x) (Continues u))
         (λ f status report u. Found (through names f) x v.word (scan_within n (behind_of l line) v line x)
         (Halts status report u))
         (λ f. IsScanned v.word cursor t x f (scan_within n (behind_of l line) v line x))
-        (λ f w seen p. weaken (context_in ground charge weight) (own_turns l line)
+        (λ f w seen p. weaken (context_in basis charge weight) (own_turns l line)
         (2 + 6 * work_of (scan_within n (behind_of l line) v line) x)
         (2 + 6 * work_of (scan_within n (behind_of l line) v line) x) _ _ _ _ (omega arith) (split f)
-        (scans_alone ground runtime mapped line l functions types k x v n charge weight (through names f) seen (record {
+        (scans_alone basis runtime mapped line l functions types k x v n charge weight (through names f) seen (record {
           objects = p.0.objects;
           spells = record { word = p.1.0.word; tag = p.1.0.tag };
           sound = p.1.1;
@@ -166,10 +166,10 @@ module _ (ground : Ground) (runtime : ground.is_runtime ≡ true) (mapped : AreM
       (judged : IsFirstJudged h line t turns items)
       (functions : ℕ) (types : ℕ → ℕ) (k : Keys) (x : Source) (v : Value) (n charge weight : ℕ) where
     abbrev g : Views
-    g = views_of ground.map functions types ground.entry
+    g = views_of basis.map functions types basis.entry
 
     abbrev c : Context
-    c = context_in ground charge weight
+    c = context_in basis charge weight
 
     abbrev scanning : Run (List ℕ)
     scanning = scan_within n (behind_of l line) v line
@@ -234,7 +234,7 @@ module _ (ground : Ground) (runtime : ground.is_runtime ≡ true) (mapped : AreM
     scanned_from (Paused x') f f' o s i = absurd i
 
     first_scanned : Does c items
-        (λ f. IsFor g k ground.IsGood x f × IsHeldBy g k x.objects (Pointer h) v f.values
+        (λ f. IsFor g k basis.IsGood x f × IsHeldBy g k x.objects (Pointer h) v f.values
         × IsCount l v n (f.values limit))
         (λ f. 16 + 8 * work_of scanning x) (λ f. IsScanned v.word cursor t x f (scanning x))
     first_scanned = record {
@@ -247,7 +247,7 @@ module _ (ground : Ground) (runtime : ground.is_runtime ≡ true) (mapped : AreM
           let end = pc + 1 + length J + length turns in
           let len : end ≡ pc + length items =
           omega (arith, length-append J turns, ap length judged.items_are) in
-          let run = (judged.judges g k x.objects v 1 ground.is_runtime charge weight mapped).from code (pc + 1)
+          let run = (judged.judges g k x.objects v 1 basis.is_runtime charge weight mapped).from code (pc + 1)
           (sized f) (has_front code (pc + 1) J turns here.1) s.words
           (record {
             stands = p.0.objects;
@@ -278,7 +278,7 @@ module _ (ground : Ground) (runtime : ground.is_runtime ≡ true) (mapped : AreM
           (λ f. IsScanned v.word cursor t x f (scanning x))) turns_are
           (scans l functions types k x v n charge weight)).from code (pc + 1 + length J) f'
           (has_back code (pc + 1) J turns here.1) words (
-            for_still g k ground.IsGood x f f' u.memory u.shows p.0,
+            for_still g k basis.IsGood x f f' u.memory u.shows p.0,
             held_still g k x.objects (Pointer h) v [] t f f' u.others below.1.1 (none_of_none (held_registers h)) p.1,
             subst (IsCount l v n) (sym (u.others limit below.1.0 tt)) p.2,
             (q, e),
@@ -287,28 +287,28 @@ module _ (ground : Ground) (runtime : ground.is_runtime ≡ true) (mapped : AreM
 
 -- ---- up to the 0 byte, and at most so many bytes
 
-pub scans_string : (ground : Ground) → ground.is_runtime ≡ true → AreMapped ground.map → (h : Held) (cursor line t : ℕ)
+pub scans_string : (basis : Basis) → basis.is_runtime ≡ true → AreMapped basis.map → (h : Held) (cursor line t : ℕ)
     → AreNoneOf (held_registers h) (cursor ∷ []) → AreBelow t (cursor ∷ held_registers h)
     → (items : List FlatInstruction)
     → IsFirstJudged h line t (scan_turns h cursor line t) items
-    → IsScanRoutine ground (λ v. scan v line) h (λ f. Unit {0}) cursor t items
-scans_string ground runtime mapped h cursor line t apart below items judged functions types k x v charge weight =
+    → IsScanRoutine basis (λ v. scan v line) h (λ f. Unit {0}) cursor t items
+scans_string basis runtime mapped h cursor line t apart below items judged functions types k x v charge weight =
     record {
       from = λ code pc f has w p.
-          (first_scanned ground runtime mapped h h.value cursor line t (apart.0, apart) (below.0, (below.1.0, below.1))
+          (first_scanned basis runtime mapped h h.value cursor line t (apart.0, apart) (below.0, (below.1.0, below.1))
           false (scan_turns h cursor line t) items refl judged functions types k x v (reach v) charge weight).from code
           pc f has w (p.0, p.1, refl);
     }
 
-pub scans_at_most : (ground : Ground) → ground.is_runtime ≡ true → AreMapped ground.map
+pub scans_at_most : (basis : Basis) → basis.is_runtime ≡ true → AreMapped basis.map
     → (h : Held) (limit cursor line t : ℕ) → AreNoneOf (limit ∷ held_registers h) (cursor ∷ [])
     → AreBelow t (cursor ∷ limit ∷ held_registers h) → (items : List FlatInstruction)
     → IsFirstJudged h line t (scan_at_most_turns h cursor line limit t) items → (n : ℕ) → 1 ≤ n
-    → IsScanRoutine ground (λ v. scan_within n (done []) v line) h (λ f. f.values limit ≡ n) cursor t items
-scans_at_most ground runtime mapped h limit cursor line t apart below items judged n some functions types k x v charge
+    → IsScanRoutine basis (λ v. scan_within n (done []) v line) h (λ f. f.values limit ≡ n) cursor t items
+scans_at_most basis runtime mapped h limit cursor line t apart below items judged n some functions types k x v charge
     weight = record {
       from = λ code pc f has w p.
-          (first_scanned ground runtime mapped h limit cursor line t apart below true
+          (first_scanned basis runtime mapped h limit cursor line t apart below true
           (scan_at_most_turns h cursor line limit t)
           items refl judged functions types k x v n charge weight).from code pc f has w (p.0, p.1, (p.2, some));
     }

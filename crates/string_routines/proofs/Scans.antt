@@ -32,7 +32,7 @@ use Rattle.flat_routines.proofs.Steps.{has_front, has_back, has_self}
 use Rattle.flat_routines.proofs.Rules.{weaken, line_on, branch, arrived}
 use Rattle.flat_routines.proofs.Regions.{IsLaidOut, laid_out}
 use Rattle.flat_objects.specs.StandsFor.{Views, Keys, Spells, StandsFor, spell}
-use Rattle.flat_actions.specs.Actions.{Ground, context_in, views_of, work_of}
+use Rattle.flat_actions.specs.Actions.{Basis, context_in, views_of, work_of}
 use Rattle.moving_routines.proofs.Bytes.{object_allowed}
 use Rattle.string_routines.specs.Scanning.{scan_loop, at_limit}
 use Rattle.flat_actions.proofs.Looking.{IsAround, around, lives, reach_is}
@@ -238,13 +238,13 @@ string_of g k objects n b m ok st live t =
           subst (λ z. m z ≡ get_or o.bytes (a - o.address) 0) e ((st.here n live).bytes (a - o.address) (omega arith));
     }
 
-module _ (ground : Ground) (runtime : ground.is_runtime ≡ true) (mapped : AreMapped ground.map) (line : ℕ) (l : Bool)
+module _ (basis : Basis) (runtime : basis.is_runtime ≡ true) (mapped : AreMapped basis.map) (line : ℕ) (l : Bool)
     (functions : ℕ) (types : ℕ → ℕ) (k : Keys) (x : Source) (v : Value) (n charge weight : ℕ) where
   abbrev g : Views
-  g = views_of ground.map functions types ground.entry
+  g = views_of basis.map functions types basis.entry
 
   abbrev c : Context
-  c = context_in ground charge weight
+  c = context_in basis charge weight
 
   abbrev scanning : Run (List ℕ)
   scanning = scan_within n (behind_of l line) v line
@@ -277,7 +277,7 @@ module _ (ground : Ground) (runtime : ground.is_runtime ≡ true) (mapped : AreM
       let y = effects c (prepare l) f in
       let some = some_left l v n (f.values 5) p.count a in
       let n_is : suc (n - 1) ≡ n = omega arith in
-      let string = string_of g k x.objects a.number a.bounds f.memory (laid_out ground.map mapped) p.objects live tag in
+      let string = string_of g k x.objects a.number a.bounds f.memory (laid_out basis.map mapped) p.objects live tag in
       let has_loop = has_back code 0 (prepare l) (own_loop l line) has in
       let below = a.below in
       let r = scanned c runtime code (0 + length (prepare l)) line (limit_code l) (behind_of l line) (IsLeft l)

@@ -24,7 +24,7 @@ use Rattle.flat_routines.proofs.Steps.{has_front, has_back}
 use Rattle.flat_routines.proofs.Rules.{weaken}
 use Rattle.flat_objects.specs.StandsFor.{Views, Keys, Spells}
 use Rattle.flat_judging.specs.Judging.{IsJudgeRoutine}
-use Rattle.flat_actions.specs.Actions.{Ground, Pointer, Nowhere, IsHeldBy, IsFor, Leaves, context_in, views_of, work_of}
+use Rattle.flat_actions.specs.Actions.{Basis, Pointer, Nowhere, IsHeldBy, IsFor, Leaves, context_in, views_of, work_of}
 use Rattle.flat_actions.specs.Ranges.{IsByteMoveRoutine}
 use Rattle.flat_actions.specs.Scanning.{IsWorked, HasScanned, IsScanRoutine}
 use Rattle.flat_actions.proofs.Standing.{for_still, for_worked, spells_still}
@@ -45,13 +45,13 @@ copied dv v sv line =
     scan sv line >>= (λ bytes. written_run (length (bytes ++ 0 ∷ [])) dv v (bytes ++ 0 ∷ []) line)
 
 -- Registers: cur the cursor, cur + 1 the size, and those from cur + 2 on are free.
-module _ (ground : Ground) (runtime : ground.is_runtime ≡ true) (mapped : AreMapped ground.map)
-    (local : IsLocal ground.map ground.entry ground.IsGood) (line : ℕ) (to s : Held) (cur : ℕ)
+module _ (basis : Basis) (runtime : basis.is_runtime ≡ true) (mapped : AreMapped basis.map)
+    (local : IsLocal basis.map basis.entry basis.IsGood) (line : ℕ) (to s : Held) (cur : ℕ)
     (below_to : AreBelow cur (held_registers to)) (below_s : AreBelow cur (held_registers s))
     (scanning judging moving : List FlatInstruction)
-    (scans : IsScanRoutine ground (λ v. scan v line) s (λ f. Unit {0}) cur (cur + 1) scanning)
+    (scans : IsScanRoutine basis (λ v. scan v line) s (λ f. Unit {0}) cur (cur + 1) scanning)
     (judges : IsJudgeRoutine to (cur + 1) line (cur + 1 + 1) judging)
-    (moves : IsByteMoveRoutine ground.map to.value s.value (cur + 1) (cur + 1 + 1) moving) where
+    (moves : IsByteMoveRoutine basis.map to.value s.value (cur + 1) (cur + 1 + 1) moving) where
   abbrev rest : List FlatInstruction
   rest = size_code (cur + 1) s.value cur ++ (judging ++ moving)
 
@@ -61,18 +61,18 @@ module _ (ground : Ground) (runtime : ground.is_runtime ≡ true) (mapped : AreM
   module _ (functions : ℕ) (types : ℕ → ℕ) (k : Keys) (x : Source) (dv v sv : Value) (charge weight : ℕ)
       (sound : IsSoundTag functions x.objects dv.tag) where
     abbrev g : Views
-    g = views_of ground.map functions types ground.entry
+    g = views_of basis.map functions types basis.entry
 
     abbrev c : Context
-    c = context_in ground charge weight
+    c = context_in basis charge weight
 
     pub record IsToCopy (f : State) : Type 0 where
-      pub stands : IsFor g k ground.IsGood x f
+      pub stands : IsFor g k basis.IsGood x f
       pub spells : Spells g k dv to f.values
       pub source : IsHeldBy g k x.objects (Pointer s) sv f.values
 
     abbrev R : State → Completed (List ℕ) → Outcome → Type 0
-    R f r = Leaves g k ground.IsGood Nowhere cur x f
+    R f r = Leaves g k basis.IsGood Nowhere cur x f
         (on r (λ bytes. written_run (length (bytes ++ 0 ∷ [])) dv v (bytes ++ 0 ∷ []) line))
 
     -- how many steps what follows takes
@@ -116,11 +116,11 @@ module _ (ground : Ground) (runtime : ground.is_runtime ≡ true) (mapped : AreM
         subst (λ z. Reaches c code (behind bytes z) (Goes pc f') (pc + length rest) (R f (Gives bytes z)))
         (sym worked.same)
         (weaken c code (behind bytes y) (behind bytes y) (Goes pc f') (pc + length rest) _ (R f (Gives bytes y))
-        (omega arith) (λ o h. left_from g k ground.IsGood cur (cur + 1) x'.work x f f'
+        (omega arith) (λ o h. left_from g k basis.IsGood cur (cur + 1) x'.work x f f'
         (written_run (length (bytes ++ 0 ∷ [])) dv v (bytes ++ 0 ∷ []) line y) o (omega arith) s_since h)
-        ((string_writes ground runtime mapped local line to s.value cur (cur + 1) b judging moving judges moves
+        ((string_writes basis runtime mapped local line to s.value cur (cur + 1) b judging moving judges moves
         functions types k y dv v sv.word bytes charge weight sound bytes_small).from code pc f' has words (record {
-          stands = for_worked g k ground.IsGood x x'.work f' (for_still g k ground.IsGood x f f' i.memory i.shows
+          stands = for_worked g k basis.IsGood x x'.work f' (for_still g k basis.IsGood x f f' i.memory i.shows
               p.stands);
           spells = spells_still g k dv to (cur ∷ []) (cur + 1) f f' i.others
               (below_more cur (cur + 1) (held_registers to) (omega arith) below_to)
@@ -131,7 +131,7 @@ module _ (ground : Ground) (runtime : ground.is_runtime ≡ true) (mapped : AreM
         })))
 
     pub copies : Does c copy_items IsToCopy (λ f. 44 + 8 * work_of (copied dv v sv line) x)
-        (λ f. Leaves g k ground.IsGood Nowhere cur x f (copied dv v sv line x))
+        (λ f. Leaves g k basis.IsGood Nowhere cur x f (copied dv v sv line x))
     copies = record {
       from = λ code pc f has w p.
           let o = scan sv line x in

@@ -27,7 +27,7 @@ use Rattle.flat_routines.specs.Effects.{effects}
 use Rattle.flat_routines.specs.Metadata.{held_registers}
 use Rattle.flat_objects.specs.StandsFor.{Views, Keys, Spells}
 use Rattle.flat_judging.specs.Judging.{IsToJudge, IsSameBut, IsJudged, IsJudgeRoutine}
-use Rattle.flat_actions.specs.Actions.{Ground, IsFor, Nowhere, Leaves, context_in, views_of}
+use Rattle.flat_actions.specs.Actions.{Basis, IsFor, Nowhere, Leaves, context_in, views_of}
 use Rattle.flat_actions.specs.Ranges.{IsObjectRange, IsToMove, HasMovedBytes, IsByteMoveRoutine}
 use Rattle.flat_actions.proofs.Standing.{for_still, spells_still, none_of_none}
 use Rattle.moving_routines.proofs.Tagged.{IsLocal}
@@ -70,26 +70,26 @@ pub record IsFound (g : Views) (a : ℕ) (bytes : List ℕ) (m : Bytes) : Type 0
   pub range : IsObjectRange g.sizes a (length bytes + 1)
   pub small : a + length bytes < 2 ^ 63
 
-module _ (ground : Ground) (runtime : ground.is_runtime ≡ true) (mapped : AreMapped ground.map)
-    (local : IsLocal ground.map ground.entry ground.IsGood) (line : ℕ) (to : Held) (from cursor z : ℕ)
+module _ (basis : Basis) (runtime : basis.is_runtime ≡ true) (mapped : AreMapped basis.map)
+    (local : IsLocal basis.map basis.entry basis.IsGood) (line : ℕ) (to : Held) (from cursor z : ℕ)
     (below : AreBelow z (from ∷ cursor ∷ held_registers to)) (judging moving : List FlatInstruction)
     (judges : IsJudgeRoutine to z line (z + 1) judging)
-    (moves : IsByteMoveRoutine ground.map to.value from z (z + 1) moving)
+    (moves : IsByteMoveRoutine basis.map to.value from z (z + 1) moving)
     (functions : ℕ) (types : ℕ → ℕ) (k : Keys) (x : Source) (dv v : Value) (a : ℕ) (bytes : List ℕ)
     (charge weight : ℕ) (sound : IsSoundTag functions x.objects dv.tag)
     (bytes_small : (i : ℕ) → get_or (bytes ++ 0 ∷ []) i 0 < 256) where
   abbrev g : Views
-  g = views_of ground.map functions types ground.entry
+  g = views_of basis.map functions types basis.entry
 
   abbrev c : Context
-  c = context_in ground charge weight
+  c = context_in basis charge weight
 
   abbrev new : List ℕ
   new = bytes ++ 0 ∷ []
 
   -- the registers hold it, and a pointer to where it goes
   pub record IsToWrite (f : State) : Type 0 where
-    pub stands : IsFor g k ground.IsGood x f
+    pub stands : IsFor g k basis.IsGood x f
     pub spells : Spells g k dv to f.values
     pub start_is : f.values from ≡ a
     pub cursor_is : f.values cursor ≡ a + length bytes
@@ -102,7 +102,7 @@ module _ (ground : Ground) (runtime : ground.is_runtime ≡ true) (mapped : AreM
   keeps f f' s p =
       let b = below_more z z (held_registers to) (omega arith) below.1.1 in
       record {
-        stands = for_still g k ground.IsGood x f f' s.memory s.shows p.stands;
+        stands = for_still g k basis.IsGood x f f' s.memory s.shows p.stands;
         spells = spells_still g k dv to [] z f f' s.others b (none_of_none (held_registers to)) p.spells;
         start_is = s.others from below.0 tt ∙ p.start_is;
         cursor_is = s.others cursor below.1.0 tt ∙ p.cursor_is;
@@ -134,24 +134,24 @@ module _ (ground : Ground) (runtime : ground.is_runtime ≡ true) (mapped : AreM
         size_is = p.1;
         some = (let n = length-append bytes (0 ∷ []) in omega arith);
       })
-      (λ f o p h. h) (judges g k x.objects dv (length new) ground.is_runtime charge weight mapped)
+      (λ f o p h. h) (judges g k x.objects dv (length new) basis.is_runtime charge weight mapped)
 
   moves_it : (p : Place) → IsAllowed x.objects dv (length new) p
       → Does c moving IsSized (λ f. 16 + 8 * length new) (λ f. Either (HasWritten new dv.word (z + 1) f) Never)
   moves_it p allowed =
       does_weaken c moving (16 + 7 * length new) (16 + 8 * length new)
-      (IsToMove ground.map to.value from z (length new)) IsSized
+      (IsToMove basis.map to.value from z (length new)) IsSized
       (λ f. Either (HasMovedBytes to.value from (length new) (z + 1) f) Never)
       (λ f. Either (HasWritten new dv.word (z + 1) f) Never) (omega arith)
       (λ f q. record {
         size_is = q.1;
-        to_range = subst (λ d. IsObjectRange ground.map d (length new)) (sym q.0.spells.word)
+        to_range = subst (λ d. IsObjectRange basis.map d (length new)) (sym q.0.spells.word)
             (allowed_range g k x.objects f.memory dv (length new) p q.0.stands.objects allowed);
-        from_range = subst (λ d. IsObjectRange ground.map d (length new)) (sym q.0.start_is)
-            (subst (IsObjectRange ground.map a) (sym (length-append bytes (0 ∷ []))) q.0.found.range);
+        from_range = subst (λ d. IsObjectRange basis.map d (length new)) (sym q.0.start_is)
+            (subst (IsObjectRange basis.map a) (sym (length-append bytes (0 ∷ []))) q.0.found.range);
       })
       (λ f o q h. written f q o h)
-      (does_in ground runtime charge weight moving _ _ _ (moves (length new) charge weight))
+      (does_in basis runtime charge weight moving _ _ _ (moves (length new) charge weight))
     where
       written : (f : State) → IsSized f → (o : Outcome)
           → Either (HasMovedBytes to.value from (length new) (z + 1) f) Never o
@@ -172,9 +172,9 @@ module _ (ground : Ground) (runtime : ground.is_runtime ≡ true) (mapped : AreM
   whole = written_run (length new) dv v new line x
 
   judged_moves : Does c (judging ++ moving) IsSized (λ f. 10 + (16 + 8 * work_done whole x))
-      (λ f. Leaves g k ground.IsGood Nowhere (z + 1) x f whole)
+      (λ f. Leaves g k basis.IsGood Nowhere (z + 1) x f whole)
   judged_moves =
-      judged_writes ground.map mapped ground.entry ground.IsGood local functions types k (z + 1) x c judging moving dv v
+      judged_writes basis.map mapped basis.entry basis.IsGood local functions types k (z + 1) x c judging moving dv v
       new line IsSized 16 bytes_small sound (λ f p. p.0.stands)
       (λ f f' p s. (keeps f f' (since_same f f' s) p.0, s.others z (omega arith) tt ∙ p.1)) judges_it moves_it
 
@@ -201,21 +201,21 @@ module _ (ground : Ground) (runtime : ground.is_runtime ≡ true) (mapped : AreM
       }
 
   pub string_writes : Does c (size_code z from cursor ++ (judging ++ moving)) IsToWrite
-      (λ f. 2 + (10 + (16 + 8 * work_done whole x))) (λ f. Leaves g k ground.IsGood Nowhere z x f whole)
+      (λ f. 2 + (10 + (16 + 8 * work_done whole x))) (λ f. Leaves g k basis.IsGood Nowhere z x f whole)
   string_writes = record {
     from = λ code pc f has w p.
         let sizes = size_code z from cursor in
         let rest = judging ++ moving in
         let B = 10 + (16 + 8 * work_done whole x) in
-        let R = Leaves g k ground.IsGood Nowhere z x f whole in
+        let R = Leaves g k basis.IsGood Nowhere z x f whole in
         let f' = effects c sizes f in
         let h = counted f w p in
         let len : pc + 2 + length rest ≡ pc + length (sizes ++ rest) = omega arith in
         subst (λ e. Reaches c code (2 + B) (Goes pc f) e R) len
         (line_on c code sizes B pc f (pc + 2 + length rest) R (tt, (tt, tt)) (has_front code pc sizes rest has)
-        (weaken c code B B (Goes (pc + 2) f') (pc + 2 + length rest) (Leaves g k ground.IsGood Nowhere (z + 1) x f'
+        (weaken c code B B (Goes (pc + 2) f') (pc + 2 + length rest) (Leaves g k basis.IsGood Nowhere (z + 1) x f'
         whole)
-        R (omega arith) (λ o i. left_from g k ground.IsGood z (z + 1) x.work x f f' whole o (omega arith) h.since i)
+        R (omega arith) (λ o i. left_from g k basis.IsGood z (z + 1) x.work x f f' whole o (omega arith) h.since i)
         (judged_moves.from code (pc + 2) f' (has_back code pc sizes rest has)
         (quiet_words c sizes f (tt, (tt, tt)) w) (keeps f f' h.since p, h.size_is))));
   }

@@ -12,7 +12,7 @@ use Rattle.flat_routines.specs.declared.registers.Held.{Held}
 use Rattle.flat_routines.specs.Registers.{OthersStay}
 use Rattle.flat_routines.specs.Metadata.{ShowsNothing}
 use Rattle.flat_judging.specs.Judging.{IsJudgeRoutine}
-use Rattle.flat_actions.specs.Actions.{Ground}
+use Rattle.flat_actions.specs.Actions.{Basis}
 use Rattle.flat_actions.specs.Ranges.{IsByteMoveRoutine, IsFillRoutine}
 use Rattle.flat_actions.specs.Scanning.{IsScanRoutine}
 
@@ -31,13 +31,13 @@ size_code n from c = Operate Sub n c (Register from) ∷ Operate Add n n (Number
 
 -- A string is scanned, with a register for the cursor and one for the size behind it, the destination is judged, and
 -- the bytes are moved there. The three routines are known by what they do.
-pub record IsCopied (ground : Ground) (to from : Held) (line scratch : ℕ) (items : List FlatInstruction) : Type 0 where
+pub record IsCopied (basis : Basis) (to from : Held) (line scratch : ℕ) (items : List FlatInstruction) : Type 0 where
   pub scanning : List FlatInstruction
   pub judging : List FlatInstruction
   pub moving : List FlatInstruction
-  pub scans : IsScanRoutine ground (λ v. scan v line) from (λ f. Unit {0}) scratch (scratch + 1) scanning
+  pub scans : IsScanRoutine basis (λ v. scan v line) from (λ f. Unit {0}) scratch (scratch + 1) scanning
   pub judges : IsJudgeRoutine to (scratch + 1) line (scratch + 1 + 1) judging
-  pub moves : IsByteMoveRoutine ground.map to.value from.value (scratch + 1) (scratch + 1 + 1) moving
+  pub moves : IsByteMoveRoutine basis.map to.value from.value (scratch + 1) (scratch + 1 + 1) moving
   pub items_are : items ≡ scanning ++ (size_code (scratch + 1) from.value scratch ++ (judging ++ moving))
 
 -- ---- at most so many bytes

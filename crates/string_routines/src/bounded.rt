@@ -6,7 +6,7 @@ ghost use Rattle.source_meaning.specs.Strings.{strncpy as strncpy_of};
 ghost use Rattle.source_meaning.specs.Library.{argument};
 ghost use Rattle.flat_routines.specs.Registers.{AreBelow, AreDistinct, AreNoneOf};
 ghost use Rattle.flat_routines.specs.Metadata.{held_registers};
-ghost use Rattle.flat_actions.specs.Actions.{IsAction, Pointer, Word, runtime_ground};
+ghost use Rattle.flat_actions.specs.Actions.{IsAction, Pointer, Word, runtime_basis};
 ghost use Rattle.string_routines.specs.Copying.{IsFilledUp};
 
 use crate::scanning::scan_at_most;
@@ -43,7 +43,7 @@ pub fn strncpy<S: ShadowForm>(
     requires distinct { AreDistinct (held_registers into) }
     requires others { AreNoneOf (held_registers to) (held_registers into) }
     requires room { scratch + 16 ≤ 2 ^ 31 }
-    ensures { IfOk result (λ r. IsAction (runtime_ground map.now S.entry (S.IsGood map.now))
+    ensures { IfOk result (λ r. IsAction (runtime_basis map.now S.entry (S.IsGood map.now))
         (λ vs. strncpy_of (argument 0 vs) (argument 1 vs) (argument 2 vs) line)
         (Pointer to ∷ Pointer from ∷ Word size ∷ []) (Pointer into) scratch 60 8 r.items) }
 {

@@ -6,7 +6,7 @@ ghost use Rattle.source_meaning.specs.Strings.{strcpy as strcpy_of, strcat as st
 ghost use Rattle.source_meaning.specs.Library.{argument};
 ghost use Rattle.flat_routines.specs.Registers.{AreBelow, AreDistinct, AreNoneOf};
 ghost use Rattle.flat_routines.specs.Metadata.{held_registers};
-ghost use Rattle.flat_actions.specs.Actions.{IsAction, Pointer, runtime_ground};
+ghost use Rattle.flat_actions.specs.Actions.{IsAction, Pointer, runtime_basis};
 ghost use Rattle.string_routines.specs.Copying.{IsCopied};
 
 use crate::scanning::scan;
@@ -41,7 +41,7 @@ pub fn strcpy<S: ShadowForm>(
     requires distinct { AreDistinct (held_registers into) }
     requires others { AreNoneOf (held_registers to) (held_registers into) }
     requires room { scratch + 16 ≤ 2 ^ 31 }
-    ensures { IfOk result (λ r. IsAction (runtime_ground map.now S.entry (S.IsGood map.now))
+    ensures { IfOk result (λ r. IsAction (runtime_basis map.now S.entry (S.IsGood map.now))
         (λ vs. strcpy_of (argument 0 vs) (argument 1 vs) line) (Pointer to ∷ Pointer from ∷ []) (Pointer into) scratch
         49 8 r.items) }
 {
@@ -69,7 +69,7 @@ pub fn strcat<S: ShadowForm>(
     requires distinct { AreDistinct (held_registers into) }
     requires others { AreNoneOf (held_registers to) (held_registers into) }
     requires room { scratch + 16 ≤ 2 ^ 31 }
-    ensures { IfOk result (λ r. IsAction (runtime_ground map.now S.entry (S.IsGood map.now))
+    ensures { IfOk result (λ r. IsAction (runtime_basis map.now S.entry (S.IsGood map.now))
         (λ vs. strcat_of (argument 0 vs) (argument 1 vs) line) (Pointer to ∷ Pointer from ∷ []) (Pointer into) scratch
         65 8 r.items) }
 {
@@ -98,7 +98,7 @@ fn copied<S: ShadowForm>(
     requires to { AreBelow scratch (held_registers to) }
     requires from { AreBelow scratch (held_registers from) }
     requires room { scratch + 12 ≤ 2 ^ 31 }
-    ensures { IfOk result (λ r. IsCopied (runtime_ground map.now S.entry (S.IsGood map.now)) to from line scratch
+    ensures { IfOk result (λ r. IsCopied (runtime_basis map.now S.entry (S.IsGood map.now)) to from line scratch
         r.items) }
 {
     let scanned = scan::<S>(alloc, map, from, scratch, line, scratch + 1)?;

@@ -6,7 +6,7 @@ ghost use Rattle.source_meaning.specs.Strings.{strlen as strlen_of};
 ghost use Rattle.source_meaning.specs.Library.{argument};
 ghost use Rattle.flat_routines.specs.Registers.{AreBelow};
 ghost use Rattle.flat_routines.specs.Metadata.{held_registers};
-ghost use Rattle.flat_actions.specs.Actions.{IsAction, Pointer, Word, runtime_ground};
+ghost use Rattle.flat_actions.specs.Actions.{IsAction, Pointer, Word, runtime_basis};
 
 use crate::scanning::scan;
 use addr_map::AddrMap;
@@ -31,7 +31,7 @@ pub fn strlen<S: ShadowForm>(
     requires map { AreMapped map.now }
     requires below { AreBelow scratch (into ∷ held_registers string) }
     requires room { scratch + 16 ≤ 2 ^ 31 }
-    ensures { IfOk result (λ r. IsAction (runtime_ground map.now S.entry (S.IsGood map.now))
+    ensures { IfOk result (λ r. IsAction (runtime_basis map.now S.entry (S.IsGood map.now))
         (λ vs. strlen_of (argument 0 vs) line)
         (Pointer string ∷ []) (Word into) scratch 17 8 r.items) }
 {

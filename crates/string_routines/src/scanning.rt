@@ -8,7 +8,7 @@ ghost use Rattle.flat_routines.specs.Registers.{AreNoneOf, AreBelow};
 ghost use Rattle.flat_routines.specs.Metadata.{held_registers};
 ghost use Rattle.flat_actions.specs.Scanning.{IsScanRoutine};
 ghost use Rattle.string_routines.specs.Scanning.{IsFirstJudged, scan_turns, scan_at_most_turns};
-ghost use Rattle.flat_actions.specs.Actions.{runtime_ground};
+ghost use Rattle.flat_actions.specs.Actions.{runtime_basis};
 
 use addr_map::AddrMap;
 use flat_actions::joined;
@@ -35,7 +35,7 @@ pub fn scan<S: ShadowForm>(
     requires apart { AreNoneOf (held_registers string) (cursor ∷ []) }
     requires below { AreBelow scratch (cursor ∷ held_registers string) }
     requires room { scratch + 8 ≤ 2 ^ 31 }
-    ensures { IfOk result (λ r. IsScanRoutine (runtime_ground map.now S.entry (S.IsGood map.now)) (λ v. scan_of v line)
+    ensures { IfOk result (λ r. IsScanRoutine (runtime_basis map.now S.entry (S.IsGood map.now)) (λ v. scan_of v line)
         string (λ f. Unit {0}) cursor scratch r.items) }
 {
     scan_instructions(alloc, string, cursor, line, scratch)
@@ -57,7 +57,7 @@ pub fn scan_at_most<S: ShadowForm>(
     requires below { AreBelow scratch (cursor ∷ limit ∷ held_registers string) }
     requires room { scratch + 8 ≤ 2 ^ 31 }
     ensures { IfOk result (λ r. (n : ℕ) → 1 ≤ n
-        → IsScanRoutine (runtime_ground map.now S.entry (S.IsGood map.now)) (λ v. scan_within n (done []) v line) string
+        → IsScanRoutine (runtime_basis map.now S.entry (S.IsGood map.now)) (λ v. scan_within n (done []) v line) string
         (λ f. f.values limit ≡ n) cursor scratch r.items) }
 {
     scan_at_most_instructions(alloc, string, cursor, line, limit, scratch)

@@ -7,12 +7,12 @@ use Rattle.access_routines.specs.Holding.{scalar_in, holder_in}
 use Rattle.access_routines.specs.Accessing.{IsCheckedLoad, load_steps}
 use Rattle.access_routines.proofs.Judged.{both_tests_then, checked_does}
 use Rattle.access_routines.proofs.checked.checked_load.Goals as goal
-use Rattle.flat_actions.specs.Actions.{program_ground}
+use Rattle.flat_actions.specs.Actions.{program_basis}
 
 pub returns : goal.returns
 returns g c =
     let a = c.args in
-    let ground = program_ground a.map.now g.S.ShadowForm.entry (g.S.ShadowForm.IsGood a.map.now) in
+    let basis = program_basis a.map.now g.S.ShadowForm.entry (g.S.ShadowForm.IsGood a.map.now) in
     let s = scalar_in a.into in
     let n = scalar_size s in
     let access = c.in_ok-access.access.items in
@@ -22,7 +22,7 @@ returns g c =
     let same = both_tests_then a.pointer a.line a.scratch c.size.result n c.in_ok-code.code.items c.deref.result.now
     access
     c.in_ok-code.ensures size c.deref.ensures.value in
-    subst (IsCheckedLoad ground a.pointer a.into a.line a.scratch) (sym same)
-    (checked_does ground c.requires.map a.pointer n a.line a.scratch c.requires.pointer some (omega arith) [] tt
+    subst (IsCheckedLoad basis a.pointer a.into a.line a.scratch) (sym same)
+    (checked_does basis c.requires.map a.pointer n a.line a.scratch c.requires.pointer some (omega arith) [] tt
     (holder_in a.into) (load_steps a.into) access (λ vs o. on o (read_scalar s (argument 0 vs).word))
     (λ vs e x. refl) (c.in_ok-access.ensures a.line))

@@ -3,7 +3,7 @@ use Rattle.std.proofs.lemmas.Result.{IfOk-weaker}
 use Rattle.comparing_routines.specs.Comparing.{IsMemcmp}
 use Rattle.comparing_routines.proofs.RangesCompared.{memcmp_does}
 use Rattle.comparing_routines.proofs.comparing.memcmp.Goals as goal
-use Rattle.flat_actions.specs.Actions.{runtime_ground}
+use Rattle.flat_actions.specs.Actions.{runtime_basis}
 
 pub returns : goal.returns
 returns g c =
@@ -12,7 +12,7 @@ returns g c =
     let good = g.S.ShadowForm.IsGood a.map.now in
     let q = c.requires in
     IfOk-weaker _ _ _
-    (λ r e. subst (IsMemcmp (runtime_ground a.map.now entry good) a.left a.right a.size a.into a.line a.scratch) (sym e)
+    (λ r e. subst (IsMemcmp (runtime_basis a.map.now entry good) a.left a.right a.size a.into a.line a.scratch) (sym e)
     (memcmp_does a.map.now entry good a.left a.right a.size a.into a.line a.scratch q.map q.left_apart q.right_apart
     q.left q.right q.results))
     c.memcmp_instructions.ensures

@@ -4,7 +4,7 @@ use Rattle.moving_routines.specs.Library.{MovesObjects}
 use Rattle.flat_actions.proofs.ByParts.{joined_are, by_body}
 use Rattle.moving_routines.proofs.Acts.{moves_as}
 use Rattle.moving_routines.proofs.library.memmove.Goals as goal
-use Rattle.flat_actions.specs.Actions.{runtime_ground}
+use Rattle.flat_actions.specs.Actions.{runtime_basis}
 
 pub returns : goal.returns
 returns g c =
@@ -16,7 +16,7 @@ returns g c =
     (c.as_slice-4.ensures.value ∙ rest) in
     let items = by_body (guarded_code a.size a.to a.into) _ _ _ c.in_ok-code.ensures
     (c.as_slice-5.ensures.value ∙ whole) in
-    let moves = subst (MovesObjects (runtime_ground a.map.now entry IsGood) a.to a.from a.size a.into a.line a.scratch)
+    let moves = subst (MovesObjects (runtime_basis a.map.now entry IsGood) a.to a.from a.size a.into a.line a.scratch)
     (sym items)
     (moves_as a.map.now c.requires.map entry IsGood a.to a.from a.size a.into a.line a.scratch c.requires.to
     c.requires.from c.requires.size c.requires.into c.requires.distinct c.requires.others c.in_ok-first.first.items

@@ -4,7 +4,7 @@ use Rattle.moving_routines.specs.Library.{SetsObjects}
 use Rattle.flat_actions.proofs.ByParts.{joined_are, by_body}
 use Rattle.moving_routines.proofs.Sets.{sets_as}
 use Rattle.moving_routines.proofs.library.memset.Goals as goal
-use Rattle.flat_actions.specs.Actions.{runtime_ground}
+use Rattle.flat_actions.specs.Actions.{runtime_basis}
 
 pub returns : goal.returns
 returns g c =
@@ -14,7 +14,7 @@ returns g c =
     let whole = joined_are _ _ _ _ _ c.in_ok-whole.ensures c.as_slice.ensures.value c.as_slice-2.ensures.value in
     let items = by_body (guarded_code a.size a.to a.into) _ _ _ c.in_ok-code.ensures
     (c.as_slice-3.ensures.value ∙ whole) in
-    subst (SetsObjects (runtime_ground a.map.now entry IsGood) a.to a.byte a.size a.into a.line a.scratch) (sym items)
+    subst (SetsObjects (runtime_basis a.map.now entry IsGood) a.to a.byte a.size a.into a.line a.scratch) (sym items)
     (sets_as a.map.now c.requires.map entry IsGood
     (λ m m' keep good. c.entries_are_local.ensures a.map.now m m' c.requires.map keep good) a.to a.byte a.size a.into
     a.line a.scratch c.requires.to c.requires.byte c.requires.size c.requires.into c.requires.distinct

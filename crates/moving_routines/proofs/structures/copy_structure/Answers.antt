@@ -4,7 +4,7 @@ use Rattle.moving_routines.specs.Structures.{CopiesStructure}
 use Rattle.flat_actions.proofs.ByParts.{by_body}
 use Rattle.moving_routines.proofs.Copies.{copies_as}
 use Rattle.moving_routines.proofs.structures.copy_structure.Goals as goal
-use Rattle.flat_actions.specs.Actions.{runtime_ground}
+use Rattle.flat_actions.specs.Actions.{runtime_basis}
 
 pub returns : goal.returns
 returns g c =
@@ -14,7 +14,7 @@ returns g c =
     let items = by_body (λ body. Constant a.scratch a.size ∷ body) _ _ _ c.in_ok-code.ensures
     c.as_slice.ensures.value in
     record {
-      does = subst (CopiesStructure (runtime_ground a.map.now entry IsGood) a.size a.to a.from a.scratch) (sym items)
+      does = subst (CopiesStructure (runtime_basis a.map.now entry IsGood) a.size a.to a.from a.scratch) (sym items)
           (copies_as a.map.now c.requires.map entry IsGood a.to a.from a.size a.scratch c.ranges.size.fits c.requires.to
           c.requires.from c.in_ok-act.act.items c.in_ok-act.ensures.does);
     }

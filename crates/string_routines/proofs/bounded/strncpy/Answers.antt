@@ -2,7 +2,7 @@ use Rattle.std.proofs.Common.{[], ◌∷◌, ◌+◌, ◌++◌, refl, sym, ap, �
 use Rattle.std.proofs.lemmas.Result.{IfOk-weaker}
 use Rattle.source_meaning.specs.Strings.{strncpy as strncpy_of}
 use Rattle.source_meaning.specs.Library.{argument}
-use Rattle.flat_actions.specs.Actions.{IsAction, Pointer, Word, runtime_ground}
+use Rattle.flat_actions.specs.Actions.{IsAction, Pointer, Word, runtime_basis}
 use Rattle.flat_actions.specs.Lists.{guarded_code}
 use Rattle.string_routines.specs.Copying.{count_code, tail_code}
 use Rattle.string_routines.proofs.BoundedActs.{strncpy_acts}
@@ -13,7 +13,7 @@ pub returns : goal.returns
 returns g c =
     let a = c.args in
     let t = a.scratch in
-    let ground = runtime_ground a.map.now g.S.ShadowForm.entry (g.S.ShadowForm.IsGood a.map.now) in
+    let basis = runtime_basis a.map.now g.S.ShadowForm.entry (g.S.ShadowForm.IsGood a.map.now) in
     let q = c.in_ok-writing.ensures in
     let scanned = c.in_ok-scanned.scanned.items in
     let judging = c.in_ok-judging.judging.items in
@@ -24,10 +24,10 @@ returns g c =
     let act = joined_are _ _ _ scanned (judging ++ writing) c.in_ok-act.ensures c.deref-3.ensures.value
     (c.deref-4.ensures.value ∙ rest) in
     IfOk-weaker _ _ _
-    (λ r e. subst (IsAction ground (λ vs. strncpy_of (argument 0 vs) (argument 1 vs) (argument 2 vs) a.line)
+    (λ r e. subst (IsAction basis (λ vs. strncpy_of (argument 0 vs) (argument 1 vs) (argument 2 vs) a.line)
     (Pointer a.to ∷ Pointer a.from ∷ Word a.size ∷ []) (Pointer a.into) t 60 8)
     (sym (e ∙ ap (guarded_code a.size a.to a.into) (c.deref-5.ensures.value ∙ act)))
-    (strncpy_acts ground refl c.requires.map (λ m m' keep good. c.entries_are_local.ensures a.map.now m m'
+    (strncpy_acts basis refl c.requires.map (λ m m' keep good. c.entries_are_local.ensures a.map.now m m'
     c.requires.map
     keep good) a.to a.from a.size a.into a.line t c.requires.to c.requires.from c.requires.size c.requires.into
     c.requires.distinct c.requires.others scanned judging q.moving q.filling c.in_ok-scanned.ensures

@@ -4,7 +4,7 @@ use Rattle.string_routines.specs.Copying.{size_code}
 use Rattle.string_routines.proofs.Made.{is_copied}
 use Rattle.flat_actions.proofs.ByParts.{joined_are}
 use Rattle.string_routines.proofs.copying.copied.Goals as goal
-use Rattle.flat_actions.specs.Actions.{runtime_ground}
+use Rattle.flat_actions.specs.Actions.{runtime_basis}
 
 pub returns : goal.returns
 returns g c =
@@ -14,7 +14,7 @@ returns g c =
     let moving = c.in_ok-moving.moving.items in
     let sizes = size_code (a.scratch + 1) a.from.value a.scratch in
     IfOk-weaker _ _ _
-    (λ r e. is_copied (runtime_ground a.map.now g.S.ShadowForm.entry (g.S.ShadowForm.IsGood a.map.now)) a.to a.from
+    (λ r e. is_copied (runtime_basis a.map.now g.S.ShadowForm.entry (g.S.ShadowForm.IsGood a.map.now)) a.to a.from
     a.line a.scratch _ scanned judging moving c.in_ok-scanned.ensures c.in_ok-judging.ensures c.in_ok-moving.ensures
     (joined_are _ _ _ scanned (sizes ++ (judging ++ moving)) e c.deref-4.ensures.value
     (c.deref-5.ensures.value ∙ joined_are _ _ _ sizes (judging ++ moving) c.in_ok-rest.ensures refl

@@ -1,0 +1,34 @@
+//! Laws of what the routines do and take for granted, each as the contract of a function that does nothing.
+
+ghost use Rattle.std.specs.Prelude.{◌≡◌, ℕ, ◌≤◌, [], true};
+ghost use Rattle.addr_map.specs.Places.{MapSizes, AreMapped};
+ghost use Rattle.obj_memory.specs.declared.object.Storage.{Storage};
+ghost use Rattle.obj_memory.specs.declared.object.Storage.TheVariants.{Automatic};
+ghost use Rattle.obj_memory.specs.Objects.{Objects, object_at, with_new, with_dead, with_zeroed};
+ghost use Rattle.obj_memory.specs.Sound.{KeepsObjects};
+ghost use Rattle.flat_meaning.specs.Memory.{Bytes};
+ghost use Rattle.flat_routines.specs.Metadata.{View};
+ghost use Rattle.flat_objects.specs.StandsFor.{Keys, StandsFor};
+ghost use Rattle.heap_space.specs.Table.{IsTableGood};
+ghost use Rattle.flat_actions.specs.Actions.{views_of};
+ghost use Rattle.allocating_routines.specs.Premises.{HaveBytes};
+ghost use Rattle.allocating_routines.specs.Zeroing.{IsZeroed};
+
+/// Where the bytes of a live object become zero, and its words words without a pointer, as by `zero`, the memory stands
+/// for the objects with that one set to zero.
+pub fn a_zeroed_object_is_zero()
+    ensures { (map : MapSizes) (functions : ℕ) (types : ℕ → ℕ) (entry : View) (k : Keys) (objects : Objects) (n : ℕ)
+        (m m' : Bytes) → AreMapped map → StandsFor (views_of map functions types entry) k objects m
+        → IsTableGood map m → (object_at objects n).is_live ≡ true
+        → IsZeroed map entry (object_at objects n).address (object_at objects n).size m m'
+        → StandsFor (views_of map functions types entry) k (with_zeroed n objects) m' }
+{}
+
+/// Live automatic objects have bytes still when one is made that has, when one dies, and when bytes and tags are written.
+pub fn objects_have_bytes_still()
+    ensures none { HaveBytes [] }
+    ensures new { (storage : Storage) (address size : ℕ) (objects : Objects) → (storage ≡ Automatic → 1 ≤ size)
+        → HaveBytes objects → HaveBytes (with_new storage address size objects) }
+    ensures dead { (n : ℕ) (objects : Objects) → HaveBytes objects → HaveBytes (with_dead n objects) }
+    ensures kept { (old new : Objects) → KeepsObjects old new → HaveBytes old → HaveBytes new }
+{}

@@ -173,12 +173,11 @@ module _ (map : MapSizes) (mapped : AreMapped map) (functions : ℕ) (types : �
         some_live = ap (λ os. (object_at os (length old)).is_live) objects
             ∙ live_at (length old) (omega arith) more;
         some_home = between_home vs (length old) (length old) (omega arith) (omega arith);
-        under = λ n h. (let q = home_between vs (length old) n h in let lo = q.0 in let hi = last n q.1 in
-            (
-              omega arith,
-              ap (λ os. (object_at os n).storage) objects ∙ automatic_at n lo hi,
-              ap (λ y. y.lock) (held_after (length old) lock k n lo) ∙ sym at,
-            ));
+        under = λ n h. (let q = home_between vs (length old) n h in let lo = q.0 in let hi = last n q.1 in (
+          omega arith,
+          ap (λ os. (object_at os n).storage) objects ∙ automatic_at n lo hi,
+          ap (λ y. y.lock) (held_after (length old) lock k n lo) ∙ sym at,
+        ));
         home = λ n live same. (let live' : (object_at new n).is_live ≡ true =
             ap (λ os. (object_at os n).is_live) (sym objects) ∙ live in
             let made = live_is_made new n live' in

@@ -20,7 +20,8 @@ pub fn joined(
     Ok(r)
 }
 
-/// A body that is passed over where a condition holds. One of 2^32 instructions, which no branch passes over, is refused
+/// A body that is passed over where a condition holds. One of 2^32 instructions, which no branch passes over, is
+/// refused
 /// as memory that fails.
 pub fn unless(
     alloc: Global,

@@ -61,8 +61,10 @@ use Rattle.allocating_routines.specs.Births.{with_key, IsBlockMade}
 use Rattle.allocating_routines.specs.Allocating.{IsAllocateRoutine, keys_code, untagged, key_test, whole_bounds}
 use Rattle.allocating_routines.specs.Allocating.{make_code}
 use Rattle.allocating_routines.specs.Allocating.{malloc_code}
-use Rattle.allocating_routines.proofs.Stretches.{IsDone, stretch_on, goes_past, goes_into, shows_both, shows_worked}
-use Rattle.allocating_routines.proofs.Stretches.{words_worked, are_equal, are_not_equal, is_less, is_not_less}
+use Rattle.space_routines.proofs.Quiet.{shows_both, shows_worked}
+use Rattle.allocating_routines.proofs.Stretches.{IsDone, stretch_on, goes_past, goes_into}
+use Rattle.space_routines.proofs.Quiet.{worked_words}
+use Rattle.allocating_routines.proofs.Stretches.{are_equal, are_not_equal, is_less, is_not_less}
 use Rattle.allocating_routines.proofs.Zeroed.{AreLocal}
 use Rattle.allocating_routines.proofs.FreeLocks.{free_for_a_block}
 use Rattle.allocating_routines.proofs.BlockBirth.{LiesInHeap, place_lies, held_after, keys_keep, block_born}
@@ -535,10 +537,10 @@ module _ (map : MapSizes) (mapped : AreMapped map) (entry : View) (IsGood : Byte
         (next c code 14 ((42 + 5 * z) + (2 + 0)) (Goes (behind pc + 3) (worked c (worked c s3)))
         (behind pc + 3 + length fresh) (pc + length whole)
         (HasFresh map into.tag.key into.tag.lock (t + 4) (worked c (worked c s3))) Never R
-        (words_worked c (worked c s3) (words_worked c s3 w3))
+        (worked_words c (worked c s3) (worked_words c s3 w3))
         ((freshens true charge weight).from code (behind pc + 3) (worked c (worked c s3))
         (has_front code (behind pc + 3) fresh (zero ++ whole_bounds (t + 2) size into) at_fresh)
-        (words_worked c (worked c s3) (words_worked c s3 w3))
+        (worked_words c (worked c s3) (worked_words c s3 w3))
         (can_fresh s w f standing p found left s3 d3))
         (λ s4 w4 d4.
         let at4 = at4 s w f standing p found left s3 d3 s4 d4 in

@@ -29,7 +29,7 @@ use Rattle.flat_actions.specs.Actions.{AreSpacesGood, IsFor}
 use Rattle.flat_actions.specs.Actions.{views_of}
 use Rattle.flat_actions.proofs.Standing.{shown_still}
 use Rattle.allocating_routines.specs.Freeing.{IsBlockEnded}
-use Rattle.allocating_routines.proofs.Stretches.{shows_both}
+use Rattle.space_routines.proofs.Quiet.{shows_both}
 use Rattle.allocating_routines.proofs.Zeroed.{AreLocal}
 use Rattle.allocating_routines.proofs.BlockMemory.{good_by_table, locks_by_table, block_ended}
 use Rattle.allocating_routines.proofs.BlockDeath.{block_died}

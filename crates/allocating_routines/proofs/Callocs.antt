@@ -31,12 +31,14 @@ use Rattle.flat_objects.specs.StandsFor.{Views, Keys, Spells}
 use Rattle.shadow_space.proofs.Entries.{context_of, agrees_shows, agrees_memory}
 use Rattle.flat_actions.specs.Actions.{IsFor, Word, Pointer, AreHeldBy, Leaves, views_of, context_in, work_of}
 use Rattle.flat_actions.proofs.Standing.{for_still, given_still}
+use Rattle.space_routines.proofs.Quiet.{shows_both, shows_worked, worked_words}
+use Rattle.flat_actions.specs.Actions.{runtime_ground}
 use Rattle.allocating_routines.specs.Premises.{AreStanding}
-use Rattle.allocating_routines.specs.Allocating.{runtime_ground, IsAllocateRoutine, IsCallocRoutine, product_code}
+use Rattle.allocating_routines.specs.Allocating.{IsAllocateRoutine, IsCallocRoutine, product_code}
 use Rattle.allocating_routines.specs.Allocating.{null_code}
 use Rattle.allocating_routines.specs.Allocating.{calloc_code}
-use Rattle.allocating_routines.proofs.Stretches.{IsDone, stretch_on, goes_past, goes_into, shows_both, shows_worked}
-use Rattle.allocating_routines.proofs.Stretches.{words_worked, differ, do_not_differ, above_none, below_more}
+use Rattle.allocating_routines.proofs.Stretches.{IsDone, stretch_on, goes_past, goes_into}
+use Rattle.allocating_routines.proofs.Stretches.{differ, do_not_differ, above_none, below_more}
 use Rattle.allocating_routines.proofs.Leaving.{leaves_from}
 
 abbrev by_size : Bool → Setting → (size line : ℕ) → Source → Completed Value
@@ -197,7 +199,7 @@ module _ (map : MapSizes) (mapped : AreMapped map) (entry : View) (IsGood : Byte
         (leaves_from g k IsGood (Pointer into) t (t + 2) (omega arith) x s (worked c s2) m.memory
         (shows_worked c s s2 m.shows) m.others a)
         ((allocates set same_sizes functions types k x (v.word * u.word) charge weight).from code (pc + 2 + 5 + 1)
-        (worked c s2) at_branch.1 (words_worked c s2 w2) (
+        (worked c s2) at_branch.1 (worked_words c s2 w2) (
           for_still g k IsGood x s (worked c s2) m.memory (shows_worked c s s2 m.shows) f,
           low ∙ omega arith,
           standing,

@@ -40,6 +40,7 @@ use Rattle.heap_space.specs.Table.{block_total, block_rows, row_cell}
 use Rattle.heap_space.proofs.Lists.{rows_length}
 use Rattle.flat_actions.specs.Actions.{AreSpacesGood, IsFor, HasEnded, views_of}
 use Rattle.flat_actions.proofs.Standing.{shown_still, ended_still}
+use Rattle.space_routines.proofs.Quiet.{shows_both, shows_worked, worked_words}
 use Rattle.allocating_routines.specs.declared.entering.EntryRegisters.{EntryRegisters}
 use Rattle.allocating_routines.specs.Zeroing.{IsZeroed, HasZeroed, IsZeroRoutine}
 use Rattle.allocating_routines.specs.Allocating.{keys_code, key_test}
@@ -47,8 +48,8 @@ use Rattle.allocating_routines.specs.Births.{with_key, IsRangeMade}
 use Rattle.allocating_routines.specs.Entering.{block_bytes, CanEnter, registers_in, HasEntered, IsEntered}
 use Rattle.allocating_routines.specs.Entering.{IsEnterRoutine, round_code, room_code, room_test, end_of_block}
 use Rattle.allocating_routines.specs.Entering.{enter_code}
-use Rattle.allocating_routines.proofs.Stretches.{IsDone, stretch_on, goes_past, goes_into, shows_both, shows_worked}
-use Rattle.allocating_routines.proofs.Stretches.{words_worked, is_less, is_not_less}
+use Rattle.allocating_routines.proofs.Stretches.{IsDone, stretch_on, goes_past, goes_into}
+use Rattle.allocating_routines.proofs.Stretches.{is_less, is_not_less}
 use Rattle.allocating_routines.proofs.Zeroed.{AreLocal}
 use Rattle.allocating_routines.proofs.FreeLocks.{stack_laid_out, free_for_automatics}
 use Rattle.allocating_routines.proofs.BlockBirth.{held_after, keys_keep}
@@ -260,7 +261,7 @@ module _ (map : MapSizes) (mapped : AreMapped map) (entry : View) (IsGood : Byte
           goes_past c code (3 + bound) (pc + 5) (pc + 7) s1 Bgeu t (Register bytes) 1 (pc + length whole) R at_test.0
           (omega arith) (not_below (s1.values t) (s1.values bytes) (omega arith))
           (stretch_on c [] [] (t ∷ (t + 1) ∷ []) t key_registers (keys_code map 0 1) refl code bound (pc + 7) y
-          (pc + length whole) R (words_worked c s1 w1)
+          (pc + length whole) R (worked_words c s1 w1)
           (has_front code (pc + 7) (keys_code map t (t + 1)) (key_test map t line ++ (fresh ++ (zero ++ last))) at_rest)
           (keys_allowed map lie charge weight x.keys (through fr y) counted')
           (λ s2 w2 d2.
@@ -472,9 +473,9 @@ module _ (map : MapSizes) (mapped : AreMapped map) (entry : View) (IsGood : Byte
             (pc + length whole) R at_keys.0 (omega arith)
             (is_less (s2.values t) (map.budgets.keys % 2 ^ 64) (omega arith))
             (next c code 14 ((42 + 5 * extent) + (1 + 0)) (Goes (pc + 12) (worked c s2)) (pc + 12 + length fresh)
-            (pc + length whole) (HasFresh map to.key to.lock (t + 4) (worked c s2)) Never R (words_worked c s2 w2)
+            (pc + length whole) (HasFresh map to.key to.lock (t + 4) (worked c s2)) Never R (worked_words c s2 w2)
             ((freshens true charge weight).from code (pc + 12) (worked c s2)
-            (has_front code (pc + 12) fresh (zero ++ last) at_fresh) (words_worked c s2 w2) (can_fresh s2 d2))
+            (has_front code (pc + 12) fresh (zero ++ last) at_fresh) (worked_words c s2 w2) (can_fresh s2 d2))
             (λ s3 w3 d3.
             let first = first3 s2 d2 s3 d3 in let e = end_is in let space = stack_in_space map mapped in
             let s0 = space.0 in let s1 = space.1 in let bottom = can.separate.bottom in

@@ -43,8 +43,10 @@ use Rattle.heap_space.specs.Routines.{HasFound, IsFound, IsFindRoutine}
 use Rattle.flat_actions.specs.Actions.{IsFor, Pointer, IsHeldBy}
 use Rattle.flat_actions.specs.Actions.{views_of}
 use Rattle.allocating_routines.specs.Freeing.{life_test, found_test}
-use Rattle.allocating_routines.proofs.Stretches.{IsDone, stretch_on, goes_past, goes_into, shows_both, shows_worked}
-use Rattle.allocating_routines.proofs.Stretches.{words_worked, are_equal, are_not_equal, differ, do_not_differ}
+use Rattle.space_routines.proofs.Quiet.{shows_both, shows_worked}
+use Rattle.allocating_routines.proofs.Stretches.{IsDone, stretch_on, goes_past, goes_into}
+use Rattle.space_routines.proofs.Quiet.{worked_words}
+use Rattle.allocating_routines.proofs.Stretches.{are_equal, are_not_equal, differ, do_not_differ}
 use Rattle.allocating_routines.proofs.FoundRows.{parts_of_start, found_is_start, not_found_is_none}
 use Rattle.allocating_routines.proofs.SourceBlocks.{sought_in}
 use Rattle.allocating_routines.proofs.SourceFrees.{freed_untagged, freed_function, freed_dead}
@@ -188,7 +190,7 @@ module _ (map : MapSizes) (mapped : AreMapped map) (entry : View) (IsGood : Byte
         (differ (s.values h.tag.lock) 0 (λ e. let there = lock_there in let first = is_lock.first in
         let lie = locks_laid_out map mapped in let begins = lie.first in omega arith))
         (stretch_on c (h.tag.lock ∷ []) [] (t ∷ []) t load_registers (Load Ld 1 0 0 ∷ []) refl code bound
-        (pc + 1 + 1) (worked c s) end R (words_worked c s w) (has.1.1.0, tt) (load_allowed, tt)
+        (pc + 1 + 1) (worked c s) end R (worked_words c s w) (has.1.1.0, tt) (load_allowed, tt)
         (λ s1 w1 d1. on s1 w1 (loaded_by s1 d1)))
 
     -- it is dead
@@ -240,9 +242,9 @@ module _ (map : MapSizes) (mapped : AreMapped map) (entry : View) (IsGood : Byte
           (are_equal (s1.values t) (s1.values h.tag.key)
           (l.word ∙ f.objects.locks.live n live ∙ sym key_there ∙ sym (l.others h.tag.key below.1.1.1.0 tt)))
           (next c code (8 + 10 * count) bound (Goes (pc + 5) (worked c s1)) (pc + 5 + length find) end
-          (HasFound map h.value h.tag.key (t + 1) (t + 2) (t + 4) (worked c s1)) Never R (words_worked c s1 w1)
+          (HasFound map h.value h.tag.key (t + 1) (t + 2) (t + 4) (worked c s1)) Never R (worked_words c s1 w1)
           ((finds count true charge weight).from code (pc + 5) (worked c s1)
-          (has_front code (pc + 5) find (found_test (t + 2) line ++ rest) at_find) (words_worked c s1 w1)
+          (has_front code (pc + 5) find (found_test (t + 2) line ++ rest) at_find) (worked_words c s1 w1)
           (subst (IsTableGood map) (sym l.memory) f.spaces.table, ap (block_total map) l.memory))
           (λ s2 w2 d2. on s2 w2 (answered_by s1 s2 l d2))
           (λ status report s' never. absurd never)))
@@ -277,7 +279,7 @@ module _ (map : MapSizes) (mapped : AreMapped map) (entry : View) (IsGood : Byte
           let one = subst (λ o. IsFound o (s2.values (t + 1)) (s2.values (t + 2))) there a.found in
           goes_past c code bound (pc + 5 + length find) (pc + 5 + length find + 2) s2 Bne (t + 2) (Number 0) 1 end R
           at_found.0 (omega arith) (differ (s2.values (t + 2)) 0 (λ e. let o = one.0 in omega arith))
-          (on (worked c s2) (words_worked c s2 w2)
+          (on (worked c s2) (worked_words c s2 w2)
           (record {
             size = one.1 ∙ (starts z there).2;
             memory = a.memory;

@@ -35,13 +35,14 @@ use Rattle.lock_space.specs.Routines.{IsReleaseRoutine}
 use Rattle.heap_space.specs.Table.{block_total}
 use Rattle.heap_space.specs.Routines.{IsFindRoutine}
 use Rattle.heap_space.specs.Routines.{IsReleaseRoutine as IsUnlistRoutine}
-use Rattle.flat_actions.specs.Actions.{IsFor, Pointer, Nowhere, AreHeldBy, IsHeldBy, Leaves}
+use Rattle.flat_actions.specs.Actions.{IsFor, Pointer, Nowhere, AreHeldBy, IsHeldBy, Leaves, runtime_ground}
 use Rattle.flat_actions.specs.Actions.{views_of, context_in, work_of}
 use Rattle.flat_actions.proofs.Standing.{for_still, given_still, ended_still, keeps_same}
-use Rattle.allocating_routines.specs.Allocating.{runtime_ground}
 use Rattle.allocating_routines.specs.Freeing.{IsFreeRoutine, life_test, found_test, end_code, free_code}
-use Rattle.allocating_routines.proofs.Stretches.{goes_past, goes_into, shows_both, shows_worked}
-use Rattle.allocating_routines.proofs.Stretches.{words_worked, are_equal, are_not_equal}
+use Rattle.space_routines.proofs.Quiet.{shows_both, shows_worked}
+use Rattle.allocating_routines.proofs.Stretches.{goes_past, goes_into}
+use Rattle.space_routines.proofs.Quiet.{worked_words}
+use Rattle.allocating_routines.proofs.Stretches.{are_equal, are_not_equal}
 use Rattle.allocating_routines.proofs.Zeroed.{AreLocal}
 use Rattle.allocating_routines.proofs.Allocates.{rows_are_blocks}
 use Rattle.allocating_routines.proofs.SourceBlocks.{sought_in}
@@ -138,7 +139,7 @@ module _ (map : MapSizes) (mapped : AreMapped map) (entry : View) (IsGood : Byte
           has.1))
 
       tests : AreOutcomes map mapped entry IsGood h line t below find (unlist ++ unlock) finds functions types k x
-          v charge weight code (pc + 1) (pc + length whole) s1 has.1 (words_worked c s w) f1 held1 B R
+          v charge weight code (pc + 1) (pc + length whole) s1 has.1 (worked_words c s w) f1 held1 B R
       tests = record {
         bad = λ e. (
           (let z = work_is (o_is e) in let y = count_is in omega arith),
@@ -193,7 +194,7 @@ module _ (map : MapSizes) (mapped : AreMapped map) (entry : View) (IsGood : Byte
           (goes_into c code B pc s Beq h.value (Number 0) (length body) (pc + length whole) R has.0
           (are_not_equal (s.values h.value) 0 (λ e. some (sym held.0.word ∙ e)))
           (tested map mapped entry IsGood h line t below find (unlist ++ unlock) finds functions types k x v charge
-          weight code (pc + 1) (pc + length whole) s1 has.1 (words_worked c s w) f1 held1 B R tests))
+          weight code (pc + 1) (pc + length whole) s1 has.1 (worked_words c s w) f1 held1 B R tests))
 
     frees : Goal code pc s (free v line x)
     frees = ⊎_elim (λ null. frees_nothing null) (λ some. frees_some some) (cases_eq v.word 0)

@@ -1,5 +1,4 @@
 pub mod Stretches
-pub mod Joined
 pub mod Zeros
 pub mod Zeroed
 pub mod FreeLocks

@@ -13,8 +13,9 @@ use Rattle.flat_routines.specs.declared.registers.Held.{Held}
 use Rattle.flat_routines.specs.Routine.{HasAt, Reaches}
 use Rattle.flat_routines.specs.Metadata.{View}
 use Rattle.flat_actions.specs.Actions.{IsFor, Word, Pointer, AreHeldBy, Leaves, views_of, context_in, work_of}
+use Rattle.flat_actions.specs.Actions.{runtime_ground}
 use Rattle.allocating_routines.specs.Premises.{AreStanding}
-use Rattle.allocating_routines.specs.Allocating.{runtime_ground, IsAllocateRoutine, IsMallocRoutine}
+use Rattle.allocating_routines.specs.Allocating.{IsAllocateRoutine, IsMallocRoutine}
 
 pub malloc_does : (map : MapSizes) (entry : View) (IsGood : Bytes → Type 0) (size : ℕ) (into : Held) (line t : ℕ)
     (r : List FlatInstruction) → IsAllocateRoutine map entry IsGood size into line t r

@@ -41,11 +41,13 @@ use Rattle.flat_actions.specs.Actions.{IsFor, Word, Pointer, AreHeldBy, IsHeldBy
 use Rattle.flat_actions.specs.Actions.{work_of}
 use Rattle.flat_actions.specs.Ranges.{IsTaggedMoveRoutine}
 use Rattle.flat_actions.proofs.Standing.{for_still, ended_still}
+use Rattle.space_routines.proofs.Quiet.{shows_both, shows_worked, worked_words}
+use Rattle.flat_actions.specs.Actions.{runtime_ground}
 use Rattle.allocating_routines.specs.Premises.{AreStanding}
-use Rattle.allocating_routines.specs.Allocating.{runtime_ground, IsAllocateRoutine}
+use Rattle.allocating_routines.specs.Allocating.{IsAllocateRoutine}
 use Rattle.allocating_routines.specs.Freeing.{found_test}
 use Rattle.allocating_routines.specs.Reallocating.{IsReallocRoutine, tests_code, replace_code, realloc_code}
-use Rattle.allocating_routines.proofs.Stretches.{goes_past, goes_into, shows_both, shows_worked, words_worked}
+use Rattle.allocating_routines.proofs.Stretches.{goes_past, goes_into}
 use Rattle.allocating_routines.proofs.Stretches.{are_equal}
 use Rattle.allocating_routines.proofs.Stretches.{are_not_equal, above_none}
 use Rattle.allocating_routines.proofs.Zeroed.{AreLocal}
@@ -200,7 +202,7 @@ module _ (map : MapSizes) (mapped : AreMapped map) (entry : View) (IsGood : Byte
     null_reached e =
         let o = reallocs_null set v u line x e in
         let null : s.values h.value ≡ 0 = held.0.word ∙ e in
-        let w1 = words_worked c s w in
+        let w1 = worked_words c s w in
         let work : (state_of run).work - x.work ≡ work_of (allocate set z line) x = ap
         (λ o. (state_of o).work - x.work) o in
         weaken c code (suc ((60 + 20 * work_of (allocate set z line) x) + 1))
@@ -232,7 +234,7 @@ module _ (map : MapSizes) (mapped : AreMapped map) (entry : View) (IsGood : Byte
             (arrived c code 0 (worked c s3) (after_block + 1 + length (unless_code Beq into.value (Number 0) replace))
             end R end_is
             (subst (λ o. Leaves g k IsGood (Pointer into) t x s o (Continues (worked c s3))) (sym same)
-            (back (worked c s) (words_worked c s w) refl (shows_worked c s s itself) (λ r l none. refl) o
+            (back (worked c s) (worked_words c s w) refl (shows_worked c s s itself) (λ r l none. refl) o
             (Continues (worked c s3)) (again (worked c s) s3 o q))))
 
     -- ---- a block in place of the old one
@@ -268,7 +270,7 @@ module _ (map : MapSizes) (mapped : AreMapped map) (entry : View) (IsGood : Byte
         Then = (bound : ℕ) × (12 + 10 * block_total map s1.memory + bound ≤ B)
             × ((s2 : State) → IsOfWords s2
             → IsTested map mapped entry IsGood h line t old_below find [] finds functions types k x v charge weight code
-            (pc + 1) end s1 at_tests (words_worked c s w) f1 held (object_at x.objects n).size s2
+            (pc + 1) end s1 at_tests (worked_words c s w) f1 held (object_at x.objects n).size s2
             → Reaches c code bound (Goes after_tests s2) end R)
 
         run_replaced : {o : Completed Value} → a ≡ o → run ≡ replaced n z line o
@@ -369,7 +371,7 @@ module _ (map : MapSizes) (mapped : AreMapped map) (entry : View) (IsGood : Byte
                   unlock moves unlists unlocks functions types k x n z p q.live q.block lies charge weight s2
                   (f2 s2 w2 d2.memory (shows_both s s1 s2 (shows_worked c s s itself) d2.shows) d2.others)
                   (worked c (worked c s3)) y' (value ∙ q.start) locked sized wanted code (after_block + 1 + 1) end R
-                  (words_worked c (worked c s3) (words_worked c s3 w3)) at_guarded.1.1
+                  (worked_words c (worked c s3) (worked_words c s3 w3)) at_guarded.1.1
                   (omega (arith, inner_end, replace_length))
                   (λ s6 y6.
                   subst (λ o. Leaves g k IsGood (Pointer into) t x s o (Continues s6)) (sym r)
@@ -387,7 +389,7 @@ module _ (map : MapSizes) (mapped : AreMapped map) (entry : View) (IsGood : Byte
 
       outcomes : AreOutcomes map mapped entry IsGood h line t old_below find [] finds functions types k x v charge
           weight
-          code (pc + 1) end s1 at_tests (words_worked c s w) f1 held B R
+          code (pc + 1) end s1 at_tests (worked_words c s w) f1 held B R
       outcomes = record {
         bad = λ e. (
           (let z = work_is (run_is e) in let y = count_is in omega arith),
@@ -405,7 +407,7 @@ module _ (map : MapSizes) (mapped : AreMapped map) (entry : View) (IsGood : Byte
           (are_not_equal (s.values h.value) 0 (λ e. some (sym held.0.word ∙ e)))
           (tested map mapped entry IsGood h line t old_below find [] finds functions types k x v charge weight code
           (pc + 1)
-          end s1 at_tests (words_worked c s w) f1 held B R outcomes))
+          end s1 at_tests (worked_words c s w) f1 held B R outcomes))
 
     reallocs : Reaches c code (100 + 30 * ((state_of run).work - x.work)) (Goes pc s) end R
     reallocs = ⊎_elim (λ null. null_reached null) (λ some. some_reached some) (cases_eq v.word 0)

@@ -43,8 +43,9 @@ use Rattle.flat_actions.specs.Actions.{IsFor, Pointer, HasGiven, StaysElsewhere,
 use Rattle.flat_actions.specs.Ranges.{IsToMove, HasMovedTagged, IsTaggedMoveRoutine}
 use Rattle.flat_actions.proofs.Standing.{good_still, shown_still, spells_still, none_of_none}
 use Rattle.allocating_routines.specs.Reallocating.{lesser_code, replace_code}
-use Rattle.allocating_routines.proofs.Stretches.{IsDone, stretch_on, goes_past, goes_into, shows_both, shows_worked}
-use Rattle.allocating_routines.proofs.Stretches.{words_worked}
+use Rattle.space_routines.proofs.Quiet.{shows_both, shows_worked}
+use Rattle.allocating_routines.proofs.Stretches.{IsDone, stretch_on, goes_past, goes_into}
+use Rattle.space_routines.proofs.Quiet.{worked_words}
 use Rattle.allocating_routines.proofs.Zeroed.{AreLocal}
 use Rattle.allocating_routines.proofs.Allocates.{rows_are_blocks}
 use Rattle.allocating_routines.proofs.BlockBirth.{LiesInHeap}
@@ -170,14 +171,14 @@ module _ (map : MapSizes) (mapped : AreMapped map) (entry : View) (IsGood : Byte
       goes_into c code (1 + bound) pc s3 Bgeu size (Register (t + 1)) 1 end R has.0
       (is_below (s3.values size) (s3.values (t + 1)) (let a = old_size in let b = new_size in omega arith))
       (stretch_on c (size ∷ []) [] ((t + 1) ∷ []) t lesser_registers (Move 1 0 ∷ []) refl code bound (pc + 1)
-      (worked c s3) end R (words_worked c s3 w) (has.1.0, tt) (tt, tt)
+      (worked c s3) end R (worked_words c s3 w) (has.1.0, tt) (tt, tt)
       (λ s4 w4 q. (let e : pc + 2 ≡ pc + 1 + 1 = omega arith in
       subst (λ i. Reaches c code bound (Goes i s4) end R) e (on s4 w4 (other_lesser less s4 q))))))
       (λ (le : (object_at x.objects n).size ≤ z).
       goes_past c code (1 + bound) pc (pc + 2) s3 Bgeu size (Register (t + 1)) 1 end R has.0 (omega arith)
       (not_below (s3.values size) (s3.values (t + 1)) (let a = old_size in let b = new_size in omega arith))
       (weaken c code bound (1 + bound) (Goes (pc + 2) (worked c s3)) end R R (omega arith) (λ y q. q)
-      (on (worked c s3) (words_worked c s3 w) (moved_lesser le))))
+      (on (worked c s3) (worked_words c s3 w) (moved_lesser le))))
       (cases_lt z (object_at x.objects n).size)
 
   -- ---- the move

@@ -24,7 +24,8 @@ use Rattle.lock_space.proofs.Spaces.{AreLocksLaidOut, locks_laid_out, allowed_at
 use Rattle.heap_space.specs.Table.{block_total, block_rows, IsTableGood, KeepsButTable}
 use Rattle.heap_space.specs.Routines.{HasPlaced, IsPlacedIn, place_of, IsPlaceRoutine}
 use Rattle.allocating_routines.specs.Allocating.{keys_code, untagged}
-use Rattle.allocating_routines.proofs.Stretches.{IsDone, stretch_on, shows_both}
+use Rattle.space_routines.proofs.Quiet.{shows_both}
+use Rattle.allocating_routines.proofs.Stretches.{IsDone, stretch_on}
 
 -- ---- how many keys were made: 0 the number, 1 the next key
 

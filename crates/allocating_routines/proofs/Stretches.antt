@@ -18,7 +18,6 @@ use Rattle.flat_routines.specs.Registers.{AreBelow, IsNoneOf, OthersStay}
 use Rattle.flat_routines.specs.Routine.{HasAt, Outcome, Reaches, Either, Never}
 use Rattle.flat_routines.specs.Effects.{worked, effects, AreAllowed}
 use Rattle.flat_routines.specs.Renaming.{rename, all_fit, Agrees, through}
-use Rattle.flat_routines.specs.Metadata.{ShowsNothing}
 use Rattle.flat_routines.proofs.Rules.{taken, next, branch}
 use Rattle.flat_routines.proofs.Distinct.{AreRegisters, register_of, registers_rename, others_stay}
 use Rattle.flat_routines.proofs.Wrapped.{straight_routine}
@@ -41,15 +40,6 @@ above_none t x (y ∷ ys) h l = ((λ e. let a = h.0 in omega arith), above_none 
 pub below_more : (t u : ℕ) (ys : List ℕ) → AreBelow t ys → t ≤ u → AreBelow u ys
 below_more t u [] h l = tt
 below_more t u (y ∷ ys) h l = ((let a = h.0 in omega arith), below_more t u ys h.1 l)
-
-pub shows_both : (s s1 s2 : State) → ShowsNothing s s1 → ShowsNothing s1 s2 → ShowsNothing s s2
-shows_both s s1 s2 h k = record {
-  input = k.input ∙ h.input;
-  output = k.output ∙ h.output;
-  taken = k.taken ∙ h.taken;
-  accesses = k.accesses ∙ h.accesses;
-  turns = k.turns ∙ h.turns;
-}
 
 -- ---- a stretch over registers that are known by their places in lists
 
@@ -95,18 +85,6 @@ module _ (c : Context) (code : List FlatInstruction) where
       → Reaches c code b (Goes (pc + 1) (worked c s)) end R → Reaches c code (suc b) (Goes pc s) end R
   goes_into b pc s op x y past end R at e r =
       branch c code b pc s op x y past end R at (λ h. absurd (let no : true ≡ false = sym h ∙ e in cc)) (λ h. r)
-
-pub shows_worked : (c : Context) (s s1 : State) → ShowsNothing s s1 → ShowsNothing s (worked c s1)
-shows_worked c s s1 h = record {
-  input = h.input;
-  output = h.output;
-  taken = h.taken;
-  accesses = h.accesses;
-  turns = h.turns;
-}
-
-pub words_worked : (c : Context) (s : State) → IsOfWords s → IsOfWords (worked c s)
-words_worked c s w = record { values = w.values; memory = w.memory }
 
 -- the operands of branches
 

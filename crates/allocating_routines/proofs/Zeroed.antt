@@ -31,7 +31,8 @@ use Rattle.heap_space.proofs.Local.{good_kept as table_kept}
 use Rattle.flat_actions.specs.Actions.{AreSpacesGood}
 use Rattle.allocating_routines.specs.Zeroing.{IsToZero, IsZeroed, HasZeroed, IsZeroRoutine, word_bytes, begin_zero}
 use Rattle.allocating_routines.specs.Zeroing.{zero_until, to_the_end, zero_bytes, zero_code}
-use Rattle.allocating_routines.proofs.Stretches.{stretch_on, others_below, shows_both}
+use Rattle.space_routines.proofs.Quiet.{shows_both}
+use Rattle.allocating_routines.proofs.Stretches.{stretch_on, others_below}
 use Rattle.allocating_routines.proofs.Zeros.{Filling, fills}
 
 -- what holds of a form of the shadow space: entries depend on its bytes alone

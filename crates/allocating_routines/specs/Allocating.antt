@@ -1,5 +1,5 @@
 -- `malloc` and `calloc` in flat code.
-use Rattle.std.specs.Prelude.{◌≡◌, ℕ, ◌+◌, ◌*◌, true, List, [], ◌∷◌, ◌++◌}
+use Rattle.std.specs.Prelude.{◌≡◌, ℕ, ◌+◌, ◌*◌, List, [], ◌∷◌, ◌++◌}
 use Rattle.sb_base.specs.declared.ending.Ending.TheVariants.{Keys as KeysSpent}
 use Rattle.rv_isa.specs.declared.instruction.BranchOp.TheVariants.{Beq, Bne, Bltu}
 use Rattle.rv_isa.specs.declared.instruction.RegOp.TheVariants.{Add, Mul, Mulhu}
@@ -18,12 +18,9 @@ use Rattle.flat_routines.specs.declared.registers.Held.{Held}
 use Rattle.flat_routines.specs.Routine.{Does, unless_code}
 use Rattle.flat_routines.specs.Metadata.{View}
 use Rattle.flat_objects.specs.StandsFor.{Keys}
-use Rattle.flat_actions.specs.Actions.{Ground, IsFor, Word, Pointer, Leaves, IsActionIn, views_of, context_in, work_of}
+use Rattle.flat_actions.specs.Actions.{IsFor, Word, Pointer, Leaves, IsActionIn, views_of, context_in, work_of}
+use Rattle.flat_actions.specs.Actions.{runtime_ground}
 use Rattle.allocating_routines.specs.Premises.{AreStanding}
-
--- a function of the runtime
-abbrev pub runtime_ground : MapSizes → View → (Bytes → Type 0) → Ground
-runtime_ground map entry IsGood = record { map = map; entry = entry; IsGood = IsGood; is_runtime = true }
 
 -- A block of as many bytes as a register holds is allocated, or null given: from every state that stands for one of the
 -- source, under every setting with these sizes, within 60 steps and 20 for each unit of work.

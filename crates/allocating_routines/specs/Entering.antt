@@ -24,10 +24,10 @@ use Rattle.flat_routines.specs.Registers.{OthersStay}
 use Rattle.flat_routines.specs.Routine.{Does, Outcome, Continues, Halts, Either, Never}
 use Rattle.flat_routines.specs.Metadata.{View}
 use Rattle.flat_objects.specs.StandsFor.{Views, Keys}
-use Rattle.flat_actions.specs.Actions.{IsFor, KeepsHeld, HasEnded, views_of, context_in, work_of}
+use Rattle.flat_actions.specs.Actions.{IsFor, KeepsHeld, HasEnded, views_of, context_in, work_of, runtime_ground}
 use Rattle.allocating_routines.specs.declared.entering.EntryRegisters.{EntryRegisters}
 use Rattle.allocating_routines.specs.Premises.{HaveBytes}
-use Rattle.allocating_routines.specs.Allocating.{runtime_ground, keys_code, key_test}
+use Rattle.allocating_routines.specs.Allocating.{keys_code, key_test}
 
 -- ---- the objects of a block
 

@@ -18,8 +18,7 @@ use Rattle.lock_space.specs.Locks.{key_counter}
 use Rattle.lock_space.specs.Routines.{OtherLocksStay}
 use Rattle.heap_space.specs.Rows.{without_row}
 use Rattle.heap_space.specs.Table.{block_rows}
-use Rattle.flat_actions.specs.Actions.{AreSpacesGood, Pointer, Nowhere, IsAction}
-use Rattle.allocating_routines.specs.Allocating.{runtime_ground}
+use Rattle.flat_actions.specs.Actions.{AreSpacesGood, Pointer, Nowhere, IsAction, runtime_ground}
 
 -- within 20 steps and 26 for each unit of work
 abbrev pub IsFreeRoutine : MapSizes → View → (Bytes → Type 0) → (pointer : Held) → (line scratch : ℕ)

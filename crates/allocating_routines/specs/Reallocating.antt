@@ -12,9 +12,8 @@ use Rattle.flat_meaning.specs.Memory.{Bytes}
 use Rattle.flat_routines.specs.declared.registers.Held.{Held}
 use Rattle.flat_routines.specs.Routine.{unless_code}
 use Rattle.flat_routines.specs.Metadata.{View}
-use Rattle.flat_actions.specs.Actions.{Word, Pointer, IsActionIn}
+use Rattle.flat_actions.specs.Actions.{Word, Pointer, IsActionIn, runtime_ground}
 use Rattle.allocating_routines.specs.Premises.{AreStanding}
-use Rattle.allocating_routines.specs.Allocating.{runtime_ground}
 use Rattle.allocating_routines.specs.Freeing.{life_test, found_test}
 
 -- under every setting with these sizes, within 100 steps and 30 for each unit of work
@@ -40,9 +39,9 @@ abbrev pub replace_code : (move unlist unlock : List FlatInstruction) → (size 
 replace_code move unlist unlock size l = lesser_code size l ++ (move ++ (unlist ++ unlock))
 
 -- over a routine that finds a block, one that allocates one, and what replaces a block
-abbrev pub guarded_code : (find allocate replace : List FlatInstruction) → (old into : Held) → (line word found : ℕ)
+abbrev pub reallocating_code : (find allocate replace : List FlatInstruction) → (old into : Held) → (line word found : ℕ)
     → List FlatInstruction
-guarded_code find allocate replace old into line x found =
+reallocating_code find allocate replace old into line x found =
     unless_code Beq old.value (Number 0) (tests_code find old line x found)
     ++ (allocate ++ unless_code Beq old.value (Number 0) (unless_code Beq into.value (Number 0) replace))
 
@@ -50,4 +49,4 @@ guarded_code find allocate replace old into line x found =
 abbrev pub realloc_code : (find allocate move unlist unlock : List FlatInstruction) → (old : Held) → (size : ℕ)
     → (into : Held) → (line word lesser found : ℕ) → List FlatInstruction
 realloc_code find allocate move unlist unlock old size into line x l found =
-    guarded_code find allocate (replace_code move unlist unlock size l) old into line x found
+    reallocating_code find allocate (replace_code move unlist unlock size l) old into line x found

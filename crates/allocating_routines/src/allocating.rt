@@ -1,6 +1,6 @@
 //! `malloc` and `calloc`.
 
-ghost use Rattle.std.specs.Prelude.{◌≡◌, ℕ, ◌+◌, ◌≤◌, ◌<◌, ◌^◌, ◌++◌, IfOk, [], ◌∷◌, length};
+ghost use Rattle.std.specs.Prelude.{◌≡◌, ◌+◌, ◌≤◌, ◌<◌, ◌^◌, IfOk, [], ◌∷◌};
 ghost use Rattle.addr_map.specs.Places.{AreMapped};
 ghost use Rattle.flat_routines.specs.Registers.{AreBelow, AreDistinct, AreNoneOf};
 ghost use Rattle.flat_routines.specs.Metadata.{held_registers};
@@ -8,9 +8,9 @@ ghost use Rattle.allocating_routines.specs.Allocating.{IsAllocateRoutine, IsMall
 ghost use Rattle.allocating_routines.specs.Allocating.{untagged, key_test, whole_bounds, make_code, malloc_code};
 ghost use Rattle.allocating_routines.specs.Allocating.{product_code, null_code, calloc_code};
 
-use crate::lists::{joined, unless};
 use crate::zeroing::zero;
 use addr_map::{AddrMap, Region};
+use flat_actions::{joined, unless};
 use flat_meaning::{FlatInstruction, RightOperand};
 use flat_routines::Held;
 use rv_isa::{BranchOp, LoadOp, RegOp};

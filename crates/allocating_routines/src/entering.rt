@@ -1,18 +1,18 @@
 //! Blocks that are entered and left: all objects of a block are born under one lock word with one key, and die
 //! together.
 
-ghost use Rattle.std.specs.Prelude.{◌≡◌, ℕ, ◌+◌, ◌≤◌, ◌<◌, ◌^◌, ◌++◌, IfOk, [], ◌∷◌, length};
+ghost use Rattle.std.specs.Prelude.{◌≡◌, ◌+◌, ◌≤◌, ◌<◌, ◌^◌, ◌++◌, IfOk, [], ◌∷◌};
 ghost use Rattle.addr_map.specs.Places.{AreMapped};
 ghost use Rattle.flat_routines.specs.Registers.{AreBelow, AreDistinct, AreNoneOf};
-ghost use Rattle.allocating_routines.specs.Allocating.{keys_code, key_test};
+ghost use Rattle.allocating_routines.specs.Allocating.{key_test};
 ghost use Rattle.allocating_routines.specs.Entering.{registers_in, IsEnterRoutine, IsLeaveRoutine, round_code};
 ghost use Rattle.allocating_routines.specs.Entering.{room_code};
 ghost use Rattle.allocating_routines.specs.Entering.{room_test, end_of_block, enter_code};
 
 use crate::allocating::{key_test, keys_list};
-use crate::lists::joined;
 use crate::zeroing::zero;
 use addr_map::{AddrMap, Region};
+use flat_actions::joined;
 use flat_meaning::{FlatInstruction, RightOperand};
 use rv_isa::{BranchOp, RegOp};
 use sb_base::{Ending, Line};

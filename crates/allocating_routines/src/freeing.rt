@@ -1,13 +1,13 @@
 //! `free`.
 
-ghost use Rattle.std.specs.Prelude.{◌≡◌, ℕ, ◌+◌, ◌≤◌, ◌<◌, ◌^◌, ◌++◌, IfOk, [], ◌∷◌, length};
+ghost use Rattle.std.specs.Prelude.{◌≡◌, ◌+◌, ◌≤◌, ◌<◌, ◌^◌, IfOk};
 ghost use Rattle.addr_map.specs.Places.{AreMapped};
 ghost use Rattle.flat_routines.specs.Registers.{AreBelow};
 ghost use Rattle.flat_routines.specs.Metadata.{held_registers};
 ghost use Rattle.allocating_routines.specs.Freeing.{IsFreeRoutine, life_test, found_test, end_code, free_code};
 
-use crate::lists::{joined, unless};
 use addr_map::AddrMap;
+use flat_actions::{joined, unless};
 use flat_meaning::{FlatInstruction, RightOperand};
 use flat_routines::Held;
 use rv_isa::{BranchOp, LoadOp};

@@ -6,7 +6,6 @@ pub mod allocating;
 pub mod entering;
 pub mod freeing;
 pub mod laws;
-mod lists;
 pub mod reallocating;
 pub mod zeroing;
 

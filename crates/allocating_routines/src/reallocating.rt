@@ -1,16 +1,16 @@
 //! `realloc`.
 
-ghost use Rattle.std.specs.Prelude.{◌≡◌, ℕ, ◌+◌, ◌≤◌, ◌<◌, ◌^◌, ◌++◌, IfOk, [], ◌∷◌, length};
+ghost use Rattle.std.specs.Prelude.{◌≡◌, ◌+◌, ◌≤◌, ◌<◌, ◌^◌, IfOk, ◌∷◌};
 ghost use Rattle.addr_map.specs.Places.{AreMapped};
 ghost use Rattle.flat_routines.specs.Registers.{AreBelow, AreDistinct, AreNoneOf};
 ghost use Rattle.flat_routines.specs.Metadata.{held_registers};
 ghost use Rattle.allocating_routines.specs.Reallocating.{IsReallocRoutine, tests_code, lesser_code, replace_code};
-ghost use Rattle.allocating_routines.specs.Reallocating.{guarded_code};
+ghost use Rattle.allocating_routines.specs.Reallocating.{reallocating_code};
 
 use crate::allocating::allocate;
 use crate::freeing::{found_test, life_test};
-use crate::lists::{joined, unless};
 use addr_map::AddrMap;
+use flat_actions::{joined, unless};
 use flat_meaning::{FlatInstruction, RightOperand};
 use flat_routines::Held;
 use moving_routines::move_tagged;
@@ -84,7 +84,7 @@ fn realloc_list(
 ) -> Result<Vec<FlatInstruction>, AllocError>
     requires { scratch + 16 ≤ 2 ^ 31 }
     ensures { IfOk result
-        (λ r. r.items ≡ guarded_code find.now block.now replace.now old into line scratch (scratch + 2)) }
+        (λ r. r.items ≡ reallocating_code find.now block.now replace.now old into line scratch (scratch + 2)) }
 {
     let tests = tests_list(alloc, find, old, line, scratch, scratch + 2)?;
     let first = unless(

@@ -1,12 +1,12 @@
 //! Ranges of object space that are made zero.
 
-ghost use Rattle.std.specs.Prelude.{◌≡◌, ℕ, ◌+◌, ◌≤◌, ◌^◌, ◌++◌, IfOk, [], ◌∷◌};
+ghost use Rattle.std.specs.Prelude.{◌≡◌, ◌+◌, ◌≤◌, ◌^◌, IfOk, [], ◌∷◌};
 ghost use Rattle.addr_map.specs.Places.{AreMapped};
 ghost use Rattle.flat_routines.specs.Registers.{AreBelow};
 ghost use Rattle.allocating_routines.specs.Zeroing.{IsZeroRoutine, word_bytes, zero_bytes, zero_code};
 
-use crate::lists::joined;
 use addr_map::AddrMap;
+use flat_actions::joined;
 use flat_meaning::{FlatInstruction, RightOperand};
 use rv_isa::{BranchOp, RegOp, StoreOp};
 use shadow_space::ShadowForm;

@@ -17,6 +17,8 @@ use Rattle.flat_routines.proofs.Words.{same_metadata}
 use Rattle.flat_objects.specs.StandsFor.{Views, Keys, Spells, StandsFor}
 use Rattle.flat_actions.specs.Actions.{AreSpacesGood, IsShown, IsFor, Holder, Nowhere, Word, Pointer, registers_of}
 use Rattle.flat_actions.specs.Actions.{IsHeldBy, IsGivenIn, StaysElsewhere, KeepsHeld, HasGiven, HasEnded}
+use Rattle.flat_judging.specs.Judging.{IsSameBut}
+use Rattle.space_routines.proofs.Quiet.{shows_both}
 
 -- ---- states
 
@@ -130,4 +132,12 @@ ended_still e x n status report f f' h s a b = record {
     accesses = z.accesses;
   });
   turns = s.turns;
+}
+
+-- what two stretches leave that change registers alone
+pub same_then : (t : ℕ) (a b c : State) → IsSameBut t a b → IsSameBut t b c → IsSameBut t a c
+same_then t a b c h k = record {
+  memory = k.memory ∙ h.memory;
+  shows = shows_both a b c h.shows k.shows;
+  others = others_trans [] t a b c h.others k.others;
 }

@@ -1,6 +1,6 @@
 -- A list of flat instructions as a whole action: what it does to a memory that stands for the objects of a source is
 -- what a run of the source does to these objects.
-use Rattle.std.specs.Prelude.{◌≡◌, ℕ, ◌+◌, ◌-◌, ◌*◌, ◌<◌, ◌≤◌, ◌⊎◌, Bool, true, List, [], ◌∷◌, length}
+use Rattle.std.specs.Prelude.{◌≡◌, ℕ, ◌+◌, ◌-◌, ◌*◌, ◌<◌, ◌≤◌, ◌⊎◌, Bool, true, false, List, [], ◌∷◌, length}
 use Rattle.sb_base.specs.declared.ending.Ending.{Ending}
 use Rattle.sb_base.specs.Endings.{code_of, report_of}
 use Rattle.addr_map.specs.declared.region.Region.TheVariants.{StructureValues}
@@ -142,6 +142,13 @@ pub record Ground : Type 1 where
   pub entry : View
   pub IsGood : Bytes → Type 0
   pub is_runtime : Bool
+
+-- a function of the runtime; and one of the program, where each access of object space is shown
+abbrev pub runtime_ground : MapSizes → View → (Bytes → Type 0) → Ground
+runtime_ground map entry IsGood = record { map = map; entry = entry; IsGood = IsGood; is_runtime = true }
+
+abbrev pub program_ground : MapSizes → View → (Bytes → Type 0) → Ground
+program_ground map entry IsGood = record { map = map; entry = entry; IsGood = IsGood; is_runtime = false }
 
 abbrev pub context_in : Ground → (charge weight : ℕ) → Context
 context_in ground charge weight =

@@ -2,3 +2,4 @@ pub mod Actions
 pub mod Ranges
 pub mod Scanning
 pub mod Start
+pub mod Lists

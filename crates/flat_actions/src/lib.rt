@@ -3,3 +3,6 @@
 #![tactic(auto)]
 
 pub mod laws;
+pub mod lists;
+
+pub use crate::lists::{give_instructions, guarded, joined, unless, until};

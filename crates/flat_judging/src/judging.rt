@@ -1,6 +1,6 @@
 //! The routine that judges an access.
 
-ghost use Rattle.std.specs.Prelude.{◌≡◌, ℕ, ◌+◌, ◌≤◌, ◌^◌, IfOk, [], ◌∷◌};
+ghost use Rattle.std.specs.Prelude.{◌≡◌, ◌≤◌, ◌^◌, IfOk, ◌∷◌};
 ghost use Rattle.flat_routines.specs.Registers.{AreBelow};
 ghost use Rattle.flat_routines.specs.Metadata.{held_registers};
 ghost use Rattle.flat_judging.specs.Judging.{IsJudgeRoutine, judge_code};
@@ -28,7 +28,8 @@ pub fn judge(
     judge_instructions(alloc, pointer, size, line, scratch)
 }
 
-fn judge_instructions(
+/// The instructions of that routine, for routines that are proved over them. The only refusal is that memory fails.
+pub fn judge_instructions(
     alloc: Global,
     pointer: Held,
     size: u32,

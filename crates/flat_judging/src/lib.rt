@@ -4,4 +4,4 @@
 
 pub mod judging;
 
-pub use crate::judging::judge;
+pub use crate::judging::{judge, judge_instructions};

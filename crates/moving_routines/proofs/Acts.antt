@@ -23,11 +23,12 @@ use Rattle.flat_routines.specs.Effects.{worked}
 use Rattle.flat_routines.specs.Metadata.{View, held_registers}
 use Rattle.flat_objects.specs.StandsFor.{Views, Keys, Spells}
 use Rattle.flat_judging.specs.Judging.{IsSameBut, IsToJudge, IsJudged, IsJudgeRoutine}
-use Rattle.flat_actions.specs.Actions.{views_of, AreSpacesGood, IsFor, Nowhere, Pointer, Leaves}
+use Rattle.flat_actions.specs.Actions.{views_of, AreSpacesGood, IsFor, Nowhere, Pointer, Leaves, runtime_ground}
 use Rattle.flat_actions.specs.Ranges.{IsObjectRange, IsToMove, HasMovedTagged, IsTaggedMoveRoutine}
 use Rattle.flat_actions.proofs.Standing.{for_still, spells_still, none_of_none}
 use Rattle.flat_actions.proofs.Judged.{judged_then, located_then}
-use Rattle.moving_routines.specs.Library.{runtime_ground, guarded_code, MovesObjects}
+use Rattle.flat_actions.specs.Lists.{guarded_code}
+use Rattle.moving_routines.specs.Library.{MovesObjects}
 use Rattle.moving_routines.proofs.Steps.{does_weaken}
 use Rattle.moving_routines.proofs.Bytes.{in_runtime}
 use Rattle.moving_routines.proofs.Judged.{work_done, judged_acts}

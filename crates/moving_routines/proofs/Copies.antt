@@ -23,10 +23,9 @@ use Rattle.flat_routines.specs.Metadata.{View, held_registers}
 use Rattle.flat_routines.proofs.Rules.{weaken}
 use Rattle.flat_objects.specs.StandsFor.{Views, Keys}
 use Rattle.flat_judging.specs.Judging.{IsSameBut}
-use Rattle.flat_actions.specs.Actions.{views_of, AreSpacesGood, IsFor, Nowhere, Leaves}
+use Rattle.flat_actions.specs.Actions.{views_of, AreSpacesGood, IsFor, Nowhere, Leaves, runtime_ground}
 use Rattle.flat_actions.specs.Ranges.{IsObjectRange, IsToMove, HasMovedTagged, IsTaggedMoveRoutine}
 use Rattle.flat_actions.proofs.Standing.{for_still}
-use Rattle.moving_routines.specs.Library.{runtime_ground}
 use Rattle.moving_routines.specs.Structures.{CopiesStructure}
 use Rattle.moving_routines.proofs.Steps.{does_weaken, quiet_then, IsGlued, glued}
 use Rattle.moving_routines.proofs.Bytes.{in_runtime}

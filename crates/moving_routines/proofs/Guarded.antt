@@ -31,7 +31,7 @@ use Rattle.flat_objects.specs.StandsFor.{Views, Keys, Spells, spell}
 use Rattle.flat_judging.specs.Judging.{IsSameBut}
 use Rattle.flat_actions.specs.Actions.{IsFor, KeepsHeld, Nowhere, Pointer, HasGiven, Leaves}
 use Rattle.flat_actions.proofs.Standing.{for_still, given_still, spells_still, none_of_none, others_trans}
-use Rattle.moving_routines.specs.Library.{give_code, guarded_code}
+use Rattle.flat_actions.specs.Lists.{give_code, guarded_code}
 use Rattle.moving_routines.proofs.Steps.{does_weaken, unless_does}
 use Rattle.moving_routines.proofs.Judged.{work_done, left_since}
 

@@ -27,10 +27,11 @@ use Rattle.flat_routines.specs.Effects.{worked}
 use Rattle.flat_routines.specs.Metadata.{View, held_registers}
 use Rattle.flat_objects.specs.StandsFor.{Views, Keys}
 use Rattle.flat_judging.specs.Judging.{IsSameBut, IsToJudge, IsJudged, IsJudgeRoutine}
-use Rattle.flat_actions.specs.Actions.{views_of, IsFor, Nowhere, Pointer, Leaves}
+use Rattle.flat_actions.specs.Actions.{views_of, IsFor, Nowhere, Pointer, Leaves, runtime_ground}
 use Rattle.flat_actions.specs.Ranges.{IsObjectRange, IsToFill, HasFilled, IsFillRoutine}
 use Rattle.flat_actions.proofs.Standing.{for_still}
-use Rattle.moving_routines.specs.Library.{runtime_ground, guarded_code, SetsObjects}
+use Rattle.flat_actions.specs.Lists.{guarded_code}
+use Rattle.moving_routines.specs.Library.{SetsObjects}
 use Rattle.moving_routines.proofs.Steps.{does_weaken}
 use Rattle.moving_routines.proofs.Bytes.{in_runtime}
 use Rattle.moving_routines.proofs.Tagged.{IsLocal}

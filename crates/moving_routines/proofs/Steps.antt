@@ -1,7 +1,7 @@
 -- Routines put together: one after another, one that may be passed over, one again and again, and code without jumps
 -- over any registers.
 use Rattle.std.proofs.Common.{◌≡◌, ℕ, zero, suc, ◌+◌, ◌-◌, ◌*◌, ◌^◌, ◌<◌, ◌≤◌, List, [], ◌∷◌, ◌++◌, true, false, map}
-use Rattle.std.proofs.Common.{length, refl, ap, ◌∙◌, arith, inl, inr}
+use Rattle.std.proofs.Common.{length, refl, arith, inl, inr}
 use Rattle.rv_isa.specs.declared.instruction.BranchOp.{BranchOp}
 use Rattle.flat_meaning.specs.declared.instruction.RightOperand.{RightOperand}
 use Rattle.flat_meaning.specs.declared.instruction.FlatInstruction.{FlatInstruction}
@@ -187,11 +187,3 @@ glued c ins t n is P below fit allowed =
 -- ---- a number of 64 bits below zero
 pub below_unit : (u : ℕ) → u < 2 ^ 64 → 2 ^ 64 - 1 - u + 1 ≡ 2 ^ 64 - u
 below_unit u l = omega arith
-
--- ---- lists by their parts
-pub joined_are : (r a b a' b' : List FlatInstruction) → r ≡ a ++ b → a ≡ a' → b ≡ b' → r ≡ a' ++ b'
-joined_are r a b a' b' e f g = e ∙ ap (λ x. x ++ b) f ∙ ap (λ x. a' ++ x) g
-
-pub by_body : (make : List FlatInstruction → List FlatInstruction) (r body body' : List FlatInstruction)
-    → r ≡ make body → body ≡ body' → r ≡ make body'
-by_body make r body body' e f = e ∙ ap make f

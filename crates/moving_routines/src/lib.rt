@@ -4,7 +4,6 @@
 
 pub mod filling;
 pub mod library;
-mod lists;
 pub mod moving;
 pub mod structures;
 

@@ -1,20 +1,19 @@
 //! `memcpy`, `memmove` and `memset` (C99 7.21.2, 7.21.6) as whole actions.
 
-ghost use Rattle.std.specs.Prelude.{◌≡◌, ℕ, ◌+◌, ◌≤◌, ◌<◌, ◌^◌, ◌++◌, IfOk, [], ◌∷◌, length};
+ghost use Rattle.std.specs.Prelude.{◌+◌, ◌≤◌, ◌<◌, ◌^◌, IfOk};
 ghost use Rattle.addr_map.specs.Places.{AreMapped};
 ghost use Rattle.flat_routines.specs.Registers.{AreBelow, AreNoneOf, AreDistinct};
 ghost use Rattle.flat_routines.specs.Metadata.{held_registers};
-ghost use Rattle.moving_routines.specs.Library.{runtime_ground, MovesObjects, CopiesObjects, SetsObjects};
-ghost use Rattle.moving_routines.specs.Library.{guarded_code};
+ghost use Rattle.moving_routines.specs.Library.{MovesObjects, CopiesObjects, SetsObjects};
+ghost use Rattle.flat_actions.specs.Actions.{runtime_ground};
 
 use crate::filling::fill;
-use crate::lists::{joined, unless};
 use crate::moving::move_tagged;
 use addr_map::AddrMap;
+use flat_actions::{guarded, joined};
 use flat_judging::judge;
 use flat_meaning::{FlatInstruction, RightOperand};
 use flat_routines::Held;
-use rv_isa::BranchOp;
 use sb_base::Line;
 use shadow_space::ShadowForm;
 use std::alloc::{AllocError, Global};
@@ -84,40 +83,4 @@ pub fn memset<S: ShadowForm>(
     let whole = joined(alloc, first.as_slice(), act.as_slice())?;
     let code = guarded(alloc, size, to, into, whole.as_slice())?;
     Ok(code)
-}
-
-// An act that is passed over where there are no bytes, after which a pointer is given.
-fn guarded(
-    alloc: Global,
-    size: u32,
-    from: Held,
-    into: Held,
-    act: &[FlatInstruction],
-) -> Result<Vec<FlatInstruction>, AllocError>
-    ensures { IfOk result (λ r. r.items ≡ guarded_code size from into act.now) }
-{
-    let first = unless(alloc, BranchOp::Beq, size, RightOperand::Number(0), act)?;
-    let give = [
-        FlatInstruction::Move {
-            into: into.value,
-            from: from.value,
-        },
-        FlatInstruction::Move {
-            into: into.tag.base,
-            from: from.tag.base,
-        },
-        FlatInstruction::Move {
-            into: into.tag.bound,
-            from: from.tag.bound,
-        },
-        FlatInstruction::Move {
-            into: into.tag.key,
-            from: from.tag.key,
-        },
-        FlatInstruction::Move {
-            into: into.tag.lock,
-            from: from.tag.lock,
-        },
-    ];
-    joined(alloc, first.as_slice(), &give)
 }

@@ -1,16 +1,15 @@
 //! Ranges that are moved.
 
-ghost use Rattle.std.specs.Prelude.{◌≡◌, ℕ, ◌+◌, ◌≤◌, ◌<◌, ◌^◌, ◌++◌, IfOk, [], ◌∷◌, length};
+ghost use Rattle.std.specs.Prelude.{◌≡◌, ◌+◌, ◌≤◌, ◌<◌, ◌^◌, ◌++◌, IfOk, [], ◌∷◌, length};
 ghost use Rattle.addr_map.specs.Places.{AreMapped};
 ghost use Rattle.flat_routines.specs.Registers.{AreBelow};
 ghost use Rattle.flat_actions.specs.Ranges.{IsByteMoveRoutine, IsTaggedMoveRoutine};
-ghost use Rattle.moving_routines.specs.Copying.{CellSize, OneByte, OneWord, choose_order, copy_loop, move_cells};
-ghost use Rattle.moving_routines.specs.Copying.{unit_of, shift_of};
+ghost use Rattle.moving_routines.specs.Copying.{choose_order, copy_loop};
 ghost use Rattle.moving_routines.specs.Moving.{move_bytes_code};
-ghost use Rattle.moving_routines.specs.Tagged.{entry_from, CopiesEntry, count_words, move_words};
+ghost use Rattle.moving_routines.specs.Tagged.{CopiesEntry, count_words, move_words};
 
-use crate::lists::{joined, until};
 use addr_map::AddrMap;
+use flat_actions::{joined, until};
 use flat_meaning::{FlatInstruction, RightOperand};
 use flat_routines::Entry;
 use rv_isa::{BranchOp, LoadOp, RegOp, StoreOp};

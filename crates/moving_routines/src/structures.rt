@@ -1,15 +1,15 @@
 //! The assignment of structures (C99 6.5.16.1) as a whole action.
 
-ghost use Rattle.std.specs.Prelude.{◌≡◌, ℕ, ◌+◌, ◌≤◌, ◌^◌, IfOk, [], ◌∷◌};
+ghost use Rattle.std.specs.Prelude.{◌+◌, ◌≤◌, ◌^◌, IfOk};
 ghost use Rattle.addr_map.specs.Places.{AreMapped};
 ghost use Rattle.flat_routines.specs.Registers.{AreBelow};
 ghost use Rattle.flat_routines.specs.Metadata.{held_registers};
-ghost use Rattle.moving_routines.specs.Library.{runtime_ground};
 ghost use Rattle.moving_routines.specs.Structures.{CopiesStructure};
+ghost use Rattle.flat_actions.specs.Actions.{runtime_ground};
 
-use crate::lists::joined;
 use crate::moving::move_tagged;
 use addr_map::AddrMap;
+use flat_actions::joined;
 use flat_meaning::FlatInstruction;
 use flat_routines::Held;
 use shadow_space::ShadowForm;

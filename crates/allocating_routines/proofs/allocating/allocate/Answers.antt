@@ -1,6 +1,6 @@
 use Rattle.std.proofs.Common.{sym, subst, ◌+◌}
 use Rattle.allocating_routines.specs.Allocating.{IsAllocateRoutine, malloc_code}
-use Rattle.allocating_routines.proofs.Joined.{by_three}
+use Rattle.flat_actions.proofs.ByParts.{by_three}
 use Rattle.allocating_routines.proofs.Allocates.{allocate_does}
 use Rattle.allocating_routines.proofs.allocating.allocate.Goals as goal
 

@@ -1,6 +1,6 @@
 use Rattle.std.proofs.Common.{sym, subst, ◌+◌}
 use Rattle.allocating_routines.specs.Allocating.{IsCallocRoutine, calloc_code}
-use Rattle.allocating_routines.proofs.Joined.{by_body}
+use Rattle.flat_actions.proofs.ByParts.{by_body}
 use Rattle.allocating_routines.proofs.Callocs.{calloc_does}
 use Rattle.allocating_routines.proofs.allocating.calloc.Goals as goal
 

@@ -1,6 +1,6 @@
 use Rattle.std.proofs.Common.{sym, subst, ◌+◌}
 use Rattle.allocating_routines.specs.Entering.{IsEnterRoutine, enter_code}
-use Rattle.allocating_routines.proofs.Joined.{by_two}
+use Rattle.flat_actions.proofs.ByParts.{by_two}
 use Rattle.allocating_routines.proofs.Enters.{enter_does}
 use Rattle.allocating_routines.proofs.entering.enter.Goals as goal
 

@@ -1,6 +1,6 @@
 use Rattle.std.proofs.Common.{sym, subst, ◌+◌}
 use Rattle.allocating_routines.specs.Freeing.{IsFreeRoutine, free_code}
-use Rattle.allocating_routines.proofs.Joined.{by_three}
+use Rattle.flat_actions.proofs.ByParts.{by_three}
 use Rattle.allocating_routines.proofs.Frees.{free_does}
 use Rattle.allocating_routines.proofs.freeing.free.Goals as goal
 

@@ -1,6 +1,6 @@
 use Rattle.std.proofs.Common.{sym, subst, ◌∙◌, ◌+◌}
-use Rattle.allocating_routines.specs.Reallocating.{IsReallocRoutine, replace_code, guarded_code}
-use Rattle.allocating_routines.proofs.Joined.{by_three}
+use Rattle.allocating_routines.specs.Reallocating.{IsReallocRoutine, replace_code, reallocating_code}
+use Rattle.flat_actions.proofs.ByParts.{by_three}
 use Rattle.allocating_routines.proofs.Reallocs.{realloc_does}
 use Rattle.allocating_routines.proofs.reallocating.realloc.Goals as goal
 
@@ -11,7 +11,7 @@ returns g c =
     c.in_ok-moves.moves.items c.in_ok-unlist.unlist.items c.in_ok-unlock.unlock.items c.in_ok-replace.ensures
     c.as_slice.ensures.value c.as_slice-2.ensures.value c.as_slice-3.ensures.value in
     let items = by_three
-    (λ find block replace. guarded_code find block replace a.old a.into a.line a.scratch (a.scratch + 2)) _ _ _ _
+    (λ find block replace. reallocating_code find block replace a.old a.into a.line a.scratch (a.scratch + 2)) _ _ _ _
     c.in_ok-find.find.items c.in_ok-block.block.items _
     c.in_ok-r.ensures c.as_slice-4.ensures.value c.as_slice-5.ensures.value (c.as_slice-6.ensures.value ∙ replace) in
     subst (IsReallocRoutine a.map.now g.S.ShadowForm.entry (g.S.ShadowForm.IsGood a.map.now) a.old a.size a.into a.line

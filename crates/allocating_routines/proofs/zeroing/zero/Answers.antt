@@ -1,6 +1,6 @@
 use Rattle.std.proofs.Common.{sym, subst, ◌+◌}
 use Rattle.allocating_routines.specs.Zeroing.{IsZeroRoutine, zero_code}
-use Rattle.allocating_routines.proofs.Joined.{by_body}
+use Rattle.flat_actions.proofs.ByParts.{by_body}
 use Rattle.allocating_routines.proofs.Zeroed.{zero_does}
 use Rattle.allocating_routines.proofs.zeroing.zero.Goals as goal
 

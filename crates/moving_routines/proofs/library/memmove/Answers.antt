@@ -1,8 +1,10 @@
 use Rattle.std.proofs.Common.{sym, subst, ◌∙◌}
-use Rattle.moving_routines.specs.Library.{runtime_ground, guarded_code, MovesObjects}
-use Rattle.moving_routines.proofs.Steps.{joined_are, by_body}
+use Rattle.flat_actions.specs.Lists.{guarded_code}
+use Rattle.moving_routines.specs.Library.{MovesObjects}
+use Rattle.flat_actions.proofs.ByParts.{joined_are, by_body}
 use Rattle.moving_routines.proofs.Acts.{moves_as}
 use Rattle.moving_routines.proofs.library.memmove.Goals as goal
+use Rattle.flat_actions.specs.Actions.{runtime_ground}
 
 pub returns : goal.returns
 returns g c =

@@ -1,6 +1,6 @@
 use Rattle.std.proofs.Common.{sym, subst}
 use Rattle.moving_routines.specs.Tagged.{CopiesEntry}
-use Rattle.moving_routines.proofs.Steps.{joined_are}
+use Rattle.flat_actions.proofs.ByParts.{joined_are}
 use Rattle.moving_routines.proofs.Words.{entry_copies}
 use Rattle.moving_routines.proofs.moving.entry_body.Goals as goal
 

@@ -1,7 +1,7 @@
 use Rattle.std.proofs.Common.{sym, subst, ◌∙◌}
 use Rattle.flat_actions.specs.Ranges.{IsTaggedMoveRoutine}
 use Rattle.moving_routines.specs.Tagged.{move_words}
-use Rattle.moving_routines.proofs.Steps.{joined_are, by_body}
+use Rattle.flat_actions.proofs.ByParts.{joined_are, by_body}
 use Rattle.moving_routines.proofs.Tagged.{moves_tagged}
 use Rattle.moving_routines.proofs.moving.move_tagged.Goals as goal
 

@@ -1,10 +1,10 @@
 use Rattle.std.proofs.Common.{sym, subst, ◌∷◌}
 use Rattle.flat_meaning.specs.declared.instruction.FlatInstruction.TheVariants.{Constant}
-use Rattle.moving_routines.specs.Library.{runtime_ground}
 use Rattle.moving_routines.specs.Structures.{CopiesStructure}
-use Rattle.moving_routines.proofs.Steps.{by_body}
+use Rattle.flat_actions.proofs.ByParts.{by_body}
 use Rattle.moving_routines.proofs.Copies.{copies_as}
 use Rattle.moving_routines.proofs.structures.copy_structure.Goals as goal
+use Rattle.flat_actions.specs.Actions.{runtime_ground}
 
 pub returns : goal.returns
 returns g c =

@@ -1,0 +1,3 @@
+pub mod Testing
+pub mod Holding
+pub mod Accessing

@@ -1,0 +1,10 @@
+pub mod DigitLists
+pub mod DigitLoops
+pub mod DigitRoutine
+pub mod NumberBytes
+pub mod NumberRoutines
+pub mod Printable
+pub mod Scans
+pub mod Puts
+pub mod Prints
+pub mod Steps

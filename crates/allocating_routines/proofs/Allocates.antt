@@ -1,6 +1,8 @@
 -- A block is allocated: placed, keyed and made zero, or null where there is no place for it.
-use Rattle.std.proofs.Common.{◌≡◌, ◌≢◌, ℕ, suc, ◌+◌, ◌-◌, ◌*◌, ◌%◌, ◌^◌, ◌<◌, ◌≤◌, List, [], ◌∷◌, ◌++◌, Bool, true, false}
-use Rattle.std.proofs.Common.{if◌then◌else◌, Option, Some, None, length, refl, sym, ap, ◌∙◌, subst, arith, length-append}
+use Rattle.std.proofs.Common.{◌≡◌, ◌≢◌, ℕ, suc, ◌+◌, ◌-◌, ◌*◌, ◌%◌, ◌^◌, ◌<◌, ◌≤◌, List, [], ◌∷◌, ◌++◌, Bool, true}
+use Rattle.std.proofs.Common.{false}
+use Rattle.std.proofs.Common.{if◌then◌else◌, Option, Some, None, length, refl, sym, ap, ◌∙◌, subst, arith}
+use Rattle.std.proofs.Common.{length-append}
 use Rattle.std.proofs.Common.{⊎_elim}
 use Rattle.std.specs.Prelude.{nat_lt}
 use Rattle.std.proofs.lemmas.Bool.{cases_lt, lt-ltb, le-ltb}
@@ -56,7 +58,8 @@ use Rattle.flat_actions.proofs.Standing.{shown_still, given_still, ended_still}
 use Rattle.allocating_routines.specs.Zeroing.{HasZeroed, IsZeroRoutine}
 use Rattle.allocating_routines.specs.Premises.{AreStanding}
 use Rattle.allocating_routines.specs.Births.{with_key, IsBlockMade}
-use Rattle.allocating_routines.specs.Allocating.{IsAllocateRoutine, keys_code, untagged, key_test, whole_bounds, make_code}
+use Rattle.allocating_routines.specs.Allocating.{IsAllocateRoutine, keys_code, untagged, key_test, whole_bounds}
+use Rattle.allocating_routines.specs.Allocating.{make_code}
 use Rattle.allocating_routines.specs.Allocating.{malloc_code}
 use Rattle.space_routines.proofs.Quiet.{shows_both, shows_worked}
 use Rattle.allocating_routines.proofs.Stretches.{IsDone, stretch_on, goes_past, goes_into}
@@ -64,7 +67,8 @@ use Rattle.space_routines.proofs.Quiet.{worked_words}
 use Rattle.allocating_routines.proofs.Stretches.{are_equal, are_not_equal, is_less, is_not_less}
 use Rattle.allocating_routines.proofs.Zeroed.{AreLocal}
 use Rattle.allocating_routines.proofs.FreeLocks.{free_for_a_block}
-use Rattle.allocating_routines.proofs.BlockBirth.{LiesInHeap, place_lies, held_after, keys_keep, block_born, block_elsewhere}
+use Rattle.allocating_routines.proofs.BlockBirth.{LiesInHeap, place_lies, held_after, keys_keep, block_born}
+use Rattle.allocating_routines.proofs.BlockBirth.{block_elsewhere}
 use Rattle.allocating_routines.proofs.BlockMemory.{good_by_table, good_by_locks, locks_by_table, block_made}
 use Rattle.allocating_routines.proofs.SourceBlocks.{sought_in, made_in, no_place, no_key, makes_block}
 use Rattle.allocating_routines.proofs.Seeks.{IsSought, seeks}
@@ -106,7 +110,8 @@ least_is map set same objects z p e =
     (ap (λ (s : MapSizes). if nat_lt (block_count objects) s.budgets.blocks
     then least_place (region_start s Heap) (region_last s Heap) z objects else None) (sym same) ∙ e)
   where
-    by : (b : Bool) → (if b then least_place (region_start map Heap) (region_last map Heap) z objects else None) ≡ Some p
+    by : (b : Bool) → (if b then least_place (region_start map Heap) (region_last map Heap) z objects else None) ≡
+        Some p
         → least_place (region_start map Heap) (region_last map Heap) z objects ≡ Some p
     by true h = h
     by false h = absurd cc
@@ -159,7 +164,12 @@ module _ (map : MapSizes) (mapped : AreMapped map) (entry : View) (IsGood : Byte
   )
 
   whole_length : length whole ≡ 13 + length place + length fresh + length zero
-  whole_length = omega (arith, body_length, length-append place (untagged (t + 2) into ++ unless_code Beq (t + 2) (Number 0) body))
+  whole_length = omega (
+    arith,
+    body_length,
+    length-append place
+        (untagged (t + 2) into ++ unless_code Beq (t + 2) (Number 0) body),
+  )
 
   module _ (s : State) (w : IsOfWords s) (f : IsFor g k IsGood x s) (standing : AreStanding map x) where
     abbrev rows_place : Option ℕ
@@ -395,7 +405,8 @@ module _ (map : MapSizes) (mapped : AreMapped map) (entry : View) (IsGood : Byte
                 ∙ d4.others r (omega arith) (none.1.1.1.0, (none.1.1.1.1.0, tt))
                 ∙ d3.others r l none
 
-            block_given : HasGiven g k IsGood (Pointer into) t x s (pointer_to (length x.objects) new) (made_in p z x) s6
+            block_given : HasGiven g k IsGood (Pointer into) t x s (pointer_to (length x.objects) new) (made_in p z x)
+                s6
             block_given = record {
               keys = keys';
               held = keys_keep (length x.objects) lock x.objects k (omega arith);
@@ -464,9 +475,11 @@ module _ (map : MapSizes) (mapped : AreMapped map) (entry : View) (IsGood : Byte
         (60 + 20 * ((sought_in x).work - x.work)) (Goes pc s) (pc + length whole) _ _ (omega arith) (λ y q. q)
         (sought 1 (Result s (Gives (integer 0) (sought_in x)))
         (λ s3 w3 d3.
-        let d = subst (λ o. IsPlacedIn map o z ((x.keys + 2) % 2 ^ 64) (s3.values (t + 2)) s.memory s3.memory) none d3.placed in
+        let d = subst (λ o. IsPlacedIn map o z ((x.keys + 2) % 2 ^ 64) (s3.values (t + 2)) s.memory s3.memory) none
+        d3.placed in
         goes_past c code 0 (behind pc) (behind pc + 1 + length body) s3 Beq (t + 2) (Number 0) (length body)
-        (pc + length whole) (Result s (Gives (integer 0) (sought_in x))) at_branch.0 refl (are_equal (s3.values (t + 2)) 0 d.0)
+        (pc + length whole) (Result s (Gives (integer 0) (sought_in x))) at_branch.0 refl
+        (are_equal (s3.values (t + 2)) 0 d.0)
         (arrived c code 0 (worked c s3) (behind pc + 1 + length body) (pc + length whole)
         (Result s (Gives (integer 0) (sought_in x))) end (null_given s w f standing s3 d3 none)))))
 
@@ -474,7 +487,8 @@ module _ (map : MapSizes) (mapped : AreMapped map) (entry : View) (IsGood : Byte
     some_place : (p : ℕ) → place_of map z (block_rows map s.memory) ≡ Some p → (s3 : State)
         → IsSought map size into t x.keys z s s3 → s3.values (t + 2) ≢ 0
     some_place p found s3 d3 e =
-        let d = subst (λ o. IsPlacedIn map o z ((x.keys + 2) % 2 ^ 64) (s3.values (t + 2)) s.memory s3.memory) found d3.placed in
+        let d = subst (λ o. IsPlacedIn map o z ((x.keys + 2) % 2 ^ 64) (s3.values (t + 2)) s.memory s3.memory) found
+        d3.placed in
         let lies = place_lies map mapped x.objects p z
         (least_is map set same_sizes x.objects z p (sym (in_source s w f standing) ∙ found)) in
         let at = d.0 in let begins = lies.begins in omega arith
@@ -518,7 +532,8 @@ module _ (map : MapSizes) (mapped : AreMapped map) (entry : View) (IsGood : Byte
         (pc + length whole) R at_branch.0 (are_not_equal (s3.values (t + 2)) 0 (some_place p found s3 d3))
         (let made = d3.made in let most = mapped.budgets.keys in
         goes_past c code (14 + ((42 + 5 * z) + (2 + 0))) (behind pc + 1) (behind pc + 3) (worked c s3) Bltu t
-        (Number map.budgets.keys) 1 (pc + length whole) R at_branch.1.0 (omega arith) (is_less (s3.values t) (map.budgets.keys % 2 ^ 64) (omega arith))
+        (Number map.budgets.keys) 1 (pc + length whole) R at_branch.1.0 (omega arith)
+        (is_less (s3.values t) (map.budgets.keys % 2 ^ 64) (omega arith))
         (next c code 14 ((42 + 5 * z) + (2 + 0)) (Goes (behind pc + 3) (worked c (worked c s3)))
         (behind pc + 3 + length fresh) (pc + length whole)
         (HasFresh map into.tag.key into.tag.lock (t + 4) (worked c (worked c s3))) Never R
@@ -568,13 +583,16 @@ module _ (map : MapSizes) (mapped : AreMapped map) (entry : View) (IsGood : Byte
 
 pub allocate_does : (map : MapSizes) → AreMapped map → (entry : View) (IsGood : Bytes → Type 0)
     → AreLocal map entry IsGood → (size : ℕ) (into : Held) (line t : ℕ) → AreBelow t (size ∷ held_registers into)
-    → IsNoneOf size (held_registers into) → AreDistinct (held_registers into) → (place fresh zero : List FlatInstruction)
+    → IsNoneOf size (held_registers into) → AreDistinct (held_registers into) →
+    (place fresh zero : List FlatInstruction)
     → IsPlaceRoutine map size (t + 1) (t + 2) (t + 4) place
     → IsFreshRoutine map into.tag.key into.tag.lock (t + 4) fresh
     → IsZeroRoutine map entry IsGood (t + 2) size (t + 4) zero
     → IsAllocateRoutine map entry IsGood size into line t
     (malloc_code map place fresh zero size into line t (t + 1) (t + 2))
-allocate_does map mapped entry IsGood local size into line t below apart distinct place fresh zero places freshens zeroes
+allocate_does map mapped entry IsGood local size into line t below apart distinct place fresh zero places freshens
+    zeroes
     set same functions types k x z charge weight =
-    allocates map mapped entry IsGood local size into t below apart distinct place fresh zero places freshens zeroes line
+    allocates map mapped entry IsGood local size into t below apart distinct place fresh zero places freshens zeroes
+    line
     set same functions types k x z charge weight

@@ -49,7 +49,8 @@ pub held_after : (n lock : ℕ) (k : Keys) (j : ℕ) → n ≤ j
 held_after n lock k j l =
     cond-false (nat_lt j n) (k.held j) (record { key = 2 + k.made; lock = lock }) (le-ltb j n l)
 
-pub keys_keep : (n lock : ℕ) (objects : Objects) (k : Keys) → length objects ≤ n → KeepsHeld objects k (with_key n lock k)
+pub keys_keep : (n lock : ℕ) (objects : Objects) (k : Keys) → length objects ≤ n → KeepsHeld objects k
+    (with_key n lock k)
 keys_keep n lock objects k le = record {
   own = λ j l. own_before n lock k j (omega arith);
   held = λ j l. held_before n lock k j (omega arith);
@@ -67,8 +68,10 @@ free_is_unused g k objects m lock st empty n live e =
     by : (s : Storage) → (object_at objects n).storage ≡ s → IsKeyed g.sizes k n (object_at objects n)
         → (k.held n).key ≡ 0 → ⊥
     by Static q held at = let z = (held.static q).0 in omega arith
-    by Automatic q held at = let z = (held.other (λ y. (let no : Automatic ≡ Static = sym q ∙ y in cc))).0 in omega arith
-    by Allocated q held at = let z = (held.other (λ y. (let no : Allocated ≡ Static = sym q ∙ y in cc))).0 in omega arith
+    by Automatic q held at = let z = (held.other (λ y. (let no : Automatic ≡ Static = sym q ∙ y in cc))).0 in omega
+        arith
+    by Allocated q held at = let z = (held.other (λ y. (let no : Allocated ≡ Static = sym q ∙ y in cc))).0 in omega
+        arith
 
 -- ---- the place of a block lies in the heap
 
@@ -193,7 +196,8 @@ module _ (map : MapSizes) (mapped : AreMapped map) (functions : ℕ) (types : �
 
   table : IsTable k' new (block_rows map m')
   table = subst (IsTable k' new) (sym rows_are)
-      (table_with k k' old new (block_rows map m) row (length old) (region_start map Heap) (region_end map Heap) st.table
+      (table_with k k' old new (block_rows map m) row (length old) (region_start map Heap) (region_end map Heap)
+      st.table
       (subst (AreInOrder (region_start map Heap) (region_end map Heap)) rows_are b.good.table.in_order)
       row_stays row_born was_block)
 

@@ -46,7 +46,8 @@ SameOrDead o x = (x ≡ o) ⊎ (x ≡ record o { is_live = false })
 dead_more : (n o : ℕ) (objects : Objects) → n < length objects
     → SameOrDead (object_at objects n) (object_at (with_dead o objects) n)
 dead_more n o objects l = ⊎_elim
-    (λ (e : n ≡ o). inr (subst (λ i. object_at (with_dead i objects) n ≡ record (object_at objects n) { is_live = false })
+    (λ (e : n ≡ o). inr (subst (λ i. object_at (with_dead i objects) n ≡ record (object_at objects n)
+    { is_live = false })
     e (dead_object n objects l)))
     (λ ne. inl (dead_other o n objects ne))
     (cases_eq n o)
@@ -69,7 +70,8 @@ without_at (InObject o ∷ hs) n objects l =
     same_or_dead (object_at objects n) (object_at (with_dead o objects) n) _ (dead_more n o objects l)
     (without_at hs n (with_dead o objects) (omega arith))
 
-stays_dead : (homes : List Home) (n : ℕ) (objects : Objects) → n < length objects → (object_at objects n).is_live ≡ false
+stays_dead : (homes : List Home) (n : ℕ) (objects : Objects) → n < length objects → (object_at objects n).is_live ≡
+    false
     → (object_at (without_homes homes objects) n).is_live ≡ false
 stays_dead homes n objects l dead = ⊎_elim
     (λ e. ap (λ o. o.is_live) e ∙ dead) (λ e. ap (λ o. o.is_live) e) (without_at homes n objects l)
@@ -153,7 +155,8 @@ module _ (map : MapSizes) (mapped : AreMapped map) (functions : ℕ) (types : �
   still : (n : ℕ) → (object_at new n).is_live ≡ true
       → (IsHomeOf n homes → ⊥) × (object_at new n ≡ object_at old n) × ((object_at old n).is_live ≡ true)
   still n l =
-      let none : IsHomeOf n homes → ⊥ = λ h. (let no : true ≡ false = sym l ∙ without_dead homes n old (of.under n h).0 h
+      let none : IsHomeOf n homes → ⊥ = λ h. (let no : true ≡ false = sym l ∙ without_dead homes n old
+      (of.under n h).0 h
       in cc) in
       let same = without_other homes n old none in
       (none, same, ap (λ o. o.is_live) (sym same) ∙ l)

@@ -142,7 +142,8 @@ module _ (map : MapSizes) (mapped : AreMapped map) (entry : View) (IsGood : Byte
       → Reaches c code bound (Goes (pc + length unlist + length unlock) s') end R)
       → Reaches c code ((16 + 16 * count) + (11 + bound)) (Goes pc s) end R
   ends_block code bound pc end R w has two on =
-      next c code (16 + 16 * count) (11 + bound) (Goes pc s) (pc + length unlist) end (HasRemoved map at (t + 4) s) Never R
+      next c code (16 + 16 * count) (11 + bound) (Goes pc s) (pc + length unlist) end (HasRemoved map at (t + 4) s)
+      Never R
       w
       ((unlists count true charge weight).from code pc s has w ((f.spaces.table, refl), has_row))
       (λ s3 w3 d3.

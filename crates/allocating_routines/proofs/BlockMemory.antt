@@ -55,7 +55,8 @@ module _ (map : MapSizes) (mapped : AreMapped map) (entry : View) (IsGood : Byte
       → AreSpacesGood map IsGood m'
   good_by_table m m' keep g table = record {
     shadow = (local m m' (shadow_by_table m m' keep) g.shadow).0;
-    locks = locks_kept map m m' (locks_laid_out map mapped) (locks_by_table m m' keep) (global_is_lock map mapped) g.locks;
+    locks = locks_kept map m m' (locks_laid_out map mapped) (locks_by_table m m' keep) (global_is_lock map mapped)
+        g.locks;
     table = table;
   }
 
@@ -177,5 +178,6 @@ module _ (map : MapSizes) (mapped : AreMapped map) (entry : View) (IsGood : Byte
         counter = counter ∙ counter_kept map m0 m1 words (locks_by_table m0 m1 table);
         rows = rows_kept map m1 m2 (table_laid_out map mapped) (table_by_locks m1 m2 keep) good1.table ∙ rows;
         good = good_by_locks m1 m2 keep good1 locks;
-        behind = λ b l. (let a = lie.table in let c = lie.locks in keep b (inr (omega arith)) ∙ table b (inr (omega arith)));
+        behind = λ b l. (let a = lie.table in let c = lie.locks in keep b (inr (omega arith)) ∙ table b
+            (inr (omega arith)));
       }

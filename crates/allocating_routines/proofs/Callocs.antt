@@ -30,14 +30,14 @@ use Rattle.flat_routines.proofs.Words.{same_metadata}
 use Rattle.flat_objects.specs.StandsFor.{Views, Keys, Spells}
 use Rattle.shadow_space.proofs.Entries.{context_of, agrees_shows, agrees_memory}
 use Rattle.flat_actions.specs.Actions.{IsFor, Word, Pointer, AreHeldBy, Leaves, views_of, context_in, work_of}
-use Rattle.flat_actions.specs.Actions.{runtime_basis}
 use Rattle.flat_actions.proofs.Standing.{for_still, given_still}
+use Rattle.space_routines.proofs.Quiet.{shows_both, shows_worked, worked_words}
+use Rattle.flat_actions.specs.Actions.{runtime_basis}
 use Rattle.allocating_routines.specs.Premises.{AreStanding}
-use Rattle.allocating_routines.specs.Allocating.{IsAllocateRoutine, IsCallocRoutine, product_code, null_code}
+use Rattle.allocating_routines.specs.Allocating.{IsAllocateRoutine, IsCallocRoutine, product_code}
+use Rattle.allocating_routines.specs.Allocating.{null_code}
 use Rattle.allocating_routines.specs.Allocating.{calloc_code}
-use Rattle.space_routines.proofs.Quiet.{shows_both, shows_worked}
 use Rattle.allocating_routines.proofs.Stretches.{IsDone, stretch_on, goes_past, goes_into}
-use Rattle.space_routines.proofs.Quiet.{worked_words}
 use Rattle.allocating_routines.proofs.Stretches.{differ, do_not_differ, above_none, below_more}
 use Rattle.allocating_routines.proofs.Leaving.{leaves_from}
 
@@ -138,7 +138,8 @@ module _ (map : MapSizes) (mapped : AreMapped map) (entry : View) (IsGood : Byte
     at_branch = has_back code (pc + 2) (null_code into) (unless_code Bne t (Number 0) allocate') at_null
 
     multiplies : (b : ℕ) (R : Outcome → Type 0)
-        → ((s2 : State) → IsOfWords s2 → IsMultiplied s s2 → Reaches c code b (Goes (pc + 2 + 5) s2) (pc + length whole) R)
+        → ((s2 : State) → IsOfWords s2 → IsMultiplied s s2 → Reaches c code b (Goes (pc + 2 + 5) s2)
+        (pc + length whole) R)
         → Reaches c code (2 + (5 + b)) (Goes pc s) (pc + length whole) R
     multiplies b R on =
         stretch_on c (count ∷ size ∷ []) [] (t ∷ (t + 1) ∷ []) t product_registers (product_code 0 1 2 3) refl code
@@ -191,7 +192,8 @@ module _ (map : MapSizes) (mapped : AreMapped map) (entry : View) (IsGood : Byte
         let up = m.upper in let low = m.lower in
         goes_into c code (60 + 20 * ((state_of a).work - x.work)) (pc + 2 + 5) s2 Bne t (Number 0) (length allocate')
         (pc + length whole) R at_branch.0 (do_not_differ (s2.values t) 0 (omega arith))
-        (subst (λ n. Reaches c code (60 + 20 * ((state_of a).work - x.work)) (Goes (pc + 2 + 5 + 1) (worked c s2)) n R) end
+        (subst (λ n. Reaches c code (60 + 20 * ((state_of a).work - x.work)) (Goes (pc + 2 + 5 + 1) (worked c s2)) n
+        R) end
         (weaken c code (60 + 20 * ((state_of a).work - x.work)) (60 + 20 * ((state_of a).work - x.work))
         (Goes (pc + 2 + 5 + 1) (worked c s2)) (pc + 2 + 5 + 1 + length allocate') _ R (omega arith)
         (leaves_from g k IsGood (Pointer into) t (t + 2) (omega arith) x s (worked c s2) m.memory
@@ -226,6 +228,7 @@ calloc_does map mapped entry IsGood count size into line t below distinct alloca
     by [] code pc s has w f held standing = absurd held
     by (v ∷ []) code pc s has w f held standing = absurd held.1
     by (v ∷ u ∷ []) code pc s has w f held standing =
-        callocs map mapped entry IsGood count size into line t below distinct allocate' allocates set same functions types
+        callocs map mapped entry IsGood count size into line t below distinct allocate' allocates set same functions
+        types
         k x v u charge weight code pc s has w f held.0 held.1.0 standing
     by (v ∷ u ∷ y ∷ vs) code pc s has w f held standing = absurd held.1.1

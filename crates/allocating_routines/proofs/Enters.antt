@@ -40,15 +40,15 @@ use Rattle.heap_space.specs.Table.{block_total, block_rows, row_cell}
 use Rattle.heap_space.proofs.Lists.{rows_length}
 use Rattle.flat_actions.specs.Actions.{AreSpacesGood, IsFor, HasEnded, views_of}
 use Rattle.flat_actions.proofs.Standing.{shown_still, ended_still}
+use Rattle.space_routines.proofs.Quiet.{shows_both, shows_worked, worked_words}
 use Rattle.allocating_routines.specs.declared.entering.EntryRegisters.{EntryRegisters}
 use Rattle.allocating_routines.specs.Zeroing.{IsZeroed, HasZeroed, IsZeroRoutine}
 use Rattle.allocating_routines.specs.Allocating.{keys_code, key_test}
 use Rattle.allocating_routines.specs.Births.{with_key, IsRangeMade}
 use Rattle.allocating_routines.specs.Entering.{block_bytes, CanEnter, registers_in, HasEntered, IsEntered}
-use Rattle.allocating_routines.specs.Entering.{IsEnterRoutine, round_code, room_code, room_test, end_of_block, enter_code}
-use Rattle.space_routines.proofs.Quiet.{shows_both, shows_worked}
+use Rattle.allocating_routines.specs.Entering.{IsEnterRoutine, round_code, room_code, room_test, end_of_block}
+use Rattle.allocating_routines.specs.Entering.{enter_code}
 use Rattle.allocating_routines.proofs.Stretches.{IsDone, stretch_on, goes_past, goes_into}
-use Rattle.space_routines.proofs.Quiet.{worked_words}
 use Rattle.allocating_routines.proofs.Stretches.{is_less, is_not_less}
 use Rattle.allocating_routines.proofs.Zeroed.{AreLocal}
 use Rattle.allocating_routines.proofs.FreeLocks.{stack_laid_out, free_for_automatics}
@@ -79,8 +79,8 @@ module _ (map : MapSizes) (mapped : AreMapped map) (entry : View) (IsGood : Byte
   abbrev base : ℕ
   base = rounded_up 16 x.stacked
 
-  abbrev T : ℕ
-  T = block_bytes vs
+  abbrev extent : ℕ
+  extent = block_bytes vs
 
   abbrev last : List FlatInstruction
   last = end_of_block to.first bytes to.end
@@ -107,7 +107,7 @@ module _ (map : MapSizes) (mapped : AreMapped map) (entry : View) (IsGood : Byte
   record IsRounded (s s1 : State) : Type 0 where
     first : s1.values to.first ≡ base
     room : s1.values t ≡ region_end map Stack - base
-    bytes_there : s1.values bytes ≡ T
+    bytes_there : s1.values bytes ≡ extent
     memory : s1.memory ≡ s.memory
     shows : ShowsNothing s s1
     others : OthersStay (to.first ∷ []) t s s1
@@ -121,7 +121,7 @@ module _ (map : MapSizes) (mapped : AreMapped map) (entry : View) (IsGood : Byte
   stack_small = omega (arith, mapped.globals, mapped.budgets.stack.greatest)
 
   module _ (code : List FlatInstruction) (pc : ℕ) (s : State) (has : HasAt code pc whole) (w : IsOfWords s)
-      (f : IsFor g k IsGood x s) (top_is : s.values top ≡ x.stacked) (bytes_is : s.values bytes ≡ T)
+      (f : IsFor g k IsGood x s) (top_is : s.values top ≡ x.stacked) (bytes_is : s.values bytes ≡ extent)
       (can : CanEnter map vs x) where
     base_below : base ≤ region_end map Stack
     base_below =
@@ -187,7 +187,7 @@ module _ (map : MapSizes) (mapped : AreMapped map) (entry : View) (IsGood : Byte
         (tt, (tt, (tt, (tt, (tt, tt)))))
         (λ s1 w1 d1. on s1 w1 (rounded s1 d1))
 
-    end_is : objects_end vs x.stacked ≡ base + T
+    end_is : objects_end vs x.stacked ≡ base + extent
     end_is = end_by_bytes vs x.stacked can.some
 
     over : (e : Ending) (s' : State) → ShowsNothing s s'
@@ -211,7 +211,8 @@ module _ (map : MapSizes) (mapped : AreMapped map) (entry : View) (IsGood : Byte
         ∙ lt-leb (objects_end vs x.stacked) (region_end map Stack) beyond) in
         let R = IsEntered g k IsGood to t x s (Ended (StackSpent line) x) in
         subst (Goal code pc s) (sym o)
-        (weaken c code (5 + suc (suc 0)) (100 + 40 * (x.work - x.work)) (Goes pc s) (pc + length whole) R R (omega arith)
+        (weaken c code (5 + suc (suc 0)) (100 + 40 * (x.work - x.work)) (Goes pc s) (pc + length whole) R R
+        (omega arith)
         (λ y q. q)
         (rounds (suc (suc 0)) R
         (λ s1 w1 d1.
@@ -240,7 +241,7 @@ module _ (map : MapSizes) (mapped : AreMapped map) (entry : View) (IsGood : Byte
       record HasCounted (s2 : State) : Type 0 where
         made : s2.values t ≡ x.keys
         first : s2.values to.first ≡ base
-        bytes_there : s2.values bytes ≡ T
+        bytes_there : s2.values bytes ≡ extent
         memory : s2.memory ≡ s.memory
         shows : ShowsNothing s s2
         others : OthersStay (to.first ∷ []) t s s2
@@ -273,7 +274,8 @@ module _ (map : MapSizes) (mapped : AreMapped map) (entry : View) (IsGood : Byte
             bytes_there = d2.others bytes ins_below.1.0 tt ∙ d1.bytes_there;
             memory = agrees_memory 2 _ _ s2 d2.agrees ∙ d1.memory;
             shows = shows_both s y s2 (shows_worked c s s1 d1.shows)
-                (agrees_shows 2 _ _ y s2 d2.agrees (let h = keys_shown map lie charge weight x.keys (through fr y) counted' in record {
+                (agrees_shows 2 _ _ y s2 d2.agrees (let h = keys_shown map lie charge weight x.keys (through fr y)
+                counted' in record {
                   input = h.input;
                   output = h.output;
                   taken = h.taken;
@@ -351,17 +353,17 @@ module _ (map : MapSizes) (mapped : AreMapped map) (entry : View) (IsGood : Byte
             first3 = d3.others to.first (let l = to_below.0 in omega arith) (distinct.0.1.0, (distinct.0.1.1.0, tt))
                 ∙ d2.first
 
-            bytes3 : s3.values bytes ≡ T
+            bytes3 : s3.values bytes ≡ extent
             bytes3 = d3.others bytes (let l = ins_below.1.0 in omega arith) (apart.1.0.1.1.0, (apart.1.0.1.1.1.0, tt))
                 ∙ d2.bytes_there
 
-            module _ (s4 : State) (d4 : HasZeroed map entry IsGood to.first T (t + 4) s3 s4) where
-              made : IsRangeMade map entry IsGood base T lock s.memory s4.memory
-              made = subst (λ m. IsRangeMade map entry IsGood base T lock m s4.memory) d2.memory
-                  (range_made map mapped entry IsGood local base T lock y2.memory s3.memory s4.memory good2
+            module _ (s4 : State) (d4 : HasZeroed map entry IsGood to.first extent (t + 4) s3 s4) where
+              made : IsRangeMade map entry IsGood base extent lock s.memory s4.memory
+              made = subst (λ m. IsRangeMade map entry IsGood base extent lock m s4.memory) d2.memory
+                  (range_made map mapped entry IsGood local base extent lock y2.memory s3.memory s4.memory good2
                   (record { was_free = d3.was_free; locked = d3.locked; others = d3.other_locks; counter = d3.counter })
                   d3.memory good3
-                  (subst (λ a. IsZeroed map entry a T s3.memory s4.memory)
+                  (subst (λ a. IsZeroed map entry a extent s3.memory s4.memory)
                   first3 d4.memory) d4.good)
 
               last_registers : AreRegisters (to.first ∷ bytes ∷ []) (to.end ∷ []) [] (t + 4)
@@ -395,7 +397,8 @@ module _ (map : MapSizes) (mapped : AreMapped map) (entry : View) (IsGood : Byte
                 stands : IsFor g k' IsGood (entered_in vs x) s5
                 stands = record {
                   objects = subst (StandsFor g k' (entered_in vs x).objects) (sym memory5)
-                      (entry_born map mapped functions types entry IsGood k x.stacked x.objects vs lock s.memory s4.memory
+                      (entry_born map mapped functions types entry IsGood k x.stacked x.objects vs lock s.memory
+                      s4.memory
                       f.objects can.separate can.some fits made);
                   spaces = subst (AreSpacesGood map IsGood) (sym memory5) d4.good;
                   keys = (let e = f.keys in omega arith);
@@ -425,7 +428,8 @@ module _ (map : MapSizes) (mapped : AreMapped map) (entry : View) (IsGood : Byte
                     ∙ d3.new_key ∙ ap (key_counter map) d2.memory ∙ f.objects.counted
 
                 lock5 : s5.values to.lock ≡ lock
-                lock5 = d5.others to.lock (let l = to_below.1.1.1.0 in omega arith) ((λ e. distinct.1.0.1.0 (sym e)), tt)
+                lock5 = d5.others to.lock (let l = to_below.1.1.1.0 in omega arith)
+                    ((λ e. distinct.1.0.1.0 (sym e)), tt)
                     ∙ d4.others to.lock (let l = to_below.1.1.1.0 in omega arith) tt
 
                 has_entered : HasEntered g k IsGood to t x s (homes_from vs (length x.objects)) (entered_in vs x) s5
@@ -440,7 +444,8 @@ module _ (map : MapSizes) (mapped : AreMapped map) (entry : View) (IsGood : Byte
                       ∙ ap (λ y. record { key = y; lock = lock }) (sym key5)
                       ∙ ap (λ y. record { key = s5.values to.key; lock = y }) (sym lock5));
                   of_lock = entry_of_lock map mapped functions types entry IsGood k x.stacked x.objects vs lock s.memory
-                      s4.memory f.objects can.separate can.some fits made (entered_in vs x) refl (s5.values to.lock) lock5;
+                      s4.memory f.objects can.separate can.some fits made (entered_in vs x) refl (s5.values to.lock)
+                      lock5;
                   turns = shown.turns;
                   low = λ a l out. (let e = end_is in
                       ap (λ m. m a) memory5
@@ -458,24 +463,26 @@ module _ (map : MapSizes) (mapped : AreMapped map) (entry : View) (IsGood : Byte
             let few = few_bytes vs 0 can.sized in
             let end : pc + 12 + length fresh + length zero + 1 ≡ pc + length whole = omega (arith, whole_length) in
             subst (Goal code pc s) (sym o)
-            (weaken c code (5 + suc (3 + suc (14 + ((42 + 5 * T) + (1 + 0)))))
+            (weaken c code (5 + suc (3 + suc (14 + ((42 + 5 * extent) + (1 + 0)))))
             (100 + 40 * ((entered_in vs x).work - x.work)) (Goes pc s) (pc + length whole) R R (omega arith) (λ y q. q)
-            (counts (suc (14 + ((42 + 5 * T) + (1 + 0)))) R
+            (counts (suc (14 + ((42 + 5 * extent) + (1 + 0)))) R
             (λ s2 w2 d2.
             let made' = d2.made in let most = mapped.budgets.keys in
-            goes_past c code (14 + ((42 + 5 * T) + (1 + 0))) (pc + 10) (pc + 12) s2 Bltu t (Number map.budgets.keys) 1
+            goes_past c code (14 + ((42 + 5 * extent) + (1 + 0))) (pc + 10) (pc + 12) s2 Bltu t
+            (Number map.budgets.keys) 1
             (pc + length whole) R at_keys.0 (omega arith)
             (is_less (s2.values t) (map.budgets.keys % 2 ^ 64) (omega arith))
-            (next c code 14 ((42 + 5 * T) + (1 + 0)) (Goes (pc + 12) (worked c s2)) (pc + 12 + length fresh)
+            (next c code 14 ((42 + 5 * extent) + (1 + 0)) (Goes (pc + 12) (worked c s2)) (pc + 12 + length fresh)
             (pc + length whole) (HasFresh map to.key to.lock (t + 4) (worked c s2)) Never R (worked_words c s2 w2)
             ((freshens true charge weight).from code (pc + 12) (worked c s2)
             (has_front code (pc + 12) fresh (zero ++ last) at_fresh) (worked_words c s2 w2) (can_fresh s2 d2))
             (λ s3 w3 d3.
             let first = first3 s2 d2 s3 d3 in let e = end_is in let space = stack_in_space map mapped in
             let s0 = space.0 in let s1 = space.1 in let bottom = can.separate.bottom in
-            next c code (42 + 5 * T) (1 + 0) (Goes (pc + 12 + length fresh) s3) (pc + 12 + length fresh + length zero)
-            (pc + length whole) (HasZeroed map entry IsGood to.first T (t + 4) s3) Never R w3
-            ((zeroes T charge weight).from code (pc + 12 + length fresh) s3
+            next c code (42 + 5 * extent) (1 + 0) (Goes (pc + 12 + length fresh) s3)
+            (pc + 12 + length fresh + length zero)
+            (pc + length whole) (HasZeroed map entry IsGood to.first extent (t + 4) s3) Never R w3
+            ((zeroes extent charge weight).from code (pc + 12 + length fresh) s3
             (has_front code (pc + 12 + length fresh) zero last at_zero) w3 (
               record {
                 size = bytes3 s2 d2 s3 d3;
@@ -506,7 +513,8 @@ pub enter_does : (map : MapSizes) → AreMapped map → (entry : View) (IsGood :
     → (fresh zero : List FlatInstruction) → IsFreshRoutine map to.key to.lock (t + 4) fresh
     → IsZeroRoutine map entry IsGood to.first bytes (t + 4) zero
     → IsEnterRoutine map entry IsGood top bytes to line t (enter_code map fresh zero top bytes to line t (t + 1))
-enter_does map mapped entry IsGood local top bytes to line t ins_below to_below apart distinct fresh zero freshens zeroes
+enter_does map mapped entry IsGood local top bytes to line t ins_below to_below apart distinct fresh zero freshens
+    zeroes
     set same functions types k x vs charge weight = record {
       from = λ code pc s has w p.
           enters map mapped entry IsGood local top bytes to line t ins_below to_below apart distinct fresh zero freshens

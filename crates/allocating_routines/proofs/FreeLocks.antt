@@ -83,7 +83,11 @@ module _ (g : Views) (k : Keys) (objects : Objects) (m : Bytes) (mapped : AreMap
     where
       by : (s : Storage) → (object_at objects n).storage ≡ s → (i : ℕ) × HasNumber n i
       by Static e = absurd (other e)
-      by Automatic e = (rows_count + ((object_at objects n).address - region_start g.sizes Stack) / 16, inr (refl, e, live))
+      by Automatic e = (
+        rows_count + ((object_at objects n).address - region_start g.sizes Stack) / 16,
+        inr
+            (refl, e, live),
+      )
       by Allocated e = let r = st.table.row_of n live e in (r.0, inl (r.1, r.2))
 
   automatic_start : (n : ℕ) → ArePlaced g.sizes objects → (object_at objects n).is_live ≡ true

@@ -226,7 +226,8 @@ module _ (map : MapSizes) (mapped : AreMapped map) (entry : View) (IsGood : Byte
             found = rw (sym value, sym keyed, sym l.memory) d.answer;
             memory = d.memory ∙ l.memory;
             shows = shows_both s (worked c s1) s2 (shows_worked c s s1 l.shows) d.shows;
-            others = λ r m none. d.others r (omega arith) ((λ e. omega arith), ((λ e. omega arith), tt)) ∙ l.others r m tt;
+            others = λ r m none. d.others r (omega arith) ((λ e. omega arith), ((λ e. omega arith), tt)) ∙ l.others r
+                m tt;
           }
 
       answers : (bound : ℕ) (R : Outcome → Type 0)

@@ -159,15 +159,18 @@ module _ (map : MapSizes) (mapped : AreMapped map) (entry : View) (IsGood : Byte
               ∙ ap (λ y. (spell g k y).lock) q.tagged in
               let same : block_total map s2.memory ≡ block_total map s.memory = ap (block_total map) d2.memory in
               weaken c code ((16 + 16 * block_total map s2.memory) + (11 + 0))
-              ((16 + 16 * block_total map s.memory) + (11 + 0)) (Goes (pc + 1 + 5 + length find + 2) s2) (pc + length whole)
+              ((16 + 16 * block_total map s.memory) + (11 + 0)) (Goes (pc + 1 + 5 + length find + 2) s2)
+              (pc + length whole)
               R R (omega arith) (λ y r. r)
-              (ends_block map mapped entry IsGood local h.value h.tag.lock t (below.0, (below.1.1.1.1.0, tt)) unlist unlock
+              (ends_block map mapped entry IsGood local h.value h.tag.lock t (below.0, (below.1.1.1.1.0, tt)) unlist
+              unlock
               unlists unlocks functions types k x n q.live q.block charge weight s2 f2 value locked code 0
               (pc + 1 + 5 + length find + 2) (pc + length whole) R w2
               (has_front code (pc + 1 + 5 + length find + 2) unlist unlock at_ends)
               (has_back code (pc + 1 + 5 + length find + 2) unlist unlock at_ends)
               (λ s4 w4 d4.
-              arrived c code 0 s4 (pc + 1 + 5 + length find + 2 + length unlist + length unlock) (pc + length whole) R end_is
+              arrived c code 0 s4 (pc + 1 + 5 + length find + 2 + length unlist + length unlock) (pc + length whole) R
+              end_is
               (subst (λ o. Leaves g k IsGood Nowhere t x s o (Continues s4)) (sym (o_is e))
               (record {
                 keys = k;
@@ -214,6 +217,7 @@ free_does map mapped entry IsGood local h line t below find unlist unlock finds 
         (Leaves (views_of map functions types entry) k IsGood Nowhere t x s (free (argument 0 vs) line x))
     by [] code pc s has w f held = absurd held
     by (v ∷ []) code pc s has w f held =
-        frees map mapped entry IsGood local h line t below find unlist unlock finds unlists unlocks functions types k x v
+        frees map mapped entry IsGood local h line t below find unlist unlock finds unlists unlocks functions types k
+        x v
         charge weight code pc s has w f held.0
     by (v ∷ u ∷ vs) code pc s has w f held = absurd held.1

@@ -27,11 +27,13 @@ leave_does map mapped entry IsGood local lock t r releases functions types k x b
   from = λ code pc s has w p.
       let c = context_of map true charge weight in
       weaken c code 11 11 (Goes pc s) (pc + length r) (Either (HasReleased map lock t s) Never)
-      (Either (HasLeft (views_of map functions types entry) k IsGood t (leave_block b x) s) Never) (omega arith) (by s p.0 p.1)
+      (Either (HasLeft (views_of map functions types entry) k IsGood t (leave_block b x) s) Never) (omega arith)
+      (by s p.0 p.1)
       ((releases true charge weight).from code pc s has w (record {
         good = p.0.spaces.locks;
         lock = lock_is_one (views_of map functions types entry) k x b.homes (s.values lock) s.memory p.0.objects p.1;
-        not_global = lock_not_global (views_of map functions types entry) k x b.homes (s.values lock) s.memory p.0.objects p.1;
+        not_global = lock_not_global (views_of map functions types entry) k x b.homes (s.values lock) s.memory
+            p.0.objects p.1;
         used = lock_used (views_of map functions types entry) k x b.homes (s.values lock) s.memory p.0.objects p.1;
       }));
 }

@@ -1,5 +1,6 @@
 -- `realloc` as an action.
-use Rattle.std.proofs.Common.{◌≡◌, ◌≢◌, ℕ, suc, ◌+◌, ◌-◌, ◌*◌, ◌<◌, ◌≤◌, List, [], ◌∷◌, ◌++◌, true, length, refl, sym, ap}
+use Rattle.std.proofs.Common.{◌≡◌, ◌≢◌, ℕ, suc, ◌+◌, ◌-◌, ◌*◌, ◌<◌, ◌≤◌, List, [], ◌∷◌, ◌++◌, true, length, refl, sym}
+use Rattle.std.proofs.Common.{ap}
 use Rattle.std.proofs.Common.{◌∙◌, subst, arith, length-append, ⊎_elim}
 use Rattle.std.proofs.lemmas.Bool.{cases_eq}
 use Rattle.sb_base.specs.declared.ending.Ending.{Ending}
@@ -37,16 +38,17 @@ use Rattle.heap_space.specs.Table.{block_total}
 use Rattle.heap_space.specs.Routines.{IsFindRoutine}
 use Rattle.heap_space.specs.Routines.{IsReleaseRoutine as IsUnlistRoutine}
 use Rattle.flat_actions.specs.Actions.{IsFor, Word, Pointer, AreHeldBy, IsHeldBy, Leaves, views_of, context_in}
-use Rattle.flat_actions.specs.Actions.{runtime_basis}
 use Rattle.flat_actions.specs.Actions.{work_of}
 use Rattle.flat_actions.specs.Ranges.{IsTaggedMoveRoutine}
 use Rattle.flat_actions.proofs.Standing.{for_still, ended_still}
+use Rattle.space_routines.proofs.Quiet.{shows_both, shows_worked, worked_words}
+use Rattle.flat_actions.specs.Actions.{runtime_basis}
 use Rattle.allocating_routines.specs.Premises.{AreStanding}
 use Rattle.allocating_routines.specs.Allocating.{IsAllocateRoutine}
 use Rattle.allocating_routines.specs.Freeing.{found_test}
 use Rattle.allocating_routines.specs.Reallocating.{IsReallocRoutine, tests_code, replace_code, realloc_code}
-use Rattle.space_routines.proofs.Quiet.{shows_both, shows_worked, worked_words}
-use Rattle.allocating_routines.proofs.Stretches.{goes_past, goes_into, are_equal}
+use Rattle.allocating_routines.proofs.Stretches.{goes_past, goes_into}
+use Rattle.allocating_routines.proofs.Stretches.{are_equal}
 use Rattle.allocating_routines.proofs.Stretches.{are_not_equal, above_none}
 use Rattle.allocating_routines.proofs.Zeroed.{AreLocal}
 use Rattle.allocating_routines.proofs.Leaving.{leaves_from, either_of}
@@ -54,7 +56,8 @@ use Rattle.allocating_routines.proofs.Allocates.{rows_are_blocks}
 use Rattle.allocating_routines.proofs.BlockBirth.{LiesInHeap}
 use Rattle.allocating_routines.proofs.SourceBlocks.{sought_in, made_in}
 use Rattle.allocating_routines.proofs.SourceFrees.{ended_in}
-use Rattle.allocating_routines.proofs.SourceReallocs.{new_pointer, lesser_of, moved_in, IsAllocated, NoPlace, NoKey, Made}
+use Rattle.allocating_routines.proofs.SourceReallocs.{new_pointer, lesser_of, moved_in, IsAllocated, NoPlace, NoKey}
+use Rattle.allocating_routines.proofs.SourceReallocs.{Made}
 use Rattle.allocating_routines.proofs.SourceReallocs.{allocated, reallocs_null, reallocs_by, replaced, replaced_by}
 use Rattle.allocating_routines.proofs.FreedTests.{IsFreed, IsTested, AreOutcomes, tested}
 use Rattle.allocating_routines.proofs.Replaces.{replaces_reached}
@@ -110,28 +113,28 @@ module _ (map : MapSizes) (mapped : AreMapped map) (entry : View) (IsGood : Byte
     end = pc + length whole
 
     -- where the parts stand
-    abbrev A : ℕ
-    A = pc + 1 + 5 + length find + 2
+    abbrev after_tests : ℕ
+    after_tests = pc + 1 + 5 + length find + 2
 
-    abbrev Z : ℕ
-    Z = A + length block'
+    abbrev after_block : ℕ
+    after_block = after_tests + length block'
 
-    at_rest : HasAt code A (block' ++ guarded)
+    at_rest : HasAt code after_tests (block' ++ guarded)
     at_rest =
-        let e : pc + length (unless_code Beq h.value (Number 0) tests) ≡ A = omega (arith, tests_length) in
+        let e : pc + length (unless_code Beq h.value (Number 0) tests) ≡ after_tests = omega (arith, tests_length) in
         subst (λ i. HasAt code i (block' ++ guarded)) e
         (has_back code pc (unless_code Beq h.value (Number 0) tests) (block' ++ guarded) has)
 
     at_tests : HasAt code (pc + 1) tests
     at_tests = (has_front code pc (unless_code Beq h.value (Number 0) tests) (block' ++ guarded) has).1
 
-    at_guarded : HasAt code Z guarded
-    at_guarded = has_back code A block' guarded at_rest
+    at_guarded : HasAt code after_block guarded
+    at_guarded = has_back code after_tests block' guarded at_rest
 
-    end_is : Z + 1 + length (unless_code Beq into.value (Number 0) replace) ≡ end
+    end_is : after_block + 1 + length (unless_code Beq into.value (Number 0) replace) ≡ end
     end_is = omega (arith, whole_length)
 
-    inner_end : Z + 1 + 1 + length replace ≡ end
+    inner_end : after_block + 1 + 1 + length replace ≡ end
     inner_end = omega (arith, whole_length)
 
     itself : ShowsNothing s s
@@ -154,16 +157,17 @@ module _ (map : MapSizes) (mapped : AreMapped map) (entry : View) (IsGood : Byte
       Q = Leaves g k IsGood (Pointer into) (t + 4) x s2 (allocate set z line x)
 
       block_reached : (bound : ℕ) (R : Outcome → Type 0)
-          → ((s3 : State) → IsOfWords s3 → Q (Continues s3) → Reaches c code bound (Goes Z s3) end R)
+          → ((s3 : State) → IsOfWords s3 → Q (Continues s3) → Reaches c code bound (Goes after_block s3) end R)
           → ((status : ℕ) (report : List ℕ) (s3 : State) → Q (Halts status report s3) → R (Halts status report s3))
-          → Reaches c code ((60 + 20 * work_of (allocate set z line) x) + bound) (Goes A s2) end R
+          → Reaches c code ((60 + 20 * work_of (allocate set z line) x) + bound) (Goes after_tests s2) end R
       block_reached bound R on off =
-          next c code (60 + 20 * work_of (allocate set z line) x) bound (Goes A s2) Z end (λ s3. Q (Continues s3))
+          next c code (60 + 20 * work_of (allocate set z line) x) bound (Goes after_tests s2) after_block end
+          (λ s3. Q (Continues s3))
           (λ status report s3. Q (Halts status report s3)) R w2
           (weaken c code (60 + 20 * work_of (allocate set z line) x) (60 + 20 * work_of (allocate set z line) x)
-          (Goes A s2) Z Q _ (omega arith) (either_of Q)
-          ((allocates set same_sizes functions types k x z charge weight).from code A s2
-          (has_front code A block' guarded at_rest) w2 (f2, size2, standing)))
+          (Goes after_tests s2) after_block Q _ (omega arith) (either_of Q)
+          ((allocates set same_sizes functions types k x z charge weight).from code after_tests s2
+          (has_front code after_tests block' guarded at_rest) w2 (f2, size2, standing)))
           on off
 
       -- as before the registers changed
@@ -199,10 +203,12 @@ module _ (map : MapSizes) (mapped : AreMapped map) (entry : View) (IsGood : Byte
         let o = reallocs_null set v u line x e in
         let null : s.values h.value ≡ 0 = held.0.word ∙ e in
         let w1 = worked_words c s w in
-        let work : (state_of run).work - x.work ≡ work_of (allocate set z line) x = ap (λ o. (state_of o).work - x.work) o in
+        let work : (state_of run).work - x.work ≡ work_of (allocate set z line) x = ap
+        (λ o. (state_of o).work - x.work) o in
         weaken c code (suc ((60 + 20 * work_of (allocate set z line) x) + 1))
         (100 + 30 * ((state_of run).work - x.work)) (Goes pc s) end R R (omega arith) (λ y q. q)
-        (goes_past c code ((60 + 20 * work_of (allocate set z line) x) + 1) pc A s Beq h.value (Number 0) (length tests) end
+        (goes_past c code ((60 + 20 * work_of (allocate set z line) x) + 1) pc after_tests s Beq h.value (Number 0)
+        (length tests) end
         R has.0 (omega (arith, tests_length)) (are_equal (s.values h.value) 0 null)
         (block_reached (worked c s) w1 refl (shows_worked c s s itself) (λ r l none. refl) 1 R
         (λ s3 w3 q. by (allocate set z line x) o s3 q)
@@ -219,12 +225,14 @@ module _ (map : MapSizes) (mapped : AreMapped map) (entry : View) (IsGood : Byte
 
         by : (o : Completed Value) → run ≡ o → (s3 : State)
             → Leaves g k IsGood (Pointer into) (t + 4) x (worked c s) o (Continues s3)
-            → Reaches c code 1 (Goes Z s3) end R
+            → Reaches c code 1 (Goes after_block s3) end R
         by o same s3 q =
-            goes_past c code 0 Z (Z + 1 + length (unless_code Beq into.value (Number 0) replace)) s3 Beq h.value
+            goes_past c code 0 after_block (after_block + 1 + length (unless_code Beq into.value (Number 0) replace))
+            s3 Beq h.value
             (Number 0) (length (unless_code Beq into.value (Number 0) replace)) end R at_guarded.0 refl
             (are_equal (s3.values h.value) 0 (stays o s3 q ∙ held.0.word ∙ e))
-            (arrived c code 0 (worked c s3) (Z + 1 + length (unless_code Beq into.value (Number 0) replace)) end R end_is
+            (arrived c code 0 (worked c s3) (after_block + 1 + length (unless_code Beq into.value (Number 0) replace))
+            end R end_is
             (subst (λ o. Leaves g k IsGood (Pointer into) t x s o (Continues (worked c s3))) (sym same)
             (back (worked c s) (worked_words c s w) refl (shows_worked c s s itself) (λ r l none. refl) o
             (Continues (worked c s3)) (again (worked c s) s3 o q))))
@@ -263,7 +271,7 @@ module _ (map : MapSizes) (mapped : AreMapped map) (entry : View) (IsGood : Byte
             × ((s2 : State) → IsOfWords s2
             → IsTested map mapped entry IsGood h line t old_below find [] finds functions types k x v charge weight code
             (pc + 1) end s1 at_tests (worked_words c s w) f1 held (object_at x.objects n).size s2
-            → Reaches c code bound (Goes A s2) end R)
+            → Reaches c code bound (Goes after_tests s2) end R)
 
         run_replaced : {o : Completed Value} → a ≡ o → run ≡ replaced n z line o
         run_replaced o = run_is e ∙ ap (replaced n z line) o
@@ -272,7 +280,8 @@ module _ (map : MapSizes) (mapped : AreMapped map) (entry : View) (IsGood : Byte
         still_some : (s2 s3 : State) → OthersStay [] t s1 s2 → (o : Completed Value)
             → Leaves g k IsGood (Pointer into) (t + 4) x s2 o (Continues s3) → s3.values h.value ≡ v.word
         still_some s2 s3 others (Gives y x') r =
-            r.others h.value (let l = old_below.0 in omega arith) old_apart.0 ∙ others h.value old_below.0 tt ∙ held.0.word
+            r.others h.value (let l = old_below.0 in omega arith) old_apart.0 ∙ others h.value old_below.0 tt ∙
+            held.0.word
         still_some s2 s3 others (Ended e' x') r = absurd r
         still_some s2 s3 others (Paused x') r = absurd r
 
@@ -287,11 +296,13 @@ module _ (map : MapSizes) (mapped : AreMapped map) (entry : View) (IsGood : Byte
                   (λ s3 w3 l.
                   let l' = subst (λ o. Leaves g k IsGood (Pointer into) (t + 4) x s2 o (Continues s3)) o l in
                   let w' = still_some s2 s3 d2.others (Gives (integer 0) (sought_in x)) l' in
-                  goes_into c code 1 Z s3 Beq h.value (Number 0) (length (unless_code Beq into.value (Number 0) replace)) end R
+                  goes_into c code 1 after_block s3 Beq h.value (Number 0)
+                  (length (unless_code Beq into.value (Number 0) replace)) end R
                   at_guarded.0 (are_not_equal (s3.values h.value) 0 (λ y. some (sym w' ∙ y)))
-                  (goes_past c code 0 (Z + 1) (Z + 1 + 1 + length replace) (worked c s3) Beq into.value (Number 0)
+                  (goes_past c code 0 (after_block + 1) (after_block + 1 + 1 + length replace) (worked c s3) Beq
+                  into.value (Number 0)
                   (length replace) end R at_guarded.1.0 refl (are_equal (s3.values into.value) 0 l'.given.word)
-                  (arrived c code 0 (worked c (worked c s3)) (Z + 1 + 1 + length replace) end R inner_end
+                  (arrived c code 0 (worked c (worked c s3)) (after_block + 1 + 1 + length replace) end R inner_end
                   (subst (λ o. Leaves g k IsGood (Pointer into) t x s o (Continues (worked c (worked c s3)))) (sym r)
                   (back s2 w2 d2.memory (shows_both s s1 s2 (shows_worked c s s itself) d2.shows) d2.others
                   (Gives (integer 0) (sought_in x)) (Continues (worked c (worked c s3)))
@@ -332,7 +343,8 @@ module _ (map : MapSizes) (mapped : AreMapped map) (entry : View) (IsGood : Byte
               (let y = work_is r in let m = count_is in
                   let n = ap (λ o. (state_of o).work - x.work) o in omega arith),
               λ s2 w2 d2.
-                  block_reached s2 w2 d2.memory (shows_both s s1 s2 (shows_worked c s s itself) d2.shows) d2.others inner R
+                  block_reached s2 w2 d2.memory (shows_both s s1 s2 (shows_worked c s s itself) d2.shows) d2.others
+                  inner R
                   (λ s3 w3 l3.
                   let y = subst (λ o. Leaves g k IsGood (Pointer into) (t + 4) x s2 o (Continues s3)) o l3 in
                   let y' = again s2 (worked c s3) (Gives new x1) (again s2 s3 (Gives new x1) y) in
@@ -346,16 +358,19 @@ module _ (map : MapSizes) (mapped : AreMapped map) (entry : View) (IsGood : Byte
                   ∙ d2.size in
                   let wanted : s3.values size ≡ z =
                   y.others size (omega (arith, size_below)) size_apart ∙ d2.others size size_below tt ∙ size_is in
-                  goes_into c code (suc (suc (1 + ((40 + 16 * l) + ((16 + 16 * block_count x2.objects) + (11 + 0)))))) Z s3 Beq
+                  goes_into c code (suc (suc (1 + ((40 + 16 * l) + ((16 + 16 * block_count x2.objects) + (11 + 0))))))
+                  after_block s3 Beq
                   h.value (Number 0) (length (unless_code Beq into.value (Number 0) replace)) end R at_guarded.0
                   (are_not_equal (s3.values h.value) 0 (λ y. some (sym value ∙ y)))
-                  (goes_into c code (suc (1 + ((40 + 16 * l) + ((16 + 16 * block_count x2.objects) + (11 + 0))))) (Z + 1)
+                  (goes_into c code (suc (1 + ((40 + 16 * l) + ((16 + 16 * block_count x2.objects) + (11 + 0)))))
+                  (after_block + 1)
                   (worked c s3) Beq into.value (Number 0) (length replace) end R at_guarded.1.0
                   (are_not_equal (s3.values into.value) 0 (λ j. not_null (sym y.given.word ∙ j)))
-                  (replaces_reached map mapped entry IsGood local h size into t old_below size_below into_below move unlist
+                  (replaces_reached map mapped entry IsGood local h size into t old_below size_below into_below move
+                  unlist
                   unlock moves unlists unlocks functions types k x n z p q.live q.block lies charge weight s2
                   (f2 s2 w2 d2.memory (shows_both s s1 s2 (shows_worked c s s itself) d2.shows) d2.others)
-                  (worked c (worked c s3)) y' (value ∙ q.start) locked sized wanted code (Z + 1 + 1) end R
+                  (worked c (worked c s3)) y' (value ∙ q.start) locked sized wanted code (after_block + 1 + 1) end R
                   (worked_words c (worked c s3) (worked_words c s3 w3)) at_guarded.1.1
                   (omega (arith, inner_end, replace_length))
                   (λ s6 y6.
@@ -372,7 +387,8 @@ module _ (map : MapSizes) (mapped : AreMapped map) (entry : View) (IsGood : Byte
         by_allocation (NoKey o) = no_key o
         by_allocation (Made p o lies) = made p o lies
 
-      outcomes : AreOutcomes map mapped entry IsGood h line t old_below find [] finds functions types k x v charge weight
+      outcomes : AreOutcomes map mapped entry IsGood h line t old_below find [] finds functions types k x v charge
+          weight
           code (pc + 1) end s1 at_tests (worked_words c s w) f1 held B R
       outcomes = record {
         bad = λ e. (
@@ -389,7 +405,8 @@ module _ (map : MapSizes) (mapped : AreMapped map) (entry : View) (IsGood : Byte
           (λ y q. q)
           (goes_into c code B pc s Beq h.value (Number 0) (length tests) end R has.0
           (are_not_equal (s.values h.value) 0 (λ e. some (sym held.0.word ∙ e)))
-          (tested map mapped entry IsGood h line t old_below find [] finds functions types k x v charge weight code (pc + 1)
+          (tested map mapped entry IsGood h line t old_below find [] finds functions types k x v charge weight code
+          (pc + 1)
           end s1 at_tests (worked_words c s w) f1 held B R outcomes))
 
     reallocs : Reaches c code (100 + 30 * ((state_of run).work - x.work)) (Goes pc s) end R
@@ -422,7 +439,9 @@ realloc_does map mapped entry IsGood local h size into line t old_below size_bel
     by [] code pc s has w f held standing = absurd held
     by (v ∷ []) code pc s has w f held standing = absurd held.1
     by (v ∷ u ∷ []) code pc s has w f held standing =
-        reallocs map mapped entry IsGood local h size into line t old_below size_below into_below old_apart size_apart find
-        block' move unlist unlock finds allocates moves unlists unlocks set same functions types k x v u charge weight code
+        reallocs map mapped entry IsGood local h size into line t old_below size_below into_below old_apart size_apart
+        find
+        block' move unlist unlock finds allocates moves unlists unlocks set same functions types k x v u charge weight
+        code
         pc s has w f held.0 held.1.0 standing
     by (v ∷ u ∷ y ∷ vs) code pc s has w f held standing = absurd held.1.1

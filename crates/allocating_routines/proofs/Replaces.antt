@@ -62,10 +62,12 @@ unfolding_new p z = (refl, refl, refl)
 
 module _ (map : MapSizes) (mapped : AreMapped map) (entry : View) (IsGood : Bytes → Type 0)
     (local : AreLocal map entry IsGood) (old : Held) (size : ℕ) (into : Held) (t : ℕ)
-    (old_below : AreBelow t (held_registers old)) (size_below : size < t) (into_below : AreBelow t (held_registers into))
+    (old_below : AreBelow t (held_registers old)) (size_below : size < t)
+    (into_below : AreBelow t (held_registers into))
     (move unlist unlock : List FlatInstruction)
     (moves : IsTaggedMoveRoutine map entry IsGood into.value old.value (t + 1) (t + 4) move)
-    (unlists : IsUnlistRoutine map old.value (t + 4) unlist) (unlocks : IsReleaseRoutine map old.tag.lock (t + 4) unlock)
+    (unlists : IsUnlistRoutine map old.value (t + 4) unlist)
+    (unlocks : IsReleaseRoutine map old.tag.lock (t + 4) unlock)
     (functions : ℕ) (types : ℕ → ℕ) (k : Keys) (x : Source) (n z p : ℕ)
     (live : (object_at x.objects n).is_live ≡ true) (block : (object_at x.objects n).storage ≡ Allocated)
     (lies : LiesInHeap map p z) (charge weight : ℕ) (s2 : State)
@@ -229,7 +231,8 @@ module _ (map : MapSizes) (mapped : AreMapped map) (entry : View) (IsGood : Byte
 
       stands5 : IsFor g k1 IsGood x2 s5
       stands5 = record {
-        objects = move_stands g k1 mapped (laid_out map mapped) x1.objects s3.memory s5.memory h3.stands.objects l d from
+        objects = move_stands g k1 mapped (laid_out map mapped) x1.objects s3.memory s5.memory h3.stands.objects l d
+            from
             new_live live1 fits_new fits_old is_moved;
         spaces = q5.good;
         keys = h3.stands.keys;
@@ -262,7 +265,8 @@ module _ (map : MapSizes) (mapped : AreMapped map) (entry : View) (IsGood : Byte
 
       abbrev Ended6 : State → Type 0
       Ended6 = HasEndedBlock map mapped entry IsGood local old.value old.tag.lock t
-          (old_below.0, (old_below.1.1.1.1.0, tt)) unlist unlock unlists unlocks functions types k1 x2 n live2 block2 charge
+          (old_below.0, (old_below.1.1.1.1.0, tt)) unlist unlock unlists unlocks functions types k1 x2 n live2 block2
+          charge
           weight s5 stands5 start5 lock5
 
       module _ (s6 : State) (q6 : Ended6 s6) where
@@ -311,7 +315,8 @@ module _ (map : MapSizes) (mapped : AreMapped map) (entry : View) (IsGood : Byte
             beyond : (a < (object_at x.objects n).address)
                 ⊎ ((object_at x.objects n).address + (object_at x.objects n).size ≤ a) → s3.memory a ≡ s2.memory a
             beyond off = h3.elsewhere.low a la (λ j lj. ⊎_elim
-                (λ (e : j ≡ n). (let same : object_at x1.objects j ≡ object_at x.objects n = ap (object_at x1.objects) e ∙ same1 in
+                (λ (e : j ≡ n). (let same : object_at x1.objects j ≡ object_at x.objects n = ap (object_at x1.objects)
+                e ∙ same1 in
                 subst (λ (o : ObjectState). (a < o.address) ⊎ (o.address + o.size ≤ a)) (sym same) off))
                 (λ (ne : j ≢ n). (let q = lives_on j ne lj in let at = q.1 in let bytes = q.2 in
                 ⊎_elim (λ y. inl (omega arith)) (λ y. inr (omega arith)) (out j q.0)))
@@ -322,7 +327,8 @@ module _ (map : MapSizes) (mapped : AreMapped map) (entry : View) (IsGood : Byte
           low = λ a la out. (let q = lives_on (length x.objects) not_new new_live in
               let at = q.1 in let bytes = q.2 in let b = new_address in let e = new_bytes in let here = at_new in
               q6.low a la
-              ∙ is_moved.beside a la (⊎_elim (λ y. inl (omega arith)) (λ y. inr (omega arith)) (out (length x.objects) q.0))
+              ∙ is_moved.beside a la (⊎_elim (λ y. inl (omega arith)) (λ y. inr (omega arith))
+              (out (length x.objects) q.0))
               ∙ low_before a la out);
           behind = λ a la. q6.behind a la ∙ q5.behind a la ∙ ap (λ m. m a) q4.memory ∙ h3.elsewhere.behind a la;
         }

@@ -134,7 +134,8 @@ module _ (map : MapSizes) (mapped : AreMapped map) (size : ℕ) (into : Held) (t
   unfolding put reg_result
   then_null keys z s s2 s3 p d =
       let same : s3.memory ≡ s2.memory = agrees_memory 6 _ _ s3 d.agrees in
-      let at : s3.values (t + 2) ≡ s2.values (t + 2) = d.others (t + 2) (omega arith) (none_there (t + 2) (omega arith)) in
+      let at : s3.values (t + 2) ≡ s2.values (t + 2) = d.others (t + 2) (omega arith)
+      (none_there (t + 2) (omega arith)) in
       let a = below.0 in
       record {
         made = d.others t (omega arith) (none_there t (omega arith)) ∙ p.made;

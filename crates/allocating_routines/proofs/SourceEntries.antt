@@ -14,10 +14,12 @@ use Rattle.obj_memory.proofs.Making.{new_last, new_other}
 use Rattle.obj_memory.proofs.Soundness.{sound_new}
 use Rattle.c_tree.specs.declared.program.Variable.{Variable}
 use Rattle.c_tree.specs.Kinds.{size_of_kind}
-use Rattle.source_meaning.specs.State.{State as Source, Outcome as Completed, Gives, Ended, Home, NoObject, InObject, Setting}
+use Rattle.source_meaning.specs.State.{State as Source, Outcome as Completed, Gives, Ended, Home, NoObject, InObject}
+use Rattle.source_meaning.specs.State.{Setting}
 use Rattle.source_meaning.specs.State.{on, choose, done, change, stop, skip, ◌>>◌}
 use Rattle.source_meaning.specs.Actions.{take_key}
-use Rattle.source_meaning.specs.Blocks.{pass_or_stop, objects_end, has_objects, test_keys, place_object, place_variables}
+use Rattle.source_meaning.specs.Blocks.{pass_or_stop, objects_end, has_objects, test_keys, place_object}
+use Rattle.source_meaning.specs.Blocks.{place_variables}
 use Rattle.source_meaning.specs.Blocks.{homes_over, Block, place_block, enter_block}
 use Rattle.source_meaning.specs.Keeping.{AreSeparate}
 use Rattle.source_meaning.specs.Places.{stack_end}
@@ -67,7 +69,8 @@ variables_placed (v ∷ vs) x = by (λ y. variables_placed vs y) v.is_object ref
   where
     by : ((y : Source) → place_variables vs y ≡ Gives (homes_from vs (length y.objects)) (placed_in vs y)) → (b : Bool)
         → v.is_object ≡ b
-        → on (choose v.is_object (place_object (size_of_kind v.kind)) (done NoObject) x) (λ home y. rest_of home (place_variables vs y))
+        → on (choose v.is_object (place_object (size_of_kind v.kind)) (done NoObject) x)
+        (λ home y. rest_of home (place_variables vs y))
         ≡ Gives (homes_from (v ∷ vs) (length x.objects)) (placed_in (v ∷ vs) x)
     by again true e =
         let y : Source = record x {
@@ -76,8 +79,10 @@ variables_placed (v ∷ vs) x = by (λ y. variables_placed vs y) v.is_object ref
           objects = with_new Automatic (rounded_up 16 x.stacked) (size_of_kind v.kind) x.objects;
         } in
         let many = length-new Automatic (rounded_up 16 x.stacked) (size_of_kind v.kind) x.objects in
-        let work : x.work + (1 + size_of_kind v.kind) + placing_work vs ≡ x.work + (1 + size_of_kind v.kind + placing_work vs) = omega arith in
-        ap (λ b. on (choose b (place_object (size_of_kind v.kind)) (done NoObject) x) (λ home y. rest_of home (place_variables vs y))) e
+        let work : x.work + (1 + size_of_kind v.kind) + placing_work vs ≡ x.work +
+        (1 + size_of_kind v.kind + placing_work vs) = omega arith in
+        ap (λ b. on (choose b (place_object (size_of_kind v.kind)) (done NoObject) x)
+        (λ home y. rest_of home (place_variables vs y))) e
         ∙ ap (rest_of (InObject (length x.objects))) (again y)
         ∙ ap (λ n. Gives (InObject (length x.objects) ∷ homes_from vs n) (placed_in vs y)) many
         ∙ ap (λ w. Gives (InObject (length x.objects) ∷ homes_from vs (length x.objects + 1))
@@ -92,7 +97,8 @@ variables_placed (v ∷ vs) x = by (λ y. variables_placed vs y) v.is_object ref
         })) (sym e)
     by again false e =
         let work : x.work + placing_work vs ≡ x.work + (0 + placing_work vs) = omega arith in
-        ap (λ b. on (choose b (place_object (size_of_kind v.kind)) (done NoObject) x) (λ home y. rest_of home (place_variables vs y))) e
+        ap (λ b. on (choose b (place_object (size_of_kind v.kind)) (done NoObject) x)
+        (λ home y. rest_of home (place_variables vs y))) e
         ∙ ap (rest_of NoObject) (again x)
         ∙ ap (λ w. Gives (NoObject ∷ homes_from vs (length x.objects)) (record (placed_in vs x) { work = w })) work
         ∙ ap (λ b. Gives ((if b then InObject (length x.objects) else NoObject)

@@ -24,7 +24,8 @@ starts_rise low high [] h i j l k = absurd (omega arith)
 starts_rise low high (r ∷ rs) h i zero l k = absurd (omega arith)
 starts_rise low high (r ∷ rs) h zero (suc j) l k =
     let a = from_low (row_end r) high rs h.2 j (omega arith) in omega arith
-starts_rise low high (r ∷ rs) h (suc i) (suc j) l k = starts_rise (row_end r) high rs h.2 i j (omega arith) (omega arith)
+starts_rise low high (r ∷ rs) h (suc i) (suc j) l k = starts_rise (row_end r) high rs h.2 i j (omega arith)
+    (omega arith)
 
 -- ---- one more
 

@@ -172,7 +172,8 @@ record HasZeros (first n t : ℕ) (s s' : State) : Type 0 where
   shows : ShowsNothing s s'
   others : (x : ℕ) → x < t → s'.values x ≡ s.values x
 
-zeros_does : (map : MapSizes) (first bytes t n count charge weight : ℕ) → IsLaidOut map → AreBelow t (first ∷ bytes ∷ [])
+zeros_does : (map : MapSizes) (first bytes t n count charge weight : ℕ) → IsLaidOut map → AreBelow t
+    (first ∷ bytes ∷ [])
     → Does (context_of map true charge weight) (zero_bytes first bytes t (t + 1) (t + 2))
     (HasRange map first bytes t n count) (λ s. 6 + (count * 4 + (n - 8 * count) * 4))
     (λ s. Either (HasZeros first n t s) Never)
@@ -268,7 +269,8 @@ module _ (map : MapSizes) (mapped : AreMapped map) (entry : View) (IsGood : Byte
             let three = has_back code (pc + 2) clear tail two in
             let end : pc + 2 + length clear + 12 ≡ pc + length whole = omega (arith, length-append clear tail) in
             let wide = w.values bytes in
-            subst (λ k. Reaches c code (42 + 5 * n) (Goes pc s) k (Either (HasZeroed map entry IsGood first n t s) Never)) end
+            subst (λ k. Reaches c code (42 + 5 * n) (Goes pc s) k
+            (Either (HasZeroed map entry IsGood first n t s) Never)) end
             (weaken c code (2 + ((32 + 32 * count) + (6 + (count * 4 + (n - 8 * count) * 4)))) (42 + 5 * n) (Goes pc s)
             (pc + 2 + length clear + 12) _ _ (omega arith) (λ x q. q)
             (stretch_on c (bytes ∷ []) [] (t ∷ []) t regs (word_bytes 0 1) refl code
@@ -294,7 +296,8 @@ module _ (map : MapSizes) (mapped : AreMapped map) (entry : View) (IsGood : Byte
               subst IsGood (sym m1) p.1.shadow,
             ))
             (λ s2 w2 d2.
-            let first2 : s2.values first ≡ s.values first = d2.others first (let l = below.0 in omega arith) tt ∙ first1 in
+            let first2 : s2.values first ≡ s.values first = d2.others first (let l = below.0 in omega arith) tt ∙
+            first1 in
             let bytes2 : s2.values bytes ≡ n = d2.others bytes (let l = below.1.0 in omega arith) tt ∙ bytes1 ∙ size in
             let words2 : s2.values t ≡ 8 * count = d2.others t (omega arith) tt ∙ words in
             weaken c code (6 + (count * 4 + (n - 8 * count) * 4)) (6 + (count * 4 + (n - 8 * count) * 4))
@@ -309,7 +312,8 @@ module _ (map : MapSizes) (mapped : AreMapped map) (entry : View) (IsGood : Byte
           → s1.values first ≡ s.values first → s1.memory ≡ s.memory → ShowsNothing s s1
           → ((x : ℕ) → x < t → Unit {0} → s1.values x ≡ s.values x)
           → HasCleared map entry IsGood first (n / 8) (t + 1) s1 s2 → s2.values first ≡ s.values first
-          → (x : Outcome) → Either (HasZeros first n t s2) Never x → Either (HasZeroed map entry IsGood first n t s) Never x
+          → (x : Outcome) → Either (HasZeros first n t s2) Never x → Either (HasZeroed map entry IsGood first n t s)
+          Never x
       ends n s p g s1 s2 first1 m1 shows1 others1 d2 first2 (Continues s3) h =
           let at : (i : ℕ) → s2.values first + i ≡ s.values first + i = λ i. ap (λ x. x + i) first2 in
           let q = memory_is n s p s2.memory s3.memory d2.good

@@ -98,7 +98,8 @@ more_zeros u m m1 a n d l keep zeros = (
       (cases_lt i d),
 )
 
-module _ (map : MapSizes) (charge weight : ℕ) (op : StoreOp) (some : 1 ≤ store_bytes op) (small_unit : store_bytes op ≤ 8)
+module _ (map : MapSizes) (charge weight : ℕ) (op : StoreOp) (some : 1 ≤ store_bytes op)
+    (small_unit : store_bytes op ≤ 8)
     (start : State) (a z n : ℕ) (lo : objects_begin ≤ a) (hi : a + n ≤ region_end map Heap)
     (small : region_end map Heap < 2 ^ 62) (inside : z ≤ n) where
   abbrev c : Context

@@ -11,7 +11,8 @@ use Rattle.source_meaning.specs.Heap.{allocate, malloc, calloc}
 use Rattle.source_meaning.specs.Library.{argument}
 use Rattle.flat_meaning.specs.declared.instruction.RightOperand.TheVariants.{Register, Number}
 use Rattle.flat_meaning.specs.declared.instruction.FlatInstruction.{FlatInstruction}
-use Rattle.flat_meaning.specs.declared.instruction.FlatInstruction.TheVariants.{Constant, Move, Operate, Load, Branch, End}
+use Rattle.flat_meaning.specs.declared.instruction.FlatInstruction.TheVariants.{Constant, Move, Operate, Load, Branch}
+use Rattle.flat_meaning.specs.declared.instruction.FlatInstruction.TheVariants.{End}
 use Rattle.flat_meaning.specs.Memory.{Bytes}
 use Rattle.flat_routines.specs.declared.registers.Held.{Held}
 use Rattle.flat_routines.specs.Routine.{Does, unless_code}
@@ -30,7 +31,8 @@ IsAllocateRoutine map entry IsGood size into line t r =
     → (functions : ℕ) (types : ℕ → ℕ) (k : Keys) (x : Source) (z charge weight : ℕ) →
     let g = views_of map functions types entry in
     Does (context_in (runtime_basis map entry IsGood) charge weight) r
-    (λ s. IsFor g k IsGood x s × (s.values size ≡ z) × AreStanding map x) (λ s. 60 + 20 * work_of (allocate set z line) x)
+    (λ s. IsFor g k IsGood x s × (s.values size ≡ z) × AreStanding map x)
+    (λ s. 60 + 20 * work_of (allocate set z line) x)
     (λ s. Leaves g k IsGood (Pointer into) t x s (allocate set z line x))
 
 -- `malloc`, under every setting with these sizes, within 60 steps and 20 for each unit of work

@@ -41,7 +41,8 @@ pub record HasZeroed (map : MapSizes) (entry : View) (IsGood : Bytes → Type 0)
   pub others : OthersStay [] scratch s s'
 
 -- within 42 steps and 5 for each byte
-abbrev pub IsZeroRoutine : MapSizes → View → (Bytes → Type 0) → (first bytes scratch : ℕ) → List FlatInstruction → Type 0
+abbrev pub IsZeroRoutine : MapSizes → View → (Bytes → Type 0) → (first bytes scratch : ℕ) → List FlatInstruction →
+    Type 0
 IsZeroRoutine map entry IsGood first bytes t r =
     (n : ℕ)
     → DoesInRuntime map r (λ s. IsToZero map first bytes n s × AreSpacesGood map IsGood s.memory) (42 + 5 * n)

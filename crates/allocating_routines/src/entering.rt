@@ -1,10 +1,12 @@
-//! Blocks that are entered and left: all objects of a block are born under one lock word with one key, and die together.
+//! Blocks that are entered and left: all objects of a block are born under one lock word with one key, and die
+//! together.
 
 ghost use Rattle.std.specs.Prelude.{◌≡◌, ◌+◌, ◌≤◌, ◌<◌, ◌^◌, ◌++◌, IfOk, [], ◌∷◌};
 ghost use Rattle.addr_map.specs.Places.{AreMapped};
 ghost use Rattle.flat_routines.specs.Registers.{AreBelow, AreDistinct, AreNoneOf};
 ghost use Rattle.allocating_routines.specs.Allocating.{key_test};
-ghost use Rattle.allocating_routines.specs.Entering.{registers_in, IsEnterRoutine, IsLeaveRoutine, round_code, room_code};
+ghost use Rattle.allocating_routines.specs.Entering.{registers_in, IsEnterRoutine, IsLeaveRoutine, round_code};
+ghost use Rattle.allocating_routines.specs.Entering.{room_code};
 ghost use Rattle.allocating_routines.specs.Entering.{room_test, end_of_block, enter_code};
 
 use crate::allocating::{key_test, keys_list};

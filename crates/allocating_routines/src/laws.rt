@@ -24,7 +24,8 @@ pub fn a_zeroed_object_is_zero()
         → StandsFor (views_of map functions types entry) k (with_zeroed n objects) m' }
 {}
 
-/// Live automatic objects have bytes still when one is made that has, when one dies, and when bytes and tags are written.
+/// Live automatic objects have bytes still when one is made that has, when one dies, and when bytes and tags are
+/// written.
 pub fn objects_have_bytes_still()
     ensures none { HaveBytes [] }
     ensures new { (storage : Storage) (address size : ℕ) (objects : Objects) → (storage ≡ Automatic → 1 ≤ size)

@@ -20,7 +20,8 @@ use shadow_space::ShadowForm;
 use std::alloc::{AllocError, Global};
 
 /// Gives in `into` a pointer to a new block of as many bytes as `size` holds, into which what both have room for of the
-/// block in `old` was moved with its tags, and the old block ends; or null, where there is no place for a new block, and
+/// block in `old` was moved with its tags, and the old block ends; or null, where there is no place for a new block,
+/// and
 /// the old one lives on. For null it is `malloc`. What `free` refuses to end is refused, and ends the run at `line`. It
 /// may write the registers from `scratch` on. The only refusal is that memory fails.
 pub fn realloc<S: ShadowForm>(

@@ -12,8 +12,10 @@ use rv_isa::{BranchOp, RegOp, StoreOp};
 use shadow_space::ShadowForm;
 use std::alloc::{AllocError, Global};
 
-/// Makes the bytes of a range of object space zero, and its whole words words without a pointer. `first` holds where the
-/// range begins, at a multiple of 8, and `bytes` how many it has. It may write the registers from `scratch` on, and shows
+/// Makes the bytes of a range of object space zero, and its whole words words without a pointer. `first` holds where
+/// the
+/// range begins, at a multiple of 8, and `bytes` how many it has. It may write the registers from `scratch` on, and
+/// shows
 /// nothing. The only refusal is that memory fails.
 pub fn zero<S: ShadowForm>(
     alloc: Global,

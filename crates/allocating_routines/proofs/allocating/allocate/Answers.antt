@@ -11,7 +11,8 @@ returns g c =
     (λ place fresh zero. malloc_code a.map.now place fresh zero a.size a.into a.line a.scratch (a.scratch + 1)
     (a.scratch + 2)) _ _ _ _ c.in_ok-place.place.items c.in_ok-fresh.fresh.items c.in_ok-zeros.zeros.items
     c.in_ok-r.ensures c.as_slice.ensures.value c.as_slice-2.ensures.value c.as_slice-3.ensures.value in
-    subst (IsAllocateRoutine a.map.now g.S.ShadowForm.entry (g.S.ShadowForm.IsGood a.map.now) a.size a.into a.line a.scratch)
+    subst (IsAllocateRoutine a.map.now g.S.ShadowForm.entry (g.S.ShadowForm.IsGood a.map.now) a.size a.into a.line
+    a.scratch)
     (sym items)
     (allocate_does a.map.now c.requires.map g.S.ShadowForm.entry (g.S.ShadowForm.IsGood a.map.now)
     (λ m m' k h. c.entries_are_local.ensures a.map.now m m' c.requires.map k h) a.size a.into a.line a.scratch

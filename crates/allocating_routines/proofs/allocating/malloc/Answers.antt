@@ -6,5 +6,6 @@ pub returns : goal.returns
 returns g c =
     let a = c.args in
     IfOk-weaker _ _ _
-    (λ r h. malloc_does a.map.now g.S.ShadowForm.entry (g.S.ShadowForm.IsGood a.map.now) a.size a.into a.line a.scratch _
+    (λ r h. malloc_does a.map.now g.S.ShadowForm.entry (g.S.ShadowForm.IsGood a.map.now) a.size a.into a.line
+    a.scratch _
     h) c.allocate.ensures

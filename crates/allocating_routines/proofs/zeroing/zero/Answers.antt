@@ -7,7 +7,8 @@ use Rattle.allocating_routines.proofs.zeroing.zero.Goals as goal
 pub returns : goal.returns
 returns g c =
     let a = c.args in
-    let items = by_body (λ clear. zero_code clear a.first a.bytes a.scratch (a.scratch + 1) (a.scratch + 2)) _ _ c.in_ok-clear.clear.items
+    let items = by_body (λ clear. zero_code clear a.first a.bytes a.scratch (a.scratch + 1) (a.scratch + 2)) _ _
+    c.in_ok-clear.clear.items
     c.in_ok-r.ensures c.as_slice.ensures.value in
     subst (IsZeroRoutine a.map.now g.S.ShadowForm.entry (g.S.ShadowForm.IsGood a.map.now) a.first a.bytes a.scratch)
     (sym items)

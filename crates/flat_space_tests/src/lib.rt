@@ -11,4 +11,6 @@ mod interpreter;
 #[cfg(test)]
 mod locks;
 #[cfg(test)]
+mod start;
+#[cfg(test)]
 mod violations;

@@ -439,6 +439,7 @@ module _ (map : MapSizes) (mapped : AreMapped map) (entry : View) (IsGood : Byte
                   stands = stands;
                   first_is = first5;
                   end_is = end5;
+                  key_is = key5;
                   share = λ n l. (let a = key5 in let b = lock5 in
                       held_after (length x.objects) lock k n l
                       ∙ ap (λ y. record { key = y; lock = lock }) (sym key5)

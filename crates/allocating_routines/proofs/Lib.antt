@@ -27,3 +27,4 @@ pub mod LeftBlocks
 pub mod Enters
 pub mod KeptBytes
 pub mod ZeroedObjects
+pub mod OuterBlocks

@@ -6,9 +6,10 @@ use Rattle.rv_isa.specs.declared.instruction.BranchOp.TheVariants.{Bgeu}
 use Rattle.rv_isa.specs.declared.instruction.RegOp.TheVariants.{Add, Sub, Sll, Srl}
 use Rattle.addr_map.specs.declared.region.Region.TheVariants.{Heap, StructureValues}
 use Rattle.addr_map.specs.Places.{MapSizes, spaces_begin, region_start}
-use Rattle.obj_memory.specs.declared.object.Storage.TheVariants.{Automatic}
+use Rattle.obj_memory.specs.declared.object.Storage.TheVariants.{Automatic, Allocated}
 use Rattle.obj_memory.specs.Objects.{object_at}
 use Rattle.obj_memory.specs.Heap.{rounded_up}
+use Rattle.obj_memory.specs.Sound.{Continues as ObjectsContinue}
 use Rattle.c_tree.specs.declared.program.Variable.{Variable}
 use Rattle.c_tree.specs.Kinds.{size_of_kind}
 use Rattle.source_meaning.specs.State.{State as Source, Outcome as Completed, Gives, Ended, Paused, Home, NoObject}
@@ -46,6 +47,14 @@ pub record AreOfLock (k : Keys) (x : Source) (homes : List Home) (lock : ℕ) : 
       → (n < length x.objects) × ((object_at x.objects n).storage ≡ Automatic) × ((k.held n).lock ≡ lock)
   pub home : (n : ℕ) → (object_at x.objects n).is_live ≡ true → (k.held n).lock ≡ lock → IsHomeOf n homes
 
+-- objects are made with keys of their own: blocks of the heap have them alone, and others later ones
+pub record AreNewlyKeyed (x x' : Source) (k k' : Keys) : Type 0 where
+  pub held : KeepsHeld x.objects k k'
+  pub continues : ObjectsContinue x.objects x'.objects
+  pub later : (n : ℕ) → length x.objects ≤ n → (object_at x'.objects n).is_live ≡ true
+      → ((object_at x'.objects n).storage ≡ Allocated)
+      ⊎ (((k'.held n).key ≡ 2 + k'.own n) × (k.made ≤ k'.own n))
+
 -- ---- a block is entered
 
 -- each variable that is an object has a byte
@@ -76,6 +85,7 @@ pub record HasEntered (g : Views) (k : Keys) (IsGood : Bytes → Type 0) (to : E
   pub stands : IsFor g keys IsGood x' f'
   pub first_is : f'.values to.first ≡ rounded_up 16 x.stacked
   pub end_is : f'.values to.end ≡ x'.stacked
+  pub key_is : f'.values to.key ≡ 2 + k.made
   pub share : (n : ℕ) → length x.objects ≤ n
       → keys.held n ≡ record { key = f'.values to.key; lock = f'.values to.lock }
   pub of_lock : AreOfLock keys x' homes (f'.values to.lock)

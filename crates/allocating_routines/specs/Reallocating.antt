@@ -39,7 +39,8 @@ abbrev pub replace_code : (move unlist unlock : List FlatInstruction) → (size 
 replace_code move unlist unlock size l = lesser_code size l ++ (move ++ (unlist ++ unlock))
 
 -- over a routine that finds a block, one that allocates one, and what replaces a block
-abbrev pub reallocating_code : (find allocate replace : List FlatInstruction) → (old into : Held) → (line word found : ℕ)
+abbrev pub reallocating_code : (find allocate replace : List FlatInstruction) → (old into : Held) →
+    (line word found : ℕ)
     → List FlatInstruction
 reallocating_code find allocate replace old into line x found =
     unless_code Beq old.value (Number 0) (tests_code find old line x found)

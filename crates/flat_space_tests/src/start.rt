@@ -66,7 +66,10 @@ fn are_read(machine: &mut Machine, read: &[FlatInstruction]) -> Result<bool, All
     Ok(true)
 }
 
-fn reads_what_it_starts_with<S: ShadowForm>(alloc: Global, map: &AddrMap) -> Result<bool, AllocError> {
+fn reads_what_it_starts_with<S: ShadowForm>(
+    alloc: Global,
+    map: &AddrMap,
+) -> Result<bool, AllocError> {
     addr_map::laws::sizes_are_in_range(map);
     if map.global_bytes() != 8192 {
         return Ok(false);

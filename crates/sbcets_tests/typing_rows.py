@@ -1,12 +1,11 @@
 #!/usr/bin/env python3
-"""Makes stdin and stdout of this program. The texts are those of rows/units.py and of RULES below; the rule that a text
+"""The texts of this program that are typed alone. They are those of rows/units.py and of RULES below; the rule that a text
 violates first and its line, or that it violates none, were worked out by hand from C99 and docs/LANGUAGE.md. The sizes of
 objects, and the values, sizes and signs of constant expressions are gcc's (12.2.0): a text with another one is refused, since
 the size of an array in it is -1 then. `gcc` prints the texts of RULES that gcc does not refuse on the same line, and those of the
 other tables that it does not decide so: these have a rule that gcc has not, or are judged at another token.
 
-usage: python3 crates/typing_vectors/vectors.py make     writes stdin and stdout
-       python3 crates/typing_vectors/vectors.py gcc      compares with gcc
+usage: python3 crates/sbcets_tests/typing_rows.py gcc      compares with gcc
 """
 
 import itertools
@@ -243,13 +242,6 @@ def rows():
         yield text, "rule 3 line 2"
 
 
-def make():
-    with open(f"{HERE}/stdin", "w") as texts, open(f"{HERE}/stdout", "w") as shown:
-        found = list(rows())
-        texts.write("%%\n".join(text for text, _ in found))
-        shown.write("".join(line + "\n" for _, line in found))
-
-
 def refused(text, words=()):
     done = subprocess.run(["gcc", "-std=c99", "-pedantic-errors", "-fsyntax-only", "-funsigned-char", *words, "-x", "c", "-"], input=text,
                           text=True, capture_output=True)
@@ -273,9 +265,8 @@ def compare():
             print("Redeclared", repr(text))
 
 
-if sys.argv[1:] == ["make"]:
-    make()
-elif sys.argv[1:] == ["gcc"]:
-    compare()
-else:
-    sys.exit(__doc__)
+if __name__ == "__main__":
+    if sys.argv[1:] == ["gcc"]:
+        compare()
+    else:
+        sys.exit(__doc__)

@@ -68,7 +68,12 @@ fn image_of_source(alloc: Global, case: &Case) -> Result<Vec<u8>> {
 fn put_compiled(rt: &HostRuntime, case: &Case) -> Result<()> {
     match compile(rt.alloc(), &case.source, &budgets()?) {
         Ok(built) => println!(rt; "compiled with {} checks", built.checks)?,
-        Err(SourceRefusal::TooLarge { which: Counted::Source, count }) => {
+        Err(
+            SourceRefusal::TooLarge {
+                which: Counted::Source,
+                count,
+            },
+        ) => {
             println!(rt; "a source of {count} bytes")?;
         }
         Err(_) => println!(rt; "refused")?,
@@ -126,7 +131,10 @@ fn words_of(alloc: Global, line: &str) -> Result<Vec<String>> {
 // The first bytes, where all behind them are as the last of them; else all.
 fn shortened(bytes: &[u8], count: usize) -> &[u8] {
     let first = &bytes[..count.min(bytes.len())];
-    let is_repeated = bytes.iter().skip(count).all(|byte| Some(byte) == first.last());
+    let is_repeated = bytes
+        .iter()
+        .skip(count)
+        .all(|byte| Some(byte) == first.last());
     if is_repeated { first } else { bytes }
 }
 

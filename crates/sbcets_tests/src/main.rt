@@ -4,7 +4,8 @@
 // The first has programs, each with its input behind a line `%<` where it reads one. For each is printed what the run
 // wrote, and then on a line of its own its status, or what else the run came to.
 //
-// The second has cases. A line of a case that begins with one of these words says what is given, the others are lines of
+// The second has cases. A line of a case that begins with one of these words says what is given, the others are lines
+// of
 // the file `hi.c`:
 //
 // - `%call WORDS`: the program is called with these words. A line is printed for each call: its status, what the output
@@ -23,7 +24,8 @@
 //
 // `stdin` and `stdout` are made by `vectors.py` beside them: of the programs by gcc 12.2.0 (Debian 12; -std=c99 -O1
 // -fwrapv -funsigned-char), of the cases from `cases.txt`, where each expected line stands with its case, as the
-// documents state it (docs/LANGUAGE.md, docs/FORMATS.md), and of the sources that are typed from `typing_rows.py`, whose
+// documents state it (docs/LANGUAGE.md, docs/FORMATS.md), and of the sources that are typed from `typing_rows.py`,
+// whose
 // tables were worked out by hand; what gcc 12.2.0 says of them stands there.
 #![tactic(auto)]
 

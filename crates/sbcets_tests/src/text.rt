@@ -10,7 +10,10 @@ pub fn unescaped(alloc: Global, text: &str) -> Result<Vec<u8>> {
     while let Some(piece) = pieces.next() {
         let (byte, rest) = match piece.as_bytes().first() {
             Some(b'n') => (b'\n', &piece.as_bytes()[1..]),
-            Some(b'x') => (hexadecimal(piece)?, piece.as_bytes().get(3..).context("two digits")?),
+            Some(b'x') => (
+                hexadecimal(piece)?,
+                piece.as_bytes().get(3..).context("two digits")?,
+            ),
             _ => (b'\\', pieces.next().context("an escape")?.as_bytes()),
         };
         bytes.push(byte)?;

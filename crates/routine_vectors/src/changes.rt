@@ -87,9 +87,9 @@ pub fn write_born(
     objects: &Objects,
     after: &mut Machine,
     read: &[FlatInstruction],
-    first: u64,
-    end: u64,
+    born: (u64, u64),
 ) -> Result<(), AllocError> {
+    let (first, end) = born;
     for word in 0..end.saturating_sub(first) / 8 {
         let address = first.wrapping_add(word.wrapping_mul(8));
         let new = entry_at(after, read, address)?;
@@ -130,14 +130,31 @@ pub fn write_spaces(
         write!(text, " keys {:x}", after.word(counter))?;
     }
     write_blocks(text, map, before, after)?;
-    let (old, new) = (locks_held(map, before), locks_held(map, after));
-    if old != new {
-        write!(text, " locks {new:x}")?;
-    }
+    write_locks(text, map, before, after)?;
     let (behind, _) = map.region(Region::StructureValues);
     let first = behind.saturating_sub(SPACES) as usize;
     if before.spaces.get(first..) != after.spaces.get(first..) {
         text.push_str(" behind")?;
+    }
+    Ok(())
+}
+
+// Writes how many lock words hold a key where that is another number.
+fn write_locks(
+    text: &mut String,
+    map: &AddrMap,
+    before: &Memory,
+    after: &Memory,
+) -> Result<(), AllocError> {
+    let (first, last) = map.region(Region::Locks);
+    let start = first.saturating_sub(SPACES) as usize;
+    let end = last.saturating_sub(SPACES) as usize;
+    if before.spaces.get(start..end) == after.spaces.get(start..end) {
+        return Ok(());
+    }
+    let (old, new) = (locks_held(map, before), locks_held(map, after));
+    if old != new {
+        write!(text, " locks {new:x}")?;
     }
     Ok(())
 }

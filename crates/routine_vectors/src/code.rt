@@ -2,9 +2,6 @@
 
 ghost use Rattle.std.specs.Prelude.{◌≤◌, ◌+◌, IfOk, [], ◌∷◌};
 ghost use Rattle.addr_map.specs.Places.{AreMapped};
-ghost use Rattle.flat_routines.specs.Registers.{AreBelow};
-ghost use Rattle.flat_actions.specs.Actions.{registers_of};
-ghost use Rattle.access_routines.specs.Holding.{holder_in};
 ghost use Rattle.printing_routines.specs.Printed.{ArePrintable};
 
 use crate::routine::{Accessing, Allocating, Moving, Piece, Putting, Request, Routine, Strings};
@@ -189,6 +186,7 @@ fn printf_code<S: ShadowForm>(
     }
 }
 
+#[tactic(auto, using(crate::proofs::Printable::one_more))]
 fn long_printf_code<S: ShadowForm>(
     alloc: Global,
     map: &AddrMap,
@@ -230,16 +228,6 @@ fn printed(pieces: &[Piece], index: u32) -> Printed
     }
 }
 
-// What is stored: the second operand.
-fn stored(request: &Request) -> HeldScalar
-    ensures { AreBelow 40 (registers_of (holder_in result)) }
-{
-    match request.of {
-        Some(of) => HeldScalar::Integer(of, 5),
-        None => HeldScalar::Pointer(SECOND),
-    }
-}
-
 fn accessing_code<S: ShadowForm>(
     alloc: Global,
     map: &AddrMap,
@@ -260,14 +248,24 @@ fn accessing_code<S: ShadowForm>(
                 checked_load::<S>(alloc, map, FIRST, into, line, SCRATCH)
             }
         },
-        Accessing::CheckedStore => {
-            checked_store::<S>(alloc, map, FIRST, stored(request), line, SCRATCH)
-        }
+        Accessing::CheckedStore => match request.of {
+            Some(of) => {
+                let from = HeldScalar::Integer(of, 5);
+                checked_store::<S>(alloc, map, FIRST, from, line, SCRATCH)
+            }
+            None => {
+                let from = HeldScalar::Pointer(SECOND);
+                checked_store::<S>(alloc, map, FIRST, from, line, SCRATCH)
+            }
+        },
         Accessing::Load => match request.of {
             Some(of) => load::<S>(alloc, map, 0, HeldScalar::Integer(of, 30), SCRATCH),
             None => load::<S>(alloc, map, 0, HeldScalar::Pointer(RESULT), SCRATCH),
         },
-        Accessing::Store => store::<S>(alloc, map, 0, stored(request), SCRATCH),
+        Accessing::Store => match request.of {
+            Some(of) => store::<S>(alloc, map, 0, HeldScalar::Integer(of, 5), SCRATCH),
+            None => store::<S>(alloc, map, 0, HeldScalar::Pointer(SECOND), SCRATCH),
+        },
         Accessing::SpatialCheck => {
             spatial_check(alloc, FIRST, RightOperand::Register(5), line, SCRATCH)
         }

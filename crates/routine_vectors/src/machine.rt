@@ -107,19 +107,28 @@ impl Machine {
     fn step(&mut self, instruction: FlatInstruction) -> Result<Next, AllocError> {
         Ok(match instruction {
             FlatInstruction::Constant { into, value } => self.give(into, Some(value)),
-            FlatInstruction::Move { into, from } => self.give(into, Some(self.value(from))),
+            FlatInstruction::Move { into, from } => {
+                let value = self.value(from);
+                self.give(into, Some(value))
+            }
             FlatInstruction::Operate {
                 op,
                 into,
                 left,
                 right,
-            } => self.give(into, operated(op, self.value(left), self.right(right))),
+            } => {
+                let value = operated(op, self.value(left), self.right(right));
+                self.give(into, value)
+            }
             FlatInstruction::Operate32 {
                 op,
                 into,
                 left,
                 right,
-            } => self.give(into, operated32(op, self.value(left), self.right(right))),
+            } => {
+                let value = operated32(op, self.value(left), self.right(right));
+                self.give(into, value)
+            }
             FlatInstruction::Branch {
                 op,
                 left,
@@ -173,11 +182,13 @@ impl Machine {
                 let address = self.value(at).wrapping_add(offset as u64);
                 let size = store_size(op);
                 self.note(true, address, size)?;
-                let done = self.memory.store(address, size, self.value(from));
+                let number = self.value(from);
+                let done = self.memory.store(address, size, number);
                 Ok(if done { Next::On(0) } else { Next::Lost })
             }
             FlatInstruction::Put { from } => {
-                self.output.push((self.value(from) & 0xff) as u8)?;
+                let byte = self.value(from) & 0xff;
+                self.output.push(byte as u8)?;
                 Ok(Next::On(0))
             }
             FlatInstruction::End(ending) => self.end(&ending),

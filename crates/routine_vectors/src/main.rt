@@ -9,7 +9,7 @@
 //!   many steps; with `keep` what comes later begins with what it left.
 //!
 //! Operands stand in registers, five for each: a number, a pointer `ADDRESS/TAG`, `lockN`, the lock word of object N; or
-//! are parts of the code: `:TYPE`, `%DIRECTIVE`, and `.BYTE`. A tag is `-`, `NUMBER/BASE/BOUND` or `f/ADDRESS/TYPE`. All
+//! are parts of the code: `:TYPE`, `%DIRECTIVE`, and `.BYTE`. A tag is `-`, `NUMBER/BASE/BOUND` or `fn/ADDRESS/TYPE`. All
 //! numbers are hexadecimal.
 //!
 //! Of each row a line tells how the run was left, what it gave and showed, whether its steps are as few as promised, and

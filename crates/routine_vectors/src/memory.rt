@@ -77,13 +77,16 @@ impl Memory {
 
     /// Puts a byte at an address of this memory.
     pub fn put(&mut self, address: u64, byte: u8) {
-        let (bytes, start) = if address >= SPACES {
-            (&mut self.spaces, SPACES)
+        if address >= SPACES {
+            put_at(&mut self.spaces, address - SPACES, byte);
         } else {
-            (&mut self.objects, OBJECTS)
-        };
-        if let Some(place) = bytes.get_mut(address.saturating_sub(start) as usize) {
-            *place = byte;
+            put_at(&mut self.objects, address.saturating_sub(OBJECTS), byte);
         }
+    }
+}
+
+fn put_at(bytes: &mut Vec<u8>, offset: u64, byte: u8) {
+    if let Some(place) = bytes.get_mut(offset as usize) {
+        *place = byte;
     }
 }

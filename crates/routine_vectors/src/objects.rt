@@ -83,10 +83,10 @@ impl Objects {
             return text.push_str("-");
         }
         if key >= FUNCTIONS && lock == 0 && base == bound {
-            return write!(text, "f/{base:x}/{:x}", key.wrapping_sub(FUNCTIONS));
+            return write!(text, "fn/{base:x}/{:x}", key.wrapping_sub(FUNCTIONS));
         }
         match self.number_of(metadata) {
-            Some(number) => write!(text, "{number}/{base:x}/{bound:x}"),
+            Some(number) => write!(text, "{number:x}/{base:x}/{bound:x}"),
             None if self.is_held(memory, metadata) => {
                 write!(text, "new{key:x}/{base:x}/{bound:x}")
             }
@@ -103,7 +103,7 @@ impl Objects {
         }
         let base = hexadecimal(parts.next()?)?;
         let last = hexadecimal(parts.next()?)?;
-        if name == "f" {
+        if name == "fn" {
             return Some(Metadata {
                 base,
                 bound: base,

@@ -197,6 +197,8 @@ pub enum Given {
     Nothing,
     Word,
     Pointer,
+    /// A pointer to a new object.
+    Birth,
     /// Where the objects of a block begin and end, their key and their lock word.
     Block,
 }
@@ -258,7 +260,7 @@ fn given_by_putting(putting: Putting) -> Given {
 
 fn given_by_allocating(allocating: Allocating) -> Given {
     match allocating {
-        Allocating::Malloc | Allocating::Calloc | Allocating::Realloc => Given::Pointer,
+        Allocating::Malloc | Allocating::Calloc | Allocating::Realloc => Given::Birth,
         Allocating::Enter => Given::Block,
         _ => Given::Nothing,
     }

@@ -43,7 +43,7 @@ pub fn write_given(
     match given {
         Given::Nothing => Ok(()),
         Given::Word => write!(text, " {word:x}"),
-        Given::Pointer => {
+        Given::Pointer | Given::Birth => {
             write!(text, " {word:x}/")?;
             objects.write(text, &machine.memory, &metadata_given(&machine.values))
         }
@@ -70,7 +70,7 @@ fn is_given(given: Given, register: u32) -> bool {
     match given {
         Given::Nothing => false,
         Given::Word => register == RESULT.value,
-        Given::Pointer => RESULT.value <= register && register <= RESULT.tag.lock,
+        Given::Pointer | Given::Birth => { RESULT.value <= register && register <= RESULT.tag.lock }
         Given::Block => {
             RESULT.value <= register && register <= RESULT.tag.lock && register != RESULT.tag.bound
         }

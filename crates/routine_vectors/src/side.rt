@@ -4,13 +4,11 @@ ghost use Rattle.addr_map.specs.Places.{AreMapped};
 
 use crate::changes::{write_born, write_bytes, write_lives, write_spaces, write_tags};
 use crate::code::{RESULT, SCRATCH, code_of};
-use crate::machine::{Left, Machine};
+use crate::machine::{Left, Machine, REGISTERS};
 use crate::memory::Memory;
 use crate::objects::{Metadata, Object, Objects, hexadecimal};
 use crate::routine::{Given, Piece, Request, directive_named, routine_named, type_named};
-use crate::shown::{
-    metadata_given, write_given, write_left, write_registers, write_shown, write_steps,
-};
+use crate::shown::{write_given, write_left, write_registers, write_shown, write_steps};
 use addr_map::{AddrMap, Region};
 use anyhow::{Context, Result, bail};
 use flat_meaning::FlatInstruction;
@@ -190,12 +188,13 @@ impl Side {
         }
         write_shown(&mut text, request.is_of_program(), &after)?;
         write_steps(&mut text, after.steps, request.limit)?;
+        let (key, lock) = (after.value(RESULT.tag.key), after.value(RESULT.tag.lock));
         if left == Left::Past {
             self.write_changes(&mut text, map, request.given(), &mut after, &read)?;
         }
         if is_kept {
-            self.key = after.value(RESULT.tag.key);
-            self.lock = after.value(RESULT.tag.lock);
+            self.key = key;
+            self.lock = lock;
             swap(&mut self.machine.memory, &mut after.memory);
         }
         Ok(text)
@@ -210,28 +209,22 @@ impl Side {
         after: &mut Machine,
         read: &[FlatInstruction],
     ) -> Result<(), AllocError> {
+        let born = born_range(given, &after.values);
         write_bytes(text, &self.machine.memory.objects, &after.memory.objects)?;
         write_tags(text, &self.objects, &mut self.machine, after, read)?;
         write_spaces(text, map, &self.machine.memory, &after.memory)?;
         write_lives(text, &self.objects, &self.machine.memory, &after.memory)?;
-        match given {
-            Given::Pointer => {
-                let metadata = metadata_given(&after.values);
-                write_born(
-                    text,
-                    &self.objects,
-                    after,
-                    read,
-                    metadata.base,
-                    metadata.bound,
-                )
-            }
-            Given::Block => {
-                let (first, end) = (after.value(RESULT.value), after.value(RESULT.tag.base));
-                write_born(text, &self.objects, after, read, first, end)
-            }
-            _ => Ok(()),
-        }
+        write_born(text, &self.objects, after, read, born)
+    }
+}
+
+// The range of the objects that are given and were not there before.
+fn born_range(given: Given, values: &[u64; REGISTERS]) -> (u64, u64) {
+    let [first, base, bound] = [values[30], values[31], values[32]];
+    match given {
+        Given::Birth => (base, bound),
+        Given::Block => (first, base),
+        _ => (0, 0),
     }
 }
 

@@ -7,7 +7,7 @@ import sys
 
 import model
 from model import POINTER, Function, Value
-from row import NOTHING, Number, Part, Scene, UNUSED, pointer, word
+from row import NOTHING, UNUSED, Given, Number, Part, Scene, pointer, word
 
 LINE = 7
 # steps that docs/PROMISES.md allows: a constant, and a factor for each unit of the source's work
@@ -215,24 +215,19 @@ def temporal_check(scene, p, line=LINE):
     scene.perform("temporal_check", line, promised("temporal_check"), [p], run, is_of_program=True)
 
 
-def birth(v):
-    given = pointer(v)
-    return given
-
-
 def malloc(scene, size, line=LINE, is_kept=False):
     return scene.perform("malloc", line, promised("malloc"), [Number(size)],
-                         lambda s: birth(model.allocate(s, size, line)), is_kept)
+                         lambda s: pointer(model.allocate(s, size, line)), is_kept)
 
 
 def calloc(scene, count, size, line=LINE, is_kept=False):
     return scene.perform("calloc", line, promised("calloc"), [Number(count), Number(size)],
-                         lambda s: birth(model.calloc(s, count, size, line)), is_kept)
+                         lambda s: pointer(model.calloc(s, count, size, line)), is_kept)
 
 
 def realloc(scene, old, size, line=LINE, is_kept=False):
     return scene.perform("realloc", line, promised("realloc"), [old, Number(size)],
-                         lambda s: birth(model.realloc(s, old, size, line)), is_kept)
+                         lambda s: pointer(model.realloc(s, old, size, line)), is_kept)
 
 
 def free(scene, p, line=LINE, is_kept=False):
@@ -248,7 +243,6 @@ def enter(scene, sizes, line=LINE, is_kept=False):
     def run(s):
         first = model.rounded_up(16, s.stacked)
         model.enter_block(s, sizes, line)
-        from row import Given
         return Given("block", first, s.stacked)
 
     operands = [Number(scene.state.stacked), Number(model.objects_end(sizes, 0))]
@@ -335,43 +329,37 @@ def refused(scene):
 
 # ---- scenes
 
-def moving():
-    scene = filled()
+def moving(scene):
+    """Between two objects, with each offset from 0 to 9 on both sides."""
     for size in range(1, 41):
-        for k in range(10):
+        for k in range(size % 2, 10, 2):
             memmove(scene, scene.to(RIGHT, 10 + k), scene.to(LEFT, (k + 3 * size) % 10), size, LINE + size)
         memmove(scene, scene.to(RIGHT, size % 10 + 8), scene.to(LEFT, size % 10), size)
         memmove(scene, scene.to(PAGES, size % 8), scene.to(HEAP, size % 8 + 8), size)
-    return scene
 
 
-def overlapping():
-    scene = filled()
+def overlapping(scene):
     for size in range(1, 41):
-        for n, k in ((LEFT, 8), (PAGES, 16), (HEAP, size % 7 + 1)):
-            at = size % 10
+        at = size % 10
+        for n, k in ((LEFT, 8), (PAGES, 16) if size % 2 else (HEAP, size % 7 + 1)):
             memmove(scene, scene.to(n, at + k), scene.to(n, at), size)
             memmove(scene, scene.to(n, at), scene.to(n, at + k), size)
         memmove(scene, scene.to(LEFT, size), scene.to(LEFT, size), size)
-    return scene
 
 
-def refused_moves():
-    scene = filled()
+def refused_moves(scene):
     good, other = scene.to(LEFT), scene.to(RIGHT)
     for bad in refused(scene):
-        for size in (0, 1, 9):
+        for size in (0, 9):
             memmove(scene, bad, good, size)
             memmove(scene, good, bad, size)
             memset(scene, bad, 0x141, size)
             memcmp(scene, bad, good, size)
             memcmp(scene, good, bad, size)
         memmove(scene, bad, bad, 4)
-    for size in (1, 8, 13, 40):
-        for n in (LEFT, HEAP, FIRST_OF_BLOCK, SECOND_OF_BLOCK, PAGES):
+    for size in (1, 13):
+        for n in (LEFT, HEAP, SECOND_OF_BLOCK):
             last = scene.state.objects[n].size - size
-            if last < 0:
-                continue
             # inside and one byte outside on either side
             for offset in (-1, 0, last, last + 1):
                 memmove(scene, scene.to(n, offset), other, size)
@@ -383,62 +371,63 @@ def refused_moves():
         memmove(scene, good, other, size)
         memset(scene, good, 0, size)
         memcmp(scene, good, other, size)
-    return scene
 
 
-def filling():
-    scene = filled()
+def filling(scene):
     for size in range(41):
         memset(scene, scene.to(LEFT, size % 10), 0xff00 + size, size)
         memset(scene, scene.to(PAGES, 40 - size), model.WORD - size, size)
         fill(scene, (RIGHT, size % 10 + 1), 0x100 + size, size)
-    return scene
 
 
-def moving_ranges():
-    scene = filled()
+def moving_ranges(scene):
     for size in range(41):
         at = size % 10
-        move_bytes(scene, (RIGHT, 12), (LEFT, at), size)
-        move_bytes(scene, (LEFT, at + 5), (LEFT, at), size)
-        move_bytes(scene, (LEFT, at), (LEFT, at + 5), size)
-        move_tagged(scene, (RIGHT, at + 8), (LEFT, at), size)
-        move_tagged(scene, (PAGES, 8 + at), (PAGES, at), size)
-        move_tagged(scene, (HEAP, at), (HEAP, 16 + at), size)
         copy_structure(scene, scene.to(RIGHT, 8 * (size % 3)), scene.to(LEFT, 8 * (size % 2)), size)
-        copy_structure(scene, scene.to(HEAP, 8 + at), scene.to(LEFT, at), size)
+        if size % 2:
+            move_bytes(scene, (RIGHT, 12), (LEFT, at), size)
+            move_tagged(scene, (RIGHT, at + 8), (LEFT, at), size)
+            move_tagged(scene, (HEAP, at), (HEAP, 16 + at), size)
+        else:
+            move_bytes(scene, (LEFT, at + 5), (LEFT, at), size)
+            move_bytes(scene, (LEFT, at), (LEFT, at + 5), size)
+            move_tagged(scene, (PAGES, 8 + at), (PAGES, at), size)
+            copy_structure(scene, scene.to(HEAP, 8 + at), scene.to(LEFT, at), size)
+
+
+def ranges():
+    scene = filled()
+    for part in (moving, overlapping, refused_moves, filling, moving_ranges):
+        part(scene)
     return scene
 
 
-def with_strings():
-    """Strings of each length at the end of what a pointer may access, and elsewhere."""
-    return filled()
-
-
-def lengths():
-    scene = filled()
+def lengths(scene):
+    """Strings at the end of what a pointer may access, and elsewhere."""
     for length in range(41):
         at = length % 10
         scene.set_bytes(LEFT, at, string(length, length) + b"\0")
-        for p in (scene.to(LEFT, at), scene.to(LEFT, at, at, at + length + 1), scene.to(LEFT, at, at, at + length)):
+        anywhere, fitting = scene.to(LEFT, at), scene.to(LEFT, at, at, at + length + 1)
+        unended = scene.to(LEFT, at, at, at + length)
+        for p in (anywhere, fitting, unended):
             strlen(scene, p)
-            puts(scene, p)
-            scan(scene, p)
-        for limit in sorted({1, max(length, 1), length + 1, length + 2}):
-            scan_at_most(scene, scene.to(LEFT, at), limit)
-        scan_at_most(scene, scene.to(LEFT, at, at, at + length), length + 1)
+        puts(scene, fitting if length % 2 else anywhere)
+        puts(scene, unended)
+        scan(scene, anywhere if length % 2 else fitting)
+        scan(scene, unended)
+        scan_at_most(scene, fitting, max(length, 1) if length % 2 else length + 1)
+        scan_at_most(scene, unended, max(length, 1))
+        scan_at_most(scene, unended, length + 1)
     for bad in refused(scene):
         strlen(scene, bad)
         puts(scene, bad)
         scan(scene, bad)
         scan_at_most(scene, bad, 3)
-    for size in range(41):
+    for size in range(0, 41, 2):
         put_bytes(scene, (PAGES, 3 + size), size)
-    return scene
 
 
-def copies():
-    scene = filled()
+def copies(scene):
     scene.set_bytes(RIGHT, 0, bytes(88))
     for length in range(41):
         at = length % 10
@@ -449,18 +438,16 @@ def copies():
         # as many bytes as the string has with its 0 byte, and one less
         strcpy(scene, scene.to(RIGHT, to, to, to + length + 1), source)
         strcpy(scene, scene.to(RIGHT, to, to, to + length), source)
-        for size in sorted({0, 1, length, length + 1, length + 5}):
+        for size in sorted({(0, 1, length + 5)[length % 3], length + length % 2}):
             strncpy(scene, scene.to(RIGHT, to), source, size)
-        strncpy(scene, scene.to(RIGHT, to, to, to + 4), source, 5)
+        strncpy(scene, scene.to(RIGHT, to, to, to + 4), source, 4 + length % 2)
         if at + length + 7 <= 88:
             strcpy(scene, scene.to(LEFT, at + 3), source)
             if at >= 3:
                 strcpy(scene, scene.to(LEFT, at - 3), source)
-    return scene
 
 
-def appended():
-    scene = filled()
+def appended(scene):
     for length in range(0, 41, 2):
         scene.set_bytes(LEFT, length % 10, string(length, length) + b"\0")
         scene.set_bytes(RIGHT, 5, string(length + 1, 40 - length) + b"\0")
@@ -478,11 +465,9 @@ def appended():
         strncpy(scene, scene.to(LEFT), bad, 3)
         strncpy(scene, bad, bad, 0)
         strchr(scene, bad, 97)
-    return scene
 
 
-def compared():
-    scene = filled()
+def compared(scene):
     scene.set_bytes(RIGHT, 0, bytes(88))
     for length in range(41):
         at, to = length % 10, (3 * length) % 10
@@ -491,24 +476,20 @@ def compared():
         scene.set_bytes(RIGHT, to, text + b"\0")
         a, b = scene.to(LEFT, at), scene.to(RIGHT, to)
         strcmp(scene, a, b)
-        memcmp(scene, a, b, length)
-        memcmp(scene, a, b, length + 1)
+        memcmp(scene, a, b, length + length % 2)
         # a bound where the strings end, and one before
         strcmp(scene, scene.to(LEFT, at, at, at + length + 1), b)
-        strcmp(scene, scene.to(LEFT, at, at, at + length), b)
-        strcmp(scene, a, scene.to(RIGHT, to, to, to + length))
-        for byte in (0, 0x6100 + text[length // 2] if text else 5, 0x7e, 256 + 0):
+        strcmp(scene, *((scene.to(LEFT, at, at, at + length), b) if length % 2 else
+                        (a, scene.to(RIGHT, to, to, to + length))))
+        for byte in ((0x6100 + text[length // 2], 0) if length % 2 else (0x7e, 256)):
             strchr(scene, a, byte)
-        strchr(scene, scene.to(LEFT, at, at, at + length), 0x7e)
-        strchr(scene, scene.to(LEFT, at, at, at + length), 0)
+        strchr(scene, scene.to(LEFT, at, at, at + length), 0x7e if length % 2 else 0)
         if length:
-            for other in (0xff, text[-1] - 1, 0):
-                scene.set_bytes(RIGHT, to + length - 1, bytes([other]))
-                strcmp(scene, a, b)
-                strcmp(scene, b, a)
-                memcmp(scene, a, b, length)
-                memcmp(scene, b, a, length + 1)
-    return scene
+            other = (0xff, text[-1] - 1, 0)[length % 3]
+            scene.set_bytes(RIGHT, to + length - 1, bytes([other]))
+            strcmp(scene, a, b)
+            strcmp(scene, b, a)
+            memcmp(scene, *((a, b) if length % 2 else (b, a)), length)
 
 
 EDGES = [0, 1, 9, 10, 11, 15, 16, 99, 100, 101, 255, 256, 4095, 65535, 999999999, 1000000000, 2 ** 31 - 1, 2 ** 31,
@@ -516,17 +497,16 @@ EDGES = [0, 1, 9, 10, 11, 15, 16, 99, 100, 101, 255, 256, 4095, 65535, 999999999
          2 ** 64 - 10, 2 ** 64 - 1, 2 ** 64 - 2 ** 31, 2 ** 64 - 2 ** 31 - 1, 0xdeadbeefcafe]
 
 
-def formats():
-    scene = filled()
+def formats(scene):
     scene.set_bytes(LEFT, 4, b"some text\0")
     scene.set_bytes(RIGHT, 0, b"\0")
-    text, empty, open_ended = scene.to(LEFT, 4), scene.to(RIGHT), scene.to(LEFT, 4, 4, 13)
-    for value in EDGES:
+    text, empty, unended = scene.to(LEFT, 4), scene.to(RIGHT), scene.to(LEFT, 4, 4, 13)
+    for index, value in enumerate(EDGES):
         for directive in ("d", "u", "x", "c", "ld", "lu"):
             printf(scene, [(directive, Value(value))])
+        for directive in ("d", "x", "ld") if index % 2 else ("u", "c", "lu"):
             number(scene, directive, value)
-        digits(scene, value, 10)
-        digits(scene, value, 16)
+        digits(scene, value, 16 if index % 2 else 10)
     printf(scene, [])
     printf(scene, [0x41])
     printf(scene, [("s", text)])
@@ -535,35 +515,47 @@ def formats():
     printf(scene, [("s", text), ("s", text), ("s", empty), ("d", Value(-5)), ("s", text), 10])
     printf(scene, [("d", Value(-1)), 0x20, ("u", Value(-1)), 0x25, ("x", Value(-1)), 10])
     printf(scene, [("ld", Value(-1)), 0x20, ("lu", Value(-1)), ("c", Value(0x100)), ("c", Value(-1)), 0xff])
-    for bad in refused(scene) + [open_ended]:
+    for bad in refused(scene) + [unended]:
         # nothing is put before all strings are scanned
         printf(scene, [0x41, ("s", text), ("s", bad)])
         printf(scene, [("s", bad)])
+
+
+def strings():
+    scene = filled()
+    for part in (lengths, copies, appended, compared, formats):
+        part(scene)
     return scene
 
 
 def accesses():
     scene = filled()
-    scalars = list(model.INTEGERS) + [POINTER]
-    for scalar in scalars:
+    for scalar in list(model.INTEGERS) + [POINTER]:
         size = model.scalar_size(scalar)
+        stored = Value(0xfedcba9876543210, scene.to(HEAP).tag)
         for offset in range(10):
-            load(scene, scalar, scene.to(LEFT, offset + 16), False)
-            store(scene, scalar, scene.to(LEFT, offset + 16), Value(0xfedcba9876543210 + offset, scene.to(HEAP).tag),
-                  False)
-        for n in (LEFT, PAGES, SECOND_OF_BLOCK, AGAIN):
+            if scalar == POINTER or offset % 2 == 0:
+                load(scene, scalar, scene.to(LEFT, offset + 16), False)
+            if scalar == POINTER or offset % 2:
+                store(scene, scalar, scene.to(LEFT, offset + 16), stored, False)
+        for n in (PAGES, SECOND_OF_BLOCK):
             last = scene.state.objects[n].size - size
             for offset in (-1, 0, last, last + 1):
                 load(scene, scalar, scene.to(n, offset), True)
                 store(scene, scalar, scene.to(n, offset), Value(0x8182838485868788, scene.to(RIGHT).tag), True)
-        for bad in refused(scene):
-            load(scene, scalar, bad, True)
-            store(scene, scalar, bad, Value(5), True)
-    for offset in range(88 - 8):
+        for index, bad in enumerate(refused(scene)):
+            if scalar == POINTER or index % 2 == size % 2:
+                load(scene, scalar, bad, True)
+            else:
+                store(scene, scalar, bad, Value(5), True)
+    for offset in range(0, 88 - 8, 3):
         load(scene, POINTER, scene.to(PAGES, offset), True)
+        load(scene, POINTER, scene.to(PAGES, offset // 3 * 8 % 88), True)
     for p in refused(scene) + [scene.to(LEFT), scene.to(HEAP, 99), scene.to(AGAIN, 16)]:
-        for size in (1, 8, 40, 88, 1 << 63, model.WORD - 1):
+        for size in (1, 40, model.WORD - 1):
             spatial_check(scene, p, size)
+    spatial_check(scene, scene.to(LEFT), 88)
+    spatial_check(scene, scene.to(LEFT), 89)
     for n in range(12):
         temporal_check(scene, scene.to(n))
     return scene
@@ -695,8 +687,7 @@ def all_pages():
     return scene
 
 
-SCENES = [moving, overlapping, refused_moves, filling, moving_ranges, lengths, copies, appended, compared, formats, accesses,
-          blocks, heap, few_blocks, all_pages]
+SCENES = [ranges, strings, accesses, blocks, heap, few_blocks, all_pages]
 
 
 def make():

@@ -7,5 +7,5 @@ use Rattle.printing_routines.specs.Printed.{ArePrintable}
 pub one_more : (t : ℕ) (p : Printed) (ps : List Printed) → ArePrintable t (p ∷ []) → ArePrintable t ps
     → ArePrintable t (p ∷ ps)
 one_more t (Byte b) ps one others = others
-one_more t (Number d r) ps one others = one.1 , one.2.1 , others
-one_more t (String h) ps one others = one.1 , others
+one_more t (Number d r) ps (is, low, _) others = (is, low, others)
+one_more t (String h) ps (low, _) others = (low, others)

@@ -186,7 +186,6 @@ fn printf_code<S: ShadowForm>(
     }
 }
 
-#[tactic(auto, using(crate::proofs::Printable::one_more))]
 fn long_printf_code<S: ShadowForm>(
     alloc: Global,
     map: &AddrMap,

@@ -14,8 +14,8 @@ LINE = 7
 PROMISES = {
     "memmove": (66, 16), "memset": (24, 5), "copy_structure": (41, 16), "strlen": (17, 8), "puts": (21, 8),
     "strcpy": (49, 8), "strcat": (65, 8), "strncpy": (60, 8), "strchr": (20, 6), "strcmp": (24, 5), "memcmp": (26, 4),
-    "malloc": (60, 20), "calloc": (70, 20), "free": (20, 26), "realloc": (100, 30), "enter": (100, 40), "leave": (11, 0),
-    "scan": (16, 8), "scan_at_most": (16, 8), "spatial_check": (5, 0), "spatial_check_of_number": (5, 0),
+    "malloc": (60, 20), "calloc": (70, 20), "free": (20, 26), "realloc": (100, 30), "enter": (100, 40),
+    "leave": (11, 0), "scan": (16, 8), "scan_at_most": (16, 8), "spatial_check": (5, 0), "spatial_check_of_number": (5, 0),
     "temporal_check": (3, 0)}
 
 
@@ -603,8 +603,8 @@ def heap():
         calloc(scene, size, 1)
         realloc(scene, scene.to(HEAP), size)
         realloc(scene, scene.to(AGAIN), size)
-    for count, size in ((0, 5), (5, 0), (3, 7), (1 << 32, 1 << 32), (1 << 33, 1 << 31), (model.WORD - 1, 2), (1 << 63, 2),
-                        ((1 << 32) - 1, (1 << 32) + 1), (6700417, 2753074036095), (model.WORD - 1, model.WORD - 1)):
+    for count, size in ((0, 5), (5, 0), (3, 7), (1 << 32, 1 << 32), (1 << 33, 1 << 31), (model.WORD - 1, 2),
+                        (1 << 63, 2), ((1 << 32) - 1, (1 << 32) + 1), (6700417, 2753074036095), (model.WORD - 1, model.WORD - 1)):
         calloc(scene, count, size)
     for size in range(41):
         realloc(scene, scene.to(HEAP), size)

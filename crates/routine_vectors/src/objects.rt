@@ -65,8 +65,8 @@ impl Objects {
             && memory.word(metadata.lock) == metadata.key
     }
 
-    /// Writes metadata: `-` for none; the type and the address of a function; the number of an object, or the key of one
-    /// that is new in this memory, with the bounds.
+    /// Writes metadata: `-` for none; the type and the address of a function; the number of an object, or the key of
+    /// one that is new in this memory, with the bounds.
     pub fn write(
         &self,
         text: &mut String,

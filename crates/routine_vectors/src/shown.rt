@@ -23,12 +23,11 @@ pub fn write_left(text: &mut String, left: Left, report: &[u8]) -> Result<(), Al
 
 /// The metadata that was given.
 pub fn metadata_given(values: &[u64; REGISTERS]) -> Metadata {
-    let [base, bound, key, lock] = [values[31], values[32], values[33], values[34]];
     Metadata {
-        base,
-        bound,
-        key,
-        lock,
+        base: values[31],
+        bound: values[32],
+        key: values[33],
+        lock: values[34],
     }
 }
 

@@ -4,7 +4,7 @@ ghost use Rattle.addr_map.specs.Places.{AreMapped};
 
 use crate::changes::{write_born, write_bytes, write_lives, write_spaces, write_tags};
 use crate::code::{RESULT, SCRATCH, code_of};
-use crate::machine::{Left, Machine, REGISTERS};
+use crate::machine::{Left, Machine};
 use crate::memory::Memory;
 use crate::objects::{Metadata, Object, Objects, hexadecimal};
 use crate::routine::{Given, Piece, Request, directive_named, routine_named, type_named};
@@ -209,7 +209,7 @@ impl Side {
         after: &mut Machine,
         read: &[FlatInstruction],
     ) -> Result<(), AllocError> {
-        let born = born_range(given, &after.values);
+        let born = born_range(given, after);
         write_bytes(text, &self.machine.memory.objects, &after.memory.objects)?;
         write_tags(text, &self.objects, &mut self.machine, after, read)?;
         write_spaces(text, map, &self.machine.memory, &after.memory)?;
@@ -219,11 +219,11 @@ impl Side {
 }
 
 // The range of the objects that are given and were not there before.
-fn born_range(given: Given, values: &[u64; REGISTERS]) -> (u64, u64) {
-    let [first, base, bound] = [values[30], values[31], values[32]];
+fn born_range(given: Given, after: &Machine) -> (u64, u64) {
+    let (base, bound) = (after.value(RESULT.tag.base), after.value(RESULT.tag.bound));
     match given {
         Given::Birth => (base, bound),
-        Given::Block => (first, base),
+        Given::Block => (after.value(RESULT.value), base),
         _ => (0, 0),
     }
 }
@@ -231,7 +231,7 @@ fn born_range(given: Given, values: &[u64; REGISTERS]) -> (u64, u64) {
 // Puts a word that is a part of the code into the request, if it is one.
 fn put_part(request: &mut Request, word: &str) -> Result<bool> {
     if let Some(name) = word.strip_prefix(":") {
-        request.of = type_named(name);
+        request.of = Some(type_named(name).context("a type")?);
     } else if let Some(name) = word.strip_prefix("%") {
         let directive = directive_named(name).context("a directive")?;
         request.pieces.push(Piece::Argument(directive))?;

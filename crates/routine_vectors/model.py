@@ -40,7 +40,7 @@ class Value:
 
 
 class Object:
-    """`key` tells after how many keys its own was made: the objects of an entered block share it; static ones have None."""
+    """`key` tells after how many keys its own was made, None for static objects. Those of an entered block share it."""
 
     def __init__(self, storage, address, size, key):
         self.storage, self.address, self.size, self.key = storage, address, size, key

@@ -44,8 +44,8 @@ def pointer(value):
 
 
 class Scene:
-    """The input and the output of a scene, with the state of the source so far; `space` holds all bytes of object space:
-    those of no live object stay as they were."""
+    """The input and the output of a scene, with the state of the source so far. `space` has all bytes of object
+    space: those of no live object stay as they were."""
 
     def __init__(self, heap=0x2000, stack=0x1000, blocks=16, keys=100):
         self.state = State(model.Sizes(heap, stack, blocks, keys))

@@ -13,10 +13,10 @@ LINE = 7
 # steps that docs/PROMISES.md allows: a constant, and a factor for each unit of the source's work
 PROMISES = {
     "memmove": (66, 16), "memset": (24, 5), "copy_structure": (41, 16), "strlen": (17, 8), "puts": (21, 8),
-    "strcpy": (49, 8), "strcat": (65, 8), "strncpy": (60, 8), "strchr": (20, 6), "strcmp": (24, 5), "memcmp": (26, 4),
-    "malloc": (60, 20), "calloc": (70, 20), "free": (20, 26), "realloc": (100, 30), "enter": (100, 40),
-    "leave": (11, 0), "scan": (16, 8), "scan_at_most": (16, 8), "spatial_check": (5, 0), "spatial_check_of_number": (5, 0),
-    "temporal_check": (3, 0)}
+    "strcpy": (49, 8), "strcat": (65, 8), "strncpy": (60, 8), "strchr": (20, 6), "strcmp": (24, 5),
+    "memcmp": (26, 4), "malloc": (60, 20), "calloc": (70, 20), "free": (20, 26), "realloc": (100, 30),
+    "enter": (100, 40), "leave": (11, 0), "scan": (16, 8), "scan_at_most": (16, 8), "spatial_check": (5, 0),
+    "spatial_check_of_number": (5, 0), "temporal_check": (3, 0)}
 
 
 def promised(name):
@@ -204,7 +204,7 @@ def spatial_check(scene, p, size, line=LINE):
         return NOTHING
 
     for name in ("spatial_check", "spatial_check_of_number"):
-        scene.perform(name, line, promised(name), [p, Number(size)], run, is_of_program=True)
+        scene.perform(name, line, promised(name), [p, Number(size)], run)
 
 
 def temporal_check(scene, p, line=LINE):
@@ -212,7 +212,7 @@ def temporal_check(scene, p, line=LINE):
         model.test_life(s, p, line)
         return NOTHING
 
-    scene.perform("temporal_check", line, promised("temporal_check"), [p], run, is_of_program=True)
+    scene.perform("temporal_check", line, promised("temporal_check"), [p], run)
 
 
 def malloc(scene, size, line=LINE, is_kept=False):
@@ -604,7 +604,8 @@ def heap():
         realloc(scene, scene.to(HEAP), size)
         realloc(scene, scene.to(AGAIN), size)
     for count, size in ((0, 5), (5, 0), (3, 7), (1 << 32, 1 << 32), (1 << 33, 1 << 31), (model.WORD - 1, 2),
-                        (1 << 63, 2), ((1 << 32) - 1, (1 << 32) + 1), (6700417, 2753074036095), (model.WORD - 1, model.WORD - 1)):
+                        (1 << 63, 2), ((1 << 32) - 1, (1 << 32) + 1), (6700417, 2753074036095),
+                        (model.WORD - 1, model.WORD - 1)):
         calloc(scene, count, size)
     for size in range(41):
         realloc(scene, scene.to(HEAP), size)

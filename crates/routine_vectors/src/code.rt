@@ -4,7 +4,9 @@ ghost use Rattle.std.specs.Prelude.{◌≤◌, ◌+◌, IfOk, [], ◌∷◌};
 ghost use Rattle.addr_map.specs.Places.{AreMapped};
 ghost use Rattle.printing_routines.specs.Printed.{ArePrintable};
 
-use crate::routine::{Accessing, Allocating, Moving, Piece, Putting, Request, Routine, Strings};
+use crate::routine::{
+    Accessing, Allocating, Moving, Piece, Putting, Request, Routine, Strings, Testing,
+};
 use access_routines::{
     HeldScalar, checked_load, checked_store, load, spatial_check, store, temporal_check,
 };
@@ -86,6 +88,7 @@ pub fn code_of<S: ShadowForm>(
         Routine::Strings(strings) => string_code::<S>(alloc, map, strings, request),
         Routine::Putting(putting) => putting_code::<S>(alloc, map, putting, request),
         Routine::Accessing(accessing) => accessing_code::<S>(alloc, map, accessing, request),
+        Routine::Testing(testing) => testing_code(alloc, testing, request),
         Routine::Allocating(allocating) => allocating_code::<S>(alloc, map, allocating, request),
     }
 }
@@ -265,14 +268,24 @@ fn accessing_code<S: ShadowForm>(
             Some(of) => store::<S>(alloc, map, 0, HeldScalar::Integer(of, 5), SCRATCH),
             None => store::<S>(alloc, map, 0, HeldScalar::Pointer(SECOND), SCRATCH),
         },
-        Accessing::SpatialCheck => {
+    }
+}
+
+fn testing_code(
+    alloc: Global,
+    testing: Testing,
+    request: &Request,
+) -> Result<Vec<FlatInstruction>, AllocError> {
+    let line = line_of(request.line);
+    match testing {
+        Testing::SpatialCheck => {
             spatial_check(alloc, FIRST, RightOperand::Register(5), line, SCRATCH)
         }
-        Accessing::SpatialCheckOfNumber => {
+        Testing::SpatialCheckOfNumber => {
             let size = RightOperand::Number(request.number);
             spatial_check(alloc, FIRST, size, line, SCRATCH)
         }
-        Accessing::TemporalCheck => temporal_check(alloc, FIRST, line, SCRATCH),
+        Testing::TemporalCheck => temporal_check(alloc, FIRST, line, SCRATCH),
     }
 }
 

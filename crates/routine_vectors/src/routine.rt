@@ -38,13 +38,18 @@ pub enum Putting {
     Digits,
 }
 
-/// Tests and accesses in functions of the program.
+/// Accesses in functions of the program.
 #[derive(Clone, Copy)]
 pub enum Accessing {
     CheckedLoad,
     CheckedStore,
     Load,
     Store,
+}
+
+/// The tests of an access, of a size in a register or of a number.
+#[derive(Clone, Copy)]
+pub enum Testing {
     SpatialCheck,
     SpatialCheckOfNumber,
     TemporalCheck,
@@ -69,6 +74,7 @@ pub enum Routine {
     Strings(Strings),
     Putting(Putting),
     Accessing(Accessing),
+    Testing(Testing),
     Allocating(Allocating),
 }
 
@@ -97,15 +103,12 @@ const ROUTINES: [(&str, Routine); 34] = [
     ("checked_store", Routine::Accessing(Accessing::CheckedStore)),
     ("load", Routine::Accessing(Accessing::Load)),
     ("store", Routine::Accessing(Accessing::Store)),
-    ("spatial_check", Routine::Accessing(Accessing::SpatialCheck)),
+    ("spatial_check", Routine::Testing(Testing::SpatialCheck)),
     (
         "spatial_check_of_number",
-        Routine::Accessing(Accessing::SpatialCheckOfNumber),
+        Routine::Testing(Testing::SpatialCheckOfNumber),
     ),
-    (
-        "temporal_check",
-        Routine::Accessing(Accessing::TemporalCheck),
-    ),
+    ("temporal_check", Routine::Testing(Testing::TemporalCheck)),
     ("malloc", Routine::Allocating(Allocating::Malloc)),
     ("calloc", Routine::Allocating(Allocating::Calloc)),
     ("realloc", Routine::Allocating(Allocating::Realloc)),
@@ -211,6 +214,7 @@ impl Request {
             Routine::Strings(strings) => given_by_strings(strings),
             Routine::Putting(putting) => given_by_putting(putting),
             Routine::Accessing(accessing) => self.given_by_accessing(accessing),
+            Routine::Testing(_) => Given::Nothing,
             Routine::Allocating(allocating) => given_by_allocating(allocating),
         }
     }
@@ -218,7 +222,7 @@ impl Request {
     /// Whether its code stands in functions of the program, whose accesses are shown.
     pub fn is_of_program(&self) -> bool {
         match self.routine {
-            Routine::Accessing(_) => true,
+            Routine::Accessing(_) | Routine::Testing(_) => true,
             _ => false,
         }
     }

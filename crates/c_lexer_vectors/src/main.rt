@@ -12,10 +12,10 @@
 //   behind a token of this kind and spelling, nothing where it stands for none.
 //
 // `stdin` and `stdout` are made by Debian clang 14.0.6 (Debian 12), as `vectors.py` beside them says, where the last
-// rows stand with what C99 says of them. Left out of clang's are texts in which the subset of C differs: `##`, digraphs,
-// trigraphs, universal character names, `$` and letters outside ASCII in identifiers, a newline behind a backslash
-// inside a token or behind a backslash and a space, a lone carriage return, and a wide literal that is not one character
-// or holds an escape sequence above 255.
+// rows stand with what C99 says of them. Left out of clang's are texts in which the subset of C differs: `##`,
+// digraphs, trigraphs, universal character names, `$` and letters outside ASCII in identifiers, a newline behind a
+// backslash inside a token or behind a backslash and a space, a lone carriage return, and a wide literal that is not
+// one character or holds an escape sequence above 255.
 #![tactic(auto)]
 
 use anyhow::{Result, bail};

@@ -1,17 +1,17 @@
-// Compares the parser with other ones. Standard input has rows, with a line `%%` between each two. A row that begins with
-// no `%` is a text, for which the program prints `accepted` or `refused`, or `nested` where only its levels are too many.
-// Of an accepted text the words of the tree must be those of the text, each at its position, and a second reading must
-// come to the same. The first line of another row says what is asked of what stands behind it:
+// Compares the parser with other ones. Standard input has rows, with a line `%%` between each two. A row that begins
+// with no `%` is a text, for which the program prints `accepted` or `refused`, or `nested` where only its levels are
+// too many. Of an accepted text the words of the tree must be those of the text, each at its position, and a second
+// reading must come to the same. The first line of another row says what is asked of what stands behind it:
 // - `%fault`, a text: the place of the token and the line of its fault, or the word that is in no part of the subset;
-// - `%times N`, five lines: the verdict on the text of the first, N times the second, the third, N times the fourth, and
-//   the fifth;
+// - `%times N`, five lines: the verdict on the text of the first, N times the second, the third, N times the fourth,
+//   and the fifth;
 // - `%item`, statements, where T is a typedef name: what the first of them is (`item.rt`);
 // - `%tree`: the words of a tree that is made by hand, and whether it is well formed (`made_tree.rt`).
 //
 // `stdin` and `stdout` are made by gcc 12.2.0 and clang 14.0.6 (Debian 12), which agree, as `vectors.py` beside them
 // says. Behind these rows come 196 texts of which the grammar of the subset has another verdict than they, or the same
 // for another reason, each with its reason in `vectors.py`: what the subset leaves out, and what is no matter of the
-// grammar, as types. Last come the other rows, whose answers stand there by hand.
+// grammar, as types. Last come the other rows, whose answers stand in `written.py` by hand.
 #![tactic(auto)]
 
 mod item;

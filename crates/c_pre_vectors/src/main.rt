@@ -1,6 +1,7 @@
-// Compares directives and macros with another preprocessor. Standard input has rows, with a line `%%` between each two. A
-// row is a text, but for those of the two words below. For a text the program prints its expanded tokens, those of a line
-// of the text on one line behind its number; or the number and the line of the fault. Then comes a line `%%`. It prints
+// Compares directives and macros with another preprocessor. Standard input has rows, with a line `%%` between each two.
+// A row is a text, but for those of the two words below. For a text the program prints its expanded tokens, those of a
+// line of the text on one line behind its number; or the number and the line of the fault. Then comes a line `%%`. It
+// prints
 // - of `%all` and a text behind a newline all its expanded tokens and the line of its end on one line, or the fault;
 // - of `%doubled N`, a line with two words and a text how many tokens it has behind definitions of a1, which stands for
 //   the words, to aN, each of which stands for the one before it twice; how many bytes they have, the last of them, and
@@ -10,8 +11,9 @@
 // says, where the rows with words stand with what C99 and the rules of the subset give. Left out of the compilers' are
 // texts in which the subset of C differs: `#if`, `#elif` and the directives that it lacks in text that is read, macros
 // with parameters, headers, `##`, a replacement list that no white space parts from the name, a definition that differs
-// from an older one in white space alone, and `#` before a number, which gcc takes for the line of another text. The last
-// of them puts in more tokens than may be: gcc has no such limit, and what is to be printed there follows from the limit.
+// from an older one in white space alone, and `#` before a number, which gcc takes for the line of another text. The
+// last of them puts in more tokens than may be: gcc has no such limit, and what is to be printed there follows from the
+// limit.
 #![tactic(auto)]
 
 mod doubled;

@@ -36,8 +36,8 @@ fn numbers(action: &str) -> Result<(u64, Option<u64>)> {
     }
 }
 
-/// `ACTIONS`: prints what comes of each, with a space between each two: `SIZE:KEY` places a block, and `-OFFSET` removes
-/// the one that stands so many bytes behind the first of the heap.
+/// `ACTIONS`: prints what comes of each, with a space between each two: `SIZE:KEY` places a block, and `-OFFSET`
+/// removes the one that stands so many bytes behind the first of the heap.
 pub fn put(rt: &HostRuntime, actions: &str) -> Result<()> {
     let map = default_map()?;
     addr_map::laws::sizes_are_in_range(&map);

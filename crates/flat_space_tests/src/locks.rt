@@ -13,8 +13,8 @@ struct Routines<'a> {
     release: &'a [FlatInstruction],
 }
 
-// Whether an object that is born and dies gets this key, which was told before, and a lock word that holds the key while
-// it lives and 0 behind that, and is neither the global one nor that which is held.
+// Whether an object that is born and dies gets this key, which was told before, and a lock word that holds the key
+// while it lives and 0 behind that, and is neither the global one nor that which is held.
 fn is_sound_birth(
     machine: &mut Machine,
     routines: &Routines,
@@ -48,8 +48,8 @@ fn sound_births(
     Ok(count)
 }
 
-/// `COUNT`: prints the key of the first object, which keeps its lock word, and whether that is another than the global one
-/// and holds the key; and then how many others are born and die with the next keys, and soundly.
+/// `COUNT`: prints the key of the first object, which keeps its lock word, and whether that is another than the global
+/// one and holds the key; and then how many others are born and die with the next keys, and soundly.
 pub fn put(rt: &HostRuntime, count: &str) -> Result<()> {
     let map = default_map()?;
     addr_map::laws::sizes_are_in_range(&map);

@@ -1,5 +1,6 @@
-//! Tests of the routines on the runtime's spaces: each is run by a small interpreter of flat code over a memory of words.
-//! Each line of standard input is a row, whose first word says what is asked, and for which the program prints what came:
+//! Tests of the routines on the runtime's spaces: each is run by a small interpreter of flat code over a memory of
+//! words. Each line of standard input is a row, whose first word says what is asked, and for which the program prints
+//! what came:
 //! - `entries FORM`, `start FORM`: entries of the shadow space of a form, `direct` or `two-level` (`entries.rt`,
 //!   `start.rt`);
 //! - `births COUNT`: keys and lock words through so many births and deaths (`locks.rt`);

@@ -41,8 +41,8 @@ fn put(rt: &HostRuntime, verdict: Verdict) -> Result<()> {
     Ok(())
 }
 
-/// `SIZE POINTER LIFE`: prints the verdict on an access of so many bytes, where the object is live or `dead`, the number
-/// of the object and the offset.
+/// `SIZE POINTER LIFE`: prints the verdict on an access of so many bytes, where the object is live or `dead`, the
+/// number of the object and the offset.
 pub fn put_judged(rt: &HostRuntime, given: &str) -> Result<()> {
     let mut words = given.split(' ');
     let size = number(words.next())?;
@@ -61,8 +61,8 @@ pub fn put_named(rt: &HostRuntime, given: &str) -> Result<()> {
     put(rt, named(pointer, &[only_object(rt.alloc())?]))
 }
 
-/// `ADDRESS SIZE`: prints of a new automatic object whether it is so and is live, its address and its size, and how many
-/// bytes and tags it has.
+/// `ADDRESS SIZE`: prints of a new automatic object whether it is so and is live, its address and its size, and how
+/// many bytes and tags it has.
 pub fn put_object(rt: &HostRuntime, given: &str) -> Result<()> {
     let mut words = given.split(' ');
     let address = number(words.next())?;

@@ -10,8 +10,8 @@
 //!   (`accesses.rt`).
 //! - `value STEPS`: the value of an integer constant expression, which these steps build, operands first, or `none`
 //!   (`constants.rt`).
-//! - `static KIND SIZE PARTS`: the bytes of a static object and the tags of its words, or the line of its first expression
-//!   that is not constant (`statics.rt`).
+//! - `static KIND SIZE PARTS`: the bytes of a static object and the tags of its words, or the line of its first
+//!   expression that is not constant (`statics.rt`).
 //!
 //! `stdin` and `stdout` are made by `vectors.py` beside them, from tables that gcc 12.2.0 (Debian) gave or that were
 //! worked out by hand, as is said there.

@@ -1,11 +1,13 @@
 #!/usr/bin/env python3
-"""Makes stdin and stdout of this program by Debian's clang, and by nothing of this repository.
+"""Makes stdin and stdout of this program by Debian's clang, by hand, and by nothing of this repository.
 
 Tokens with their kinds, lines and what stands before them are those of `clang -std=c99 -Xclang -dump-tokens`. The type
 and the value of an integer constant and the value of a character constant come from its `-ast-dump`, the bytes of a
 string literal from its `-emit-llvm`, each with `-pedantic-errors -Werror` for `riscv64-linux-gnu`: what is refused
 there, has an escape sequence that C99 does not list, or is a floating constant is a fault at the token's first byte. So
 is a byte that clang calls unknown, and the start of a comment that it calls unterminated.
+
+Behind these rows come those of `written`, whose answers are written here, as C99 gives them.
 
 usage: python3 crates/c_lexer_vectors/vectors.py make
 """
@@ -147,18 +149,102 @@ def lines_of(text):
     return found + [f"end {text.count(chr(10)) + 1}"]
 
 
+# Spellings of integer constants: the type and the value by C99 6.4.4.1 paragraph 5, `long` having 64 bits.
+TYPED = [
+    (b"0", "int", 0),
+    (b"2147483647", "int", 2147483647),
+    (b"2147483648", "long", 2147483648),
+    (b"4294967295u", "unsigned int", 4294967295),
+    (b"4294967296U", "unsigned long", 4294967296),
+    (b"0x7fffffff", "int", 2147483647),
+    (b"0xFFFFFFFF", "unsigned int", 4294967295),
+    (b"0X100000000", "long", 4294967296),
+    (b"037777777777", "unsigned int", 4294967295),
+    (b"0777777777777777777777", "long", 9223372036854775807),
+    (b"9223372036854775807", "long", 9223372036854775807),
+    (b"9223372036854775808u", "unsigned long", 9223372036854775808),
+    (b"0x8000000000000000", "unsigned long", 9223372036854775808),
+    (b"18446744073709551615lu", "unsigned long", 18446744073709551615),
+    (b"1l", "long", 1),
+    (b"1ul", "unsigned long", 1),
+    (b"1LL", "long long", 1),
+    (b"0xffffffffffffffffll", "unsigned long long", 18446744073709551615),
+    (b"1llU", "unsigned long long", 1),
+    (b"0u", "unsigned int", 0),
+    (b"00000000000000000000000001", "int", 1),
+]
+
+# What is no integer constant, or has a value that no type of its list holds.
+NO_CONSTANTS = [
+    b"", b"08", b"0x", b"1e5", b"1.5", b".5", b"0x1p3", b"1lul", b"1lL", b"1Ll", b"1uu", b"18446744073709551616",
+    b"9223372036854775808", b"9223372036854775808ll",
+]
+
+# Spellings of character constants, and their values by C99 6.4.4.4; a byte of 128 or more is itself, since `char` is unsigned.
+CHARACTERS = [
+    (b"'a'", 97), (b"'\"'", 34), (b"'\\n'", 10), (b"'\\0'", 0), (b"'\\377'", 255), (b"'\\xff'", 255),
+    (b"'\\x0041'", 65), (b"'\xff'", 255), (b"'\\400'", None), (b"'\\x100'", None), (b"'\\8'", None),
+    (b"'\\1234'", None), (b"'ab'", None), (b"''", None), (b"'\n'", None), (b"'a", None),
+]
+
+# A string literal and its bytes (C99 6.4.5), and what is none.
+LITERAL = (rb""" "a\tb\1018\x7e\\'" """.strip(), b"a\tbA8~\\'")
+NO_LITERALS = [
+    b"\"\\8\"", b"\"\\400\"", b"\"\\x\"", b"\"a", b"\"a\"b", b"'a'",
+]
+
+# Texts, and the byte and the line of the first place where no token stands.
+FAULTS = [
+    ("int main(void){return 0;}@", 25, 1),
+    ("a\n\"b", 2, 2),
+    ("a /* b\n", 2, 1),
+    ("a\n/*/", 2, 2),
+    ("a // \\\n b\n$", 10, 3),
+    ("/* \n\n */ 08", 9, 3),
+    ("a 1.5", 2, 1),
+    ("'ab'", 0, 1),
+    ("\\\n\\", 2, 2),
+    ("x\\ \ny", 1, 1),
+    # a wide literal with a fault inside is no token, but the `L` before its quote is
+    ("L'ab'", 1, 1),
+    ("L\"\\400\"", 1, 1),
+]
+
+# A text, and for each token its line, whether it is the first there, and whether white space or a comment stands before it; then
+# the line of the end.
+FLAGS = ("a /* \n */ b // \\\n c\nd\\\ne \\\r\n\tf\n", ["1 b- a", "2 -s b", "4 bs d", "5 -s e", "6 -s f", "end 7"])
+
+
+def written():
+    """The rows whose answers are written here, each with the lines that it must print."""
+    for spelling, of, value in TYPED:
+        yield f"%integer {spelling.hex()}", [f"integer = {of} {value}"]
+    for spelling in NO_CONSTANTS:
+        yield f"%integer {spelling.hex()}", ["integer"]
+    for spelling, value in CHARACTERS:
+        yield f"%character {spelling.hex()}", ["character" if value is None else f"character = {value}"]
+    yield f"%string {LITERAL[0].hex()}", [f"string = {LITERAL[1].hex()}"]
+    for spelling in NO_LITERALS:
+        yield f"%string {spelling.hex()}", ["string"]
+    for text, at, line in FAULTS:
+        yield text, [f"fault at {at} line {line}"]
+    yield f"%flags {FLAGS[0]}", FLAGS[1]
+
+
 def main():
     if sys.argv[1:] != ["make"]:
         sys.exit(__doc__)
     here = os.path.dirname(os.path.abspath(__file__))
     texts = list(dict.fromkeys(TEXTS + list(random_texts())))
-    assert all("%%" not in t for t in texts)
+    others = list(written())
+    rows = [(text, lines_of(text)) for text in texts] + others
+    assert all("%%" not in row for row, _ in rows) and not any(re.match("%[a-z]", text) for text in texts)
     with open(os.path.join(here, "stdin"), "w", newline="") as f:
-        f.write(END.join(texts))
+        f.write(END.join(row for row, _ in rows))
     with open(os.path.join(here, "stdout"), "w", newline="") as f:
-        for text in texts:
-            f.write("".join(line + "\n" for line in lines_of(text)) + END)
-    print(len(texts), "texts")
+        for _, lines in rows:
+            f.write("".join(line + "\n" for line in lines) + END)
+    print(len(texts), "texts,", len(others), "written")
 
 
 if __name__ == "__main__":

@@ -1,12 +1,13 @@
 #!/usr/bin/env python3
-"""Makes stdin and stdout of this program by Debian's gcc and clang, and by nothing of this repository.
+"""Makes stdin and stdout of this program by Debian's gcc and clang, by hand, and by nothing of this repository.
 
 A text is accepted where `gcc -std=c99 -pedantic-errors -fsyntax-only` accepts it and clang with the same options does so too.
 It is refused where the first error of each is one of the grammar, whose messages are those of SYNTACTIC, and not one of types or
 of names that are not declared. Other texts are left out, and named on the error output.
 
 Behind these rows come those of DIFFERENCES, of which the compilers say something else, or the same for another reason than the
-grammar. Their verdicts are written there, each with its reason.
+grammar. Their verdicts are written there, each with its reason. Last come those of `written.py`, of levels, faults and trees,
+whose answers are written there.
 
 usage: python3 crates/c_parser_vectors/vectors.py make
 """
@@ -18,6 +19,8 @@ import re
 import subprocess
 import sys
 import tempfile
+
+from written import written
 
 END = "%%\n"
 OPTIONS = ["-std=c99", "-pedantic-errors", "-fsyntax-only"]
@@ -543,14 +546,15 @@ def main():
         sys.exit(__doc__)
     here = os.path.dirname(os.path.abspath(__file__))
     same, other = list(agreed()), list(differences())
-    rows = same + other
-    assert all("%%" not in text for text, _ in rows) and len(dict(rows)) == len(rows)
+    rows = [(text, [found]) for text, found in same + other] + list(written())
+    assert all("%%" not in text for text, _ in rows) and len(dict((text, 0) for text, _ in rows)) == len(rows)
     with open(os.path.join(here, "stdin"), "w", newline="") as f:
         f.write(END.join(text for text, _ in rows))
     with open(os.path.join(here, "stdout"), "w", newline="") as f:
-        f.write("".join(found + "\n" for _, found in rows))
+        f.writelines(line + "\n" for _, found in rows for line in found)
     for name, part in (("agreed", same), ("differences", other)):
         print(len(part), name + ",", sum(found == "refused" for _, found in part), "of them refused")
+    print(len(rows) - len(same) - len(other), "written")
 
 
 if __name__ == "__main__":

@@ -1,10 +1,12 @@
 #!/usr/bin/env python3
-"""Makes stdin and stdout of this program by Debian's gcc and clang, and by nothing of this repository.
+"""Makes stdin and stdout of this program by Debian's gcc and clang, by hand, and by nothing of this repository.
 
 The tokens of a text are those of `gcc -E -std=c99 -pedantic-errors` and of `clang -E -std=c99`, parted by the
 regular expression TOKEN. A macro's tokens stand there on the line of its use, which line markers and newlines tell. A text
 in which the two differ is refused here. A fault is the first error of gcc, whose message tells its kind; of if-sections
 that are left open, which gcc tells from the innermost one, it is the outermost.
+
+Behind these rows come those of `written`, whose answers are written here.
 
 usage: python3 crates/c_pre_vectors/vectors.py make
 """
@@ -167,6 +169,77 @@ def too_many():
     return "\n".join(lines) + "\n", "fault 6 line 41\n"
 
 
+# Texts and what they expand to, by C99 6.10 and by the rules that the subset adds: `#if`, parameters, other headers and other forms
+# are faults. Behind the tokens stands the line of the end.
+ALL = [
+    ("#define N 72\nputchar(N);", "putchar ( 72 ) ; end 2"),
+    ("#ifdef A\nreturn 2;\n#else\nreturn 3;\n#endif\n", "return 3 ; end 6"),
+    ("#ifndef A\na\n#else\nb\n#endif", "a end 5"),
+    ("#define A 1\n\n#define A 2\n", "fault 5 line 3"),
+    ("#define A 1 +x\n# define  A  1/**/+ x\nA", "1 + x end 3"),
+    ("#define A 1\n#undef A\n#define A 2\nA", "2 end 4"),
+    ("#undef A\nx", "x end 2"),
+    ("x\n#endif", "fault 4 line 2"),
+    ("#else", "fault 4 line 1"),
+    ("#ifdef A\n#else\n#else\n#endif", "fault 4 line 3"),
+    ("x\n#ifdef A\n#ifdef B\n#endif\n#ifdef C\n", "fault 3 line 2"),
+    ("#ifdef A\n#endif\n#foo\n#ifdef B", "fault 2 line 3"),
+    ("#include <math.h>", "fault 1 line 1"),
+    ('\n#include "stdio.h"', "fault 1 line 2"),
+    ("#include < stdio.h>", "fault 1 line 1"),
+    ("#include <stdio.h> x", "fault 1 line 1"),
+    ("#include", "fault 1 line 1"),
+    ("#include<stdio.h>\n#include <stdio.h>\nEOF", "( - 1 ) end 3"),
+    ("#define EOF 2\n#include <stdio.h>", "fault 5 line 2"),
+    ("#include <stdio.h>\n#include <stdlib.h>\n#include <string.h>\n#include <stddef.h>\nNULL", "( ( void * ) 0 ) end 5"),
+    ("#include <stdlib.h>\nEXIT_SUCCESS EXIT_FAILURE EOF", "0 1 EOF end 2"),
+    ("#foo", "fault 2 line 1"),
+    ("#if 1\n#endif", "fault 2 line 1"),
+    ("#define f(x) x", "fault 2 line 1"),
+    ("#define f (x) y\nf", "( x ) y end 2"),
+    ("#define int long\nint", "long end 2"),
+    ("#define 1", "fault 2 line 1"),
+    ("#ifdef A b\n#endif", "fault 2 line 1"),
+    ("# \nx # y", "x # y end 2"),
+    ("#define a a b\na", "a b end 2"),
+    ("#define a b c\n#define b a d\na b", "a d c b c d end 3"),
+    ("#define A 1 /* x\n y */ + 2\nA", "1 + 2 end 3"),
+    ("#define A \\\n 1\nA", "1 end 3"),
+    ("#ifdef A\n#foo\n#include <x>\n#if 1\n#else x\n#endif y\n#elif z\n#endif\nw", "w end 9"),
+    ("#ifdef A\n#else x\n#endif", "fault 2 line 2"),
+    ("#define A\n#ifdef A\n#else\n#ifdef B\n#else\nx\n#endif\n#endif y", "fault 2 line 8"),
+    ("", "end 1"),
+    # Values of C99 5.2.4.2.1 for an int of 4 bytes, a long and a long long of 8, and an unsigned char.
+    (
+        "#include <limits.h>\nCHAR_BIT SCHAR_MIN SCHAR_MAX UCHAR_MAX CHAR_MIN CHAR_MAX SHRT_MIN SHRT_MAX USHRT_MAX INT_MIN INT_MAX "
+        "UINT_MAX LONG_MIN LONG_MAX ULONG_MAX LLONG_MIN LLONG_MAX ULLONG_MAX",
+        "8 ( - 128 ) 127 255 0 255 ( - 32767 - 1 ) 32767 65535 ( - 2147483647 - 1 ) 2147483647 4294967295U "
+        "( - 9223372036854775807L - 1 ) 9223372036854775807L 18446744073709551615UL ( - 9223372036854775807LL - 1 ) "
+        "9223372036854775807LL 18446744073709551615ULL end 2",
+    ),
+]
+
+# Behind definitions of a name with each number up to the first, each of which stands for the one before it twice, and a1 for these
+# two words, a text, and what is told of its tokens. a20 stands for 1048576 tokens, the most to which a text may expand. With an empty
+# list at the bottom, a23 puts in 2 + 4 + .. + 2^23 = 16777214 tokens. With a1 they are 16777216, the most that may be put in, and none
+# of them is left.
+EMPTY = "#define z\n#define s z\na23 a1 x"
+DOUBLED = [
+    (20, "0 0", "a20", "1048576 tokens of 1048576 bytes, last 0, end 21"),
+    (20, "0 0", "a20 0", "fault 6 line 21"),
+    (23, "z z", EMPTY, "1 tokens of 1 bytes, last x, end 26"),
+    (23, "z z", EMPTY + " s", "fault 6 line 26"),
+]
+
+
+def written():
+    """The rows whose answers are written here, each with the line that it must print."""
+    for text, line in ALL:
+        yield f"%all\n{text}", line + "\n"
+    for last, words, text, line in DOUBLED:
+        yield f"%doubled {last}\n{words}\n{text}", line + "\n"
+
+
 def main():
     if sys.argv[1:] != ["make"]:
         sys.exit(__doc__)
@@ -178,12 +251,15 @@ def main():
         except ValueError as error:
             print("left out:", error, repr(text), file=sys.stderr)
     rows.append(too_many())
+    assert not any(text.startswith("%") for text, _ in rows)
+    others = list(written())
+    rows += others
     assert all("%%" not in text for text, _ in rows)
     with open(os.path.join(here, "stdin"), "w", newline="") as f:
         f.write(END.join(text for text, _ in rows))
     with open(os.path.join(here, "stdout"), "w", newline="") as f:
         f.write("".join(want + END for _, want in rows))
-    print(len(rows), "texts,", sum(want.startswith("fault") for _, want in rows), "of them faults")
+    print(len(rows), "texts,", sum(want.startswith("fault") for _, want in rows), "of them faults,", len(others), "written")
 
 
 if __name__ == "__main__":

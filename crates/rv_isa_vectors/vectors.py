@@ -1,11 +1,13 @@
 #!/usr/bin/env python3
-"""Makes stdin and stdout of this program by Debian's binutils-riscv64-linux-gnu, and by nothing of this repository.
+"""Makes stdin and stdout of this program by Debian's binutils-riscv64-linux-gnu, by hand, and by nothing of this repository.
 
 The words come from the assembler, `riscv64-linux-gnu-as -march=rv64im`, from an instruction list with each immediate at
 its edges; words that are no instruction of RV64IM are listed below. The texts come from the disassembler,
 `riscv64-linux-gnu-objdump -D -b binary -m riscv:rv64 -M numeric,no-aliases`, each word by itself at the address
 4 * (its line, from 0). Of objdump's line the word and the text are kept, without its note after '#', with one space
 after the name. A word that objdump takes for an instruction outside RV64IM, as one of 16 bits, gives `unknown`.
+
+Behind these rows come those of `written`: what the manual's table gives, by hand.
 
 usage: python3 crates/rv_isa_vectors/vectors.py make
 """
@@ -88,6 +90,27 @@ c0001073 00000f73 10500073 12000073 00101073 00100173
 """.split()
 
 
+# Instructions that the program makes, each with its word by the manual's table, and its text.
+MADE = [
+    ("addi", "05d00893", "addi x17,x0,93"),
+    ("mul", "02b50533", "mul x10,x10,x11"),
+    ("ld", "00813503", "ld x10,8(x2)"),
+    ("sd", "00a13423", "sd x10,8(x2)"),
+    ("beq", "fe000ee3", "beq x0,x0,{:#x}"),
+    ("srai", "40355513", "srai x10,x10,0x3"),
+    ("divw", "02c5c53b", "divw x10,x11,x12"),
+    ("ecall", "00000073", "ecall"),
+]
+
+
+def written(line):
+    """The rows from this line on that are written here: each of MADE by its name, and by its word; and what they print."""
+    rows = [(row, word, text) for name, word, text in MADE for row in (name, word)]
+    for place, (row, word, text) in enumerate(rows, line):
+        # The branch goes one instruction back.
+        yield row, f"{word} " + text.format(4 * place - 4)
+
+
 def run(*words):
     return subprocess.run(words, check=True, capture_output=True, text=True).stdout
 
@@ -121,11 +144,14 @@ def main():
     here = os.path.dirname(os.path.abspath(__file__))
     with tempfile.TemporaryDirectory() as folder:
         words = assembled(folder, list(instructions())) + [int(w, 16) for w in OTHERS]
+        others = list(written(len(words)))
         with open(os.path.join(here, "stdin"), "w") as f:
             f.writelines(f"{w:08x}\n" for w in words)
+            f.writelines(row + "\n" for row, _ in others)
         with open(os.path.join(here, "stdout"), "w") as f:
             f.writelines(text_of(folder, w, k) + "\n" for k, w in enumerate(words))
-    print(len(words), "words;", run(TOOL + "objdump", "--version").splitlines()[0], file=sys.stderr)
+            f.writelines(line + "\n" for _, line in others)
+    print(len(words), "words,", len(others), "written;", run(TOOL + "objdump", "--version").splitlines()[0], file=sys.stderr)
 
 
 if __name__ == "__main__":

@@ -3,9 +3,9 @@
 ghost use Rattle.std.specs.Prelude.{IfOk};
 ghost use Rattle.elf_image.specs.Writing.{SegmentsFit};
 
-use elf_image::{Image, NewImage, NewSegment};
+use anyhow::{Result, bail};
+use elf_image::{Image, NewImage, NewSegment, Segment};
 use std::alloc::{AllocError, Global};
-use std::test::Fail;
 
 fn sample(alloc: Global) -> Result<NewImage, AllocError>
     ensures { IfOk result SegmentsFit }
@@ -35,18 +35,24 @@ fn sample(alloc: Global) -> Result<NewImage, AllocError>
     })
 }
 
-#[test]
-fn reads_what_was_written(rt: HostRuntime) -> Result<(), Fail> {
+fn put_segment(rt: &HostRuntime, segment: &Segment) -> Result<()> {
+    let read = if segment.is_readable() { "r" } else { "-" };
+    let write = if segment.is_writable() { "w" } else { "-" };
+    let run = if segment.is_executable() { "x" } else { "-" };
+    let (address, size, bytes) = (segment.address(), segment.size(), segment.bytes());
+    println!(rt; "{address:x} {size:x} {read}{write}{run} {bytes:?}")?;
+    Ok(())
+}
+
+/// Prints the length of the file, the entry and the segments.
+pub fn put(rt: &HostRuntime) -> Result<()> {
     let file = Image::write(rt.alloc(), &sample(rt.alloc())?)?;
-    assert!(rt; file.len() == 4 * 4096);
-    let image = Image::read(rt.alloc(), &file)?;
-    assert!(rt; image.entry() == 0x10010);
-    let [rows, code, objects, runtime] = image.segments() else {
-        return Err(Fail::new("four segments"));
+    let Ok(image) = Image::read(rt.alloc(), &file) else {
+        bail!("no image");
     };
-    assert!(rt; rows.is_executable() && !rows.is_writable());
-    assert!(rt; code.address() == 0x100000);
-    assert!(rt; objects.bytes() == [1, 2, 3].as_slice() && objects.size() == 0x2000);
-    assert!(rt; runtime.is_readable() && runtime.is_writable());
+    println!(rt; "{} bytes, entry {:x}", file.len(), image.entry())?;
+    for segment in image.segments() {
+        put_segment(rt, segment)?;
+    }
     Ok(())
 }

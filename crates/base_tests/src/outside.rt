@@ -1,83 +1,80 @@
-// Each object once on its happy path, and each fault of it.
-use sb_outside::{
-    Failed, FileFault, Files, HostFiles, MemFiles, MemSink, MemSource, Sink, Source, StdSink,
-    StdSource,
-};
-use std::alloc::Global;
-use std::test::Fail;
-use std::{fs, io};
+//! Each object in memory, and the streams of the system, once on its happy path, and each fault of it.
 
-#[test]
-fn source_in_memory(rt: HostRuntime) -> Result<(), Fail> {
-    let mut source = MemSource::new(rt.alloc(), &[7, 8], &[1, 4])?;
-    let wanted = [
-        Ok(Some(7)),
-        Err(Failed),
-        Ok(Some(8)),
-        Ok(None),
-        Err(Failed),
-        Ok(None),
-    ];
-    for want in wanted {
-        assert_eq!(rt; source.take(), want);
+use anyhow::Result;
+use sb_outside::{
+    FileFault, Files, MemFiles, MemSink, MemSource, Sink, Source, StdSink, StdSource,
+};
+use std::alloc::{AllocError, Global};
+use std::io;
+
+// Prints what so many takes give.
+fn put_takes<S: Source>(rt: &HostRuntime, source: &mut S, count: u8) -> Result<()> {
+    for _ in 0..count {
+        println!(rt; "{:?}", source.take())?;
     }
     Ok(())
 }
 
-#[test]
-fn sink_in_memory(rt: HostRuntime) -> Result<(), Fail> {
-    let mut sink = MemSink::new(rt.alloc(), 6, &[(1, 1)])?;
-    assert_eq!(rt; sink.put(b"ab"), Ok(()));
-    assert_eq!(rt;
-        sink.put(b"cd"),
-        Err(Failed),
-        "the listed call keeps one byte"
-    );
-    assert_eq!(rt; sink.put(b"ef"), Ok(()));
-    assert_eq!(rt; sink.put(b"gh"), Err(Failed), "past the capacity");
-    assert_eq!(rt; sink.bytes(), b"abcefg".as_slice());
+// Prints what each put gives.
+fn put_puts<S: Sink>(rt: &HostRuntime, sink: &mut S, texts: &[&str]) -> Result<()> {
+    for text in texts {
+        println!(rt; "{:?}", sink.put(text.as_bytes()))?;
+    }
     Ok(())
 }
 
-fn two_files(alloc: Global) -> Result<MemFiles, Fail> {
+/// Prints what the bytes 7 and 8 give in six takes, of which the second and the fifth fail.
+pub fn put_source(rt: &HostRuntime) -> Result<()> {
+    let mut source = MemSource::new(rt.alloc(), &[7, 8], &[1, 4])?;
+    put_takes(rt, &mut source, 6)
+}
+
+/// Prints what four puts of two bytes give where there is room for six, and the second fails and keeps one of them; and
+/// the bytes that are there then.
+pub fn put_sink(rt: &HostRuntime) -> Result<()> {
+    let mut sink = MemSink::new(rt.alloc(), 6, &[(1, 1)])?;
+    put_puts(rt, &mut sink, &["ab", "cd", "ef", "gh"])?;
+    println!(rt; "{:?}", str::from_utf8(sink.bytes()))?;
+    Ok(())
+}
+
+fn two_files(alloc: Global) -> Result<MemFiles, AllocError> {
     let mut pairs = Vec::new(alloc);
     pairs.push((
         String::from_str(alloc, "a.c")?,
         Vec::from_slice(alloc, b"one")?,
     ))?;
     pairs.push((String::from_str(alloc, "b.c")?, Vec::new(alloc)))?;
-    Ok(MemFiles::new(alloc, &pairs, 4, &[2], &[(1, 2)])?)
+    MemFiles::new(alloc, &pairs, 4, &[2], &[(1, 2)])
 }
 
-#[test]
-fn files_in_memory(rt: HostRuntime) -> Result<(), Fail> {
-    let alloc = rt.alloc();
-    let mut files = two_files(alloc)?;
-    assert_eq!(rt; files.write("b.c", b"four"), Ok(()));
-    assert_eq!(rt;
-        files.write("a.c", b"new"),
-        Err(Failed),
-        "the listed write keeps two bytes"
-    );
-    assert_eq!(rt;
-        files.write("b.c", b"more!"),
-        Err(Failed),
-        "more than the room"
-    );
-    assert_eq!(rt; files.write("c.c", b""), Err(Failed), "not there");
-    let wanted = [
-        ("a.c", 2, Ok(b"ne".as_slice())),
-        ("b.c", 3, Err(FileFault::TooLong(4))),
-        ("a.c", 9, Err(FileFault::Failed)),
-        ("c.c", 9, Err(FileFault::Failed)),
-        ("b.c", 4, Ok(b"more".as_slice())),
-    ];
-    for (name, max, want) in wanted {
-        let read = files.read(alloc, name, max);
-        match want {
-            Ok(bytes) => assert_eq!(rt; read?.as_slice(), bytes, "{name}"),
-            Err(fault) => assert!(rt; matches!(read, Err(found) if found == fault), "{name}"),
-        }
+/// Prints what a read gave.
+pub fn put_read(rt: &HostRuntime, read: Result<Vec<u8>, FileFault>) -> Result<()> {
+    match read {
+        Ok(bytes) => println!(rt; "{:?}", str::from_utf8(bytes.as_slice()))?,
+        Err(fault) => println!(rt; "{fault:?}")?,
+    }
+    Ok(())
+}
+
+const WRITES: [(&str, &str); 4] = [
+    ("b.c", "four"),
+    ("a.c", "new"),
+    ("b.c", "more!"),
+    ("c.c", ""),
+];
+
+const READS: [(&str, u64); 5] = [("a.c", 2), ("b.c", 3), ("a.c", 9), ("c.c", 9), ("b.c", 4)];
+
+/// Prints what writes and reads give of two files, `a.c` with `one` and `b.c` with nothing, that have room for four
+/// bytes; the second write fails and keeps two bytes, and the third read fails.
+pub fn put_files(rt: &HostRuntime) -> Result<()> {
+    let mut files = two_files(rt.alloc())?;
+    for (name, text) in WRITES.iter() {
+        println!(rt; "{:?}", files.write(name, text.as_bytes()))?;
+    }
+    for (name, max) in READS.iter() {
+        put_read(rt, files.read(rt.alloc(), name, *max))?;
     }
     Ok(())
 }
@@ -102,31 +99,11 @@ impl io::Write for Narrow {
     }
 }
 
-#[test]
-fn streams_of_the_system(rt: HostRuntime) {
+/// Prints what a stream of two bytes gives in three takes, and what three puts give to one that takes three bytes, one
+/// at a time.
+pub fn put_streams(rt: &HostRuntime) -> Result<()> {
     let mut source = StdSource::new(b"xy".as_slice());
-    for want in [Ok(Some(b'x')), Ok(Some(b'y')), Ok(None)] {
-        assert_eq!(rt; source.take(), want);
-    }
+    put_takes(rt, &mut source, 3)?;
     let mut sink = StdSink::new(Narrow { room: 3 });
-    assert_eq!(rt; sink.put(b"abc"), Ok(()));
-    assert_eq!(rt; sink.put(b""), Ok(()));
-    assert_eq!(rt; sink.put(b"d"), Err(Failed));
-}
-
-#[test]
-fn files_of_the_system(rt: HostRuntime) -> Result<(), Fail> {
-    let alloc = rt.alloc();
-    let name = "sb_outside_test.bytes";
-    let mut files = HostFiles::new(&rt);
-    assert_eq!(rt; files.write(name, b"some bytes"), Ok(()));
-    assert_eq!(rt;
-        files.read(alloc, name, 10)?.as_slice(),
-        b"some bytes".as_slice()
-    );
-    assert!(rt; matches!(files.read(alloc, name, 9), Err(FileFault::TooLong(10))));
-    fs::remove_file(&rt, name)?;
-    assert!(rt; matches!(files.read(alloc, name, 9), Err(FileFault::Failed)));
-    assert_eq!(rt; files.write("no_such_folder/file", b""), Err(Failed));
-    Ok(())
+    put_puts(rt, &mut sink, &["abc", "", "d"])
 }

@@ -10,7 +10,7 @@ use sb_base::Line;
 use std::alloc::Global;
 
 /// What the parser says of a text.
-#[derive(Clone, Copy, Debug, PartialEq, Eq)]
+#[derive(Clone, Copy)]
 pub enum Verdict {
     /// It has a tree.
     Accepted,
@@ -37,8 +37,8 @@ pub enum Verdict {
 
 impl Verdict {
     /// How the table has it.
-    pub fn name(self) -> &'static str {
-        match self {
+    pub fn name(&self) -> &'static str {
+        match *self {
             Verdict::Accepted => "accepted",
             Verdict::Refused { .. } | Verdict::Unsupported { .. } => "refused",
             Verdict::Nested { .. } => "nested",
@@ -75,13 +75,13 @@ fn are_same(words: &[Positioned], others: &[Positioned]) -> bool {
     true
 }
 
-fn test_words(alloc: Global, tokens: &Tokens, unit: &Unit) -> Result<()> {
+fn words_verdict(alloc: Global, tokens: &Tokens, unit: &Unit) -> Result<Verdict> {
     let found = words(alloc, unit)?;
     let given = with_positions(alloc, tokens.as_slice())?;
     if !are_same(found.as_slice(), given.as_slice()) {
         bail!("the tree has other words than the text");
     }
-    Ok(())
+    Ok(Verdict::Accepted)
 }
 
 fn refusal(fault: ParseFault) -> Result<Verdict> {
@@ -93,18 +93,26 @@ fn refusal(fault: ParseFault) -> Result<Verdict> {
     }
 }
 
+fn verdict_on(alloc: Global, tokens: &Tokens) -> Result<Verdict> {
+    match parse(alloc, tokens) {
+        Ok(unit) => words_verdict(alloc, tokens, &unit),
+        Err(fault) => refusal(fault),
+    }
+}
+
+fn test_again(alloc: Global, tokens: &Tokens, first: &Verdict) -> Result<()> {
+    let second = verdict_on(alloc, tokens)?;
+    if first.name() != second.name() {
+        bail!("the text is read otherwise the second time");
+    }
+    Ok(())
+}
+
 /// What the parser says of a text. An error: there is no memory, the text has no tokens or faulty directives, its tree
 /// has other words, or it is read otherwise the second time.
 pub fn verdict_of(alloc: Global, text: &[u8]) -> Result<Verdict> {
     let tokens = tokens_of(alloc, text)?;
-    let unit = match parse(alloc, &tokens) {
-        Ok(unit) => unit,
-        Err(fault) => return refusal(fault),
-    };
-    test_words(alloc, &tokens, &unit)?;
-    match parse(alloc, &tokens) {
-        Ok(again) => test_words(alloc, &tokens, &again)?,
-        Err(_) => bail!("the text is refused the second time"),
-    }
-    Ok(Verdict::Accepted)
+    let first = verdict_on(alloc, &tokens)?;
+    test_again(alloc, &tokens, &first)?;
+    Ok(first)
 }

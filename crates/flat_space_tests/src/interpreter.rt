@@ -1,17 +1,17 @@
 //! An interpreter of the flat code that the routines are made of.
 
 use addr_map::AddrMap;
+use anyhow::{Result, bail, ensure};
 use flat_meaning::{FlatInstruction, RightOperand};
 use rv_isa::{BranchOp, RegOp};
 use sb_base::{Budgets, Ending};
 use std::alloc::{AllocError, Global};
-use std::test::Fail;
 
 /// The map of these tests: the default budgets, and 8192 bytes of static objects.
-pub fn default_map() -> Result<AddrMap, Fail> {
+pub fn default_map() -> Result<AddrMap> {
     match AddrMap::new(&Budgets::default(), 8192) {
         Ok(map) => Ok(map),
-        Err(_) => Err(Fail::new("the map is too large")),
+        Err(_) => bail!("the map is too large"),
     }
 }
 
@@ -96,6 +96,13 @@ impl Machine {
             }
         }
         Ok(Left::Lost)
+    }
+
+    /// Runs the instructions, which are left past the last.
+    pub fn pass(&mut self, code: &[FlatInstruction]) -> Result<()> {
+        let left = self.run(code)?;
+        ensure!(left == Left::Past, "the code was left otherwise");
+        Ok(())
     }
 
     fn step(&mut self, instruction: FlatInstruction) -> Result<Next, AllocError> {

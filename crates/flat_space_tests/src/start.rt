@@ -1,18 +1,11 @@
-use crate::interpreter::{Left, Machine, default_map};
-use addr_map::{AddrMap, Region};
-use flat_meaning::FlatInstruction;
-use flat_routines::Entry;
-use shadow_space::{Direct, ShadowForm, StartEntry};
-use std::alloc::{AllocError, Global};
-use std::test::Fail;
-use two_level_shadow::TwoLevel;
+//! The bytes with which a shadow space begins.
 
-const READ: Entry = Entry {
-    base: 5,
-    bound: 6,
-    key: 7,
-    lock: 8,
-};
+use crate::entries::{READ, put_read};
+use crate::interpreter::{Machine, default_map};
+use addr_map::{AddrMap, Region};
+use anyhow::{Result, bail};
+use shadow_space::{ShadowForm, StartEntry};
+use std::alloc::{AllocError, Global};
 
 // Two words of static objects with pointers, on pages of their own.
 const ENTRIES: [StartEntry; 2] = [
@@ -32,13 +25,13 @@ const ENTRIES: [StartEntry; 2] = [
     },
 ];
 
-// Words, and the base in the entry of each: those beside the two have none.
-const WORDS: [(u64, u64); 5] = [
-    (0x1000_0008, 0),
-    (0x1000_0010, 0x1000_0020),
-    (0x1000_0018, 0),
-    (0x1000_1ff0, 0),
-    (0x1000_1ff8, 0x1000_1000),
+// Both words, and those beside them.
+const WORDS: [u64; 5] = [
+    0x1000_0008,
+    0x1000_0010,
+    0x1000_0018,
+    0x1000_1ff0,
+    0x1000_1ff8,
 ];
 
 // A machine whose shadow space begins with these bytes.
@@ -55,35 +48,20 @@ fn machine_with(alloc: Global, map: &AddrMap, bytes: &[u8]) -> Result<Machine, A
     Ok(machine)
 }
 
-// Whether each word has its entry there.
-fn are_read(machine: &mut Machine, read: &[FlatInstruction]) -> Result<bool, AllocError> {
-    for (word, base) in WORDS.iter() {
-        machine.set(0, *word);
-        if machine.run(read)? != Left::Past || machine.value(5) != *base {
-            return Ok(false);
-        }
-    }
-    Ok(true)
-}
-
-fn reads_what_it_starts_with<S: ShadowForm>(
-    alloc: Global,
-    map: &AddrMap,
-) -> Result<bool, AllocError> {
+fn start_of<S: ShadowForm>(alloc: Global, map: &AddrMap) -> Result<Vec<u8>> {
     addr_map::laws::sizes_are_in_range(map);
     if map.global_bytes() != 8192 {
-        return Ok(false);
+        bail!("other static objects");
     }
-    let bytes = S::start(alloc, map, &ENTRIES)?;
-    let read = S::read_entry(alloc, map, 0, READ, 16)?;
-    let mut machine = machine_with(alloc, map, bytes.as_slice())?;
-    are_read(&mut machine, read.as_slice())
+    Ok(S::start(alloc, map, &ENTRIES)?)
 }
 
-#[test]
-fn the_start_of_both_forms(rt: HostRuntime) -> Result<(), Fail> {
+/// Prints the entries with which a form begins.
+pub fn put<S: ShadowForm>(rt: &HostRuntime) -> Result<()> {
     let map = default_map()?;
-    assert!(rt; reads_what_it_starts_with::<Direct>(rt.alloc(), &map)?);
-    assert!(rt; reads_what_it_starts_with::<TwoLevel>(rt.alloc(), &map)?);
-    Ok(())
+    addr_map::laws::sizes_are_in_range(&map);
+    let bytes = start_of::<S>(rt.alloc(), &map)?;
+    let read = S::read_entry(rt.alloc(), &map, 0, READ, 16)?;
+    let mut machine = machine_with(rt.alloc(), &map, bytes.as_slice())?;
+    put_read(rt, &mut machine, read.as_slice(), &WORDS)
 }

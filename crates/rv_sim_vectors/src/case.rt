@@ -3,42 +3,35 @@
 ghost use Rattle.std.specs.Prelude.{IfOk};
 ghost use Rattle.elf_image.specs.Writing.{SegmentsFit};
 
-use crate::sample::{machine_of, parts, run};
-use anyhow::{Context, Result, bail, ensure};
+use crate::sample::{machine_of, number, parts, run};
+use anyhow::{Result, ensure};
 use elf_image::NewImage;
 use rv_isa::Reg;
 use rv_sim::Stop;
 use std::alloc::{AllocError, Global};
 
-/// A word that works on a0 and a1, their values, and what it must leave in a2.
-#[derive(Drop)]
+/// A word that works on a0 and a1, and their values.
+#[derive(Clone, Copy)]
 pub struct Case {
-    pub word: u32,
-    pub left: u64,
-    pub right: u64,
-    pub result: u64,
+    word: u32,
+    left: u64,
+    right: u64,
 }
 
 impl Case {
-    /// A line of five fields: a name, which is passed over, the word, the values and the result.
-    pub fn parse(line: &str) -> Result<Case> {
-        let mut fields = line.split(' ').skip(1);
-        let word = number(fields.next()).context("a word")?;
+    /// A row of four fields: a name, which is passed over, the word and the values.
+    pub fn parse(row: &str) -> Result<Case> {
+        let mut fields = row.split(' ').skip(1);
         Ok(Case {
-            word: u32::try_from(word)?,
-            left: number(fields.next()).context("a number")?,
-            right: number(fields.next()).context("a number")?,
-            result: number(fields.next()).context("a number")?,
+            word: u32::try_from(number(fields.next())?)?,
+            left: number(fields.next())?,
+            right: number(fields.next())?,
         })
     }
 
     /// What the machine leaves in a2.
     pub fn run(&self, alloc: Global) -> Result<u64> {
-        let parts = self.parts(alloc)?;
-        let mut machine = match machine_of(alloc, &parts) {
-            Ok(machine) => machine,
-            Err(error) => bail!("no image: {error:?}"),
-        };
+        let mut machine = machine_of(alloc, &self.parts(alloc)?)?;
         let stop = run(alloc, &mut machine, 4)?;
         ensure!(stop == Stop::Limit, "the machine stopped: {stop:?}");
         Ok(machine.register(Reg::A2))
@@ -55,9 +48,4 @@ impl Case {
         objects.extend_from_slice(&self.right.to_le_bytes())?;
         parts(alloc, code, objects)
     }
-}
-
-// The number that a field has in hexadecimal digits.
-fn number(digits: Option<&str>) -> Option<u64> {
-    u64::from_str_radix(digits?, 16).ok()
 }

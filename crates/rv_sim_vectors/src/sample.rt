@@ -1,17 +1,23 @@
-//! The image in which operations and tests run, and a run of it.
+//! The image in which operations and tests run, a run of it, and the numbers of rows.
 
 ghost use Rattle.std.specs.Prelude.{◌≤◌, length, IfOk};
 ghost use Rattle.elf_image.specs.Writing.{SegmentsFit};
 
+use anyhow::{Context, Result, bail};
 use elf_image::{Image, NewImage, NewSegment, ReadError};
 use rv_sim::{Machine, Stop};
 use sb_outside::{MemSink, MemSource};
 use std::alloc::{AllocError, Global};
 
+/// The number that a field of a row has in hexadecimal digits.
+pub fn number(digits: Option<&str>) -> Result<u64> {
+    let digits = digits.context("a number")?;
+    u64::from_str_radix(digits, 16).context("hexadecimal digits")
+}
+
 /// Rows at 0x10000, of 32 bytes, and code at 0x100000, of one ECALL, which may be executed alone; objects at
-/// 0x10000000,
-/// of 0x2000 bytes, and runtime at 0x40000000, of 0x1000 bytes, which may be read and written. The run begins at the
-/// jump table. In the file the program headers stand at 64, 120, 176 and 232.
+/// 0x10000000, of 0x2000 bytes, and runtime at 0x40000000, of 0x1000 bytes, which may be read and written. The run
+/// begins at the jump table. In the file the program headers stand at 64, 120, 176 and 232.
 pub fn parts(alloc: Global, jump_table: Vec<u8>, objects: Vec<u8>) -> Result<NewImage, AllocError>
     requires jump_table { length jump_table.items ≤ 32 }
     requires objects { length objects.items ≤ 32 }
@@ -43,11 +49,14 @@ pub fn parts(alloc: Global, jump_table: Vec<u8>, objects: Vec<u8>) -> Result<New
 }
 
 /// The machine that the image of these parts begins.
-pub fn machine_of(alloc: Global, parts: &NewImage) -> Result<Machine, ReadError>
+pub fn machine_of(alloc: Global, parts: &NewImage) -> Result<Machine>
     requires { SegmentsFit parts.now }
 {
     let file = Image::write(alloc, parts)?;
-    loaded(alloc, &file)
+    match loaded(alloc, &file) {
+        Ok(machine) => Ok(machine),
+        Err(error) => bail!("no image: {error:?}"),
+    }
 }
 
 fn loaded(alloc: Global, file: &[u8]) -> Result<Machine, ReadError> {

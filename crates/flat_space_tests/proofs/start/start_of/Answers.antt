@@ -2,7 +2,7 @@ use Rattle.std.proofs.Common.{◌≡◌, ℕ, ◌≤◌, ◌+◌, ◌%◌, sym, 
 use Rattle.addr_map.specs.declared.region.Region.TheVariants.{Globals}
 use Rattle.addr_map.specs.Places.{MapSizes, objects_begin, region_end, region_size, region_start, whole_pages}
 use Rattle.shadow_space.specs.Start.{IsGlobalWord}
-use Rattle.flat_space_tests.proofs.start.reads_what_it_starts_with.Goals as goal
+use Rattle.flat_space_tests.proofs.start.start_of.Goals as goal
 
 -- two pages of static objects
 two_pages : (s : MapSizes) → s.global_bytes ≡ 8192 → region_end s Globals ≡ 0x10002000

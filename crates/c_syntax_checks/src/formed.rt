@@ -1,10 +1,10 @@
 //! Which expressions, declarators and specifiers are well formed, where some names are typedef names (C99 6.5, 6.7).
 
-ghost use Rattle.std.specs.Prelude.{◌≡◌, IsTrue, ◌↔◌, ◌≤◌};
+ghost use Rattle.std.specs.Prelude.{◌≡◌, IsTrue, ◌↔◌, ◌≤◌, ◌<◌, true, false};
 ghost use Rattle.c_syntax.specs.Formed as formed;
 ghost use Rattle.c_syntax.specs.View as view;
 
-use c_lexer::Spelling;
+use c_lexer::{Punctuator, Spelling};
 use c_syntax::declarators::{has_name, is_direct, is_lone_void, is_unnamed};
 use c_syntax::names::is_among;
 use c_syntax::operators::{
@@ -31,61 +31,85 @@ pub(crate) fn is_expression<'r, 'a>(
         Expression::Integer(_) | Expression::Character(_) | Expression::Strings(_, _) => true,
         Expression::Parenthesized(_, inner, _) => is_expression(names, inner.get()),
         Expression::Subscript(array, _, index, _) => {
-            16 <= precedence(array.get())
-                && is_expression(names, array.get())
-                && is_expression(names, index.get())
+            is_operand(names, 16, array) && is_boxed(names, index)
         }
         Expression::Call(called, _, arguments, _) => {
-            16 <= precedence(called.get())
-                && is_expression(names, called.get())
-                && are_arguments(names, arguments)
+            is_operand(names, 16, called) && are_arguments(names, arguments)
         }
         Expression::Member(whole, operator, _, _) => {
-            is_member_operator(*operator)
-                && 16 <= precedence(whole.get())
-                && is_expression(names, whole.get())
+            is_member_operator(*operator) && is_operand(names, 16, whole)
         }
         Expression::Postfix(operand, operator, _) => {
-            is_postfix_operator(*operator)
-                && 16 <= precedence(operand.get())
-                && is_expression(names, operand.get())
+            is_postfix_operator(*operator) && is_operand(names, 16, operand)
         }
         Expression::Unary(operator, _, operand) => {
-            1 <= operand_precedence(*operator)
-                && operand_precedence(*operator) <= precedence(operand.get())
-                && is_expression(names, operand.get())
+            binds_operand(*operator, operand) && is_boxed(names, operand)
         }
-        Expression::SizeofExpression(_, operand) => {
-            15 <= precedence(operand.get()) && is_expression(names, operand.get())
-        }
+        Expression::SizeofExpression(_, operand) => is_operand(names, 15, operand),
         Expression::SizeofType(_, _, name, _) => is_type_name(names, name.get()),
         Expression::Cast(_, name, _, operand) => {
-            14 <= precedence(operand.get())
-                && is_type_name(names, name.get())
-                && is_expression(names, operand.get())
+            is_type_name(names, name.get()) && is_operand(names, 14, operand)
         }
         Expression::Binary(first, operator, _, second) => {
-            1 <= binary_precedence(*operator)
-                && binary_precedence(*operator) <= precedence(first.get())
-                && binary_precedence(*operator) < precedence(second.get())
-                && is_expression(names, first.get())
-                && is_expression(names, second.get())
+            binds_operands(first, *operator, second)
+                && is_boxed(names, first)
+                && is_boxed(names, second)
         }
         Expression::Conditional(condition, _, first, _, second) => {
-            4 <= precedence(condition.get())
-                && 3 <= precedence(second.get())
-                && is_expression(names, condition.get())
-                && is_expression(names, first.get())
-                && is_expression(names, second.get())
+            is_operand(names, 4, condition)
+                && is_boxed(names, first)
+                && is_operand(names, 3, second)
         }
         Expression::Assignment(first, operator, _, second) => {
-            is_assignment(*operator)
-                && 15 <= precedence(first.get())
-                && 2 <= precedence(second.get())
-                && is_expression(names, first.get())
-                && is_expression(names, second.get())
+            is_assignment(*operator) && is_operand(names, 15, first) && is_operand(names, 2, second)
         }
     }
+}
+
+/// Whether an expression in a block of its own is well formed.
+#[cycle(shapes)]
+fn is_boxed<'r, 'a>(names: &'r [Spelling<'a>], boxed: &'r Boxed<Expression<'a>>) -> bool
+    ensures { IsTrue result ↔ formed.IsExpression names.now (view.expression_of boxed.now) }
+{
+    is_expression(names, boxed.get())
+}
+
+/// Whether an operand binds at least this tightly and is well formed.
+#[cycle(shapes)]
+fn is_operand<'r, 'a>(
+    names: &'r [Spelling<'a>],
+    least: u8,
+    operand: &'r Boxed<Expression<'a>>,
+) -> bool
+    ensures { IsTrue result ↔ ((least ≤ formed.precedence (view.expression_of operand.now))
+        × formed.IsExpression names.now (view.expression_of operand.now)) }
+{
+    least <= precedence(operand.get()) && is_expression(names, operand.get())
+}
+
+/// Whether a unary operator may stand before this operand (C99 6.5.3).
+fn binds_operand<'r, 'a>(operator: Punctuator, operand: &'r Boxed<Expression<'a>>) -> bool
+    ensures { IsTrue result ↔ ((1 ≤ formed.operand_precedence operator)
+        × (formed.operand_precedence operator ≤ formed.precedence (view.expression_of operand.now))) }
+{
+    let least = operand_precedence(operator);
+    1 <= least && least <= precedence(operand.get())
+}
+
+/// Whether a binary operator may stand between these operands (C99 6.5.5 to 6.5.14, 6.5.17).
+fn binds_operands<'r, 'a>(
+    first: &'r Boxed<Expression<'a>>,
+    operator: Punctuator,
+    second: &'r Boxed<Expression<'a>>,
+) -> bool
+    ensures { IsTrue result ↔ ((1 ≤ formed.binary_precedence operator)
+        × (formed.binary_precedence operator ≤ formed.precedence (view.expression_of first.now))
+        × (formed.binary_precedence operator < formed.precedence (view.expression_of second.now))) }
+{
+    let precedence_between = binary_precedence(operator);
+    1 <= precedence_between
+        && precedence_between <= precedence(first.get())
+        && precedence_between < precedence(second.get())
 }
 
 /// Whether they are well-formed arguments, each an assignment expression (C99 6.5.2.2).
@@ -133,11 +157,10 @@ fn are_more_arguments<'r, 'a>(
 fn is_type_name<'r, 'a>(names: &'r [Spelling<'a>], typed: &'r TypedDeclarator<'a>) -> bool
     ensures { IsTrue result ↔ formed.IsTypeName names.now (view.typed_of typed.now) }
 {
-    names_one_type(typed.specifiers.as_slice())
-        && is_each_specifier(names, typed.specifiers.as_slice())
-        && !has_typedef(typed.specifiers.as_slice())
-        && is_declarator(names, typed.declarator.get())
-        && !has_name(typed.declarator.get())
+    let declarator = typed.declarator.get();
+    are_plain(names, typed.specifiers.as_slice())
+        && is_declarator(names, declarator)
+        && !has_name(declarator)
 }
 
 /// Whether it is a well-formed parameter (C99 6.7.5.3).
@@ -146,10 +169,7 @@ fn is_type_name<'r, 'a>(names: &'r [Spelling<'a>], typed: &'r TypedDeclarator<'a
 fn is_parameter<'r, 'a>(names: &'r [Spelling<'a>], typed: &'r TypedDeclarator<'a>) -> bool
     ensures { IsTrue result ↔ formed.IsParameter names.now (view.typed_of typed.now) }
 {
-    names_one_type(typed.specifiers.as_slice())
-        && is_each_specifier(names, typed.specifiers.as_slice())
-        && !has_typedef(typed.specifiers.as_slice())
-        && is_declarator(names, typed.declarator.get())
+    are_plain(names, typed.specifiers.as_slice()) && is_declarator(names, typed.declarator.get())
 }
 
 /// Whether it is a well-formed declarator, abstract or not (C99 6.7.5, 6.7.6).
@@ -165,21 +185,20 @@ pub(crate) fn is_declarator<'r, 'a>(
         Declarator::Unnamed => true,
         Declarator::Pointer(_, _, inner) => is_declarator(names, inner.get()),
         Declarator::Parenthesized(_, inner, _) => {
-            !is_unnamed(inner.get()) && is_declarator(names, inner.get())
+            let inner = inner.get();
+            !is_unnamed(inner) && is_declarator(names, inner)
         }
         Declarator::OpenArray(inner, _, _) => {
-            is_direct(inner.get()) && is_declarator(names, inner.get())
+            let inner = inner.get();
+            is_direct(inner) && is_declarator(names, inner)
         }
         Declarator::Array(inner, _, size, _) => {
-            is_direct(inner.get())
-                && 3 <= precedence(size.get())
-                && is_declarator(names, inner.get())
-                && is_expression(names, size.get())
+            let inner = inner.get();
+            is_direct(inner) && is_declarator(names, inner) && is_operand(names, 3, size)
         }
         Declarator::Function(inner, _, parameters, _) => {
-            is_direct(inner.get())
-                && is_declarator(names, inner.get())
-                && are_parameters(names, parameters)
+            let inner = inner.get();
+            is_direct(inner) && is_declarator(names, inner) && are_parameters(names, parameters)
         }
     }
 }
@@ -237,6 +256,16 @@ fn is_each_specifier<'r, 'a>(names: &'r [Spelling<'a>], specifiers: &'r [Specifi
     true
 }
 
+/// Whether they are well-formed specifiers of one type, and of no typedef.
+#[cycle(shapes)]
+fn are_plain<'r, 'a>(names: &'r [Spelling<'a>], specifiers: &'r [Specifier<'a>]) -> bool
+    ensures { IsTrue result ↔ ((formed.names_one_type (view.specifiers_in specifiers.now) ≡ true)
+        × formed.EachSpecifier names.now (view.specifiers_in specifiers.now)
+        × (formed.has_typedef (view.specifiers_in specifiers.now) ≡ false)) }
+{
+    names_one_type(specifiers) && is_each_specifier(names, specifiers) && !has_typedef(specifiers)
+}
+
 /// Whether a specifier is well formed by itself (C99 6.7.1 to 6.7.4).
 #[cycle(shapes)]
 #[tactic(auto, using(c_syntax::proofs::ListViews::enumeration_view))]
@@ -286,11 +315,8 @@ fn are_members<'r, 'a>(names: &'r [Spelling<'a>], members: &'r [Member<'a>]) -> 
 fn is_member<'r, 'a>(names: &'r [Spelling<'a>], member: &'r Member<'a>) -> bool
     ensures { IsTrue result ↔ formed.IsMember names.now (view.member_of member.now) }
 {
-    names_one_type(member.specifiers.as_slice())
-        && is_each_specifier(names, member.specifiers.as_slice())
-        && !has_typedef(member.specifiers.as_slice())
-        && has_name(member.first.get())
-        && is_declarator(names, member.first.get())
+    are_plain(names, member.specifiers.as_slice())
+        && is_named(names, member.first.get())
         && are_more_declarators(names, member.others.as_slice())
 }
 
@@ -318,9 +344,7 @@ fn is_enumerator<'r, 'a>(names: &'r [Spelling<'a>], enumerator: &'r Enumerator<'
     match enumerator {
         Enumerator::Plain(name) => !is_among(names, &name.spelling),
         Enumerator::Valued(name, _, value) => {
-            !is_among(names, &name.spelling)
-                && 3 <= precedence(value.get())
-                && is_expression(names, value.get())
+            !is_among(names, &name.spelling) && is_operand(names, 3, value)
         }
     }
 }

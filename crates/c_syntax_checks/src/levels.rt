@@ -1,7 +1,7 @@
 //! Whether a tree has no more than some levels of nesting. No function here calls itself more deeply than the levels
 //! that it is given.
 
-ghost use Rattle.std.specs.Prelude.{IsTrue, ◌↔◌, ◌≤◌};
+ghost use Rattle.std.specs.Prelude.{IsTrue, ◌↔◌, ◌≤◌, ◌<◌};
 ghost use Rattle.c_syntax.specs.Levels as spec;
 ghost use Rattle.c_syntax.specs.View as view;
 
@@ -13,7 +13,7 @@ use tree_containers::Boxed;
 
 /// Whether an expression has no more levels (C99 6.5).
 #[cycle(levels)]
-pub(crate) fn expression_fits(expression: &Expression, levels: usize) -> bool
+pub(crate) fn expression_fits<'r, 'a>(expression: &'r Expression<'a>, levels: usize) -> bool
     ensures { IsTrue result ↔ (spec.expression_levels (view.expression_of expression.now) ≤ levels) }
 {
     match expression {
@@ -25,40 +25,47 @@ pub(crate) fn expression_fits(expression: &Expression, levels: usize) -> bool
         | Expression::Member(inner, _, _, _)
         | Expression::Postfix(inner, _, _)
         | Expression::Unary(_, _, inner)
-        | Expression::SizeofExpression(_, inner) => {
-            levels > 0 && expression_fits(inner.get(), levels - 1)
-        }
+        | Expression::SizeofExpression(_, inner) => operand_fits(inner, levels),
         Expression::Subscript(first, _, second, _)
         | Expression::Binary(first, _, _, second)
         | Expression::Assignment(first, _, _, second) => {
-            levels > 0
-                && expression_fits(first.get(), levels - 1)
-                && expression_fits(second.get(), levels - 1)
+            operand_fits(first, levels) && operand_fits(second, levels)
         }
         Expression::Call(called, _, arguments, _) => {
-            levels > 0
-                && expression_fits(called.get(), levels - 1)
-                && arguments_fit(arguments, levels - 1)
+            levels > 0 && operand_fits(called, levels) && arguments_fit(arguments, levels - 1)
         }
-        Expression::SizeofType(_, _, name, _) => levels > 0 && typed_fits(name.get(), levels - 1),
+        Expression::SizeofType(_, _, name, _) => name_fits(name, levels),
         Expression::Cast(_, name, _, operand) => {
-            levels > 0
-                && typed_fits(name.get(), levels - 1)
-                && expression_fits(operand.get(), levels - 1)
+            name_fits(name, levels) && operand_fits(operand, levels)
         }
         Expression::Conditional(condition, _, first, _, second) => {
-            levels > 0
-                && expression_fits(condition.get(), levels - 1)
-                && expression_fits(first.get(), levels - 1)
-                && expression_fits(second.get(), levels - 1)
+            operand_fits(condition, levels)
+                && operand_fits(first, levels)
+                && operand_fits(second, levels)
         }
     }
+}
+
+/// Whether an operand has fewer levels.
+#[cycle(levels)]
+fn operand_fits<'r, 'a>(operand: &'r Boxed<Expression<'a>>, levels: usize) -> bool
+    ensures { IsTrue result ↔ (spec.expression_levels (view.expression_of operand.now) < levels) }
+{
+    levels > 0 && expression_fits(operand.get(), levels - 1)
+}
+
+/// Whether a type name has fewer levels.
+#[cycle(levels)]
+fn name_fits<'r, 'a>(name: &'r Boxed<TypedDeclarator<'a>>, levels: usize) -> bool
+    ensures { IsTrue result ↔ (spec.typed_levels (view.typed_of name.now) < levels) }
+{
+    levels > 0 && typed_fits(name.get(), levels - 1)
 }
 
 /// Whether arguments have no more levels (C99 6.5.2.2).
 #[cycle(levels)]
 #[tactic(auto, using(c_syntax::proofs::ListViews::arguments_view))]
-fn arguments_fit(arguments: &Arguments, levels: usize) -> bool
+fn arguments_fit<'r, 'a>(arguments: &'r Arguments<'a>, levels: usize) -> bool
     ensures { IsTrue result ↔ (spec.arguments_levels (view.arguments_of arguments.now) ≤ levels) }
 {
     match arguments {
@@ -85,7 +92,7 @@ fn more_arguments_fit(others: &[(Position, Boxed<Expression>)], levels: usize) -
 /// Whether a type name or parameter has no more levels (C99 6.7.5, 6.7.6).
 #[cycle(levels)]
 #[tactic(auto, using(c_syntax::proofs::TypedView::typed_view))]
-fn typed_fits(typed: &TypedDeclarator, levels: usize) -> bool
+fn typed_fits<'r, 'a>(typed: &'r TypedDeclarator<'a>, levels: usize) -> bool
     ensures { IsTrue result ↔ (spec.typed_levels (view.typed_of typed.now) ≤ levels) }
 {
     specifiers_fit(typed.specifiers.as_slice(), levels)
@@ -94,33 +101,35 @@ fn typed_fits(typed: &TypedDeclarator, levels: usize) -> bool
 
 /// Whether a declarator has no more levels (C99 6.7.5).
 #[cycle(levels)]
-pub(crate) fn declarator_fits(declarator: &Declarator, levels: usize) -> bool
+pub(crate) fn declarator_fits<'r, 'a>(declarator: &'r Declarator<'a>, levels: usize) -> bool
     ensures { IsTrue result ↔ (spec.declarator_levels (view.declarator_of declarator.now) ≤ levels) }
 {
     match declarator {
         Declarator::Named(_) | Declarator::Unnamed => true,
         Declarator::Pointer(_, _, inner)
         | Declarator::Parenthesized(_, inner, _)
-        | Declarator::OpenArray(inner, _, _) => {
-            levels > 0 && declarator_fits(inner.get(), levels - 1)
-        }
+        | Declarator::OpenArray(inner, _, _) => inner_fits(inner, levels),
         Declarator::Array(inner, _, size, _) => {
-            levels > 0
-                && declarator_fits(inner.get(), levels - 1)
-                && expression_fits(size.get(), levels - 1)
+            inner_fits(inner, levels) && operand_fits(size, levels)
         }
         Declarator::Function(inner, _, parameters, _) => {
-            levels > 0
-                && declarator_fits(inner.get(), levels - 1)
-                && parameters_fit(parameters, levels - 1)
+            levels > 0 && inner_fits(inner, levels) && parameters_fit(parameters, levels - 1)
         }
     }
+}
+
+/// Whether an inner declarator has fewer levels.
+#[cycle(levels)]
+fn inner_fits<'r, 'a>(inner: &'r Boxed<Declarator<'a>>, levels: usize) -> bool
+    ensures { IsTrue result ↔ (spec.declarator_levels (view.declarator_of inner.now) < levels) }
+{
+    levels > 0 && declarator_fits(inner.get(), levels - 1)
 }
 
 /// Whether parameters have no more levels (C99 6.7.5.3).
 #[cycle(levels)]
 #[tactic(auto, using(c_syntax::proofs::ListViews::parameters_view))]
-fn parameters_fit(parameters: &Parameters, levels: usize) -> bool
+fn parameters_fit<'r, 'a>(parameters: &'r Parameters<'a>, levels: usize) -> bool
     ensures { IsTrue result ↔ (spec.parameters_levels (view.parameters_of parameters.now) ≤ levels) }
 {
     match parameters {
@@ -146,7 +155,7 @@ fn more_parameters_fit(others: &[(Position, TypedDeclarator)], levels: usize) ->
 
 /// Whether specifiers have no more levels (C99 6.7).
 #[cycle(levels)]
-pub(crate) fn specifiers_fit(specifiers: &[Specifier], levels: usize) -> bool
+pub(crate) fn specifiers_fit<'r, 'a>(specifiers: &'r [Specifier<'a>], levels: usize) -> bool
     ensures { IsTrue result ↔ (spec.specifiers_levels (view.specifiers_in specifiers.now) ≤ levels) }
 {
     for specifier in specifiers {
@@ -160,7 +169,7 @@ pub(crate) fn specifiers_fit(specifiers: &[Specifier], levels: usize) -> bool
 /// Whether a specifier has no more levels (C99 6.7.1 to 6.7.4).
 #[cycle(levels)]
 #[tactic(auto, using(c_syntax::proofs::ListViews::enumeration_view))]
-fn specifier_fits(specifier: &Specifier, levels: usize) -> bool
+fn specifier_fits<'r, 'a>(specifier: &'r Specifier<'a>, levels: usize) -> bool
     ensures { IsTrue result ↔ (spec.specifier_levels (view.specifier_of specifier.now) ≤ levels) }
 {
     match specifier {
@@ -181,7 +190,7 @@ fn specifier_fits(specifier: &Specifier, levels: usize) -> bool
 
 /// Whether declarations of members have no more levels (C99 6.7.2.1).
 #[cycle(levels)]
-fn members_fit(members: &[Member], levels: usize) -> bool
+fn members_fit<'r, 'a>(members: &'r [Member<'a>], levels: usize) -> bool
     ensures { IsTrue result ↔ (spec.members_levels (view.members_in members.now) ≤ levels) }
 {
     for member in members {
@@ -195,7 +204,7 @@ fn members_fit(members: &[Member], levels: usize) -> bool
 /// Whether a declaration of members has no more levels.
 #[cycle(levels)]
 #[tactic(auto, using(c_syntax::proofs::MemberView::member_view))]
-fn member_fits(member: &Member, levels: usize) -> bool
+fn member_fits<'r, 'a>(member: &'r Member<'a>, levels: usize) -> bool
     ensures { IsTrue result ↔ (spec.member_levels (view.member_of member.now) ≤ levels) }
 {
     specifiers_fit(member.specifiers.as_slice(), levels)
@@ -218,7 +227,7 @@ fn more_declarators_fit(others: &[(Position, Boxed<Declarator>)], levels: usize)
 
 /// Whether an enumerator has no more levels (C99 6.7.2.2).
 #[cycle(levels)]
-fn enumerator_fits(enumerator: &Enumerator, levels: usize) -> bool
+fn enumerator_fits<'r, 'a>(enumerator: &'r Enumerator<'a>, levels: usize) -> bool
     ensures { IsTrue result ↔ (spec.enumerator_levels (view.enumerator_of enumerator.now) ≤ levels) }
 {
     match enumerator {

@@ -102,6 +102,46 @@ fn put_consts<'a>(out: &mut Vec<Positioned<'a>>, positions: &[Position]) -> Resu
     Ok(())
 }
 
+/// Puts a `*` and the words `const` behind it.
+fn put_pointer<'a>(
+    out: &mut Vec<Positioned<'a>>,
+    position: Position,
+    consts: &[Position],
+) -> Result<(), AllocError>
+    ensures { OnOk result ((i : spec.Words) → out.new.items ++ i ≡ out.old.items
+        ++ (spec.punctuator punctuators.Star position ∷ spec.const_words consts.now i)) }
+{
+    put_punctuator(out, Punctuator::Star, position)?;
+    put_consts(out, consts)
+}
+
+/// Puts `[` and `]`.
+fn put_brackets<'a>(
+    out: &mut Vec<Positioned<'a>>,
+    left: Position,
+    right: Position,
+) -> Result<(), AllocError>
+    ensures { OnOk result ((i : spec.Words) → out.new.items ++ i ≡ out.old.items
+        ++ (spec.punctuator punctuators.LeftBracket left ∷ spec.punctuator punctuators.RightBracket right ∷ i)) }
+{
+    put_punctuator(out, Punctuator::LeftBracket, left)?;
+    put_punctuator(out, Punctuator::RightBracket, right)
+}
+
+/// Puts a keyword and an identifier.
+fn put_named<'a>(
+    out: &mut Vec<Positioned<'a>>,
+    keyword: Keyword,
+    position: Position,
+    name: &Spelled<'a>,
+) -> Result<(), AllocError>
+    ensures { OnOk result ((i : spec.Words) → out.new.items ++ i ≡ out.old.items
+        ++ (spec.keyword keyword position ∷ spec.identifier name.now ∷ i)) }
+{
+    put_keyword(out, keyword, position)?;
+    put_identifier(out, name)
+}
+
 /// Puts a tag, if there is one.
 fn put_tag<'a>(out: &mut Vec<Positioned<'a>>, tag: &Option<Spelled<'a>>) -> Result<(), AllocError>
     ensures { OnOk result ((i : spec.Words) → out.new.items ++ i ≡ out.old.items ++ spec.tag_words tag.now i) }
@@ -145,9 +185,9 @@ pub(crate) fn put_tail<'a>(
 
 /// Puts the words of an expression (C99 6.5).
 #[cycle(words)]
-pub(crate) fn put_expression<'a>(
-    out: &mut Vec<Positioned<'a>>,
-    expression: &Expression<'a>,
+pub(crate) fn put_expression<'r, 'a>(
+    out: &'r mut Vec<Positioned<'a>>,
+    expression: &'r Expression<'a>,
 ) -> Result<(), AllocError>
     ensures { OnOk result ((i : spec.Words) → out.new.items ++ i ≡ out.old.items
         ++ spec.expression_words (view.expression_of expression.now) i) }
@@ -166,76 +206,109 @@ pub(crate) fn put_expression<'a>(
         ),
         Expression::Strings(first, others) => put_strings(out, first, others.as_slice()),
         Expression::Parenthesized(left, inner, right) => {
-            put_punctuator(out, Punctuator::LeftParenthesis, *left)?;
-            put_expression(out, inner.get())?;
+            put_behind(out, Punctuator::LeftParenthesis, *left, inner)?;
             put_punctuator(out, Punctuator::RightParenthesis, *right)
         }
         Expression::Subscript(array, left, index, right) => {
-            put_expression(out, array.get())?;
-            put_punctuator(out, Punctuator::LeftBracket, *left)?;
-            put_expression(out, index.get())?;
+            put_boxed(out, array)?;
+            put_behind(out, Punctuator::LeftBracket, *left, index)?;
             put_punctuator(out, Punctuator::RightBracket, *right)
         }
         Expression::Call(called, left, arguments, right) => {
-            put_expression(out, called.get())?;
+            put_boxed(out, called)?;
             put_punctuator(out, Punctuator::LeftParenthesis, *left)?;
             put_arguments(out, arguments)?;
             put_punctuator(out, Punctuator::RightParenthesis, *right)
         }
         Expression::Member(whole, operator, position, name) => {
-            put_expression(out, whole.get())?;
+            put_boxed(out, whole)?;
             put_punctuator(out, *operator, *position)?;
             put_identifier(out, name)
         }
         Expression::Postfix(operand, operator, position) => {
-            put_expression(out, operand.get())?;
+            put_boxed(out, operand)?;
             put_punctuator(out, *operator, *position)
         }
         Expression::Unary(operator, position, operand) => {
-            put_punctuator(out, *operator, *position)?;
-            put_expression(out, operand.get())
+            put_behind(out, *operator, *position, operand)
         }
         Expression::SizeofExpression(position, operand) => {
             put_keyword(out, Keyword::Sizeof, *position)?;
-            put_expression(out, operand.get())
+            put_boxed(out, operand)
         }
         Expression::SizeofType(position, left, name, right) => {
             put_keyword(out, Keyword::Sizeof, *position)?;
-            put_punctuator(out, Punctuator::LeftParenthesis, *left)?;
-            put_typed(out, name.get())?;
-            put_punctuator(out, Punctuator::RightParenthesis, *right)
+            put_name(out, *left, name, *right)
         }
         Expression::Cast(left, name, right, operand) => {
-            put_punctuator(out, Punctuator::LeftParenthesis, *left)?;
-            put_typed(out, name.get())?;
-            put_punctuator(out, Punctuator::RightParenthesis, *right)?;
-            put_expression(out, operand.get())
+            put_name(out, *left, name, *right)?;
+            put_boxed(out, operand)
         }
         Expression::Binary(first, operator, position, second) => {
-            put_expression(out, first.get())?;
-            put_punctuator(out, *operator, *position)?;
-            put_expression(out, second.get())
+            put_boxed(out, first)?;
+            put_behind(out, *operator, *position, second)
         }
         Expression::Conditional(condition, question, first, colon, second) => {
-            put_expression(out, condition.get())?;
-            put_punctuator(out, Punctuator::Question, *question)?;
-            put_expression(out, first.get())?;
-            put_punctuator(out, Punctuator::Colon, *colon)?;
-            put_expression(out, second.get())
+            put_boxed(out, condition)?;
+            put_behind(out, Punctuator::Question, *question, first)?;
+            put_behind(out, Punctuator::Colon, *colon, second)
         }
         Expression::Assignment(first, operator, position, second) => {
-            put_expression(out, first.get())?;
-            put_punctuator(out, *operator, *position)?;
-            put_expression(out, second.get())
+            put_boxed(out, first)?;
+            put_behind(out, *operator, *position, second)
         }
     }
 }
 
+/// Puts the words of an expression in a block of its own.
+#[cycle(words)]
+fn put_boxed<'r, 'a>(
+    out: &'r mut Vec<Positioned<'a>>,
+    boxed: &'r Boxed<Expression<'a>>,
+) -> Result<(), AllocError>
+    ensures { OnOk result ((i : spec.Words) → out.new.items ++ i ≡ out.old.items
+        ++ spec.expression_words (view.expression_of boxed.now) i) }
+{
+    put_expression(out, boxed.get())
+}
+
+/// Puts a punctuator and the words of an expression behind it.
+#[cycle(words)]
+fn put_behind<'r, 'a>(
+    out: &'r mut Vec<Positioned<'a>>,
+    punctuator: Punctuator,
+    position: Position,
+    boxed: &'r Boxed<Expression<'a>>,
+) -> Result<(), AllocError>
+    ensures { OnOk result ((i : spec.Words) → out.new.items ++ i ≡ out.old.items
+        ++ (spec.punctuator punctuator position ∷ spec.expression_words (view.expression_of boxed.now) i)) }
+{
+    put_punctuator(out, punctuator, position)?;
+    put_expression(out, boxed.get())
+}
+
+/// Puts a type name in parentheses.
+#[cycle(words)]
+fn put_name<'r, 'a>(
+    out: &'r mut Vec<Positioned<'a>>,
+    left: Position,
+    name: &'r Boxed<TypedDeclarator<'a>>,
+    right: Position,
+) -> Result<(), AllocError>
+    ensures { OnOk result ((i : spec.Words) → out.new.items ++ i ≡ out.old.items
+        ++ (spec.punctuator punctuators.LeftParenthesis left ∷ spec.typed_words (view.typed_of name.now)
+        (spec.punctuator punctuators.RightParenthesis right ∷ i))) }
+{
+    put_punctuator(out, Punctuator::LeftParenthesis, left)?;
+    put_typed(out, name.get())?;
+    put_punctuator(out, Punctuator::RightParenthesis, right)
+}
+
 /// Puts the words of arguments (C99 6.5.2.2).
 #[cycle(words)]
-fn put_arguments<'a>(
-    out: &mut Vec<Positioned<'a>>,
-    arguments: &Arguments<'a>,
+fn put_arguments<'r, 'a>(
+    out: &'r mut Vec<Positioned<'a>>,
+    arguments: &'r Arguments<'a>,
 ) -> Result<(), AllocError>
     ensures { OnOk result ((i : spec.Words) → out.new.items ++ i ≡ out.old.items
         ++ spec.arguments_words (view.arguments_of arguments.now) i) }
@@ -243,10 +316,9 @@ fn put_arguments<'a>(
     match arguments {
         Arguments::Empty => Ok(()),
         Arguments::Given(first, others) => {
-            put_expression(out, first.get())?;
+            put_boxed(out, first)?;
             for (comma, argument) in others.as_slice() {
-                put_punctuator(out, Punctuator::Comma, *comma)?;
-                put_expression(out, argument.get())?;
+                put_behind(out, Punctuator::Comma, *comma, argument)?;
             }
             Ok(())
         }
@@ -255,9 +327,9 @@ fn put_arguments<'a>(
 
 /// Puts the words of a type name or parameter (C99 6.7.5, 6.7.6).
 #[cycle(words)]
-fn put_typed<'a>(
-    out: &mut Vec<Positioned<'a>>,
-    typed: &TypedDeclarator<'a>,
+fn put_typed<'r, 'a>(
+    out: &'r mut Vec<Positioned<'a>>,
+    typed: &'r TypedDeclarator<'a>,
 ) -> Result<(), AllocError>
     ensures { OnOk result ((i : spec.Words) → out.new.items ++ i ≡ out.old.items
         ++ spec.typed_words (view.typed_of typed.now) i) }
@@ -268,9 +340,9 @@ fn put_typed<'a>(
 
 /// Puts the words of a declarator (C99 6.7.5).
 #[cycle(words)]
-pub(crate) fn put_declarator<'a>(
-    out: &mut Vec<Positioned<'a>>,
-    declarator: &Declarator<'a>,
+pub(crate) fn put_declarator<'r, 'a>(
+    out: &'r mut Vec<Positioned<'a>>,
+    declarator: &'r Declarator<'a>,
 ) -> Result<(), AllocError>
     ensures { OnOk result ((i : spec.Words) → out.new.items ++ i ≡ out.old.items
         ++ spec.declarator_words (view.declarator_of declarator.now) i) }
@@ -279,28 +351,25 @@ pub(crate) fn put_declarator<'a>(
         Declarator::Named(name) => put_identifier(out, name),
         Declarator::Unnamed => Ok(()),
         Declarator::Pointer(position, consts, inner) => {
-            put_punctuator(out, Punctuator::Star, *position)?;
-            put_consts(out, consts.as_slice())?;
-            put_declarator(out, inner.get())
+            put_pointer(out, *position, consts.as_slice())?;
+            put_inner(out, inner)
         }
         Declarator::Parenthesized(left, inner, right) => {
             put_punctuator(out, Punctuator::LeftParenthesis, *left)?;
-            put_declarator(out, inner.get())?;
+            put_inner(out, inner)?;
             put_punctuator(out, Punctuator::RightParenthesis, *right)
         }
         Declarator::OpenArray(inner, left, right) => {
-            put_declarator(out, inner.get())?;
-            put_punctuator(out, Punctuator::LeftBracket, *left)?;
-            put_punctuator(out, Punctuator::RightBracket, *right)
+            put_inner(out, inner)?;
+            put_brackets(out, *left, *right)
         }
         Declarator::Array(inner, left, size, right) => {
-            put_declarator(out, inner.get())?;
-            put_punctuator(out, Punctuator::LeftBracket, *left)?;
-            put_expression(out, size.get())?;
+            put_inner(out, inner)?;
+            put_behind(out, Punctuator::LeftBracket, *left, size)?;
             put_punctuator(out, Punctuator::RightBracket, *right)
         }
         Declarator::Function(inner, left, parameters, right) => {
-            put_declarator(out, inner.get())?;
+            put_inner(out, inner)?;
             put_punctuator(out, Punctuator::LeftParenthesis, *left)?;
             put_parameters(out, parameters)?;
             put_punctuator(out, Punctuator::RightParenthesis, *right)
@@ -308,11 +377,23 @@ pub(crate) fn put_declarator<'a>(
     }
 }
 
+/// Puts the words of a declarator in a block of its own.
+#[cycle(words)]
+fn put_inner<'r, 'a>(
+    out: &'r mut Vec<Positioned<'a>>,
+    inner: &'r Boxed<Declarator<'a>>,
+) -> Result<(), AllocError>
+    ensures { OnOk result ((i : spec.Words) → out.new.items ++ i ≡ out.old.items
+        ++ spec.declarator_words (view.declarator_of inner.now) i) }
+{
+    put_declarator(out, inner.get())
+}
+
 /// Puts the words of parameters (C99 6.7.5.3).
 #[cycle(words)]
-fn put_parameters<'a>(
-    out: &mut Vec<Positioned<'a>>,
-    parameters: &Parameters<'a>,
+fn put_parameters<'r, 'a>(
+    out: &'r mut Vec<Positioned<'a>>,
+    parameters: &'r Parameters<'a>,
 ) -> Result<(), AllocError>
     ensures { OnOk result ((i : spec.Words) → out.new.items ++ i ≡ out.old.items
         ++ spec.parameters_words (view.parameters_of parameters.now) i) }
@@ -333,9 +414,9 @@ fn put_parameters<'a>(
 
 /// Puts the words of specifiers (C99 6.7).
 #[cycle(words)]
-pub(crate) fn put_specifiers<'a>(
-    out: &mut Vec<Positioned<'a>>,
-    specifiers: &[Specifier<'a>],
+pub(crate) fn put_specifiers<'r, 'a>(
+    out: &'r mut Vec<Positioned<'a>>,
+    specifiers: &'r [Specifier<'a>],
 ) -> Result<(), AllocError>
     ensures { OnOk result ((i : spec.Words) → out.new.items ++ i ≡ out.old.items
         ++ spec.specifiers_words (view.specifiers_in specifiers.now) i) }
@@ -348,9 +429,9 @@ pub(crate) fn put_specifiers<'a>(
 
 /// Puts the words of a specifier (C99 6.7.1 to 6.7.4).
 #[cycle(words)]
-fn put_specifier<'a>(
-    out: &mut Vec<Positioned<'a>>,
-    specifier: &Specifier<'a>,
+fn put_specifier<'r, 'a>(
+    out: &'r mut Vec<Positioned<'a>>,
+    specifier: &'r Specifier<'a>,
 ) -> Result<(), AllocError>
     ensures { OnOk result ((i : spec.Words) → out.new.items ++ i ≡ out.old.items
         ++ spec.specifier_words (view.specifier_of specifier.now) i) }
@@ -358,19 +439,13 @@ fn put_specifier<'a>(
     match specifier {
         Specifier::Keyword(keyword, position) => put_keyword(out, *keyword, *position),
         Specifier::TypedefName(name) => put_identifier(out, name),
-        Specifier::Structure(keyword, position, tag) => {
-            put_keyword(out, *keyword, *position)?;
-            put_identifier(out, tag)
-        }
+        Specifier::Structure(keyword, position, tag) => put_named(out, *keyword, *position, tag),
         Specifier::StructureBody(keyword, position, tag, left, members, right) => {
             put_head(out, *keyword, *position, tag, *left)?;
             put_members(out, members.as_slice())?;
             put_punctuator(out, Punctuator::RightBrace, *right)
         }
-        Specifier::Enumeration(position, tag) => {
-            put_keyword(out, Keyword::Enum, *position)?;
-            put_identifier(out, tag)
-        }
+        Specifier::Enumeration(position, tag) => put_named(out, Keyword::Enum, *position, tag),
         Specifier::EnumerationBody(position, tag, left, first, others, comma, right) => {
             put_head(out, Keyword::Enum, *position, tag, *left)?;
             put_enumerator(out, first.get())?;
@@ -383,7 +458,10 @@ fn put_specifier<'a>(
 
 /// Puts the words of declarations of members (C99 6.7.2.1).
 #[cycle(words)]
-fn put_members<'a>(out: &mut Vec<Positioned<'a>>, members: &[Member<'a>]) -> Result<(), AllocError>
+fn put_members<'r, 'a>(
+    out: &'r mut Vec<Positioned<'a>>,
+    members: &'r [Member<'a>],
+) -> Result<(), AllocError>
     ensures { OnOk result ((i : spec.Words) → out.new.items ++ i ≡ out.old.items
         ++ spec.members_words (view.members_in members.now) i) }
 {
@@ -395,7 +473,10 @@ fn put_members<'a>(out: &mut Vec<Positioned<'a>>, members: &[Member<'a>]) -> Res
 
 /// Puts the words of a declaration of members.
 #[cycle(words)]
-fn put_member<'a>(out: &mut Vec<Positioned<'a>>, member: &Member<'a>) -> Result<(), AllocError>
+fn put_member<'r, 'a>(
+    out: &'r mut Vec<Positioned<'a>>,
+    member: &'r Member<'a>,
+) -> Result<(), AllocError>
     ensures { OnOk result ((i : spec.Words) → out.new.items ++ i ≡ out.old.items
         ++ spec.member_words (view.member_of member.now) i) }
 {
@@ -408,9 +489,9 @@ fn put_member<'a>(out: &mut Vec<Positioned<'a>>, member: &Member<'a>) -> Result<
 
 /// Puts the words of declarators behind commas.
 #[cycle(words)]
-fn put_more_declarators<'a>(
-    out: &mut Vec<Positioned<'a>>,
-    others: &[(Position, Boxed<Declarator<'a>>)],
+fn put_more_declarators<'r, 'a>(
+    out: &'r mut Vec<Positioned<'a>>,
+    others: &'r [(Position, Boxed<Declarator<'a>>)],
 ) -> Result<(), AllocError>
     ensures { OnOk result ((i : spec.Words) → out.new.items ++ i ≡ out.old.items
         ++ spec.more_declarators_words (view.more_declarators_in others.now) i) }
@@ -424,9 +505,9 @@ fn put_more_declarators<'a>(
 
 /// Puts the words of enumerators behind commas.
 #[cycle(words)]
-fn put_more_enumerators<'a>(
-    out: &mut Vec<Positioned<'a>>,
-    others: &[(Position, Enumerator<'a>)],
+fn put_more_enumerators<'r, 'a>(
+    out: &'r mut Vec<Positioned<'a>>,
+    others: &'r [(Position, Enumerator<'a>)],
 ) -> Result<(), AllocError>
     ensures { OnOk result ((i : spec.Words) → out.new.items ++ i ≡ out.old.items
         ++ spec.more_enumerators_words (view.more_enumerators_in others.now) i) }
@@ -440,9 +521,9 @@ fn put_more_enumerators<'a>(
 
 /// Puts the words of an enumerator (C99 6.7.2.2).
 #[cycle(words)]
-fn put_enumerator<'a>(
-    out: &mut Vec<Positioned<'a>>,
-    enumerator: &Enumerator<'a>,
+fn put_enumerator<'r, 'a>(
+    out: &'r mut Vec<Positioned<'a>>,
+    enumerator: &'r Enumerator<'a>,
 ) -> Result<(), AllocError>
     ensures { OnOk result ((i : spec.Words) → out.new.items ++ i ≡ out.old.items
         ++ spec.enumerator_words (view.enumerator_of enumerator.now) i) }
@@ -451,8 +532,7 @@ fn put_enumerator<'a>(
         Enumerator::Plain(name) => put_identifier(out, name),
         Enumerator::Valued(name, equals, value) => {
             put_identifier(out, name)?;
-            put_punctuator(out, Punctuator::Assign, *equals)?;
-            put_expression(out, value.get())
+            put_behind(out, Punctuator::Assign, *equals, value)
         }
     }
 }

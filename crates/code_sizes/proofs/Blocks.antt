@@ -1,6 +1,6 @@
 -- How many instructions stand for one of flat code at most.
-use Rattle.std.proofs.Common.{◌≡◌, ℕ, suc, ◌+◌, ◌-◌, ◌*◌, ◌%◌, ◌^◌, ◌<◌, ◌≤◌, List, [], ◌∷◌, ◌++◌, length, Option, Some}
-use Rattle.std.proofs.Common.{None, not, arith, length-append}
+use Rattle.std.proofs.Common.{◌≡◌, ℕ, ◌+◌, ◌-◌, ◌*◌, ◌%◌, ◌^◌, ◌≤◌, List, [], ◌∷◌, ◌++◌, length, Some}
+use Rattle.std.proofs.Common.{not, arith, length-append}
 use Rattle.std.proofs.lemmas.Bool.{and_parts}
 use Rattle.words.specs.TwosComplement.{low_bits}
 use Rattle.sb_base.specs.Endings.{code_of, report_of}
@@ -27,7 +27,7 @@ use Rattle.rv_blocks.proofs.Lengths.{constant_length, fetch_length, keep_length,
 use Rattle.rv_calls.specs.Calls.{Keeping, give, take, save, restore, advance, retreat, call_block, return_block}
 use Rattle.rv_calls.specs.Effects.{AreOwn}
 use Rattle.rv_calls.proofs.Lengths.{give_length, take_length, save_length, restore_length, return_length}
-use Rattle.rv_follows.specs.Code.{keeping, CallShape, shape_of, wanted, call_part, back_part, charged_from, block}
+use Rattle.rv_follows.specs.Code.{keeping, CallShape, wanted, call_part, back_part, charged_from, block}
 use Rattle.rv_follows.proofs.Sound.{IsSound}
 use Rattle.code_sizes.specs.Sizes.{more_words}
 

@@ -1,7 +1,6 @@
 -- How many words the labelled list of a function has at most.
-use Rattle.std.proofs.Common.{◌≡◌, ℕ, zero, suc, ◌+◌, ◌*◌, ◌≤◌, List, [], ◌∷◌, ◌++◌, length, Some, refl, sym, ap, ◌∙◌}
+use Rattle.std.proofs.Common.{◌≡◌, ℕ, suc, ◌+◌, ◌*◌, ◌≤◌, List, [], ◌∷◌, ◌++◌, length, Some, refl, ap}
 use Rattle.std.proofs.Common.{subst, arith, map, length-append}
-use Rattle.std.specs.Prelude.{slice_get}
 use Rattle.addr_map.specs.Places.{MapSizes}
 use Rattle.rv_isa.specs.declared.instruction.Instr.{Instr}
 use Rattle.rv_isa.specs.Table.{word_of}
@@ -19,7 +18,7 @@ use Rattle.flat_meaning.specs.Calls.{function_in}
 use Rattle.flat_meaning.specs.Meaning.{parameters_of, results_of, body_of}
 use Rattle.reg_plan.specs.declared.plan.FunctionPlan.{FunctionPlan}
 use Rattle.reg_plan.specs.Tests.{AreAccepted}
-use Rattle.rv_calls.specs.Calls.{Keeping, entry_block}
+use Rattle.rv_calls.specs.Calls.{entry_block}
 use Rattle.rv_calls.proofs.Lengths.{entry_length}
 use Rattle.rv_follows.specs.Code.{keeping, block}
 use Rattle.rv_follows.proofs.Sound.{sound}

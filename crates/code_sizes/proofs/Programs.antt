@@ -1,6 +1,6 @@
 -- How many bytes the code of a program has at most.
-use Rattle.std.proofs.Common.{◌≡◌, ℕ, zero, suc, ◌+◌, ◌*◌, ◌≤◌, ◌<◌, Bool, true, false, not, List, [], ◌∷◌, ◌++◌, length}
-use Rattle.std.proofs.Common.{Option, Some, None, refl, sym, ap, ◌∙◌, subst, arith, length-append}
+use Rattle.std.proofs.Common.{◌≡◌, ℕ, zero, suc, ◌+◌, ◌*◌, ◌≤◌, Bool, true, false, not, List, [], ◌∷◌, length}
+use Rattle.std.proofs.Common.{Option, Some, None, refl, ap, ◌∙◌, subst, arith, length-append}
 use Rattle.std.specs.Prelude.{slice_get, if◌then◌else◌}
 use Rattle.addr_map.specs.Places.{MapSizes, code_size}
 use Rattle.flat_meaning.specs.declared.instruction.FlatInstruction.{FlatInstruction}
@@ -82,5 +82,5 @@ pub not_too_large : (m : MapSizes) (p : FlatProgram) (plans : List FunctionPlan)
 not_too_large m p plans v bytes ok few fits cause =
     let b = few_bytes m p plans ok in
     let a = all_most p v few (length p.functions) in
-    let large = cause.1.0 in
+    let large = cause.1 in
     omega arith

@@ -1,5 +1,7 @@
 //! Runs of images.
 
+ghost use Rattle.std.specs.Prelude.{◌≡◌, None, IfOk};
+ghost use Rattle.elf_image.specs.Tests.{image_fault};
 ghost use Rattle.reg_plan.specs.Planned.{ArePlannable};
 ghost use Rattle.rv_codegen.specs.Generated.{IsReady};
 ghost use Rattle.code_generation_vectors.specs.Named.{IsSmall};
@@ -62,18 +64,24 @@ fn run(alloc: Global, machine: &mut Machine, input: &[u8]) -> Result<Shown> {
     })
 }
 
-// What the image of a program under a plan does.
-fn run_under(
-    alloc: Global,
-    sizes: &AddrMap,
-    program: &FlatProgram,
-    plan: &Plan,
-    input: &[u8],
-) -> Result<Shown>
+/// The map with the budgets of a program, and without static objects.
+pub fn map_of(given: &Given) -> Result<AddrMap> {
+    let Ok(budgets) = Budgets::new(4096, 4096, given.calls, 1, 1) else {
+        bail!("no budgets")
+    };
+    let Ok(sizes) = AddrMap::new(&budgets, 0) else {
+        bail!("no map")
+    };
+    Ok(sizes)
+}
+
+/// The image of a program under a plan.
+pub fn image(alloc: Global, sizes: &AddrMap, program: &FlatProgram, plan: &Plan) -> Result<Vec<u8>>
     requires { IsReady program.now plan.now.functions.items }
+    ensures { IfOk result (λ file. image_fault file.items ≡ None) }
 {
     let nothing = Vec::new(alloc);
-    let file = match image_of(
+    match image_of(
         alloc,
         sizes,
         program,
@@ -81,10 +89,16 @@ fn run_under(
         nothing,
         Vec::new(alloc),
     ) {
-        Ok(file) => file,
+        Ok(file) => Ok(file),
         Err(error) => bail!("no image: {error:?}"),
-    };
-    let mut machine = machine_of(alloc, &file)?;
+    }
+}
+
+// What an image does.
+fn run_image(alloc: Global, file: &[u8], input: &[u8]) -> Result<Shown>
+    requires { image_fault file.now ≡ None }
+{
+    let mut machine = machine_of(alloc, file)?;
     run(alloc, &mut machine, input)
 }
 
@@ -117,26 +131,11 @@ pub fn put_runs(rt: &HostRuntime, given: &Given, program: &FlatProgram) -> Resul
     requires plannable { ArePlannable program.now }
 {
     let alloc = rt.alloc();
-    let Ok(budgets) = Budgets::new(4096, 4096, given.calls, 1, 1) else {
-        bail!("no budgets")
-    };
-    let Ok(sizes) = AddrMap::new(&budgets, 0) else {
-        bail!("no map")
-    };
-    let at_home = run_under(
-        alloc,
-        &sizes,
-        program,
-        &slots(alloc, program)?,
-        &given.input,
-    )?;
-    let placed = run_under(
-        alloc,
-        &sizes,
-        program,
-        &registers(alloc, program)?,
-        &given.input,
-    )?;
+    let sizes = map_of(given)?;
+    let file = image(alloc, &sizes, program, &slots(alloc, program)?)?;
+    let at_home = run_image(alloc, &file, &given.input)?;
+    let file = image(alloc, &sizes, program, &registers(alloc, program)?)?;
+    let placed = run_image(alloc, &file, &given.input)?;
     put_shown(rt, &at_home)?;
     if !are_same(&at_home, &placed) {
         put_shown(rt, &placed)?;

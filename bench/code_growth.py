@@ -1,0 +1,80 @@
+#!/usr/bin/env python3
+"""How the time and the memory of the back end's passes grow with a function: seconds (the best of three) and the greatest
+resident memory of `registers` and `generate`, by crates/code_generation_vectors, which does each behind those before it,
+and of `assemble`, by crates/rv_asm_vectors, over lists of as many items. Shapes: operators on few values; calls with few
+values; and calls with many values that wait, as many as there are calls.
+
+usage: python3 bench/code_growth.py     (both programs must be built: `rt run` in their folders)
+"""
+
+import os
+import subprocess
+import tempfile
+import time
+
+TOP = os.path.join(os.path.dirname(os.path.realpath(__file__)), "..")
+GENERATOR = f"{TOP}/crates/code_generation_vectors/out/code_generation_vectors"
+ASSEMBLER = f"{TOP}/crates/rv_asm_vectors/out/rv_asm_vectors"
+CALLEE = ["function 1 0 2 program", "return 0"]
+
+
+def program(names, lines):
+    return "\n".join(["growth 16777216 0", f"function 0 0 {names} program"] + lines + ["exit 0"] + CALLEE) + "\n"
+
+
+def operators(count):
+    return program(8, ["constant 1 1", "constant 3 1", f"sums 3 1 {count}", "move 0 3"])
+
+
+def calls(count):
+    return program(8, ["fill 0 8"] + ["call 1 3 0"] * count + ["mix 1 7 0"])
+
+
+def calls_and_names(count):
+    return program(count + 1, [f"fill 0 {count + 1}"] + ["call 1 3 0"] * count + [f"mix 1 {count} 0"])
+
+
+def names(count):
+    return program(count // 3 + 1, [f"fill 0 {count // 3 + 1}", f"mix 1 {count // 3} 0"])
+
+
+def items(count):
+    return "label 0\n" + f"nops {count // 4 - 1}\njump 0\n" * 2 + f"nops {count // 2 - 2}\nlabel 1\nbeq 1 2 0\nbne 1 2 1\n"
+
+
+def measured(words, path):
+    """Seconds and kilobytes of one run."""
+    start = time.perf_counter()
+    with open(path) as given:
+        process = subprocess.Popen(words, stdin=given, stdout=subprocess.PIPE, stderr=subprocess.STDOUT)
+    said = process.stdout.read().decode().strip().split("\n")[0]
+    _, status, usage = os.wait4(process.pid, 0)
+    return time.perf_counter() - start, usage.ru_maxrss, said if os.waitstatus_to_exitcode(status) else ""
+
+
+def best(words, path):
+    runs = [measured(words, path) for _ in range(3)]
+    return min(run[0] for run in runs), max(run[1] for run in runs), runs[0][2]
+
+
+def main():
+    with tempfile.TemporaryDirectory() as folder:
+        path = f"{folder}/text"
+        for shape, counts in ((operators, (10000, 100000, 1000000)), (names, (10000, 30000)), (calls, (10000, 100000)),
+                              (calls_and_names, (1000, 2000, 4000))):
+            for count in counts:
+                with open(path, "w") as out:
+                    out.write(shape(count))
+                before, _, _ = best([GENERATOR, "test"], path)
+                plan, plan_memory, _ = best([GENERATOR, "plan"], path)
+                done, done_memory, said = best([GENERATOR, "generate"], path)
+                print(f"{shape.__name__:16} {count:8}  test {before:6.2f} s  registers {plan - before:6.2f} s {plan_memory:8} kB"
+                      f"  generate {done - plan:6.2f} s {done_memory:8} kB {said}")
+        for count in (10000, 100000, 1000000):
+            with open(path, "w") as out:
+                out.write(items(count))
+            seconds, memory, said = best([ASSEMBLER], path)
+            print(f"{'assemble':16} {count:8}  {seconds:6.2f} s {memory:8} kB {said}")
+
+
+main()

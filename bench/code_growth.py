@@ -1,5 +1,5 @@
 #!/usr/bin/env python3
-"""How the time and the memory of the back end's passes grow with a function: seconds (the best of three) and the greatest
+"""How the time and the memory of the back end's passes grow with a function: processor seconds (the best of three) and the greatest
 resident memory of `registers` and `generate`, by crates/code_generation_vectors, which does each behind those before it,
 and of `assemble`, by crates/rv_asm_vectors, over lists of as many items. Shapes: operators on few values; calls with few
 values; and calls with many values that wait, as many as there are calls.
@@ -10,7 +10,6 @@ usage: python3 bench/code_growth.py     (both programs must be built: `rt run` i
 import os
 import subprocess
 import tempfile
-import time
 
 TOP = os.path.join(os.path.dirname(os.path.realpath(__file__)), "..")
 GENERATOR = f"{TOP}/crates/code_generation_vectors/out/code_generation_vectors"
@@ -27,7 +26,7 @@ def operators(count):
 
 
 def calls(count):
-    return program(8, ["fill 0 8"] + ["call 1 3 0"] * count + ["mix 1 7 0"])
+    return program(8, ["fill 0 8"] + ["call 1 3 0"] * count + ["mix 1 2 0"])
 
 
 def calls_and_names(count):
@@ -43,13 +42,12 @@ def items(count):
 
 
 def measured(words, path):
-    """Seconds and kilobytes of one run."""
-    start = time.perf_counter()
+    """Processor seconds and kilobytes of one run, and what it said where it failed."""
     with open(path) as given:
         process = subprocess.Popen(words, stdin=given, stdout=subprocess.PIPE, stderr=subprocess.STDOUT)
     said = process.stdout.read().decode().strip().split("\n")[0]
     _, status, usage = os.wait4(process.pid, 0)
-    return time.perf_counter() - start, usage.ru_maxrss, said if os.waitstatus_to_exitcode(status) else ""
+    return usage.ru_utime + usage.ru_stime, usage.ru_maxrss, said if os.waitstatus_to_exitcode(status) else ""
 
 
 def best(words, path):

@@ -292,12 +292,16 @@ def large():
     body = BEGIN + ["constant 1 10", "constant 3 1", "fill 4 4", "turn", "sums 3 1 10000", "mix 4 4 3", "xori 3 3 1023",
                     "sums 3 4 10000", "subi 1 1 1", "beqi 1 0 1", "back 20012", "call 1 3 0"] + END
     yield "instructions_20000", 65536, b"", [("0 0 8 program", body), SHOW]
-    # branches, jumps and calls over more code than their shorter forms reach
-    for count in (1021, 1022, 1023, 1024, 1025, 262140, 262141, 262142, 262143, 262144):
+    # Branches and jumps at the edges of what their forms reach: 1,024 words, and 262,143, where each form between is the
+    # longest. A branch has three words in that form and a jump two.
+    for count in (1019, 1020, 1021, 262138, 262139, 262140, 262141):
         far = ["constant 3 1", f"bnei 3 0 {count}", f"turns {count}", "addi 3 3 1", "call 1 3 0",
                "bgei 3 4 2", f"back {count + 3}"]
         over = far + [f"forward {count}", f"turns {count}", "call 1 3 0"]
         yield f"over_{count}", 65536, b"", [("0 0 4 program", BEGIN + over + END), SHOW]
+    for count in (262132, 262133, 262134, 262135, 262136, 262137):
+        loop = ["constant 3 3", "subi 3 3 1", f"turns {count}", "beqi 3 0 1", f"back {count + 2}", "call 1 3 0"]
+        yield f"back_{count}", 65536, b"", [("0 0 4 program", BEGIN + loop + END), SHOW]
     # the entry behind a function of more than 1 MiB
     long = ("1 1 2 program", ["forward 300000", "turns 300000", "addi 0 0 5", "return 0"])
     yield "far_calls", 65536, b"", [long, SHOW, ("0 0 4 program", BEGIN + ["constant 3 4", "call 0 3 3", "call 1 3 0"] + END)]

@@ -1,8 +1,9 @@
 #!/usr/bin/env python3
 """How the time and the memory of the back end's passes grow with a function: processor seconds (the best of three) and the greatest
 resident memory of `registers` and `generate`, by crates/code_generation_vectors, which does each behind those before it,
-and of `assemble`, by crates/rv_asm_vectors, over lists of as many items. Shapes: operators on few values; calls with few
-values; and calls with many values that wait, as many as there are calls.
+and of `assemble`, by crates/rv_asm_vectors, over lists of as many items. Shapes: operators on few values; a name for each three
+instructions, which is used at once; a name for each three instructions, all of them needed to the end; calls with few values; as many
+calls as names that wait; and a name and a call for each four instructions. No memory below this script's own, some 17000 kB, is seen.
 
 usage: python3 bench/code_growth.py     (both programs must be built: `rt run` in their folders)
 """
@@ -37,6 +38,16 @@ def names(count):
     return program(count // 3 + 1, [f"fill 0 {count // 3 + 1}", f"mix 1 {count // 3} 0"])
 
 
+def short_lived(count):
+    """A name for each three instructions, which is used at once."""
+    return program(count // 3 + 1, ["constant 0 0"] + [f"fill {k} 1\nmix {k} 1 0" for k in range(1, count // 3 + 1)])
+
+
+def short_lived_and_calls(count):
+    """A name and a call for each four instructions."""
+    return program(count // 4 + 1, ["constant 0 0"] + [f"fill {k} 1\ncall 1 {k} 0\nmix {k} 1 0" for k in range(1, count // 4 + 1)])
+
+
 def items(count):
     return "label 0\n" + f"nops {count // 4 - 1}\njump 0\n" * 2 + f"nops {count // 2 - 2}\nlabel 1\nbeq 1 2 0\nbne 1 2 1\n"
 
@@ -58,8 +69,9 @@ def best(words, path):
 def main():
     with tempfile.TemporaryDirectory() as folder:
         path = f"{folder}/text"
-        for shape, counts in ((operators, (10000, 100000, 1000000)), (names, (10000, 30000)), (calls, (10000, 100000)),
-                              (calls_and_names, (1000, 2000, 4000))):
+        for shape, counts in ((operators, (10000, 100000, 1000000)), (short_lived, (10000, 30000, 100000)),
+                              (names, (10000, 30000)), (calls, (10000, 100000)), (calls_and_names, (1000, 2000, 4000)),
+                              (short_lived_and_calls, (10000, 20000, 40000, 80000))):
             for count in counts:
                 with open(path, "w") as out:
                     out.write(shape(count))

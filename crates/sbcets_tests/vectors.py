@@ -1,10 +1,13 @@
 #!/usr/bin/env python3
-"""Makes stdin and stdout of this program by Debian's gcc, and by nothing of this repository.
+"""Makes stdin and stdout of this program by Debian's gcc and from cases.txt, and by nothing of this repository.
 
 The programs are those of programs/, each with its input beside it where it reads one, those of examples/, and the texts of
 rows/ that have integers alone, whose run C99 determines, and that write UTF-8. stdin has them one behind the other: the lines of a text, then a
 line `%<` and its input where it has one, and a line `%%` between each two. stdout has for each what gcc's program writes and its
 status (128 and the signal's number where a signal ends it).
+
+Behind a line `%%%` come the cases of cases.txt, where the lines `%= ` are those of stdout, and behind another the texts of
+typing_rows.py, with a line for each.
 
 usage: python3 crates/sbcets_tests/vectors.py make
 """
@@ -16,6 +19,9 @@ import sys
 import tempfile
 
 HERE = os.path.dirname(os.path.realpath(__file__))
+sys.path.insert(0, HERE)
+import typing_rows  # noqa: E402
+
 TOP = os.path.join(HERE, "..", "..")
 OPTIONS = ["-std=c99", "-O1", "-fwrapv", "-funsigned-char", "-fno-builtin", "-w", "-include", "stdio.h", "-include", "stdlib.h"]
 EXAMPLES = [("hi", [b""]), ("hello", [b""]), ("status", [b""]), ("directives", [b""]), ("table", [b"12\n", b" 1", b"21", b""]),
@@ -53,6 +59,17 @@ def ran(folder, source, given):
     return ran.stdout, ran.returncode if ran.returncode >= 0 else 128 - ran.returncode
 
 
+def cases():
+    """What is given of the cases, and the lines that are to be printed."""
+    given, shown = [], []
+    for line in bytes_of(f"{HERE}/cases.txt").splitlines(keepends=True):
+        if line.startswith(b"%= "):
+            shown.append(line[3:])
+        elif not line.startswith(b"%# "):
+            given.append(line)
+    return b"".join(given), b"".join(shown)
+
+
 def make():
     given, shown = [], []
     with tempfile.TemporaryDirectory() as folder:
@@ -60,10 +77,13 @@ def make():
             output, status = ran(folder, source, data)
             given.append(bytes_of(source) + (b"%<\n" + data if data else b""))
             shown.append(output + b"\n%%%% %d\n" % status)
+    calls, lines = cases()
+    typed = list(typing_rows.rows())
     with open(f"{HERE}/stdin", "wb") as it:
-        it.write(b"%%\n".join(given))
+        it.write(b"%%\n".join(given) + b"%%%\n" + calls)
+        it.write(b"%%%\n" + "%%\n".join(text for text, _ in typed).encode())
     with open(f"{HERE}/stdout", "wb") as it:
-        it.write(b"".join(shown))
+        it.write(b"".join(shown) + lines + "".join(line + "\n" for _, line in typed).encode())
 
 
 if sys.argv[1:] == ["make"]:

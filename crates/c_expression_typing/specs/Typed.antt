@@ -26,7 +26,8 @@ use Rattle.c_typing.specs.Specifications.{typedef_type, with_keyword, with_named
 use Rattle.c_typing.specs.State.{State, Typing, done, judged, ◌>>>◌}
 use Rattle.c_expression_typing.specs.Constructs.{Printing, accessed, applied_to, begun_as, called_by, cast_to, chosen}
 use Rattle.c_expression_typing.specs.Constructs.{literal_alone, plain_name, specified_by, with_shape}
-use Rattle.c_expression_typing.specs.Constructs.{enumerated_as, format_by, has_words, prefixed, sized, tagged_as, valued}
+use Rattle.c_expression_typing.specs.Constructs.{enumerated_as, format_by, has_words, prefixed, sized, tagged_as}
+use Rattle.c_expression_typing.specs.Constructs.{valued}
 use Rattle.c_expression_typing.specs.Lines.{first_line, name_of, spellings, tag_name}
 
 abbrev mutual

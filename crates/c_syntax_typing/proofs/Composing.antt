@@ -15,7 +15,8 @@ use Rattle.c_typing.specs.Members.{Entries, entries_of, member_added, member_spe
 use Rattle.c_typing.specs.Specifications.{Gathered, Specification, gathered_of}
 use Rattle.c_typing.specs.State.{State, Types, Typing, judged, ◌>>>◌}
 use Rattle.c_expression_typing.specs.Constructs.{with_shape}
-use Rattle.c_expression_typing.specs.Typed.{shape, specification, typed, with_member, with_more_declared, with_specifier}
+use Rattle.c_expression_typing.specs.Typed.{shape, specification, typed, with_member, with_more_declared}
+use Rattle.c_expression_typing.specs.Typed.{with_specifier}
 
 -- ---- of equal trees the same is typed
 

@@ -60,6 +60,7 @@ pub function_view : (d : rd.Declarator) (l : Position) (p : rp.Parameters) (r : 
     → declarator_of (rd.Function d l p r) ≡ t.function (declarator_of d) l (parameters_of p) r
 function_view d l p r = first_of (search (rules, the_lemmas), grind (arith, the_lemmas))
 
-pub structure_view : (w : Keyword) (at : Position) (tag : Option Spelled) (l : Position) (ms : List rm.Member) (r : Position)
+pub structure_view : (w : Keyword) (at : Position) (tag : Option Spelled) (l : Position) (ms : List rm.Member)
+    (r : Position)
     → specifier_of (views.StructureBody w at tag l ms r) ≡ t.structure_body w at tag l (members_in ms) r
 structure_view w at tag l ms r = first_of (search (rules, the_lemmas), grind (arith, the_lemmas))

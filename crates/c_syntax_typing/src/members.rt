@@ -20,7 +20,8 @@ impl<
     ghost use Rattle.c_typing.specs.Specifications.{specification_of};
     ghost use Rattle.c_typing.specs.State.{Types, judged, state_of, ◌>>>◌};
     ghost use Rattle.c_expression_typing.specs.Constructs.{with_shape};
-    ghost use Rattle.c_expression_typing.specs.Typed.{shape, specification, with_member, with_members, with_more_declared};
+    ghost use Rattle.c_expression_typing.specs.Typed.{shape, specification, with_member, with_members};
+    ghost use Rattle.c_expression_typing.specs.Typed.{with_more_declared};
     ghost use Rattle.c_syntax_typing.specs.Nested.{Deeper, TypesDeclarator, TypesSpecifiers};
 
     // Members with what a declarator adds.

@@ -76,7 +76,8 @@ found_initializer i = (i.number, i.parts)
 
 -- what has linkage, one after the other
 
-abbrev pub with_linked : List (Option TypeExtent) → List TypeWord → Designated → List (Option Found) → List (Option Found)
+abbrev pub with_linked : List (Option TypeExtent) → List TypeWord → Designated → List (Option Found)
+    → List (Option Found)
 with_linked es type (what.Object n) ss = placed n (Linked (final_kind es type)) ss
 with_linked es type what ss = ss
 

@@ -150,8 +150,8 @@ switch_typed line e block = in_scope (in_state (switching_on line e) ~> block)
 abbrev pub while_typed : (line : ℕ) → Expression → (body : FileTyping Statement) → FileTyping Statement
 while_typed line e body = in_scope (in_state (controlling line e) ~> λ c. body ~> λ s. finished (tree.while_do c s))
 
--- `do S while (E);` (6.8.5.2): the rule on conditions is judged at its word, before all that S violates. E stands in the
--- scope around S, so that it has its type also where S violates a rule.
+-- `do S while (E);` (6.8.5.2): the rule on conditions is judged at its word, before all that S violates. E stands in
+-- the scope around S, so that it has its type also where S violates a rule.
 
 abbrev pub fault_or : {A B : Type 0} → Fault → Answer A → Answer B
 fault_or f (Ok x) = Err f

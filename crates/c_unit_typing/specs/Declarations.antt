@@ -46,8 +46,8 @@ stored_once spec s = if spec.has_two_storages then violates MisplacedStorage spe
 abbrev pub specified : (is_alone : Bool) → t.Declaration → Typing Specification
 specified is_alone d = specification is_alone d.specifiers >>> λ spec. judged (stored_once spec)
 
--- What a declarator declares, with the line of its initializer, if it has one. An array of functions is no incomplete type
--- (6.2.5 paragraph 1), though it has no size: it violates the rule on such types alone.
+-- What a declarator declares, with the line of its initializer, if it has one. An array of functions is no incomplete
+-- type (6.2.5 paragraph 1), though it has no size: it violates the rule on such types alone.
 
 abbrev pub line_or : Option ℕ → ℕ → ℕ
 line_or None line = line
@@ -78,7 +78,8 @@ is_automatic _ = false
 abbrev pub has_place : (in_head : Bool) → Specification → (type : List TypeWord) → Bool
 has_place in_head spec type = not in_head || (is_automatic spec.storage && not (is_function type))
 
--- A declarator with its name is judged and declared; its initializer stands in the scope of the name (6.2.1 paragraph 7).
+-- A declarator with its name is judged and declared; its initializer stands in the scope of the name (6.2.1 paragraph
+-- 7).
 abbrev pub declared_as : (in_head : Bool) → Specification → Shape → (initializer : Option ℕ) → Name × ℕ
     → Typing (Option Meaning)
 declared_as in_head spec sh initializer name s =
@@ -118,7 +119,8 @@ sized what name array element s =
     else Ok (record s { environment = with_size what name.0 (array ∷ element) s.environment }, array ∷ element)
 
 abbrev pub completed : Designated → Name × ℕ → (type : List TypeWord) → (count : ℕ) → Typing (List TypeWord)
-completed what name (word.OpenArray ∷ element) n s = sized what name (array_of n (extent_of (extents s) element)) element s
+completed what name (word.OpenArray ∷ element) n s = sized what name (array_of n (extent_of (extents s) element))
+    element s
 completed what name type n s = Ok (s, type)
 
 -- the type and the parts of an object with its initializer, if it has one

@@ -21,8 +21,8 @@ use Rattle.c_typing.specs.State.{Literal, extents}
 use Rattle.c_unit_typing.specs.Declarations.{kind_in}
 use Rattle.c_unit_typing.specs.Files.{Definition, File}
 
--- The static objects, by their numbers: string literals, those without linkage, and those with linkage, of which each is
--- defined.
+-- The static objects, by their numbers: string literals, those without linkage, and those with linkage, of which each
+-- is defined.
 
 abbrev pub literal_object : Literal → ℕ × StaticObject
 literal_object l = (

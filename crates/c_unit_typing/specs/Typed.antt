@@ -1,5 +1,6 @@
--- What the typing of a file gives (C99 6.9): the typed program; the first rule that it violates; or, where it violates none
--- and the initializer of each static object is constant (6.7.8 paragraph 4), what it has too much of and how much.
+-- What the typing of a file gives (C99 6.9): the typed program; the first rule that it violates; or, where it violates
+-- none and the initializer of each static object is constant (6.7.8 paragraph 4), what it has too much of and how
+-- much.
 use Rattle.std.specs.Prelude.{ℕ, ◌+◌, Bool, true, nat_lt, if◌then◌else◌, List, [], ◌∷◌, length}
 use Rattle.std.specs.Prelude.{replicate, Option, Some, None, is_some, Ok, Err}
 use Rattle.std.specs.List.{list_all}

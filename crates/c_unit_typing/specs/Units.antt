@@ -175,8 +175,8 @@ file_before objects facts = record {
   taken = [];
 }
 
--- At the end, on the line where the text ends, `int main(void)` has to be defined (5.1.2.2.1); then each function that is
--- used (6.9 paragraph 5), at the first use.
+-- At the end, on the line where the text ends, `int main(void)` has to be defined (5.1.2.2.1); then each function that
+-- is used (6.9 paragraph 5), at the first use.
 
 abbrev pub is_main : Option Entity → Bool
 is_main None = false

@@ -1,10 +1,12 @@
 -- What is lowered of a program of integers, and has its checks put in, is code of integers.
-use Rattle.std.proofs.Common.{◌≡◌, ◌⊎◌, inl, inr, ⊎_elim, ℕ, zero, suc, ◌+◌, ◌<◌, Bool, true, false, not, ◌&&◌, ◌||◌, if◌then◌else◌}
+use Rattle.std.proofs.Common.{◌≡◌, ◌⊎◌, inl, inr, ⊎_elim, ℕ, zero, suc, ◌+◌, ◌<◌, Bool, true, false, not, ◌&&◌, ◌||◌}
+use Rattle.std.proofs.Common.{if◌then◌else◌}
 use Rattle.std.proofs.Common.{◌==◌, List, [], ◌∷◌, ◌++◌, map, length, drop, get_or, Option, Some, None, refl, sym, ap}
 use Rattle.std.proofs.Common.{◌∙◌, subst, arith, length-append, nat_lt}
 use Rattle.std.specs.Prelude.{slice_get}
 use Rattle.std.specs.List.{list_all}
-use Rattle.std.proofs.lemmas.Bool.{eqb-true, eq-eqb, ltb-true, lt-ltb, and_from, false≢true, not-true, both_ways, cond-false}
+use Rattle.std.proofs.lemmas.Bool.{eqb-true, eq-eqb, ltb-true, lt-ltb, and_from, false≢true, not-true, both_ways}
+use Rattle.std.proofs.lemmas.Bool.{cond-false}
 use Rattle.std.proofs.lemmas.List.{length-map}
 use Rattle.std.proofs.lemmas.Option.{same_Some, none-some}
 use Rattle.sb_base.specs.Budgets.{default_sizes}
@@ -13,7 +15,8 @@ use Rattle.c_tree.specs.declared.expression.Kind.TheVariants.{Void, Scalar as Of
 use Rattle.obj_memory.specs.declared.value.Scalar.TheVariants.{Integer, Pointer}
 use Rattle.c_tree.specs.declared.program.Variable.{Variable}
 use Rattle.c_tree.specs.Programs.{Function, FunctionType, StaticObject, Program}
-use Rattle.c_tree.specs.Blocks.{all_of, no_variable, opened, closed, is_among, block_objects, body_variables, block_variables}
+use Rattle.c_tree.specs.Blocks.{all_of, no_variable, opened, closed, is_among, block_objects, body_variables}
+use Rattle.c_tree.specs.Blocks.{block_variables}
 use Rattle.c_tree.specs.Kinds.{Signature, is_kind, is_value}
 use Rattle.c_tree.specs.Valid.{Scope, no_signature, has_number}
 use Rattle.c_tree.specs.ValidProgram.{is_valid_program, is_function, are_functions, are_parameters, function_scope}
@@ -22,7 +25,8 @@ use Rattle.c_tree.specs.Room.{room}
 use Rattle.c_tree.specs.ValidProgram.{signature_at, are_statements, Inside, is_main, is_main_signature, scope_in}
 use Rattle.source_meaning.specs.State.{Header, Setting}
 use Rattle.source_meaning.specs.Places.{statics_first}
-use Rattle.source_meaning.specs.Meaning.{initial_objects, placed_statics, objects_after, store_statics, static_env, fresh}
+use Rattle.source_meaning.specs.Meaning.{initial_objects, placed_statics, objects_after, store_statics, static_env}
+use Rattle.source_meaning.specs.Meaning.{fresh}
 use Rattle.source_meaning.specs.Meaning.{setting_of}
 use Rattle.source_meaning.specs.Blocks.{has_objects}
 use Rattle.source_meaning.specs.Calls.{header_of, function_at}
@@ -224,7 +228,8 @@ safe_inserted t variables c c' f (suc k) n s = (
 no_pointer_at : (ts : List FunctionType) (n : ℕ) → list_all p.gives_no_pointer ts ≡ true
     → has_no_pointer (get_or (map (λ (t : FunctionType). t.result) ts) n Void) ≡ true
 no_pointer_at [] n e = refl
-no_pointer_at (t ∷ ts) zero e = same_without_pointer t.result (both (p.gives_no_pointer t) (list_all p.gives_no_pointer ts)
+no_pointer_at (t ∷ ts) zero e = same_without_pointer t.result (both (p.gives_no_pointer t)
+    (list_all p.gives_no_pointer ts)
     e).0
 no_pointer_at (t ∷ ts) (suc n) e = no_pointer_at ts n (both (p.gives_no_pointer t) (list_all p.gives_no_pointer ts) e).1
 

@@ -1,5 +1,6 @@
 -- The code of statements of integers is safe where what is behind it is.
-use Rattle.std.proofs.Common.{◌≡◌, ◌⊎◌, inl, inr, ⊎_elim, ℕ, zero, suc, Bool, true, false, ◌&&◌, ◌||◌, List, [], ◌∷◌, ◌++◌}
+use Rattle.std.proofs.Common.{◌≡◌, ◌⊎◌, inl, inr, ⊎_elim, ℕ, zero, suc, Bool, true, false, ◌&&◌, ◌||◌, List, [], ◌∷◌}
+use Rattle.std.proofs.Common.{◌++◌}
 use Rattle.std.proofs.Common.{Option, Some, None, length, refl, sym, ap, ◌∙◌, subst, arith}
 use Rattle.std.specs.Prelude.{slice_get}
 use Rattle.std.specs.List.{list_all}
@@ -13,12 +14,14 @@ use Rattle.c_tree.specs.Tree.{Expression, kind_of}
 use Rattle.c_tree.specs.Statements.{Initializer, of_plain, of_object, DeclaredVariable, First, nothing}
 use Rattle.c_tree.specs.Statements.{first_expression, first_declaration, Statement, expression_statement, empty}
 use Rattle.c_tree.specs.Statements.{declaration, block, if_then, if_else, while_do, do_while, for, switch, break}
-use Rattle.c_tree.specs.Statements.{continue, return, Statements, no_statements, statements, SwitchItems, no_items, items}
+use Rattle.c_tree.specs.Statements.{continue, return, Statements, no_statements, statements, SwitchItems, no_items}
+use Rattle.c_tree.specs.Statements.{items}
 use Rattle.c_tree.specs.Blocks.{block_variables, switch_variables, first_variables, opened, block_objects, closed}
 use Rattle.c_tree.specs.Kinds.{is_promoted, is_scalar}
 use Rattle.c_tree.specs.Valid.{Scope, within, is_valid, is_condition, is_constant, is_plain}
 use Rattle.c_tree.specs.ValidProgram.{Inside, in_loop as loop_inside, in_switch as switch_inside, is_statement}
-use Rattle.c_tree.specs.ValidProgram.{are_statements, are_items, is_initializer, are_declared, is_first, is_condition_if}
+use Rattle.c_tree.specs.ValidProgram.{are_statements, are_items, is_initializer, are_declared, is_first}
+use Rattle.c_tree.specs.ValidProgram.{is_condition_if}
 use Rattle.c_tree.specs.ValidProgram.{is_expression_if, is_label, labels_of, is_return}
 use Rattle.source_meaning.specs.Blocks.{has_objects}
 use Rattle.source_meaning.proofs.ValidNames.{both, three, four, five, never}
@@ -37,7 +40,8 @@ use Rattle.integer_programs.specs.Programs.{are_integer_declared, is_integer_fir
 use Rattle.integer_programs.specs.Programs.{are_integer_statements, are_integer_items, is_integer_variable}
 use Rattle.metadata_plan.specs.Part.{SafeWithin, is_integer_instruction}
 use Rattle.integer_lowering.proofs.Safe.{fewer, nothing_yet, stepped, along, either}
-use Rattle.integer_lowering.proofs.Values.{IsScope, Ok, Safe, goes, parts, named, word_below, of_expression, of_argument}
+use Rattle.integer_lowering.proofs.Values.{IsScope, Ok, Safe, goes, parts, named, word_below, of_expression}
+use Rattle.integer_lowering.proofs.Values.{of_argument}
 
 -- ---- scopes of blocks
 
@@ -73,7 +77,13 @@ module _ (t : Tac) (variables : ℕ) (c : Placed) where
   exits_fewer : (k : ℕ) (x : Exits) → AreSafe (suc k) x → AreSafe k x
   exits_fewer k x h =
       let f = fewer (Ok t variables c k) c.code k in
-      record { next = f x.next h.next; breaks = f x.breaks h.breaks; continues = f x.continues h.continues; returns = f x.returns h.returns }
+      record {
+        next = f x.next h.next;
+        breaks = f x.breaks h.breaks;
+        continues = f x.continues h.continues;
+        returns = f
+            x.returns h.returns;
+      }
 
   with_next : (k n : ℕ) (x : Exits) → AreSafe k x → SafeAt k n → AreSafe k (record x { next = n })
   with_next k n x h d = record { next = d; breaks = h.breaks; continues = h.continues; returns = h.returns }
@@ -258,7 +268,8 @@ module _ (t : Tac) (variables : ℕ) (c : Placed) where
           in
           of_expression t variables c k scope q e 0 n l.0 w.0 j.0 l.5
           (entered k numbers line l.0 l.1 l.6.0
-          (of_tests is d r (switch_inside inside) (kind_of e) k l.1 l.2 l.3 (in_switch l.4) w.4 j.1 w.2 l.8 other inner))
+          (of_tests is d r (switch_inside inside) (kind_of e) k l.1 l.2 l.3 (in_switch l.4) w.4 j.1 w.2 l.8 other
+          inner))
       of_statement break scope q inside k n x v i l h = subst (SafeAt k) (sym l) h.breaks
       of_statement continue scope q inside k n x v i l h = subst (SafeAt k) (sym l) h.continues
       of_statement (return None) scope q inside k n x v i l h =

@@ -22,8 +22,10 @@ use Rattle.sbcets_core.specs.Commands.{BuiltInto, IsBuiltOf, ReadCounts, RunsIma
 use Rattle.sbcets_core.proofs.Running.{never_traps}
 
 -- a command that got nothing does nothing
-pub unbuilt_goes : (name : List ℕ) (budgets : BudgetSizes) (limit : ℕ) (outcome : Outcome) (image : List ℕ) (before after : Outside)
-    → DoesNothing image before after → IsUnbuilt name budgets outcome before.files → Goes name budgets limit outcome image before after
+pub unbuilt_goes : (name : List ℕ) (budgets : BudgetSizes) (limit : ℕ) (outcome : Outcome) (image : List ℕ)
+    (before after : Outside)
+    → DoesNothing image before after → IsUnbuilt name budgets outcome before.files
+    → Goes name budgets limit outcome image before after
 unbuilt_goes name budgets limit (outcomes.ReadFault reads.Failed) image before after d u = d
 unbuilt_goes name budgets limit (outcomes.ReadFault (TooLong n most)) image before after d u = (u, d)
 unbuilt_goes name budgets limit Memory image before after d u = d
@@ -37,7 +39,8 @@ unbuilt_goes name budgets limit (Limit n) image before after d u = absurd u
 unbuilt_goes name budgets limit (ImageRefused fault) image before after d u = absurd u
 unbuilt_goes name budgets limit (Trap kind pc) image before after d u = absurd u
 
-pub unbuilt_builds : (name target : List ℕ) (budgets : BudgetSizes) (outcome : Outcome) (image : List ℕ) (before after : Outside)
+pub unbuilt_builds : (name target : List ℕ) (budgets : BudgetSizes) (outcome : Outcome) (image : List ℕ)
+    (before after : Outside)
     → DoesNothing image before after → IsUnbuilt name budgets outcome before.files
     → Builds name target budgets outcome image before after
 unbuilt_builds name target budgets (outcomes.ReadFault reads.Failed) image before after d u = d
@@ -121,7 +124,8 @@ unread_runs name limit (Limit n) image before after d u = absurd u
 unread_runs name limit (ImageRefused fault) image before after d u = absurd u
 unread_runs name limit (Trap kind pc) image before after d u = absurd u
 
-pub unread_unbuilt : (name : List ℕ) (budgets : BudgetSizes) (outcome : Outcome) (held : Option (List ℕ → Option (List ℕ)))
+pub unread_unbuilt : (name : List ℕ) (budgets : BudgetSizes) (outcome : Outcome)
+    (held : Option (List ℕ → Option (List ℕ)))
     → IsUnread name max_source outcome held → IsUnbuilt name budgets outcome held
 unread_unbuilt name budgets (outcomes.ReadFault reads.Failed) held u = u
 unread_unbuilt name budgets (outcomes.ReadFault (TooLong n most)) held u = u
@@ -138,7 +142,8 @@ unread_unbuilt name budgets (Trap kind pc) held u = absurd u
 
 -- a run, by how it ended
 went_by : (name : List ℕ) (budgets : BudgetSizes) (limit : ℕ) (image : List ℕ) (stop : Stop) (before after : Outside)
-    → Went name budgets limit image stop before after → Goes name budgets limit (outcome_of stop limit) image before after
+    → Went name budgets limit image stop before after
+    → Goes name budgets limit (outcome_of stop limit) image before after
 went_by name budgets limit image (stops.Exited code) before after w = w
 went_by name budgets limit image (stops.Trap kind pc) before after w =
     never_traps w.source budgets w.built limit kind pc before.streams after.streams w.is_built w.run
@@ -190,7 +195,8 @@ unread_counts name max (Limit n) held before after same u c = absurd u
 unread_counts name max (ImageRefused fault) held before after same u c = absurd u
 unread_counts name max (Trap kind pc) held before after same u c = absurd u
 
-pub unbuilt_counts : (name : List ℕ) (budgets : BudgetSizes) (outcome : Outcome) (held : Option (List ℕ → Option (List ℕ)))
+pub unbuilt_counts : (name : List ℕ) (budgets : BudgetSizes) (outcome : Outcome)
+    (held : Option (List ℕ → Option (List ℕ)))
     (before after : Counts) → after ≡ record before { reads = after.reads } → IsUnbuilt name budgets outcome held
     → ReadCounts outcome before.reads after.reads → CommandCounts outcome before after
 unbuilt_counts name budgets (outcomes.ReadFault reads.Failed) held before after same u c = same
@@ -198,7 +204,8 @@ unbuilt_counts name budgets (outcomes.ReadFault reads.Failed) held before after 
 unbuilt_counts name budgets (outcomes.ReadFault (TooLong n most)) held before after same u c = same
     ∙ ap (λ r. record before { reads = r }) c
 unbuilt_counts name budgets Memory held before after same u c = same ∙ ap (λ r. record before { reads = r }) c
-unbuilt_counts name budgets (Refused refusal) held before after same u c = same ∙ ap (λ r. record before { reads = r }) c
+unbuilt_counts name budgets (Refused refusal) held before after same u c = same
+    ∙ ap (λ r. record before { reads = r }) c
 unbuilt_counts name budgets (Exited code) held before after same u c = absurd u
 unbuilt_counts name budgets Built held before after same u c = absurd u
 unbuilt_counts name budgets Usage held before after same u c = absurd u

@@ -63,7 +63,8 @@ not_image_refused held name fault f r =
     let refused = r.refused in
     cc (same, readable, refused)
 
-go_ends : (name : List ℕ) (budgets : BudgetSizes) (limit : ℕ) (outcome : Outcome) (image : List ℕ) (before after : Outside)
+go_ends : (name : List ℕ) (budgets : BudgetSizes) (limit : ℕ) (outcome : Outcome) (image : List ℕ)
+    (before after : Outside)
     → IsAcceptedFile before.files name → Goes name budgets limit outcome image before after → IsOfGo outcome
 go_ends name budgets limit (Exited code) image before after f d = tt
 go_ends name budgets limit (Limit n) image before after f d = tt
@@ -74,7 +75,8 @@ go_ends name budgets limit (Trap kind pc) image before after f d = absurd d
 go_ends name budgets limit (outcomes.ReadFault reads.Failed) image before after f d = tt
 go_ends name budgets limit (outcomes.ReadFault (TooLong n most)) image before after f d = absurd
     (not_too_long before.files f.files name f.source max_source n most f.told f.there f.short d.0)
-go_ends name budgets limit (Refused refusal) image before after f d = refused_by_size before.files name budgets refusal f d.0
+go_ends name budgets limit (Refused refusal) image before after f d = refused_by_size before.files name budgets refusal
+    f d.0
 go_ends name budgets limit (ImageRefused fault) image before after f d = absurd d
 go_ends name budgets limit Built image before after f d = absurd d
 go_ends name budgets limit Usage image before after f d = absurd d
@@ -96,7 +98,8 @@ run_ends name limit (ImageRefused fault) image before after f d = absurd
 run_ends name limit Built image before after f d = absurd d
 run_ends name limit Usage image before after f d = absurd d
 
-build_ends : (name target : List ℕ) (budgets : BudgetSizes) (outcome : Outcome) (image : List ℕ) (before after : Outside)
+build_ends : (name target : List ℕ) (budgets : BudgetSizes) (outcome : Outcome) (image : List ℕ)
+    (before after : Outside)
     → IsAcceptedFile before.files name → Builds name target budgets outcome image before after → IsOfBuild outcome
 build_ends name target budgets (Exited code) image before after f d = absurd d
 build_ends name target budgets (Limit n) image before after f d = absurd d
@@ -118,6 +121,7 @@ pub complete : (command : Option Asked) (outcome : Outcome) (image : List ℕ) (
 complete (Some (go name budgets limit)) outcome image before after d = λ f. go_ends name budgets limit outcome image
     before after f d
 complete (Some (run name limit)) outcome image before after d = λ f. run_ends name limit outcome image before after f d
-complete (Some (build name target budgets)) outcome image before after d = λ f. build_ends name target budgets outcome image
+complete (Some (build name target budgets)) outcome image before after d = λ f. build_ends name target budgets outcome
+    image
     before after f d
 complete None outcome image before after d = tt

@@ -59,29 +59,36 @@ idle : (before start after : Outside) → DoesNothing [] start after
     → DoesNothing [] (beside before start.streams) (beside before after.streams)
 idle before start after d = record { none = refl; same = ap (λ (o : Outside). beside before o.streams) d.same }
 
-readable_is : (name target : List ℕ) (budgets : BudgetSizes) (before start : Outside) (bytes : List ℕ) → WasBuilt name target budgets before start
+readable_is : (name target : List ℕ) (budgets : BudgetSizes) (before start : Outside) (bytes : List ℕ)
+    → WasBuilt name target budgets before start
     → IsRead start.files target max_image_file bytes → image_fault bytes ≡ None
 readable_is name target budgets before start bytes b read =
     subst (λ i. image_fault i ≡ None)
     (sym (read_is start.files b.files target b.built.image.items bytes max_image_file b.told b.there
     read)) b.is_built.means.readable
 
-by_outcome : (name target : List ℕ) (budgets : BudgetSizes) (limit : ℕ) (outcome : Outcome) (before start after : Outside)
+by_outcome : (name target : List ℕ) (budgets : BudgetSizes) (limit : ℕ) (outcome : Outcome)
+    (before start after : Outside)
     → WasBuilt name target budgets before start → Runs target limit outcome [] start after
-    → (image : List ℕ) × Goes name budgets limit outcome image (beside before start.streams) (beside before after.streams)
-by_outcome name target budgets limit (Exited code) before start after b r = ran name target budgets limit (stops.Exited code) before
+    → (image : List ℕ) × Goes name budgets limit outcome image (beside before start.streams)
+    (beside before after.streams)
+by_outcome name target budgets limit (Exited code) before start after b r = ran name target budgets limit
+    (stops.Exited code) before
     start after b r
 by_outcome name target budgets limit (Limit n) before start after b r =
     let w = ran name target budgets limit stops.Limit before start after b r.1 in
     (w.0, (r.0, w.1.1))
-by_outcome name target budgets limit WriteFault before start after b r = ran name target budgets limit stops.OutputFault before start
+by_outcome name target budgets limit WriteFault before start after b r = ran name target budgets limit
+    stops.OutputFault before start
     after b r
-by_outcome name target budgets limit InputFault before start after b r = ran name target budgets limit stops.InputFault before start
+by_outcome name target budgets limit InputFault before start after b r = ran name target budgets limit stops.InputFault
+    before start
     after b r
 by_outcome name target budgets limit (Trap kind pc) before start after b r = absurd
     (ran name target budgets limit (stops.Trap kind pc) before start after b r).1
 by_outcome name target budgets limit Memory before start after b r = ([], idle before start after r)
-by_outcome name target budgets limit (outcomes.ReadFault reads.Failed) before start after b r = ([], idle before start after r)
+by_outcome name target budgets limit (outcomes.ReadFault reads.Failed) before start after b r =
+    ([], idle before start after r)
 by_outcome name target budgets limit (outcomes.ReadFault (TooLong n most)) before start after b r =
     absurd (not_too_long start.files b.files target b.built.image.items max_image_file n most b.told b.there
     b.is_built.means.size r.0)
@@ -93,7 +100,8 @@ by_outcome name target budgets limit (Refused refusal) before start after b r = 
 by_outcome name target budgets limit Built before start after b r = absurd r
 by_outcome name target budgets limit Usage before start after b r = absurd r
 
-pub run_of_built : (name target : List ℕ) (budgets : BudgetSizes) (limit : ℕ) (outcome : Outcome) (before between start after : Outside)
+pub run_of_built : (name target : List ℕ) (budgets : BudgetSizes) (limit : ℕ) (outcome : Outcome)
+    (before between start after : Outside)
     (files : List ℕ → Option (List ℕ)) → between.files ≡ Some files → start.files ≡ between.files
     → Builds name target budgets Built [] before between → Runs target limit outcome [] start after
     → (image : List ℕ) × Goes name budgets limit outcome image (record before { streams = start.streams })

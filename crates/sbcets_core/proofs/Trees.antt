@@ -21,7 +21,8 @@ use Rattle.c_unit_program.specs.Rooms.{first_without_room}
 use Rattle.c_unit_typing.specs.Typed.{TypedUnit, a_program, a_fault, too_large, typed_unit}
 use Rattle.sbcets_core.specs.Programs.{Judged, constant_fault, is_compiled, unless_large, unless_fault, judged_program}
 use Rattle.sbcets_core.specs.Programs.{judged_unit}
-use Rattle.sbcets_core.specs.Accepted.{Readable, RefusesTokens, IsTyped, expanded_tokens, supported_tokens, with_support}
+use Rattle.sbcets_core.specs.Accepted.{Readable, RefusesTokens, IsTyped, expanded_tokens, supported_tokens}
+use Rattle.sbcets_core.specs.Accepted.{with_support}
 use Rattle.sbcets_core.specs.Accepted.{unless_unsupported, of_readable, of_expanded, of_tokens, JudgesTokens}
 use Rattle.sbcets_core.specs.Accepted.{JudgesReadable, Judges}
 use Rattle.sbcets_core.proofs.Judging.{refusal_is, by_judgement}

@@ -1,12 +1,14 @@
 -- What is known of the program of an accepted source.
-use Rattle.std.proofs.Common.{◌≡◌, ◌≤◌, ℕ, suc, zero, Bool, true, false, List, [], ◌∷◌, length, Option, Some, None, Ok, Err}
+use Rattle.std.proofs.Common.{◌≡◌, ◌≤◌, ℕ, suc, zero, Bool, true, false, List, [], ◌∷◌, length, Option, Some, None}
+use Rattle.std.proofs.Common.{Ok, Err}
 use Rattle.std.proofs.Common.{refl, sym, ap, ◌∙◌, subst, arith}
 use Rattle.std.specs.Prelude.{◌&&◌, nat_lt, if◌then◌else◌}
 use Rattle.std.specs.List.{list_all}
 use Rattle.std.proofs.lemmas.Bool.Decides.{nat_tests}
 use Rattle.c_syntax.specs.Statements.{Unit as Tree, External}
 use Rattle.c_counts.specs.Counts.{Count, counts_of}
-use Rattle.c_counts.specs.Excess.{first_above, parameters_among, members_among, most_parameters as most_listed, most_members}
+use Rattle.c_counts.specs.Excess.{first_above, parameters_among, members_among, most_parameters as most_listed}
+use Rattle.c_counts.specs.Excess.{most_members}
 use Rattle.c_tree.specs.Programs.{Function, Program, StaticObject}
 use Rattle.c_tree.specs.Statements.{Content, Part, value_content, literal_content}
 use Rattle.c_tree.specs.Tree.{line_of}
@@ -18,8 +20,10 @@ use Rattle.c_unit_typing.specs.declared.limits.Limited.TheVariants as limited
 use Rattle.c_unit_typing.specs.Files.{File}
 use Rattle.c_unit_typing.specs.Units.{file_in}
 use Rattle.c_unit_typing.specs.Programs.{program_of}
-use Rattle.c_unit_typing.specs.Typed.{TypedUnit, a_program, a_fault, too_large, any_pointers, is_constant, has_constants}
-use Rattle.c_unit_typing.specs.Typed.{are_constant, most_functions, most_bytes, global_bytes, when_large, limited_program}
+use Rattle.c_unit_typing.specs.Typed.{TypedUnit, a_program, a_fault, too_large, any_pointers, is_constant}
+use Rattle.c_unit_typing.specs.Typed.{has_constants}
+use Rattle.c_unit_typing.specs.Typed.{are_constant, most_functions, most_bytes, global_bytes, when_large}
+use Rattle.c_unit_typing.specs.Typed.{limited_program}
 use Rattle.c_unit_typing.specs.Typed.{typed_as, typed_unit}
 use Rattle.c_unit_program.specs.Rooms.{first_without_room}
 use Rattle.source_meaning.specs.Calls.{function_at}
@@ -110,7 +114,11 @@ limits_kept counts q p e = by (first_above most_functions (length q.functions �
         → IsWithin q p
     by None None None None few e =
         let same = same_program q p e in
-        record { same = same; few = subst (λ x. length x.functions ≤ most_functions) same (few_of_none most_functions (length q.functions) few) }
+        record {
+          same = same;
+          few = subst (λ x. length x.functions ≤ most_functions) same
+              (few_of_none most_functions (length q.functions) few);
+        }
     by (Some n) b c d few e = absurd (cc e)
     by None (Some n) c d few e = absurd (cc e)
     by None None (Some n) d few e = absurd (cc e)

@@ -97,7 +97,8 @@ pub record RefusesSource (name : List ℕ) (budgets : BudgetSizes) (refusal : So
   pub refused : Refuses source budgets refusal
 
 abbrev pub Goes : (name : List ℕ) → BudgetSizes → (limit : ℕ) → Outcome → List ℕ → Outside → Outside → Type 0
-Goes name budgets limit (Exited code) image before after = Went name budgets limit image (stops.Exited code) before after
+Goes name budgets limit (Exited code) image before after = Went name budgets limit image (stops.Exited code) before
+    after
 Goes name budgets limit (Limit n) image before after =
     (n ≡ limit) × Went name budgets limit image stops.Limit before after
 Goes name budgets limit WriteFault image before after = Went name budgets limit image stops.OutputFault before after
@@ -175,7 +176,8 @@ pub record LineFails (name target : List ℕ) (budgets : BudgetSizes) (image : L
     pub output : GainsPart before.streams.output after.streams.output (built_line into.built.checks 0)
 
 -- the file holds the image, and the line was printed
-pub record IsBuiltAndTold (name target : List ℕ) (budgets : BudgetSizes) (image : List ℕ) (before after : Outside) : Type
+pub record IsBuiltAndTold (name target : List ℕ) (budgets : BudgetSizes) (image : List ℕ) (before after : Outside)
+    : Type
     0 where
   pub into : BuiltInto name target budgets (Ok tt) image before after
   pub output : after.streams.output ≡ gained before.streams.output (built_line into.built.checks 0)

@@ -22,7 +22,8 @@ ghost use Rattle.sbcets_core.specs.Trees.{HasTokensAlone, HasOneTree, IsUnparsed
 /// the same budgets and the streams of the run.
 pub fn run_of_what_was_built()
     ensures { (name target : List ℕ) (budgets : BudgetSizes) (limit : ℕ) (outcome : Outcome)
-        (before between start after : Outside) (files : List ℕ → Option (List ℕ)) → between.files ≡ Some files → start.files ≡ between.files
+        (before between start after : Outside) (files : List ℕ → Option (List ℕ)) → between.files ≡ Some files
+        → start.files ≡ between.files
         → Builds name target budgets Built [] before between → Runs target limit outcome [] start after →
         (image : List ℕ) × Goes name budgets limit outcome image
         (record before { streams = start.streams }) (record before { streams = after.streams }) }

@@ -1,38 +1,76 @@
-// Programs of integers, compiled and run. Standard input has programs, with a line `%%` between each two, each with its
-// input behind a line `%<` where it reads one. For each the program prints what the run wrote, and then on a line of its
-// own its status, or what else the run came to.
+// Programs of integers, compiled and run, calls of the program over an outside in memory, and sources that are typed.
+// Standard input has three parts, with a line `%%%` between each two, and in each a line `%%` between each two texts.
 //
-// `stdin` and `stdout` are made by gcc 12.2.0 (Debian 12; -std=c99 -O1 -fwrapv -funsigned-char), as `vectors.py` beside
-// them says. The tests call the program over an outside in memory.
+// The first has programs, each with its input behind a line `%<` where it reads one. For each is printed what the run
+// wrote, and then on a line of its own its status, or what else the run came to.
+//
+// The second has cases. A line of a case that begins with one of these words says what is given, the others are lines
+// of
+// the file `hi.c`:
+//
+// - `%call WORDS`: the program is called with these words. A line is printed for each call: its status, what the output
+//   and the error output took, and what `%holds` asks for.
+// - `%text COUNT TEXT`: a text of `hi.c`, so many times, with its number from 0 on in place of each `@`.
+// - `%input TEXT`: the input. `%image WORDS`: instructions of the image `hi.img`. `%cut COUNT`: its first bytes alone.
+// - `%fails KIND NUMBER [COUNT]`: the call of this kind (`read`, `take`, `write`, `output`, `error`) with this number
+//   from 0 on fails; one that writes keeps so many bytes.
+// - `%room COUNT`: what the output can take. `%shown COUNT`: so many bytes of the output are shown, where those behind
+//   are as the last of them.
+// - `%holds image`: how much of the image of `hi.c` the file `hi.img` holds after each call, and the call gave.
+// - `%compile hi.c`: what `compile` says of `hi.c`, on a line of its own.
+//
+// The third has sources. For each is printed the first rule that it violates and its line, or what it has too much of
+// and how much, or that it is typed, and whether what it is typed to is valid.
+//
+// `stdin` and `stdout` are made by `vectors.py` beside them: of the programs by gcc 12.2.0 (Debian 12; -std=c99 -O1
+// -fwrapv -funsigned-char), of the cases from `cases.txt`, where each expected line stands with its case, as the
+// documents state it (docs/LANGUAGE.md, docs/FORMATS.md), and of the sources that are typed from `typing_rows.py`,
+// whose
+// tables were worked out by hand; what gcc 12.2.0 says of them stands there.
 #![tactic(auto)]
 
-#[cfg(test)]
-mod commands;
-#[cfg(test)]
-mod outside;
-#[cfg(test)]
-mod programs;
-#[cfg(test)]
-mod sources;
+mod calls;
+mod case;
+mod image;
+mod text;
+mod typing;
 
-use anyhow::Result;
+use crate::calls::put_calls;
+use crate::case::Case;
+use crate::typing::verdict_of;
+use anyhow::{Context, Result};
 use sb_outside::{MemFiles, MemSink, MemSource};
 use sbcets_core::sbcets;
 use std::alloc::Global;
 use std::io;
-
-/// How many bytes the sinks of the tests can take.
-pub const ROOM: u64 = 4096;
 
 // How many bytes a file and an output can take.
 const LARGE_ROOM: u64 = 1_048_576;
 
 fn main(rt: HostRuntime) -> Result<()> {
     let input = io::read_to_string(rt.alloc(), rt.reader())?;
-    for text in input.as_str().split("%%\n") {
+    let (programs, rest) = input.as_str().split_once("%%%\n").context("three parts")?;
+    let (cases, sources) = rest.split_once("%%%\n").context("three parts")?;
+    put_programs(&rt, programs)?;
+    for text in cases.split("%%\n") {
+        put_calls(&rt, &Case::parse(rt.alloc(), text)?)?;
+    }
+    put_verdicts(&rt, sources)
+}
+
+fn put_verdicts(rt: &HostRuntime, sources: &str) -> Result<()> {
+    for text in sources.split("%%\n") {
+        let verdict = verdict_of(rt.alloc(), text.as_bytes())?;
+        println!(rt; "{verdict}")?;
+    }
+    Ok(())
+}
+
+fn put_programs(rt: &HostRuntime, programs: &str) -> Result<()> {
+    for text in programs.split("%%\n") {
         match text.split_once("%<\n") {
-            Some((source, given)) => put_run(&rt, source, given)?,
-            None => put_run(&rt, text, "")?,
+            Some((source, given)) => put_run(rt, source, given)?,
+            None => put_run(rt, text, "")?,
         }
     }
     Ok(())

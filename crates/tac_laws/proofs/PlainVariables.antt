@@ -71,7 +71,8 @@ keeps_stays {r = r} y h = record { by = λ s. of_kept y s (r s) (h.stays s) }
 keeps_local : {A : Type 0} {r : Run A} (y : ℕ) → IsLocal r → Keeps y r
 keeps_local {r = r} y h = record { by = λ s. of_local y s (r s) (h.keeps s) }
 
-from_by : {A : Type 0} (y : ℕ) (s z : State) (o : Outcome A) → plain_value y z ≡ plain_value y s → PlainBy y z o → PlainBy y s o
+from_by : {A : Type 0} (y : ℕ) (s z : State) (o : Outcome A) → plain_value y z ≡ plain_value y s → PlainBy y z o
+    → PlainBy y s o
 from_by y s z (Gives a x) e h = h ∙ e
 from_by y s z (Ended x w) e h = tt
 from_by y s z (Paused w) e h = tt
@@ -82,7 +83,8 @@ on_by y s (Gives a z) f h g = from_by y s z (f a z) h ((g a).by z)
 on_by y s (Ended e z) f h g = tt
 on_by y s (Paused z) f h g = tt
 
-keeps_on : {A B : Type 0} {r : Run A} {f : A → Run B} (y : ℕ) → Keeps y r → ((a : A) → Keeps y (f a)) → Keeps y (r >>= f)
+keeps_on : {A B : Type 0} {r : Run A} {f : A → Run B} (y : ℕ) → Keeps y r → ((a : A) → Keeps y (f a))
+    → Keeps y (r >>= f)
 keeps_on {r = r} {f = f} y h g = record { by = λ s. on_by y s (r s) f (h.by s) g }
 
 -- blocks
@@ -92,7 +94,8 @@ local_pass true e = local_skip
 local_pass false e = local_stop
 
 local_test_space : (g : Setting) (vs : List Variable) (line : ℕ) → IsLocal (test_space g vs line)
-local_test_space g vs line = local_on (local_read {f = λ s. s.stacked} (λ k s. refl)) (λ top. local_pass _ (ending.Stack line))
+local_test_space g vs line = local_on (local_read {f = λ s. s.stacked} (λ k s. refl))
+    (λ top. local_pass _ (ending.Stack line))
 
 local_test_keys : (g : Setting) (vs : List Variable) (line : ℕ) → IsLocal (test_keys g vs line)
 local_test_keys g vs line = local_choose (has_objects vs) (local_take_key g line) local_skip
@@ -106,7 +109,8 @@ local_place_variables (v ∷ vs) =
     local_on (local_choose v.is_object (local_place_object (size_of_kind v.kind)) local_done)
     (λ home. local_on (local_place_variables vs) (λ homes. local_done))
 
-frame_keeps : (y : ℕ) (frame : List Home) (homes : List Home) → Keeps y (change (λ s. record s { frame = homes_over frame homes }))
+frame_keeps : (y : ℕ) (frame : List Home) (homes : List Home)
+    → Keeps y (change (λ s. record s { frame = homes_over frame homes }))
 frame_keeps y frame homes = record { by = λ s. refl }
 
 done_keeps : {A : Type 0} (y : ℕ) (a : A) → Keeps y (done a)
@@ -183,7 +187,8 @@ local_check Spatial size v line y = keeps_local y (local_pass (is_within v.tag v
 local_check Temporal size v line y = record
     { by = λ s. (keeps_local y (local_pass (is_live_tag v.tag s.objects) (ending.Temporal line))).by s }
 
-left_keeps : (y u m : ℕ) (temps : Temps) (frames : List Frame) (s : State) → KeepsPlainAt y s (left_for u m temps frames s)
+left_keeps : (y u m : ℕ) (temps : Temps) (frames : List Frame) (s : State)
+    → KeepsPlainAt y s (left_for u m temps frames s)
 left_keeps y u m temps [] s = stuck_keeps
 left_keeps y u m temps (Waits w ∷ frames) s = stuck_keeps
 left_keeps y u m temps (Entered b ∷ frames) s = record { by = refl }
@@ -198,7 +203,8 @@ stays_update x y other u k right at f =
     (λ new. stays_on (stays_set x y new other) (λ _. stays_done {a = given f old new}))))
     (λ v. stays_done {a = rvalue v})
 
-pub act_keeps : (g : Setting) (t : Tac) (i : Instruction) (u : ℕ) (temps : Temps) (frames : List Frame) (s : State) (y : ℕ)
+pub act_keeps : (g : Setting) (t : Tac) (i : Instruction) (u : ℕ) (temps : Temps) (frames : List Frame) (s : State)
+    (y : ℕ)
     → changes_plain i y ≡ false → KeepsPlainAt y s (act g t i u temps frames s)
 act_keeps g t Reserved u temps frames s y e = stuck_keeps
 act_keeps g t (SetPlain x a m) u temps frames s y e = came_keeps s (set_plain x (temps a).value)
@@ -207,15 +213,18 @@ act_keeps g t (UpdatePlain w k f line d x right m) u temps frames s y e =
     came_keeps s _ (given_in u m temps d frames)
     (keeps_stays y (stays_update x y e w k (right_value right temps) line f)) (λ _ z. stands_keeps)
 act_keeps g t (Binary op ty line d a b m) u temps frames s y e =
-    came_keeps s _ (given_in u m temps d frames) (keeps_local y (local_as_rvalue (local_operate op ty (temps a).value (temps b).value line)))
+    came_keeps s _ (given_in u m temps d frames) (keeps_local y (local_as_rvalue
+    (local_operate op ty (temps a).value (temps b).value line)))
     (λ _ z. stands_keeps)
 act_keeps g t (Take kind line d a m) u temps frames s y e =
     moved_keeps kind (temps a) s.objects s _
-    (came_keeps s _ (given_in u m temps d frames) (keeps_local y (local_take_value kind line (temps a))) (λ _ z. stands_keeps))
+    (came_keeps s _ (given_in u m temps d frames) (keeps_local y (local_take_value kind line (temps a)))
+    (λ _ z. stands_keeps))
 act_keeps g t (Read kind mode line key d a m) u temps frames s y e =
     keyed_keeps _ key s _ s _
     (admitted_keeps mode _ (temps a) s.objects s _
-    (came_keeps s _ (given_in u m temps d frames) (keeps_local y (local_read_rvalue kind (is_through mode) (temps a) line))
+    (came_keeps s _ (given_in u m temps d frames) (keeps_local y (local_read_rvalue kind (is_through mode) (temps a)
+    line))
     (λ _ z. stands_keeps)))
 act_keeps g t (Write kind mode line key d a b m) u temps frames s y e =
     keyed_keeps _ key s _ s _ (admitted_keeps mode _ (temps a) s.objects s _ (moved_keeps kind (temps b) s.objects s _
@@ -245,7 +254,8 @@ act_keeps g t (StoreText n x offset m) u temps frames s y e =
 act_keeps g t (Library r line d n m) u temps frames s y e = came_keeps s _ (given_in u m temps d frames)
     (keeps_local y (local_as_rvalue (local_routine g r (values_of (gathered temps d n)) line))) (λ _ z. stands_keeps)
 act_keeps g t (Print x line d n m) u temps frames s y e = came_keeps s _ (given_in u m temps d frames)
-    (keeps_local y (local_as_rvalue (local_print (text_in t x) (values_of (gathered temps d n)) line))) (λ _ z. stands_keeps)
+    (keeps_local y (local_as_rvalue (local_print (text_in t x) (values_of (gathered temps d n)) line)))
+    (λ _ z. stands_keeps)
 act_keeps g t (Call f line d n m) u temps frames s y e = cc
 act_keeps g t (CallThrough type_number line d n m) u temps frames s y e = cc
 act_keeps g t (EnterBlock b line m) u temps frames s y e =

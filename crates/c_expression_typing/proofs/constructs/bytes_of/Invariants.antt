@@ -5,4 +5,5 @@ use Rattle.c_expression_typing.proofs.constructs.bytes_of.Given as goal
 
 abbrev pub invariant-loop-literal : goal.invariant-loop-literal
 invariant-loop-literal l =
-    l.bytes.items ++ spelled_bytes (map name_of (drop l.literal-index l.more)) ≡ spelled_bytes (spellings l.fn.first l.fn.more)
+    l.bytes.items ++ spelled_bytes (map name_of (drop l.literal-index l.more)) ≡ spelled_bytes
+    (spellings l.fn.first l.fn.more)

@@ -25,7 +25,8 @@ loop-definition-preserved c =
       made_next c.args.extents.now c.args.types.now (map static_of c.args.statics.now) _
           c.in_ok-heights.heights.items at.number (map function_of at.functions.items)
           (map function_of c.add.new.items.items) (definition_of x)
-          (map definition_of (into_iter_items c.next.new.self)) (map definition_of (into_iter_items at.definition-iterator))
+          (map definition_of (into_iter_items c.next.new.self)) (map definition_of
+          (into_iter_items at.definition-iterator))
           (function_of c.in-Ok.function) c.height_at-height.result _ c.in_ok-heights.ensures
           (heights_same c.deref.result.now c.in_ok-heights.heights.items at.number c.height_at-height.result
           c.deref.ensures.value c.height_at-height.ensures)

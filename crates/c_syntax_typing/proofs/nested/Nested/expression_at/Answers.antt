@@ -10,7 +10,8 @@ pub returns-in-Parenthesized : goal.returns-in-Parenthesized
 returns-in-Parenthesized g c =
     let e = c.in-Parenthesized in
     expression_typed _ _ _ _ _ _
-    (ap (λ z. t.parenthesized e.opening (expression_of z) e.field-2) c.get.ensures ∙ sym (ap expression_of e.is ∙ parenthesized_view e.opening e.inner e.field-2))
+    (ap (λ z. t.parenthesized e.opening (expression_of z) e.field-2) c.get.ensures
+    ∙ sym (ap expression_of e.is ∙ parenthesized_view e.opening e.inner e.field-2))
     (c.parenthesized.ensures e.field-2)
 
 pub returns-in-Subscript : goal.returns-in-Subscript
@@ -35,7 +36,8 @@ pub returns-in-Unary : goal.returns-in-Unary
 returns-in-Unary g c =
     let e = c.in-Unary in
     expression_typed _ _ _ _ _ _
-    (ap (λ z. t.unary e.operator e.at (expression_of z)) c.get-in-Unary.ensures ∙ sym (ap expression_of e.is ∙ unary_view e.operator e.at e.inner))
+    (ap (λ z. t.unary e.operator e.at (expression_of z)) c.get-in-Unary.ensures
+    ∙ sym (ap expression_of e.is ∙ unary_view e.operator e.at e.inner))
     c.unary.ensures
 
 pub returns-in-SizeofExpression : goal.returns-in-SizeofExpression

@@ -1,0 +1,11 @@
+-- Pieces of a format, one before others.
+use Rattle.std.proofs.Common.{ℕ, List, [], ◌∷◌}
+use Rattle.printing_routines.specs.declared.formats.Printed.{Printed}
+use Rattle.printing_routines.specs.declared.formats.Printed.TheVariants.{Byte, Number, String}
+use Rattle.printing_routines.specs.Printed.{ArePrintable}
+
+pub one_more : (t : ℕ) (p : Printed) (ps : List Printed) → ArePrintable t (p ∷ []) → ArePrintable t ps
+    → ArePrintable t (p ∷ ps)
+one_more t (Byte b) ps one others = others
+one_more t (Number d r) ps (is, low, _) others = (is, low, others)
+one_more t (String h) ps (low, _) others = (low, others)

@@ -1,0 +1,310 @@
+//! The code of routines over fixed registers: operands stand in the first, each from a multiple of five on.
+
+ghost use Rattle.std.specs.Prelude.{◌≤◌, ◌+◌, IfOk, [], ◌∷◌};
+ghost use Rattle.addr_map.specs.Places.{AreMapped};
+ghost use Rattle.printing_routines.specs.Printed.{ArePrintable};
+
+use crate::routine::{
+    Accessing, Allocating, Moving, Piece, Putting, Request, Routine, Strings, Testing,
+};
+use access_routines::{
+    HeldScalar, checked_load, checked_store, load, spatial_check, store, temporal_check,
+};
+use addr_map::AddrMap;
+use allocating_routines::{EntryRegisters, calloc, enter, free, leave, malloc, realloc, zero};
+use c_tree::Directive;
+use comparing_routines::{memcmp, strchr, strcmp};
+use flat_meaning::{FlatInstruction, RightOperand};
+use flat_routines::{Entry, Held};
+use moving_routines::{copy_structure, fill, memmove, memset, move_bytes, move_tagged};
+use printing_routines::{Printed, digits, numbers, printf};
+use sb_base::Line;
+use shadow_space::ShadowForm;
+use std::alloc::{AllocError, Global};
+use string_routines::{put_bytes, puts, scan, scan_at_most, strcat, strcpy, strlen, strncpy};
+
+const FIRST: Held = Held {
+    value: 0,
+    tag: Entry {
+        base: 1,
+        bound: 2,
+        key: 3,
+        lock: 4,
+    },
+};
+
+const SECOND: Held = Held {
+    value: 5,
+    tag: Entry {
+        base: 6,
+        bound: 7,
+        key: 8,
+        lock: 9,
+    },
+};
+
+/// The registers of a pointer that is given; of a word that is given the first.
+pub const RESULT: Held = Held {
+    value: 30,
+    tag: Entry {
+        base: 31,
+        bound: 32,
+        key: 33,
+        lock: 34,
+    },
+};
+
+// The registers that a block is entered with.
+const BLOCK: EntryRegisters = EntryRegisters {
+    first: 30,
+    end: 31,
+    key: 33,
+    lock: 34,
+};
+
+const THIRD: u32 = 10;
+
+/// The first register that a routine may use for itself.
+pub const SCRATCH: u32 = 40;
+
+fn line_of(number: u32) -> Line {
+    if number == 0 {
+        Line::first()
+    } else {
+        Line::new(number)
+    }
+}
+
+/// The code that a row asks for.
+pub fn code_of<S: ShadowForm>(
+    alloc: Global,
+    map: &AddrMap,
+    request: &Request,
+) -> Result<Vec<FlatInstruction>, AllocError>
+    requires map { AreMapped map.now }
+{
+    match request.routine {
+        Routine::Moving(moving) => moving_code::<S>(alloc, map, moving, request),
+        Routine::Strings(strings) => string_code::<S>(alloc, map, strings, request),
+        Routine::Putting(putting) => putting_code::<S>(alloc, map, putting, request),
+        Routine::Accessing(accessing) => accessing_code::<S>(alloc, map, accessing, request),
+        Routine::Testing(testing) => testing_code(alloc, testing, request),
+        Routine::Allocating(allocating) => allocating_code::<S>(alloc, map, allocating, request),
+    }
+}
+
+fn moving_code<S: ShadowForm>(
+    alloc: Global,
+    map: &AddrMap,
+    moving: Moving,
+    request: &Request,
+) -> Result<Vec<FlatInstruction>, AllocError>
+    requires map { AreMapped map.now }
+{
+    let line = line_of(request.line);
+    match moving {
+        Moving::Memmove => { memmove::<S>(alloc, map, FIRST, SECOND, THIRD, RESULT, line, SCRATCH) }
+        Moving::Memset => memset::<S>(alloc, map, FIRST, 5, THIRD, RESULT, line, SCRATCH),
+        Moving::CopyStructure => {
+            copy_structure::<S>(alloc, map, FIRST, SECOND, request.number, SCRATCH)
+        }
+        Moving::MoveBytes => move_bytes(alloc, map, 0, 5, THIRD, SCRATCH),
+        Moving::MoveTagged => move_tagged::<S>(alloc, map, 0, 5, THIRD, SCRATCH),
+        Moving::Fill => fill(alloc, map, 0, 5, THIRD, SCRATCH),
+    }
+}
+
+fn string_code<S: ShadowForm>(
+    alloc: Global,
+    map: &AddrMap,
+    strings: Strings,
+    request: &Request,
+) -> Result<Vec<FlatInstruction>, AllocError>
+    requires map { AreMapped map.now }
+{
+    let line = line_of(request.line);
+    match strings {
+        Strings::Strlen => strlen::<S>(alloc, map, FIRST, 30, line, SCRATCH),
+        Strings::Strcpy => strcpy::<S>(alloc, map, FIRST, SECOND, RESULT, line, SCRATCH),
+        Strings::Strcat => strcat::<S>(alloc, map, FIRST, SECOND, RESULT, line, SCRATCH),
+        Strings::Strncpy => {
+            strncpy::<S>(alloc, map, FIRST, SECOND, THIRD, RESULT, line, SCRATCH)
+        }
+        Strings::Strcmp => strcmp::<S>(alloc, map, FIRST, SECOND, 30, line, SCRATCH),
+        Strings::Strchr => strchr::<S>(alloc, map, FIRST, 5, RESULT, line, SCRATCH),
+        Strings::Memcmp => memcmp::<S>(alloc, map, FIRST, SECOND, THIRD, 30, line, SCRATCH),
+        Strings::Scan => scan::<S>(alloc, map, FIRST, 30, line, SCRATCH),
+        Strings::ScanAtMost => scan_at_most::<S>(alloc, map, FIRST, 30, line, 5, SCRATCH),
+    }
+}
+
+fn putting_code<S: ShadowForm>(
+    alloc: Global,
+    map: &AddrMap,
+    putting: Putting,
+    request: &Request,
+) -> Result<Vec<FlatInstruction>, AllocError>
+    requires map { AreMapped map.now }
+{
+    let line = line_of(request.line);
+    match putting {
+        Putting::Puts => puts::<S>(alloc, map, FIRST, 30, line, SCRATCH),
+        Putting::PutBytes => put_bytes(alloc, map, 0, 5, SCRATCH),
+        Putting::Printf => printf_code::<S>(alloc, map, &request.pieces, line),
+        Putting::Number => number_code(alloc, map, &request.pieces),
+        Putting::Digits => digits::base_instructions(alloc, request.number, 0, 30, SCRATCH),
+    }
+}
+
+fn number_code(
+    alloc: Global,
+    map: &AddrMap,
+    pieces: &[Piece],
+) -> Result<Vec<FlatInstruction>, AllocError> {
+    match pieces.first() {
+        Some(Piece::Argument(directive)) => {
+            numbers::number(alloc, map, *directive, 0, 30, SCRATCH)
+        }
+        _ => Ok(Vec::new(alloc)),
+    }
+}
+
+fn printf_code<S: ShadowForm>(
+    alloc: Global,
+    map: &AddrMap,
+    pieces: &[Piece],
+    line: Line,
+) -> Result<Vec<FlatInstruction>, AllocError>
+    requires map { AreMapped map.now }
+{
+    let first = printed(pieces, 0);
+    let second = printed(pieces, 1);
+    let third = printed(pieces, 2);
+    match pieces.len() {
+        0 => printf::<S>(alloc, map, &[], 30, line, SCRATCH),
+        1 => printf::<S>(alloc, map, &[first], 30, line, SCRATCH),
+        2 => printf::<S>(alloc, map, &[first, second], 30, line, SCRATCH),
+        3 => printf::<S>(alloc, map, &[first, second, third], 30, line, SCRATCH),
+        _ => long_printf_code::<S>(alloc, map, pieces, line),
+    }
+}
+
+fn long_printf_code<S: ShadowForm>(
+    alloc: Global,
+    map: &AddrMap,
+    pieces: &[Piece],
+    line: Line,
+) -> Result<Vec<FlatInstruction>, AllocError>
+    requires map { AreMapped map.now }
+{
+    let all = [
+        printed(pieces, 0),
+        printed(pieces, 1),
+        printed(pieces, 2),
+        printed(pieces, 3),
+        printed(pieces, 4),
+        printed(pieces, 5),
+    ];
+    printf::<S>(alloc, map, &all, 30, line, SCRATCH)
+}
+
+// A piece with the registers of the operand of its number; a byte of 0 behind the last piece.
+fn printed(pieces: &[Piece], index: u32) -> Printed
+    requires { index ≤ 5 }
+    ensures { ArePrintable 40 (result ∷ []) }
+{
+    let place = 5 * index;
+    match pieces.get(index as usize) {
+        Some(Piece::Byte(byte)) => Printed::Byte(*byte),
+        Some(Piece::Argument(Directive::String)) => Printed::String(Held {
+            value: place,
+            tag: Entry {
+                base: place + 1,
+                bound: place + 2,
+                key: place + 3,
+                lock: place + 4,
+            },
+        }),
+        Some(Piece::Argument(directive)) => Printed::Number(*directive, place),
+        None => Printed::Byte(0),
+    }
+}
+
+fn accessing_code<S: ShadowForm>(
+    alloc: Global,
+    map: &AddrMap,
+    accessing: Accessing,
+    request: &Request,
+) -> Result<Vec<FlatInstruction>, AllocError>
+    requires map { AreMapped map.now }
+{
+    let line = line_of(request.line);
+    match accessing {
+        Accessing::CheckedLoad => match request.of {
+            Some(of) => {
+                let into = HeldScalar::Integer(of, 30);
+                checked_load::<S>(alloc, map, FIRST, into, line, SCRATCH)
+            }
+            None => {
+                let into = HeldScalar::Pointer(RESULT);
+                checked_load::<S>(alloc, map, FIRST, into, line, SCRATCH)
+            }
+        },
+        Accessing::CheckedStore => match request.of {
+            Some(of) => {
+                let from = HeldScalar::Integer(of, 5);
+                checked_store::<S>(alloc, map, FIRST, from, line, SCRATCH)
+            }
+            None => {
+                let from = HeldScalar::Pointer(SECOND);
+                checked_store::<S>(alloc, map, FIRST, from, line, SCRATCH)
+            }
+        },
+        Accessing::Load => match request.of {
+            Some(of) => load::<S>(alloc, map, 0, HeldScalar::Integer(of, 30), SCRATCH),
+            None => load::<S>(alloc, map, 0, HeldScalar::Pointer(RESULT), SCRATCH),
+        },
+        Accessing::Store => match request.of {
+            Some(of) => store::<S>(alloc, map, 0, HeldScalar::Integer(of, 5), SCRATCH),
+            None => store::<S>(alloc, map, 0, HeldScalar::Pointer(SECOND), SCRATCH),
+        },
+    }
+}
+
+fn testing_code(
+    alloc: Global,
+    testing: Testing,
+    request: &Request,
+) -> Result<Vec<FlatInstruction>, AllocError> {
+    let line = line_of(request.line);
+    match testing {
+        Testing::SpatialCheck => {
+            spatial_check(alloc, FIRST, RightOperand::Register(5), line, SCRATCH)
+        }
+        Testing::SpatialCheckOfNumber => {
+            let size = RightOperand::Number(request.number);
+            spatial_check(alloc, FIRST, size, line, SCRATCH)
+        }
+        Testing::TemporalCheck => temporal_check(alloc, FIRST, line, SCRATCH),
+    }
+}
+
+fn allocating_code<S: ShadowForm>(
+    alloc: Global,
+    map: &AddrMap,
+    allocating: Allocating,
+    request: &Request,
+) -> Result<Vec<FlatInstruction>, AllocError>
+    requires map { AreMapped map.now }
+{
+    let line = line_of(request.line);
+    match allocating {
+        Allocating::Malloc => malloc::<S>(alloc, map, 0, RESULT, line, SCRATCH),
+        Allocating::Calloc => calloc::<S>(alloc, map, 0, 5, RESULT, line, SCRATCH),
+        Allocating::Realloc => realloc::<S>(alloc, map, FIRST, 5, RESULT, line, SCRATCH),
+        Allocating::Free => free::<S>(alloc, map, FIRST, line, SCRATCH),
+        Allocating::Enter => enter::<S>(alloc, map, 0, 5, BLOCK, line, SCRATCH),
+        Allocating::Leave => leave::<S>(alloc, map, 0, SCRATCH),
+        Allocating::Zero => zero::<S>(alloc, map, 0, 5, SCRATCH),
+    }
+}

@@ -1,9 +1,10 @@
 #!/usr/bin/env python3
-"""How the time and the memory of the back end's passes grow with a function: processor seconds (the best of three) and the greatest
-resident memory of `registers` and `generate`, by crates/code_generation_vectors, which does each behind those before it,
-and of `assemble`, by crates/rv_asm_vectors, over lists of as many items. Shapes: operators on few values; a name for each three
-instructions, which is used at once; a name for each three instructions, all of them needed to the end; calls with few values; as many
-calls as names that wait; and a name and a call for each four instructions. No memory below this script's own, some 17000 kB, is seen.
+"""How the time and the memory of the back end's passes grow with a function: processor seconds (the best of three) and
+the greatest resident memory of `registers` and `generate`, by crates/code_generation_vectors, which does each behind
+those before it, and of `assemble`, by crates/rv_asm_vectors, over lists of as many items. Shapes: operators on few
+values; a name for each three instructions, which is used at once; a name for each three instructions, all of them
+needed to the end; calls with few values; as many calls as names that wait; and a name and a call for each four
+instructions. No memory below this script's own, some 17000 kB, is seen.
 
 usage: python3 bench/code_growth.py     (both programs must be built: `rt run` in their folders)
 """
@@ -40,16 +41,19 @@ def names(count):
 
 def short_lived(count):
     """A name for each three instructions, which is used at once."""
-    return program(count // 3 + 1, ["constant 0 0"] + [f"fill {k} 1\nmix {k} 1 0" for k in range(1, count // 3 + 1)])
+    lines = [f"fill {k} 1\nmix {k} 1 0" for k in range(1, count // 3 + 1)]
+    return program(count // 3 + 1, ["constant 0 0"] + lines)
 
 
 def short_lived_and_calls(count):
     """A name and a call for each four instructions."""
-    return program(count // 4 + 1, ["constant 0 0"] + [f"fill {k} 1\ncall 1 {k} 0\nmix {k} 1 0" for k in range(1, count // 4 + 1)])
+    lines = [f"fill {k} 1\ncall 1 {k} 0\nmix {k} 1 0" for k in range(1, count // 4 + 1)]
+    return program(count // 4 + 1, ["constant 0 0"] + lines)
 
 
 def items(count):
-    return "label 0\n" + f"nops {count // 4 - 1}\njump 0\n" * 2 + f"nops {count // 2 - 2}\nlabel 1\nbeq 1 2 0\nbne 1 2 1\n"
+    jumps = f"nops {count // 4 - 1}\njump 0\n" * 2
+    return f"label 0\n{jumps}nops {count // 2 - 2}\nlabel 1\nbeq 1 2 0\nbne 1 2 1\n"
 
 
 def measured(words, path):
@@ -78,13 +82,13 @@ def main():
                 before, _, _ = best([GENERATOR, "test"], path)
                 plan, plan_memory, _ = best([GENERATOR, "plan"], path)
                 done, done_memory, said = best([GENERATOR, "generate"], path)
-                print(f"{shape.__name__:16} {count:8}  test {before:6.2f} s  registers {plan - before:6.2f} s {plan_memory:8} kB"
-                      f"  generate {done - plan:6.2f} s {done_memory:8} kB {said}")
+                print(f"{shape.__name__:21} {count:8}  test {before:6.2f} s  registers {plan - before:6.2f} s"
+                      f" {plan_memory:8} kB  generate {done - plan:6.2f} s {done_memory:8} kB {said}")
         for count in (10000, 100000, 1000000):
             with open(path, "w") as out:
                 out.write(items(count))
             seconds, memory, said = best([ASSEMBLER], path)
-            print(f"{'assemble':16} {count:8}  {seconds:6.2f} s {memory:8} kB {said}")
+            print(f"{'assemble':21} {count:8}  {seconds:6.2f} s {memory:8} kB {said}")
 
 
 main()

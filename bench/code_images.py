@@ -1,7 +1,7 @@
 #!/usr/bin/env python3
-"""Makes the images of the programs of crates/code_generation_vectors under both plans, and disassembles their two segments
-of code by riscv64-linux-gnu-objdump (Debian's binutils-riscv64-linux-gnu) and by crates/rv_isa_vectors: it prints how many
-instructions there are, of how many the texts agree, and the first that do not.
+"""Makes the images of the programs of crates/code_generation_vectors under both plans, and disassembles their two
+segments of code by riscv64-linux-gnu-objdump (Debian's binutils-riscv64-linux-gnu) and by crates/rv_isa_vectors: it
+prints how many instructions there are, of how many the texts agree, and the first that do not.
 
 usage: python3 bench/code_images.py     (both programs must be built: `rt run` in their folders)
 """

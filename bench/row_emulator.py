@@ -1,7 +1,7 @@
 #!/usr/bin/env python3
-"""Runs the images of the programs of crates/code_generation_vectors, under both plans, on qemu-riscv64 (Debian's qemu-user),
-and compares what they write, their reports and their statuses with what the crate's `stdout` says. QEMU reads the code that
-it runs, so the two segments of code, which may only be executed, are made readable for it.
+"""Runs the images of the programs of crates/code_generation_vectors, under both plans, on qemu-riscv64 (Debian's
+qemu-user), and compares what they write, their reports and their statuses with what the crate's `stdout` says. QEMU
+reads the code that it runs, so the two segments of code, which may only be executed, are made readable for it.
 
 usage: python3 bench/row_emulator.py     (the program must be built: `rt run` in crates/code_generation_vectors)
 """

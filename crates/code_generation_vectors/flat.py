@@ -1,7 +1,7 @@
 #!/usr/bin/env python3
 """Makes stdin and stdout of this program: programs of flat code, and what they do by the definitions of flat code
-(`flat_meaning/specs`) and of the operators (RISC-V unprivileged ISA manual, "RV32I", "RV64I" and "M"), which are written
-again here. Nothing of this repository's programs is asked.
+(`flat_meaning/specs`) and of the operators (RISC-V unprivileged ISA manual, "RV32I", "RV64I" and "M"), which are
+written again here. Nothing of this repository's programs is asked.
 
 usage: python3 crates/code_generation_vectors/flat.py make
 """
@@ -230,7 +230,8 @@ def memory():
 
 
 def outside():
-    echo = BEGIN + ["get 0", "blti 0 0 2", "put 0", "back 3", "move 3 0", "call 1 3 0", "get 3", "call 1 3 0", "turn", "exit 0"]
+    echo = BEGIN + ["get 0", "blti 0 0 2", "put 0", "back 3", "move 3 0", "call 1 3 0", "get 3", "call 1 3 0"]
+    echo += ["turn", "exit 0"]
     for names in (4, 300):
         yield f"echo_{names}", 65536, b"", [(f"0 0 {names} program", echo), SHOW]
         yield f"echo_bytes_{names}", 65536, bytes(range(256)), [(f"0 0 {names} program", echo), SHOW]
@@ -249,11 +250,12 @@ def calls():
     # a sum over a loop of calls by number, and by address, with values that wait in more places than registers
     for name, count in (("few_wait", 4), ("many_wait", 30), ("far_wait", 400)):
         caller = BEGIN + [f"fill 2 {count}", "constant 0 3", "constant 1 0"]
-        caller += ["turn", "move 500 0", "move 501 1", "call 2 500 502", f"add 1 502 503", "subi 0 0 1", "beqi 0 0 1", "back 7"]
+        caller += ["turn", "move 500 0", "move 501 1", "call 2 500 502", "add 1 502 503"]
+        caller += ["subi 0 0 1", "beqi 0 0 1", "back 7"]
         caller += [f"mix 2 {count} 1", "move 504 1", "call 1 504 0"] + END
         callee = [f"fill 2 {count}", f"mix 2 {count} 1", "mul 0 0 1", "return 0"]
         yield name, 65536, b"", [("0 0 505 program", caller), SHOW, (f"2 2 {2 + count} program", callee)]
-        by_address = [line.replace("call 2 500 502", f"address 505 500 2 502 2") for line in caller]
+        by_address = [line.replace("call 2 500 502", "address 505 500 2 502 2") for line in caller]
         by_address = BEGIN + [f"constant 505 {0x10000 + 32}"] + by_address[3:]
         yield name + "_by_address", 65536, b"", [("0 0 506 program", by_address), SHOW,
                                                  (f"2 2 {2 + count} program", callee)]
@@ -268,7 +270,8 @@ def calls():
         yield name, budget, b"", [("0 0 4 program", BEGIN + ["constant 2 0", "call 2 2 3", "call 1 3 0"] + END), SHOW,
                                   (f"1 1 {names} program", body)]
     # a recursion that ends with the report that a budget has no room
-    body = ["charged 1", "addi 2 1 48", "bltui 2 65537 1", "end 125 33", "addi 0 0 1", "put 0", "call 2 0 3", "return 3"]
+    body = ["charged 1", "addi 2 1 48", "bltui 2 65537 1", "end 125 33", "addi 0 0 1", "put 0", "call 2 0 3"]
+    body += ["return 3"]
     yield "no_room", 65536, b"", [("0 0 4 program", BEGIN + ["constant 2 0", "call 2 2 3"] + END), SHOW,
                                   ("1 1 5 program", body)]
     # many arguments and results
@@ -276,7 +279,7 @@ def calls():
         caller = BEGIN + [f"fill 0 {count}", f"call 2 0 {count}", f"constant {2 * count} 0",
                           f"mix 0 {2 * count} {2 * count}", f"move {2 * count + 1} {2 * count}",
                           f"call 1 {2 * count + 1} 0"] + END
-        callee = [f"constant {count} 7", f"mix 0 {count} {count}", f"move 0 {count}", f"return 0"]
+        callee = [f"constant {count} 7", f"mix 0 {count} {count}", f"move 0 {count}", "return 0"]
         yield f"arguments_{count}", 131072, b"", [(f"0 0 {2 * count + 2} program", caller), SHOW,
                                                   (f"{count} {count} {count + 1} program", callee)]
 
@@ -292,8 +295,8 @@ def large():
     body = BEGIN + ["constant 1 10", "constant 3 1", "fill 4 4", "turn", "sums 3 1 10000", "mix 4 4 3", "xori 3 3 1023",
                     "sums 3 4 10000", "subi 1 1 1", "beqi 1 0 1", "back 20012", "call 1 3 0"] + END
     yield "instructions_20000", 65536, b"", [("0 0 8 program", body), SHOW]
-    # Branches and jumps at the edges of what their forms reach: 1,024 words, and 262,143, where each form between is the
-    # longest. A branch has three words in that form and a jump two.
+    # Branches and jumps at the edges of what their forms reach: 1,024 words, and 262,143, each item between counted in
+    # its longest form, in which a branch has three words and a jump two.
     for count in (1019, 1020, 1021, 262138, 262139, 262140, 262141):
         far = ["constant 3 1", f"bnei 3 0 {count}", f"turns {count}", "addi 3 3 1", "call 1 3 0",
                "bgei 3 4 2", f"back {count + 3}"]
@@ -304,11 +307,12 @@ def large():
         yield f"back_{count}", 65536, b"", [("0 0 4 program", BEGIN + loop + END), SHOW]
     # the entry behind a function of more than 1 MiB
     long = ("1 1 2 program", ["forward 300000", "turns 300000", "addi 0 0 5", "return 0"])
-    yield "far_calls", 65536, b"", [long, SHOW, ("0 0 4 program", BEGIN + ["constant 3 4", "call 0 3 3", "call 1 3 0"] + END)]
+    caller = BEGIN + ["constant 3 4", "call 0 3 3", "call 1 3 0"] + END
+    yield "far_calls", 65536, b"", [long, SHOW, ("0 0 4 program", caller)]
 
 
 def refused():
-    """A value that no path makes, a name without a home, and two in one."""
+    """A value that no path makes, and names without homes."""
     yield "not_made", 65536, b"", [("0 0 4 program", BEGIN + ["put 0"] + END), SHOW]
     yield "no_home", 65536, b"", [("0 0 1 program", BEGIN + ["constant 1 0"] + END), SHOW]
     yield "past_homes", 65536, b"", [("0 0 1 program", BEGIN + ["constant 4294967295 0"] + END), SHOW]

@@ -1,5 +1,6 @@
 //! What the typing of a source comes to.
 
+use crate::statics::put_statics;
 use anyhow::{Result, bail};
 use c_lexer::{LexError, Tokens, lex};
 use c_parser::{ParseFault, parse};
@@ -13,6 +14,15 @@ use program_validity::is_valid;
 use sb_base::Line;
 use std::alloc::Global;
 use std::fmt::{self, Display, Formatter, Write};
+
+/// What is asked of a source.
+#[derive(Clone, Copy, PartialEq, Eq)]
+pub enum Question {
+    /// Which rule it violates, if any.
+    Rule,
+    /// What its static objects hold before a run, too.
+    Statics,
+}
 
 /// What the typing of a source comes to.
 #[derive(Clone, Copy)]
@@ -81,9 +91,17 @@ fn typed_verdict(alloc: Global, program: &Program) -> Result<Verdict> {
     Ok(Verdict::Typed { is_valid })
 }
 
-fn unit_verdict(alloc: Global, end: Line, unit: &Unit) -> Result<Verdict> {
-    match type_unit(alloc, end, unit) {
-        Ok(program) => typed_verdict(alloc, &program),
+// What a program that is typed comes to, by what is asked of it.
+fn asked_verdict(rt: &HostRuntime, question: Question, program: &Program) -> Result<Verdict> {
+    if question == Question::Statics {
+        put_statics(rt, program)?;
+    }
+    typed_verdict(rt.alloc(), program)
+}
+
+fn unit_verdict(rt: &HostRuntime, question: Question, end: Line, unit: &Unit) -> Result<Verdict> {
+    match type_unit(rt.alloc(), end, unit) {
+        Ok(program) => asked_verdict(rt, question, &program),
         Err(UnitRefusal::Fault(fault)) => Ok(Verdict::Fault(fault)),
         Err(UnitRefusal::TooLarge(which, count)) => Ok(Verdict::TooLarge(which, count)),
         Err(UnitRefusal::RoomTooLarge(number)) => bail!("function {number} has no room"),
@@ -91,15 +109,17 @@ fn unit_verdict(alloc: Global, end: Line, unit: &Unit) -> Result<Verdict> {
     }
 }
 
-fn tokens_verdict(alloc: Global, tokens: &Tokens) -> Result<Verdict> {
-    match parse(alloc, tokens) {
-        Ok(unit) => unit_verdict(alloc, tokens.end(), &unit),
+fn tokens_verdict(rt: &HostRuntime, question: Question, tokens: &Tokens) -> Result<Verdict> {
+    match parse(rt.alloc(), tokens) {
+        Ok(unit) => unit_verdict(rt, question, tokens.end(), &unit),
         Err(fault) => parse_verdict(fault),
     }
 }
 
-/// What the typing of a text comes to. An error: there is no memory, or the text is too long.
-pub fn verdict_of(alloc: Global, text: &[u8]) -> Result<Verdict> {
+/// What the typing of a text comes to. Where its static objects are asked for, and it is typed, they are printed. An
+/// error: there is no memory, or the text is too long.
+pub fn verdict_of(rt: &HostRuntime, question: Question, text: &[u8]) -> Result<Verdict> {
+    let alloc = rt.alloc();
     if text.len() > 1_048_576 {
         bail!("a text is too long");
     }
@@ -109,7 +129,7 @@ pub fn verdict_of(alloc: Global, text: &[u8]) -> Result<Verdict> {
         Err(LexError::Fault(fault)) => return Ok(Verdict::Lexical(fault.line)),
     };
     match expand(alloc, tokens) {
-        Ok(expanded) => tokens_verdict(alloc, &expanded),
+        Ok(expanded) => tokens_verdict(rt, question, &expanded),
         Err(PreError::Memory) => bail!("out of memory"),
         Err(PreError::Fault(fault)) => Ok(Verdict::Directive(fault.line)),
     }

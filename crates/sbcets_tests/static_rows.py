@@ -52,7 +52,7 @@ def parts(of):
 
 def scalar(draw, of):
     if of == "function*":
-        return draw.choice(["0", "f", "&f", "g", "*g"])
+        return draw.choice(["0", "f", "&f", "g", "&*g"])
     if of == "int*":
         return draw.choice(["0", "y", "&y[1]", "y+2", "&y[4]", "(int*)((char*)y+6)", "&*y", "(void*)0"])
     if of == "char*":

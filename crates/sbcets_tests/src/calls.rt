@@ -5,7 +5,7 @@ use anyhow::{Context, Result, bail};
 use sb_base::Budgets;
 use sb_base::budget::{DEFAULT_BLOCKS, DEFAULT_CALLS, DEFAULT_HEAP, DEFAULT_KEYS, DEFAULT_STACK};
 use sb_outside::{Files, MemFiles, MemSink, MemSource};
-use sbcets_core::{Counted, SourceRefusal, compile, sbcets};
+use sbcets_core::{Built, Counted, SourceRefusal, compile, sbcets};
 use std::alloc::Global;
 
 // How many bytes each file can take.
@@ -67,16 +67,23 @@ fn image_of_source(alloc: Global, case: &Case) -> Result<Vec<u8>> {
 // Prints what `compile` says of the source of a case that asks for it: the number of checks, or that it is too large.
 fn put_compiled(rt: &HostRuntime, case: &Case) -> Result<()> {
     match compile(rt.alloc(), &case.source, &budgets()?) {
-        Ok(built) => println!(rt; "compiled with {} checks", built.checks)?,
-        Err(
-            SourceRefusal::TooLarge {
-                which: Counted::Source,
-                count,
-            },
-        ) => {
-            println!(rt; "a source of {count} bytes")?;
-        }
-        Err(_) => println!(rt; "refused")?,
+        Ok(built) => put_checks(rt, &built),
+        Err(refusal) => put_refusal(rt, &refusal),
+    }
+}
+
+fn put_checks(rt: &HostRuntime, built: &Built) -> Result<()> {
+    println!(rt; "compiled with {} checks", built.checks)?;
+    Ok(())
+}
+
+fn put_refusal(rt: &HostRuntime, refusal: &SourceRefusal) -> Result<()> {
+    match refusal {
+        SourceRefusal::TooLarge {
+            which: Counted::Source,
+            count,
+        } => println!(rt; "a source of {count} bytes")?,
+        _ => println!(rt; "refused")?,
     }
     Ok(())
 }

@@ -69,12 +69,13 @@ fn put_object(rt: &HostRuntime, pointers: &Pointers, object: &StaticObject) -> R
     }
     match initial_bytes(rt.alloc(), pointers, object) {
         Ok(contents) => put_contents(rt, &contents),
-        Err(InitialFault::NotConstant(line)) => {
-            println!(rt; "not constant, line {}", line.number())?;
-            Ok(())
-        }
-        Err(InitialFault::Memory) => bail!("out of memory"),
+        Err(fault) => put_fault(rt, fault),
     }
+}
+
+fn put_fault(rt: &HostRuntime, fault: InitialFault) -> Result<()> {
+    println!(rt; "{fault:?}")?;
+    Ok(())
 }
 
 fn put_contents(rt: &HostRuntime, contents: &InitialObject) -> Result<()> {

@@ -30,24 +30,29 @@ def ran(words, given):
     return done.stdout, done.stderr, done.returncode
 
 
+def inputs(source):
+    """The inputs that stand beside a program: none where there is no file."""
+    for file in sorted(glob.glob(f"{source[:-1]}in") + glob.glob(f"{source[:-1]}*.in")):
+        with open(file, "rb") as it:
+            yield it.read()
+
+
 def main():
     same = count = 0
     with tempfile.TemporaryDirectory() as folder:
         for source in sorted(glob.glob(f"{TOP}/crates/sbcets_tests/programs/*.c") + glob.glob(f"{TOP}/examples/*.c")):
-            own, other, given = f"{folder}/own", f"{folder}/other", b""
+            own, other = f"{folder}/own", f"{folder}/other"
             subprocess.run([f"{TOP}/bin/sbcets", "build", source, own], check=True, stdout=subprocess.DEVNULL)
             with open(own, "rb") as image, open(other, "wb") as out:
                 out.write(readable(image.read()))
             os.chmod(other, 0o755)
-            if os.path.exists(source[:-1] + "in"):
-                with open(source[:-1] + "in", "rb") as it:
-                    given = it.read()
-            count += 1
-            if ran([f"{TOP}/bin/sbcets", "run", own], given) == ran(["qemu-riscv64", other], given):
-                same += 1
-            else:
-                print(os.path.basename(source))
-    print(f"{same} of {count} images do the same")
+            for given in list(inputs(source)) or [b""]:
+                count += 1
+                if ran([f"{TOP}/bin/sbcets", "run", own], given) == ran(["qemu-riscv64", other], given):
+                    same += 1
+                else:
+                    print(os.path.basename(source))
+    print(f"{same} of {count} runs do the same")
 
 
 main()

@@ -1,7 +1,7 @@
 #!/usr/bin/env python3
 """Makes stdin and stdout of this program by Debian's gcc and from cases.txt, and by nothing of this repository.
 
-The programs are those of programs/, each with its input beside it where it reads one, those of examples/, and the texts of
+The programs are those of programs/, each with its inputs beside it where it reads one, those of examples/, and the texts of
 rows/ that have integers alone, whose run C99 determines, and that write UTF-8. stdin has them one behind the other: the lines of a text, then a
 line `%<` and its input where it has one, and a line `%%` between each two. stdout has for each what gcc's program writes and its
 status (128 and the signal's number where a signal ends it).
@@ -42,8 +42,8 @@ def bytes_of(file):
 def texts():
     """The file and an input of each run."""
     for source in sorted(glob.glob(f"{HERE}/programs/*.c")):
-        given = source[:-1] + "in"
-        yield source, bytes_of(given) if os.path.exists(given) else b""
+        for given in sorted(glob.glob(f"{source[:-1]}in") + glob.glob(f"{source[:-1]}*.in")) or [None]:
+            yield source, bytes_of(given) if given else b""
     for name, inputs in EXAMPLES:
         for given in inputs:
             yield f"{TOP}/examples/{name}.c", given

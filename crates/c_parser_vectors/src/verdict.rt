@@ -4,8 +4,6 @@ use anyhow::{Result, bail};
 use c_lexer::{LexError, Tokens, lex};
 use c_parser::{ParseFault, UnsupportedWord, parse};
 use c_pre::{PreError, expand};
-use c_syntax::{Positioned, Unit, with_positions};
-use c_syntax_checks::words;
 use sb_base::Line;
 use std::alloc::Global;
 
@@ -63,27 +61,6 @@ pub fn tokens_of(alloc: Global, text: &[u8]) -> Result<Tokens<'_>> {
     }
 }
 
-fn are_same(words: &[Positioned], others: &[Positioned]) -> bool {
-    if words.len() != others.len() {
-        return false;
-    }
-    for (word, other) in words.iter().zip(others.iter()) {
-        if !word.kind.is(&other.kind) || word.position != other.position {
-            return false;
-        }
-    }
-    true
-}
-
-fn words_verdict(alloc: Global, tokens: &Tokens, unit: &Unit) -> Result<Verdict> {
-    let found = words(alloc, unit)?;
-    let given = with_positions(alloc, tokens.as_slice())?;
-    if !are_same(found.as_slice(), given.as_slice()) {
-        bail!("the tree has other words than the text");
-    }
-    Ok(Verdict::Accepted)
-}
-
 fn refusal(fault: ParseFault) -> Result<Verdict> {
     match fault {
         ParseFault::Memory => bail!("out of memory"),
@@ -93,26 +70,11 @@ fn refusal(fault: ParseFault) -> Result<Verdict> {
     }
 }
 
-fn verdict_on(alloc: Global, tokens: &Tokens) -> Result<Verdict> {
-    match parse(alloc, tokens) {
-        Ok(unit) => words_verdict(alloc, tokens, &unit),
-        Err(fault) => refusal(fault),
-    }
-}
-
-fn test_again(alloc: Global, tokens: &Tokens, first: &Verdict) -> Result<()> {
-    let second = verdict_on(alloc, tokens)?;
-    if first.name() != second.name() {
-        bail!("the text is read otherwise the second time");
-    }
-    Ok(())
-}
-
-/// What the parser says of a text. An error: there is no memory, the text has no tokens or faulty directives, its tree
-/// has other words, or it is read otherwise the second time.
+/// What the parser says of a text. An error: there is no memory, or the text has no tokens or faulty directives.
 pub fn verdict_of(alloc: Global, text: &[u8]) -> Result<Verdict> {
     let tokens = tokens_of(alloc, text)?;
-    let first = verdict_on(alloc, &tokens)?;
-    test_again(alloc, &tokens, &first)?;
-    Ok(first)
+    match parse(alloc, &tokens) {
+        Ok(_unit) => Ok(Verdict::Accepted),
+        Err(fault) => refusal(fault),
+    }
 }

@@ -55,4 +55,5 @@ def main():
     print(f"{same} of {count} runs do the same")
 
 
-main()
+if __name__ == "__main__":
+    main()

@@ -7,23 +7,13 @@ usage: python3 bench/row_emulator.py     (the program must be built: `rt run` in
 """
 
 import os
-import struct
 import subprocess
 import sys
 import tempfile
 
 sys.dont_write_bytecode = True
 from code_images import ROWS, programs
-
-
-def readable(image):
-    """An image whose segments that may only be executed can be read too."""
-    image = bytearray(image)
-    for header in range(64, 64 + 4 * 56, 56):
-        flags, = struct.unpack_from("<I", image, header + 4)
-        if flags == 1:
-            struct.pack_into("<I", image, header + 4, 5)
-    return image
+from other_emulator import readable
 
 
 def shown(path, given):

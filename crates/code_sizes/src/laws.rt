@@ -25,8 +25,9 @@ pub fn programs_have_few_bytes()
         → code_bytes m p plans ≤ 4 * most_below p (length p.functions) }
 {}
 
-/// Code is not too large where calls hand over and give back at most so many values, and the instructions and functions
-/// are so few: with five values 12,000 instructions in 4,000 functions.
+/// Code is not too large where calls hand over and give back at most so many values, no report takes more words than such
+/// a call, and the instructions and functions are so few: with five values, and so reports of at most 36 bytes, 12,000
+/// instructions in 4,000 functions.
 pub fn short_programs_are_not_too_large()
     ensures { (m : MapSizes) (p : FlatProgram) (plans : List FunctionPlan) (values bytes : ℕ) → AreAccepted p plans
         → HandsOver p values

@@ -1,6 +1,7 @@
 //! `printf`.
 
-ghost use Rattle.std.specs.Prelude.{◌≡◌, ℕ, ◌+◌, ◌*◌, ◌≤◌, ◌<◌, ◌^◌, ◌++◌, IfOk, OnOk, List, [], ◌∷◌, Some, length};
+ghost use Rattle.std.specs.Prelude.{◌≡◌, ℕ, ◌+◌, ◌*◌, ◌≤◌, ◌<◌, ◌^◌, ◌++◌};
+ghost use Rattle.std.specs.Prelude.{IfOk, OnOk, List, [], ◌∷◌, Some, length};
 ghost use Rattle.addr_map.specs.Places.{AreMapped};
 ghost use Rattle.c_tree.specs.Format.{pieces};
 ghost use Rattle.source_meaning.specs.Printing.{print_formatted};

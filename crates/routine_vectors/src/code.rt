@@ -5,7 +5,7 @@ ghost use Rattle.addr_map.specs.Places.{AreMapped};
 ghost use Rattle.printing_routines.specs.Printed.{ArePrintable};
 
 use crate::routine::{
-    Accessing, Allocating, Moving, Piece, Putting, Request, Routine, Strings, Testing,
+    Accessing, Allocating, Moving, Piece, Putting, Routine, RoutineCall, Strings, Testing,
 };
 use access_routines::{
     HeldScalar, checked_load, checked_store, load, spatial_check, store, temporal_check,
@@ -79,17 +79,17 @@ fn line_of(number: u32) -> Line {
 pub fn code_of<S: ShadowForm>(
     alloc: Global,
     map: &AddrMap,
-    request: &Request,
+    call: &RoutineCall,
 ) -> Result<Vec<FlatInstruction>, AllocError>
     requires map { AreMapped map.now }
 {
-    match request.routine {
-        Routine::Moving(moving) => moving_code::<S>(alloc, map, moving, request),
-        Routine::Strings(strings) => string_code::<S>(alloc, map, strings, request),
-        Routine::Putting(putting) => putting_code::<S>(alloc, map, putting, request),
-        Routine::Accessing(accessing) => accessing_code::<S>(alloc, map, accessing, request),
-        Routine::Testing(testing) => testing_code(alloc, testing, request),
-        Routine::Allocating(allocating) => allocating_code::<S>(alloc, map, allocating, request),
+    match call.routine {
+        Routine::Moving(moving) => moving_code::<S>(alloc, map, moving, call),
+        Routine::Strings(strings) => string_code::<S>(alloc, map, strings, call),
+        Routine::Putting(putting) => putting_code::<S>(alloc, map, putting, call),
+        Routine::Accessing(accessing) => accessing_code::<S>(alloc, map, accessing, call),
+        Routine::Testing(testing) => testing_code(alloc, testing, call),
+        Routine::Allocating(allocating) => allocating_code::<S>(alloc, map, allocating, call),
     }
 }
 
@@ -97,16 +97,16 @@ fn moving_code<S: ShadowForm>(
     alloc: Global,
     map: &AddrMap,
     moving: Moving,
-    request: &Request,
+    call: &RoutineCall,
 ) -> Result<Vec<FlatInstruction>, AllocError>
     requires map { AreMapped map.now }
 {
-    let line = line_of(request.line);
+    let line = line_of(call.line);
     match moving {
         Moving::Memmove => { memmove::<S>(alloc, map, FIRST, SECOND, THIRD, RESULT, line, SCRATCH) }
         Moving::Memset => memset::<S>(alloc, map, FIRST, 5, THIRD, RESULT, line, SCRATCH),
         Moving::CopyStructure => {
-            copy_structure::<S>(alloc, map, FIRST, SECOND, request.number, SCRATCH)
+            copy_structure::<S>(alloc, map, FIRST, SECOND, call.number, SCRATCH)
         }
         Moving::MoveBytes => move_bytes(alloc, map, 0, 5, THIRD, SCRATCH),
         Moving::MoveTagged => move_tagged::<S>(alloc, map, 0, 5, THIRD, SCRATCH),
@@ -118,11 +118,11 @@ fn string_code<S: ShadowForm>(
     alloc: Global,
     map: &AddrMap,
     strings: Strings,
-    request: &Request,
+    call: &RoutineCall,
 ) -> Result<Vec<FlatInstruction>, AllocError>
     requires map { AreMapped map.now }
 {
-    let line = line_of(request.line);
+    let line = line_of(call.line);
     match strings {
         Strings::Strlen => strlen::<S>(alloc, map, FIRST, 30, line, SCRATCH),
         Strings::Strcpy => strcpy::<S>(alloc, map, FIRST, SECOND, RESULT, line, SCRATCH),
@@ -142,17 +142,17 @@ fn putting_code<S: ShadowForm>(
     alloc: Global,
     map: &AddrMap,
     putting: Putting,
-    request: &Request,
+    call: &RoutineCall,
 ) -> Result<Vec<FlatInstruction>, AllocError>
     requires map { AreMapped map.now }
 {
-    let line = line_of(request.line);
+    let line = line_of(call.line);
     match putting {
         Putting::Puts => puts::<S>(alloc, map, FIRST, 30, line, SCRATCH),
         Putting::PutBytes => put_bytes(alloc, map, 0, 5, SCRATCH),
-        Putting::Printf => printf_code::<S>(alloc, map, &request.pieces, line),
-        Putting::Number => number_code(alloc, map, &request.pieces),
-        Putting::Digits => digits::base_instructions(alloc, request.number, 0, 30, SCRATCH),
+        Putting::Printf => printf_code::<S>(alloc, map, &call.pieces, line),
+        Putting::Number => number_code(alloc, map, &call.pieces),
+        Putting::Digits => digits::base_instructions(alloc, call.number, 0, 30, SCRATCH),
     }
 }
 
@@ -234,13 +234,13 @@ fn accessing_code<S: ShadowForm>(
     alloc: Global,
     map: &AddrMap,
     accessing: Accessing,
-    request: &Request,
+    call: &RoutineCall,
 ) -> Result<Vec<FlatInstruction>, AllocError>
     requires map { AreMapped map.now }
 {
-    let line = line_of(request.line);
+    let line = line_of(call.line);
     match accessing {
-        Accessing::CheckedLoad => match request.of {
+        Accessing::CheckedLoad => match call.of {
             Some(of) => {
                 let into = HeldScalar::Integer(of, 30);
                 checked_load::<S>(alloc, map, FIRST, into, line, SCRATCH)
@@ -250,7 +250,7 @@ fn accessing_code<S: ShadowForm>(
                 checked_load::<S>(alloc, map, FIRST, into, line, SCRATCH)
             }
         },
-        Accessing::CheckedStore => match request.of {
+        Accessing::CheckedStore => match call.of {
             Some(of) => {
                 let from = HeldScalar::Integer(of, 5);
                 checked_store::<S>(alloc, map, FIRST, from, line, SCRATCH)
@@ -260,11 +260,11 @@ fn accessing_code<S: ShadowForm>(
                 checked_store::<S>(alloc, map, FIRST, from, line, SCRATCH)
             }
         },
-        Accessing::Load => match request.of {
+        Accessing::Load => match call.of {
             Some(of) => load::<S>(alloc, map, 0, HeldScalar::Integer(of, 30), SCRATCH),
             None => load::<S>(alloc, map, 0, HeldScalar::Pointer(RESULT), SCRATCH),
         },
-        Accessing::Store => match request.of {
+        Accessing::Store => match call.of {
             Some(of) => store::<S>(alloc, map, 0, HeldScalar::Integer(of, 5), SCRATCH),
             None => store::<S>(alloc, map, 0, HeldScalar::Pointer(SECOND), SCRATCH),
         },
@@ -274,15 +274,15 @@ fn accessing_code<S: ShadowForm>(
 fn testing_code(
     alloc: Global,
     testing: Testing,
-    request: &Request,
+    call: &RoutineCall,
 ) -> Result<Vec<FlatInstruction>, AllocError> {
-    let line = line_of(request.line);
+    let line = line_of(call.line);
     match testing {
         Testing::SpatialCheck => {
             spatial_check(alloc, FIRST, RightOperand::Register(5), line, SCRATCH)
         }
         Testing::SpatialCheckOfNumber => {
-            let size = RightOperand::Number(request.number);
+            let size = RightOperand::Number(call.number);
             spatial_check(alloc, FIRST, size, line, SCRATCH)
         }
         Testing::TemporalCheck => temporal_check(alloc, FIRST, line, SCRATCH),
@@ -293,11 +293,11 @@ fn allocating_code<S: ShadowForm>(
     alloc: Global,
     map: &AddrMap,
     allocating: Allocating,
-    request: &Request,
+    call: &RoutineCall,
 ) -> Result<Vec<FlatInstruction>, AllocError>
     requires map { AreMapped map.now }
 {
-    let line = line_of(request.line);
+    let line = line_of(call.line);
     match allocating {
         Allocating::Malloc => malloc::<S>(alloc, map, 0, RESULT, line, SCRATCH),
         Allocating::Calloc => calloc::<S>(alloc, map, 0, 5, RESULT, line, SCRATCH),

@@ -181,7 +181,7 @@ pub enum Piece {
 
 /// What a row asks for: operands stand in registers, these beside them are parts of the code.
 #[derive(Drop)]
-pub struct Request {
+pub struct RoutineCall {
     pub routine: Routine,
     pub line: u32,
     /// How many steps are promised at most.
@@ -206,7 +206,7 @@ pub enum Given {
     Block,
 }
 
-impl Request {
+impl RoutineCall {
     /// What it gives.
     pub fn given(&self) -> Given {
         match self.routine {

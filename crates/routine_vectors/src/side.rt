@@ -7,7 +7,7 @@ use crate::code::{RESULT, SCRATCH, code_of};
 use crate::machine::{Left, Machine};
 use crate::memory::Memory;
 use crate::objects::{Metadata, Object, Objects, hexadecimal};
-use crate::routine::{Given, Piece, Request, directive_named, routine_named, type_named};
+use crate::routine::{Given, Piece, RoutineCall, directive_named, routine_named, type_named};
 use crate::shown::{write_given, write_left, write_registers, write_shown, write_steps};
 use addr_map::{AddrMap, Region};
 use anyhow::{Context, Result, bail};
@@ -103,11 +103,12 @@ impl Side {
         Ok(machine)
     }
 
-    // Puts an operand of a row into the registers from a place on, or into the request, and gives how many it takes.
+    // Puts an operand of a row into the registers from a place on, or into the call where it is a part of the code, and
+    // gives how many registers it takes.
     fn put_operand(
         &self,
         machine: &mut Machine,
-        request: &mut Request,
+        call: &mut RoutineCall,
         place: u32,
         word: &str,
     ) -> Result<u32> {
@@ -121,11 +122,11 @@ impl Side {
             machine.set(place, self.lock_of(number)?);
             return Ok(5);
         }
-        if put_part(request, word)? {
+        if put_part(call, word)? {
             return Ok(if word.starts_with(".") { 5 } else { 0 });
         }
         let number = hexadecimal(word).context("a number")?;
-        request.number = number;
+        call.number = number;
         machine.set(place, number);
         Ok(5)
     }
@@ -142,12 +143,12 @@ impl Side {
     }
 
     // What a line asks for, and a machine with its operands.
-    fn requested(&self, alloc: Global, line: &str) -> Result<(Request, Machine)> {
+    fn call_of(&self, alloc: Global, line: &str) -> Result<(RoutineCall, Machine)> {
         let mut words = line.split(' ');
         let name = words.next().context("a routine")?;
         let number = words.next().and_then(hexadecimal).context("a line")?;
         let limit = words.next().and_then(hexadecimal).context("a limit")?;
-        let mut request = Request {
+        let mut call = RoutineCall {
             routine: routine_named(name).context("no routine")?,
             line: u32::try_from(number)?,
             limit,
@@ -158,10 +159,10 @@ impl Side {
         let mut machine = self.prepared(alloc)?;
         let mut place = 0u32;
         for word in words {
-            let taken = self.put_operand(&mut machine, &mut request, place, word)?;
+            let taken = self.put_operand(&mut machine, &mut call, place, word)?;
             place = place.saturating_add(taken);
         }
-        Ok((request, machine))
+        Ok((call, machine))
     }
 
     /// Does what a line asks for, and tells what came of it. The memory is left so where it is kept.
@@ -174,23 +175,23 @@ impl Side {
     ) -> Result<String>
         requires map { AreMapped map.now }
     {
-        let (request, mut after) = self.requested(alloc, line)?;
-        let code = code_of::<S>(alloc, map, &request)?;
+        let (call, mut after) = self.call_of(alloc, line)?;
+        let code = code_of::<S>(alloc, map, &call)?;
         let read = S::read_entry(alloc, map, 0, RESULT.tag, SCRATCH)?;
         let operands = after.values;
         let left = after.run(&code)?;
         let mut text = String::new(alloc);
         write_left(&mut text, left, &after.report)?;
         if left == Left::Past {
-            let given = request.given();
+            let given = call.given();
             write_given(&mut text, &self.objects, given, &after)?;
             write_registers(&mut text, given, &operands, &after.values)?;
         }
-        write_shown(&mut text, request.is_of_program(), &after)?;
-        write_steps(&mut text, after.steps, request.limit)?;
+        write_shown(&mut text, call.is_of_program(), &after)?;
+        write_steps(&mut text, after.steps, call.limit)?;
         let (key, lock) = (after.value(RESULT.tag.key), after.value(RESULT.tag.lock));
         if left == Left::Past {
-            self.write_changes(&mut text, map, request.given(), &mut after, &read)?;
+            self.write_changes(&mut text, map, call.given(), &mut after, &read)?;
         }
         if is_kept {
             self.key = key;
@@ -228,16 +229,16 @@ fn born_range(given: Given, after: &Machine) -> (u64, u64) {
     }
 }
 
-// Puts a word that is a part of the code into the request, if it is one.
-fn put_part(request: &mut Request, word: &str) -> Result<bool> {
+// Puts a word of a row into the call, if it is a part of the code.
+fn put_part(call: &mut RoutineCall, word: &str) -> Result<bool> {
     if let Some(name) = word.strip_prefix(":") {
-        request.of = Some(type_named(name).context("a type")?);
+        call.of = Some(type_named(name).context("a type")?);
     } else if let Some(name) = word.strip_prefix("%") {
         let directive = directive_named(name).context("a directive")?;
-        request.pieces.push(Piece::Argument(directive))?;
+        call.pieces.push(Piece::Argument(directive))?;
     } else if let Some(digits) = word.strip_prefix(".") {
         let byte = hexadecimal(digits).context("a byte")?;
-        request.pieces.push(Piece::Byte((byte & 0xff) as u8))?;
+        call.pieces.push(Piece::Byte((byte & 0xff) as u8))?;
     } else {
         return Ok(false);
     }

@@ -11,6 +11,8 @@ import sys
 
 EDGES = [0, 1, 0x7fffffff, 0x80000000, 0xffffffff, 0x123456789abcdef1, 2 ** 63 - 1, 2 ** 63, 2 ** 63 + 1,
          2 ** 64 - 2 ** 31, 2 ** 64 - 1]
+# numbers about those that fit an instruction themselves
+NUMBERS = [31, 32, 63, 64, 2047, 2048, 2049, 2 ** 64 - 2049, 2 ** 64 - 2048, 2 ** 64 - 2047]
 OPERATORS = "add sub sll slt sltu xor srl sra or and mul mulh mulhsu mulhu div divu rem remu".split()
 OPERATORS_32 = "addw subw sllw srlw sraw mulw divw divuw remw remuw".split()
 CONDITIONS = "beq bne blt bge bltu bgeu".split()
@@ -63,7 +65,7 @@ def expanded(lines):
             op = words[0]
             for left in EDGES:
                 yield from [("constant", 0, left), ("constant", 3, 0)]
-                for edge in EDGES:
+                for edge in EDGES + (NUMBERS if op.endswith("i") else []):
                     right = edge if op.endswith("i") else 1
                     yield ("constant", 1, edge)
                     if op in CONDITIONS or op[:-1] in CONDITIONS:

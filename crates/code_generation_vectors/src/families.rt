@@ -23,6 +23,21 @@ const EDGES: [u64; 11] = [
     0xffff_ffff_ffff_ffff,
 ];
 
+/// Numbers about those that fit an instruction themselves: shifts by less than 32 and 64, and immediates of -2048 to
+/// 2047.
+const NUMBERS: [u64; 10] = [
+    31,
+    32,
+    63,
+    64,
+    2047,
+    2048,
+    2049,
+    0xffff_ffff_ffff_f7ff,
+    0xffff_ffff_ffff_f800,
+    0xffff_ffff_ffff_f801,
+];
+
 /// The instructions of a function so far. The function that shows a word has the number 1 and takes it as its argument.
 #[derive(Drop)]
 pub struct Body {
@@ -158,13 +173,23 @@ impl Body {
         Ok(())
     }
 
-    // It is tried with one left operand and each edge on the right, and what was mixed is shown.
+    // It is tried with the left operand and each of these on the right.
+    fn try_each(&mut self, name: &str, rights: &[u64]) -> Result<()> {
+        for edge in rights {
+            self.constant(1, *edge)?;
+            self.tried(name, *edge)?;
+        }
+        Ok(())
+    }
+
+    // It is tried with one left operand and each edge on the right, also with each number where it takes one, and what
+    // was mixed is shown.
     fn try_left(&mut self, name: &str, left: u64) -> Result<()> {
         self.constant(0, left)?;
         self.constant(3, 0)?;
-        for edge in EDGES {
-            self.constant(1, edge)?;
-            self.tried(name, edge)?;
+        self.try_each(name, &EDGES)?;
+        if name.ends_with('i') {
+            self.try_each(name, &NUMBERS)?;
         }
         self.show()?;
         Ok(())

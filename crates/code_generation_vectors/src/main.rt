@@ -1,7 +1,7 @@
 //! Runs programs of flat code as images. Standard input has programs, with a line `%%` between each two. The first line
 //! of one has its name, its budget `calls`, the number of its entry, and the bytes of its input in hexadecimal digits.
-//! Each function begins with a line `function PARAMETERS RESULTS NAMES program` or `.. runtime`, and has its instructions
-//! behind it, one a line, or a family of instructions with a count (`families`).
+//! Each function begins with a line `function PARAMETERS RESULTS NAMES program` or `.. runtime`, and has its
+//! instructions behind it, one a line, or a family of instructions with a count (`families`).
 //!
 //! Each program is generated under the plan that keeps all values in their homes and under the one that gives out
 //! registers, and both images run on the simulator. One line tells what they do: the status, the output in hexadecimal

@@ -2,10 +2,10 @@
 use Rattle.std.proofs.Common.{◌≡◌, ◌≢◌, ℕ, ◌+◌, ◌⊎◌, inl, inr, ⊎_elim, List, [], ◌∷◌, ◌++◌, length, Some, Bool, true}
 use Rattle.std.proofs.Common.{false, not, refl, sym, ap, ◌∙◌, subst, arith, true≢false, if◌then◌else◌, length-append}
 use Rattle.std.specs.Prelude.{slice_get}
-use Rattle.std.proofs.lemmas.Bool.{cases_eq, cases_lt}
+use Rattle.std.proofs.lemmas.Bool.{cases_eq}
 use Rattle.data_flow.specs.declared.node_set.NodeSet.{NodeSet}
 use Rattle.data_flow.specs.Relations.{Has}
-use Rattle.data_flow.specs.NodeSets.{is_in, absent, Lists, Visits, VisitsAll}
+use Rattle.data_flow.specs.NodeSets.{is_in, absent, Lists, Visits}
 use Rattle.data_flow.proofs.Lists.{at_front, at_end, at_cases}
 
 pub cases_of : (b : Bool) → (b ≡ true) ⊎ (b ≡ false)
@@ -66,46 +66,3 @@ visits_old s s' nodes nodes' v new l was here others fewer is e =
     by false h = absurd (true≢false h)
 
 pub ruleset visiting = (visits_new, visits_old)
-
--- no node yet
-pub visits_none : (but s : NodeSet) (visited nodes : List ℕ) → Lists s nodes → VisitsAll but visited 0 s s nodes nodes
-visits_none but s visited nodes l = record {
-  lists = l;
-  kept = λ k x h. h;
-  has = λ k x lt h f. absurd (omega arith);
-  new = λ k x h. inl h;
-  total = refl;
-}
-
--- one node more
-pub visits_more : (but s0 s s' : NodeSet) (visited : List ℕ) (i v : ℕ) (nodes0 nodes nodes' : List ℕ)
-    → slice_get visited i ≡ Some v → VisitsAll but visited i s0 s nodes0 nodes
-    → (is_in but v ≡ false → Visits s s' nodes nodes' v) → (is_in but v ≡ true → (s' ≡ s) × (nodes' ≡ nodes))
-    → VisitsAll but visited (i + 1) s0 s' nodes0 nodes'
-visits_more but s0 s s' visited i v nodes0 nodes nodes' here a visits stays = ⊎_elim
-    (λ yes'. let e = stays yes' in record {
-      lists = subst (λ z. Lists z nodes') (sym e.0) (subst (λ z. Lists s z) (sym e.1) a.lists);
-      kept = λ k x h. ap (λ xs. slice_get xs k) e.1 ∙ a.kept k x h;
-      has = λ k x lt h f. ⊎_elim
-          (λ low. subst (λ xs. Has xs x) (sym e.1) (a.has k x low h f))
-          (λ high. absurd (true≢false
-          (sym yes' ∙ (let same : k ≡ i = omega arith in let q : Some v ≡ Some x = sym here
-          ∙ ap (slice_get visited) (sym same) ∙ h in let r : v ≡ x = cc in ap (is_in but) r ∙ f))))
-          (cases_lt k i);
-      new = λ k x h. a.new k x (ap (λ xs. slice_get xs k) (sym e.1) ∙ h);
-      total = let f : absent s' ≡ absent s = ap absent e.0 in let g : length nodes'
-          ≡ length nodes = ap length e.1 in omega (arith, f, g, a.total);
-    })
-    (λ no'. let w = visits no' in record {
-      lists = w.lists;
-      kept = λ k x h. w.kept k x (a.kept k x h);
-      has = λ k x lt h f. ⊎_elim
-          (λ low. let o = a.has k x low h f in (o.0, w.kept o.0 x o.1))
-          (λ high. let same : k ≡ i = omega arith in let q : Some v ≡ Some x = sym here
-          ∙ ap (slice_get visited) (sym same) ∙ h in let r : v ≡ x = cc in subst (Has nodes') r w.has)
-          (cases_lt k i);
-      new = λ k x h. ⊎_elim (λ q. a.new k x q)
-          (λ q. inr (subst (Has visited) (sym q) (i, here), ap (is_in but) q ∙ no')) (w.new k x h);
-      total = w.total ∙ a.total;
-    })
-    (cases_of (is_in but v))

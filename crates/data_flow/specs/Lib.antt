@@ -1,3 +1,4 @@
 pub mod Relations
 pub mod NodeSets
 pub mod Reached
+pub mod Runs

@@ -1,5 +1,5 @@
 -- Sets of nodes that are emptied at once.
-use Rattle.std.specs.Prelude.{◌≡◌, ℕ, ◌+◌, ◌<◌, ◌⊎◌, List, [], ◌∷◌, Bool, true, false, if◌then◌else◌, nat_eq}
+use Rattle.std.specs.Prelude.{◌≡◌, ℕ, ◌+◌, ◌⊎◌, List, [], ◌∷◌, Bool, true, if◌then◌else◌, nat_eq}
 use Rattle.std.specs.Prelude.{slice_index, slice_get, Some, length}
 use Rattle.data_flow.specs.declared.node_set.NodeSet.{NodeSet}
 use Rattle.data_flow.specs.Relations.{Has}
@@ -31,14 +31,4 @@ pub record Visits (s s' : NodeSet) (nodes nodes' : List ℕ) (v : ℕ) : Type 0 
   pub kept : (k x : ℕ) → slice_get nodes k ≡ Some x → slice_get nodes' k ≡ Some x
   pub has : Has nodes' v
   pub new : (k x : ℕ) → slice_get nodes' k ≡ Some x → (slice_get nodes k ≡ Some x) ⊎ (x ≡ v)
-  pub total : absent s' + length nodes' ≡ absent s + length nodes
-
--- The first of a list, so many, are visited, but for those in another set.
-pub record VisitsAll (but : NodeSet) (visited : List ℕ) (count : ℕ) (s s' : NodeSet) (nodes nodes' : List ℕ) : Type
-    0 where
-  pub lists : Lists s' nodes'
-  pub kept : (k x : ℕ) → slice_get nodes k ≡ Some x → slice_get nodes' k ≡ Some x
-  pub has : (k x : ℕ) → k < count → slice_get visited k ≡ Some x → is_in but x ≡ false → Has nodes' x
-  pub new : (k x : ℕ) → slice_get nodes' k ≡ Some x
-      → (slice_get nodes k ≡ Some x) ⊎ (Has visited x × (is_in but x ≡ false))
   pub total : absent s' + length nodes' ≡ absent s + length nodes

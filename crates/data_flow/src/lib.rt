@@ -7,8 +7,10 @@
 
 pub mod node_set;
 pub mod relation;
+pub mod runs;
 pub mod solver;
 
 pub use crate::node_set::NodeSet;
 pub use crate::relation::Relation;
-pub use crate::solver::least_solution;
+pub use crate::runs::{Run, run_starts};
+pub use crate::solver::least_runs;

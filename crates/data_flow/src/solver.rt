@@ -1,12 +1,16 @@
-//! Least solutions, one fact at a time, by a worklist.
+//! Least solutions, one fact at a time, by a worklist of runs of nodes.
 
-ghost use Rattle.std.specs.Prelude.{◌≡◌, ◌<◌, ◌≤◌, ◌⊎◌, ◌↔◌, ℕ, IfOk, OnOk, length, true, false};
+ghost use Rattle.std.specs.Prelude.{◌≡◌, ◌<◌, ◌≤◌, ◌⊎◌, ℕ, IfOk, OnOk, length, slice_get, Some, true, false};
 ghost use Rattle.data_flow.specs.Relations.{Has, IsRelated};
-ghost use Rattle.data_flow.specs.NodeSets.{is_in, node_count, Lists, Visits, VisitsAll};
+ghost use Rattle.data_flow.specs.NodeSets.{is_in, node_count, Lists, Visits};
+ghost use Rattle.data_flow.specs.declared.runs.Run.{Run};
+ghost use Rattle.data_flow.specs.Runs.{HasStarts, AreFound, Grows, is_covered};
+ghost use Rattle.std.specs.List.Sorted.{IsNonDecreasing};
 ghost use Rattle.data_flow.specs.Reached.{IsReached, AreBelow, LeadsBelow};
 
 use crate::node_set::NodeSet;
 use crate::relation::Relation;
+use crate::runs::{Run, run_start};
 use std::alloc::{AllocError, Global};
 
 // Puts a node into the set and behind its list, unless it is there.
@@ -23,46 +27,104 @@ fn visit(set: &mut NodeSet, list: &mut Vec<u32>, node: u32) -> Result<(), AllocE
     Ok(())
 }
 
-// Visits the nodes that are not in `but`.
-fn visit_all(
-    set: &mut NodeSet,
-    list: &mut Vec<u32>,
-    but: &NodeSet,
-    nodes: &[u32],
+// Puts the run that ends with a node behind the runs, and visits its first node.
+fn visit_run(
+    begun: &mut NodeSet,
+    firsts: &mut Vec<u32>,
+    runs: &mut Vec<Run>,
+    edges: &Relation,
+    starts: &[u32],
+    generated: &[u32],
+    killed: &[u32],
+    node: u32,
 ) -> Result<(), AllocError>
-    requires inside { AreBelow (node_count set.old) nodes.now }
-    requires same_size { node_count but.now ≡ node_count set.old }
-    requires lists { Lists set.old list.old.items }
-    ensures visits { OnOk result
-        (VisitsAll but.now nodes.now (length nodes.now) set.old set.new list.old.items list.new.items) }
-    ensures size { node_count set.new ≡ node_count set.old }
+    requires inside { node < node_count begun.old }
+    requires starts_size { length starts.now ≡ node_count begun.old }
+    requires starts { HasStarts edges.now starts.now }
+    requires sorted { IsNonDecreasing killed.now }
+    requires reached { IsReached edges.now generated.now killed.now node }
+    requires found { AreFound edges.now generated.now killed.now begun.old firsts.old.items runs.old.items }
+    ensures found { OnOk result
+        (AreFound edges.now generated.now killed.now begun.new firsts.new.items runs.new.items) }
+    ensures grows { OnOk result
+        (Grows begun.old begun.new firsts.old.items firsts.new.items runs.old.items runs.new.items) }
+    ensures covered { OnOk result (is_covered runs.new.items node ≡ true) }
+    ensures size { node_count begun.new ≡ node_count begun.old }
 {
-    for node in nodes {
-        visit_unless(set, list, but, *node)?;
-    }
-    Ok(())
+    let first = run_start(edges, starts, killed, node);
+    runs.push(Run { first, last: node })?;
+    let visited = visit(begun, firsts, first)?;
+    Ok(visited)
 }
 
-// Visits a node that is not in `but`.
-fn visit_unless(
-    set: &mut NodeSet,
-    list: &mut Vec<u32>,
+// Visits the run that ends with a node which is not in `but`.
+#[tactic(auto, using(crate::proofs::Solving::grows_none))]
+fn visit_run_unless(
+    begun: &mut NodeSet,
+    firsts: &mut Vec<u32>,
+    runs: &mut Vec<Run>,
+    edges: &Relation,
+    starts: &[u32],
+    generated: &[u32],
+    killed: &[u32],
     but: &NodeSet,
     node: u32,
 ) -> Result<(), AllocError>
-    requires inside { node < node_count set.old }
-    requires same_size { node_count but.now ≡ node_count set.old }
-    requires lists { Lists set.old list.old.items }
-    ensures visits { OnOk result
-        (is_in but.now node ≡ false → Visits set.old set.new list.old.items list.new.items node) }
-    ensures stays { OnOk result (is_in but.now node ≡ true → (set.new ≡ set.old) × (list.new.items ≡ list.old.items)) }
-    ensures size { node_count set.new ≡ node_count set.old }
+    requires inside { node < node_count begun.old }
+    requires same_size { node_count but.now ≡ node_count begun.old }
+    requires starts_size { length starts.now ≡ node_count begun.old }
+    requires starts { HasStarts edges.now starts.now }
+    requires sorted { IsNonDecreasing killed.now }
+    requires reached { is_in but.now node ≡ false → IsReached edges.now generated.now killed.now node }
+    requires found { AreFound edges.now generated.now killed.now begun.old firsts.old.items runs.old.items }
+    ensures found { OnOk result
+        (AreFound edges.now generated.now killed.now begun.new firsts.new.items runs.new.items) }
+    ensures grows { OnOk result
+        (Grows begun.old begun.new firsts.old.items firsts.new.items runs.old.items runs.new.items) }
+    ensures covered { OnOk result (is_in but.now node ≡ false → is_covered runs.new.items node ≡ true) }
+    ensures size { node_count begun.new ≡ node_count begun.old }
 {
     if but.contains(node as usize) {
         return Ok(());
     }
-    let visited = visit(set, list, node)?;
+    let visited = visit_run(begun, firsts, runs, edges, starts, generated, killed, node)?;
     Ok(visited)
+}
+
+// Visits the runs that end with nodes which are not in `but`.
+fn visit_runs(
+    begun: &mut NodeSet,
+    firsts: &mut Vec<u32>,
+    runs: &mut Vec<Run>,
+    edges: &Relation,
+    starts: &[u32],
+    generated: &[u32],
+    killed: &[u32],
+    but: &NodeSet,
+    nodes: &[u32],
+) -> Result<(), AllocError>
+    requires inside { AreBelow (node_count begun.old) nodes.now }
+    requires same_size { node_count but.now ≡ node_count begun.old }
+    requires starts_size { length starts.now ≡ node_count begun.old }
+    requires starts { HasStarts edges.now starts.now }
+    requires sorted { IsNonDecreasing killed.now }
+    requires reached { (v : ℕ) → Has nodes.now v → is_in but.now v ≡ false
+        → IsReached edges.now generated.now killed.now v }
+    requires found { AreFound edges.now generated.now killed.now begun.old firsts.old.items runs.old.items }
+    ensures found { OnOk result
+        (AreFound edges.now generated.now killed.now begun.new firsts.new.items runs.new.items) }
+    ensures grows { OnOk result
+        (Grows begun.old begun.new firsts.old.items firsts.new.items runs.old.items runs.new.items) }
+    ensures covered { OnOk result
+        ((v : ℕ) → Has nodes.now v → is_in but.now v ≡ false → is_covered runs.new.items v ≡ true) }
+    ensures size { node_count begun.new ≡ node_count begun.old }
+{
+    for node in nodes {
+        visit_run_unless(
+            begun, firsts, runs, edges, starts, generated, killed, but, *node,
+        )?;
+    }
+    Ok(())
 }
 
 // Puts nodes into the set.
@@ -78,37 +140,65 @@ fn insert_all(set: &mut NodeSet, nodes: &[u32])
 }
 
 /// The nodes that a fact reaches which is generated at some nodes, flows along edges, and is killed at some nodes: the
-/// least solution. It takes time for these nodes and their edges alone. The two sets, of all nodes, are only made use
-/// of.
-pub fn least_solution(
+/// least solution, as runs, which may overlap. It takes time for what is generated and killed, and for the edges of the
+/// runs' first nodes alone. For each node the first is given of a run that ends with it. The two sets, of all nodes,
+/// are only made use of.
+pub fn least_runs(
     alloc: Global,
     edges: &Relation,
+    starts: &[u32],
     generated: &[u32],
     killed: &[u32],
-    reached: &mut NodeSet,
+    begun: &mut NodeSet,
     killing: &mut NodeSet,
-) -> Result<Vec<u32>, AllocError>
-    requires edges_inside { LeadsBelow (node_count reached.old) edges.now }
-    requires generated_inside { AreBelow (node_count reached.old) generated.now }
-    requires killed_inside { AreBelow (node_count reached.old) killed.now }
-    requires same_size { node_count killing.old ≡ node_count reached.old }
+) -> Result<Vec<Run>, AllocError>
+    requires edges_inside { LeadsBelow (node_count begun.old) edges.now }
+    requires generated_inside { AreBelow (node_count begun.old) generated.now }
+    requires killed_inside { AreBelow (node_count begun.old) killed.now }
+    requires same_size { node_count killing.old ≡ node_count begun.old }
+    requires starts_size { length starts.now ≡ node_count begun.old }
+    requires starts { HasStarts edges.now starts.now }
+    requires sorted { IsNonDecreasing killed.now }
     ensures closed { IfOk result
-        (λ nodes. (v : ℕ) → IsReached edges.now generated.now killed.now v → Has nodes.items v) }
+        (λ runs. (v : ℕ) → IsReached edges.now generated.now killed.now v → is_covered runs.items v ≡ true) }
     ensures least { IfOk result
-        (λ nodes. (v : ℕ) → Has nodes.items v → IsReached edges.now generated.now killed.now v) }
-    ensures reached_size { node_count reached.new ≡ node_count reached.old }
+        (λ runs. (v : ℕ) → is_covered runs.items v ≡ true → IsReached edges.now generated.now killed.now v) }
+    ensures last { IfOk result (λ runs. (k : ℕ) (r : Run) → slice_get runs.items k ≡ Some r
+        → IsReached edges.now generated.now killed.now r.last) }
+    ensures begun_size { node_count begun.new ≡ node_count begun.old }
     ensures killing_size { node_count killing.new ≡ node_count killing.old }
 {
-    reached.clear();
+    begun.clear();
     killing.clear();
-    let mut nodes = Vec::new(alloc);
-    visit_all(reached, &mut nodes, killing, generated)?;
+    let mut firsts = Vec::new(alloc);
+    let mut runs = Vec::new(alloc);
+    visit_runs(
+        begun,
+        &mut firsts,
+        &mut runs,
+        edges,
+        starts,
+        generated,
+        killed,
+        killing,
+        generated,
+    )?;
     insert_all(killing, killed);
     let mut done = 0usize;
-    while done < nodes.len() {
-        let node = nodes[done];
-        visit_all(reached, &mut nodes, killing, edges.images(node as usize))?;
+    while done < firsts.len() {
+        let first = firsts[done];
+        visit_runs(
+            begun,
+            &mut firsts,
+            &mut runs,
+            edges,
+            starts,
+            generated,
+            killed,
+            killing,
+            edges.images(first as usize),
+        )?;
         done += 1;
     }
-    Ok(nodes)
+    Ok(runs)
 }

@@ -1,41 +1,61 @@
 -- Intervals against lists of places, and the live ranges of all virtual registers.
-use Rattle.std.proofs.Common.{◌≡◌, ℕ, zero, suc, ◌+◌, ◌<◌, ⊎_elim, List, [], ◌∷◌, ◌++◌, length, Some, None, Bool, true}
-use Rattle.std.proofs.Common.{◌||◌, refl, sym, ap, ◌∙◌, subst, arith, true≢false}
-use Rattle.std.specs.Prelude.{slice_get, nat_eq, Vec}
+use Rattle.std.proofs.Common.{◌≡◌, ℕ, zero, suc, ◌+◌, ◌<◌, ◌≤◌, ◌⊎◌, inl, inr, ⊎_elim, List, [], ◌∷◌, ◌++◌, length}
+use Rattle.std.proofs.Common.{Some, None, true}
+use Rattle.std.proofs.Common.{◌||◌, ◌&&◌, refl, sym, ap, ◌∙◌, subst, arith, true≢false}
+use Rattle.std.specs.Prelude.{slice_get, nat_le, nat_lt, Vec}
 use Rattle.std.specs.Global.{Global}
 use Rattle.std.specs.List.Sorted.{IsPermutation}
 use Rattle.std.proofs.lemmas.List.Sorted.{Contains-permutation, IsPermutation-sym}
-use Rattle.std.proofs.lemmas.Bool.{cases_eq, cases_lt, or_cases, eq-eqb, eqb-true}
+use Rattle.std.proofs.lemmas.Bool.{cases_eq, cases_lt, le-leb, lt-leb, le-ltb, lt-ltb}
 use Rattle.std.proofs.lemmas.Option.{slice_get_within, slice_get_read, get_or_from_slice_get}
+use Rattle.data_flow.specs.declared.relation.Relation.{Relation}
+use Rattle.data_flow.specs.declared.runs.Run.{Run}
 use Rattle.data_flow.specs.Relations.{Has, IsRelated}
+use Rattle.data_flow.specs.Reached.{IsReached, Begins, Flows}
 use Rattle.flat_meaning.specs.declared.instruction.FlatInstruction.{FlatInstruction}
 use Rattle.flat_meaning.specs.declared.function.FlatProgram.{FlatProgram}
 use Rattle.reg_plan.specs.declared.plan.LiveInterval.{LiveInterval}
 use Rattle.reg_plan.specs.declared.flow.Problem.{Problem}
 use Rattle.reg_plan.specs.Needs.{IsNeeded, Read, Made, Before}
-use Rattle.reg_plan.specs.Flow.{Represents}
+use Rattle.reg_plan.specs.Flow.{Represents, AreSmall}
 use Rattle.reg_plan.specs.Accepted.{covers, intervals_of}
-use Rattle.reg_plan.proofs.Flows.{or_left, or_right}
 
--- one place more
-pub covered_more : (places : List ℕ) (f g : ℕ → Bool) (i place : ℕ) → slice_get places i ≡ Some place
-    → ((pc : ℕ) → g pc ≡ (f pc || nat_eq pc place)) → ((k pc : ℕ) → k < i → slice_get places k ≡ Some pc → f pc ≡ true)
-    → (k pc : ℕ) → k < i + 1 → slice_get places k ≡ Some pc → g pc ≡ true
-covered_more places f g i place here e old k pc lt h = ⊎_elim
-    (λ low. e pc ∙ or_left (f pc) (nat_eq pc place) (old k pc low h))
-    (λ high. let same : k ≡ i = omega arith in
-    let w : Some pc ≡ Some place = sym h ∙ ap (slice_get places) same ∙ here in
-    let q : pc ≡ place = cc in
-    e pc ∙ or_right (f pc) (nat_eq pc place) (eq-eqb pc place q))
-    (cases_lt k i)
+-- an interval and a run that begins within it or at its end
+pub join_same : (start end first last n : ℕ) → start ≤ first → first ≤ end → end ≤ n → last + 1 ≤ n
+    → (end < n → n ≤ last + 1) → (pc : ℕ)
+    → (nat_le start pc && nat_lt pc n) ≡ ((nat_le start pc && nat_lt pc end) || (nat_le first pc && nat_le pc last))
+join_same start end first last n begins joins more all most pc = ⊎_elim
+    (λ low. rw (lt-leb start pc low, lt-leb first pc (omega (arith, low, begins))) refl)
+    (λ high. ⊎_elim
+    (λ inside. rw (le-leb start pc high, lt-ltb pc end inside, lt-ltb pc n (omega (arith, inside, more))) refl)
+    (λ behind. rw (le-leb start pc high, le-ltb pc end behind, le-leb first pc (omega (arith, behind, joins)))
+    (by behind (cases_lt pc n)))
+    (cases_lt pc end))
+    (cases_lt pc start)
+  where
+    by : end ≤ pc → (pc < n) ⊎ (n ≤ pc) → nat_lt pc n ≡ nat_le pc last
+    by behind (inl low) = let m = most (omega (arith, behind, low)) in
+        lt-ltb pc n low ∙ sym (le-leb pc last (omega (arith, low, m)))
+    by behind (inr high) = le-ltb pc n high ∙ sym (lt-leb pc last (omega (arith, high, all)))
 
-pub only_more : (places : List ℕ) (f g : ℕ → Bool) (i place : ℕ) → slice_get places i ≡ Some place
-    → ((pc : ℕ) → g pc ≡ (f pc || nat_eq pc place)) → ((pc : ℕ) → f pc ≡ true → Has places pc) → (pc : ℕ) → g pc ≡ true
-    → Has places pc
-only_more places f g i place here e old pc h = ⊎_elim
-    (λ q. old pc q)
-    (λ q. (i, here ∙ ap Some (sym (eqb-true pc place q))))
-    (or_cases (f pc) (nat_eq pc place) (sym (e pc) ∙ h))
+pub whole_same : (first last pc : ℕ) → (nat_le first pc && nat_lt pc (last + 1)) ≡ (nat_le first pc && nat_le pc last)
+whole_same first last pc = ap (λ b. nat_le first pc && b) (⊎_elim
+    (λ low. lt-ltb pc (last + 1) low ∙ sym (le-leb pc last (omega (arith, low))))
+    (λ high. le-ltb pc (last + 1) high ∙ sym (lt-leb pc last (omega (arith, high))))
+    (cases_lt pc (last + 1)))
+
+pub small_permuted : (xs ys : List Run) → IsPermutation xs ys → AreSmall xs → AreSmall ys
+small_permuted xs ys p small k r h =
+    let o = Contains-permutation ys xs r (IsPermutation-sym xs ys p)
+    (k, slice_get_within ys k r h, get_or_from_slice_get ys k r r h) in
+    small o.0 r (slice_get_read xs (length xs) o.0 r refl o.1 (sym o.2))
+
+-- facts are killed by the same nodes in any order
+pub reached_as : (edges : Relation) (generated killed killed' : List ℕ) → ((x : ℕ) → Has killed' x → Has killed x)
+    → (v : ℕ) → IsReached edges generated killed v → IsReached edges generated killed' v
+reached_as edges generated killed killed' has _ (Begins v h) = Begins v h
+reached_as edges generated killed killed' has _ (Flows u v r e n) =
+    Flows u v (reached_as edges generated killed killed' has u r) e (λ k. n (has v k))
 
 -- a list in another order has the same numbers
 pub has_permuted : (xs ys : List ℕ) → IsPermutation xs ys → (x : ℕ) → Has xs x → Has ys x

@@ -1,6 +1,7 @@
 -- Live ranges as a data-flow problem: its nodes are the instructions of a function, and its edges lead back from where
 -- an instruction leads. There is one fact for each virtual register.
-use Rattle.std.specs.Prelude.{◌≡◌, ℕ, ◌<◌, ◌⊎◌, List, length, Option, Some}
+use Rattle.std.specs.Prelude.{◌≡◌, ℕ, ◌<◌, ◌+◌, ◌^◌, ◌⊎◌, List, length, Option, Some, slice_get}
+use Rattle.data_flow.specs.declared.runs.Run.{Run}
 use Rattle.data_flow.specs.declared.relation.Relation.{Relation}
 use Rattle.data_flow.specs.Relations.{IsRelated}
 use Rattle.flat_meaning.specs.declared.instruction.FlatInstruction.{FlatInstruction}
@@ -49,3 +50,7 @@ pub record HasSizes (problem : Problem) (nodes facts : ℕ) : Type 0 where
   pub edges : length problem.edges.rows.items ≡ nodes
   pub generated : length problem.generated.rows.items ≡ facts
   pub killed : length problem.killed.rows.items ≡ facts
+
+-- the nodes of runs have numbers of 32 bits, and so has the one behind each
+abbrev pub AreSmall : List Run → Type 0
+AreSmall runs = (k : ℕ) (r : Run) → slice_get runs k ≡ Some r → r.last + 1 < 2 ^ 32

@@ -1,7 +1,10 @@
 //! Live ranges of all virtual registers of a function.
 
 ghost use Rattle.std.specs.Prelude.{◌≡◌, ◌<◌, ◌≤◌, ◌+◌, ◌-◌, ◌^◌, ℕ, IfOk, OnOk, length, Some, true, slice_get};
+ghost use Rattle.std.specs.List.Sorted.{IsNonDecreasing};
+ghost use Rattle.data_flow.specs.Relations.{Has};
 ghost use Rattle.data_flow.specs.NodeSets.{node_count};
+ghost use Rattle.data_flow.specs.Runs.{HasStarts};
 ghost use Rattle.reg_plan.specs.Needs.{IsNeeded};
 ghost use Rattle.reg_plan.specs.Flow.{Represents, IsNamed, HasSizes};
 ghost use Rattle.reg_plan.specs.Accepted.{covers, intervals_of};
@@ -9,9 +12,20 @@ ghost use Rattle.reg_plan.specs.Accepted.{covers, intervals_of};
 use crate::flow::{Problem, problem_of};
 use crate::intervals::intervals;
 use crate::plan::LiveInterval;
-use data_flow::{NodeSet, least_solution};
+use data_flow::{NodeSet, least_runs, run_starts};
 use flat_meaning::{FlatInstruction, FlatProgram};
 use std::alloc::{AllocError, Global};
+
+// The numbers of a list, sorted.
+fn sorted(alloc: Global, list: &[u32]) -> Result<Vec<u32>, AllocError>
+    ensures sorted { IfOk result (λ sorted. IsNonDecreasing sorted.items) }
+    ensures has { IfOk result (λ sorted. (x : ℕ) → Has list.now x → Has sorted.items x) }
+    ensures only { IfOk result (λ sorted. (x : ℕ) → Has sorted.items x → Has list.now x) }
+{
+    let mut sorted = Vec::from_slice(alloc, list)?;
+    sorted.sort()?;
+    Ok(sorted)
+}
 
 // The live range of one virtual register.
 fn live_range(
@@ -20,35 +34,41 @@ fn live_range(
     function: u32,
     body: &[FlatInstruction],
     problem: &Problem,
+    starts: &[u32],
     register: usize,
-    reached: &mut NodeSet,
+    begun: &mut NodeSet,
     killing: &mut NodeSet,
 ) -> Result<Vec<LiveInterval>, AllocError>
     requires count { length body.now < 2 ^ 32 }
     requires represents { Represents program.now function body.now (length body.now) problem.now }
-    requires reached_size { node_count reached.old ≡ length body.now }
+    requires starts_size { length starts.now ≡ length body.now }
+    requires starts { HasStarts problem.now.edges starts.now }
+    requires begun_size { node_count begun.old ≡ length body.now }
     requires killing_size { node_count killing.old ≡ length body.now }
     ensures needed { IfOk result
         (λ list. (pc : ℕ) → IsNeeded program.now function body.now pc register → covers list.items pc ≡ true) }
     ensures only { IfOk result
         (λ list. (pc : ℕ) → covers list.items pc ≡ true → IsNeeded program.now function body.now pc register) }
-    ensures reached_size { node_count reached.new ≡ length body.now }
+    ensures begun_size { node_count begun.new ≡ length body.now }
     ensures killing_size { node_count killing.new ≡ length body.now }
 {
-    let places = least_solution(
+    let killed = sorted(alloc, problem.killed.images(register))?;
+    let runs = least_runs(
         alloc,
         &problem.edges,
+        starts,
         problem.generated.images(register),
-        problem.killed.images(register),
-        reached,
+        &killed,
+        begun,
         killing,
     )?;
-    let range = intervals(alloc, places)?;
+    let range = intervals(alloc, runs)?;
     Ok(range)
 }
 
 /// The live ranges of the virtual registers of a function, so many of which have homes: each is exactly where its
-/// value is needed. It takes time for the instructions in these ranges alone.
+/// value is needed. It takes time for the instructions, and for the blocks of straight code in which each value is
+/// needed.
 pub fn live_ranges(
     alloc: Global,
     program: &FlatProgram,
@@ -67,7 +87,8 @@ pub fn live_ranges(
         → IsNeeded program.now function body.now pc y) }
 {
     let problem = problem_of(alloc, program, function, body, registers)?;
-    let mut reached = NodeSet::new(alloc, body.len())?;
+    let starts = run_starts(alloc, &problem.edges)?;
+    let mut begun = NodeSet::new(alloc, body.len())?;
     let mut killing = NodeSet::new(alloc, body.len())?;
     let mut ranges = Vec::new(alloc);
     for register in 0..registers {
@@ -77,8 +98,9 @@ pub fn live_ranges(
             function,
             body,
             &problem,
+            &starts,
             register,
-            &mut reached,
+            &mut begun,
             &mut killing,
         )?;
         ranges.push(range)?;

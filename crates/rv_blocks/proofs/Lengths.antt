@@ -3,7 +3,7 @@ use Rattle.std.proofs.Common.{◌≡◌, ℕ, zero, suc, ◌+◌, ◌-◌, ◌*�
 use Rattle.std.proofs.Common.{◌⊎◌, inl, inr, ⊎_elim, Bool, true, false, refl, sym, ◌∙◌, subst, arith, length-append}
 use Rattle.std.proofs.lemmas.Bool.{lt-ltb, le-leb, leb-true, false≢true}
 use Rattle.words.specs.TwosComplement.{low_bits}
-use Rattle.std.specs.Prelude.{nat_lt, nat_le, if◌then◌else◌}
+use Rattle.std.specs.Prelude.{◌==◌, nat_lt, nat_le, if◌then◌else◌, Option, Some, None}
 use Rattle.rv_isa.specs.declared.instruction.Instr.{Instr}
 use Rattle.rv_isa.specs.declared.instruction.Instr.TheVariants.{ShiftImm, OpImm}
 use Rattle.rv_isa.specs.declared.instruction.ImmOp.TheVariants.{Addi}
@@ -13,7 +13,8 @@ use Rattle.flat_meaning.specs.declared.instruction.RightOperand.TheVariants as r
 use Rattle.rv_blocks.specs.declared.location.Location.{Location}
 use Rattle.rv_blocks.specs.declared.location.Location.TheVariants.{Register, Frame}
 use Rattle.rv_blocks.specs.Blocks.{wide, digits, constant, load_at, store_at, fetch, keep, fetch_right, operands}
-use Rattle.rv_blocks.specs.Blocks.{report_bytes, IsShort, RightIsShort}
+use Rattle.rv_blocks.specs.Blocks.{operator_block}
+use Rattle.rv_blocks.specs.Blocks.{IsShort, RightIsShort}
 use Rattle.rv_blocks.specs.Effects.{IsIn, RightIsIn}
 
 choice : (b : Bool) (is js : List Instr) (n : ℕ) → length is ≤ n → length js ≤ n → length (if b then is else js) ≤ n
@@ -129,7 +130,9 @@ pub fetch_right_reach : (room : ℕ) (place : ℕ → Location) (base : ℕ) (z 
 fetch_right_reach room place base (right.Register z) inside short =
     let r = fetch_reach room (place z) base 6 inside in omega arith
 fetch_right_reach room place base (right.Number n) inside short =
-    let c = short_bits_length 6 n short in let r = some_reach room in omega arith
+    let c = short_bits_length 6 n short in
+    let r = some_reach room in
+    choice (n == 0) [] (constant 6 (low_bits 64 n)) (home_reach room + 1) (omega arith) (omega arith)
 
 pub operands_reach : (room : ℕ) (place : ℕ → Location) (base y : ℕ) (z : RightOperand) → IsIn room (place y)
     → RightIsIn room place z → RightIsShort z
@@ -140,6 +143,17 @@ operands_reach room place base y z left inside short =
     let whole = length-append (fetch (place y) base 5) (fetch_right place base z) in
     omega arith
 
-pub report_length : (report : List ℕ) → length (report_bytes report) ≡ 4 * length report
-report_length [] = omega arith
-report_length (b ∷ bs) = let r = report_length bs in omega arith
+-- an operator, whether it has its right operand in itself or not
+pub operator_reach : (room : ℕ) (place : ℕ → Location) (base : ℕ) (x : Location) (y : ℕ) (z : RightOperand)
+    (short : Option Instr) (plain : Instr) → IsIn room x → IsIn room (place y) → RightIsIn room place z
+    → RightIsShort z → length (operator_block place base x y z short plain) ≤ 3 * home_reach room + 2
+operator_reach room place base x y z None plain hx hy hz short =
+    let a = operands_reach room place base y z hy hz short in
+    let b = keep_reach room x base 5 hx in
+    let c = length-append (operands place base y z) (plain ∷ keep x base 5) in
+    omega arith
+operator_reach room place base x y z (Some i) plain hx hy hz short =
+    let a = fetch_reach room (place y) base 5 hy in
+    let b = keep_reach room x base 5 hx in
+    let c = length-append (fetch (place y) base 5) (i ∷ keep x base 5) in
+    omega arith

@@ -1,3 +1,5 @@
-pub mod Pieces
-pub mod Local
+pub mod Immediates
 pub mod Lengths
+pub mod Local
+pub mod Pieces
+pub mod Reports

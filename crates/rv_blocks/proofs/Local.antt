@@ -1,7 +1,9 @@
 -- What the blocks of instructions that stay in their function do to the machine.
 use Rattle.std.proofs.Common.{◌≡◌, ◌≢◌, ℕ, ◌+◌, ◌-◌, ◌*◌, ◌^◌, ◌%◌, ◌<◌, ◌≤◌, inl, inr}
-use Rattle.std.proofs.Common.{List, [], ◌∷◌, ◌++◌, length, Some, None, refl, sym, ap, ◌∙◌, subst}
-use Rattle.std.proofs.Common.{arith, length-append, append_assoc}
+use Rattle.std.proofs.Common.{List, [], ◌∷◌, ◌++◌, length, Option, Some, None, Bool, true, false, refl, sym, ap, ◌∙◌}
+use Rattle.std.proofs.Common.{subst, arith, length-append, append_assoc}
+use Rattle.std.specs.Prelude.{◌==◌, if◌then◌else◌}
+use Rattle.std.proofs.lemmas.Bool.{eqb-true}
 use Rattle.words.specs.TwosComplement.{low_bits}
 use Rattle.behaviours.specs.Shown.{Access, Read, Write}
 use Rattle.rv_isa.specs.declared.instruction.LoadOp.{LoadOp}
@@ -26,11 +28,13 @@ use Rattle.rv_view.proofs.Leaving.{no_access}
 use Rattle.rv_blocks.specs.declared.location.Location.{Location}
 use Rattle.rv_blocks.specs.declared.location.Location.TheVariants.{Register, Frame}
 use Rattle.rv_blocks.specs.Blocks.{constant, used, fetch, keep, used_right, fetch_right, move_block, operands}
-use Rattle.rv_blocks.specs.Blocks.{charged_block}
+use Rattle.rv_blocks.specs.Blocks.{charged_block, operator_block, operate_block, operate32_block}
+use Rattle.rv_blocks.specs.Immediates.{immediate, immediate_of, immediate32_of}
 use Rattle.rv_blocks.specs.Effects.{RightIsIn, RightIsKept, IsIn, kept, IsNoScratch, Readies, Puts, HasFrame}
 use Rattle.rv_blocks.proofs.Pieces.{performs_append, go_append, constant_gives, gives_ready, ready_then}
 use Rattle.rv_blocks.proofs.Pieces.{ready_kept, ready_frame, fetches, fetches_ready, used_no_six, one_more}
-use Rattle.rv_blocks.proofs.Pieces.{gives_computes, keeps, small_sext, low_apart}
+use Rattle.rv_blocks.proofs.Pieces.{gives_computes, keeps, small_sext, low_apart, ready_none}
+use Rattle.rv_blocks.proofs.Immediates.{Makes, MakesIfSome, gets_value, immediate_of_makes, immediate32_of_makes}
 
 pub used_nonzero : (room : ℕ) (x : Location) → IsIn room x → used x 5 ≢ 0
 used_nonzero room (Register r) h e = omega (arith, h.low)
@@ -39,6 +43,12 @@ used_nonzero room (Frame k) h e = omega arith
 used_six : (room : ℕ) (x : Location) → IsIn room x → used x 6 ≢ 7
 used_six room (Register r) h e = omega (arith, h.low)
 used_six room (Frame k) h e = omega arith
+
+-- on registers a number in the instruction itself takes no other
+pub single_operator : (op : RegOp) (place : ℕ → Location) (base y n l r : ℕ) (i : Instr) → place y ≡ Register l
+    → immediate op r l (low_bits 64 n) ≡ Some i
+    → operate_block place base op (Register r) y (right.Number n) ≡ i ∷ []
+single_operator op place base y n l r i e d = rw (e, d) (ap (λ q. fetch q base 5 ++ i ∷ []) e)
 
 module _ (o s base fp room : ℕ) (place : ℕ → Location) where
   -- a right operand in its register
@@ -57,13 +67,22 @@ module _ (o s base fp room : ℕ) (place : ℕ → Location) where
         five = g.others;
         value = g.value ∙ k;
       }
-  right_fetches (right.Number n) v values nought f i k =
-      let g = constant_gives o s 6 (low_bits 64 n) v (λ e. omega arith) nought (omega arith) in
-      record {
-        ready = gives_ready o s (constant 6 (low_bits 64 n)) v 6 (low_bits 64 n) (inr (inl refl)) g;
-        five = g.others;
-        value = g.value;
+  right_fetches (right.Number n) v values nought f i k = by (n == 0) refl
+    where
+      by : (b : Bool) → (n == 0) ≡ b
+          → FetchesRight (if b then [] else constant 6 (low_bits 64 n)) v (if b then 0 else 6) (low_bits 64 n)
+      by true e = record {
+        ready = ready_none o s v;
+        five = λ r a. refl;
+        value = nought ∙ sym (ap (low_bits 64) (eqb-true n 0 e));
       }
+      by false e =
+          let g = constant_gives o s 6 (low_bits 64 n) v (λ q. omega arith) nought (omega arith) in
+          record {
+            ready = gives_ready o s (constant 6 (low_bits 64 n)) v 6 (low_bits 64 n) (inr (inl refl)) g;
+            five = g.others;
+            value = g.value;
+          }
 
   -- both operands in their registers
   pub record HasOperands (y : ℕ) (z : RightOperand) (v : View) (values : Values) : Type 0 where
@@ -131,39 +150,64 @@ module _ (o s base fp room : ℕ) (place : ℕ → Location) where
       (gets_is w (used x 5) (wrap (w.registers (used y 5) + sext 12 0)) n v.accesses
       (ap (λ q. wrap (q + 0)) (g.value ∙ k) ∙ omega arith) g.accesses) (tt, tt) small
 
+  -- an operator: by its instruction with a number, where it has one, and else by that on two registers
+  operator_puts : (short : Option Instr) (plain : Instr) (x : Location) (y : ℕ) (z : RightOperand) (n : ℕ) (v : View)
+      (values : Values) → v.registers 0 ≡ 0 → HasFrame s base fp room v → IsIn room x → IsIn room (place y)
+      → RightIsIn room place z → kept fp v (place y) ≡ values y → RightIsKept fp place v z values
+      → ((w : View) → w.registers (used (place y) 5) ≡ values y → MakesIfSome o s short w (used x 5) n)
+      → ((w : View) → w.registers (used (place y) 5) ≡ values y
+      → w.registers (used_right place z) ≡ right_value z values → Makes o s plain w (used x 5) n)
+      → n < 2 ^ 64 → Puts o s fp room (operator_block place base x y z short plain) v x n v.accesses
+  operator_puts None plain x y z n v values nought f hx hy hz ky kz short long small =
+      let is = operands place base y z in
+      let g = has_operands y z v values nought f hy hz ky kz in
+      let w = performs is v in
+      let k = long w g.left g.right_is in
+      result_puts is plain v x n v.accesses g.ready f hx
+      (k.is ∙ gets_is w (used x 5) n n v.accesses refl g.ready.accesses) (k.go, tt) small
+  operator_puts (Some i) plain x y z n v values nought f hx hy hz ky kz short long small =
+      let is = fetch (place y) base 5 in
+      let g = fetches o s (place y) base 5 fp room v (omega arith) f hy in
+      let w = performs is v in
+      let k = short w (g.value ∙ ky) in
+      result_puts is i v x n v.accesses (fetches_ready o s is v (place y) 5 (kept fp v (place y)) (inl refl) g) f hx
+      (k.is ∙ gets_is w (used x 5) n n v.accesses refl g.accesses) (k.go, tt) small
+
   pub operate_puts : (op : RegOp) (x : Location) (y : ℕ) (z : RightOperand) (v : View) (values : Values)
       → v.registers 0 ≡ 0 → HasFrame s base fp room v → IsIn room x → IsIn room (place y) → RightIsIn room place z
       → kept fp v (place y) ≡ values y → RightIsKept fp place v z values
       → reg_result op (values y) (right_value z values) < 2 ^ 64
-      → Puts o s fp room (operands place base y z
-      ++ (Op op (used x 5) (used (place y) 5) (used_right place z) ∷ keep x base 5)) v x
-      (reg_result op (values y) (right_value z values)) v.accesses
+      → Puts o s fp room (operate_block place base op x y z) v x (reg_result op (values y) (right_value z values))
+      v.accesses
   operate_puts op x y z v values nought f hx hy hz ky kz small =
-      let is = operands place base y z in
-      let g = has_operands y z v values nought f hy hz ky kz in
-      let w = performs is v in
-      result_puts is (Op op (used x 5) (used (place y) 5) (used_right place z)) v x
-      (reg_result op (values y) (right_value z values)) v.accesses g.ready f hx
-      (gets_is w (used x 5) _ (reg_result op (values y) (right_value z values)) v.accesses
-      (ap (λ q. reg_result op q (w.registers (used_right place z))) g.left
-      ∙ ap (reg_result op (values y)) g.right_is) g.ready.accesses) (tt, tt) small
+      let n = reg_result op (values y) (right_value z values) in
+      operator_puts (immediate_of op (used x 5) (used (place y) 5) z)
+      (Op op (used x 5) (used (place y) 5) (used_right place z)) x y z n v values nought f hx hy hz ky kz
+      (λ w e. immediate_of_makes o s op (used x 5) (used (place y) 5) z values w (values y) e)
+      (λ w e d. record {
+        go = tt;
+        is = gets_value w (used x 5) (reg_result op (w.registers (used (place y) 5)) (w.registers (used_right place z)))
+            n (ap (λ q. reg_result op q (w.registers (used_right place z))) e ∙ ap (reg_result op (values y)) d);
+      }) small
 
   pub operate32_puts : (op : RegOp32) (x : Location) (y : ℕ) (z : RightOperand) (v : View) (values : Values)
       → v.registers 0 ≡ 0 → HasFrame s base fp room v → IsIn room x → IsIn room (place y) → RightIsIn room place z
       → kept fp v (place y) ≡ values y → RightIsKept fp place v z values
       → reg32_result op (low_word (values y)) (low_word (right_value z values)) < 2 ^ 64
-      → Puts o s fp room (operands place base y z
-      ++ (Op32 op (used x 5) (used (place y) 5) (used_right place z) ∷ keep x base 5)) v x
+      → Puts o s fp room (operate32_block place base op x y z) v x
       (reg32_result op (low_word (values y)) (low_word (right_value z values))) v.accesses
   operate32_puts op x y z v values nought f hx hy hz ky kz small =
-      let is = operands place base y z in
-      let g = has_operands y z v values nought f hy hz ky kz in
-      let w = performs is v in
-      result_puts is (Op32 op (used x 5) (used (place y) 5) (used_right place z)) v x
-      (reg32_result op (low_word (values y)) (low_word (right_value z values))) v.accesses g.ready f hx
-      (gets_is w (used x 5) _ (reg32_result op (low_word (values y)) (low_word (right_value z values))) v.accesses
-      (ap (λ q. reg32_result op (low_word q) (low_word (w.registers (used_right place z)))) g.left
-      ∙ ap (λ q. reg32_result op (low_word (values y)) (low_word q)) g.right_is) g.ready.accesses) (tt, tt) small
+      let n = reg32_result op (low_word (values y)) (low_word (right_value z values)) in
+      operator_puts (immediate32_of op (used x 5) (used (place y) 5) z)
+      (Op32 op (used x 5) (used (place y) 5) (used_right place z)) x y z n v values nought f hx hy hz ky kz
+      (λ w e. immediate32_of_makes o s op (used x 5) (used (place y) 5) z values w (values y) e)
+      (λ w e d. record {
+        go = tt;
+        is = gets_value w (used x 5)
+            (reg32_result op (low_word (w.registers (used (place y) 5))) (low_word (w.registers (used_right place z))))
+            n (ap (λ q. reg32_result op (low_word q) (low_word (w.registers (used_right place z)))) e
+            ∙ ap (λ q. reg32_result op (low_word (values y)) (low_word q)) d);
+      }) small
 
   -- the address of an access
   accesses_at : (w : View) (r a k : ℕ) → w.registers r ≡ a → k < 2 ^ 11

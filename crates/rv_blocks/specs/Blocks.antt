@@ -1,11 +1,15 @@
 -- The machine's instructions for the instructions of flat code.
-use Rattle.std.specs.Prelude.{ℕ, zero, suc, ◌+◌, ◌-◌, ◌/◌, ◌%◌, ◌^◌, ◌<◌, ◌≤◌, ◌⊎◌, nat_lt, nat_le, if◌then◌else◌, List, [], ◌∷◌, ◌++◌}
+use Rattle.std.specs.Prelude.{ℕ, zero, suc, ◌+◌, ◌-◌, ◌/◌, ◌%◌, ◌^◌, ◌<◌, ◌≤◌, ◌⊎◌, nat_lt, nat_le, if◌then◌else◌, List}
+use Rattle.std.specs.Prelude.{[], ◌∷◌, ◌++◌}
+use Rattle.std.specs.Prelude.{◌==◌, length, Option, Some, None}
 use Rattle.words.specs.TwosComplement.{low_bits}
 use Rattle.rv_isa.specs.declared.instruction.LoadOp.TheVariants.{Ld, Lbu}
 use Rattle.rv_isa.specs.declared.instruction.StoreOp.TheVariants.{Sb, Sd}
 use Rattle.rv_isa.specs.declared.instruction.ImmOp.TheVariants.{Addi}
 use Rattle.rv_isa.specs.declared.instruction.ShiftOp.TheVariants.{Slli}
+use Rattle.rv_isa.specs.declared.instruction.RegOp.{RegOp}
 use Rattle.rv_isa.specs.declared.instruction.RegOp.TheVariants.{Add, Sub, Mul}
+use Rattle.rv_isa.specs.declared.instruction.RegOp32.{RegOp32}
 use Rattle.rv_isa.specs.declared.instruction.Instr.{Instr}
 use Rattle.rv_isa.specs.declared.instruction.Instr.TheVariants.{Lui, Load, Store, OpImm, ShiftImm, Op, Op32, Ecall}
 use Rattle.sb_base.specs.Endings.{code_of, report_of}
@@ -15,6 +19,7 @@ use Rattle.flat_meaning.specs.declared.instruction.FlatInstruction.{FlatInstruct
 use Rattle.flat_meaning.specs.declared.instruction.FlatInstruction.TheVariants as flat
 use Rattle.rv_blocks.specs.declared.location.Location.{Location}
 use Rattle.rv_blocks.specs.declared.location.Location.TheVariants.{Register, Frame}
+use Rattle.rv_blocks.specs.Immediates.{immediate_of, immediate32_of}
 use Rattle.rv_blocks.specs.Places.{program_frame, argument_words, left_scratch, right_scratch, address_scratch}
 
 -- ---- constants
@@ -85,13 +90,14 @@ abbrev pub keep : Location → (base scratch : ℕ) → List Instr
 keep (Register r) base t = []
 keep (Frame o) base t = store_at t base o
 
+-- x0 has the number 0
 abbrev pub used_right : (ℕ → Location) → RightOperand → ℕ
 used_right place (right.Register z) = used (place z) right_scratch
-used_right place (right.Number n) = right_scratch
+used_right place (right.Number n) = if n == 0 then 0 else right_scratch
 
 abbrev pub fetch_right : (ℕ → Location) → (base : ℕ) → RightOperand → List Instr
 fetch_right place base (right.Register z) = fetch (place z) base right_scratch
-fetch_right place base (right.Number n) = constant right_scratch (low_bits 64 n)
+fetch_right place base (right.Number n) = if n == 0 then [] else constant right_scratch (low_bits 64 n)
 
 -- ---- instructions that stay in their function
 
@@ -104,17 +110,36 @@ move_block x y base =
 abbrev pub operands : (ℕ → Location) → (base left : ℕ) → RightOperand → List Instr
 operands place base y z = fetch (place y) base left_scratch ++ fetch_right place base z
 
+-- an operator whose result goes to its place: by an instruction that has its right operand in itself, where there is
+-- one, and else by one on two registers
+abbrev pub operator_block : (ℕ → Location) → (base : ℕ) → (into : Location) → (left : ℕ) → RightOperand
+    → (immediate : Option Instr) → (plain : Instr) → List Instr
+operator_block place base x y z (Some i) plain = fetch (place y) base left_scratch ++ (i ∷ keep x base left_scratch)
+operator_block place base x y z None plain = operands place base y z ++ (plain ∷ keep x base left_scratch)
+
+abbrev pub operate_block : (ℕ → Location) → (base : ℕ) → RegOp → (into : Location) → (left : ℕ) → RightOperand
+    → List Instr
+operate_block place base op x y z =
+    operator_block place base x y z (immediate_of op (used x left_scratch) (used (place y) left_scratch) z)
+    (Op op (used x left_scratch) (used (place y) left_scratch) (used_right place z))
+
+abbrev pub operate32_block : (ℕ → Location) → (base : ℕ) → RegOp32 → (into : Location) → (left : ℕ) → RightOperand
+    → List Instr
+operate32_block place base op x y z =
+    operator_block place base x y z (immediate32_of op (used x left_scratch) (used (place y) left_scratch) z)
+    (Op32 op (used x left_scratch) (used (place y) left_scratch) (used_right place z))
+
 -- the bytes of the budget that are charged: what the frame has gone up from where the first begins
 abbrev pub charged_block : (into : Location) → (base begin : ℕ) → List Instr
 charged_block x base begin =
     constant right_scratch begin
     ++ (Op Sub (used x left_scratch) program_frame right_scratch ∷ keep x base left_scratch)
 
--- what is asked for in the words of arguments, by an environment call of a number
-abbrev pub asks_byte : (number descriptor : ℕ) → List Instr
-asks_byte number descriptor =
-    OpImm Addi 17 0 number ∷ OpImm Addi 10 0 descriptor ∷ OpImm Addi 11 argument_words 0 ∷ OpImm Addi 12 0 1 ∷ Ecall
-    ∷ []
+-- what is asked for so many bytes of the words of arguments, by an environment call of a number
+abbrev pub asks : (number descriptor count : ℕ) → List Instr
+asks number descriptor count =
+    OpImm Addi 17 0 number ∷ OpImm Addi 10 0 descriptor ∷ OpImm Addi 11 argument_words 0 ∷ OpImm Addi 12 0 count
+    ∷ Ecall ∷ []
 
 -- read of one byte gives 1 and the byte, or 0: the byte times the answer, plus the answer, less one
 abbrev pub received_block : (into : Location) → (base : ℕ) → List Instr
@@ -122,22 +147,28 @@ received_block x base =
     Load Lbu 5 argument_words 0 ∷ Op Mul 5 5 10 ∷ OpImm Addi 6 10 (2 ^ 12 - 1) ∷ Op Add (used x 5) 5 6 ∷ keep x base 5
 
 abbrev pub sent_block : (from : Location) → (base : ℕ) → List Instr
-sent_block y base = fetch y base left_scratch ++ (Store Sb argument_words (used y left_scratch) 0 ∷ asks_byte 64 1)
+sent_block y base = fetch y base left_scratch ++ (Store Sb argument_words (used y left_scratch) 0 ∷ asks 64 1 1)
 
 abbrev pub exit_block : (status : Location) → (base : ℕ) → List Instr
 exit_block y base =
     fetch y base left_scratch ++ (OpImm Addi 10 (used y left_scratch) 0 ∷ OpImm Addi 17 0 93 ∷ Ecall ∷ [])
 
--- the bytes of a report, each by a write of one byte to the error output, and then the ending with a status
-abbrev pub report_bytes : List ℕ → List Instr
-report_bytes [] = []
-report_bytes (b ∷ bs) =
-    OpImm Addi 5 0 (b % 2 ^ 11) ∷ Store Sb argument_words 5 0 ∷ OpImm Addi 10 0 2 ∷ Ecall ∷ report_bytes bs
+-- the bytes of a report, stored one behind another in the words of arguments from an offset on
+abbrev pub report_bytes : (offset : ℕ) → List ℕ → List Instr
+report_bytes k [] = []
+report_bytes k (b ∷ bs) =
+    OpImm Addi left_scratch 0 (b % 2 ^ 11) ∷ Store Sb argument_words left_scratch (k % 2 ^ 12)
+    ∷ report_bytes (suc k) bs
 
+-- one write of all of them to the error output, where there are any
+abbrev pub report_block : (report : List ℕ) → List Instr
+report_block [] = []
+report_block (b ∷ bs) = report_bytes 0 (b ∷ bs) ++ asks 64 2 (length (b ∷ bs) % 2 ^ 11)
+
+-- a report, and then the ending with a status
 abbrev pub end_block : (report : List ℕ) → (status : ℕ) → List Instr
 end_block report status =
-    OpImm Addi 17 0 64 ∷ OpImm Addi 11 argument_words 0 ∷ OpImm Addi 12 0 1
-    ∷ (report_bytes report ++ (OpImm Addi 10 0 (status % 2 ^ 11) ∷ OpImm Addi 17 0 93 ∷ Ecall ∷ []))
+    report_block report ++ (OpImm Addi 10 0 (status % 2 ^ 11) ∷ OpImm Addi 17 0 93 ∷ Ecall ∷ [])
 
 -- the machine's instructions for an instruction that stays in its function, but for its jump or branch: where
 -- values are
@@ -146,14 +177,8 @@ abbrev pub local_block : (ℕ → Location) → (base begin : ℕ) → FlatInstr
 local_block place base begin (flat.Constant x n) =
     constant (used (place x) left_scratch) (low_bits 64 n) ++ keep (place x) base left_scratch
 local_block place base begin (flat.Move x y) = move_block (place x) (place y) base
-local_block place base begin (flat.Operate op x y z) =
-    operands place base y z
-    ++ (Op op (used (place x) left_scratch) (used (place y) left_scratch) (used_right place z)
-    ∷ keep (place x) base left_scratch)
-local_block place base begin (flat.Operate32 op x y z) =
-    operands place base y z
-    ++ (Op32 op (used (place x) left_scratch) (used (place y) left_scratch) (used_right place z)
-    ∷ keep (place x) base left_scratch)
+local_block place base begin (flat.Operate op x y z) = operate_block place base op (place x) y z
+local_block place base begin (flat.Operate32 op x y z) = operate32_block place base op (place x) y z
 local_block place base begin (flat.Load op x y offset) =
     fetch (place y) base left_scratch
     ++ (Load op (used (place x) left_scratch) (used (place y) left_scratch) (offset % 2 ^ 12)
@@ -168,7 +193,7 @@ local_block place base begin flat.Turn = OpImm Addi 0 0 0 ∷ []
 local_block place base begin (flat.Call g first x) = []
 local_block place base begin (flat.CallAddress y first n x r) = []
 local_block place base begin (flat.Return y) = []
-local_block place base begin (flat.Get x) = asks_byte 63 0 ++ received_block (place x) base
+local_block place base begin (flat.Get x) = asks 63 0 1 ++ received_block (place x) base
 local_block place base begin (flat.Put x) = sent_block (place x) base
 local_block place base begin (flat.Exit x) = exit_block (place x) base
 local_block place base begin (flat.End e) = end_block (report_of e) (code_of e)

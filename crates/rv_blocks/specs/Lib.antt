@@ -1,3 +1,4 @@
-pub mod Places
 pub mod Blocks
 pub mod Effects
+pub mod Immediates
+pub mod Places

@@ -1,16 +1,20 @@
 //! Laws of the blocks, each as the contract of a function that does nothing: the back end rests on them.
 
-ghost use Rattle.std.specs.Prelude.{◌≡◌, ◌≢◌, ℕ, ◌+◌, ◌-◌, ◌^◌, ◌<◌, ◌≤◌, ◌++◌, ◌∷◌, length};
+ghost use Rattle.std.specs.Prelude.{◌≡◌, ◌≢◌, ℕ, ◌+◌, ◌^◌, ◌<◌, ◌≤◌, [], ◌∷◌, Some, length};
 ghost use Rattle.rv_isa.specs.declared.instruction.RegOp.{RegOp};
-ghost use Rattle.rv_isa.specs.declared.instruction.Instr.TheVariants.{Op};
+ghost use Rattle.rv_isa.specs.declared.instruction.Instr.{Instr};
 ghost use Rattle.rv_isa.specs.Results.{reg_result};
+ghost use Rattle.words.specs.TwosComplement.{low_bits};
 ghost use Rattle.flat_meaning.specs.declared.instruction.RightOperand.{RightOperand};
+ghost use Rattle.flat_meaning.specs.declared.instruction.RightOperand.TheVariants as right;
 ghost use Rattle.flat_meaning.specs.Memory.{load, store};
 ghost use Rattle.flat_meaning.specs.State.{Values};
 ghost use Rattle.flat_meaning.specs.Meaning.{right_value};
 ghost use Rattle.rv_view.specs.Views.{View};
 ghost use Rattle.rv_blocks.specs.declared.location.Location.{Location};
-ghost use Rattle.rv_blocks.specs.Blocks.{IsShort, constant, load_at, store_at, used, used_right, keep, operands};
+ghost use Rattle.rv_blocks.specs.Blocks.{IsShort, constant, load_at, store_at, operate_block};
+ghost use Rattle.rv_blocks.specs.Immediates.{immediate};
+ghost use Rattle.rv_blocks.specs.declared.location.Location.TheVariants.{Register};
 ghost use Rattle.rv_blocks.specs.Effects.{IsIn, IsOfSpaces, kept, Gives, Stores, Puts, HasFrame, RightIsIn};
 ghost use Rattle.rv_blocks.specs.Effects.{RightIsKept};
 
@@ -34,13 +38,16 @@ pub fn words_are_loaded_and_stored()
     ensures fewer { (from base k : ℕ) → length (store_at from base k) ≤ 3 }
 {}
 
-/// An operator's block puts what it gives into the place of its result, wherever its operands are kept.
+/// An operator's block puts what it gives into the place of its result, wherever its operands are kept. In registers it
+/// is one instruction where the number is in the instruction itself.
 pub fn operators_put_their_results()
-    ensures { (o s base fp room : ℕ) (place : ℕ → Location) (op : RegOp) (x : Location) (y : ℕ) (z : RightOperand)
+    ensures puts { (o s base fp room : ℕ) (place : ℕ → Location) (op : RegOp) (x : Location) (y : ℕ) (z : RightOperand)
         (v : View) (values : Values) → v.registers 0 ≡ 0 → HasFrame s base fp room v → IsIn room x
         → IsIn room (place y) → RightIsIn room place z → kept fp v (place y) ≡ values y
         → RightIsKept fp place v z values → reg_result op (values y) (right_value z values) < 2 ^ 64
-        → Puts o s fp room (operands place base y z
-        ++ (Op op (used x 5) (used (place y) 5) (used_right place z) ∷ keep x base 5)) v x
-        (reg_result op (values y) (right_value z values)) v.accesses }
+        → Puts o s fp room (operate_block place base op x y z) v x (reg_result op (values y) (right_value z values))
+        v.accesses }
+    ensures single { (op : RegOp) (place : ℕ → Location) (base y n l r : ℕ) (i : Instr) → place y ≡ Register l
+        → immediate op r l (low_bits 64 n) ≡ Some i
+        → operate_block place base op (Register r) y (right.Number n) ≡ i ∷ [] }
 {}

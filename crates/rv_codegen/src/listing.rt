@@ -1,13 +1,15 @@
 //! Labelled lists.
 
-ghost use Rattle.std.specs.Prelude.{◌≡◌, ◌+◌, ◌-◌, ◌<◌, ◌^◌, ◌++◌, ◌∷◌, [], length, OnOk, IfOk};
+ghost use Rattle.std.specs.Prelude.{◌≡◌, ◌+◌, ◌-◌, ◌<◌, ◌^◌, ◌++◌, ◌∷◌, [], length, OnOk, IfOk, true};
 ghost use Rattle.rv_asm.specs.declared.item.Item.TheVariants as item;
 ghost use Rattle.flat_meaning.specs.Calls.{function_in};
 ghost use Rattle.flat_meaning.specs.Meaning.{body_of};
+ghost use Rattle.call_saves.specs.Saves.{is_call, saved_at};
 ghost use Rattle.rv_follows.specs.Code.{keeping};
 ghost use Rattle.rv_layout.specs.Lists.{plain, label_for, tail_of, items_at, items_of};
 
 use addr_map::AddrMap;
+use call_saves::call_saves;
 use flat_meaning::{FlatInstruction, FlatProgram};
 use reg_plan::FunctionPlan;
 use rv_asm::{Item, Label};
@@ -151,9 +153,11 @@ fn put_items(
     count: u32,
     place: u32,
     instruction: &FlatInstruction,
+    saved: &[u64],
 ) -> Result<(), AllocError>
     requires function { number < length program.now.functions }
     requires plan { number < length plans.now }
+    requires saved { is_call instruction.now ≡ true → saved.now ≡ saved_at program.now plans.now number place }
     ensures { OnOk result
         (list.new ≡ list.old ++ items_at sizes.now program.now plans.now number count place instruction.now) }
 {
@@ -166,6 +170,7 @@ fn put_items(
         number,
         u64::from(place),
         instruction,
+        saved,
     )?;
     list.put_label(place)?;
     list.put_plain(&block)?;
@@ -189,12 +194,14 @@ pub(crate) fn function_items(
         .body
         .as_slice();
     let count = body.len() as u32;
+    let saves = call_saves(alloc, program, plans, number)?;
     let mut entry = Vec::new(alloc);
     put_entry(&mut entry, program, plans, number)?;
     let mut list = Listing::new(alloc);
     list.put_plain(&entry)?;
     for place in 0..count {
         let instruction = &body[place as usize];
+        let saved = saves.at(u64::from(place));
         put_items(
             &mut list,
             alloc,
@@ -205,6 +212,7 @@ pub(crate) fn function_items(
             count,
             place,
             instruction,
+            saved,
         )?;
     }
     list.put_label(count)?;

@@ -1,5 +1,5 @@
--- The course of the run: it is never stuck, and ends.
-use Rattle.std.proofs.Common.{◌≡◌, ℕ, zero, suc, Bool, true, false, ◌&&◌, List, refl, ap}
+-- The course of the run: it is never stuck, takes the longer branch and jump, and ends.
+use Rattle.std.proofs.Common.{◌≡◌, ℕ, zero, suc, ◌+◌, Bool, true, false, ◌&&◌, List, refl, ap}
 use Rattle.std.proofs.lemmas.Bool.{and_parts}
 use Rattle.addr_map.specs.Places.{region_size}
 use Rattle.behaviours.specs.Steps.{run}
@@ -8,7 +8,7 @@ use Rattle.flat_meaning.specs.Memory.{Bytes, put}
 use Rattle.flat_meaning.specs.State.{State, Stage, Stands, Over, Stuck}
 use Rattle.flat_meaning.specs.Calls.{rooms}
 use Rattle.flat_meaning.specs.Meaning.{step, started}
-use Rattle.rv_codegen_example.specs.Program.{sizes, program, Ends}
+use Rattle.rv_codegen_example.specs.Program.{sizes, doublings, program, StandsBefore, Ends}
 
 goes : Stage → Stage
 goes = step sizes program
@@ -46,7 +46,7 @@ walks_fine zero s h k = over_fine k s h
 walks_fine (suc n) s h zero = (and_parts (is_fine s) (walks n (goes s)) h).0
 walks_fine (suc n) s h (suc k) = walks_fine n (goes s) (and_parts (is_fine s) (walks n (goes s)) h).1 k
 
-walked : (memory : Bytes) (input : List ℕ) → walks 41 (started program memory input) ≡ true
+walked : (memory : Bytes) (input : List ℕ) → walks 50 (started program memory input) ≡ true
 unfolding walks goes is_fine is_over region_size branch_taken reg_result put rooms
 walked memory input = refl
 
@@ -59,9 +59,20 @@ pub never_stuck : (memory : Bytes) (input : List ℕ) (k : ℕ)
 unfolding goes
 never_stuck memory input k e =
     stuck_not_fine (run goes k (started program memory input)) e
-    (walks_fine 41 (started program memory input) (walked memory input) k)
+    (walks_fine 50 (started program memory input) (walked memory input) k)
 
 pub ends : (memory : Bytes) (input : List ℕ)
-    → Ends memory input (run (step sizes program) 41 (started program memory input))
+    → Ends memory input (run (step sizes program) 50 (started program memory input))
 unfolding region_size branch_taken reg_result put rooms
 ends memory input = record { state = _; is = refl; output = refl }
+
+pub takes_longer : (memory : Bytes) (input : List ℕ)
+    → StandsBefore 1 5 (run (step sizes program) 12 (started program memory input))
+    × StandsBefore 1 (doublings + 6) (run (step sizes program) 13 (started program memory input))
+    × StandsBefore 1 3 (run (step sizes program) 14 (started program memory input))
+unfolding region_size branch_taken reg_result put rooms
+takes_longer memory input = (
+  record { state = _; frames = _; is = refl },
+  record { state = _; frames = _; is = refl },
+  record { state = _; frames = _; is = refl },
+)

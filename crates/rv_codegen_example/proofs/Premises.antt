@@ -27,6 +27,7 @@ use Rattle.reg_plan.specs.Accepted.{IsAccepted}
 use Rattle.reg_plan.specs.Tests.{AreAccepted}
 use Rattle.rv_asm.specs.Forms.{forms_of, longest_size, IsAssemblable}
 use Rattle.rv_asm.specs.Words.{words_of}
+use Rattle.rv_blocks.specs.Immediates.{immediate}
 use Rattle.rv_blocks.specs.Blocks.{RightIsShort, digits, constant, load_at, store_at}
 use Rattle.rv_blocks.specs.Places.{home, location}
 use Rattle.rv_calls.specs.Calls.{give, take, save, restore}
@@ -43,7 +44,8 @@ use Rattle.rv_view.specs.Segments.{Hold}
 use Rattle.rv_segments.specs.Segments.{words_below, rows_below, start_address, code_words, table_words}
 use Rattle.rv_segments.specs.Segments.{code_bytes, table_bytes, FitsSegments}
 use Rattle.rv_segments.proofs.Labels.{labels_meet}
-use Rattle.rv_codegen_example.specs.Program.{sizes, main, next, same, program, MeetsPremises}
+use Rattle.rv_codegen_example.specs.Program.{sizes, doublings, main, next, same, program, MeetsPremises}
+use Rattle.rv_codegen_example.specs.Program.{HasNearForms}
 use Rattle.rv_codegen_example.proofs.Tested.{all_below}
 use Rattle.rv_codegen_example.proofs.Tested as tested
 use Rattle.rv_codegen_example.proofs.Course.{never_stuck}
@@ -77,7 +79,10 @@ abbrev main_plan : Global → FunctionPlan
 main_plan a = record { places = both_registers a; live = two_ranges a (span 4 11) (span 5 12) }
 
 abbrev next_plan : Global → FunctionPlan
-next_plan a = record { places = register_and_home a; live = two_ranges a (span 0 4) (span 1 3) }
+next_plan a = record {
+  places = register_and_home a;
+  live = two_ranges a (span 0 (doublings + 7)) (span 1 (doublings + 7));
+}
 
 abbrev same_plan : Global → FunctionPlan
 same_plan a = record { places = both_registers a; live = two_ranges a (span 0 1) (span 1 2) }
@@ -219,27 +224,27 @@ module _ (a : Global) where
   -- ---- the code fits
 
   main_long : nat_lt (longest_size (items_of sizes program plans 0)) (2 ^ 28) ≡ true
-  unfolding plans keeping block location home give take save restore digits constant load_at store_at
+  unfolding plans keeping block location home give take save restore digits constant immediate load_at store_at
       function_address
   main_long = refl
 
   next_long : nat_lt (longest_size (items_of sizes program plans 1)) (2 ^ 28) ≡ true
-  unfolding plans keeping block location home give take save restore digits constant load_at store_at
+  unfolding plans keeping block location home give take save restore digits constant immediate load_at store_at
       function_address
   next_long = refl
 
   same_long : nat_lt (longest_size (items_of sizes program plans 2)) (2 ^ 28) ≡ true
-  unfolding plans keeping block location home give take save restore digits constant load_at store_at
+  unfolding plans keeping block location home give take save restore digits constant immediate load_at store_at
   same_long = refl
 
   code_long : nat_le (code_bytes sizes program plans) 0x800000 ≡ true
-  unfolding plans keeping block location home give take save restore digits constant load_at store_at words_of forms_of
-      words_below function_address
+  unfolding plans keeping block location home give take save restore digits constant immediate load_at store_at words_of
+      forms_of words_below function_address
   code_long = refl
 
   table_long : nat_le (0x10000 + table_bytes sizes program plans) 0x100000 ≡ true
-  unfolding plans keeping block location home give take save restore digits constant load_at store_at words_of forms_of
-      words_below rows_below
+  unfolding plans keeping block location home give take save restore digits constant immediate load_at store_at words_of
+      forms_of words_below rows_below
   table_long = refl
 
   fits : FitsSegments sizes program plans
@@ -257,6 +262,16 @@ module _ (a : Global) where
       able (suc (suc zero)) lt = labels_meet sizes program plans 2
           (ltb-true (longest_size (items_of sizes program plans 2)) (2 ^ 28) same_long)
       able (suc (suc (suc f))) lt = absurd (omega arith)
+
+  -- ---- the forms of the longer branch and jump
+
+  near_forms : HasNearForms plans
+  unfolding plans keeping block location home give take save restore digits constant immediate load_at store_at forms_of
+      function_address
+  near_forms = record {
+    branch = record { item = _; stands = refl; goes = refl; is = refl };
+    jump = record { item = _; stands = refl; goes = refl; is = refl };
+  }
 
   premises : MeetsPremises plans
   premises = record {
@@ -279,7 +294,7 @@ Law = (m : MapSizes) (p : FlatProgram) (plans : List FunctionPlan) (objects spac
     spaces) input)
 
 pub met : Law → (a : Global)
-    → (plans : List FunctionPlan) × MeetsPremises plans
+    → (plans : List FunctionPlan) × MeetsPremises plans × HasNearForms plans
     × ((objects spaces : List ℕ) (memory : Bytes) (input : List ℕ)
     → Hold (object_bytes sizes) (space_bytes sizes) memory objects spaces → AreBytes memory
     → Follows 6 (flat_meaning sizes program memory input)
@@ -288,6 +303,7 @@ pub met : Law → (a : Global)
 met law a = (
   plans a,
   premises a,
+  near_forms a,
   λ objects spaces memory input hold bytes. law sizes program (plans a) objects spaces memory input mapped
       (accepted a) encodable startable (fits a) hold bytes (never_stuck memory input),
 )

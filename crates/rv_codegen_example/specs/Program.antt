@@ -1,24 +1,32 @@
 -- A program of three functions: three times it calls a function that gives a byte more than its argument, and sends the
 -- result to the output. That function calls a third, so that two records wait at once. The first and the third keep
 -- their values in the same two registers, so that the count must wait in its home at each call; the record of the
--- second is longer than the offsets of loads and stores reach, and one of its values is kept at the end of it.
-use Rattle.std.specs.Prelude.{◌≡◌, ℕ, List, [], ◌∷◌, false}
+-- second is longer than the offsets of loads and stores reach, and one of its values is kept at the end of it. Its code
+-- is longer than the offset of a branch reaches: the run goes past it by a branch of two words, and back over it by a
+-- jump.
+use Rattle.std.specs.Prelude.{◌≡◌, ℕ, ◌+◌, ◌-◌, List, [], ◌∷◌, ◌++◌, replicate, false, Some, slice_get}
 use Rattle.sb_base.specs.Budgets.{default_sizes}
 use Rattle.addr_map.specs.Places.{MapSizes, AreMapped}
 use Rattle.behaviours.specs.Steps.{run}
 use Rattle.rv_isa.specs.declared.instruction.RegOp.TheVariants.{Add, Sub}
-use Rattle.rv_isa.specs.declared.instruction.BranchOp.TheVariants.{Beq}
+use Rattle.rv_isa.specs.declared.instruction.BranchOp.TheVariants.{Beq, Bne}
+use Rattle.rv_asm.specs.declared.form.Form.{Form}
+use Rattle.rv_asm.specs.declared.form.Form.TheVariants.{Near}
+use Rattle.rv_asm.specs.declared.item.Item.{Item}
+use Rattle.rv_asm.specs.Items.{target_of}
+use Rattle.rv_asm.specs.Forms.{forms_of}
 use Rattle.flat_meaning.specs.declared.instruction.RightOperand.TheVariants.{Register, Number}
 use Rattle.flat_meaning.specs.declared.instruction.FlatInstruction.TheVariants as flat
 use Rattle.flat_meaning.specs.declared.function.FlatFunction.{FlatFunction}
 use Rattle.flat_meaning.specs.declared.function.FlatProgram.{FlatProgram}
 use Rattle.flat_meaning.specs.Memory.{Bytes}
-use Rattle.flat_meaning.specs.State.{State, Stage, Over, Stuck}
+use Rattle.flat_meaning.specs.State.{State, Frame, Stage, Stands, Over, Stuck}
 use Rattle.flat_meaning.specs.Meaning.{step, started}
 use Rattle.reg_plan.specs.declared.plan.FunctionPlan.{FunctionPlan}
 use Rattle.reg_plan.specs.Tests.{AreAccepted}
 use Rattle.rv_follows.specs.Code.{IsEncodable}
 use Rattle.rv_follows.specs.Start.{IsStartable}
+use Rattle.rv_layout.specs.Lists.{items_of, index_of}
 use Rattle.rv_segments.specs.Segments.{FitsSegments}
 
 -- a map with the budgets that are taken where none are asked for
@@ -49,7 +57,13 @@ main = record {
       ∷ [];
 }
 
--- virtual register 0 has the byte, and 1 what is added to it
+-- how many times the second function doubles what it adds
+abbrev pub doublings : ℕ
+doublings = 110
+
+-- Virtual register 0 has the byte, and 1 what is added to it: 1, or for a byte of 0 what 1 doubled so many times has in
+-- 64 bits, which is 0. Each doubling has ten words, for the value is kept at the end of the record. The addition and
+-- the return stand before the branch that goes past the doublings, so that the jump behind these goes back over them.
 abbrev pub next : FlatFunction
 next = record {
   parameters = 1;
@@ -60,9 +74,11 @@ next = record {
   body =
       flat.Constant 1 1
       ∷ flat.Call 2 0 0
+      ∷ flat.JumpForward 2
       ∷ flat.Operate Add 0 0 (Register 1)
       ∷ flat.Return 0
-      ∷ [];
+      ∷ flat.Branch Bne 0 (Number 0) doublings
+      ∷ (replicate doublings (flat.Operate Add 1 1 (Register 1)) ++ (flat.JumpBack (doublings + 3) ∷ []));
 }
 
 abbrev pub same : FlatFunction
@@ -88,6 +104,27 @@ pub record MeetsPremises (plans : List FunctionPlan) : Type 0 where
   pub fits : FitsSegments sizes program plans
   pub never_stuck : (memory : Bytes) (input : List ℕ) (k : ℕ)
       → run (step sizes program) k (started program memory input) ≡ Stuck → ⊥
+
+-- the last item of an instruction, its branch or its jump, goes to a label, and the assembler gives it a form
+pub record HasForm (plans : List FunctionPlan) (function pc label : ℕ) (form : Form) : Type 0 where
+  pub item : Item
+  pub stands : slice_get (items_of sizes program plans function) (index_of sizes program plans function (pc + 1) - 1)
+      ≡ Some item
+  pub goes : target_of item ≡ Some label
+  pub is : slice_get (forms_of (items_of sizes program plans function))
+      (index_of sizes program plans function (pc + 1) - 1) ≡ Some form
+
+-- the branch past the doublings, to the jump behind them, and this jump, back to the addition, are too far for the
+-- shortest form
+pub record HasNearForms (plans : List FunctionPlan) : Type 0 where
+  pub branch : HasForm plans 1 5 (doublings + 6) Near
+  pub jump : HasForm plans 1 (doublings + 6) 3 Near
+
+-- a stage of the run stands before an instruction of a function
+pub record StandsBefore (function pc : ℕ) (stage : Stage) : Type 0 where
+  pub state : State
+  pub frames : List Frame
+  pub is : stage ≡ Stands function pc state frames
 
 -- the run ends with status 0, after the output of three bytes, whatever the input is
 pub record Ends (memory : Bytes) (input : List ℕ) (last : Stage) : Type 0 where

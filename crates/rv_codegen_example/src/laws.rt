@@ -1,6 +1,6 @@
 //! The laws of the program, each as the contract of a function that does nothing.
 
-ghost use Rattle.std.specs.Prelude.{List, [], ℕ};
+ghost use Rattle.std.specs.Prelude.{List, [], ℕ, ◌+◌};
 ghost use Rattle.std.specs.Global.{Global};
 ghost use Rattle.behaviours.specs.Behaviour.{Follows};
 ghost use Rattle.behaviours.specs.Steps.{run};
@@ -16,16 +16,17 @@ ghost use Rattle.rv_follows.specs.Start.{begins};
 ghost use Rattle.rv_layout.specs.Lists.{bytes_of};
 ghost use Rattle.rv_segments.specs.Segments.{start_address, code_words, table_words};
 ghost use Rattle.rv_image.specs.Image.{filled, IsImage};
-ghost use Rattle.rv_codegen_example.specs.Program.{sizes, program, MeetsPremises, Ends};
+ghost use Rattle.rv_codegen_example.specs.Program.{sizes, doublings, program, MeetsPremises, HasNearForms};
+ghost use Rattle.rv_codegen_example.specs.Program.{StandsBefore, Ends};
 
 use rv_image::laws::{images_follow, programs_have_images};
 use rv_segments::laws::generated_code_follows;
 
 /// The program meets every premise under plans that keep all its values but one in registers, wherever these lie in
-/// memory; so
-/// the machine with its code follows it, whatever the data and the input are.
+/// memory; so the machine with its code follows it, whatever the data and the input are. Under these plans a branch and
+/// a jump of it have a longer form than the shortest.
 pub fn premises_are_met()
-    ensures { (alloc : Global) → (plans : List FunctionPlan) × MeetsPremises plans
+    ensures { (alloc : Global) → (plans : List FunctionPlan) × MeetsPremises plans × HasNearForms plans
         × ((objects spaces : List ℕ) (memory : Bytes) (input : List ℕ)
         → Hold (object_bytes sizes) (space_bytes sizes) memory objects spaces → AreBytes memory
         → Follows 6 (flat_meaning sizes program memory input)
@@ -50,5 +51,13 @@ pub fn its_image_follows()
 /// The program sends three bytes, and ends with status 0.
 pub fn three_bytes_are_sent()
     ensures { (memory : Bytes) (input : List ℕ)
-        → Ends memory input (run (step sizes program) 41 (started program memory input)) }
+        → Ends memory input (run (step sizes program) 50 (started program memory input)) }
+{}
+
+/// The run takes the branch that goes past the doublings, and behind them the jump back over them.
+pub fn longer_forms_are_taken()
+    ensures { (memory : Bytes) (input : List ℕ)
+        → StandsBefore 1 5 (run (step sizes program) 12 (started program memory input))
+        × StandsBefore 1 (doublings + 6) (run (step sizes program) 13 (started program memory input))
+        × StandsBefore 1 3 (run (step sizes program) 14 (started program memory input)) }
 {}

@@ -1,6 +1,7 @@
 //! The instructions that stand for an instruction of flat code.
 
-ghost use Rattle.std.specs.Prelude.{◌≡◌, ◌+◌, ◌-◌, ◌<◌, ◌^◌, ◌++◌, false, length, Some, OnOk};
+ghost use Rattle.std.specs.Prelude.{◌≡◌, ◌+◌, ◌-◌, ◌<◌, ◌^◌, ◌++◌, true, false, length, Some, OnOk};
+ghost use Rattle.call_saves.specs.Saves.{is_call, saved_below, saved_at};
 ghost use Rattle.addr_map.specs.Places.{region_start};
 ghost use Rattle.addr_map.specs.declared.region.Region.TheVariants.{Calls};
 ghost use Rattle.flat_meaning.specs.Calls.{function_in, room_if};
@@ -117,8 +118,11 @@ fn put_block_in(
     begin: u64,
     place: u64,
     instruction: &FlatInstruction,
+    saved: &[u64],
 ) -> Result<(), AllocError>
-    requires { place < 2 ^ 63 }
+    requires place { place < 2 ^ 63 }
+    requires saved { is_call instruction.now ≡ true
+        → saved.now ≡ saved_below function.now plan.now place (length plan.now.live.items) }
     ensures { OnOk result
         (code.new.items ≡ code.old.items
         ++ block_of program.now function.now plan.now begin place instruction.now) }
@@ -137,7 +141,9 @@ fn put_block_in(
                 into,
                 count: results(program, callee),
             };
-            put_call(code, function, plan, place, callee, arguments, results)
+            put_call(
+                code, function, plan, place, callee, arguments, results, saved,
+            )
         }
         FlatInstruction::CallAddress {
             at,
@@ -151,15 +157,16 @@ fn put_block_in(
                 into,
                 count: results,
             };
-            put_call_address(code, function, plan, place, at, arguments, results)
+            put_call_address(code, function, plan, place, at, arguments, results, saved)
         }
         FlatInstruction::Return { from } => put_return(code, function, plan, from),
         _ => put_local(code, function, plan, begin, instruction),
     }
 }
 
-/// Puts the instructions that stand for an instruction of a function, but for its jump or branch, behind a list.
-#[tactic(auto, unfolding(rv_follows::specs::Code::block, rv_follows::specs::Code::keeping))]
+/// Puts the instructions that stand for an instruction of a function, but for its jump or branch, behind a list. For a
+/// call the virtual registers are given that it saves.
+#[tactic(auto, unfolding(rv_follows::specs::Code::block, rv_follows::specs::Code::keeping, call_saves::specs::Saves::saved_at))]
 pub fn put_block(
     code: &mut Vec<Instr>,
     sizes: &AddrMap,
@@ -168,10 +175,12 @@ pub fn put_block(
     number: u32,
     place: u64,
     instruction: &FlatInstruction,
+    saved: &[u64],
 ) -> Result<(), AllocError>
     requires function { number < length program.now.functions }
     requires plan { number < length plans.now }
     requires place { place < 2 ^ 63 }
+    requires saved { is_call instruction.now ≡ true → saved.now ≡ saved_at program.now plans.now number place }
     ensures { OnOk result
         (code.new.items ≡ code.old.items
         ++ block sizes.now program.now plans.now number place instruction.now) }
@@ -179,7 +188,16 @@ pub fn put_block(
     let function = &program.functions.as_slice()[number as usize];
     let plan = &plans[number as usize];
     let begin = charged_from(sizes, function);
-    put_block_in(code, program, function, plan, begin, place, instruction)
+    put_block_in(
+        code,
+        program,
+        function,
+        plan,
+        begin,
+        place,
+        instruction,
+        saved,
+    )
 }
 
 /// Puts the first instructions of a function, before those of its body: its return address and its arguments are

@@ -1,17 +1,20 @@
 //! Calls and returns: arguments and results go through their words, and what is wanted behind a call waits in its
 //! home.
 
-ghost use Rattle.std.specs.Prelude.{◌≡◌, ◌+◌, ◌*◌, ◌<◌, ◌≤◌, ◌^◌, ◌++◌, ◌∷◌, [], if◌then◌else◌, OnOk};
+ghost use Rattle.std.specs.Prelude.{◌≡◌, ◌+◌, ◌*◌, ◌<◌, ◌≤◌, ◌^◌, ◌++◌, ◌∷◌, [], if◌then◌else◌, OnOk, length};
+ghost use Rattle.reg_plan.specs.Effects.{is_among, many};
+ghost use Rattle.call_saves.specs.Saves.{saved_below};
 ghost use Rattle.addr_map.specs.Places.{function_address};
 ghost use Rattle.rv_isa.specs.declared.instruction.RegOp.TheVariants.{Add};
 ghost use Rattle.rv_isa.specs.declared.instruction.Instr.TheVariants.{Jalr, Op};
 ghost use Rattle.rv_blocks.specs.Blocks.{constant, used, keep, load_at, store_at, fetch};
-ghost use Rattle.rv_blocks.specs.Places.{home, location, frame_register, argument_words, left_scratch, right_scratch};
+ghost use Rattle.rv_blocks.specs.Places.{location, frame_register, argument_words, left_scratch, right_scratch};
 ghost use Rattle.rv_blocks.specs.Places.{callee_scratch};
-ghost use Rattle.rv_calls.specs.Calls.{give, take, save, save_one, restore, restore_one, back_block, entry_block};
+ghost use Rattle.rv_calls.specs.Calls.{give, take, save, restore, back_block, entry_block};
 ghost use Rattle.rv_calls.specs.Calls.{return_block};
 ghost use Rattle.rv_follows.specs.Code.{wanted};
 ghost use Rattle.rv_emission.specs.Kept.{kept_by, call_of};
+ghost use Rattle.rv_emission.specs.Saving.{save_unless, restore_unless};
 
 use crate::constants::{put_constant, put_load_at, put_store_at};
 use crate::values::{
@@ -165,110 +168,92 @@ pub(crate) fn entry_address(number: u32) -> u64
     0x1_0000 + 16 * u64::from(number)
 }
 
-// Whether a virtual register is live behind a call and none of its results.
-fn is_wanted(
-    function: &FlatFunction,
-    plan: &FunctionPlan,
-    place: u64,
-    results: Results,
-    register: u64,
-) -> bool
-    requires { place < 2 ^ 63 }
-    ensures { result ≡ wanted (kept_by function.now plan.now) place results.into results.count register }
+// Whether a virtual register is one of the results of a call.
+fn is_result(results: Results, register: u64) -> bool
+    ensures { result ≡ is_among (many results.into results.count) register }
 {
     let first = u64::from(results.into);
-    let is_result = first <= register && register < first + u64::from(results.count);
-    is_live(function, plan, place + 1, register) && !is_result
+    first <= register && register < first + u64::from(results.count)
 }
 
-// Puts what brings a value that is wanted behind a call to its home.
+// Puts what brings a value to its home, unless it is a result of a call.
 #[tactic(auto, using(crate::proofs::Lists::nothing_behind))]
-fn put_save_if_wanted(
+fn put_save_unless_result(
     code: &mut Vec<Instr>,
     function: &FlatFunction,
     plan: &FunctionPlan,
-    place: u64,
     results: Results,
     register: u64,
 ) -> Result<(), AllocError>
-    requires { place < 2 ^ 63 }
     ensures { OnOk result
         (code.new.items ≡ code.old.items
-        ++ (if wanted (kept_by function.now plan.now) place results.into results.count register
-        then save_one (location function.now plan.now register) (frame_register function.now)
-        (home function.now register)
-        else [])) }
+        ++ save_unless (kept_by function.now plan.now) results.into results.count register) }
 {
-    if is_wanted(function, plan, place, results, register) {
-        return put_save(code, function, plan, register);
+    if is_result(results, register) {
+        return Ok(());
     }
-    Ok(())
+    put_save(code, function, plan, register)
 }
 
 // Puts what brings it back from there.
 #[tactic(auto, using(crate::proofs::Lists::nothing_behind))]
-fn put_restore_if_wanted(
+fn put_restore_unless_result(
     code: &mut Vec<Instr>,
     function: &FlatFunction,
     plan: &FunctionPlan,
-    place: u64,
     results: Results,
     register: u64,
 ) -> Result<(), AllocError>
-    requires { place < 2 ^ 63 }
     ensures { OnOk result
         (code.new.items ≡ code.old.items
-        ++ (if wanted (kept_by function.now plan.now) place results.into results.count register
-        then restore_one (location function.now plan.now register) (frame_register function.now)
-        (home function.now register)
-        else [])) }
+        ++ restore_unless (kept_by function.now plan.now) results.into results.count register) }
 {
-    if is_wanted(function, plan, place, results, register) {
-        return put_restore(code, function, plan, register);
+    if is_result(results, register) {
+        return Ok(());
     }
-    Ok(())
+    put_restore(code, function, plan, register)
 }
 
-// Puts what brings all values that are wanted behind a call to their homes.
-#[tactic(auto, unfolding(rv_calls::specs::Calls::save))]
+// Puts what brings all values that are wanted behind a call to their homes, of which those in registers are given.
 fn put_saves(
     code: &mut Vec<Instr>,
     function: &FlatFunction,
     plan: &FunctionPlan,
     place: u64,
     results: Results,
+    saved: &[u64],
 ) -> Result<(), AllocError>
-    requires { place < 2 ^ 63 }
+    requires { saved.now ≡ saved_below function.now plan.now place (length plan.now.live.items) }
     ensures { OnOk result
         (code.new.items ≡ code.old.items
         ++ save (kept_by function.now plan.now)
         (wanted (kept_by function.now plan.now) place results.into results.count)
         (kept_by function.now plan.now).count) }
 {
-    for register in 0..plan.live.len() {
-        put_save_if_wanted(code, function, plan, place, results, register as u64)?;
+    for register in saved {
+        put_save_unless_result(code, function, plan, results, *register)?;
     }
     Ok(())
 }
 
 // Puts what brings them back.
-#[tactic(auto, unfolding(rv_calls::specs::Calls::restore))]
 fn put_restores(
     code: &mut Vec<Instr>,
     function: &FlatFunction,
     plan: &FunctionPlan,
     place: u64,
     results: Results,
+    saved: &[u64],
 ) -> Result<(), AllocError>
-    requires { place < 2 ^ 63 }
+    requires { saved.now ≡ saved_below function.now plan.now place (length plan.now.live.items) }
     ensures { OnOk result
         (code.new.items ≡ code.old.items
         ++ restore (kept_by function.now plan.now)
         (wanted (kept_by function.now plan.now) place results.into results.count)
         (kept_by function.now plan.now).count) }
 {
-    for register in 0..plan.live.len() {
-        put_restore_if_wanted(code, function, plan, place, results, register as u64)?;
+    for register in saved {
+        put_restore_unless_result(code, function, plan, results, *register)?;
     }
     Ok(())
 }
@@ -310,8 +295,10 @@ fn put_hand_over(
     place: u64,
     arguments: Arguments,
     results: Results,
+    saved: &[u64],
 ) -> Result<(), AllocError>
-    requires { place < 2 ^ 63 }
+    requires place { place < 2 ^ 63 }
+    requires saved { saved.now ≡ saved_below function.now plan.now place (length plan.now.live.items) }
     ensures { OnOk result
         (code.new.items ≡ code.old.items
         ++ (save (kept_by function.now plan.now)
@@ -319,7 +306,7 @@ fn put_hand_over(
         (kept_by function.now plan.now).count
         ++ give (kept_by function.now plan.now) arguments.first arguments.count)) }
 {
-    put_saves(code, function, plan, place, results)?;
+    put_saves(code, function, plan, place, results, saved)?;
     put_give(code, function, plan, arguments.first, arguments.count)
 }
 
@@ -343,8 +330,10 @@ fn put_back(
     plan: &FunctionPlan,
     place: u64,
     results: Results,
+    saved: &[u64],
 ) -> Result<(), AllocError>
-    requires { place < 2 ^ 63 }
+    requires place { place < 2 ^ 63 }
+    requires saved { saved.now ≡ saved_below function.now plan.now place (length plan.now.live.items) }
     ensures { OnOk result
         (code.new.items ≡ code.old.items
         ++ back_block (kept_by function.now plan.now)
@@ -352,7 +341,7 @@ fn put_back(
         results.count) }
 {
     put_moves(code, function, RegOp::Sub)?;
-    put_restores(code, function, plan, place, results)?;
+    put_restores(code, function, plan, place, results, saved)?;
     put_take(code, function, plan, place + 1, results.into, results.count)
 }
 
@@ -365,17 +354,19 @@ pub(crate) fn put_call(
     callee: u32,
     arguments: Arguments,
     results: Results,
+    saved: &[u64],
 ) -> Result<(), AllocError>
-    requires { place < 2 ^ 63 }
+    requires place { place < 2 ^ 63 }
+    requires saved { saved.now ≡ saved_below function.now plan.now place (length plan.now.live.items) }
     ensures { OnOk result
         (code.new.items ≡ code.old.items
         ++ call_of (kept_by function.now plan.now) place arguments.first arguments.count results.into results.count
         (constant callee_scratch (function_address callee)) callee_scratch) }
 {
-    put_hand_over(code, function, plan, place, arguments, results)?;
+    put_hand_over(code, function, plan, place, arguments, results, saved)?;
     put_constant(code, callee_scratch(), entry_address(callee))?;
     put_jump(code, function, callee_scratch())?;
-    put_back(code, function, plan, place, results)
+    put_back(code, function, plan, place, results, saved)
 }
 
 /// Puts a call of the function whose address a virtual register has.
@@ -387,22 +378,24 @@ pub(crate) fn put_call_address(
     address: u32,
     arguments: Arguments,
     results: Results,
+    saved: &[u64],
 ) -> Result<(), AllocError>
-    requires { place < 2 ^ 63 }
+    requires place { place < 2 ^ 63 }
+    requires saved { saved.now ≡ saved_below function.now plan.now place (length plan.now.live.items) }
     ensures { OnOk result
         (code.new.items ≡ code.old.items
         ++ call_of (kept_by function.now plan.now) place arguments.first arguments.count results.into results.count
         (fetch (location function.now plan.now address) (frame_register function.now) callee_scratch)
         (used (location function.now plan.now address) callee_scratch)) }
 {
-    put_hand_over(code, function, plan, place, arguments, results)?;
+    put_hand_over(code, function, plan, place, arguments, results, saved)?;
     put_fetch(code, function, plan, u64::from(address), callee_scratch())?;
     put_jump(
         code,
         function,
         used(function, plan, u64::from(address), callee_scratch()),
     )?;
-    put_back(code, function, plan, place, results)
+    put_back(code, function, plan, place, results, saved)
 }
 
 /// Puts a return of so many results from one on, and the jump back.

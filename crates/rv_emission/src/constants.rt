@@ -29,8 +29,8 @@ fn upper(number: u128) -> Imm20
     Imm20::new(((number + 0x800) / 0x1000 % 0x10_0000) as u32)
 }
 
-/// Puts a number below 2^31 - 2^11 into a register, by LUI and ADDI. Of a greater one that comes whose low 32 bits these
-/// are, sign-extended.
+/// Puts a number below 2^31 - 2^11 into a register, by LUI and ADDI. Of a greater one that comes whose low 32 bits
+/// these are, sign-extended.
 pub(crate) fn put_wide(code: &mut Vec<Instr>, rd: Reg, number: u128) -> Result<(), AllocError>
     requires { number < 2 ^ 127 }
     ensures { OnOk result (code.new.items ≡ code.old.items ++ wide rd number) }

@@ -5,6 +5,7 @@
 pub mod block;
 mod calls;
 mod constants;
+mod immediates;
 mod local;
 pub mod table;
 mod values;

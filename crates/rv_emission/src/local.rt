@@ -1,16 +1,18 @@
 //! Instructions that stay in their function.
 
-ghost use Rattle.std.specs.Prelude.{◌≡◌, ◌+◌, ◌-◌, ◌<◌, ◌≤◌, ◌^◌, ◌%◌, ◌++◌, ◌∷◌, [], OnOk};
+ghost use Rattle.std.specs.Prelude.{◌≡◌, ◌+◌, ◌-◌, ◌<◌, ◌≤◌, ◌^◌, ◌%◌, ◌++◌, ◌∷◌, [], length, OnOk};
 ghost use Rattle.sb_base.specs.Endings.{report_of, code_of};
 ghost use Rattle.rv_isa.specs.declared.instruction.ImmOp.TheVariants.{Addi};
 ghost use Rattle.rv_isa.specs.declared.instruction.Instr.TheVariants.{OpImm};
 ghost use Rattle.flat_meaning.specs.declared.instruction.FlatInstruction.TheVariants as flat;
-ghost use Rattle.rv_blocks.specs.Blocks.{move_block, charged_block, asks_byte, received_block, sent_block};
-ghost use Rattle.rv_blocks.specs.Blocks.{exit_block, report_bytes, end_block, local_block};
-ghost use Rattle.rv_blocks.specs.Places.{location, frame_register};
+ghost use Rattle.rv_blocks.specs.Blocks.{move_block, charged_block, asks, received_block, sent_block};
+ghost use Rattle.rv_blocks.specs.Blocks.{exit_block, report_bytes, report_block, end_block, local_block};
+ghost use Rattle.rv_blocks.specs.Blocks.{keep, operator_block};
+ghost use Rattle.rv_blocks.specs.Places.{location, frame_register, left_scratch};
 
 use crate::calls::argument_words;
 use crate::constants::{addi, put_constant};
+use crate::immediates::{immediate_of, immediate32_of};
 use crate::values::{
     frame_register, left_scratch, put_fetch, put_keep, put_operands, right_scratch, used,
     used_right,
@@ -69,6 +71,51 @@ pub(crate) fn put_move(
     put_keep(code, function, plan, u64::from(into), left_scratch())
 }
 
+// Puts an instruction, and what brings its result to its place.
+fn put_kept(
+    code: &mut Vec<Instr>,
+    function: &FlatFunction,
+    plan: &FunctionPlan,
+    into: u32,
+    instruction: Instr,
+) -> Result<(), AllocError>
+    ensures { OnOk result
+        (code.new.items ≡ code.old.items
+        ++ (instruction ∷ keep (location function.now plan.now into) (frame_register function.now) left_scratch)) }
+{
+    code.push(instruction)?;
+    put_keep(code, function, plan, u64::from(into), left_scratch())
+}
+
+// Puts an operator: by an instruction that has its right operand in itself, where there is one, else by one on two
+// registers.
+fn put_operator(
+    code: &mut Vec<Instr>,
+    function: &FlatFunction,
+    plan: &FunctionPlan,
+    into: u32,
+    left: u32,
+    right: RightOperand,
+    immediate: Option<Instr>,
+    plain: Instr,
+) -> Result<(), AllocError>
+    ensures { OnOk result
+        (code.new.items ≡ code.old.items
+        ++ operator_block (location function.now plan.now) (frame_register function.now)
+        (location function.now plan.now into) left right immediate plain) }
+{
+    match immediate {
+        Some(instruction) => {
+            put_fetch(code, function, plan, u64::from(left), left_scratch())?;
+            put_kept(code, function, plan, into, instruction)
+        }
+        None => {
+            put_operands(code, function, plan, left, right)?;
+            put_kept(code, function, plan, into, plain)
+        }
+    }
+}
+
 /// Puts an operator of 64 bits.
 pub(crate) fn put_operate(
     code: &mut Vec<Instr>,
@@ -84,14 +131,12 @@ pub(crate) fn put_operate(
         ++ local_block (location function.now plan.now) (frame_register function.now) 0
         (flat.Operate op into left right)) }
 {
-    put_operands(code, function, plan, left, right)?;
-    code.push(Instr::Op {
-        op,
-        rd: used(function, plan, u64::from(into), left_scratch()),
-        rs1: used(function, plan, u64::from(left), left_scratch()),
-        rs2: used_right(function, plan, right),
-    })?;
-    put_keep(code, function, plan, u64::from(into), left_scratch())
+    let rd = used(function, plan, u64::from(into), left_scratch());
+    let rs1 = used(function, plan, u64::from(left), left_scratch());
+    let rs2 = used_right(function, plan, right);
+    let plain = Instr::Op { op, rd, rs1, rs2 };
+    let immediate = immediate_of(op, rd, rs1, right);
+    put_operator(code, function, plan, into, left, right, immediate, plain)
 }
 
 /// Puts an operator of the low 32 bits.
@@ -109,14 +154,12 @@ pub(crate) fn put_operate32(
         ++ local_block (location function.now plan.now) (frame_register function.now) 0
         (flat.Operate32 op into left right)) }
 {
-    put_operands(code, function, plan, left, right)?;
-    code.push(Instr::Op32 {
-        op,
-        rd: used(function, plan, u64::from(into), left_scratch()),
-        rs1: used(function, plan, u64::from(left), left_scratch()),
-        rs2: used_right(function, plan, right),
-    })?;
-    put_keep(code, function, plan, u64::from(into), left_scratch())
+    let rd = used(function, plan, u64::from(into), left_scratch());
+    let rs1 = used(function, plan, u64::from(left), left_scratch());
+    let rs2 = used_right(function, plan, right);
+    let plain = Instr::Op32 { op, rd, rs1, rs2 };
+    let immediate = immediate32_of(op, rd, rs1, right);
+    put_operator(code, function, plan, into, left, right, immediate, plain)
 }
 
 // The low 12 bits of an offset.
@@ -176,16 +219,22 @@ pub(crate) fn put_store(
     Ok(())
 }
 
-// Puts what asks for one byte in the words of arguments, by an environment call with a number and a descriptor.
-fn put_asks_byte(code: &mut Vec<Instr>, number: u64, descriptor: u64) -> Result<(), AllocError>
+// Puts what asks for so many bytes in the words of arguments, by an environment call with a number and a descriptor.
+fn put_asks(
+    code: &mut Vec<Instr>,
+    number: u64,
+    descriptor: u64,
+    count: u64,
+) -> Result<(), AllocError>
     requires number { number < 2 ^ 12 }
     requires descriptor { descriptor < 2 ^ 12 }
-    ensures { OnOk result (code.new.items ≡ code.old.items ++ asks_byte number descriptor) }
+    requires count { count < 2 ^ 12 }
+    ensures { OnOk result (code.new.items ≡ code.old.items ++ asks number descriptor count) }
 {
     code.push(addi(Reg::A7, Reg::ZERO, number))?;
     code.push(addi(Reg::A0, Reg::ZERO, descriptor))?;
     code.push(addi(Reg::A1, argument_words(), 0))?;
-    code.push(addi(Reg::A2, Reg::ZERO, 1))?;
+    code.push(addi(Reg::A2, Reg::ZERO, count))?;
     code.push(Instr::Ecall)?;
     Ok(())
 }
@@ -233,9 +282,9 @@ pub(crate) fn put_get(
 ) -> Result<(), AllocError>
     ensures { OnOk result
         (code.new.items ≡ code.old.items
-        ++ (asks_byte 63 0 ++ received_block (location function.now plan.now into) (frame_register function.now))) }
+        ++ (asks 63 0 1 ++ received_block (location function.now plan.now into) (frame_register function.now))) }
 {
-    put_asks_byte(code, 63, 0)?;
+    put_asks(code, 63, 0, 1)?;
     put_received(code, function, plan, into)
 }
 
@@ -257,7 +306,7 @@ pub(crate) fn put_put(
         rs2: used(function, plan, u64::from(from), left_scratch()),
         imm: Imm12::new(0),
     })?;
-    put_asks_byte(code, 64, 1)
+    put_asks(code, 64, 1, 1)
 }
 
 /// Puts an exit.
@@ -279,23 +328,35 @@ pub(crate) fn put_exit(
     Ok(())
 }
 
-// Puts writes of bytes to the error output, one by one.
+// Puts stores of bytes to the words of arguments, one behind another.
 #[tactic(auto, using(crate::proofs::Lists::nothing_behind))]
-fn put_report(code: &mut Vec<Instr>, report: &[u8]) -> Result<(), AllocError>
-    ensures { OnOk result (code.new.items ≡ code.old.items ++ report_bytes report.now) }
+fn put_report_bytes(code: &mut Vec<Instr>, report: &[u8]) -> Result<(), AllocError>
+    requires { length report.now < 2 ^ 11 }
+    ensures { OnOk result (code.new.items ≡ code.old.items ++ report_bytes 0 report.now) }
 {
-    for byte in report {
+    for (offset, byte) in report.iter().enumerate() {
         code.push(addi(left_scratch(), Reg::ZERO, u64::from(*byte) % 0x800))?;
         code.push(Instr::Store {
             op: StoreOp::Sb,
             rs1: argument_words(),
             rs2: left_scratch(),
-            imm: Imm12::new(0),
+            imm: Imm12::low(offset as u32),
         })?;
-        code.push(addi(Reg::A0, Reg::ZERO, 2))?;
-        code.push(Instr::Ecall)?;
     }
     Ok(())
+}
+
+// Puts a write of a report to the error output.
+#[tactic(auto, using(crate::proofs::Lists::nothing_behind))]
+fn put_report(code: &mut Vec<Instr>, report: &[u8]) -> Result<(), AllocError>
+    requires { length report.now < 2 ^ 11 }
+    ensures { OnOk result (code.new.items ≡ code.old.items ++ report_block report.now) }
+{
+    if report.is_empty() {
+        return Ok(());
+    }
+    put_report_bytes(code, report)?;
+    put_asks(code, 64, 2, report.len() as u64 % 0x800)
 }
 
 /// Puts an ending with its report.
@@ -303,9 +364,6 @@ pub(crate) fn put_end(code: &mut Vec<Instr>, ending: &Ending) -> Result<(), Allo
     ensures { OnOk result
         (code.new.items ≡ code.old.items ++ end_block (report_of ending.now) (code_of ending.now)) }
 {
-    code.push(addi(Reg::A7, Reg::ZERO, 64))?;
-    code.push(addi(Reg::A1, argument_words(), 0))?;
-    code.push(addi(Reg::A2, Reg::ZERO, 1))?;
     let mut text = [0; REPORT_ROOM];
     let length = ending.report_into(&mut text);
     put_report(code, &text[..length])?;

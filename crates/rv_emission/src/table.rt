@@ -24,7 +24,8 @@ pub fn put_row(code: &mut Vec<Instr>, address: u128) -> Result<(), AllocError>
     Ok(())
 }
 
-/// Puts the first instructions of a program: the registers of the back end get their addresses, and the entry is called.
+/// Puts the first instructions of a program: the registers of the back end get their addresses, and the entry is
+/// called.
 pub fn put_start(
     code: &mut Vec<Instr>,
     sizes: &AddrMap,

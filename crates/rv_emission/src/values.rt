@@ -1,9 +1,9 @@
 //! Where the values of a function are kept: operands come from there, results go there.
 
-ghost use Rattle.std.specs.Prelude.{◌≡◌, ◌<◌, ◌^◌, ◌++◌, slice_get, OnOk};
+ghost use Rattle.std.specs.Prelude.{◌≡◌, ◌<◌, ◌^◌, ◌++◌, ◌==◌, if◌then◌else◌, [], slice_get, OnOk};
 ghost use Rattle.flat_meaning.specs.declared.instruction.RightOperand.{RightOperand};
 ghost use Rattle.rv_blocks.specs.Places.{home, location, frame_register, saved_register, left_scratch, right_scratch};
-ghost use Rattle.rv_blocks.specs.Blocks.{used, fetch, keep, used_right, fetch_right, operands};
+ghost use Rattle.rv_blocks.specs.Blocks.{constant, used, fetch, keep, used_right, fetch_right, operands};
 ghost use Rattle.rv_calls.specs.Calls.{save_one, restore_one};
 ghost use Rattle.rv_emission.specs.Kept.{IsSmall};
 
@@ -115,6 +115,29 @@ fn put_keep_at(
     }
 }
 
+// The register in which a number is found as a right operand: x0 has 0.
+fn number_register(number: u64) -> Reg
+    ensures { result ≡ (if number == 0 then 0 else right_scratch) }
+{
+    if number == 0 {
+        Reg::ZERO
+    } else {
+        right_scratch()
+    }
+}
+
+// Puts what brings it there.
+#[tactic(auto, using(crate::proofs::Lists::nothing_behind))]
+fn put_number(code: &mut Vec<Instr>, number: u64) -> Result<(), AllocError>
+    ensures { OnOk result
+        (code.new.items ≡ code.old.items ++ (if number == 0 then [] else constant right_scratch number)) }
+{
+    if number == 0 {
+        return Ok(());
+    }
+    put_constant(code, right_scratch(), number)
+}
+
 /// The register in which the value of a right operand is found.
 pub(crate) fn used_right(function: &FlatFunction, plan: &FunctionPlan, right: RightOperand) -> Reg
     ensures { result ≡ used_right (location function.now plan.now) right }
@@ -123,7 +146,7 @@ pub(crate) fn used_right(function: &FlatFunction, plan: &FunctionPlan, right: Ri
         RightOperand::Register(register) => {
             used(function, plan, u64::from(register), right_scratch())
         }
-        RightOperand::Number(_) => right_scratch(),
+        RightOperand::Number(number) => number_register(number),
     }
 }
 
@@ -142,7 +165,7 @@ fn put_fetch_right(
         RightOperand::Register(register) => {
             put_fetch(code, function, plan, u64::from(register), right_scratch())
         }
-        RightOperand::Number(number) => put_constant(code, right_scratch(), number),
+        RightOperand::Number(number) => put_number(code, number),
     }
 }
 

@@ -25,10 +25,12 @@ use Rattle.flat_meaning.specs.Calls.{function_in}
 use Rattle.flat_meaning.specs.Meaning.{weight_of}
 use Rattle.reg_plan.specs.declared.plan.FunctionPlan.{FunctionPlan}
 use Rattle.rv_blocks.specs.Blocks.{IsShort, RightIsShort, constant, used, used_right, fetch, keep, operands}
-use Rattle.rv_blocks.specs.Blocks.{report_bytes, asks_byte}
+use Rattle.rv_blocks.specs.Blocks.{asks, end_block}
+use Rattle.rv_blocks.specs.Immediates.{immediate_of, immediate32_of}
 use Rattle.rv_blocks.specs.Effects.{IsIn, RightIsIn}
-use Rattle.rv_blocks.proofs.Lengths.{short_constant_length, short_bits_length, report_length, home_reach}
-use Rattle.rv_blocks.proofs.Lengths.{fetch_reach, keep_reach, operands_reach}
+use Rattle.rv_blocks.proofs.Lengths.{short_constant_length, short_bits_length, home_reach}
+use Rattle.rv_blocks.proofs.Reports.{end_length}
+use Rattle.rv_blocks.proofs.Lengths.{fetch_reach, keep_reach, operands_reach, operator_reach}
 use Rattle.rv_follows.specs.Code.{keeping, block, charged_from}
 
 -- ---- what an instruction weighs, and how many reach a home
@@ -95,11 +97,9 @@ module _ (m : MapSizes) (p : FlatProgram) (plans : List FunctionPlan) (f pc : �
   unfolding block
   operate_bound op x y z hx hy hz short =
       let k = keeping p plans f in
-      let a = operands_reach k.room k.place k.base y z hy hz short in
-      let b = keep_reach k.room (k.place x) k.base 5 hx in
-      let c = length-append (operands k.place k.base y z)
-      (Op op (used (k.place x) 5) (used (k.place y) 5) (used_right k.place z) ∷ keep (k.place x) k.base 5) in
-      omega arith
+      operator_reach k.room k.place k.base (k.place x) y z
+      (immediate_of op (used (k.place x) 5) (used (k.place y) 5) z)
+      (Op op (used (k.place x) 5) (used (k.place y) 5) (used_right k.place z)) hx hy hz short
 
   pub operate32_bound : (op : RegOp32) (x y : ℕ) (z : RightOperand) → IsPlaced x → IsPlaced y → RightIsPlaced z
       → RightIsShort z
@@ -107,11 +107,9 @@ module _ (m : MapSizes) (p : FlatProgram) (plans : List FunctionPlan) (f pc : �
   unfolding block
   operate32_bound op x y z hx hy hz short =
       let k = keeping p plans f in
-      let a = operands_reach k.room k.place k.base y z hy hz short in
-      let b = keep_reach k.room (k.place x) k.base 5 hx in
-      let c = length-append (operands k.place k.base y z)
-      (Op32 op (used (k.place x) 5) (used (k.place y) 5) (used_right k.place z) ∷ keep (k.place x) k.base 5) in
-      omega arith
+      operator_reach k.room k.place k.base (k.place x) y z
+      (immediate32_of op (used (k.place x) 5) (used (k.place y) 5) z)
+      (Op32 op (used (k.place x) 5) (used (k.place y) 5) (used_right k.place z)) hx hy hz short
 
   pub load_bound : (op : LoadOp) (x y o : ℕ) → IsPlaced x → IsPlaced y
       → length (block m p plans f pc (flat.Load op x y o)) ≤ 2 * home_reach (keeping p plans f).room + 1
@@ -163,7 +161,7 @@ module _ (m : MapSizes) (p : FlatProgram) (plans : List FunctionPlan) (f pc : �
   put_bound x hx =
       let k = keeping p plans f in
       let a = fetch_reach k.room (k.place x) k.base 5 hx in
-      let c = length-append (fetch (k.place x) k.base 5) (Store Sb 3 (used (k.place x) 5) 0 ∷ asks_byte 64 1) in
+      let c = length-append (fetch (k.place x) k.base 5) (Store Sb 3 (used (k.place x) 5) 0 ∷ asks 64 1 1) in
       omega arith
 
   pub exit_bound : (x : ℕ) → IsPlaced x
@@ -182,8 +180,8 @@ module _ (m : MapSizes) (p : FlatProgram) (plans : List FunctionPlan) (f pc : �
 
   pub end_bound : (e : Ending) → length (block m p plans f pc (flat.End e)) ≤ 6 + 4 * length (report_of e)
   unfolding block
-  end_bound e =
-      let r = report_length (report_of e) in
-      let c = length-append (report_bytes (report_of e))
-      (OpImm Addi 10 0 (code_of e % 2 ^ 11) ∷ OpImm Addi 17 0 93 ∷ Ecall ∷ []) in
-      omega arith
+  end_bound e = end_most_of (report_of e) (code_of e)
+    where
+      end_most_of : (report : List ℕ) (status : ℕ) → length (end_block report status) ≤ 6 + 4 * length report
+      end_most_of [] status = omega arith
+      end_most_of (b ∷ bs) status = let r = end_length (b ∷ bs) status in omega arith

@@ -228,7 +228,8 @@ module _ (m : MapSizes) (p : FlatProgram) (plans : List FunctionPlan) (table cod
   made_in f pc x g i there at leads inside makes = place_in f (pc + 1) x g there
       (ok.makes f pc g i there at (pc + 1) x leads inside (ap (λ q. is_among q x) makes ∙ among_one x))
 
-  pub operator_reads : (f pc y : ℕ) (z : RightOperand) (g : FlatFunction) (i : FlatInstruction) → function_in p f ≡ Some g
+  pub operator_reads : (f pc y : ℕ) (z : RightOperand) (g : FlatFunction) (i : FlatInstruction) → function_in p f
+      ≡ Some g
       → instruction_at p f pc ≡ Some i
       → read_by p f i ≡ two (one y) (operand z)
       → ((keeping p plans f).live pc y ≡ true) × RightIsLive (keeping p plans f) pc z

@@ -30,14 +30,14 @@ use Rattle.rv_view.specs.Segments.{IsOfData}
 use Rattle.rv_view.specs.Views.{View, Fits, AllStand, Shows, with_value}
 use Rattle.rv_view.specs.Views.{perform, performs, address_in}
 use Rattle.rv_view.proofs.Straight.{runs_then}
-use Rattle.rv_view.proofs.Leaving.{no_access, exits, writes_byte, reads_byte, reads_nothing}
+use Rattle.rv_view.proofs.Leaving.{no_access, exits, writes_bytes, reads_byte, reads_nothing}
 use Rattle.rv_blocks.specs.declared.location.Location.{Location}
 use Rattle.rv_blocks.specs.declared.location.Location.TheVariants as location
-use Rattle.rv_blocks.specs.Blocks.{used, fetch, keep, report_bytes, received_block}
+use Rattle.rv_blocks.specs.Blocks.{used, fetch, keep, report_block, received_block}
 use Rattle.rv_blocks.specs.Effects.{IsSaved, IsIn, kept, Computes, HasFrame}
 use Rattle.rv_blocks.proofs.Pieces.{fetches, performs_append, with_same, with_other, keeps, silent}
 use Rattle.rv_blocks.proofs.Local.{used_nonzero}
-use Rattle.rv_blocks.proofs.Lengths.{report_length}
+use Rattle.rv_blocks.proofs.Reports.{reports_are_short}
 use Rattle.rv_follows.specs.Code.{keeping, block, IsLaid, IsEncodable}
 use Rattle.rv_follows.specs.Matching.{object_bytes, space_bytes, record_of, IsAt, ShowsSame, Meets, HasEnded}
 use Rattle.rv_follows.proofs.Runs.{Comes, straight_comes, all_append}
@@ -47,7 +47,7 @@ use Rattle.rv_follows.proofs.Standing.{frame_of, made, moves, before_untouched, 
 use Rattle.rv_follows.proofs.Locals.{layout, among_one, among_none, Steps}
 use Rattle.rv_follows.proofs.Asks.{asking, asking_asks, IsAsking, immediate, immediate_other, small_immediate}
 use Rattle.rv_follows.proofs.Asks.{stored_byte}
-use Rattle.rv_follows.proofs.Asks.{IsReporting, reports, receiving, receives}
+use Rattle.rv_follows.proofs.Asks.{reports, receiving, receives}
 
 -- where registers of values stay, and of memory all but so many bytes before the record, so does what is kept
 kept_behind : (fp room area n : ℕ) (v w : View) (x : Location) → area + n ≤ fp
@@ -127,13 +127,13 @@ module _ (m : MapSizes) (p : FlatProgram) (plans : List FunctionPlan) (table cod
         let live = ok.reads f pc g i there at x (rw (among_one x) refl) in
         let inside = (ok.kept f pc g there).inside x live in
         let front = fetch (k.place x) k.base 5 in
-        let last = Store Sb 3 (used (k.place x) 5) 0 ∷ asking 64 1 in
+        let last = Store Sb 3 (used (k.place x) 5) 0 ∷ asking 64 1 1 in
         let u = fetches (object_bytes m) (space_bytes m) (k.place x) k.base 5 fp k.room h.view (omega arith) frame
         inside in
         let v0 = h.view in
         let w0 = performs front v0 in
         let w1 = perform (Store Sb 3 (used (k.place x) 5) 0) w0 in
-        let w2 = performs (asking 64 1) w1 in
+        let w2 = performs (asking 64 1 1) w1 in
         let area_low : region_start m Arguments < 2 ^ 63 =
         omega (arith, regions.arguments, regions.calls, regions.end) in
         let three0 : w0.registers 3 ≡ region_start m Arguments = u.others 3 (omega arith) ∙ h.is_at.arguments in
@@ -144,7 +144,7 @@ module _ (m : MapSizes) (p : FlatProgram) (plans : List FunctionPlan) (table cod
         ap (λ q. store 1 w0.memory q (w0.registers (used (k.place x) 5))) place
         ∙ ap (store 1 w0.memory (region_start m Arguments)) value
         ∙ ap (λ q. store 1 q (region_start m Arguments) (s.values x)) u.memory in
-        let ask = asking_asks w1 64 1 (region_start m Arguments) (omega arith) (omega arith)
+        let ask = asking_asks w1 64 1 1 (region_start m Arguments) (omega arith) (omega arith) (omega arith)
         (u.others 0 (omega arith) ∙ h.is_at.zero_is) three0 area_low in
         let whole = all_append l front (last ++ Ecall ∷ []) (address f pc) (laid.blocks f pc i at) in
         let rest = all_append l last (Ecall ∷ []) (address f pc + 4 * length front) whole.1 in
@@ -158,9 +158,10 @@ module _ (m : MapSizes) (p : FlatProgram) (plans : List FunctionPlan) (table cod
         both.shows in
         let pc_w2 : w2.pc ≡ address f pc + 4 * length front + 4 * 5 = ask.pc ∙ ap (λ q. q + 4 + 16) pc_w0 ∙ omega
         arith in
-        let e = writes_byte l then_last.after w2 fit
+        let e = writes_bytes l 1 then_last.after w2 fit
         (subst (λ q. AllStand l q (Ecall ∷ [])) (sym pc_w2) rest.1).0 ask.number_is ask.descriptor_is ask.count
-        (subst (λ q. IsOfData (object_bytes m) (space_bytes m) q 1) (sym ask.buffer) buffer_lies) then_last.shows in
+        (omega arith) (subst (λ q. IsOfData (object_bytes m) (space_bytes m) q 1) (sym ask.buffer) buffer_lies)
+        then_last.shows in
         let w3 : View = record w2 { pc = w2.pc + 4; registers = with_value w2.registers 10 1 } in
         let byte : w2.memory (w2.registers 11) ≡ s.values x % 256 =
         ap w2.memory ask.buffer ∙ ap (λ q. q (region_start m Arguments)) (ask.memory ∙ mem1)
@@ -243,7 +244,7 @@ module _ (m : MapSizes) (p : FlatProgram) (plans : List FunctionPlan) (table cod
         } in
         let u = keeps (object_bytes m) (space_bytes m) front w k.base fp k.room (k.place x) n w.accesses computes small
         frame_w x_in in
-        let stand = all_append l (asking 63 0 ++ Ecall ∷ []) tail (address f pc) (laid.blocks f pc i at) in
+        let stand = all_append l (asking 63 0 1 ++ Ecall ∷ []) tail (address f pc) (laid.blocks f pc i at) in
         let go = straight_comes l fit tail d w (subst (λ q. AllStand l q tail) (sym pc_is) stand.1) u.go shows in
         let whole : length (block m p plans f pc i) ≡ 5 + length tail = omega arith in
         record {
@@ -272,19 +273,19 @@ module _ (m : MapSizes) (p : FlatProgram) (plans : List FunctionPlan) (table cod
     pub record Asked (number descriptor : ℕ) : Type 0 where
       pub view : View
       pub comes : Comes (layout m table code) 4 c view
-      pub ask : IsAsking h.view view number descriptor (region_start m Arguments)
+      pub ask : IsAsking h.view view number descriptor 1 (region_start m Arguments)
       pub pc_is : view.pc ≡ address f pc + 4 * 4
 
     asked : (number descriptor : ℕ) → number < 2 ^ 11 → descriptor < 2 ^ 11
-        → AllStand (layout m table code) (address f pc) (asking number descriptor) → Asked number descriptor
+        → AllStand (layout m table code) (address f pc) (asking number descriptor 1) → Asked number descriptor
     asked number descriptor hn hd stand =
         let l = layout m table code in
-        let ask = asking_asks h.view number descriptor (region_start m Arguments) hn hd h.is_at.zero_is
+        let ask = asking_asks h.view number descriptor 1 (region_start m Arguments) hn hd (omega arith) h.is_at.zero_is
         h.is_at.arguments (omega (arith, regions.arguments, regions.calls, regions.end)) in
         record {
-          view = performs (asking number descriptor) h.view;
-          comes = straight_comes l fit (asking number descriptor) c h.view
-              (subst (λ q. AllStand l q (asking number descriptor)) (sym h.pc_is) stand) (tt, (tt, (tt, (tt, tt))))
+          view = performs (asking number descriptor 1) h.view;
+          comes = straight_comes l fit (asking number descriptor 1) c h.view
+              (subst (λ q. AllStand l q (asking number descriptor 1)) (sym h.pc_is) stand) (tt, (tt, (tt, (tt, tt))))
               h.shows;
           ask = ask;
           pc_is = ask.pc ∙ ap (λ q. q + 16) h.pc_is ∙ omega arith;
@@ -301,7 +302,7 @@ module _ (m : MapSizes) (p : FlatProgram) (plans : List FunctionPlan) (table cod
         let i = flat.Get x in
         let k = keeping p plans f in
         let tail = received_block (k.place x) k.base in
-        let stand = all_append l (asking 63 0) (Ecall ∷ tail) (address f pc) (laid.blocks f pc i at) in
+        let stand = all_append l (asking 63 0 1) (Ecall ∷ tail) (address f pc) (laid.blocks f pc i at) in
         let a = asked 63 0 (omega arith) (omega arith) stand.0 in
         let w = a.view in
         let e = reads_nothing l a.comes.after w fit
@@ -339,7 +340,7 @@ module _ (m : MapSizes) (p : FlatProgram) (plans : List FunctionPlan) (table cod
         let i = flat.Get x in
         let k = keeping p plans f in
         let tail = received_block (k.place x) k.base in
-        let stand = all_append l (asking 63 0) (Ecall ∷ tail) (address f pc) (laid.blocks f pc i at) in
+        let stand = all_append l (asking 63 0 1) (Ecall ∷ tail) (address f pc) (laid.blocks f pc i at) in
         let a = asked 63 0 (omega arith) (omega arith) stand.0 in
         let w = a.view in
         let e = reads_byte l a.comes.after w byte rest fit
@@ -437,78 +438,56 @@ module _ (m : MapSizes) (p : FlatProgram) (plans : List FunctionPlan) (table cod
         let i = flat.End e in
         let bytes = report_of e in
         let status = code_of e in
-        let front = OpImm Addi 17 0 64 ∷ OpImm Addi 11 3 0 ∷ OpImm Addi 12 0 1 ∷ [] in
         let last = OpImm Addi 10 0 (status % 2 ^ 11) ∷ OpImm Addi 17 0 93 ∷ [] in
         let v0 = h.view in
-        let v1 = perform (OpImm Addi 17 0 64) v0 in
-        let v2 = perform (OpImm Addi 11 3 0) v1 in
-        let v3 = perform (OpImm Addi 12 0 1) v2 in
-        let z1 : v1.registers 0 ≡ 0 = immediate_other v0 17 0 64 0 (omega arith) ∙ h.is_at.zero_is in
-        let z2 : v2.registers 0 ≡ 0 = immediate_other v1 11 3 0 0 (omega arith) ∙ z1 in
-        let t1 : v1.registers 3 ≡ region_start m Arguments = immediate_other v0 17 0 64 3 (omega arith)
-        ∙ h.is_at.arguments in
-        let area_is : wrap (region_start m Arguments + sext 12 0) ≡ region_start m Arguments =
-        omega (arith, regions.arguments, regions.calls, regions.end) in
         let area_low : region_start m Arguments < 2 ^ 63 =
         omega (arith, regions.arguments, regions.calls, regions.end) in
         let from : spaces_begin ≤ region_start m Arguments = omega (arith, regions.cells_low, regions.cells) in
-        let ready : IsReporting l fit (region_start m Arguments) from area_low buffer_lies v3 = record {
-          zero_is = immediate_other v2 12 0 1 0 (omega arith) ∙ z2;
-          area_is = immediate_other v2 12 0 1 3 (omega arith) ∙ immediate_other v1 11 3 0 3 (omega arith) ∙ t1;
-          number = immediate_other v2 12 0 1 17 (omega arith) ∙ immediate_other v1 11 3 0 17 (omega arith)
-              ∙ immediate v0 17 0 64 64 (omega arith) (ap (λ q. wrap (q + sext 12 64)) h.is_at.zero_is);
-          buffer = immediate_other v2 12 0 1 11 (omega arith)
-              ∙ immediate v1 11 3 0 (region_start m Arguments) (omega arith)
-              (ap (λ q. wrap (q + sext 12 0)) t1 ∙ area_is);
-          count = immediate v2 12 0 1 1 (omega arith) (ap (λ q. wrap (q + sext 12 1)) z2);
-        } in
-        let whole = all_append l front (report_bytes bytes ++ (last ++ Ecall ∷ [])) (address f pc)
-        (laid.blocks f pc i at) in
-        let mid = all_append l (report_bytes bytes) (last ++ Ecall ∷ []) (address f pc + 4 * 3) whole.1 in
-        let a = straight_comes l fit front c v0 (subst (λ q. AllStand l q front) (sym h.pc_is) whole.0)
-        (tt, (tt, (tt, tt))) h.shows in
-        let pc3 : v3.pc ≡ address f pc + 4 * 3 = ap (λ q. q + 4 + 4 + 4) h.pc_is ∙ omega arith in
-        let r = reports l fit (region_start m Arguments) from area_low buffer_lies bytes a.after v3
-        (can.report f pc e at) ready (subst (λ q. AllStand l q (report_bytes bytes)) (sym pc3) mid.0) a.shows in
+        let lies : IsOfData (object_bytes m) (space_bytes m) (region_start m Arguments) (2 ^ 11) = inr (
+          from,
+          omega (arith, regions.arguments, regions.calls, regions.space),
+        ) in
+        let short = reports_are_short e in
+        let whole = all_append l (report_block bytes) (last ++ Ecall ∷ []) (address f pc) (laid.blocks f pc i at) in
+        let r = reports l fit (region_start m Arguments) from area_low lies bytes c v0 (can.report f pc e at)
+        (omega arith) h.is_at.zero_is h.is_at.arguments
+        (subst (λ q. AllStand l q (report_block bytes)) (sym h.pc_is) whole.0) h.shows in
         let w0 = r.view in
         let w1 = perform (OpImm Addi 10 0 (status % 2 ^ 11)) w0 in
         let w2 = perform (OpImm Addi 17 0 93) w1 in
-        let count = report_length bytes in
-        let pc_w0 : w0.pc ≡ address f pc + 4 * 3 + 4 * length (report_bytes bytes) =
-        r.pc ∙ ap (λ q. q + 4 * (4 * length bytes)) pc3 ∙ omega (arith, count) in
-        let rest = all_append l last (Ecall ∷ []) (address f pc + 4 * 3 + 4 * length (report_bytes bytes)) mid.1 in
+        let pc_w0 : w0.pc ≡ address f pc + 4 * length (report_block bytes) =
+        r.pc ∙ ap (λ q. q + 4 * length (report_block bytes)) h.pc_is in
+        let rest = all_append l last (Ecall ∷ []) (address f pc + 4 * length (report_block bytes)) whole.1 in
         let b = straight_comes l fit last r.after w0 (subst (λ q. AllStand l q last) (sym pc_w0) rest.0) (tt, (tt, tt))
         r.shows in
-        let pc_w2 : w2.pc ≡ address f pc + 4 * 3 + 4 * length (report_bytes bytes) + 4 * 2 =
+        let pc_w2 : w2.pc ≡ address f pc + 4 * length (report_block bytes) + 4 * 2 =
         ap (λ q. q + 4 + 4) pc_w0 ∙ omega arith in
         let small = can.status f pc e at in
         let status_is : status % 2 ^ 11 ≡ status = omega arith in
         let ten : w2.registers 10 ≡ status = immediate_other w1 17 0 93 10 (omega arith)
         ∙ immediate w0 10 0 (status % 2 ^ 11) status (omega arith)
-        (ap (λ q. wrap (q + sext 12 (status % 2 ^ 11))) r.reporting.zero_is
+        (ap (λ q. wrap (q + sext 12 (status % 2 ^ 11))) r.zero_is
         ∙ ap (λ q. wrap (0 + sext 12 q)) status_is ∙ small_immediate status (omega arith)) in
         let nought : w1.registers 0 ≡ 0 = immediate_other w0 10 0 (status % 2 ^ 11) 0 (omega arith)
-        ∙ r.reporting.zero_is in
+        ∙ r.zero_is in
         let seventeen : w2.registers 17 ≡ 93 = immediate w1 17 0 93 93 (omega arith)
         (ap (λ q. wrap (q + sext 12 93)) nought) in
         let x = exits l b.after w2 fit (subst (λ q. AllStand l q (Ecall ∷ [])) (sym pc_w2) rest.1).0 seventeen
         b.shows in
-        let long = length-append (report_bytes bytes) (last ++ Ecall ∷ []) in
+        let long = length-append (report_block bytes) (last ++ Ecall ∷ []) in
         let low_status : status % 256 ≡ status = omega arith in
         record {
-          steps = 1 + (2 + (4 * length bytes + 3));
-          few = omega (arith, long, count);
+          steps = 1 + (2 + length (report_block bytes));
+          few = omega (arith, long);
           after = (b.after, Some (Exited (w2.registers 10 % 256)));
-          is = runs_then 1 (2 + (4 * length bytes + 3)) c b.after
-              (runs_then 2 (4 * length bytes + 3) c r.after
-              (runs_then (4 * length bytes) 3 c a.after a.is ∙ r.is) ∙ b.is) ∙ x;
+          is = runs_then 1 (2 + length (report_block bytes)) c b.after
+              (runs_then 2 (length (report_block bytes)) c r.after r.is ∙ b.is) ∙ x;
           ended = record {
             ending = ap (λ q. Some (Exited (q % 256))) ten ∙ ap (λ q. Some (Exited q)) low_status;
-            output = b.stays.output ∙ r.output ∙ a.stays.output ∙ h.outside.output ∙ sym output;
-            errors = b.stays.errors ∙ r.errors ∙ ap (λ q. q ++ bytes) (a.stays.errors ∙ h.outside.errors);
-            taken = b.stays.taken ∙ r.taken ∙ a.stays.taken ∙ h.outside.taken ∙ sym taken;
+            output = b.stays.output ∙ r.output ∙ h.outside.output ∙ sym output;
+            errors = b.stays.errors ∙ r.errors ∙ ap (λ q. q ++ bytes) h.outside.errors;
+            taken = b.stays.taken ∙ r.taken ∙ h.outside.taken ∙ sym taken;
             accesses = b.shows.accesses_are ∙ no_access w1.accesses w1.pc ∙ no_access w0.accesses w0.pc ∙ r.accesses
-                ∙ no_access v2.accesses v2.pc ∙ no_access v1.accesses v1.pc ∙ no_access v0.accesses v0.pc
                 ∙ h.accesses ∙ sym accesses;
           };
         }

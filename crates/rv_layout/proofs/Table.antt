@@ -1,11 +1,22 @@
 -- Every instruction that stands for flat code fits its fields.
-use Rattle.std.proofs.Common.{ℕ, zero, suc, ◌+◌, ◌-◌, ◌*◌, ◌/◌, ◌^◌, ◌<◌, List, [], ◌∷◌, ◌++◌}
+use Rattle.std.proofs.Common.{ℕ, zero, suc, ◌+◌, ◌-◌, ◌*◌, ◌/◌, ◌%◌, ◌^◌, ◌<◌, List, [], ◌∷◌, ◌++◌, length}
 use Rattle.std.proofs.Common.{Bool, true, false, Option, Some, None, arith}
-use Rattle.std.specs.Prelude.{nat_lt, nat_le, if◌then◌else◌}
+use Rattle.std.specs.Prelude.{◌==◌, nat_lt, nat_le, if◌then◌else◌}
 use Rattle.addr_map.specs.Places.{MapSizes}
-use Rattle.words.specs.TwosComplement.{low_bits}
+use Rattle.words.specs.TwosComplement.{low_bits, negated}
 use Rattle.sb_base.specs.Endings.{report_of}
+use Rattle.rv_isa.specs.declared.instruction.ImmOp.{ImmOp}
+use Rattle.rv_isa.specs.declared.instruction.ImmOp.TheVariants.{Addi, Slti, Sltiu, Xori, Ori, Andi}
+use Rattle.rv_isa.specs.declared.instruction.ShiftOp.{ShiftOp}
+use Rattle.rv_isa.specs.declared.instruction.ShiftOp.TheVariants.{Slli, Srli, Srai}
+use Rattle.rv_isa.specs.declared.instruction.ShiftOp32.{ShiftOp32}
+use Rattle.rv_isa.specs.declared.instruction.ShiftOp32.TheVariants.{Slliw, Srliw, Sraiw}
+use Rattle.rv_isa.specs.declared.instruction.RegOp.{RegOp}
+use Rattle.rv_isa.specs.declared.instruction.RegOp.TheVariants.{Add, Sub, Sll, Slt, Sltu, Xor, Srl, Sra, Or, And}
+use Rattle.rv_isa.specs.declared.instruction.RegOp32.{RegOp32}
+use Rattle.rv_isa.specs.declared.instruction.RegOp32.TheVariants.{Addw, Subw, Sllw, Srlw, Sraw}
 use Rattle.rv_isa.specs.declared.instruction.Instr.{Instr}
+use Rattle.rv_isa.specs.declared.instruction.Instr.TheVariants.{OpImm, ShiftImm, Addiw, ShiftImm32, Op, Op32}
 use Rattle.rv_isa.specs.Table.{IsOfTable}
 use Rattle.flat_meaning.specs.declared.instruction.RightOperand.{RightOperand}
 use Rattle.flat_meaning.specs.declared.instruction.RightOperand.TheVariants as right
@@ -22,8 +33,10 @@ use Rattle.rv_blocks.specs.declared.location.Location.{Location}
 use Rattle.rv_blocks.specs.declared.location.Location.TheVariants.{Register, Frame}
 use Rattle.rv_blocks.specs.Places.{location, location_at}
 use Rattle.rv_blocks.specs.Blocks.{wide, digits, constant, load_at, store_at, used, fetch, keep, used_right}
-use Rattle.rv_blocks.specs.Blocks.{fetch_right}
-use Rattle.rv_blocks.specs.Blocks.{operands, report_bytes, local_block}
+use Rattle.rv_blocks.specs.Immediates.{is_immediate, with_immediate, with_shift, with_immediate32, with_shift32}
+use Rattle.rv_blocks.specs.Immediates.{immediate, immediate32, immediate_of, immediate32_of}
+use Rattle.rv_blocks.specs.Blocks.{fetch_right, operator_block}
+use Rattle.rv_blocks.specs.Blocks.{operands, asks, received_block, report_bytes, report_block, local_block}
 use Rattle.rv_calls.specs.Calls.{Keeping, give, take, save_one, restore_one, save, restore, advance, retreat}
 use Rattle.rv_calls.specs.Calls.{call_block}
 use Rattle.rv_calls.specs.Calls.{entry_block, return_block}
@@ -98,27 +111,102 @@ keep_fits (Frame o) base t b h = store_fits t base o h b
 fetch_right_fits : (places : ℕ → Location) (base : ℕ) (z : RightOperand) → base < 32
     → AllOfTable (fetch_right places base z)
 fetch_right_fits places base (right.Register z) b = fetch_fits (places z) base 6 b (omega arith)
-fetch_right_fits places base (right.Number n) b = constant_fits 6 (low_bits 64 n) (omega arith)
+fetch_right_fits places base (right.Number n) b =
+    choice (n == 0) [] (constant 6 (low_bits 64 n)) tt (constant_fits 6 (low_bits 64 n) (omega arith))
 
 used_right_fits : (places : ℕ → Location) (z : RightOperand) → ((y : ℕ) → IsField (places y))
     → used_right places z < 32
 used_right_fits places (right.Register z) h = used_fits (places z) 6 (h z) (omega arith)
-used_right_fits places (right.Number n) h = omega arith
+used_right_fits places (right.Number n) h = by (n == 0)
+  where
+    by : (b : Bool) → (if b then 0 else 6) < 32
+    by true = omega arith
+    by false = omega arith
 
 operands_fit : (places : ℕ → Location) (base y : ℕ) (z : RightOperand) → base < 32
     → AllOfTable (operands places base y z)
 operands_fit places base y z b = both (fetch (places y) base 5) (fetch_right places base z)
     (fetch_fits (places y) base 5 b (omega arith)) (fetch_right_fits places base z b)
 
-report_fits : (bytes : List ℕ) → AllOfTable (report_bytes bytes)
-report_fits [] = tt
-report_fits (b ∷ bs) = (
-  (omega arith, omega arith, omega arith),
+-- an instruction that has a number in itself, where there is one
+abbrev FitsIfSome : Option Instr → Type 0
+FitsIfSome None = Unit {0}
+FitsIfSome (Some i) = IsOfTable i
+
+some_fits : (b : Bool) (i : Instr) → IsOfTable i → FitsIfSome (if b then Some i else None)
+some_fits true i h = h
+some_fits false i h = tt
+
+with_immediate_fits : (op : ImmOp) (rd rs1 n : ℕ) → rd < 32 → rs1 < 32 → FitsIfSome (with_immediate op rd rs1 n)
+with_immediate_fits op rd rs1 n h k =
+    some_fits (is_immediate n) (OpImm op rd rs1 (n % 2 ^ 12)) (omega arith, omega arith, omega arith)
+
+with_shift_fits : (op : ShiftOp) (rd rs1 n : ℕ) → rd < 32 → rs1 < 32 → FitsIfSome (with_shift op rd rs1 n)
+with_shift_fits op rd rs1 n h k =
+    some_fits (nat_lt n 64) (ShiftImm op rd rs1 (n % 2 ^ 6)) (omega arith, omega arith, omega arith)
+
+with_immediate32_fits : (rd rs1 n : ℕ) → rd < 32 → rs1 < 32 → FitsIfSome (with_immediate32 rd rs1 n)
+with_immediate32_fits rd rs1 n h k =
+    some_fits (is_immediate n) (Addiw rd rs1 (n % 2 ^ 12)) (omega arith, omega arith, omega arith)
+
+with_shift32_fits : (op : ShiftOp32) (rd rs1 n : ℕ) → rd < 32 → rs1 < 32 → FitsIfSome (with_shift32 op rd rs1 n)
+with_shift32_fits op rd rs1 n h k =
+    some_fits (nat_lt n 32) (ShiftImm32 op rd rs1 (n % 2 ^ 5)) (omega arith, omega arith, omega arith)
+
+immediate_fits : (op : RegOp) (rd rs1 : ℕ) (z : RightOperand) → rd < 32 → rs1 < 32
+    → FitsIfSome (immediate_of op rd rs1 z)
+unfolding immediate
+immediate_fits op rd rs1 (right.Register z) h k = tt
+immediate_fits Add rd rs1 (right.Number n) h k = with_immediate_fits Addi rd rs1 (low_bits 64 n) h k
+immediate_fits Sub rd rs1 (right.Number n) h k = with_immediate_fits Addi rd rs1 (negated 64 (low_bits 64 n)) h k
+immediate_fits Slt rd rs1 (right.Number n) h k = with_immediate_fits Slti rd rs1 (low_bits 64 n) h k
+immediate_fits Sltu rd rs1 (right.Number n) h k = with_immediate_fits Sltiu rd rs1 (low_bits 64 n) h k
+immediate_fits Xor rd rs1 (right.Number n) h k = with_immediate_fits Xori rd rs1 (low_bits 64 n) h k
+immediate_fits Or rd rs1 (right.Number n) h k = with_immediate_fits Ori rd rs1 (low_bits 64 n) h k
+immediate_fits And rd rs1 (right.Number n) h k = with_immediate_fits Andi rd rs1 (low_bits 64 n) h k
+immediate_fits Sll rd rs1 (right.Number n) h k = with_shift_fits Slli rd rs1 (low_bits 64 n) h k
+immediate_fits Srl rd rs1 (right.Number n) h k = with_shift_fits Srli rd rs1 (low_bits 64 n) h k
+immediate_fits Sra rd rs1 (right.Number n) h k = with_shift_fits Srai rd rs1 (low_bits 64 n) h k
+immediate_fits op rd rs1 (right.Number n) h k = tt
+
+immediate32_fits : (op : RegOp32) (rd rs1 : ℕ) (z : RightOperand) → rd < 32 → rs1 < 32
+    → FitsIfSome (immediate32_of op rd rs1 z)
+unfolding immediate32
+immediate32_fits op rd rs1 (right.Register z) h k = tt
+immediate32_fits Addw rd rs1 (right.Number n) h k = with_immediate32_fits rd rs1 (low_bits 64 n) h k
+immediate32_fits Subw rd rs1 (right.Number n) h k = with_immediate32_fits rd rs1 (negated 64 (low_bits 64 n)) h k
+immediate32_fits Sllw rd rs1 (right.Number n) h k = with_shift32_fits Slliw rd rs1 (low_bits 64 n) h k
+immediate32_fits Srlw rd rs1 (right.Number n) h k = with_shift32_fits Srliw rd rs1 (low_bits 64 n) h k
+immediate32_fits Sraw rd rs1 (right.Number n) h k = with_shift32_fits Sraiw rd rs1 (low_bits 64 n) h k
+immediate32_fits op rd rs1 (right.Number n) h k = tt
+
+operator_fits : (places : ℕ → Location) (base : ℕ) (x : Location) (y : ℕ) (z : RightOperand) (short : Option Instr)
+    (plain : Instr) → base < 32 → FitsIfSome short → IsOfTable plain
+    → AllOfTable (operator_block places base x y z short plain)
+operator_fits places base x y z None plain b s h = both (operands places base y z) (plain ∷ keep x base 5)
+    (operands_fit places base y z b) (h, keep_fits x base 5 b (omega arith))
+operator_fits places base x y z (Some i) plain b s h = both (fetch (places y) base 5) (i ∷ keep x base 5)
+    (fetch_fits (places y) base 5 b (omega arith)) (s, keep_fits x base 5 b (omega arith))
+
+bytes_fit : (k : ℕ) (bytes : List ℕ) → AllOfTable (report_bytes k bytes)
+bytes_fit k [] = tt
+bytes_fit k (b ∷ bs) =
+    ((omega arith, omega arith, omega arith), ((omega arith, omega arith, omega arith), bytes_fit (suc k) bs))
+
+asks_fit : (number descriptor count : ℕ) → number < 2 ^ 12 → descriptor < 2 ^ 12 → count < 2 ^ 12
+    → AllOfTable (asks number descriptor count)
+asks_fit number descriptor count n d c = (
+  (omega arith, omega arith, n),
   (
-    (omega arith, omega arith, omega arith),
-    ((omega arith, omega arith, omega arith), (tt, report_fits bs)),
+    (omega arith, omega arith, d),
+    ((omega arith, omega arith, omega arith), ((omega arith, omega arith, c), (tt, tt))),
   ),
 )
+
+report_fits : (bytes : List ℕ) → AllOfTable (report_block bytes)
+report_fits [] = tt
+report_fits (b ∷ bs) = both (report_bytes 0 (b ∷ bs)) (asks 64 2 (length (b ∷ bs) % 2 ^ 11)) (bytes_fit 0 (b ∷ bs))
+    (asks_fit 64 2 (length (b ∷ bs) % 2 ^ 11) (omega arith) (omega arith) (omega arith))
 
 local_fits : (places : ℕ → Location) (base begin : ℕ) (i : FlatInstruction) → base < 32
     → ((y : ℕ) → IsField (places y)) → AllOfTable (local_block places base begin i)
@@ -132,23 +220,17 @@ local_fits places base begin (flat.Move x y) b h =
       keep_fits (places x) base 5 b (omega arith),
     )
 local_fits places base begin (flat.Operate op x y z) b h =
-    both (operands places base y z) _ (operands_fit places base y z b) (
-      (
-        used_fits (places x) 5 (h x) (omega arith),
-        used_fits (places y) 5 (h y) (omega arith),
-        used_right_fits places z h,
-      ),
-      keep_fits (places x) base 5 b (omega arith),
-    )
+    let rd = used_fits (places x) 5 (h x) (omega arith) in
+    let rs1 = used_fits (places y) 5 (h y) (omega arith) in
+    operator_fits places base (places x) y z (immediate_of op (used (places x) 5) (used (places y) 5) z)
+    (Op op (used (places x) 5) (used (places y) 5) (used_right places z)) b
+    (immediate_fits op (used (places x) 5) (used (places y) 5) z rd rs1) (rd, rs1, used_right_fits places z h)
 local_fits places base begin (flat.Operate32 op x y z) b h =
-    both (operands places base y z) _ (operands_fit places base y z b) (
-      (
-        used_fits (places x) 5 (h x) (omega arith),
-        used_fits (places y) 5 (h y) (omega arith),
-        used_right_fits places z h,
-      ),
-      keep_fits (places x) base 5 b (omega arith),
-    )
+    let rd = used_fits (places x) 5 (h x) (omega arith) in
+    let rs1 = used_fits (places y) 5 (h y) (omega arith) in
+    operator_fits places base (places x) y z (immediate32_of op (used (places x) 5) (used (places y) 5) z)
+    (Op32 op (used (places x) 5) (used (places y) 5) (used_right places z)) b
+    (immediate32_fits op (used (places x) 5) (used (places y) 5) z rd rs1) (rd, rs1, used_right_fits places z h)
 local_fits places base begin (flat.Load op x y o) b h =
     both (fetch (places y) base 5) _ (fetch_fits (places y) base 5 b (omega arith)) (
       (used_fits (places x) 5 (h x) (omega arith), used_fits (places y) 5 (h y) (omega arith), omega arith),
@@ -164,61 +246,32 @@ local_fits places base begin flat.Turn b h = ((omega arith, omega arith, omega a
 local_fits places base begin (flat.Call g first x) b h = tt
 local_fits places base begin (flat.CallAddress y first n x r) b h = tt
 local_fits places base begin (flat.Return y) b h = tt
-local_fits places base begin (flat.Get x) b h = (
-  (omega arith, omega arith, omega arith),
-  (
-    (omega arith, omega arith, omega arith),
-    (
+local_fits places base begin (flat.Get x) b h =
+    both (asks 63 0 1) (received_block (places x) base) (asks_fit 63 0 1 (omega arith) (omega arith) (omega arith)) (
       (omega arith, omega arith, omega arith),
       (
         (omega arith, omega arith, omega arith),
         (
-          tt,
+          (omega arith, omega arith, omega arith),
           (
-            (omega arith, omega arith, omega arith),
-            (
-              (omega arith, omega arith, omega arith),
-              (
-                (omega arith, omega arith, omega arith),
-                (
-                  (used_fits (places x) 5 (h x) (omega arith), omega arith, omega arith),
-                  keep_fits (places x) base 5 b (omega arith),
-                ),
-              ),
-            ),
+            (used_fits (places x) 5 (h x) (omega arith), omega arith, omega arith),
+            keep_fits (places x) base 5 b (omega arith),
           ),
         ),
       ),
-    ),
-  ),
-)
+    )
 local_fits places base begin (flat.Put x) b h =
     both (fetch (places x) base 5) _ (fetch_fits (places x) base 5 b (omega arith)) (
       (omega arith, used_fits (places x) 5 (h x) (omega arith), omega arith),
-      (
-        (omega arith, omega arith, omega arith),
-        (
-          (omega arith, omega arith, omega arith),
-          ((omega arith, omega arith, omega arith), ((omega arith, omega arith, omega arith), (tt, tt))),
-        ),
-      ),
+      asks_fit 64 1 1 (omega arith) (omega arith) (omega arith),
     )
 local_fits places base begin (flat.Exit x) b h =
     both (fetch (places x) base 5) _ (fetch_fits (places x) base 5 b (omega arith)) (
       (omega arith, used_fits (places x) 5 (h x) (omega arith), omega arith),
       ((omega arith, omega arith, omega arith), (tt, tt)),
     )
-local_fits places base begin (flat.End e) b h = (
-  (omega arith, omega arith, omega arith),
-  (
-    (omega arith, omega arith, omega arith),
-    (
-      (omega arith, omega arith, omega arith),
-      both (report_bytes (report_of e)) _ (report_fits (report_of e))
-          ((omega arith, omega arith, omega arith), ((omega arith, omega arith, omega arith), (tt, tt))),
-    ),
-  ),
-)
+local_fits places base begin (flat.End e) b h = both (report_block (report_of e)) _ (report_fits (report_of e))
+    ((omega arith, omega arith, omega arith), ((omega arith, omega arith, omega arith), (tt, tt)))
 local_fits places base begin (flat.Charged x) b h =
     both (constant 6 begin) _ (constant_fits 6 begin (omega arith)) (
       (used_fits (places x) 5 (h x) (omega arith), omega arith, omega arith),

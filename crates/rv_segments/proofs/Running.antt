@@ -57,7 +57,8 @@ pub generated_follows : ((items : List Item) → IsAssemblable items → Assembl
     input)
 generated_follows meet m p plans objects spaces memory input mapped accepted encodable startable fits hold bytes fine =
     machine_follows m p plans (bytes_of (table_words m p plans)) (bytes_of (code_words m p plans))
-    (address_in m p plans (begin m p plans) (place meet m p plans fits)) (begin m p plans) (start_address p) objects spaces
+    (address_in m p plans (begin m p plans) (place meet m p plans fits)) (begin m p plans)
+    (start_address p) objects spaces
     memory input mapped accepted encodable startable (segments_fit m p plans mapped fits)
     (laid m p plans (layout_of m (bytes_of (table_words m p plans)) (bytes_of (code_words m p plans)))
     (begin m p plans) (function_words m p plans) (place meet m p plans fits) (placed meet m p plans fits))

@@ -2,7 +2,7 @@
 use Rattle.std.proofs.Common.{◌≡◌, ℕ, ◌+◌, ◌*◌, ◌/◌, ◌%◌, ◌^◌, ◌<◌, List, [], ◌∷◌, ◌++◌}
 use Rattle.std.proofs.Common.{Some, None, Bool, true, false, refl, sym, ap, ◌∙◌, subst, arith, true≢false}
 use Rattle.std.specs.Prelude.{if◌then◌else◌}
-use Rattle.std.proofs.lemmas.Bool.{eq-eqb}
+use Rattle.std.proofs.lemmas.Bool.{eq-eqb, ne_eqb}
 use Rattle.std.proofs.lemmas.List.{append-nil}
 use Rattle.addr_map.specs.Places.{is_code_address}
 use Rattle.behaviours.specs.Shown.{Access}
@@ -19,13 +19,14 @@ use Rattle.std.specs.Prelude.{slice_get, drop}
 use Rattle.rv_sim.specs.Memory.{fetch, store, bytes_at, may_write}
 use Rattle.rv_sim.specs.State.{MachineState, register, with_register}
 use Rattle.rv_sim.specs.Step.{step, executes, jumps, branches, gives, next_pc}
-use Rattle.rv_sim.specs.Run.{Configuration, turn, turned, runs, calls, read_call, write_call, onwards}
+use Rattle.rv_sim.specs.Run.{Configuration, turn, turned, runs, calls, read_call, write_call, answered, onwards}
 use Rattle.rv_sim.specs.Accesses.{object_access}
 use Rattle.rv_sim.proofs.Steps.{step-word, turn-done}
 use Rattle.rv_sim.proofs.Runs.{runs-zero, runs-suc}
 use Rattle.rv_view.specs.Segments.{segments, IsOfData}
-use Rattle.rv_view.specs.Views.{View, Layout, Fits, StandsAt, Shows, StaysOutside, Sends, Takes, with_value, access_in}
-use Rattle.rv_view.specs.Views.{accesses_by}
+use Rattle.rv_view.specs.Views.{View, Layout, Fits, StandsAt, Shows, StaysOutside, Sends, SendsErrors, Takes}
+use Rattle.rv_view.specs.Views.{with_value}
+use Rattle.rv_view.specs.Views.{access_in, accesses_by, bytes_from}
 use Rattle.rv_view.proofs.Places.{sent_data, received_data, store_data}
 use Rattle.rv_view.proofs.Straight.{Sees, Reaches, given, passes_reaches, next_is, apart_of, length_with, reads_with}
 use Rattle.rv_view.proofs.Straight.{runs_one, accesses_are}
@@ -159,7 +160,8 @@ branch l op rs1 rs2 imm target c v fit stands e four h =
     (ap (λ p. wrap (p + sext 13 imm)) h.pc_is ∙ e) four (sees_of l c v h))
 
 -- an environment call
-pub asks : (l : Layout) (c : Configuration) (v : View) → Fits l → StandsAt l v.pc Ecall → Shows l c v → runs 1 c ≡ calls c
+pub asks : (l : Layout) (c : Configuration) (v : View) → Fits l → StandsAt l v.pc Ecall → Shows l c v → runs 1 c
+    ≡ calls c
 unfolding executes turn
 asks l c v fit stands h =
     let e : step c.state ≡ (c.state, Ask) = step-word c.state Ecall stands.of_table
@@ -179,34 +181,29 @@ pub answers : (l : Layout) (c : Configuration) (v : View) (n : ℕ) → v.pc + 4
     → Reaches l (gives c.state 10 n) (v.pc + 4) (with_value v.registers 10 n) v.memory
 answers l c v n small h = given l c.state v.pc v.registers v.memory 10 n n small (omega arith) refl (sees_of l c v h)
 
-pub writes_byte : (l : Layout) (c : Configuration) (v : View) → Fits l → StandsAt l v.pc Ecall → v.registers 17 ≡ 64
-    → v.registers 10 ≡ 1 → v.registers 12 ≡ 1 → IsOfData l.object_bytes l.space_bytes (v.registers 11) 1 → Shows l c v
-    → (after : Configuration) × (runs 1 c ≡ (after, None))
-    × Shows l after (record v { pc = v.pc + 4; registers = with_value v.registers 10 1 })
-    × Sends c after (v.memory (v.registers 11))
-unfolding calls write_call gives
-writes_byte l c v fit stands number descriptor count lies h =
-    let s = c.state in
-    let r17 : register s 17 ≡ 64 = h.registers_are 17 (omega arith) ∙ number in
-    let r10 : register s 10 ≡ 1 = h.registers_are 10 (omega arith) ∙ descriptor in
-    let r12 : register s 12 ≡ 1 = h.registers_are 12 (omega arith) ∙ count in
-    let bytes : bytes_at s.memory (register s 11) (register s 12) ≡ Some (v.memory (v.registers 11) ∷ []) =
-    ap (bytes_at s.memory (register s 11)) r12
-    ∙ ap (λ a. bytes_at s.memory a 1) (h.registers_are 11 (omega arith))
-    ∙ ap (λ ss. bytes_at ss (v.registers 11) 1) h.memory_is
-    ∙ sent_data l.table l.code h.objects h.spaces l.object_bytes l.space_bytes v.memory (v.registers 11)
-    (apart_of l h.objects h.spaces fit h.hold.objects_length h.hold.spaces_length) h.hold lies
-    in
-    let after : Configuration = record c
-    { state = (gives s 10 1).0; output = c.output ++ v.memory (v.registers 11) ∷ [] } in
-    let done : calls c ≡ (after, None) = rw (r17, bytes, r10, r12) refl in
-    let r = answers l c v 1 stands.small h in
-    let e : (gives s 10 1).0 ≡ r.state = ap (λ t. t.0) r.is in
-    let q : Sees l (gives s 10 1).0 (v.pc + 4) (with_value v.registers 10 1) v.memory = subst
-    (λ z. Sees l z (v.pc + 4) (with_value v.registers 10 1) v.memory) (sym e) r.sees in (
-      after,
-      asks l c v fit stands h ∙ done,
-      record {
+-- a call that answers a number, where the state was as it is: registers but a0, memory and accesses stay
+record Answers (l : Layout) (c d : Configuration) (v : View) (n : ℕ) : Type 0 where
+  after : Configuration
+  is : runs 1 c ≡ (after, None)
+  shows : Shows l after (record v { pc = v.pc + 4; registers = with_value v.registers 10 n })
+  output : after.output ≡ d.output
+  errors : after.errors ≡ d.errors
+  input : after.input ≡ d.input
+  taken : after.taken ≡ d.taken
+
+answered_shows : (l : Layout) (c d : Configuration) (v : View) (n : ℕ) → Fits l → StandsAt l v.pc Ecall → Shows l c v
+    → d.state ≡ c.state → d.accesses ≡ c.accesses → calls c ≡ answered d n → Answers l c d v n
+unfolding gives
+answered_shows l c d v n fit stands h same seen done =
+    let after : Configuration = record d { state = (gives d.state 10 n).0 } in
+    let r = answers l c v n stands.small h in
+    let e : (gives d.state 10 n).0 ≡ r.state = ap (λ s. (gives s 10 n).0) same ∙ ap (λ t. t.0) r.is in
+    let q : Sees l (gives d.state 10 n).0 (v.pc + 4) (with_value v.registers 10 n) v.memory = subst
+    (λ z. Sees l z (v.pc + 4) (with_value v.registers 10 n) v.memory) (sym e) r.sees in
+    record {
+      after = after;
+      is = asks l c v fit stands h ∙ done;
+      shows = record {
         objects = q.objects;
         spaces = q.spaces;
         memory_is = q.memory_is;
@@ -214,16 +211,70 @@ writes_byte l c v fit stands number descriptor count lies h =
         pc_is = q.pc_is;
         count = q.count;
         registers_are = q.registers_are;
-        accesses_are = h.accesses_are;
-      },
-      record { output = refl; input = refl; errors = refl; taken = refl },
-    )
+        accesses_are = seen ∙ h.accesses_are;
+      };
+      output = refl;
+      errors = refl;
+      input = refl;
+      taken = refl;
+    }
+
+-- what the environment finds in the buffer
+buffer_is : (l : Layout) (c : Configuration) (v : View) (n : ℕ) → Fits l → v.registers 12 ≡ n → 0 < n
+    → IsOfData l.object_bytes l.space_bytes (v.registers 11) n → Shows l c v
+    → bytes_at c.state.memory (register c.state 11) (register c.state 12)
+    ≡ Some (bytes_from v.memory (v.registers 11) n)
+buffer_is l c v n fit count some lies h =
+    let s = c.state in
+    ap (bytes_at s.memory (register s 11)) (h.registers_are 12 (omega arith) ∙ count)
+    ∙ ap (λ a. bytes_at s.memory a n) (h.registers_are 11 (omega arith))
+    ∙ ap (λ ss. bytes_at ss (v.registers 11) n) h.memory_is
+    ∙ sent_data l.table l.code h.objects h.spaces l.object_bytes l.space_bytes v.memory (v.registers 11) n
+    (apart_of l h.objects h.spaces fit h.hold.objects_length h.hold.spaces_length) h.hold some lies
+
+pub writes_bytes : (l : Layout) (n : ℕ) (c : Configuration) (v : View) → Fits l → StandsAt l v.pc Ecall
+    → v.registers 17 ≡ 64 → v.registers 10 ≡ 1 → v.registers 12 ≡ n → 0 < n
+    → IsOfData l.object_bytes l.space_bytes (v.registers 11) n → Shows l c v
+    → (after : Configuration) × (runs 1 c ≡ (after, None))
+    × Shows l after (record v { pc = v.pc + 4; registers = with_value v.registers 10 n })
+    × Sends c after (bytes_from v.memory (v.registers 11) n)
+unfolding calls write_call
+writes_bytes l n c v fit stands number descriptor count some lies h =
+    let s = c.state in
+    let r17 : register s 17 ≡ 64 = h.registers_are 17 (omega arith) ∙ number in
+    let r10 : register s 10 ≡ 1 = h.registers_are 10 (omega arith) ∙ descriptor in
+    let r12 : register s 12 ≡ n = h.registers_are 12 (omega arith) ∙ count in
+    let bytes = buffer_is l c v n fit count some lies h in
+    let nonzero = ne_eqb n 0 (λ e. omega arith) in
+    let d : Configuration = record c { output = c.output ++ bytes_from v.memory (v.registers 11) n } in
+    let done : calls c ≡ answered d n = rw (r17, bytes, r10, r12, nonzero) refl in
+    let a = answered_shows l c d v n fit stands h refl refl done in
+    (a.after, a.is, a.shows, record { output = a.output; input = a.input; errors = a.errors; taken = a.taken })
+
+pub writes_errors : (l : Layout) (n : ℕ) (c : Configuration) (v : View) → Fits l → StandsAt l v.pc Ecall
+    → v.registers 17 ≡ 64 → v.registers 10 ≡ 2 → v.registers 12 ≡ n → 0 < n
+    → IsOfData l.object_bytes l.space_bytes (v.registers 11) n → Shows l c v
+    → (after : Configuration) × (runs 1 c ≡ (after, None))
+    × Shows l after (record v { pc = v.pc + 4; registers = with_value v.registers 10 n })
+    × SendsErrors c after (bytes_from v.memory (v.registers 11) n)
+unfolding calls write_call
+writes_errors l n c v fit stands number descriptor count some lies h =
+    let s = c.state in
+    let r17 : register s 17 ≡ 64 = h.registers_are 17 (omega arith) ∙ number in
+    let r10 : register s 10 ≡ 2 = h.registers_are 10 (omega arith) ∙ descriptor in
+    let r12 : register s 12 ≡ n = h.registers_are 12 (omega arith) ∙ count in
+    let bytes = buffer_is l c v n fit count some lies h in
+    let nonzero = ne_eqb n 0 (λ e. omega arith) in
+    let d : Configuration = record c { errors = c.errors ++ bytes_from v.memory (v.registers 11) n } in
+    let done : calls c ≡ answered d n = rw (r17, bytes, r10, r12, nonzero) refl in
+    let a = answered_shows l c d v n fit stands h refl refl done in
+    (a.after, a.is, a.shows, record { output = a.output; input = a.input; errors = a.errors; taken = a.taken })
 
 pub reads_nothing : (l : Layout) (c : Configuration) (v : View) → Fits l → StandsAt l v.pc Ecall → v.registers 17 ≡ 63
     → v.registers 10 ≡ 0 → v.registers 12 ≡ 1 → IsOfData l.object_bytes l.space_bytes (v.registers 11) 1 → c.input ≡ []
     → Shows l c v → (after : Configuration) × (runs 1 c ≡ (after, None))
     × Shows l after (record v { pc = v.pc + 4; registers = with_value v.registers 10 0 }) × StaysOutside c after
-unfolding calls read_call gives
+unfolding calls read_call
 reads_nothing l c v fit stands number descriptor count lies empty h =
     let s = c.state in
     let r17 : register s 17 ≡ 63 = h.registers_are 17 (omega arith) ∙ number in
@@ -237,26 +288,9 @@ reads_nothing l c v fit stands number descriptor count lies empty h =
     (apart_of l h.objects h.spaces fit h.hold.objects_length h.hold.spaces_length) h.hold lies
     in
     let first : slice_get c.input 0 ≡ None = ap (λ i. slice_get i 0) empty in
-    let after : Configuration = record c { state = (gives s 10 0).0 } in
-    let done : calls c ≡ (after, None) = rw (r17, may, r10, r12, first) refl in
-    let r = answers l c v 0 stands.small h in
-    let e : (gives s 10 0).0 ≡ r.state = ap (λ t. t.0) r.is in
-    let q : Sees l (gives s 10 0).0 (v.pc + 4) (with_value v.registers 10 0) v.memory = subst
-    (λ z. Sees l z (v.pc + 4) (with_value v.registers 10 0) v.memory) (sym e) r.sees in (
-      after,
-      asks l c v fit stands h ∙ done,
-      record {
-        objects = q.objects;
-        spaces = q.spaces;
-        memory_is = q.memory_is;
-        hold = q.hold;
-        pc_is = q.pc_is;
-        count = q.count;
-        registers_are = q.registers_are;
-        accesses_are = h.accesses_are;
-      },
-      record { input = refl; output = refl; errors = refl; taken = refl },
-    )
+    let done : calls c ≡ answered c 0 = rw (r17, may, r10, r12, first) refl in
+    let a = answered_shows l c c v 0 fit stands h refl refl done in
+    (a.after, a.is, a.shows, record { input = a.input; output = a.output; errors = a.errors; taken = a.taken })
 
 some_byte : 0 < 1
 some_byte = omega arith

@@ -11,6 +11,7 @@ use Rattle.flat_meaning.proofs.Stored.{store_beside}
 use Rattle.rv_sim.specs.Memory.{SegmentState, holds, covers, place_of, load, store, fetch}
 use Rattle.rv_sim.specs.Memory.{bytes_at, may_write}
 use Rattle.rv_view.specs.Segments.{code_segment, data_segment, segments, AreApart, Hold, IsOfData}
+use Rattle.rv_view.specs.Views.{bytes_from}
 use Rattle.rv_view.proofs.Numbers.{StandAt, number_is_load, with_number_at, length-with_number_at, stored_stands}
 
 -- an address in a segment, before it and behind it
@@ -87,23 +88,35 @@ stands_found memory place s m a n v f =
     subst (λ b. StandAt (store_of n m b v) s.address (with_number_at n (a - s.address) v s.bytes)) e
     (stored_stands n (a - s.address) v s.bytes m s.address (omega (arith, f.low, f.high)) f.stand)
 
-take_one : (bytes : List ℕ) (o : ℕ) → o < length bytes → take 1 (drop o bytes) ≡ slice_index bytes o ∷ []
-take_one [] o lt = absurd (omega arith)
-take_one (x ∷ xs) zero lt = refl
-take_one (x ∷ xs) (suc o) lt = take_one xs o (omega arith)
+take_more : (n : ℕ) (bytes : List ℕ) (o : ℕ) → o < length bytes
+    → take (suc n) (drop o bytes) ≡ slice_index bytes o ∷ take n (drop (suc o) bytes)
+take_more n [] o lt = absurd (omega arith)
+take_more n (x ∷ xs) zero lt = refl
+take_more n (x ∷ xs) (suc o) lt = take_more n xs o (omega arith)
 
-sent_found : (memory : List SegmentState) (place : ℕ) (s : SegmentState) (m : Bytes) (a : ℕ)
-    → Found memory place s m a 1 → bytes_at memory a 1 ≡ Some (m a ∷ [])
+-- the bytes of a list that stands in a memory
+taken : (n place : ℕ) (bytes : List ℕ) (m : Bytes) (address : ℕ) → StandAt m address bytes
+    → place + n ≤ length bytes → take n (drop place bytes) ≡ bytes_from m (address + place) n
+taken zero place bytes m address stand fit = refl
+taken (suc n) place bytes m address stand fit =
+    let e : address + suc place ≡ suc (address + place) = omega arith in
+    take_more n bytes place (omega arith)
+    ∙ ap (λ b. b ∷ take n (drop (suc place) bytes)) (sym (stand.are place (omega arith)))
+    ∙ ap (λ bs. m (address + place) ∷ bs)
+    (taken n (suc place) bytes m address stand (omega arith) ∙ ap (λ b. bytes_from m b n) e)
+
+sent_found : (memory : List SegmentState) (place : ℕ) (s : SegmentState) (m : Bytes) (a n : ℕ)
+    → Found memory place s m a n → bytes_at memory a n ≡ Some (bytes_from m a n)
 unfolding bytes_at
-sent_found memory place s m a f =
+sent_found memory place s m a n f =
     let e : s.address + (a - s.address) ≡ a = omega (arith, f.low) in
-    let lt : a - s.address < length s.bytes = omega (arith, f.low, f.high) in
-    let same : slice_index s.bytes (a - s.address) ≡ m a = sym (f.stand.are (a - s.address) lt) ∙ ap m e in
     let p = f.place_is in
     let i = f.is in
     let r = f.readable in
-    let c = covered s a 1 f.low f.high in
-    rw (p, i, r, c) (ap Some (take_one s.bytes (a - s.address) lt ∙ ap (λ b. b ∷ []) same))
+    let c = covered s a n f.low f.high in
+    rw (p, i, r, c) (ap Some
+    (taken n (a - s.address) s.bytes m s.address f.stand (omega (arith, f.low, f.high))
+    ∙ ap (λ b. bytes_from m b n) e))
 
 received_found : (memory : List SegmentState) (place : ℕ) (s : SegmentState) (m : Bytes) (a : ℕ)
     → Found memory place s m a 1 → may_write memory a 1 ≡ true
@@ -198,13 +211,14 @@ store_data table code objects spaces o s m a n v apart h some d = ⊎_elim
     ))
     d
 
-pub sent_data : (table code objects spaces : List ℕ) (o s : ℕ) (m : Bytes) (a : ℕ) → AreApart table code objects spaces
-    → Hold o s m objects spaces → IsOfData o s a 1 → bytes_at (segments table code objects spaces) a 1 ≡ Some (m a ∷ [])
-sent_data table code objects spaces o s m a apart h d = ⊎_elim
-    (λ q. sent_found (segments table code objects spaces) 2 (data_segment objects_begin objects) m a
-    (found_object table code objects spaces o s m a 1 apart h (omega arith) q.0 q.1))
-    (λ q. sent_found (segments table code objects spaces) 3 (data_segment spaces_begin spaces) m a
-    (found_space table code objects spaces o s m a 1 apart h (omega arith) q.0 q.1))
+pub sent_data : (table code objects spaces : List ℕ) (o s : ℕ) (m : Bytes) (a n : ℕ)
+    → AreApart table code objects spaces → Hold o s m objects spaces → 0 < n → IsOfData o s a n
+    → bytes_at (segments table code objects spaces) a n ≡ Some (bytes_from m a n)
+sent_data table code objects spaces o s m a n apart h some d = ⊎_elim
+    (λ q. sent_found (segments table code objects spaces) 2 (data_segment objects_begin objects) m a n
+    (found_object table code objects spaces o s m a n apart h some q.0 q.1))
+    (λ q. sent_found (segments table code objects spaces) 3 (data_segment spaces_begin spaces) m a n
+    (found_space table code objects spaces o s m a n apart h some q.0 q.1))
     d
 
 pub received_data : (table code objects spaces : List ℕ) (o s : ℕ) (m : Bytes) (a : ℕ)

@@ -1,6 +1,6 @@
 -- What is seen of a machine: registers and memory as functions, and the accesses so far; and what an instruction that
 -- goes on to the next does to it.
-use Rattle.std.specs.Prelude.{◌≡◌, ℕ, ◌+◌, ◌*◌, ◌^◌, ◌<◌, ◌≤◌, ◌==◌, if◌then◌else◌, List, [], ◌∷◌, ◌++◌}
+use Rattle.std.specs.Prelude.{◌≡◌, ℕ, zero, suc, ◌+◌, ◌*◌, ◌^◌, ◌<◌, ◌≤◌, ◌==◌, if◌then◌else◌, List, [], ◌∷◌, ◌++◌}
 use Rattle.std.specs.Prelude.{length}
 use Rattle.std.specs.Prelude.{Bool, Option, Some, None}
 use Rattle.addr_map.specs.Places.{functions_begin, code_begin, objects_begin, spaces_begin, is_code_address}
@@ -133,11 +133,23 @@ pub record StaysOutside (c c' : Configuration) : Type 0 where
   pub errors : c'.errors ≡ c.errors
   pub taken : c'.taken ≡ c.taken
 
--- a byte went to the output, and what else is outside stays
-pub record Sends (c c' : Configuration) (byte : ℕ) : Type 0 where
-  pub output : c'.output ≡ c.output ++ byte ∷ []
+-- so many bytes of a memory from an address on
+abbrev pub bytes_from : Bytes → (address size : ℕ) → List ℕ
+bytes_from m a zero = []
+bytes_from m a (suc n) = m a ∷ bytes_from m (suc a) n
+
+-- bytes went to the output, and what else is outside stays
+pub record Sends (c c' : Configuration) (bytes : List ℕ) : Type 0 where
+  pub output : c'.output ≡ c.output ++ bytes
   pub input : c'.input ≡ c.input
   pub errors : c'.errors ≡ c.errors
+  pub taken : c'.taken ≡ c.taken
+
+-- the same of the error output
+pub record SendsErrors (c c' : Configuration) (bytes : List ℕ) : Type 0 where
+  pub errors : c'.errors ≡ c.errors ++ bytes
+  pub output : c'.output ≡ c.output
+  pub input : c'.input ≡ c.input
   pub taken : c'.taken ≡ c.taken
 
 -- a byte of the input was taken, and what else is outside stays

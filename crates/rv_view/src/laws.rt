@@ -15,7 +15,7 @@ ghost use Rattle.rv_isa.specs.Results.{wrap, branch_taken};
 ghost use Rattle.rv_sim.specs.declared.stop.Stop.TheVariants.{Exited};
 ghost use Rattle.rv_sim.specs.Run.{Configuration, runs};
 ghost use Rattle.rv_view.specs.Views.{View, Layout, Fits, StandsAt, AllStand, AllGoOn, Shows, StaysOutside};
-ghost use Rattle.rv_view.specs.Views.{Sends, Takes, gets, links, branches, performs};
+ghost use Rattle.rv_view.specs.Views.{Sends, SendsErrors, Takes, bytes_from, gets, links, branches, performs};
 ghost use Rattle.rv_view.specs.Segments.{segments, AreApart, Hold, IsOfData};
 
 /// A load from the data segments gives the number that stands in the memory.
@@ -34,11 +34,11 @@ pub fn stores_are_of_memory()
         × Hold o s (store_of n m a v) objects' spaces' }
 {}
 
-/// What the environment takes from a buffer of one byte is the byte of the memory, and it may put one there.
+/// What the environment takes from a buffer is the bytes of the memory, and it may put one into a buffer of one byte.
 pub fn buffers_are_of_memory()
-    ensures sent { (table code objects spaces : List ℕ) (o s : ℕ) (m : Bytes) (a : ℕ)
-        → AreApart table code objects spaces → Hold o s m objects spaces → IsOfData o s a 1
-        → bytes_at (segments table code objects spaces) a 1 ≡ Some (m a ∷ []) }
+    ensures sent { (table code objects spaces : List ℕ) (o s : ℕ) (m : Bytes) (a n : ℕ)
+        → AreApart table code objects spaces → Hold o s m objects spaces → 0 < n → IsOfData o s a n
+        → bytes_at (segments table code objects spaces) a n ≡ Some (bytes_from m a n) }
     ensures received { (table code objects spaces : List ℕ) (o s : ℕ) (m : Bytes) (a : ℕ)
         → AreApart table code objects spaces → Hold o s m objects spaces → IsOfData o s a 1
         → may_write (segments table code objects spaces) a 1 ≡ true }
@@ -88,14 +88,20 @@ pub fn exit_ends_the_run()
         → Shows l c v → runs 1 c ≡ (c, Some (Exited (v.registers 10 % 256))) }
 {}
 
-/// The environment call write of one byte to the output sends the byte of the memory.
-pub fn write_sends_a_byte()
-    ensures { (l : Layout) (c : Configuration) (v : View) → Fits l → StandsAt l v.pc Ecall → v.registers 17 ≡ 64
-        → v.registers 10 ≡ 1 → v.registers 12 ≡ 1 → IsOfData l.object_bytes l.space_bytes (v.registers 11) 1
-        → Shows l c v
+/// The environment call write sends the bytes of the memory, to the output or to the error output.
+pub fn write_sends_bytes()
+    ensures output { (l : Layout) (n : ℕ) (c : Configuration) (v : View) → Fits l → StandsAt l v.pc Ecall
+        → v.registers 17 ≡ 64 → v.registers 10 ≡ 1 → v.registers 12 ≡ n → 0 < n
+        → IsOfData l.object_bytes l.space_bytes (v.registers 11) n → Shows l c v
         → (after : Configuration) × (runs 1 c ≡ (after, None))
-        × Shows l after (gets v 10 1)
-        × Sends c after (v.memory (v.registers 11)) }
+        × Shows l after (gets v 10 n)
+        × Sends c after (bytes_from v.memory (v.registers 11) n) }
+    ensures errors { (l : Layout) (n : ℕ) (c : Configuration) (v : View) → Fits l → StandsAt l v.pc Ecall
+        → v.registers 17 ≡ 64 → v.registers 10 ≡ 2 → v.registers 12 ≡ n → 0 < n
+        → IsOfData l.object_bytes l.space_bytes (v.registers 11) n → Shows l c v
+        → (after : Configuration) × (runs 1 c ≡ (after, None))
+        × Shows l after (gets v 10 n)
+        × SendsErrors c after (bytes_from v.memory (v.registers 11) n) }
 {}
 
 /// The environment call read of one byte gives 0 at the end of the input.

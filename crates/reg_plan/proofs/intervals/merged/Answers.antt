@@ -1,25 +1,17 @@
-use Rattle.std.proofs.Common.{◌||◌, ◌∙◌, get_or, arith}
-use Rattle.std.proofs.lemmas.Option.{slice_get-get_or, slice_get_within}
-use Rattle.reg_plan.specs.Accepted.{covers, holds}
-use Rattle.reg_plan.proofs.Ranges.{covered_more, only_more}
+use Rattle.std.proofs.Common.{◌∙◌, ◌||◌, ap, sym, get_or, Bool}
+use Rattle.std.proofs.lemmas.List.Folds.{list_any_more}
+use Rattle.std.proofs.lemmas.Option.{slice_get-get_or}
+use Rattle.data_flow.specs.Runs.{in_run}
 use Rattle.reg_plan.proofs.intervals.merged.Goals as goal
 
-pub loop-place-preserved : goal.loop-place-preserved
-loop-place-preserved c =
-    let i = c.loop-place.place-index in
-    let places = c.args.places.now in
-    let here = slice_get-get_or places i 0 c.loop-place-test.true in
-    record {
-      covered = covered_more places (λ pc. covers c.loop-place.list.items pc || holds c.loop-place.last pc)
-          (λ pc. covers c.extended.new.list.items pc || holds c.in_ok-last.last pc) i (get_or places i 0) here
-          c.in_ok-last.ensures.covers c.loop-place.invariant.covered;
-      only = only_more places (λ pc. covers c.loop-place.list.items pc || holds c.loop-place.last pc)
-          (λ pc. covers c.extended.new.list.items pc || holds c.in_ok-last.last pc) i (get_or places i 0) here
-          c.in_ok-last.ensures.covers c.loop-place.invariant.only;
-      forward = c.in_ok-last.ensures.forward;
-    }
+pub extended-requires : goal.extended-requires
+extended-requires c =
+    let i = c.loop-run.run-index in
+    c.requires i _ (slice_get-get_or c.args.runs.now i (record { first = 0; last = 0 }) c.loop-run-test.true)
 
-pub returns-clause-covered : goal.returns-clause-covered
-returns-clause-covered c pc h =
-    c.in_ok-put.ensures pc ∙ c.loop-place.invariant.covered h.0 pc
-    (let l = slice_get_within c.args.places.now h.0 pc h.1 in omega (arith, c.loop-place-test.false)) h.1
+pub loop-run-preserved : goal.loop-run-preserved
+loop-run-preserved c pc =
+    let i = c.loop-run.run-index in
+    let run = get_or c.args.runs.now i (record { first = 0; last = 0 }) in
+    c.in_ok-last.ensures pc ∙ ap (λ (b : Bool). b || in_run run pc) (c.loop-run.invariant pc)
+    ∙ sym (list_any_more (λ r. in_run r pc) c.args.runs.now i (record { first = 0; last = 0 }) c.loop-run-test.true)

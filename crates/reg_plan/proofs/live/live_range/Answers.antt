@@ -1,57 +1,71 @@
-use Rattle.std.proofs.Common.{◌<◌, subst, sym, arith, ap, ◌∙◌, length}
+use Rattle.std.proofs.Common.{◌≡◌, ◌<◌, ℕ, List, subst, sym, arith, ap, ◌∙◌, length}
 use Rattle.std.specs.Prelude.{slice_get}
-use Rattle.data_flow.specs.Relations.{images}
+use Rattle.data_flow.specs.Relations.{Has, images}
 use Rattle.data_flow.specs.Reached.{IsReached}
+use Rattle.flat_meaning.specs.declared.instruction.FlatInstruction.{FlatInstruction}
+use Rattle.flat_meaning.specs.declared.function.FlatProgram.{FlatProgram}
+use Rattle.reg_plan.specs.declared.flow.Problem.{Problem}
+use Rattle.reg_plan.specs.Needs.{IsNeeded}
+use Rattle.reg_plan.specs.Flow.{Represents}
 use Rattle.reg_plan.proofs.Represents.{needed_is_reached, reached_is_needed}
-use Rattle.reg_plan.proofs.Ranges.{edges_within, generated_within, killed_within, needed_within}
+use Rattle.reg_plan.proofs.Ranges.{edges_within, generated_within, killed_within, needed_within, reached_as}
 use Rattle.reg_plan.proofs.live.live_range.Goals as goal
 
-pub least_solution-requires-clause-edges_inside : goal.least_solution-requires-clause-edges_inside
-least_solution-requires-clause-edges_inside c u v h =
-    subst (λ n. v < n) (sym c.requires.reached_size)
+pub least_runs-requires-clause-edges_inside : goal.least_runs-requires-clause-edges_inside
+least_runs-requires-clause-edges_inside c u v h =
+    subst (λ n. v < n) (sym c.requires.begun_size)
     (edges_within c.args.program.now c.args.function c.args.body.now c.args.problem.now c.requires.represents u v h)
 
-pub least_solution-requires-clause-generated_inside :
-    goal.least_solution-requires-clause-generated_inside
-least_solution-requires-clause-generated_inside c k x h =
-    subst (λ n. x < n) (sym c.requires.reached_size)
+pub least_runs-requires-clause-generated_inside : goal.least_runs-requires-clause-generated_inside
+least_runs-requires-clause-generated_inside c k x h =
+    subst (λ n. x < n) (sym c.requires.begun_size)
     (generated_within c.args.program.now c.args.function c.args.body.now c.args.problem.now c.requires.represents
-    c.args.register x (k, ap (λ l. slice_get l k) (sym c.images.ensures) ∙ h))
-
-pub least_solution-requires-clause-killed_inside :
-    goal.least_solution-requires-clause-killed_inside
-least_solution-requires-clause-killed_inside c k x h =
-    subst (λ n. x < n) (sym c.requires.reached_size)
-    (killed_within c.args.program.now c.args.function c.args.body.now c.args.problem.now c.requires.represents
     c.args.register x (k, ap (λ l. slice_get l k) (sym c.images-2.ensures) ∙ h))
 
+pub least_runs-requires-clause-killed_inside : goal.least_runs-requires-clause-killed_inside
+least_runs-requires-clause-killed_inside c k x h =
+    let o = c.in_ok-killed.ensures.only x (k, ap (λ l. slice_get l k) (sym c.deref.ensures.value) ∙ h) in
+    subst (λ n. x < n) (sym c.requires.begun_size)
+    (killed_within c.args.program.now c.args.function c.args.body.now c.args.problem.now c.requires.represents
+    c.args.register x (subst (λ (l : List ℕ). Has l x) c.images.ensures o))
+
+-- a place that the runs have
+needed_at : (p : FlatProgram) (f : ℕ) (body : List FlatInstruction) (problem : Problem)
+    → Represents p f body (length body) problem → (y : ℕ) (generated killed list : List ℕ)
+    → generated ≡ images problem.generated y → list ≡ images problem.killed y
+    → ((x : ℕ) → Has list x → Has killed x) → (pc : ℕ) → IsReached problem.edges generated killed pc
+    → IsNeeded p f body pc y
+needed_at p f body problem r y generated killed list e e' has pc h =
+    reached_is_needed p f body problem r y pc
+    (reached_as problem.edges (images problem.generated y) killed (images problem.killed y)
+    (λ x k. has x (subst (λ (l : List ℕ). Has l x) (sym e') k)) pc
+    (subst (λ g. IsReached problem.edges g killed pc) e h))
+
 pub intervals-requires : goal.intervals-requires
-intervals-requires c k x h =
-    let r = c.in_ok-places.ensures.least x (k, h) in
-    let n = reached_is_needed c.args.program.now c.args.function c.args.body.now c.args.problem.now
-    c.requires.represents c.args.register x
-    (subst (λ g. IsReached c.args.problem.now.edges g (images c.args.problem.now.killed c.args.register) x)
-    c.images.ensures (subst (λ k. IsReached c.args.problem.now.edges c.images.result.now k x) c.images-2.ensures r))
-    in
-    let l : x < length c.args.body.now = needed_within c.args.program.now c.args.function c.args.body.now x
+intervals-requires c k r h =
+    let n = needed_at c.args.program.now c.args.function c.args.body.now c.args.problem.now c.requires.represents
+    c.args.register c.images-2.result.now c.deref.result.now c.images.result.now c.images-2.ensures c.images.ensures
+    (λ x q. subst (λ (l : List ℕ). Has l x) (sym c.deref.ensures.value) (c.in_ok-killed.ensures.has x q)) r.last
+    (c.in_ok-runs.ensures.last k r h) in
+    let l : r.last < length c.args.body.now = needed_within c.args.program.now c.args.function c.args.body.now r.last
     c.args.register n in
     let m : length c.args.body.now < 4294967296 = c.requires.count in
     omega (arith, l, m)
 
 pub returns-clause-needed : goal.returns-clause-needed
 returns-clause-needed c pc n =
-    let r = needed_is_reached c.args.program.now c.args.function c.args.body.now c.args.problem.now
-    c.requires.represents pc c.args.register n in
-    c.in_ok-range.ensures.covered pc (c.in_ok-places.ensures.closed pc
-    (subst (λ g. IsReached c.args.problem.now.edges g c.images-2.result.now pc) (sym c.images.ensures)
-    (subst (λ k. IsReached c.args.problem.now.edges (images c.args.problem.now.generated c.args.register) k pc)
-    (sym c.images-2.ensures) r)))
+    let problem = c.args.problem.now in
+    let y = c.args.register in
+    let r = needed_is_reached c.args.program.now c.args.function c.args.body.now problem c.requires.represents pc y n in
+    c.in_ok-range.ensures pc ∙ c.in_ok-runs.ensures.closed pc
+    (subst (λ g. IsReached problem.edges g c.deref.result.now pc) (sym c.images-2.ensures)
+    (reached_as problem.edges (images problem.generated y) (images problem.killed y) c.deref.result.now
+    (λ x h. subst (λ (l : List ℕ). Has l x) c.images.ensures
+    (c.in_ok-killed.ensures.only x (subst (λ (l : List ℕ). Has l x) c.deref.ensures.value h))) pc r))
 
 pub returns-clause-only : goal.returns-clause-only
 returns-clause-only c pc h =
-    let r = c.in_ok-places.ensures.least pc (c.in_ok-range.ensures.only pc h) in
-    reached_is_needed c.args.program.now c.args.function c.args.body.now c.args.problem.now c.requires.represents
-    c.args.register pc
-    (subst (λ g. IsReached c.args.problem.now.edges g (images c.args.problem.now.killed c.args.register) pc)
-    c.images.ensures (subst (λ k. IsReached c.args.problem.now.edges c.images.result.now k pc)
-    c.images-2.ensures r))
+    needed_at c.args.program.now c.args.function c.args.body.now c.args.problem.now c.requires.represents
+    c.args.register c.images-2.result.now c.deref.result.now c.images.result.now c.images-2.ensures c.images.ensures
+    (λ x q. subst (λ (l : List ℕ). Has l x) (sym c.deref.ensures.value) (c.in_ok-killed.ensures.has x q)) pc
+    (c.in_ok-runs.ensures.least pc (sym (c.in_ok-range.ensures pc) ∙ h))

@@ -19,6 +19,6 @@ loop-register-preserved c =
       only = λ pc y h. only_needed_more c.args.program.now c.args.function c.args.body.now c.loop-register.ranges.items
           c.in_ok-range.range n i.size i.only r.only pc y
           (ap (λ l. covers (intervals_of (slice_get l y)) pc) (sym e) ∙ h);
-      reached_size = r.reached_size;
+      begun_size = r.begun_size;
       killing_size = r.killing_size;
     }

@@ -12,6 +12,6 @@ invariant-loop-register l = record {
       → covers (intervals_of (slice_get l.ranges.items y)) pc ≡ true;
   only : (pc y : ℕ) → covers (intervals_of (slice_get l.ranges.items y)) pc ≡ true
       → IsNeeded l.program l.function l.body pc y;
-  reached_size : node_count l.reached ≡ length l.body;
+  begun_size : node_count l.begun ≡ length l.body;
   killing_size : node_count l.killing ≡ length l.body;
 }

@@ -1,11 +1,12 @@
-use Rattle.std.proofs.Common.{◌≡◌, ◌++◌}
-use Rattle.rv_calls.specs.Calls.{save}
-use Rattle.rv_follows.specs.Code.{wanted}
+use Rattle.std.proofs.Common.{◌≡◌, ◌++◌, drop}
+use Rattle.std.specs.List.{flat_map}
 use Rattle.rv_emission.specs.Kept.{kept_by}
+use Rattle.rv_emission.specs.Saving.{save_unless}
 use Rattle.rv_emission.proofs.calls.put_saves.Given as goal
 
 abbrev pub invariant-loop-register : goal.invariant-loop-register
 invariant-loop-register l =
-    l.code.items ≡ l.initial.code.items
-    ++ save (kept_by l.function l.plan)
-    (wanted (kept_by l.function l.plan) l.place l.results.into l.results.count) l.register
+    l.code.items
+    ++ flat_map (save_unless (kept_by l.function l.plan) l.results.into l.results.count) (drop l.register-index l.saved)
+    ≡ l.initial.code.items
+    ++ flat_map (save_unless (kept_by l.function l.plan) l.results.into l.results.count) l.saved

@@ -1,6 +1,7 @@
 -- Code with its checks put in is what `Inserted` says.
-use Rattle.std.proofs.Common.{◌≡◌, ℕ, suc, zero, ◌+◌, ◌≤◌, List, [], ◌∷◌, length, Option, Some, None, refl, sym, ap, ◌∙◌}
-use Rattle.std.proofs.Common.{subst, arith}
+use Rattle.std.proofs.Common.{◌≡◌, ℕ, suc, zero, ◌+◌, ◌≤◌, List, [], ◌∷◌, length, Option, Some, None, refl, sym, ap}
+use Rattle.std.proofs.Common.{◌∙◌}
+use Rattle.std.proofs.Common.{subst, arith, length-append}
 use Rattle.std.specs.Prelude.{slice_get, map, ◌++◌}
 use Rattle.c_tree.specs.declared.expression.Kind.{Kind}
 use Rattle.c_tree.specs.declared.expression.Kind.TheVariants.{Void, Scalar as OfScalar, Structure, Array}
@@ -144,6 +145,73 @@ count_one next (CallThrough type_number line d n m) = omega arith
 count_one next (EnterBlock b line m) = omega arith
 count_one next (LeaveBlock m) = omega arith
 count_one next (Return a) = omega arith
+
+-- an access gets as many new nodes as checks
+back_length : (next : ℕ) (i : Instruction) → length (back next (access_of i)) ≡ checks_needed i
+back_length next Reserved = refl
+back_length next (Constant d w m) = refl
+back_length next (FunctionPointer d f m) = refl
+back_length next (GetPlain d x m) = refl
+back_length next (SetPlain x a m) = refl
+back_length next (UpdatePlain w k f line d x right m) = refl
+back_length next (HomePointer d x m) = refl
+back_length next (StaticPointer d n m) = refl
+back_length next (ZeroOf kind d m) = refl
+back_length next (Convert kind d a m) = refl
+back_length next (Unary op ty d a m) = refl
+back_length next (Binary op ty line d a b m) = refl
+back_length next (Offset form size d a b m) = refl
+back_length next (Difference size d a b m) = refl
+back_length next (Narrow offset size d a m) = refl
+back_length next (Member offset size d a m) = refl
+back_length next (Take kind line d a m) = refl
+back_length next (Read Void Named line key d a m) = refl
+back_length next (Read (OfScalar k) Named line key d a m) = refl
+back_length next (Read (Structure n) Named line key d a m) = refl
+back_length next (Read (Array n) Named line key d a m) = refl
+back_length next (Read Void Judged line key d a m) = refl
+back_length next (Read (OfScalar k) Judged line key d a m) = refl
+back_length next (Read (Structure n) Judged line key d a m) = refl
+back_length next (Read (Array n) Judged line key d a m) = refl
+back_length next (Read Void Unchecked line key d a m) = refl
+back_length next (Read (OfScalar k) Unchecked line key d a m) = refl
+back_length next (Read (Structure n) Unchecked line key d a m) = refl
+back_length next (Read (Array n) Unchecked line key d a m) = refl
+back_length next (Write Void Named line key d a b m) = refl
+back_length next (Write (OfScalar k) Named line key d a b m) = refl
+back_length next (Write (Structure n) Named line key d a b m) = refl
+back_length next (Write (Array n) Named line key d a b m) = refl
+back_length next (Write Void Judged line key d a b m) = refl
+back_length next (Write (OfScalar k) Judged line key d a b m) = refl
+back_length next (Write (Structure n) Judged line key d a b m) = refl
+back_length next (Write (Array n) Judged line key d a b m) = refl
+back_length next (Write Void Unchecked line key d a b m) = refl
+back_length next (Write (OfScalar k) Unchecked line key d a b m) = refl
+back_length next (Write (Structure n) Unchecked line key d a b m) = refl
+back_length next (Write (Array n) Unchecked line key d a b m) = refl
+back_length next (Update u k f Named line at key d a b m) = refl
+back_length next (Update u k f Unchecked line at key d a b m) = refl
+back_length next (Update u k f Judged line at key d a b m) = refl
+back_length next (Judge test size line key a m) = refl
+back_length next (Zero x m) = refl
+back_length next (StorePart kind line x offset a m) = refl
+back_length next (StoreText n x offset m) = refl
+back_length next (Branch a x y) = refl
+back_length next (Case a w x y) = refl
+back_length next (Turn counted m) = refl
+back_length next (Library r line d n m) = refl
+back_length next (Print x line d n m) = refl
+back_length next (Call f line d n m) = refl
+back_length next (CallThrough type_number line d n m) = refl
+back_length next (EnterBlock b line m) = refl
+back_length next (LeaveBlock m) = refl
+back_length next (Return a) = refl
+
+backs_length : (next : ℕ) (is : List Instruction) → length (backs next is) ≡ sum_over checks_needed is
+backs_length next [] = refl
+backs_length next (i ∷ is) =
+    let a = length-append (back next (access_of i)) (backs (behind next (access_of i)) is) in
+    omega (arith, a, back_length next i, backs_length (behind next (access_of i)) is)
 
 -- neither the checks nor the access behind them needs more temporaries
 abbrev FewIn : Option Access → (most : ℕ) → Type 0
@@ -327,6 +395,14 @@ function_in c = record {
   keys = refl;
   blocks = refl;
   loops = refl;
+  size =
+      let next = length c.code in
+      omega (
+        arith,
+        length-append (fronts next c.code) (backs next c.code),
+        front_length next c.code,
+        backs_length next c.code,
+      );
   code = λ n i h.
       let next = length c.code in
       let heads : From (with_checks c.code) 0 (fronts next c.code) = λ k j e.

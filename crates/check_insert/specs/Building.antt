@@ -1,5 +1,5 @@
--- How the checks are put in: each access keeps its node, which gets its spatial check; the temporal check and the access
--- stand behind all nodes.
+-- How the checks are put in: each access keeps its node, which gets its spatial check; the temporal check and the
+-- access stand behind all nodes.
 use Rattle.std.specs.Prelude.{ℕ, ◌+◌, List, [], ◌∷◌, ◌++◌, map, length, Option, Some, None}
 use Rattle.obj_memory.specs.Access.{scalar_size}
 use Rattle.c_tree.specs.declared.expression.Kind.{Kind}

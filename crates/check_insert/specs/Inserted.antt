@@ -1,5 +1,5 @@
 -- When one program has the checks of another put in. Nodes keep their numbers; what is new stands at new ones.
-use Rattle.std.specs.Prelude.{◌≡◌, ◌≤◌, ℕ, ◌+◌, List, map, Option, Some, None, slice_get}
+use Rattle.std.specs.Prelude.{◌≡◌, ◌≤◌, ℕ, ◌+◌, List, length, map, Option, Some, None, slice_get}
 use Rattle.obj_memory.specs.Access.{scalar_size}
 use Rattle.c_tree.specs.declared.expression.Kind.{Kind}
 use Rattle.c_tree.specs.declared.expression.Kind.TheVariants.{Void, Scalar as OfScalar, Structure, Array}
@@ -13,7 +13,7 @@ use Rattle.tac_ir.specs.declared.function.CodeFunction.{CodeFunction}
 use Rattle.tac_ir.specs.declared.function.Tac.{Tac}
 use Rattle.tac_ir.specs.Meaning.{header_of_code}
 use Rattle.tac_ir.specs.Temporaries.{temporaries}
-use Rattle.check_insert.specs.Counting.{checks, checks_to_insert}
+use Rattle.check_insert.specs.Counting.{checks, checks_needed, checks_to_insert, sum_over}
 
 abbrev pub Has : List Instruction → (node : ℕ) → Instruction → Type 0
 Has code n i = slice_get code n ≡ Some i
@@ -60,13 +60,14 @@ pub record NeedsNoMore (code : List Instruction) (i : Instruction) : Type 0 wher
   pub has : Has code node other
   pub most : temporaries i ≤ temporaries other
 
--- what a call lays out, the keys, the blocks and the counted loops stay
+-- what a call lays out, the keys, the blocks and the counted loops stay; for each check there is a node more
 pub record FunctionIn (c c' : CodeFunction) : Type 0 where
   pub header : header_of_code c' ≡ header_of_code c
   pub entry : c'.entry ≡ c.entry
   pub keys : c'.keys ≡ c.keys
   pub blocks : c'.blocks ≡ c.blocks
   pub loops : c'.loops ≡ c.loops
+  pub size : length c'.code ≡ length c.code + sum_over checks_needed c.code
   pub code : (n : ℕ) (i : Instruction) → Has c.code n i → StandsFor c'.code n i
   pub homes : (n : ℕ) (i : Instruction) → Has c'.code n i → NeedsNoMore c.code i
 

@@ -50,8 +50,8 @@ fn checked_functions(
 }
 
 /// The program with its checks put in: each access through a pointer gets a spatial and then a temporal check, in code
-/// that no run reaches too. Nodes keep their numbers, keys, blocks and counted loops stay. An error comes where there is
-/// no memory for it.
+/// that no run reaches too. Nodes keep their numbers, keys, blocks and counted loops stay. An error comes where there
+/// is no memory for it.
 pub fn insert(alloc: Global, t: &Tac) -> Result<Tac, AllocError>
     ensures { IfOk result (λ r. Inserted t.now r) }
 {

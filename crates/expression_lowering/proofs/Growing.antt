@@ -1,5 +1,5 @@
 -- Code and tables that grow.
-use Rattle.std.proofs.Common.{◌≡◌, ℕ, zero, suc, ◌+◌, ◌≤◌, List, [], ◌∷◌, ◌++◌, length, Some, None, refl, sym, ap}
+use Rattle.std.proofs.Common.{◌≡◌, ℕ, zero, suc, ◌+◌, ◌*◌, ◌≤◌, List, [], ◌∷◌, ◌++◌, length, Some, None, refl, sym, ap}
 use Rattle.std.proofs.Common.{subst, arith}
 use Rattle.c_tree.specs.declared.expression.Kind.TheVariants.{Void, Scalar as OfScalar, Structure, Array}
 use Rattle.tac_ir.specs.declared.instruction.Instruction.{Instruction}
@@ -8,6 +8,7 @@ use Rattle.tac_ir.specs.declared.key.Key.{Key}
 use Rattle.tac_ir.specs.Temporaries.{temporaries}
 use Rattle.c_lower.specs.Placed.{Placed, Holds, HasAt}
 use Rattle.expression_lowering.specs.declared.emitter.Emitter.{Emitter}
+use Rattle.expression_lowering.specs.Weights.{Weights, weight_of, code_weight, no_weight}
 use Rattle.expression_lowering.specs.Emitted.{Has, Added, Stays, Keeps, IsReal, Fills, Emits}
 use Rattle.expression_lowering.specs.Last.{KeyAdded, TextAdded, TakingCode, Outcomes}
 
@@ -45,9 +46,10 @@ from_more P [] y h p (suc n) x e = cc
 from_more P (z ∷ xs) y h p zero x e = h 0 x e
 from_more P (z ∷ xs) y h p (suc n) x e = from_more P xs y (λ m w. h (suc m) w) p n x e
 
-length_more : {A : Type 0} (xs : List A) (y : A) → length (xs ++ y ∷ []) ≡ length xs + 1
-length_more [] y = omega arith
-length_more (x ∷ xs) y = omega (arith, length_more xs y)
+weight_more : (is : List Instruction) (i : Instruction) (w : Weights)
+    → code_weight (is ++ i ∷ []) w ≡ code_weight is w + weight_of i w
+weight_more [] i w = omega arith
+weight_more (j ∷ is) i w = omega (arith, weight_more is i w)
 
 -- emitters
 
@@ -60,7 +62,7 @@ fills_after k f = record {
   texts = λ n x h. f.texts n x (k.texts n x h);
 }
 
-pub fills_before : {a b : Emitter} {c : Placed} {m k : ℕ} → Emits a b m k → Fills b c → Fills a c
+pub fills_before : {a b : Emitter} {c : Placed} {m : ℕ} {k : Weights → ℕ} → Emits a b m k → Fills b c → Fills a c
 fills_before e f = fills_after e.kept f
 
 pub keeps_all : {a : Emitter} → Keeps a a
@@ -81,26 +83,27 @@ keeps_on k l = record {
   texts = λ n x h. l.texts n x (k.texts n x h);
 }
 
-pub emits_none : {a : Emitter} (m k : ℕ) → Emits a a m k
-emits_none m k = record { kept = keeps_all; fits = λ limit le f. f; grown = omega arith }
+pub emits_none : {a : Emitter} {k : Weights → ℕ} (m : ℕ) → Emits a a m k
+emits_none m = record { kept = keeps_all; fits = λ limit le f. f; grown = λ w. omega arith }
 
-pub emits_then : {a b c : Emitter} {m k n j : ℕ} (most count : ℕ) → Emits a b m k → Emits b c n j → m ≤ most → n ≤ most
-    → k + j ≤ count → Emits a c most count
-emits_then most count e f lm ln lk = record {
+pub emits_then : {a b c : Emitter} {m n : ℕ} {k j : Weights → ℕ} (most : ℕ) (weight : Weights → ℕ) → Emits a b m k
+    → Emits b c n j → m ≤ most → n ≤ most → ((w : Weights) → k w + j w ≤ weight w) → Emits a c most weight
+emits_then most weight e f lm ln lk = record {
   kept = keeps_on e.kept f.kept;
   fits = λ limit le h. f.fits limit (omega (arith, le, ln)) (e.fits limit (omega (arith, le, lm)) h);
-  grown = omega (arith, e.grown, f.grown, lk);
+  grown = λ w. omega (arith, e.grown w, f.grown w, lk w);
 }
 
-pub emits_within : {a b : Emitter} {m k : ℕ} (most count : ℕ) → Emits a b m k → m ≤ most → k ≤ count
-    → Emits a b most count
-emits_within most count e lm lk = record {
+pub emits_within : {a b : Emitter} {m : ℕ} {k : Weights → ℕ} (most : ℕ) (weight : Weights → ℕ) → Emits a b m k
+    → m ≤ most → ((w : Weights) → k w ≤ weight w) → Emits a b most weight
+emits_within most weight e lm lk = record {
   kept = e.kept;
   fits = λ limit le h. e.fits limit (omega (arith, le, lm)) h;
-  grown = omega (arith, e.grown, lk);
+  grown = λ w. omega (arith, e.grown w, lk w);
 }
 
-pub added_emits : {a b : Emitter} {n : ℕ} {i : Instruction} (m : ℕ) → Added a b n i → temporaries i ≤ m → Emits a b m 1
+pub added_emits : {a b : Emitter} {n : ℕ} {i : Instruction} (m : ℕ) → Added a b n i → temporaries i ≤ m
+    → Emits a b m (weight_of i)
 added_emits {a} {b} {n} {i} m h le = record {
   kept = record {
     code = one_more a.code.items b.code.items i h.code;
@@ -113,7 +116,7 @@ added_emits {a} {b} {n} {i} m h le = record {
     by = λ k x g. from_more (λ y. temporaries y ≤ limit) a.code.items i f.by (omega (arith, le, most)) k x
         (subst (λ l. HasAt l k x) h.code g);
   };
-  grown = omega (arith, ap length h.code, length_more a.code.items i);
+  grown = λ w. omega (arith, ap (λ is. code_weight is w) h.code, weight_more a.code.items i w);
 }
 
 pub added_has : {a b : Emitter} {n : ℕ} {i : Instruction} → Added a b n i → Has b n i
@@ -128,7 +131,7 @@ added_holds {n = n} {i = i} h r f = f.code n i r (added_has h)
 -- where the code stays as it is
 pub same_emits : (a b : Emitter) → b.code.items ≡ a.code.items → Stays a.keys.items b.keys.items
     → Stays a.blocks.items b.blocks.items
-    → Stays a.loops.items b.loops.items → Stays a.texts.items b.texts.items → Emits a b 0 0
+    → Stays a.loops.items b.loops.items → Stays a.texts.items b.texts.items → Emits a b 0 no_weight
 same_emits a b code keys blocks loops texts = record {
   kept = record {
     code = stays_by a.code.items b.code.items code;
@@ -138,13 +141,14 @@ same_emits a b code keys blocks loops texts = record {
     texts = texts;
   };
   fits = λ limit le f. record { by = λ n i h. f.by n i (subst (λ l. HasAt l n i) code h) };
-  grown = omega (arith, ap length code);
+  grown = λ w. omega (arith, ap (λ is. code_weight is w) code);
 }
 
 pub no_key : (a : Emitter) → KeyAdded a a None None
-no_key a = record { emits = emits_none 0 0; is = λ c f. tt }
+no_key a = record { emits = emits_none 0; is = λ c f. tt }
 
-pub some_key : (a b : Emitter) (key : Key) (n : ℕ) → b.code.items ≡ a.code.items → b.keys.items ≡ a.keys.items ++ key ∷ []
+pub some_key : (a b : Emitter) (key : Key) (n : ℕ) → b.code.items ≡ a.code.items → b.keys.items ≡ a.keys.items
+    ++ key ∷ []
     → b.blocks.items ≡ a.blocks.items → b.loops.items ≡ a.loops.items → b.texts.items ≡ a.texts.items
     → n ≡ length a.keys.items → KeyAdded a b (Some key) (Some n)
 some_key a b key n code keys blocks loops texts at = record {
@@ -172,13 +176,13 @@ pub take_structure : {a b : Emitter} {size line d n next : ℕ}
 take_structure {d = d} h = record { emits = added_emits (d + 1) h (omega arith); stands = λ c f. added_holds h tt f }
 
 pub take_void : {a : Emitter} {line d next : ℕ} → TakingCode a a Void line d next next
-take_void {d = d} = record { emits = emits_none (d + 1) 1; stands = λ c f. refl }
+take_void {d = d} = record { emits = emits_none (d + 1); stands = λ c f. refl }
 
 pub take_scalar : {a : Emitter} {k : _} {line d next : ℕ} → TakingCode a a (OfScalar k) line d next next
-take_scalar {d = d} = record { emits = emits_none (d + 1) 1; stands = λ c f. refl }
+take_scalar {d = d} = record { emits = emits_none (d + 1); stands = λ c f. refl }
 
 pub take_array : {a : Emitter} {size line d next : ℕ} → TakingCode a a (Array size) line d next next
-take_array {d = d} = record { emits = emits_none (d + 1) 1; stands = λ c f. refl }
+take_array {d = d} = record { emits = emits_none (d + 1); stands = λ c f. refl }
 
 pub three_ways : {a b c e : Emitter} {d zero one test next : ℕ} → Added a b zero (tac.Constant d 0 next)
     → Added b c one (tac.Constant d 1 next)
@@ -188,9 +192,9 @@ three_ways {d = d} hz ho ht =
     let ez = added_emits (d + 1) hz (omega arith) in
     let eo = added_emits (d + 1) ho (omega arith) in
     let et = added_emits (d + 1) ht (omega arith) in
-    let two = emits_then (d + 1) 2 ez eo (omega arith) (omega arith) (omega arith) in
+    let two = emits_then (d + 1) (λ w. 2 * w.constant) ez eo (omega arith) (omega arith) (λ w. omega arith) in
     record {
-      emits = emits_then (d + 1) 3 two et (omega arith) (omega arith) (omega arith);
+      emits = emits_then (d + 1) (λ w. w.branch + 2 * w.constant) two et (omega arith) (omega arith) (λ w. omega arith);
       gives_zero = λ p f. added_holds hz tt (fills_before eo (fills_before et f));
       gives_one = λ p f. added_holds ho tt (fills_before et f);
       tests = λ p f. added_holds ht tt f;
@@ -201,5 +205,3 @@ pub ruleset keys_added = (no_key, some_key)
 pub ruleset texts_added = (text_added)
 
 pub ruleset takings = (take_structure, take_void, take_scalar, take_array)
-
-pub ruleset outcomes = (three_ways)

@@ -1,5 +1,5 @@
 -- What each expression and lvalue itself does.
-use Rattle.std.proofs.Common.{◌≡◌, ℕ, suc, ◌+◌, ◌≤◌, ◌<◌, List, [], ◌∷◌, map, Option, Some, None, refl, sym, ◌∙◌}
+use Rattle.std.proofs.Common.{◌≡◌, ℕ, suc, ◌+◌, ◌≤◌, ◌<◌, List, [], ◌∷◌, Option, Some, None, refl, sym, ap, ◌∙◌}
 use Rattle.std.proofs.Common.{subst, arith}
 use Rattle.std.specs.Prelude.{max}
 use Rattle.c_tree.specs.declared.expression.Kind.{Kind}
@@ -17,13 +17,17 @@ use Rattle.c_lower.specs.Homes.{used, used_by_lvalue, used_made}
 use Rattle.c_lower.specs.Placed.{Placed, Holds}
 use Rattle.c_lower.specs.Values.{KeyIs, LowersNode, LowersPlace, count}
 use Rattle.expression_lowering.specs.declared.emitter.Emitter.{Emitter}
-use Rattle.expression_lowering.specs.Emitted.{Added, IsReal, arguments_used, arguments_nodes, nodes_made}
-use Rattle.expression_lowering.specs.Emitted.{nodes, lvalue_nodes}
+use Rattle.expression_lowering.specs.Sizes.{nodes, lvalue_nodes, arguments_nodes, nodes_made}
+use Rattle.expression_lowering.specs.Weights.{Weights, weight_of, weight_if, no_weight, takings_weight, weight_made}
+use Rattle.expression_lowering.specs.Weights.{expression_weight, lvalue_weight, arguments_weight}
+use Rattle.expression_lowering.specs.Emitted.{Added, IsReal, arguments_used}
 use Rattle.expression_lowering.specs.Last.{key_in, last_in, last_at, KeyAdded, TextAdded, FormatAdded, TextIs}
 use Rattle.expression_lowering.specs.Shapes.{operands_in, operands_at, operands_of, lvalue_operands}
-use Rattle.expression_lowering.specs.Shapes.{LowersOperands, operands_used, operands_nodes}
+use Rattle.expression_lowering.specs.Shapes.{LowersOperands, operands_used, operands_nodes, operands_weight}
+use Rattle.expression_lowering.specs.Shapes.{finish_weight, lvalue_finish_weight}
 use Rattle.expression_lowering.specs.Shapes.{Finishes, LvalueFinishes}
-use Rattle.expression_lowering.proofs.Growing.{emits_none, emits_then, added_emits, added_has, fills_before}
+use Rattle.expression_lowering.proofs.Growing.{emits_none, emits_then, emits_within, added_emits, added_has}
+use Rattle.expression_lowering.proofs.Growing.{fills_before}
 
 -- the instruction at a node, or that node is the next one
 abbrev StandsAs : Placed → Option Instruction → (node next : ℕ) → Type 0
@@ -48,21 +52,30 @@ last_stands c kind line d key text m k n (function f) q t h o =
 last_stands c kind line d key text m k n (plain x) q t h o =
     subst (λ j. StandsAs c (last_in (plain x) kind line d key text m) j m) (sym o) h
 last_stands c kind line d key text m k n (read p) q t h o = (k, key, q, o, h)
-last_stands c kind line d key text m k n (decay p) q t h o = subst (λ j. LowersOperands c (operands_in (decay p)) d n j) h o
-last_stands c kind line d key text m k n (address p) q t h o = subst (λ j. LowersOperands c (operands_in (address p)) d n j) h o
-last_stands c kind line d key text m k n (parenthesized a) q t h o = subst (λ j. LowersOperands c (operands_in (parenthesized a)) d n j) h o
-last_stands c kind line d key text m k n (deref_function a) q t h o = subst (λ j. LowersOperands c (operands_in (deref_function a)) d n j) h o
-last_stands c kind line d key text m k n (address_function a) q t h o = subst (λ j. LowersOperands c (operands_in (address_function a)) d n j) h o
+last_stands c kind line d key text m k n (decay p) q t h o =
+    subst (λ j. LowersOperands c (operands_in (decay p)) d n j) h o
+last_stands c kind line d key text m k n (address p) q t h o =
+    subst (λ j. LowersOperands c (operands_in (address p)) d n j) h o
+last_stands c kind line d key text m k n (parenthesized a) q t h o =
+    subst (λ j. LowersOperands c (operands_in (parenthesized a)) d n j) h o
+last_stands c kind line d key text m k n (deref_function a) q t h o =
+    subst (λ j. LowersOperands c (operands_in (deref_function a)) d n j) h o
+last_stands c kind line d key text m k n (address_function a) q t h o =
+    subst (λ j. LowersOperands c (operands_in (address_function a)) d n j) h o
 last_stands c kind line d key text m k n (cast a) q t h o = (k, o, h)
 last_stands c kind line d key text m k n (convert a) q t h o = (k, o, h)
 last_stands c kind line d key text m k n (unary op a) q t h o = (k, o, h)
 last_stands c kind line d key text m k n (binary op a b) q t h o = (o.0, k, o.1, o.2, h)
 last_stands c kind line d key text m k n (offset_by form size a b) q t h o = (o.0, k, o.1, o.2, h)
 last_stands c kind line d key text m k n (difference size a b) q t h o = (o.0, k, o.1, o.2, h)
-last_stands c kind line d key text m k n (logical_and a b) q t h o = subst (λ j. LowersOperands c (operands_in (logical_and a b)) d n j) h o
-last_stands c kind line d key text m k n (logical_or a b) q t h o = subst (λ j. LowersOperands c (operands_in (logical_or a b)) d n j) h o
-last_stands c kind line d key text m k n (comma a b) q t h o = subst (λ j. LowersOperands c (operands_in (comma a b)) d n j) h o
-last_stands c kind line d key text m k n (conditional a b e) q t h o = subst (λ j. LowersOperands c (operands_in (conditional a b e)) d n j) h o
+last_stands c kind line d key text m k n (logical_and a b) q t h o =
+    subst (λ j. LowersOperands c (operands_in (logical_and a b)) d n j) h o
+last_stands c kind line d key text m k n (logical_or a b) q t h o =
+    subst (λ j. LowersOperands c (operands_in (logical_or a b)) d n j) h o
+last_stands c kind line d key text m k n (comma a b) q t h o =
+    subst (λ j. LowersOperands c (operands_in (comma a b)) d n j) h o
+last_stands c kind line d key text m k n (conditional a b e) q t h o =
+    subst (λ j. LowersOperands c (operands_in (conditional a b e)) d n j) h o
 last_stands c kind line d key text m k n (assign p a) q t h o = (o.0, k, key, q, o.1, o.2, h)
 last_stands c kind line d key text m k n (assign_plain x a) q t h o = (k, o, h)
 last_stands c kind line d key text m k n (compound u p a) q t h o = (o.0, k, key, q, o.1, o.2, h)
@@ -136,7 +149,7 @@ turns_used : (k : ℕ) (es : Expressions) → k + arguments_used es ≤ max k (i
 turns_used k no_expressions = omega arith
 turns_used k (expressions e es) = omega (arith, some_used e, turns_used (suc k) es)
 
-nodes_sum : (es : Expressions) → arguments_nodes es ≡ sum_of (map (λ n. n + 1) (walk_each nodes_made es))
+nodes_sum : (es : Expressions) → arguments_nodes es ≡ sum_of (walk_each nodes_made es)
 nodes_sum no_expressions = refl
 nodes_sum (expressions e es) = omega (arith, nodes_sum es)
 
@@ -168,9 +181,12 @@ last_few kind line d key text m (change_plain u x a) = omega arith
 last_few kind line d key text m (step u fixity p) = omega arith
 last_few kind line d key text m (step_plain u fixity x) = omega arith
 last_few kind line d key text m (call f es) = omega (arith, turns_count 0 es, turns_some 0 (walk_each used_made es))
-last_few kind line d key text m (call_through type a es) = omega (arith, turns_count 1 es, turns_some 1 (walk_each used_made es), some_used a)
-last_few kind line d key text m (library routine es) = omega (arith, turns_count 0 es, turns_some 0 (walk_each used_made es))
-last_few kind line d key text m (printf format es) = omega (arith, turns_count 0 es, turns_some 0 (walk_each used_made es))
+last_few kind line d key text m (call_through type a es) =
+    omega (arith, turns_count 1 es, turns_some 1 (walk_each used_made es), some_used a)
+last_few kind line d key text m (library routine es) = omega
+    (arith, turns_count 0 es, turns_some 0 (walk_each used_made es))
+last_few kind line d key text m (printf format es) = omega
+    (arith, turns_count 0 es, turns_some 0 (walk_each used_made es))
 
 last_real : (kind : Kind) (line d : ℕ) (key : Option ℕ) (text m : ℕ) (node : Node)
     → RealIn (last_in node kind line d key text m)
@@ -268,6 +284,78 @@ operands_few kind (call_through type a es) = omega (arith, nodes_sum es)
 operands_few kind (library routine es) = omega (arith, nodes_sum es)
 operands_few kind (printf format es) = omega (arith, nodes_sum es)
 
+-- what it weighs, whatever its temporary, its key, its format and the next node are
+
+last_same : (kind : Kind) (line d : ℕ) (key : Option ℕ) (text m : ℕ) (w : Weights) (node : Node)
+    → weight_if (last_in node kind line d key text m) w ≡ weight_if (last_in node kind line 0 None 0 0) w
+last_same kind line d key text m w (constant n) = refl
+last_same kind line d key text m w (function f) = refl
+last_same kind line d key text m w (plain x) = refl
+last_same kind line d key text m w (read p) = refl
+last_same kind line d key text m w (decay p) = refl
+last_same kind line d key text m w (address p) = refl
+last_same kind line d key text m w (parenthesized a) = refl
+last_same kind line d key text m w (deref_function a) = refl
+last_same kind line d key text m w (address_function a) = refl
+last_same kind line d key text m w (cast a) = refl
+last_same kind line d key text m w (convert a) = refl
+last_same kind line d key text m w (unary op a) = refl
+last_same kind line d key text m w (binary op a b) = refl
+last_same kind line d key text m w (offset_by form size a b) = refl
+last_same kind line d key text m w (difference size a b) = refl
+last_same kind line d key text m w (logical_and a b) = refl
+last_same kind line d key text m w (logical_or a b) = refl
+last_same kind line d key text m w (comma a b) = refl
+last_same kind line d key text m w (conditional a b e) = refl
+last_same kind line d key text m w (assign p a) = refl
+last_same kind line d key text m w (assign_plain x a) = refl
+last_same kind line d key text m w (compound u p a) = refl
+last_same kind line d key text m w (change_plain u x a) = refl
+last_same kind line d key text m w (step u fixity p) = refl
+last_same kind line d key text m w (step_plain u fixity x) = refl
+last_same kind line d key text m w (call f es) = refl
+last_same kind line d key text m w (call_through type a es) = refl
+last_same kind line d key text m w (library routine es) = refl
+last_same kind line d key text m w (printf format es) = refl
+
+weights_sum : (w : Weights) (es : Expressions)
+    → arguments_weight es w ≡ takings_weight es w + sum_of (walk_each (weight_made w) es)
+weights_sum w no_expressions = refl
+weights_sum w (expressions e es) = omega (arith, weights_sum w es)
+
+operands_weigh : (kind : Kind) (line : ℕ) (w : Weights) (node : Node)
+    → weight_if (last_in node kind line 0 None 0 0) w + operands_weight (operands_in node) w
+    ≤ weight_made w (visited kind node) (walk_operands (weight_made w) node)
+operands_weigh kind line w (constant n) = omega arith
+operands_weigh kind line w (function f) = omega arith
+operands_weigh kind line w (plain x) = omega arith
+operands_weigh kind line w (read p) = omega arith
+operands_weigh kind line w (decay p) = omega arith
+operands_weigh kind line w (address p) = omega arith
+operands_weigh kind line w (parenthesized a) = omega arith
+operands_weigh kind line w (deref_function a) = omega arith
+operands_weigh kind line w (address_function a) = omega arith
+operands_weigh kind line w (cast a) = omega arith
+operands_weigh kind line w (convert a) = omega arith
+operands_weigh kind line w (unary op a) = omega arith
+operands_weigh kind line w (binary op a b) = omega arith
+operands_weigh kind line w (offset_by form size a b) = omega arith
+operands_weigh kind line w (difference size a b) = omega arith
+operands_weigh kind line w (logical_and a b) = omega arith
+operands_weigh kind line w (logical_or a b) = omega arith
+operands_weigh kind line w (comma a b) = omega arith
+operands_weigh kind line w (conditional a b e) = omega arith
+operands_weigh kind line w (assign p a) = omega arith
+operands_weigh kind line w (assign_plain x a) = omega arith
+operands_weigh kind line w (compound u p a) = omega arith
+operands_weigh kind line w (change_plain u x a) = omega arith
+operands_weigh kind line w (step u fixity p) = omega arith
+operands_weigh kind line w (step_plain u fixity x) = omega arith
+operands_weigh kind line w (call f es) = omega (arith, weights_sum w es)
+operands_weigh kind line w (call_through type a es) = omega (arith, weights_sum w es)
+operands_weigh kind line w (library routine es) = omega (arith, weights_sum w es)
+operands_weigh kind line w (printf format es) = omega (arith, weights_sum w es)
+
 -- lvalues
 
 last_places : (c : Placed) (d m k n : ℕ) (node : LvalueNode) → StandsAs c (last_at node d m) k m
@@ -317,7 +405,8 @@ places_most kind (member_of_value a offset size) = omega arith
 places_most kind (parenthesized_lvalue p) = omega arith
 
 pub places_few : (kind : Kind) (node : LvalueNode)
-    → 1 + operands_nodes (operands_at node) ≤ nodes_made (visited_lvalue kind node) (walk_lvalue_operands nodes_made node)
+    → 1 + operands_nodes (operands_at node) ≤ nodes_made (visited_lvalue kind node)
+    (walk_lvalue_operands nodes_made node)
 places_few kind (automatic x) = omega arith
 places_few kind (static n) = omega arith
 places_few kind (deref a) = omega arith
@@ -326,6 +415,29 @@ places_few kind (member p offset size) = omega arith
 places_few kind (arrow a offset size) = omega arith
 places_few kind (member_of_value a offset size) = omega arith
 places_few kind (parenthesized_lvalue p) = omega arith
+
+place_same : (d m : ℕ) (w : Weights) (node : LvalueNode) → weight_if (last_at node d m) w
+    ≡ weight_if (last_at node 0 0) w
+place_same d m w (automatic x) = refl
+place_same d m w (static n) = refl
+place_same d m w (deref a) = refl
+place_same d m w (index form size a b) = refl
+place_same d m w (member p offset size) = refl
+place_same d m w (arrow a offset size) = refl
+place_same d m w (member_of_value a offset size) = refl
+place_same d m w (parenthesized_lvalue p) = refl
+
+places_weigh : (kind : Kind) (w : Weights) (node : LvalueNode)
+    → weight_if (last_at node 0 0) w + operands_weight (operands_at node) w
+    ≤ weight_made w (visited_lvalue kind node) (walk_lvalue_operands (weight_made w) node)
+places_weigh kind w (automatic x) = omega arith
+places_weigh kind w (static n) = omega arith
+places_weigh kind w (deref a) = omega arith
+places_weigh kind w (index form size a b) = omega arith
+places_weigh kind w (member p offset size) = omega arith
+places_weigh kind w (arrow a offset size) = omega arith
+places_weigh kind w (member_of_value a offset size) = omega arith
+places_weigh kind w (parenthesized_lvalue p) = omega arith
 
 -- formats
 
@@ -371,23 +483,27 @@ no_format_in c (library routine es) n h = tt
 no_format_in c (printf format es) n h = absurd h
 
 pub no_format : (a : Emitter) (node : Node) (n : ℕ) → HasNone node → FormatAdded a a node n
-no_format a node n h = record { emits = emits_none 0 0; is = λ c f. no_format_in c node n h }
+no_format a node n h = record { emits = emits_none 0; is = λ c f. no_format_in c node n h }
 
 -- what an expression does is added
 
 added_as : {a b c x : Emitter} {kind : Kind} {line d k m text : ℕ} {node : Node} {key : Option ℕ} {i : Instruction}
     → KeyAdded a b (key_in node) key → FormatAdded b c node text → last_in node kind line d key text m ≡ Some i
     → Added c x k i → Finishes a x (expression kind line node) d k m
-added_as {a = a} {c = c} {x = x} {kind = kind} {line = line} {d = d} {k = k} {m = m} {text = text} {node = node} {key = key} {i = i}
+added_as {a = a} {c = c} {x = x} {kind = kind} {line = line} {d = d} {k = k} {m = m} {text = text} {node = node} {key =
+    key} {i = i}
     ka fa e h =
     let few : temporaries i ≤ d + used (expression kind line node) = subst
     (λ o. FewIn o (d + used (expression kind line node))) e (last_few kind line d key text m node) in
     let real : IsReal i = subst RealIn e (last_real kind line d key text m node) in
     let most = d + used (expression kind line node) in
-    let first = emits_then most 0 ka.emits fa.emits (omega arith) (omega arith) (omega arith) in
+    let first = emits_then most no_weight ka.emits fa.emits (omega arith) (omega arith) (λ w. omega arith) in
     let more = added_emits most h few in
+    let weight : (w : Weights) → weight_of i w ≡ finish_weight (expression kind line node) w =
+    λ w. ap (λ o. weight_if o w) (sym e) ∙ last_same kind line d key text m w node in
     record {
-      emits = emits_then most 1 first more (omega arith) (omega arith) (omega arith);
+      emits = emits_then most (finish_weight (expression kind line node)) first more (omega arith) (omega arith)
+          (λ w. omega (arith, weight w));
       stands = λ p f n o.
           let g = fills_before more f in
           last_stands p kind line d key text m k n node (ka.is p (fills_before fa.emits g)) (fa.is p g)
@@ -396,7 +512,8 @@ added_as {a = a} {c = c} {x = x} {kind = kind} {line = line} {d = d} {k = k} {m 
 
 pub some_last : {a b c x : Emitter} {kind : Kind} {line d k m text : ℕ} {node : Node} {key : Option ℕ} {i : Instruction}
     {l : Option Instruction} → KeyAdded a b (key_in node) key → FormatAdded b c node text
-    → l ≡ last_in node kind line d key text m → l ≡ Some i → Added c x k i → Finishes a x (expression kind line node) d k m
+    → l ≡ last_in node kind line d key text m → l ≡ Some i → Added c x k i
+    → Finishes a x (expression kind line node) d k m
 some_last ka fa l s h = added_as ka fa (sym l ∙ s) h
 
 pub none_last : {a b c : Emitter} {kind : Kind} {line d m text : ℕ} {node : Node} {key : Option ℕ}
@@ -405,7 +522,8 @@ pub none_last : {a b c : Emitter} {kind : Kind} {line d m text : ℕ} {node : No
 none_last {kind = kind} {line = line} {d = d} {m = m} {text = text} {node = node} {key = key} ka fa l s =
     let most = d + used (expression kind line node) in
     record {
-      emits = emits_then most 1 ka.emits fa.emits (omega arith) (omega arith) (omega arith);
+      emits = emits_then most (finish_weight (expression kind line node)) ka.emits fa.emits (omega arith) (omega arith)
+          (λ w. omega arith);
       stands = λ p f n o. last_stands p kind line d key text m m n node (ka.is p (fills_before fa.emits f)) (fa.is p f)
           (subst (λ j. StandsAs p j m m) (sym s ∙ l) refl) o;
     }
@@ -418,8 +536,11 @@ some_place {a = a} {b = b} {kind = kind} {line = line} {d = d} {k = k} {m = m} {
     let most = d + used_by_lvalue (lvalue kind line node) in
     let few : temporaries i ≤ most = subst (λ o. FewIn o most) e (place_few kind d m node) in
     let real : IsReal i = subst RealIn e (place_real d m node) in
+    let weight : (w : Weights) → weight_of i w ≡ lvalue_finish_weight (lvalue kind line node) w =
+    λ w. ap (λ o. weight_if o w) (sym e) ∙ place_same d m w node in
     record {
-      emits = added_emits most h few;
+      emits = emits_within most (lvalue_finish_weight (lvalue kind line node)) (added_emits most h few) (omega arith)
+          (λ w. omega (arith, weight w));
       stands = λ p f n o. last_places p d m k n node
           (subst (λ j. StandsAs p j k m) (sym e) (f.code k i real (added_has h))) o;
     }
@@ -427,7 +548,7 @@ some_place {a = a} {b = b} {kind = kind} {line = line} {d = d} {k = k} {m = m} {
 pub none_place : {a : Emitter} {kind : Kind} {line d m : ℕ} {node : LvalueNode} {l : Option Instruction}
     → l ≡ last_at node d m → l ≡ None → LvalueFinishes a a (lvalue kind line node) d m m
 none_place {kind = kind} {line = line} {d = d} {m = m} {node = node} l s = record {
-  emits = emits_none (d + used_by_lvalue (lvalue kind line node)) 1;
+  emits = emits_none (d + used_by_lvalue (lvalue kind line node));
   stands = λ p f n o. last_places p d m m n node (subst (λ j. StandsAs p j m m) (sym s ∙ l) refl) o;
 }
 
@@ -439,6 +560,14 @@ nodes_most (expression kind line node) = operands_few kind node
 
 pub used_by_most : (p : Lvalue) → operands_used (lvalue_operands p) ≤ used_by_lvalue p
 used_by_most (lvalue kind line node) = places_most kind node
+
+pub weight_most : (e : Expression) (w : Weights)
+    → finish_weight e w + operands_weight (operands_of e) w ≤ expression_weight e w
+weight_most (expression kind line node) w = operands_weigh kind line w node
+
+pub weight_by_most : (p : Lvalue) (w : Weights)
+    → lvalue_finish_weight p w + operands_weight (lvalue_operands p) w ≤ lvalue_weight p w
+weight_by_most (lvalue kind line node) w = places_weigh kind w node
 
 pub nodes_by_most : (p : Lvalue) → 1 + operands_nodes (lvalue_operands p) ≤ lvalue_nodes p
 nodes_by_most (lvalue kind line node) = places_few kind node

@@ -1,5 +1,6 @@
 -- Expressions and lvalues of the code as plain data, and arguments from one on.
-use Rattle.std.proofs.Common.{◌≡◌, ℕ, zero, suc, ◌+◌, ◌-◌, ◌≤◌, ◌<◌, List, [], ◌∷◌, length, map, drop, sym, ap, ◌∙◌, subst}
+use Rattle.std.proofs.Common.{◌≡◌, ℕ, zero, suc, ◌+◌, ◌-◌, ◌≤◌, ◌<◌, List, [], ◌∷◌, length, map, drop, sym, ap, ◌∙◌}
+use Rattle.std.proofs.Common.{subst}
 use Rattle.std.proofs.Common.{arith}
 use Rattle.std.specs.Prelude.{get_or, ◌⊎◌}
 use mathlib.Core.Logic.{inl, inr}
@@ -15,14 +16,16 @@ use Rattle.c_tree.specs.declared.expression.LvalueNode.TheVariants as pv
 use Rattle.obj_memory.specs.declared.operator.BinaryOperator.{BinaryOperator}
 use Rattle.c_tree.specs.declared.expression.OffsetForm.{OffsetForm}
 use Rattle.c_tree.specs.declared.expression.Update.{Update}
-use Rattle.c_tree.specs.Tree.{Expression, expression, Lvalue, lvalue, Node, LvalueNode, expressions_in, kind_of, line_of}
-use Rattle.c_tree.specs.Tree.{binary, offset_by, difference, logical_and, logical_or, comma, conditional, assign, compound}
+use Rattle.c_tree.specs.Tree.{Expression, expression, Lvalue, lvalue, Node, LvalueNode, expressions_in, kind_of}
+use Rattle.c_tree.specs.Tree.{line_of}
+use Rattle.c_tree.specs.Tree.{binary, offset_by, difference, logical_and, logical_or, comma, conditional, assign}
+use Rattle.c_tree.specs.Tree.{compound}
 use Rattle.c_tree.specs.Tree.{call_through, index}
 use Rattle.c_tree.specs.View.{expression_of, lvalue_of, lvalue_node_step, node_step, expression_step, lvalue_step}
 use Rattle.c_lower.specs.Homes.{used, used_by_lvalue}
 use Rattle.expression_lowering.specs.declared.emitter.Emitter.{Emitter}
 use Rattle.expression_lowering.specs.Emitted.{ExpressionCode, LvalueCode, ArgumentsCode, arguments_used}
-use Rattle.expression_lowering.specs.Emitted.{nodes, lvalue_nodes, arguments_nodes}
+use Rattle.expression_lowering.specs.Sizes.{nodes, lvalue_nodes, arguments_nodes}
 use Rattle.expression_lowering.specs.Shapes.{Operands, two, place_and, callee_and, both, either, sequence, choice}
 use Rattle.expression_lowering.specs.Shapes.{operands_in, operands_at, operands_of, lvalue_operands, operands_used}
 use Rattle.expression_lowering.specs.Shapes.{operands_nodes}
@@ -39,55 +42,74 @@ of_expression e = fold_out-Expression LvalueNode Node Expression Lvalue lvalue_n
 pub of_lvalue : (p : CodeLvalue) → lvalue_of p ≡ lvalue p.kind p.line (lvalue_node_of p.node)
 of_lvalue p = fold_out-Lvalue LvalueNode Node Expression Lvalue lvalue_node_step node_step expression_step lvalue_step p
 
-pub of_Binary : (op : BinaryOperator) (a : CodeExpression) (b : CodeExpression) → node_of (rn.Binary op a b) ≡ binary op (expression_of a) (expression_of b)
+pub of_Binary : (op : BinaryOperator) (a : CodeExpression) (b : CodeExpression) → node_of (rn.Binary op a b)
+    ≡ binary op (expression_of a) (expression_of b)
 of_Binary op a b =
     ap node_of (sym (nv.rolls-Binary op a b))
-    ∙ fold-roll-Node LvalueNode Node Expression Lvalue lvalue_node_step node_step expression_step lvalue_step (Node-F.Binary op a b)
+    ∙ fold-roll-Node LvalueNode Node Expression Lvalue lvalue_node_step node_step expression_step lvalue_step
+    (Node-F.Binary op a b)
 
-pub of_Offset : (form : OffsetForm) (size : ℕ) (a : CodeExpression) (b : CodeExpression) → node_of (rn.Offset form size a b) ≡ offset_by form size (expression_of a) (expression_of b)
+pub of_Offset : (form : OffsetForm) (size : ℕ) (a : CodeExpression) (b : CodeExpression)
+    → node_of (rn.Offset form size a b) ≡ offset_by form size (expression_of a) (expression_of b)
 of_Offset form size a b =
     ap node_of (sym (nv.rolls-Offset form size a b))
-    ∙ fold-roll-Node LvalueNode Node Expression Lvalue lvalue_node_step node_step expression_step lvalue_step (Node-F.Offset form size a b)
+    ∙ fold-roll-Node LvalueNode Node Expression Lvalue lvalue_node_step node_step expression_step lvalue_step
+    (Node-F.Offset form size a b)
 
-pub of_Difference : (size : ℕ) (a : CodeExpression) (b : CodeExpression) → node_of (rn.Difference size a b) ≡ difference size (expression_of a) (expression_of b)
+pub of_Difference : (size : ℕ) (a : CodeExpression) (b : CodeExpression) → node_of (rn.Difference size a b)
+    ≡ difference size (expression_of a) (expression_of b)
 of_Difference size a b =
     ap node_of (sym (nv.rolls-Difference size a b))
-    ∙ fold-roll-Node LvalueNode Node Expression Lvalue lvalue_node_step node_step expression_step lvalue_step (Node-F.Difference size a b)
+    ∙ fold-roll-Node LvalueNode Node Expression Lvalue lvalue_node_step node_step expression_step lvalue_step
+    (Node-F.Difference size a b)
 
-pub of_And : (a : CodeExpression) (b : CodeExpression) → node_of (rn.And a b) ≡ logical_and (expression_of a) (expression_of b)
+pub of_And : (a : CodeExpression) (b : CodeExpression) → node_of (rn.And a b)
+    ≡ logical_and (expression_of a) (expression_of b)
 of_And a b =
     ap node_of (sym (nv.rolls-And a b))
-    ∙ fold-roll-Node LvalueNode Node Expression Lvalue lvalue_node_step node_step expression_step lvalue_step (Node-F.And a b)
+    ∙ fold-roll-Node LvalueNode Node Expression Lvalue lvalue_node_step node_step expression_step lvalue_step
+    (Node-F.And a b)
 
-pub of_Or : (a : CodeExpression) (b : CodeExpression) → node_of (rn.Or a b) ≡ logical_or (expression_of a) (expression_of b)
+pub of_Or : (a : CodeExpression) (b : CodeExpression) → node_of (rn.Or a b)
+    ≡ logical_or (expression_of a) (expression_of b)
 of_Or a b =
     ap node_of (sym (nv.rolls-Or a b))
-    ∙ fold-roll-Node LvalueNode Node Expression Lvalue lvalue_node_step node_step expression_step lvalue_step (Node-F.Or a b)
+    ∙ fold-roll-Node LvalueNode Node Expression Lvalue lvalue_node_step node_step expression_step lvalue_step
+    (Node-F.Or a b)
 
-pub of_Comma : (a : CodeExpression) (b : CodeExpression) → node_of (rn.Comma a b) ≡ comma (expression_of a) (expression_of b)
+pub of_Comma : (a : CodeExpression) (b : CodeExpression) → node_of (rn.Comma a b)
+    ≡ comma (expression_of a) (expression_of b)
 of_Comma a b =
     ap node_of (sym (nv.rolls-Comma a b))
-    ∙ fold-roll-Node LvalueNode Node Expression Lvalue lvalue_node_step node_step expression_step lvalue_step (Node-F.Comma a b)
+    ∙ fold-roll-Node LvalueNode Node Expression Lvalue lvalue_node_step node_step expression_step lvalue_step
+    (Node-F.Comma a b)
 
-pub of_Conditional : (c : CodeExpression) (a : CodeExpression) (b : CodeExpression) → node_of (rn.Conditional c a b) ≡ conditional (expression_of c) (expression_of a) (expression_of b)
+pub of_Conditional : (c : CodeExpression) (a : CodeExpression) (b : CodeExpression) → node_of (rn.Conditional c a b)
+    ≡ conditional (expression_of c) (expression_of a) (expression_of b)
 of_Conditional c a b =
     ap node_of (sym (nv.rolls-Conditional c a b))
-    ∙ fold-roll-Node LvalueNode Node Expression Lvalue lvalue_node_step node_step expression_step lvalue_step (Node-F.Conditional c a b)
+    ∙ fold-roll-Node LvalueNode Node Expression Lvalue lvalue_node_step node_step expression_step lvalue_step
+    (Node-F.Conditional c a b)
 
 pub of_Assign : (p : CodeLvalue) (a : CodeExpression) → node_of (rn.Assign p a) ≡ assign (lvalue_of p) (expression_of a)
 of_Assign p a =
     ap node_of (sym (nv.rolls-Assign p a))
-    ∙ fold-roll-Node LvalueNode Node Expression Lvalue lvalue_node_step node_step expression_step lvalue_step (Node-F.Assign p a)
+    ∙ fold-roll-Node LvalueNode Node Expression Lvalue lvalue_node_step node_step expression_step lvalue_step
+    (Node-F.Assign p a)
 
-pub of_Compound : (u : Update) (p : CodeLvalue) (a : CodeExpression) → node_of (rn.Compound u p a) ≡ compound u (lvalue_of p) (expression_of a)
+pub of_Compound : (u : Update) (p : CodeLvalue) (a : CodeExpression) → node_of (rn.Compound u p a)
+    ≡ compound u (lvalue_of p) (expression_of a)
 of_Compound u p a =
     ap node_of (sym (nv.rolls-Compound u p a))
-    ∙ fold-roll-Node LvalueNode Node Expression Lvalue lvalue_node_step node_step expression_step lvalue_step (Node-F.Compound u p a)
+    ∙ fold-roll-Node LvalueNode Node Expression Lvalue lvalue_node_step node_step expression_step lvalue_step
+    (Node-F.Compound u p a)
 
-pub of_CallThrough : (type : ℕ) (a : CodeExpression) (es : List CodeExpression) → node_of (rn.CallThrough type a es) ≡ call_through type (expression_of a) (expressions_in (map expression_of es))
+pub of_CallThrough : (type : ℕ) (a : CodeExpression) (es : List CodeExpression) → node_of (rn.CallThrough type a es)
+    ≡ call_through type (expression_of a) (expressions_in (map expression_of es))
 of_CallThrough type a es =
     ap node_of (sym (nv.rolls-CallThrough type a es))
-    ∙ fold-roll-Node LvalueNode Node Expression Lvalue lvalue_node_step node_step expression_step lvalue_step (Node-F.CallThrough type a es)
+    ∙ fold-roll-Node LvalueNode Node Expression Lvalue lvalue_node_step node_step expression_step lvalue_step
+    (Node-F.CallThrough type a es)
 
 pub of_Index : (form : OffsetForm) (size : ℕ) (a b : CodeExpression)
     → lvalue_node_of (rp.Index form size a b) ≡ index form size (expression_of a) (expression_of b)
@@ -99,13 +121,15 @@ of_Index form size a b =
 both_as : (make : Expression → Expression → Operands) (a b x y : CodeExpression) → x ≡ a → y ≡ b
     → make (expression_of a) (expression_of b) ≡ make (expression_of x) (expression_of y)
 both_as make a b x y ex ey =
-    ap (λ z. make (expression_of z) (expression_of b)) (sym ex) ∙ ap (λ z. make (expression_of x) (expression_of z)) (sym ey)
+    ap (λ z. make (expression_of z) (expression_of b)) (sym ex)
+    ∙ ap (λ z. make (expression_of x) (expression_of z)) (sym ey)
 
 -- what a match shows of the operands
 
 pub pair_shape : (node : rn.Node) (a b x y : CodeExpression) → x ≡ a → y ≡ b
     → ((op : BinaryOperator) × (node ≡ rn.Binary op a b))
-    ⊎ (((form : OffsetForm) × (size : ℕ) × (node ≡ rn.Offset form size a b)) ⊎ ((size : ℕ) × (node ≡ rn.Difference size a b)))
+    ⊎ (((form : OffsetForm) × (size : ℕ) × (node ≡ rn.Offset form size a b))
+    ⊎ ((size : ℕ) × (node ≡ rn.Difference size a b)))
     → operands_in (node_of node) ≡ two (expression_of x) (expression_of y)
 pair_shape node a b x y ex ey (inl h) =
     ap (λ n. operands_in (node_of n)) h.1 ∙ ap operands_in (of_Binary h.0 a b) ∙ both_as two a b x y ex ey
@@ -215,7 +239,8 @@ next_argument {a = a} {b = b} {c = c} {e = e} {n = n} {k = k} {j = j} {m = m} xs
     let view = of_expression x in
     let rest = subst (λ p. ArgumentsCode a b (expressions_in (map expression_of (drop i xs))) p j m) place hs in
     let taking = subst (λ l. TakingCode b c l x.line (d + (i - 1)) k j) (sym (ap kind_of view)) t in
-    let taken = subst (λ l. TakingCode b c (kind_of (expression_of x)) l (d + (i - 1)) k j) (sym (ap line_of view)) taking in
+    let taken = subst (λ l. TakingCode b c (kind_of (expression_of x)) l (d + (i - 1)) k j)
+    (sym (ap line_of view)) taking in
     let more = more_arguments rest taken hx in
     let same : expression_of x ∷ map expression_of (drop i xs) ≡ map expression_of (drop (i - 1) xs) =
     ap (λ p. expression_of x ∷ map expression_of (drop p xs)) (sym at) ∙ ap (map expression_of) (sym from) in
@@ -231,13 +256,14 @@ nodes_in e =
     let shape = ap (λ x. operands_nodes (operands_of x)) (of_expression e) in
     omega (arith, nodes_most (expression_of e), shape)
 
-pub nodes_below : (p : CodeLvalue) → 1 + operands_nodes (operands_at (lvalue_node_of p.node)) ≤ lvalue_nodes (lvalue_of p)
+pub nodes_below : (p : CodeLvalue) → 1 + operands_nodes (operands_at (lvalue_node_of p.node)) ≤ lvalue_nodes
+    (lvalue_of p)
 nodes_below p =
     let shape = ap (λ x. operands_nodes (lvalue_operands x)) (of_lvalue p) in
     omega (arith, nodes_by_most (lvalue_of p), shape)
 
 pub nodes_at : (xs : List CodeExpression) (k : ℕ) (x : CodeExpression) → k < length xs → x ≡ get_or xs k x
-    → nodes (expression_of x) + 1 ≤ arguments_nodes (expressions_in (map expression_of xs))
+    → nodes (expression_of x) ≤ arguments_nodes (expressions_in (map expression_of xs))
 nodes_at [] k x lt e = absurd (omega (arith, lt))
 nodes_at (y ∷ xs) zero x lt e = omega (arith, ap (λ z. nodes (expression_of z)) e)
 nodes_at (y ∷ xs) (suc k) x lt e = omega (arith, nodes_at xs k x (omega (arith, lt)) e)

@@ -1,7 +1,6 @@
 -- What is made of a function so far: code and tables that only grow, and what stands in whatever code they grow to.
-use Rattle.std.specs.Prelude.{◌≡◌, ◌≤◌, ℕ, ◌+◌, max, List, [], ◌∷◌, ◌++◌, length, map, Some, slice_get}
+use Rattle.std.specs.Prelude.{◌≡◌, ◌≤◌, ℕ, ◌+◌, max, List, [], ◌∷◌, ◌++◌, length, Some, slice_get}
 use Rattle.c_tree.specs.Tree.{Expression, Expressions, no_expressions, expressions, Lvalue}
-use Rattle.c_tree.specs.Walk.{Visited, walk, walk_lvalue, sum_of}
 use Rattle.tac_ir.specs.declared.instruction.Instruction.{Instruction}
 use Rattle.tac_ir.specs.declared.instruction.Instruction.TheVariants.{Reserved}
 use Rattle.tac_ir.specs.Temporaries.{temporaries}
@@ -9,6 +8,7 @@ use Rattle.c_lower.specs.Homes.{used, used_by_lvalue}
 use Rattle.c_lower.specs.Placed.{Placed, Holds, HasAt}
 use Rattle.c_lower.specs.Values.{LowersExpression, LowersLvalue, LowersArguments}
 use Rattle.expression_lowering.specs.declared.emitter.Emitter.{Emitter}
+use Rattle.expression_lowering.specs.Weights.{Weights, code_weight, expression_weight, lvalue_weight, arguments_weight}
 
 abbrev pub Has : Emitter → (node : ℕ) → Instruction → Type 0
 Has a n i = slice_get a.code.items n ≡ Some i
@@ -50,25 +50,11 @@ pub record Fills (a : Emitter) (c : Placed) : Type 0 where
 pub record Fits (limit : ℕ) (a : Emitter) : Type 0 where
   pub by : (n : ℕ) (i : Instruction) → Has a n i → temporaries i ≤ limit
 
--- what is added needs so many temporaries at most, and has so many nodes at most
-pub record Emits (a b : Emitter) (most count : ℕ) : Type 0 where
+-- what is added needs so many temporaries at most, and has so much weight at most
+pub record Emits (a b : Emitter) (most : ℕ) (weight : Weights → ℕ) : Type 0 where
   pub kept : Keeps a b
   pub fits : (limit : ℕ) → most ≤ limit → Fits limit a → Fits limit b
-  pub grown : length b.code.items ≤ length a.code.items + count
-
--- how many nodes an expression or an lvalue gets at most: 5 for each of its own, less 1
-abbrev pub nodes_made : Visited → List ℕ → ℕ
-nodes_made v ns = 4 + sum_of (map (λ n. n + 1) ns)
-
-abbrev pub nodes : Expression → ℕ
-nodes = walk nodes_made
-
-abbrev pub lvalue_nodes : Lvalue → ℕ
-lvalue_nodes = walk_lvalue nodes_made
-
-abbrev pub arguments_nodes : Expressions → ℕ
-arguments_nodes no_expressions = 0
-arguments_nodes (expressions e es) = nodes e + 1 + arguments_nodes es
+  pub grown : (w : Weights) → code_weight b.code.items w ≤ code_weight a.code.items w + weight w
 
 -- how many temporaries arguments need from the first on
 abbrev pub arguments_used : Expressions → ℕ
@@ -77,15 +63,15 @@ arguments_used (expressions e es) = max (used e) (1 + arguments_used es)
 
 -- the code of an expression is added, from one node to another that stands
 pub record ExpressionCode (a b : Emitter) (e : Expression) (d n0 n1 : ℕ) : Type 0 where
-  pub emits : Emits a b (d + used e) (nodes e)
+  pub emits : Emits a b (d + used e) (expression_weight e)
   pub stands : (c : Placed) → Fills b c → LowersExpression c e d n0 n1
 
 -- of an lvalue
 pub record LvalueCode (a b : Emitter) (p : Lvalue) (d n0 n1 : ℕ) : Type 0 where
-  pub emits : Emits a b (d + used_by_lvalue p) (lvalue_nodes p)
+  pub emits : Emits a b (d + used_by_lvalue p) (lvalue_weight p)
   pub stands : (c : Placed) → Fills b c → LowersLvalue c p d n0 n1
 
 -- of arguments
 pub record ArgumentsCode (a b : Emitter) (es : Expressions) (d n0 n1 : ℕ) : Type 0 where
-  pub emits : Emits a b (d + arguments_used es) (arguments_nodes es)
+  pub emits : Emits a b (d + arguments_used es) (arguments_weight es)
   pub stands : (c : Placed) → Fills b c → LowersArguments c es d n0 n1

@@ -1,11 +1,12 @@
 -- What an expression or an lvalue itself does, once its operands are there: one instruction, or none.
-use Rattle.std.specs.Prelude.{ℕ, ◌+◌, List, Option, Some, None}
+use Rattle.std.specs.Prelude.{ℕ, ◌+◌, ◌*◌, List, Option, Some, None}
 use Rattle.c_tree.specs.declared.expression.Kind.{Kind}
 use Rattle.c_tree.specs.declared.expression.Fixity.TheVariants.{Prefix}
 use Rattle.c_tree.specs.Tree.{Node, constant, function, plain, read}
 use Rattle.c_tree.specs.Tree.{decay, address, parenthesized, deref_function, address_function, cast, convert, unary}
 use Rattle.c_tree.specs.Tree.{binary, offset_by, difference, logical_and, logical_or, comma, conditional, assign}
-use Rattle.c_tree.specs.Tree.{assign_plain, compound, change_plain, step, step_plain, call, call_through, library, printf}
+use Rattle.c_tree.specs.Tree.{assign_plain, compound, change_plain, step, step_plain, call, call_through, library}
+use Rattle.c_tree.specs.Tree.{printf}
 use Rattle.c_tree.specs.Tree.{LvalueNode, automatic, static, deref, index, member, arrow, member_of_value}
 use Rattle.c_tree.specs.Tree.{parenthesized_lvalue, kind_of, lvalue_kind, lvalue_line}
 use Rattle.source_meaning.specs.Actions.{scalar_of, integer_type}
@@ -18,6 +19,7 @@ use Rattle.c_lower.specs.Keys.{read_key, write_key}
 use Rattle.c_lower.specs.Placed.{Placed, HasAt}
 use Rattle.c_lower.specs.Values.{KeyIs, LowersTaking, mode_for, count}
 use Rattle.expression_lowering.specs.declared.emitter.Emitter.{Emitter}
+use Rattle.expression_lowering.specs.Weights.{no_weight, taking_weight}
 use Rattle.expression_lowering.specs.Emitted.{Fills, Emits}
 
 -- the key of its access
@@ -80,12 +82,12 @@ last_at (parenthesized_lvalue p) d m = None
 
 -- the number of a key in the table
 pub record KeyAdded (a b : Emitter) (key : Option Key) (number : Option ℕ) : Type 0 where
-  pub emits : Emits a b 0 0
+  pub emits : Emits a b 0 no_weight
   pub is : (c : Placed) → Fills b c → KeyIs c.keys number key
 
 -- the number of a format or a literal among the texts
 pub record TextAdded (a b : Emitter) (text : List ℕ) (number : ℕ) : Type 0 where
-  pub emits : Emits a b 0 0
+  pub emits : Emits a b 0 no_weight
   pub is : (c : Placed) → Fills b c → HasAt c.texts number text
 
 abbrev pub TextIs : Placed → Node → (number : ℕ) → Type 0
@@ -94,17 +96,17 @@ TextIs c node n = Unit {0}
 
 -- of an expression that has a format
 pub record FormatAdded (a b : Emitter) (node : Node) (number : ℕ) : Type 0 where
-  pub emits : Emits a b 0 0
+  pub emits : Emits a b 0 no_weight
   pub is : (c : Placed) → Fills b c → TextIs c node number
 
 -- the contents of a structure are taken
 pub record TakingCode (a b : Emitter) (kind : Kind) (line d n0 n1 : ℕ) : Type 0 where
-  pub emits : Emits a b (d + 1) 1
+  pub emits : Emits a b (d + 1) (taking_weight kind)
   pub stands : (c : Placed) → Fills b c → LowersTaking c kind line d n0 n1
 
 -- where both operands of `&&` or `||` lead: its values, and the test of the second operand
 pub record Outcomes (a b : Emitter) (d zero one test next : ℕ) : Type 0 where
-  pub emits : Emits a b (d + 1) 3
+  pub emits : Emits a b (d + 1) (λ w. w.branch + 2 * w.constant)
   pub gives_zero : (c : Placed) → Fills b c → HasAt c.code zero (tac.Constant d 0 next)
   pub gives_one : (c : Placed) → Fills b c → HasAt c.code one (tac.Constant d 1 next)
   pub tests : (c : Placed) → Fills b c → HasAt c.code test (tac.Branch d one zero)

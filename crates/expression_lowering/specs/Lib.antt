@@ -1,4 +1,6 @@
+pub mod Sizes
+pub mod Weights
 pub mod Emitted
 pub mod Nodes
-pub mod Shapes
 pub mod Last
+pub mod Shapes

@@ -1,9 +1,11 @@
 -- What operands an expression has, and where their code stands before what the expression itself does.
-use Rattle.std.specs.Prelude.{◌≡◌, ℕ, ◌+◌, max}
-use Rattle.c_tree.specs.Tree.{Expression, expression, Expressions, Lvalue, lvalue, Node, constant, function, plain, read}
+use Rattle.std.specs.Prelude.{◌≡◌, ℕ, ◌+◌, ◌*◌, max, None}
+use Rattle.c_tree.specs.Tree.{Expression, expression, Expressions, Lvalue, lvalue, Node, constant, function, plain}
+use Rattle.c_tree.specs.Tree.{read}
 use Rattle.c_tree.specs.Tree.{decay, address, parenthesized, deref_function, address_function, cast, convert, unary}
 use Rattle.c_tree.specs.Tree.{binary, offset_by, difference, logical_and, logical_or, comma, conditional, assign}
-use Rattle.c_tree.specs.Tree.{assign_plain, compound, change_plain, step, step_plain, call, call_through, library, printf}
+use Rattle.c_tree.specs.Tree.{assign_plain, compound, change_plain, step, step_plain, call, call_through, library}
+use Rattle.c_tree.specs.Tree.{printf}
 use Rattle.c_tree.specs.Tree.{LvalueNode, automatic, static, deref, index, member, arrow, member_of_value}
 use Rattle.c_tree.specs.Tree.{parenthesized_lvalue}
 use Rattle.tac_ir.specs.declared.instruction.Instruction.TheVariants as tac
@@ -11,7 +13,10 @@ use Rattle.c_lower.specs.Homes.{used, used_by_lvalue}
 use Rattle.c_lower.specs.Placed.{Placed, Holds}
 use Rattle.c_lower.specs.Values.{LowersExpression, LowersLvalue, LowersArguments}
 use Rattle.expression_lowering.specs.declared.emitter.Emitter.{Emitter}
-use Rattle.expression_lowering.specs.Emitted.{Fills, Emits, nodes, lvalue_nodes, arguments_used, arguments_nodes}
+use Rattle.expression_lowering.specs.Sizes.{nodes, lvalue_nodes, arguments_nodes}
+use Rattle.expression_lowering.specs.Weights.{Weights, weight_if, expression_weight, lvalue_weight, arguments_weight}
+use Rattle.expression_lowering.specs.Emitted.{Fills, Emits, arguments_used}
+use Rattle.expression_lowering.specs.Last.{last_in, last_at}
 
 pub data Operands : Type 0 where
   none : Operands
@@ -111,7 +116,7 @@ operands_used (either a b) = max 1 (max (used a) (used b))
 operands_used (sequence a b) = max (used a) (used b)
 operands_used (choice a b e) = max 1 (max (used a) (max (used b) (used e)))
 
--- and how many nodes they get at most
+-- how many nodes they have
 abbrev pub operands_nodes : Operands → ℕ
 operands_nodes none = 0
 operands_nodes (one a) = nodes a
@@ -120,21 +125,44 @@ operands_nodes (two a b) = nodes a + nodes b
 operands_nodes (place_and p a) = lvalue_nodes p + nodes a
 operands_nodes (each es) = arguments_nodes es
 operands_nodes (callee_and a es) = nodes a + arguments_nodes es
-operands_nodes (both a b) = 4 + (nodes a + nodes b)
-operands_nodes (either a b) = 4 + (nodes a + nodes b)
+operands_nodes (both a b) = nodes a + nodes b
+operands_nodes (either a b) = nodes a + nodes b
 operands_nodes (sequence a b) = nodes a + nodes b
-operands_nodes (choice a b e) = 1 + (nodes a + (nodes b + nodes e))
+operands_nodes (choice a b e) = nodes a + (nodes b + nodes e)
+
+-- and what they weigh at most, with the branches between them
+abbrev pub operands_weight : Operands → Weights → ℕ
+operands_weight none w = 0
+operands_weight (one a) w = expression_weight a w
+operands_weight (place p) w = lvalue_weight p w
+operands_weight (two a b) w = expression_weight a w + expression_weight b w
+operands_weight (place_and p a) w = lvalue_weight p w + expression_weight a w
+operands_weight (each es) w = arguments_weight es w
+operands_weight (callee_and a es) w = expression_weight a w + arguments_weight es w
+operands_weight (both a b) w = 2 * w.branch + 2 * w.constant + (expression_weight a w + expression_weight b w)
+operands_weight (either a b) w = 2 * w.branch + 2 * w.constant + (expression_weight a w + expression_weight b w)
+operands_weight (sequence a b) w = expression_weight a w + expression_weight b w
+operands_weight (choice a b e) w =
+    w.branch + (expression_weight a w + (expression_weight b w + expression_weight e w))
+
+-- what an expression or an lvalue itself weighs, once its operands are there
+abbrev pub finish_weight : Expression → Weights → ℕ
+finish_weight (expression kind line node) w = weight_if (last_in node kind line 0 None 0 0) w
+
+abbrev pub lvalue_finish_weight : Lvalue → Weights → ℕ
+lvalue_finish_weight (lvalue kind line node) w = weight_if (last_at node 0 0) w
 
 pub record OperandsCode (a b : Emitter) (os : Operands) (d n0 n1 : ℕ) : Type 0 where
-  pub emits : Emits a b (d + operands_used os) (operands_nodes os)
+  pub emits : Emits a b (d + operands_used os) (operands_weight os)
   pub stands : (c : Placed) → Fills b c → LowersOperands c os d n0 n1
 
 -- what an expression itself does is added: where the code of its operands leads to it, the expression's stands
 pub record Finishes (a b : Emitter) (e : Expression) (d n0 n1 : ℕ) : Type 0 where
-  pub emits : Emits a b (d + used e) 1
-  pub stands : (c : Placed) → Fills b c → (n : ℕ) → LowersOperands c (operands_of e) d n n0 → LowersExpression c e d n n1
+  pub emits : Emits a b (d + used e) (finish_weight e)
+  pub stands : (c : Placed) → Fills b c → (n : ℕ) → LowersOperands c (operands_of e) d n n0
+      → LowersExpression c e d n n1
 
 pub record LvalueFinishes (a b : Emitter) (p : Lvalue) (d n0 n1 : ℕ) : Type 0 where
-  pub emits : Emits a b (d + used_by_lvalue p) 1
+  pub emits : Emits a b (d + used_by_lvalue p) (lvalue_finish_weight p)
   pub stands : (c : Placed) → Fills b c → (n : ℕ) → LowersOperands c (lvalue_operands p) d n n0
       → LowersLvalue c p d n n1

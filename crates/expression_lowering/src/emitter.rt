@@ -100,19 +100,21 @@ impl Emitter {
         ensures { IfOk result (λ n. TakingCode self.old self.new kind line temporary n next) }
     {
         match kind {
-            Kind::Structure(_) => self.add(Instruction::Take {
-                kind,
-                line,
-                to: temporary,
-                from: temporary,
-                next,
-            }),
+            Kind::Structure(_) => {
+                let node = self.add(Instruction::Take {
+                    kind,
+                    line,
+                    to: temporary,
+                    from: temporary,
+                    next,
+                })?;
+                Ok(node)
+            }
             Kind::Void | Kind::Scalar(_) | Kind::Array(_) => Ok(next),
         }
     }
 
     /// Where both operands of `&&` or `||` lead, with the value in a temporary.
-    #[tactic(auto, using(crate::proofs::Growing::outcomes))]
     pub fn ways(&mut self, temporary: usize, next: usize) -> Result<Ways, AllocError>
         ensures { IfOk result (λ w. Outcomes self.old self.new temporary w.zero w.one w.test next) }
     {

@@ -152,8 +152,8 @@ fn count(args: &[Expression]) -> usize
     args.len()
 }
 
-/// What an expression of a kind, at a line, does with its value in a temporary, with the number of the key of its access
-/// and that of its format. One that has its operand's value, or that several nodes stand for, does nothing.
+/// What an expression of a kind, at a line, does with its value in a temporary, with the number of the key of its
+/// access and that of its format. One that has its operand's value, or that several nodes stand for, does nothing.
 pub fn last_in(
     node: &Node,
     kind: Kind,

@@ -1,5 +1,5 @@
 -- What is built of lowered code is built of the program.
-use Rattle.std.proofs.Common.{◌≡◌, ℕ, List, [], length, true, Some, refl, sym, ap, ◌∙◌, subst}
+use Rattle.std.proofs.Common.{◌≡◌, ℕ, ◌<◌, List, [], length, true, Some, refl, sym, ap, ◌∙◌, subst}
 use Rattle.std.specs.Prelude.{Result, Ok, Err, IfOk, IfErr}
 use Rattle.std.proofs.lemmas.Option.{none-some}
 use Rattle.std.proofs.lemmas.List.{length-map}
@@ -22,11 +22,14 @@ use Rattle.rv_follows.specs.Code.{IsEncodable}
 use Rattle.rv_image.specs.Image.{IsImage}
 use Rattle.integer_images.specs.Images.{sizes_of, IsChecked, IsFlat, DoesWhatIsMeant}
 use Rattle.integer_images.proofs.Images.{no_statics, no_bytes}
+use Rattle.rv_codegen.specs.declared.code.GenerateError.TheVariants as generate
+use Rattle.rv_codegen.specs.Generated.{IsCause}
+use Rattle.integer_sizes.specs.Nodes.{program_nodes}
 use Rattle.integer_compiler.specs.declared.error.CompileError.{CompileError}
 use Rattle.integer_compiler.specs.declared.error.CompileError.TheVariants.{NumbersTooLarge, TooLarge, FunctionTooLong}
 use Rattle.integer_compiler.specs.declared.error.CompileError.TheVariants.{Memory}
 use Rattle.integer_compiler.specs.declared.compiler.Built.{Built}
-use Rattle.integer_compiler.specs.Built.{flat_code, IsExpandable, IsBuilt, IsRefused, UnlessMemory}
+use Rattle.integer_compiler.specs.Built.{flat_code, IsExpandable, IsBuilt, IsRefused, NeedsNodes, UnlessMemory}
 use Rattle.integer_compiler.proofs.Images.{accepted}
 
 -- as many functions as the text has, with checks or without
@@ -117,6 +120,27 @@ does_result p budgets (Ok b) law h =
     let image = h.image.image in
     law code (flat_of p m b h) image.plans (accepted code image.plans image.planned) b.image.items image.image
 does_result p budgets (Err e) law h = tt
+
+-- ---- code is too large only of many nodes
+
+large_code : (p : Program) (t : Tac) (m : MapSizes) (bytes : ℕ)
+    → ((k : Tac) (plans : List FunctionPlan) → Inserted t k → AreAllSmall m k → AreAccepted (flat_code m k) plans
+    → IsCause m (flat_code m k) plans (generate.TooLarge bytes) → 8192 < program_nodes p)
+    → IsRefused (Inserted t) m (TooLarge bytes) → 8192 < program_nodes p
+large_code p t m bytes law h =
+    let none = h.refuses in
+    law h.checked none.cause.plans h.is none.small
+    (accepted (flat_code m h.checked) none.cause.plans none.cause.planned) none.cause.cause
+
+pub nodes_result : (p : Program) (t : Tac) (m : MapSizes) (r : Result Built CompileError)
+    → ((k : Tac) (plans : List FunctionPlan) (bytes : ℕ) → Inserted t k → AreAllSmall m k
+    → AreAccepted (flat_code m k) plans → IsCause m (flat_code m k) plans (generate.TooLarge bytes) → 8192 < program_nodes p)
+    → IfErr r (λ e. UnlessMemory e (IsRefused (Inserted t) m e)) → IfErr r (λ e. NeedsNodes e p)
+nodes_result p t m (Ok b) law h = tt
+nodes_result p t m (Err NumbersTooLarge) law h = tt
+nodes_result p t m (Err (TooLarge bytes)) law h = large_code p t m bytes (λ k plans. law k plans bytes) h
+nodes_result p t m (Err (FunctionTooLong number)) law h = tt
+nodes_result p t m (Err Memory) law h = tt
 
 -- ---- without static objects no initializer is at fault
 

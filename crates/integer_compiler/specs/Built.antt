@@ -1,6 +1,7 @@
 -- What is built of a program, and when nothing is.
-use Rattle.std.specs.Prelude.{◌≡◌, ℕ, ◌-◌, ◌^◌, min, List, [], length, Result, Ok, Err}
+use Rattle.std.specs.Prelude.{◌≡◌, ℕ, ◌-◌, ◌^◌, ◌<◌, min, List, [], length, Result, Ok, Err}
 use Rattle.addr_map.specs.Places.{MapSizes}
+use Rattle.c_tree.specs.Programs.{Program}
 use Rattle.tac_ir.specs.declared.function.Tac.{Tac}
 use Rattle.check_insert.specs.Counting.{checks}
 use Rattle.metadata_plan.specs.Laid.{program_of}
@@ -15,6 +16,7 @@ use Rattle.rv_codegen.specs.declared.code.GenerateError.{GenerateError}
 use Rattle.rv_codegen.specs.declared.code.GenerateError.TheVariants as generate
 use Rattle.rv_codegen.specs.Generated.{IsCause}
 use Rattle.rv_image.specs.Image.{IsImage}
+use Rattle.integer_sizes.specs.Nodes.{program_nodes}
 use Rattle.integer_compiler.specs.declared.error.CompileError.{CompileError}
 use Rattle.integer_compiler.specs.declared.error.CompileError.TheVariants.{NumbersTooLarge, TooLarge, FunctionTooLong}
 use Rattle.integer_compiler.specs.declared.error.CompileError.TheVariants.{Memory}
@@ -91,6 +93,11 @@ pub record IsRefused (Is : Tac → Type 0) (m : MapSizes) (e : CompileError) : T
   pub checked : Tac
   pub is : Is checked
   pub refuses : Refuses m checked e
+
+-- code is too large only of a text with so many nodes
+abbrev pub NeedsNodes : CompileError → Program → Type 0
+NeedsNodes (TooLarge bytes) p = 8192 < program_nodes p
+NeedsNodes _ p = Unit {0}
 
 abbrev pub UnlessMemory : CompileError → Type 0 → Type 0
 UnlessMemory Memory P = Unit {0}

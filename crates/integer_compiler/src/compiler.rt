@@ -5,11 +5,12 @@ ghost use Rattle.c_tree.specs.View.{program_of};
 ghost use Rattle.c_tree.specs.ValidProgram.{is_valid_program};
 ghost use Rattle.tac_ir.specs.declared.function.Tac.{Tac};
 ghost use Rattle.c_lower.specs.Programs.{IsLowered};
+ghost use Rattle.program_lowering.specs.Weights.{IsWeighed};
 ghost use Rattle.check_insert.specs.Inserted.{Inserted};
 ghost use Rattle.integer_programs.specs.Programs.{is_integer_program};
 ghost use Rattle.integer_images.specs.Images.{HaveFewParameters, sizes_of, IsChecked, DoesWhatIsMeant};
 ghost use Rattle.integer_compiler.specs.declared.error.CompileError.{CompileError};
-ghost use Rattle.integer_compiler.specs.Built.{IsExpandable, IsBuilt, IsRefused, UnlessMemory};
+ghost use Rattle.integer_compiler.specs.Built.{IsExpandable, IsBuilt, IsRefused, NeedsNodes, UnlessMemory};
 
 use crate::error::CompileError;
 use crate::image::image_of_checked;
@@ -20,6 +21,7 @@ use c_tree::Program;
 use check_insert::{checks, insert};
 use integer_images::laws::{expansions_are_encodable, images_do_what_is_meant};
 use integer_plans::laws::expansions_are_plannable;
+use integer_sizes::laws::code_of_few_nodes_is_not_too_large;
 use program_lowering::lower;
 use sb_base::Budgets;
 use std::alloc::{AllocError, Global};
@@ -63,7 +65,8 @@ fn lowered_code(alloc: Global, program: &Program) -> Result<Tac, AllocError>
     requires valid { is_valid_program (program_of program.now) ≡ true }
     requires integers { is_integer_program (program_of program.now) ≡ true }
     requires few { length (program_of program.now).functions ≤ 4096 }
-    ensures { IfOk result (λ code. IsLowered (program_of program.now) code) }
+    ensures code { IfOk result (λ code. IsLowered (program_of program.now) code) }
+    ensures weighed { IfOk result (λ code. IsWeighed (program_of program.now) code) }
 {
     match lower(alloc, program) {
         Ok(code) => Ok(code),
@@ -85,7 +88,8 @@ fn map_of(budgets: &Budgets) -> AddrMap
 
 /// What is built of a valid program of integers, which has at most 4096 functions of at most 127 parameters each, with
 /// some budgets; or why nothing is. The image does what the program means, with at most 1008 instructions for each unit
-/// of its work. Want of memory is the one answer that may come without a cause.
+/// of its work. Want of memory is the one answer that may come without a cause; the code is too large only of a text
+/// with more than 8192 nodes.
 pub fn compile(alloc: Global, budgets: &Budgets, program: &Program) -> Result<Built, CompileError>
     requires valid { is_valid_program (program_of program.now) ≡ true }
     requires integers { is_integer_program (program_of program.now) ≡ true }
@@ -96,7 +100,9 @@ pub fn compile(alloc: Global, budgets: &Budgets, program: &Program) -> Result<Bu
     ensures does { IfOk result (λ built. DoesWhatIsMeant (program_of program.now) budgets.now built.image.items) }
     ensures refused { IfErr result (λ e. UnlessMemory e (IsRefused (IsChecked (program_of program.now))
         (sizes_of (program_of program.now) budgets.now) e)) }
+    ensures nodes { IfErr result (λ e. NeedsNodes e (program_of program.now)) }
 {
+    code_of_few_nodes_is_not_too_large();
     expansions_are_plannable();
     expansions_are_encodable();
     images_do_what_is_meant();

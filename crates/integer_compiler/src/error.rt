@@ -11,7 +11,8 @@ pub enum CompileError {
     /// Numbers do not fit flat code: a function has 2^32 virtual registers or more, or 2^31 instructions or more, or a
     /// room of 2^32 bytes or more.
     NumbersTooLarge,
-    /// The machine code of the functions takes more than 8388608 bytes, this many.
+    /// The machine code of the functions takes more than 8388608 bytes, this many: at most 1024 for each node of the
+    /// text.
     TooLarge(u128),
     /// The function with this number has 2^28 words or more, if each branch and jump has its longest form.
     FunctionTooLong(u32),

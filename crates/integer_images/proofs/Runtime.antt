@@ -114,6 +114,13 @@ module _ (k : Keeping) (asked : ℕ → Bool) (none : (y : ℕ) → asked y ≡ 
 
 -- ---- the items of instructions
 
+number_most : (w : ℕ) → length (if w == 0 then [] else constant 6 (low_bits 64 w)) ≤ 11
+number_most w = by (w == 0)
+  where
+    by : (b : Bool) → length (if b then [] else constant 6 (low_bits 64 w)) ≤ 11
+    by true = omega arith
+    by false = constant_length 6 (low_bits 64 w)
+
 module _ (m : MapSizes) (p : FlatProgram) (plans : List FunctionPlan) (f n : ℕ) where
   tail_most : (k : Keeping) (pc : ℕ) (i : FlatInstruction) → length (tail_of k n pc i) ≤ 1
   tail_most k pc (flat.Branch op y z past) = omega arith
@@ -149,8 +156,8 @@ module _ (m : MapSizes) (p : FlatProgram) (plans : List FunctionPlan) (f n : ℕ
   branch_most pc op y w past =
       let k = keeping p plans f in
       let a = fetch_length (k.place y) k.base 5 in
-      let b = constant_length 6 (low_bits 64 w) in
-      let c = length-append (fetch (k.place y) k.base 5) (constant 6 (low_bits 64 w)) in
+      let b = number_most w in
+      let c = length-append (fetch (k.place y) k.base 5) (if w == 0 then [] else constant 6 (low_bits 64 w)) in
       omega arith
 
   exit_most : (pc x : ℕ) → length (block m p plans f pc (flat.Exit x)) ≤ 6

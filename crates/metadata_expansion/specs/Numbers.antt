@@ -1,5 +1,5 @@
--- The numbers of an expansion that have to fit an instruction of flat code: the words of constants have 64 bits, and all
--- others 32.
+-- The numbers of an expansion that have to fit an instruction of flat code: the words of constants have 64 bits, and
+-- all others 32.
 use Rattle.std.specs.Prelude.{◌≡◌, ℕ, ◌+◌, ◌^◌, ◌<◌, max, List, [], ◌∷◌, length, Some, slice_get}
 use Rattle.addr_map.specs.Places.{MapSizes}
 use Rattle.tac_ir.specs.declared.instruction.Instruction.{Instruction}
@@ -30,6 +30,18 @@ abbrev pub greatest_word : List Instruction → ℕ
 greatest_word [] = 0
 greatest_word (i ∷ is) = max (word_in i) (greatest_word is)
 
+-- the line that a report of an instruction names
+abbrev pub line_in : Instruction → ℕ
+line_in (tac.UpdatePlain w k f line d x right next) = line
+line_in (tac.Binary op ty line d a b next) = line
+line_in (tac.Library r line d n next) = line
+line_in (tac.Call f line d n next) = line
+line_in _ = 0
+
+abbrev pub greatest_line : List Instruction → ℕ
+greatest_line [] = 0
+greatest_line (i ∷ is) = max (line_in i) (greatest_line is)
+
 -- how many virtual registers a function has
 abbrev pub register_count : CodeFunction → ℕ
 register_count c = first_free c + free_count c
@@ -44,6 +56,7 @@ pub record AreSmall (m : MapSizes) (t : Tac) (c : CodeFunction) : Type 0 where
   pub room : c.room < 2 ^ 32
   pub callees : greatest_callee c.code < 2 ^ 32
   pub words : greatest_word c.code < 2 ^ 64
+  pub lines : greatest_line c.code < 2 ^ 32
 
 pub record AreAllSmall (m : MapSizes) (t : Tac) : Type 0 where
   pub functions : (u : ℕ) (c : CodeFunction) → slice_get t.functions u ≡ Some c → AreSmall m t c

@@ -5,7 +5,7 @@ ghost use Rattle.std.specs.Prelude.{◌^◌, length, Some, slice_get, IfOk, IsTr
 ghost use Rattle.metadata_plan.specs.Registers.{most_temporaries, words_in};
 ghost use Rattle.metadata_expansion.specs.Numbering.{AreRegisters};
 ghost use Rattle.metadata_expansion.specs.Numbers.{AreAllSmall, AreSmall, body_size, callee, greatest_callee};
-ghost use Rattle.metadata_expansion.specs.Numbers.{greatest_word, register_count, word_in};
+ghost use Rattle.metadata_expansion.specs.Numbers.{greatest_line, greatest_word, line_in, register_count, word_in};
 
 use crate::body::prologue_size;
 use crate::homes::{free_count, greater};
@@ -52,13 +52,24 @@ fn has_few_registers(function: &CodeFunction) -> bool
     register_total(function, temporaries) < 1 << 32
 }
 
-// The number of the function that an instruction calls. A word that it gives, or with which it compares, has 64 bits.
+// The number of the function that an instruction calls. A word that it gives, or with which it compares, has 64 bits,
+// and the number of a line 32.
 fn callee(instruction: &Instruction) -> usize
     ensures value { result ≡ callee instruction.now }
     ensures word { word_in instruction.now < 2 ^ 64 }
+    ensures line { line_in instruction.now < 2 ^ 32 }
 {
     match instruction {
-        Instruction::Call { function, .. } => *function,
+        Instruction::Call { function, line, .. } => {
+            let _line = line.number();
+            *function
+        }
+        Instruction::UpdatePlain { line, .. }
+        | Instruction::Binary { line, .. }
+        | Instruction::Library { line, .. } => {
+            let _line = line.number();
+            0
+        }
         Instruction::Constant { word, .. } => {
             let _word = *word;
             0
@@ -71,10 +82,11 @@ fn callee(instruction: &Instruction) -> usize
     }
 }
 
-// The greatest number of a function that instructions call. All their words have 64 bits.
+// The greatest number of a function that instructions call. All their words have 64 bits, and their lines 32.
 fn greatest_callee(instructions: &[Instruction]) -> usize
     ensures value { result ≡ greatest_callee instructions.now }
     ensures words { greatest_word instructions.now < 2 ^ 64 }
+    ensures lines { greatest_line instructions.now < 2 ^ 32 }
 {
     let mut greatest = 0;
     for instruction in instructions {

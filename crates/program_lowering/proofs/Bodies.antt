@@ -1,5 +1,5 @@
 -- Bodies of functions, and functions with their tables.
-use Rattle.std.proofs.Common.{◌≡◌, ℕ, ◌+◌, ◌≤◌, ◌<◌, ◌^◌, List, [], ◌∷◌, length, refl, sym, ap, ◌∙◌, subst, arith}
+use Rattle.std.proofs.Common.{◌≡◌, ℕ, ◌+◌, ◌≤◌, ◌<◌, ◌^◌, List, [], ◌∷◌, refl, sym, ap, ◌∙◌, subst, arith}
 use Rattle.c_tree.specs.declared.expression.Kind.{Kind}
 use Rattle.c_tree.specs.declared.program.Variable.{Variable}
 use Rattle.c_tree.specs.Blocks.{all_of, body_variables}
@@ -13,16 +13,18 @@ use Rattle.c_lower.specs.Placed.{HasAt}
 use Rattle.c_lower.specs.Statements.{LowersStatements}
 use Rattle.c_lower.specs.Programs.{LowersBody, placed_in, function_exits}
 use Rattle.expression_lowering.specs.declared.emitter.Emitter.{Emitter}
+use Rattle.expression_lowering.specs.Weights.{code_weight}
 use Rattle.expression_lowering.specs.Emitted.{Added, Fills}
 use Rattle.expression_lowering.proofs.Growing.{added_emits, added_holds, emits_then, fills_before}
 use Rattle.statement_parts.specs.declared.exits.Exits.{Exits}
 use Rattle.statement_parts.specs.Leaving.{exits_of}
 use Rattle.statement_lowering.specs.Code.{StatementsCode}
-use Rattle.statement_lowering.specs.Sizes.{each_height, each_nodes}
+use Rattle.statement_lowering.specs.Sizes.{each_height}
 use Rattle.statement_lowering.proofs.Heights.{each_needs_one}
 use Rattle.program_lowering.specs.declared.body.Body.{Body}
 use Rattle.program_lowering.specs.declared.function.Lowered.{Lowered}
 use Rattle.program_lowering.specs.Code.{BodyCode, Completes, FunctionCode}
+use Rattle.program_lowering.specs.Weights.{body_weight}
 
 none_has : {A : Type 0} (xs : List A) (n : ℕ) (x : A) → xs ≡ [] → HasAt xs n x → ⊥
 none_has [] n x e h = cc
@@ -32,18 +34,18 @@ pub body_code : {vs : List Variable} {ss : Statements} {result : Kind} {texts : 
     {returns end entry : ℕ} {x : Exits} → a.code.items ≡ [] → a.texts.items ≡ texts → Added a b returns (tac.Return 0)
     → Added b c end (tac.ZeroOf result 0 returns) → exits_of x ≡ function_exits end returns
     → StatementsCode vs c d ss entry x → BodyCode vs ss result texts d entry
-body_code {ss = ss} {texts = texts} {a = a} {returns = returns} {end = end} {entry = entry} {x = x} none same r z q h =
+body_code {vs = vs} {ss = ss} {texts = texts} {a = a} {returns = returns} {end = end} {entry = entry} {x = x} none same r z q h =
     let most = each_height ss in
     let one = each_needs_one ss in
     let er = added_emits most r (omega (arith, one)) in
     let ez = added_emits most z (omega (arith, one)) in
-    let two = emits_then most 2 er ez (omega arith) (omega arith) (omega arith) in
-    let whole = emits_then most (2 + each_nodes ss) two h.emits (omega arith) (omega arith) (omega arith) in
+    let two = emits_then most (λ w. w.return + w.zero_of) er ez (omega arith) (omega arith) (λ w. omega arith) in
+    let whole = emits_then most (body_weight vs ss) two h.emits (omega arith) (omega arith) (λ w. omega arith) in
     record {
       texts_stay = λ n t k. whole.kept.texts n t (subst (λ l. HasAt l n t) (sym same) k);
       homes = whole.fits most (omega arith)
           (record { by = λ n i k. absurd (none_has a.code.items n i none k) });
-      count = omega (arith, whole.grown, ap length none);
+      weight = λ w. omega (arith, whole.grown w, ap (λ is. code_weight is w) none);
       stands = λ p v f.
           let fz = fills_before h.emits f in (
             end,
@@ -79,7 +81,7 @@ function_code {texts = texts} {result = result} {b = b} {l = l} {vs = vs} {ss = 
             header = headers f l.function w.line_is w.type_is (w.parameters_are ∙ ep) (w.variables_are ∙ ev)
                 (w.entered_are ∙ ee) w.room_is;
             homes = λ n i k. h.homes.by n i (subst (λ is. HasAt is n i) w.code_is k);
-            count = omega (arith, h.count, ap length w.code_is);
+            weight = λ v. omega (arith, h.weight v, ap (λ is. code_weight is v) w.code_is);
             body = subst (λ n. LowersBody (placed_in ts f l.function) result n f.body) (sym w.entry_is)
                 (h.stands (placed_in ts f l.function) refl fills);
           };

@@ -17,6 +17,7 @@ use Rattle.tac_ir.specs.declared.function.Tac.{Tac}
 use Rattle.tac_ir.specs.Meaning.{header_of_code}
 use Rattle.c_lower.specs.Placed.{HasAt}
 use Rattle.c_lower.specs.Programs.{LowersAt, LowersFunction, IsLowered, result_in, height_in}
+use Rattle.expression_lowering.specs.Weights.{Weights}
 use Rattle.expression_lowering.specs.Emitted.{Stays}
 use Rattle.expression_lowering.proofs.Growing.{stays_all}
 use Rattle.statement_lowering.specs.Sizes.{each_height}
@@ -26,7 +27,8 @@ use Rattle.static_data.specs.Data.{AreInitial}
 use Rattle.program_lowering.specs.declared.program.Lowering.{Lowering}
 use Rattle.program_lowering.specs.declared.function.Lowered.{Lowered}
 use Rattle.program_lowering.specs.Code.{IsFunction, FunctionCode}
-use Rattle.program_lowering.specs.Whole.{AreFunctions, Holding, Assembles, results_of, code_nodes, program_nodes}
+use Rattle.program_lowering.specs.Whole.{AreFunctions, Holding, Assembles, results_of}
+use Rattle.program_lowering.specs.Weights.{functions_weight, codes_weight, IsWeighed}
 
 -- what is done makes, with the code of the functions from a number on, the code of all
 pub record Done (results : List Kind) (fs : List CodeOfFunction) (i : ℕ) (l : Lowering) : Type 0 where
@@ -137,12 +139,12 @@ lowered_from p t s h results main bytes = record {
   functions = λ f. functions_lowered t.texts t.results p.statics f p.functions t.functions h f;
 }
 
-pub nodes_counted : (ts : List (List ℕ)) (results : List Kind) (fs : List Function) (cs : List CodeFunction)
-    → AreFunctions ts results fs cs → code_nodes cs ≤ program_nodes fs
-nodes_counted ts results [] [] h = omega arith
-nodes_counted ts results [] (c ∷ cs) h = absurd h
-nodes_counted ts results (f ∷ fs) [] h = absurd h
-nodes_counted ts results (f ∷ fs) (c ∷ cs) h = omega (arith, h.0.count, nodes_counted ts results fs cs h.1)
+pub weighed : (ts : List (List ℕ)) (results : List Kind) (fs : List Function) (cs : List CodeFunction) (w : Weights)
+    → AreFunctions ts results fs cs → codes_weight cs w ≤ functions_weight fs w
+weighed ts results [] [] w h = omega arith
+weighed ts results [] (c ∷ cs) w h = absurd h
+weighed ts results (f ∷ fs) [] w h = absurd h
+weighed ts results (f ∷ fs) (c ∷ cs) w h = omega (arith, h.0.weight w, weighed ts results fs cs w h.1)
 
 pub program_from : {statics : List StaticData} {results : List Kind} {l : Lowering} {main bytes : ℕ} {t : Tac}
     (p : Program)
@@ -156,10 +158,11 @@ program_from {l = l} {t = t} p a em eb s er h =
     lowered_from p t (subst (AreInitial p) (sym a.statics_are) s) whole (a.results_are ∙ er) (a.main_is ∙ em)
     (a.bytes_are ∙ eb)
 
-pub nodes_from : {statics : List StaticData} {results : List Kind} {l : Lowering} {main bytes : ℕ} {t : Tac}
+pub weighed_from : {statics : List StaticData} {results : List Kind} {l : Lowering} {main bytes : ℕ} {t : Tac}
     (p : Program)
     → Assembles main bytes statics results l t → AreFunctions l.texts.items results p.functions l.functions.items
-    → code_nodes t.functions ≤ program_nodes p.functions
-nodes_from {results = results} {l = l} p a h =
-    subst (λ cs. code_nodes cs ≤ program_nodes p.functions) (sym a.functions_are)
-    (nodes_counted l.texts.items results p.functions l.functions.items h)
+    → IsWeighed p t
+weighed_from {results = results} {l = l} p a h = record {
+  by = λ w. subst (λ cs. codes_weight cs w ≤ functions_weight p.functions w) (sym a.functions_are)
+      (weighed l.texts.items results p.functions l.functions.items w h);
+}

@@ -1,5 +1,5 @@
 -- The code of functions, whatever texts the program gets besides.
-use Rattle.std.specs.Prelude.{◌≡◌, ◌≤◌, ℕ, ◌+◌, List, length, Some, slice_get}
+use Rattle.std.specs.Prelude.{◌≡◌, ◌≤◌, ℕ, List, Some, slice_get}
 use Rattle.c_tree.specs.declared.expression.Kind.{Kind}
 use Rattle.c_tree.specs.declared.program.Variable.{Variable}
 use Rattle.c_tree.specs.Programs.{Function}
@@ -12,10 +12,12 @@ use Rattle.tac_ir.specs.Meaning.{header_of_code}
 use Rattle.c_lower.specs.Placed.{Placed}
 use Rattle.c_lower.specs.Programs.{LowersBody, placed_in}
 use Rattle.expression_lowering.specs.declared.emitter.Emitter.{Emitter}
+use Rattle.expression_lowering.specs.Weights.{Weights, code_weight}
 use Rattle.expression_lowering.specs.Emitted.{Fills, Fits, Stays}
-use Rattle.statement_lowering.specs.Sizes.{each_height, each_nodes}
+use Rattle.statement_lowering.specs.Sizes.{each_height}
 use Rattle.program_lowering.specs.declared.body.Body.{Body}
 use Rattle.program_lowering.specs.declared.function.Lowered.{Lowered}
+use Rattle.program_lowering.specs.Weights.{body_weight, function_weight}
 
 -- of the body of a function with these variables, behind the texts of the program so far
 pub record BodyCode (vs : List Variable) (ss : Statements) (result : Kind) (texts : List (List ℕ)) (b : Emitter)
@@ -23,7 +25,7 @@ pub record BodyCode (vs : List Variable) (ss : Statements) (result : Kind) (text
     : Type 0 where
   pub texts_stay : Stays texts b.texts.items
   pub homes : Fits (each_height ss) b
-  pub count : length b.code.items ≤ 2 + each_nodes ss
+  pub weight : (w : Weights) → code_weight b.code.items w ≤ body_weight vs ss w
   pub stands : (c : Placed) → c.variables ≡ vs → Fills b c → LowersBody c result entry ss
 
 -- a function has the parts of a body
@@ -47,7 +49,7 @@ pub record Completes (line type_number room : ℕ) (parameters variables entered
 pub record IsFunction (texts : List (List ℕ)) (result : Kind) (f : Function) (c : CodeFunction) : Type 0 where
   pub header : header_of_code c ≡ header_of f
   pub homes : (n : ℕ) (i : Instruction) → slice_get c.code n ≡ Some i → temporaries i ≤ each_height f.body
-  pub count : length c.code ≤ 2 + each_nodes f.body
+  pub weight : (w : Weights) → code_weight c.code w ≤ function_weight f w
   pub body : LowersBody (placed_in texts f c) result c.entry f.body
 
 -- whatever texts come later

@@ -1,12 +1,12 @@
--- The functions of a program in turn, and how many nodes it gets.
-use Rattle.std.specs.Prelude.{◌≡◌, ℕ, ◌+◌, Bool, ◌&&◌, nat_le, List, [], ◌∷◌, ◌++◌, length, map, get_or}
+-- The functions of a program in turn.
+use Rattle.std.specs.Prelude.{◌≡◌, ℕ, Bool, ◌&&◌, nat_le, List, [], ◌∷◌, ◌++◌, map, get_or}
 use Rattle.c_tree.specs.declared.expression.Kind.{Kind}
 use Rattle.c_tree.specs.declared.expression.Kind.TheVariants.{Void}
 use Rattle.c_tree.specs.Programs.{Function, FunctionType}
 use Rattle.tac_ir.specs.declared.function.CodeFunction.{CodeFunction}
 use Rattle.tac_ir.specs.declared.function.StaticData.{StaticData}
 use Rattle.tac_ir.specs.declared.function.Tac.{Tac}
-use Rattle.statement_lowering.specs.Sizes.{each_height, each_nodes}
+use Rattle.statement_lowering.specs.Sizes.{each_height}
 use Rattle.statement_lowering.specs.Switches.{each_decided}
 use Rattle.expression_lowering.specs.Emitted.{Stays}
 use Rattle.program_lowering.specs.declared.program.Lowering.{Lowering}
@@ -22,18 +22,6 @@ AreFunctions texts results [] [] = Unit {0}
 AreFunctions texts results (f ∷ fs) (c ∷ cs) =
     IsFunction texts (get_or results f.type_number Void) f c × AreFunctions texts results fs cs
 AreFunctions texts results _ _ = ⊥
-
--- the nodes of all functions
-abbrev pub code_nodes : List CodeFunction → ℕ
-code_nodes [] = 0
-code_nodes (c ∷ cs) = length c.code + code_nodes cs
-
--- and how many they are at most: 2 for each function, up to 6 for each statement, 5 for each node of its
--- expressions, and
--- up to 2 for each part of an initializer
-abbrev pub program_nodes : List Function → ℕ
-program_nodes [] = 0
-program_nodes (f ∷ fs) = 2 + each_nodes f.body + program_nodes fs
 
 -- what the functions of each type give
 abbrev pub results_of : List FunctionType → List Kind

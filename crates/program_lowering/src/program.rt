@@ -8,8 +8,8 @@ ghost use Rattle.c_tree.specs.ValidProgram.{is_valid_program};
 ghost use Rattle.c_lower.specs.Programs.{IsLowered};
 ghost use Rattle.source_meaning.specs.Meaning.{statics_end};
 ghost use Rattle.static_data.specs.Data.{first_fault, program_pointers, OnNotConstant};
-ghost use Rattle.program_lowering.specs.Whole.{is_ready, AreFunctions, Holding, code_nodes};
-ghost use Rattle.program_lowering.specs.Whole.{program_nodes, results_of, Assembles};
+ghost use Rattle.program_lowering.specs.Whole.{is_ready, AreFunctions, Holding, results_of, Assembles};
+ghost use Rattle.program_lowering.specs.Weights.{IsWeighed};
 
 use crate::function::lower_function;
 use c_const::contents::InitialFault;
@@ -119,7 +119,7 @@ pub fn lower(alloc: Global, program: &Program) -> Result<Tac, InitialFault>
     requires small { statics_end (program_of program.now).statics 0 ≤ 0x400000 }
     requires few { length (program_of program.now).functions ≤ 4096 }
     ensures code { IfOk result (λ t. IsLowered (program_of program.now) t) }
-    ensures nodes { IfOk result (λ t. code_nodes t.functions ≤ program_nodes (program_of program.now).functions) }
+    ensures weighed { IfOk result (λ t. IsWeighed (program_of program.now) t) }
     ensures fault { OnNotConstant result
         (λ line. first_fault (program_pointers (program_of program.now)) (program_of program.now).statics ≡ Some line) }
 {

@@ -17,7 +17,7 @@ use Rattle.integer_images.specs.Images.{sizes_of, IsChecked, DoesWhatIsMeant}
 use Rattle.integer_compiler.specs.declared.compiler.Built.{Built}
 use Rattle.integer_compiler.specs.declared.error.CompileError.{CompileError}
 use Rattle.integer_compiler.specs.declared.error.CompileError.TheVariants as compile
-use Rattle.integer_compiler.specs.Built.{IsBuilt, IsRefused}
+use Rattle.integer_compiler.specs.Built.{IsBuilt, IsRefused, NeedsNodes}
 use Rattle.sbcets_core.specs.declared.refusal.Counted.TheVariants.{Source, Code}
 use Rattle.sbcets_core.specs.declared.refusal.SourceRefusal.{SourceRefusal}
 use Rattle.sbcets_core.specs.declared.refusal.SourceRefusal.TheVariants.{Lex, Pre, Unsupported, Syntax, Nesting}
@@ -98,13 +98,14 @@ IsOfSize (compile.FunctionTooLong number) refusal = refusal ≡ FunctionTooLong 
 IsOfSize compile.Memory refusal = ⊥
 
 -- A source is accepted, and some checked code of its program under some plans of registers is too large. (Which plans
--- are made is not determined by the source.)
+-- are made is not determined by the source.) More than 8388608 bytes come only of a text with more than 8192 nodes.
 pub record IsTooLarge (source : List ℕ) (budgets : BudgetSizes) (refusal : SourceRefusal) : Type 0 where
   pub program : Program
   pub accepts : Judges source (Ok program)
   pub error : CompileError
   pub is : IsOfSize error refusal
   pub refused : IsRefused (IsChecked program) (sizes_of program budgets) error
+  pub nodes : NeedsNodes error program
 
 -- why a source has no image
 abbrev pub Refuses : List ℕ → BudgetSizes → SourceRefusal → Type 0

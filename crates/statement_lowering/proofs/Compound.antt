@@ -1,5 +1,5 @@
 -- Blocks and branches from their parts.
-use Rattle.std.proofs.Common.{◌≡◌, ℕ, ◌+◌, ◌-◌, ◌≤◌, List, length, map, drop, Some, refl, ap, subst, arith}
+use Rattle.std.proofs.Common.{◌≡◌, ℕ, ◌+◌, ◌-◌, ◌*◌, ◌≤◌, List, length, map, drop, Some, refl, ap, subst, arith}
 use Rattle.std.specs.Prelude.{get_or, max}
 use Rattle.c_tree.specs.declared.program.Variable.{Variable}
 use Rattle.c_tree.specs.declared.statement.Statement.{Statement as CodeStatement}
@@ -11,28 +11,29 @@ use Rattle.c_tree.specs.Statements.{if_else}
 use Rattle.c_tree.specs.View.{statement_of}
 use Rattle.c_lower.specs.Statements.{LowersStatement, LowersEntry, LowersLeaving, has_objects_of}
 use Rattle.expression_lowering.specs.declared.emitter.Emitter.{Emitter}
-use Rattle.expression_lowering.specs.Emitted.{nodes}
 use Rattle.expression_lowering.proofs.Growing.{emits_none, emits_then, fills_before}
 use Rattle.statement_parts.specs.declared.exits.Exits.{Exits}
 use Rattle.statement_parts.specs.Leaving.{exits_of, before}
+use Rattle.statement_parts.specs.Weights.{objects_weight}
 use Rattle.statement_parts.specs.Code.{ConditionCode, EntryCode, LeavingCode}
 use Rattle.statement_parts.proofs.InitializerParts.{drop_before}
 use Rattle.statement_lowering.specs.Code.{StatementCode, StatementsCode}
-use Rattle.statement_lowering.specs.Sizes.{statement_height, each_height, statement_nodes, each_nodes}
+use Rattle.statement_lowering.specs.Sizes.{statement_height, each_height}
+use Rattle.statement_lowering.specs.Weights.{statement_weight, each_weight}
 use Rattle.statement_lowering.proofs.Heights.{needs_one}
 
 -- statements in order
 
 pub no_statements_code : {vs : List Variable} {a : Emitter} {x : Exits} → StatementsCode vs a a no_statements x.next x
-no_statements_code = record { emits = emits_none 1 0; stands = λ c v f. refl }
+no_statements_code = record { emits = emits_none 1; stands = λ c v f. refl }
 
 more_statements : {vs : List Variable} {a b c : Emitter} {n k : ℕ} {x y : Exits} (s : Statement) (ss : Statements)
     → exits_of y ≡ before (exits_of x) k → StatementsCode vs a b ss k x → StatementCode vs b c s n y
     → StatementsCode vs a c (statements s ss) n x
-more_statements {n = n} {k = k} s ss e hs h = record {
+more_statements {vs = vs} {n = n} {k = k} s ss e hs h = record {
   emits = emits_then (max (statement_height s) (each_height ss))
-      (1 + statement_nodes s + each_nodes ss) hs.emits h.emits
-      (omega arith) (omega arith) (omega arith);
+      (each_weight vs (statements s ss)) hs.emits h.emits
+      (omega arith) (omega arith) (λ w. omega arith);
   stands = λ p v f.
       (k, subst (LowersStatement p s n) e (h.stands p v f), hs.stands p v (fills_before h.emits f));
 }
@@ -52,11 +53,13 @@ pub block_code : {vs : List Variable} {a b c d : Emitter} {numbers : List ℕ} {
     Statements}
     → numbers ≡ block_variables ss → LeavingCode vs a b numbers y x → StatementsCode vs b c ss k y
     → EntryCode vs c d numbers line n k → StatementCode vs a d (block line ss) n x
-block_code {numbers = numbers} {line = line} {k = k} {n = n} {y = y} {x = x} {ss = ss} same l h y' =
+block_code {vs = vs} {numbers = numbers} {line = line} {k = k} {n = n} {y = y} {x = x} {ss = ss} same l h y' =
     let top = each_height ss in
-    let inner = emits_then (max 0 top) (4 + each_nodes ss) l.emits h.emits (omega arith) (omega arith) (omega arith) in
+    let inner = emits_then (max 0 top) (λ w. 4 * objects_weight vs numbers w + each_weight vs ss w) l.emits h.emits
+    (omega arith) (omega arith) (λ w. omega arith) in
     record {
-      emits = emits_then top (5 + each_nodes ss) inner y'.emits (omega arith) (omega arith) (omega arith);
+      emits = emits_then top (statement_weight vs (block line ss)) inner y'.emits (omega arith) (omega arith)
+          (λ w. omega (arith, ap (λ ns. objects_weight vs ns w) same));
       stands = λ p v f.
           let fh = fills_before y'.emits f in
           let fl = fills_before h.emits fh in (
@@ -74,10 +77,9 @@ block_code {numbers = numbers} {line = line} {k = k} {n = n} {y = y} {x = x} {ss
 
 pub if_code : {vs : List Variable} {a b c : Emitter} {e : Expression} {s : Statement} {k n : ℕ} {x : Exits}
     → StatementCode vs a b s k x → ConditionCode b c (Some e) n k x.next → StatementCode vs a c (if_then e s) n x
-if_code {e = e} {s = s} {k = k} h t = record {
-  emits = emits_then (max (height e) (statement_height s)) (1 + nodes e + statement_nodes s) h.emits t.emits
-      (omega arith)
-      (omega (arith, needs_one s)) (omega arith);
+if_code {vs = vs} {e = e} {s = s} {k = k} h t = record {
+  emits = emits_then (max (height e) (statement_height s)) (statement_weight vs (if_then e s)) h.emits t.emits
+      (omega arith) (omega (arith, needs_one s)) (λ w. omega arith);
   stands = λ p v f. (k, t.stands p f, h.stands p v (fills_before t.emits f));
 }
 
@@ -85,13 +87,13 @@ pub if_else_code : {vs : List Variable} {a b c d : Emitter} {e : Expression} {s 
     Exits}
     → StatementCode vs a b other j x → StatementCode vs b c s k x → ConditionCode c d (Some e) n k j
     → StatementCode vs a d (if_else e s other) n x
-if_else_code {e = e} {s = s} {other = other} {k = k} {j = j} ho h t =
+if_else_code {vs = vs} {e = e} {s = s} {other = other} {k = k} {j = j} ho h t =
     let top = max (height e) (max (statement_height s) (statement_height other)) in
-    let both = emits_then top (statement_nodes s + statement_nodes other) ho.emits h.emits (omega arith) (omega arith)
-    (omega arith) in
+    let both = emits_then top (λ w. statement_weight vs s w + statement_weight vs other w) ho.emits h.emits (omega arith)
+    (omega arith) (λ w. omega arith) in
     record {
-      emits = emits_then top (1 + nodes e + (statement_nodes s + statement_nodes other)) both t.emits (omega arith)
-          (omega (arith, needs_one s)) (omega arith);
+      emits = emits_then top (statement_weight vs (if_else e s other)) both t.emits (omega arith)
+          (omega (arith, needs_one s)) (λ w. omega arith);
       stands = λ p v f.
           let ft = fills_before t.emits f in
           (k, j, t.stands p f, h.stands p v ft, ho.stands p v (fills_before h.emits ft));

@@ -68,7 +68,7 @@ height_at (y ∷ xs) zero x lt e = omega (arith, ap (λ z. statement_height (sta
 height_at (y ∷ xs) (suc k) x lt e = omega (arith, height_at xs k x (omega (arith, lt)) e)
 
 pub nodes_at : (xs : List CodeStatement) (k : ℕ) (x : CodeStatement) → k < length xs → x ≡ get_or xs k x
-    → statement_nodes (statement_of x) + 1 ≤ each_nodes (statements_in (map statement_of xs))
+    → statement_nodes (statement_of x) ≤ each_nodes (statements_in (map statement_of xs))
 nodes_at [] k x lt e = absurd (omega (arith, lt))
 nodes_at (y ∷ xs) zero x lt e = omega (arith, ap (λ z. statement_nodes (statement_of z)) e)
 nodes_at (y ∷ xs) (suc k) x lt e = omega (arith, nodes_at xs k x (omega (arith, lt)) e)
@@ -93,7 +93,7 @@ item_height_at (y ∷ xs) zero x lt e =
 item_height_at (y ∷ xs) (suc k) x lt e = omega (arith, item_height_at xs k x (omega (arith, lt)) e)
 
 pub item_nodes_at : (xs : List CodeItem) (k : ℕ) (x : CodeItem) → k < length xs → x ≡ get_or xs k x
-    → statement_nodes (statement_of x.statement) + 1 ≤ items_nodes (items_in (map item_of xs))
+    → statement_nodes (statement_of x.statement) ≤ items_nodes (items_in (map item_of xs))
 item_nodes_at [] k x lt e = absurd (omega (arith, lt))
 item_nodes_at (y ∷ xs) zero x lt e =
     omega (arith, ap (λ z. statement_nodes (statement_of z.statement)) e, ap (λ i. statement_nodes i.1) (of_item y))

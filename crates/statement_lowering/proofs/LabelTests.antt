@@ -13,26 +13,28 @@ use Rattle.c_lower.specs.Placed.{Placed}
 use Rattle.c_lower.specs.Statements.{LowersLabels, any_default}
 use Rattle.expression_lowering.specs.declared.emitter.Emitter.{Emitter}
 use Rattle.expression_lowering.specs.Emitted.{Added}
-use Rattle.expression_lowering.proofs.Growing.{emits_none, emits_then, added_emits, added_holds, fills_before}
+use Rattle.expression_lowering.proofs.Growing.{emits_none, emits_then, emits_within, added_emits, added_holds}
+use Rattle.expression_lowering.proofs.Growing.{fills_before}
 use Rattle.statement_parts.specs.Items.{item_of}
 use Rattle.statement_parts.proofs.InitializerParts.{drop_before}
-use Rattle.statement_lowering.specs.Code.{LabelsCode, TestsCode, tests_nodes}
+use Rattle.statement_lowering.specs.Weights.{labels_weight}
+use Rattle.statement_lowering.specs.Code.{LabelsCode, TestsCode, tests_weight}
 use Rattle.statement_lowering.specs.Switches.{default_start}
 use Rattle.statement_lowering.proofs.Elements.{of_item, drop_number, drop_from, get_any}
 
 pub no_labels_code : {a : Emitter} {item n : ℕ} → LabelsCode a a [] item n n
-no_labels_code = record { emits = emits_none 1 0; stands = λ c f other e. refl }
+no_labels_code = record { emits = emits_none 1; stands = λ c f other e. refl }
 
 pub case_code : {a b : Emitter} {w item n m : ℕ} → Added a b n (tac.Case 0 w item m)
     → LabelsCode a b (Case w ∷ []) item n m
-case_code {m = m} h = record {
-  emits = added_emits 1 h (omega arith);
+case_code {w = n} {m = m} h = record {
+  emits = emits_within 1 (labels_weight (Case n ∷ [])) (added_emits 1 h (omega arith)) (omega arith) (λ w. omega arith);
   stands = λ c f other e.
       (m, added_holds h tt f, refl);
 }
 
 pub default_code : {a : Emitter} {item n : ℕ} → LabelsCode a a (Default ∷ []) item n n
-default_code = record { emits = emits_none 1 1; stands = λ c f other e. (e refl, refl) }
+default_code = record { emits = emits_none 1; stands = λ c f other e. (e refl, refl) }
 
 -- one label before others
 
@@ -57,7 +59,7 @@ alone false e = cc
 more_labels : {a b c : Emitter} {item n k m : ℕ} (l : CaseLabel) (ls : List CaseLabel) → LabelsCode a b ls item k m
     → LabelsCode b c (l ∷ []) item n k → LabelsCode a c (l ∷ ls) item n m
 more_labels {item = item} {n = n} {k = k} {m = m} l ls hs h = record {
-  emits = emits_then 1 (length (l ∷ ls)) hs.emits h.emits (omega arith) (omega arith) (omega arith);
+  emits = emits_then 1 (labels_weight (l ∷ ls)) hs.emits h.emits (omega arith) (omega arith) (λ w. omega arith);
   stands = λ p f other e.
       one_before p l ls item other n k m
       (h.stands p f other (λ d. e (first_of (is_default l) (any_default ls) (alone (is_default l) d))))
@@ -74,7 +76,7 @@ next_label {a = a} {c = c} {item = item} {n = n} {m = m} ls i l ge le is hs h =
 -- items
 
 pub no_tests_code : {a : Emitter} {n : ℕ} → TestsCode a a no_items [] n n
-no_tests_code = record { emits = emits_none 1 0; stands = λ c f d. refl }
+no_tests_code = record { emits = emits_none 1; stands = λ c f d. refl }
 
 more_tests : {a b c : Emitter} {n k m start : ℕ} (x : CodeItem) (is : SwitchItems) (starts : List ℕ)
     → TestsCode a b is starts k m → LabelsCode b c x.labels start n k
@@ -82,8 +84,8 @@ more_tests : {a b c : Emitter} {n k m start : ℕ} (x : CodeItem) (is : SwitchIt
 more_tests {a = a} {c = c} {n = n} {k = k} {m = m} {start = start} x is starts hs h =
     let view = of_item x in
     let code : TestsCode a c (items x.labels (item_of x).1 is) (start ∷ starts) n m = record {
-      emits = emits_then 1 (length x.labels + tests_nodes is) hs.emits h.emits (omega arith) (omega arith)
-          (omega arith);
+      emits = emits_then 1 (λ w. labels_weight x.labels w + tests_weight is w) hs.emits h.emits (omega arith) (omega arith)
+          (λ w. omega arith);
       stands = λ p f d. (k, h.stands p f m d.0, hs.stands p (fills_before h.emits f) d.1);
     } in
     subst (λ ls. TestsCode a c (items ls (item_of x).1 is) (start ∷ starts) n m) (sym (ap (λ i. i.0) view)) code
@@ -121,7 +123,7 @@ default_after xs starts i x end lt is same none =
     ∙ ap (λ r. default_start (items_in (item_of x ∷ map item_of (drop (i + 1) xs))) r end) first
     ∙ passed x (items_in (map item_of (drop (i + 1) xs))) (get_or starts i 0) end (drop (i + 1) starts) none
 
-pub ruleset testing = (case_code, default_code)
+pub ruleset testing = (default_code)
 
 pub ruleset no_labels = (no_labels_code)
 

@@ -1,5 +1,5 @@
 -- Loops from their parts.
-use Rattle.std.proofs.Common.{◌≡◌, ℕ, ◌+◌, ◌≤◌, List, length, Option, None, subst, arith}
+use Rattle.std.proofs.Common.{◌≡◌, ℕ, ◌+◌, ◌≤◌, List, length, Option, None, refl, ap, subst, arith}
 use Rattle.std.specs.Prelude.{max}
 use Rattle.c_tree.specs.declared.program.Variable.{Variable}
 use Rattle.c_tree.specs.Blocks.{first_variables}
@@ -12,16 +12,19 @@ use Rattle.tac_ir.specs.Temporaries.{temporaries}
 use Rattle.c_lower.specs.Counted.{CountedParts, counted_parts}
 use Rattle.c_lower.specs.Statements.{in_loop, LowersStatement, LowersEntry, LowersLeaving, has_objects_of, CountedIs}
 use Rattle.expression_lowering.specs.declared.emitter.Emitter.{Emitter}
-use Rattle.expression_lowering.specs.Emitted.{Has, Emits, nodes}
+use Rattle.expression_lowering.specs.Weights.{Weights, weight_of}
+use Rattle.expression_lowering.specs.Emitted.{Has, Emits}
 use Rattle.expression_lowering.proofs.Growing.{fills_before, keeps_on}
 use Rattle.statement_parts.specs.declared.exits.Exits.{Exits}
 use Rattle.statement_parts.specs.declared.loops.ForHead.{ForHead}
 use Rattle.statement_parts.specs.Leaving.{exits_of}
 use Rattle.statement_parts.specs.Code.{most}
+use Rattle.statement_parts.specs.Weights.{objects_weight}
 use Rattle.statement_parts.specs.Loops.{Waits, Filled, HeadCode, ForHeadCode, ForTailCode}
-use Rattle.statement_parts.proofs.LoopParts.{filled_fills, filled_keeps, filled_fits, filled_length, filled_holds}
+use Rattle.statement_parts.proofs.LoopParts.{filled_fills, filled_keeps, filled_fits, filled_weight, filled_holds}
 use Rattle.statement_lowering.specs.Code.{StatementCode}
-use Rattle.statement_lowering.specs.Sizes.{statement_height, statement_nodes}
+use Rattle.statement_lowering.specs.Sizes.{statement_height}
+use Rattle.statement_lowering.specs.Weights.{statement_weight}
 use Rattle.statement_lowering.proofs.Heights.{needs_one}
 
 -- a reserved node still waits behind a statement
@@ -30,27 +33,29 @@ pub waits_on : {vs : List Variable} {a b : Emitter} {s : Statement} {x : Exits} 
 waits_on w h = record { by = h.emits.kept.code _ _ w.by }
 
 -- code that grew, of which a node is filled that was reserved since
-filled_emits : {a b c d : Emitter} {m k n j turn : ℕ} {i : Instruction} (most count : ℕ) → Emits a b m k
+filled_emits : {a b c d : Emitter} {m n turn : ℕ} {k j : Weights → ℕ} {i : Instruction} (most : ℕ)
+    (weight : Weights → ℕ) → Emits a b m k
     → length a.code.items ≤ turn → Emits b c n j → Filled c d turn i → Has c turn tac.Reserved → temporaries i ≤ most
-    → m ≤ most → n ≤ most → k + j ≤ count → Emits a d most count
-filled_emits most count e fresh g f still li lm ln lk = record {
+    → ((w : Weights) → weight_of i w ≡ w.turn) → m ≤ most → n ≤ most → ((w : Weights) → k w + j w ≤ weight w)
+    → Emits a d most weight
+filled_emits most weight e fresh g f still li turning lm ln lk = record {
   kept = filled_keeps f (keeps_on e.kept g.kept) fresh;
   fits = λ limit le h.
       filled_fits limit f still (omega (arith, li, le))
       (g.fits limit (omega (arith, ln, le)) (e.fits limit (omega (arith, lm, le)) h));
-  grown = omega (arith, filled_length f, e.grown, g.grown, lk);
+  grown = λ w. omega (arith, filled_weight f still w (turning w), e.grown w, g.grown w, lk w);
 }
 
 pub while_code : {vs : List Variable} {a b c d : Emitter} {e : Expression} {s : Statement} {turn start n : ℕ} {x y :
     Exits}
     → HeadCode a b e turn start x.next → exits_of y ≡ in_loop (exits_of x) start → StatementCode vs b c s n y
     → Filled c d turn (tac.Turn None n) → StatementCode vs a d (while_do e s) start x
-while_code {e = e} {s = s} {turn = turn} {n = n} h q g f =
+while_code {vs = vs} {e = e} {s = s} {turn = turn} {n = n} h q g f =
     let still = g.emits.kept.code turn tac.Reserved h.waits.by in
     record {
       emits = filled_emits (max (height e) (statement_height s))
-          (2 + nodes e + statement_nodes s) h.emits h.fresh g.emits f
-          still (omega arith) (omega (arith, needs_one s)) (omega arith) (omega arith);
+          (statement_weight vs (while_do e s)) h.emits h.fresh g.emits f
+          still (omega arith) (λ w. refl) (omega (arith, needs_one s)) (omega arith) (λ w. omega arith);
       stands = λ p v k.
           let fg = filled_fills f still k in (
             turn,
@@ -64,12 +69,12 @@ while_code {e = e} {s = s} {turn = turn} {n = n} h q g f =
 pub do_code : {vs : List Variable} {a b c d : Emitter} {e : Expression} {s : Statement} {turn start n : ℕ} {x y : Exits}
     → HeadCode a b e turn start x.next → exits_of y ≡ in_loop (exits_of x) start → StatementCode vs b c s n y
     → Filled c d turn (tac.Turn None n) → StatementCode vs a d (do_while s e) turn x
-do_code {e = e} {s = s} {turn = turn} {start = start} {n = n} h q g f =
+do_code {vs = vs} {e = e} {s = s} {turn = turn} {start = start} {n = n} h q g f =
     let still = g.emits.kept.code turn tac.Reserved h.waits.by in
     record {
       emits = filled_emits (max (height e) (statement_height s))
-          (2 + nodes e + statement_nodes s) h.emits h.fresh g.emits f
-          still (omega arith) (omega (arith, needs_one s)) (omega arith) (omega arith);
+          (statement_weight vs (do_while s e)) h.emits h.fresh g.emits f
+          still (omega arith) (λ w. refl) (omega (arith, needs_one s)) (omega arith) (λ w. omega arith);
       stands = λ p v k.
           let fg = filled_fills f still k in (
             n,
@@ -87,7 +92,7 @@ pub for_code : {vs : List Variable} {a b c d : Emitter} {numbers : List ℕ} {li
     → exits_of y ≡ in_loop (exits_of h.inside) h.step → StatementCode vs b c s body y
     → parts ≡ counted_parts first test step s → ForTailCode vs c d numbers line first parts h body n
     → StatementCode vs a d (for line first test step s) n x
-for_code {line = line} {first = first} {test = test} {step = step} {s = s} {h = h} {n = n} {body = body} {x = x} same
+for_code {vs = vs} {line = line} {first = first} {test = test} {step = step} {s = s} {h = h} {n = n} {body = body} {x = x} same
     k q g
     ranged t = record {
       emits = record {
@@ -95,7 +100,13 @@ for_code {line = line} {first = first} {test = test} {step = step} {s = s} {h = 
         fits = λ limit le f.
             t.grows.fits limit (omega (arith, le))
             (g.emits.fits limit (omega (arith, le)) (k.emits.fits limit (omega (arith, le)) f));
-        grown = omega (arith, t.grows.grown, g.emits.grown, k.emits.grown);
+        grown = λ w. omega (
+          arith,
+          t.grows.grown w,
+          g.emits.grown w,
+          k.emits.grown w,
+          ap (λ ns. objects_weight vs ns w) same,
+        );
       };
       stands = λ p v f.
           let fg = t.grows.fills p f in

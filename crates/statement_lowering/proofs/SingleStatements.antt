@@ -13,7 +13,8 @@ use Rattle.c_lower.specs.Homes.{used}
 use Rattle.c_lower.specs.Values.{LowersTaking}
 use Rattle.c_lower.proofs.Homes.{fits}
 use Rattle.expression_lowering.specs.declared.emitter.Emitter.{Emitter}
-use Rattle.expression_lowering.specs.Emitted.{Added, ExpressionCode, nodes}
+use Rattle.expression_lowering.specs.Weights.{taking_weight}
+use Rattle.expression_lowering.specs.Emitted.{Added, ExpressionCode}
 use Rattle.expression_lowering.specs.Last.{TakingCode}
 use Rattle.expression_lowering.proofs.Growing.{emits_none, emits_then, emits_within, added_emits, added_holds}
 use Rattle.expression_lowering.proofs.Growing.{fills_before}
@@ -21,6 +22,7 @@ use Rattle.expression_lowering.proofs.Views.{of_expression}
 use Rattle.statement_parts.specs.declared.exits.Exits.{Exits}
 use Rattle.statement_parts.specs.Code.{most, DeclaredCode}
 use Rattle.statement_parts.proofs.InitializerParts.{evaluated_emits, condition_some}
+use Rattle.statement_lowering.specs.Weights.{result_weight}
 use Rattle.statement_lowering.specs.Code.{StatementCode, ResultCode}
 
 -- an expression that is evaluated into temporary 0 needs no more than its height
@@ -31,7 +33,7 @@ value_room e limit h = omega (arith, fits (expression_of e), h)
 pub evaluated_code : {vs : List Variable} {a b : Emitter} {e : Expression} {n : ℕ} {x : Exits}
     → ExpressionCode a b e 0 n x.next → StatementCode vs a b (expression_statement e) n x
 evaluated_code {e = e} h = record {
-  emits = evaluated_emits e (max 1 (height e)) (nodes e) h (omega arith) (omega arith);
+  emits = evaluated_emits e (max 1 (height e)) h (omega arith);
   stands = λ c v f. h.stands c f;
 }
 
@@ -40,13 +42,13 @@ pub declared_code : {vs : List Variable} {a b : Emitter} {ds : List DeclaredVari
 declared_code h = record { emits = h.emits; stands = λ c v f. h.stands c f }
 
 pub empty_code : {vs : List Variable} {a : Emitter} {x : Exits} → StatementCode vs a a empty x.next x
-empty_code = record { emits = emits_none 1 0; stands = λ c v f. refl }
+empty_code = record { emits = emits_none 1; stands = λ c v f. refl }
 
 pub break_code : {vs : List Variable} {a : Emitter} {x : Exits} → StatementCode vs a a break x.breaks x
-break_code = record { emits = emits_none 1 0; stands = λ c v f. refl }
+break_code = record { emits = emits_none 1; stands = λ c v f. refl }
 
 pub continue_code : {vs : List Variable} {a : Emitter} {x : Exits} → StatementCode vs a a continue x.continues x
-continue_code = record { emits = emits_none 1 0; stands = λ c v f. refl }
+continue_code = record { emits = emits_none 1; stands = λ c v f. refl }
 
 -- a result, whose contents are taken behind its value
 pub result_code : {a b c : Emitter} {n k m : ℕ} (e : CodeExpression) → TakingCode a b e.kind e.line 0 k m
@@ -54,9 +56,10 @@ pub result_code : {a b c : Emitter} {n k m : ℕ} (e : CodeExpression) → Takin
 result_code {k = k} {m = m} e t h =
     let top = max 1 (height (expression_of e)) in
     let view = of_expression e in
-    let value = evaluated_emits (expression_of e) top (nodes (expression_of e)) h (omega arith) (omega arith) in
+    let value = evaluated_emits (expression_of e) top h (omega arith) in
     record {
-      emits = emits_then top (nodes (expression_of e) + 1) t.emits value (omega arith) (omega arith) (omega arith);
+      emits = emits_then top (result_weight (expression_of e)) t.emits value (omega arith) (omega arith)
+          (λ w. omega (arith, ap (λ k. taking_weight (kind_of k) w) view));
       stands = λ p f.
           let taken = t.stands p (fills_before h.emits f) in (
             k,
@@ -73,7 +76,7 @@ returned_none h = record { emits = added_emits 1 h (omega arith); stands = λ c 
 pub returned_some : {vs : List Variable} {a b : Emitter} {n : ℕ} {x : Exits} {e : Expression}
     → ResultCode a b e n x.returns → StatementCode vs a b (return (Some e)) n x
 returned_some {e = e} h = record {
-  emits = emits_within (most (value_content e ∷ [])) (1 + nodes e) h.emits (omega arith) (omega arith);
+  emits = emits_within (most (value_content e ∷ [])) (result_weight e) h.emits (omega arith) (λ w. omega arith);
   stands = λ c v f. h.stands c f;
 }
 
@@ -85,6 +88,6 @@ pub ruleset nothing_done = (empty_code, break_code, continue_code)
 
 pub ruleset resulting = (result_code, value_room)
 
-pub ruleset returning = (returned_none, returned_some)
+pub ruleset returning = (returned_some)
 
 pub ruleset branching = (condition_some, value_room)

@@ -1,5 +1,6 @@
 -- Switches from their parts.
-use Rattle.std.proofs.Common.{◌≡◌, ℕ, ◌+◌, ◌-◌, ◌≤◌, Bool, true, false, List, [], ◌∷◌, length, map, drop, refl, sym}
+use Rattle.std.proofs.Common.{◌≡◌, ℕ, ◌+◌, ◌-◌, ◌*◌, ◌≤◌, Bool, true, false, List, [], ◌∷◌, length, map, drop, refl}
+use Rattle.std.proofs.Common.{sym}
 use Rattle.std.proofs.Common.{ap, ◌∙◌, subst, arith}
 use Rattle.std.specs.Prelude.{get_or, set, max, not, ◌&&◌, ◌||◌, if◌then◌else◌}
 use Rattle.c_tree.specs.declared.program.Variable.{Variable}
@@ -14,15 +15,18 @@ use Rattle.c_lower.specs.Statements.{Exits as Left, LowersStatement, LowersItems
 use Rattle.c_lower.specs.Statements.{has_objects_of}
 use Rattle.c_lower.specs.Statements.{LowersLabels, in_switch, any_default, has_default}
 use Rattle.expression_lowering.specs.declared.emitter.Emitter.{Emitter}
-use Rattle.expression_lowering.specs.Emitted.{ExpressionCode, nodes}
+use Rattle.expression_lowering.specs.Weights.{Weights}
+use Rattle.expression_lowering.specs.Emitted.{ExpressionCode}
 use Rattle.expression_lowering.proofs.Growing.{emits_none, emits_then, fills_before}
 use Rattle.statement_parts.specs.declared.exits.Exits.{Exits}
 use Rattle.statement_parts.specs.Items.{item_of}
 use Rattle.statement_parts.specs.Leaving.{exits_of, before}
+use Rattle.statement_parts.specs.Weights.{objects_weight}
 use Rattle.statement_parts.specs.Code.{EntryCode, LeavingCode}
 use Rattle.statement_parts.proofs.InitializerParts.{drop_before, evaluated_emits}
-use Rattle.statement_lowering.specs.Code.{StatementCode, ItemsFrom, ItemsCode, TestsCode, bodies_nodes, tests_nodes}
-use Rattle.statement_lowering.specs.Sizes.{statement_height, items_height, statement_nodes, items_nodes}
+use Rattle.statement_lowering.specs.Weights.{statement_weight, items_weight}
+use Rattle.statement_lowering.specs.Code.{StatementCode, ItemsFrom, ItemsCode, TestsCode, bodies_weight, tests_weight}
+use Rattle.statement_lowering.specs.Sizes.{statement_height, items_height}
 use Rattle.statement_lowering.specs.Switches.{has_one_default, default_start, LowersBodies, LowersTests, DefaultsBegin}
 use Rattle.statement_lowering.proofs.Elements.{of_item, drop_set}
 use Rattle.statement_lowering.proofs.Heights.{items_need_one}
@@ -31,7 +35,7 @@ use Rattle.statement_lowering.proofs.Heights.{items_need_one}
 
 pub no_items_code : {vs : List Variable} {a : Emitter} {x : Exits} (starts : List ℕ)
     → ItemsFrom vs a a no_items starts x.next x
-no_items_code starts = record { emits = emits_none 1 0; stands = λ c v f. refl }
+no_items_code starts = record { emits = emits_none 1; stands = λ c v f. refl }
 
 more_items : {vs : List Variable} {a b c : Emitter} {n k : ℕ} {x y : Exits} (i : CodeItem) (is : SwitchItems)
     (starts : List ℕ) → exits_of y ≡ before (exits_of x) k → ItemsFrom vs a b is starts k x
@@ -41,8 +45,8 @@ more_items {vs = vs} {a = a} {c = c} {n = n} {k = k} {x = x} i is starts e hs h 
     let s = statement_of i.statement in
     let code : ItemsFrom vs a c (items (item_of i).0 s is) (n ∷ starts) n x = record {
       emits = emits_then (max (statement_height s) (items_height is))
-          (statement_nodes s + bodies_nodes is) hs.emits h.emits
-          (omega arith) (omega arith) (omega arith);
+          (λ w. statement_weight vs s w + bodies_weight vs is w) hs.emits h.emits
+          (omega arith) (omega arith) (λ w. omega arith);
       stands = λ p v f.
           (refl, k, subst (LowersStatement p s n) e (h.stands p v f), hs.stands p v (fills_before h.emits f));
     } in
@@ -122,9 +126,10 @@ both_stand c (items labels s is) (b ∷ bs) t0 n0 other x h t = (
   both_stand c is bs t.0 h.1 other x h.3 t.2,
 )
 
-nodes_of_both : (is : SwitchItems) → bodies_nodes is + tests_nodes is ≤ items_nodes is
-nodes_of_both no_items = omega arith
-nodes_of_both (items labels s is) = omega (arith, nodes_of_both is)
+weight_of_both : (vs : List Variable) (is : SwitchItems) (w : Weights)
+    → bodies_weight vs is w + tests_weight is w ≡ items_weight vs is w
+weight_of_both vs no_items w = refl
+weight_of_both vs (items labels s is) w = omega (arith, weight_of_both vs is w)
 
 pub switch_code : {vs : List Variable} {a b c d e' g : Emitter} {numbers starts made : List ℕ} {line t k n other : ℕ}
     {y z x : Exits} {is : SwitchItems} {e : Expression} → numbers ≡ switch_variables is → has_one_default is ≡ true
@@ -137,15 +142,18 @@ switch_code {vs = vs} {b = b} {c = c} {numbers = numbers} {starts = starts} {lin
     {e = e} same once l q made_items taken goes r entry value =
     let h = subst (λ ns. ItemsCode vs b c is ns z) (sym taken) made_items in
     let top = max (height e) (items_height is) in
-    let inner = emits_then top (4 + bodies_nodes is) l.emits h.from.emits (omega arith) (omega arith) (omega arith) in
-    let tested = emits_then top (4 + (bodies_nodes is + tests_nodes is)) inner r.emits (omega arith)
-    (omega (arith, items_need_one is)) (omega arith) in
-    let entered = emits_then top (5 + (bodies_nodes is + tests_nodes is)) tested entry.emits (omega arith) (omega arith)
-    (omega arith) in
-    let evaluated = evaluated_emits e top (nodes e) value (omega arith) (omega arith) in
+    let inner = emits_then top (λ w. 4 * objects_weight vs numbers w + bodies_weight vs is w) l.emits h.from.emits
+    (omega arith) (omega arith) (λ w. omega arith) in
+    let tested = emits_then top
+    (λ w. 4 * objects_weight vs numbers w + (bodies_weight vs is w + tests_weight is w)) inner r.emits (omega arith)
+    (omega (arith, items_need_one is)) (λ w. omega arith) in
+    let entered = emits_then top
+    (λ w. 5 * objects_weight vs numbers w + (bodies_weight vs is w + tests_weight is w)) tested entry.emits
+    (omega arith) (omega arith) (λ w. omega arith) in
+    let evaluated = evaluated_emits e top value (omega arith) in
     record {
-      emits = emits_then top (5 + nodes e + items_nodes is) entered evaluated (omega arith) (omega arith)
-          (omega (arith, nodes_of_both is));
+      emits = emits_then top (statement_weight vs (switch e line is)) entered evaluated (omega arith) (omega arith)
+          (λ w. omega (arith, weight_of_both vs is w, ap (λ ns. objects_weight vs ns w) same));
       stands = λ p v f.
           let fe = fills_before value.emits f in
           let fr = fills_before entry.emits fe in

@@ -1,3 +1,4 @@
 pub mod Sizes
+pub mod Weights
 pub mod Switches
 pub mod Code

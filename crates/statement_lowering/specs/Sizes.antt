@@ -1,12 +1,11 @@
--- How many temporaries the code of a statement needs, and how many nodes it gets at most.
-use Rattle.std.specs.Prelude.{ℕ, ◌+◌, max, length, Some, None}
+-- How many temporaries the code of a statement needs, and how many statements are in it.
+use Rattle.std.specs.Prelude.{ℕ, ◌+◌, max}
 use Rattle.c_tree.specs.Blocks.{declared_contents, first_contents, if_any}
 use Rattle.c_tree.specs.Room.{height}
 use Rattle.c_tree.specs.Statements.{Statement, expression_statement, empty, declaration, block, if_then, if_else}
 use Rattle.c_tree.specs.Statements.{while_do, do_while, for, switch, break, continue, return, Statements, no_statements}
 use Rattle.c_tree.specs.Statements.{statements, SwitchItems, no_items, items}
-use Rattle.expression_lowering.specs.Emitted.{nodes}
-use Rattle.statement_parts.specs.Code.{most, declared_nodes, first_nodes, condition_nodes, part_nodes}
+use Rattle.statement_parts.specs.Code.{most}
 
 -- as many as the greatest of what it evaluates
 abbrev mutual
@@ -34,29 +33,27 @@ abbrev mutual
   items_height no_items = 1
   items_height (items labels s is) = max (statement_height s) (items_height is)
 
--- up to 6 for each statement, one for each label, and what its expressions and initializers get
+-- how many statements there are: recursion over them goes by this
 abbrev mutual
   pub statement_nodes : Statement → ℕ
-  statement_nodes (expression_statement e) = nodes e
-  statement_nodes empty = 0
-  statement_nodes (declaration ds) = declared_nodes ds
-  statement_nodes (block line body) = 5 + each_nodes body
-  statement_nodes (if_then e s) = 1 + nodes e + statement_nodes s
-  statement_nodes (if_else e s other) = 1 + nodes e + (statement_nodes s + statement_nodes other)
-  statement_nodes (while_do e s) = 2 + nodes e + statement_nodes s
-  statement_nodes (do_while s e) = 2 + nodes e + statement_nodes s
-  statement_nodes (for line first condition step s) =
-      6 + (first_nodes first + (condition_nodes condition + part_nodes step)) + statement_nodes s
-  statement_nodes (switch e line is) = 5 + nodes e + items_nodes is
-  statement_nodes break = 0
-  statement_nodes continue = 0
-  statement_nodes (return None) = 1
-  statement_nodes (return (Some e)) = 1 + nodes e
+  statement_nodes (expression_statement e) = 1
+  statement_nodes empty = 1
+  statement_nodes (declaration ds) = 1
+  statement_nodes (block line body) = 1 + each_nodes body
+  statement_nodes (if_then e s) = 1 + statement_nodes s
+  statement_nodes (if_else e s other) = 1 + (statement_nodes s + statement_nodes other)
+  statement_nodes (while_do e s) = 1 + statement_nodes s
+  statement_nodes (do_while s e) = 1 + statement_nodes s
+  statement_nodes (for line first condition step s) = 1 + statement_nodes s
+  statement_nodes (switch e line is) = 1 + items_nodes is
+  statement_nodes break = 1
+  statement_nodes continue = 1
+  statement_nodes (return e) = 1
 
   pub each_nodes : Statements → ℕ
   each_nodes no_statements = 0
-  each_nodes (statements s ss) = 1 + statement_nodes s + each_nodes ss
+  each_nodes (statements s ss) = statement_nodes s + each_nodes ss
 
   pub items_nodes : SwitchItems → ℕ
   items_nodes no_items = 0
-  items_nodes (items labels s is) = 1 + (length labels + statement_nodes s) + items_nodes is
+  items_nodes (items labels s is) = statement_nodes s + items_nodes is

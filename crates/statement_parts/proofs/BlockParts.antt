@@ -1,5 +1,6 @@
 -- Blocks that are entered and left.
-use Rattle.std.proofs.Common.{◌≡◌, ℕ, Bool, true, false, List, [], ◌∷◌, ◌++◌, length, refl, sym, ap, ◌∙◌, subst, arith}
+use Rattle.std.proofs.Common.{◌≡◌, ℕ, ◌*◌, Bool, true, false, List, [], ◌∷◌, ◌++◌, length, refl, sym, ap, ◌∙◌, subst}
+use Rattle.std.proofs.Common.{arith}
 use Rattle.c_tree.specs.declared.program.Variable.{Variable}
 use Rattle.c_tree.specs.Blocks.{block_objects}
 use Rattle.source_meaning.specs.Blocks.{has_objects}
@@ -7,12 +8,15 @@ use Rattle.tac_ir.specs.declared.instruction.Instruction.TheVariants as tac
 use Rattle.c_lower.specs.Placed.{Placed}
 use Rattle.c_lower.specs.Statements.{LowersEntry, LowersLeaving, has_objects_of}
 use Rattle.expression_lowering.specs.declared.emitter.Emitter.{Emitter}
+use Rattle.expression_lowering.specs.Weights.{Weights}
 use Rattle.expression_lowering.specs.Emitted.{Added}
-use Rattle.expression_lowering.proofs.Growing.{emits_none, emits_then, added_emits, added_holds, fills_before, same_emits}
+use Rattle.expression_lowering.proofs.Growing.{emits_none, emits_then, added_emits, added_holds, fills_before}
+use Rattle.expression_lowering.proofs.Growing.{same_emits}
 use Rattle.expression_lowering.proofs.Growing.{stays_by, one_more, has_last}
 use Rattle.statement_parts.specs.declared.exits.Exits.{Exits}
 use Rattle.statement_parts.specs.Code.{BlockAdded, EntryCode, LeavingCode}
 use Rattle.statement_parts.specs.Leaving.{exits_of}
+use Rattle.statement_parts.specs.Weights.{weight_where, objects_weight}
 
 pub block_added : (a b : Emitter) (numbers : List ℕ) (n : ℕ) → b.code.items ≡ a.code.items → b.keys.items ≡ a.keys.items
     → b.blocks.items ≡ a.blocks.items ++ numbers ∷ [] → b.loops.items ≡ a.loops.items → b.texts.items ≡ a.texts.items
@@ -25,15 +29,21 @@ block_added a b numbers n code keys blocks loops texts at = record {
 }
 
 -- by whether there are objects
-same_objects : (vs : List Variable) (numbers : List ℕ) (h : Bool) (c : Placed) → h ≡ has_objects (block_objects vs numbers)
+same_objects : (vs : List Variable) (numbers : List ℕ) (h : Bool) (c : Placed) → h
+    ≡ has_objects (block_objects vs numbers)
     → c.variables ≡ vs → h ≡ has_objects_of c numbers
 same_objects vs numbers h c e v = e ∙ ap (λ w. has_objects (block_objects w numbers)) (sym v)
+
+there_weight : (vs : List Variable) (numbers : List ℕ) (h : Bool) (w : Weights)
+    → h ≡ has_objects (block_objects vs numbers) → h ≡ true → objects_weight vs numbers w ≡ w.other
+there_weight vs numbers h w e t = ap (λ o. weight_where o w) (sym e ∙ t)
 
 pub entry_there : {vs : List Variable} {numbers : List ℕ} {h : Bool} {a b c : Emitter} {block line n next : ℕ}
     → h ≡ has_objects (block_objects vs numbers) → h ≡ true → BlockAdded a b numbers block
     → Added b c n (tac.EnterBlock block line next) → EntryCode vs a c numbers line n next
 entry_there {vs = vs} {numbers = numbers} {h = h} {block = block} {line = line} {n = n} {next = next} e t k i = record {
-  emits = emits_then 0 1 k.emits (added_emits 0 i (omega arith)) (omega arith) (omega arith) (omega arith);
+  emits = emits_then 0 (objects_weight vs numbers) k.emits (added_emits 0 i (omega arith)) (omega arith) (omega arith)
+      (λ w. omega (arith, there_weight vs numbers h w e t));
   stands = λ p v f. subst (λ o. LowersEntry p o numbers line n next) (sym t ∙ same_objects vs numbers h p e v)
       (block, k.is p (fills_before (added_emits 0 i (omega arith)) f), added_holds i tt f);
 }
@@ -41,7 +51,7 @@ entry_there {vs = vs} {numbers = numbers} {h = h} {block = block} {line = line} 
 pub entry_none : {vs : List Variable} {numbers : List ℕ} {h : Bool} {a : Emitter} {line next : ℕ}
     → h ≡ has_objects (block_objects vs numbers) → h ≡ false → EntryCode vs a a numbers line next next
 entry_none {vs = vs} {numbers = numbers} {h = h} {line = line} {next = next} e t = record {
-  emits = emits_none 0 1;
+  emits = emits_none 0;
   stands = λ p v f. subst (λ o. LowersEntry p o numbers line next next) (sym t ∙ same_objects vs numbers h p e v) refl;
 }
 
@@ -53,10 +63,12 @@ leave_there {vs = vs} {numbers = numbers} {h = h} {y = y} {x = x} q t i j k l =
     let ej = added_emits 0 j (omega arith) in
     let ek = added_emits 0 k (omega arith) in
     let el = added_emits 0 l (omega arith) in
-    let two = emits_then 0 2 (added_emits 0 i (omega arith)) ej (omega arith) (omega arith) (omega arith) in
-    let three = emits_then 0 3 two ek (omega arith) (omega arith) (omega arith) in
+    let two = emits_then 0 (λ w. 2 * w.other) (added_emits 0 i (omega arith)) ej (omega arith) (omega arith)
+    (λ w. omega arith) in
+    let three = emits_then 0 (λ w. 3 * w.other) two ek (omega arith) (omega arith) (λ w. omega arith) in
     record {
-      emits = emits_then 0 4 three el (omega arith) (omega arith) (omega arith);
+      emits = emits_then 0 (λ w. 4 * objects_weight vs numbers w) three el (omega arith) (omega arith)
+          (λ w. omega (arith, there_weight vs numbers h w q t));
       stands = λ p v f.
           let fl = fills_before el f in
           let fk = fills_before ek fl in
@@ -68,8 +80,9 @@ leave_there {vs = vs} {numbers = numbers} {h = h} {y = y} {x = x} q t i j k l =
 pub leave_none : {vs : List Variable} {numbers : List ℕ} {h : Bool} {a : Emitter} {x : Exits}
     → h ≡ has_objects (block_objects vs numbers) → h ≡ false → LeavingCode vs a a numbers x x
 leave_none {vs = vs} {numbers = numbers} {h = h} {x = x} q t = record {
-  emits = emits_none 0 4;
-  stands = λ p v f. subst (λ o. LowersLeaving p o (exits_of x) (exits_of x)) (sym t ∙ same_objects vs numbers h p q v) refl;
+  emits = emits_none 0;
+  stands = λ p v f. subst (λ o. LowersLeaving p o (exits_of x) (exits_of x))
+      (sym t ∙ same_objects vs numbers h p q v) refl;
 }
 
 pub ruleset tables = (block_added)

@@ -16,11 +16,15 @@ use Rattle.c_lower.specs.Homes.{used}
 use Rattle.c_lower.specs.Placed.{Holds}
 use Rattle.c_lower.proofs.Homes.{fits}
 use Rattle.expression_lowering.specs.declared.emitter.Emitter.{Emitter}
-use Rattle.expression_lowering.specs.Emitted.{Added, Emits, ExpressionCode, nodes}
+use Rattle.expression_lowering.specs.Weights.{expression_weight}
+use Rattle.expression_lowering.specs.Emitted.{Added, Emits, ExpressionCode}
 use Rattle.expression_lowering.specs.Last.{TextAdded}
-use Rattle.expression_lowering.proofs.Growing.{emits_none, emits_then, emits_within, added_emits, added_holds, fills_before}
+use Rattle.expression_lowering.proofs.Growing.{emits_none, emits_then, emits_within, added_emits, added_holds}
+use Rattle.expression_lowering.proofs.Growing.{fills_before}
 use Rattle.expression_lowering.proofs.Views.{of_expression}
-use Rattle.statement_parts.specs.Code.{most, contents_in, parts_nodes, declared_nodes}
+use Rattle.statement_parts.specs.Weights.{content_weight, parts_weight, initializer_weight, declared_weight}
+use Rattle.statement_parts.specs.Weights.{condition_weight}
+use Rattle.statement_parts.specs.Code.{most, contents_in}
 use Rattle.statement_parts.specs.Code.{ContentCode, PartsCode, InitializerCode}
 use Rattle.statement_parts.specs.Code.{DeclaredCode, FirstCode, ConditionCode, PartCode}
 
@@ -34,21 +38,24 @@ greatest_and [] ys = omega arith
 greatest_and (x ∷ xs) ys = omega (arith, greatest_and xs ys)
 
 -- an expression that is evaluated needs no more than its height
-pub evaluated_emits : {a b : Emitter} {n m : ℕ} (e : Expression) (most count : ℕ) → ExpressionCode a b e 0 n m → height e ≤ most
-    → nodes e ≤ count → Emits a b most count
-evaluated_emits e most count h le lk = emits_within most count h.emits (omega (arith, fits e, le)) lk
+pub evaluated_emits : {a b : Emitter} {n m : ℕ} (e : Expression) (most : ℕ) → ExpressionCode a b e 0 n m
+    → height e ≤ most → Emits a b most (expression_weight e)
+evaluated_emits e most h le = emits_within most (expression_weight e) h.emits (omega (arith, fits e, le))
+    (λ w. omega arith)
 
 -- parts of initializers
 
-pub value_code : {a b c : Emitter} {x o n k m : ℕ} (e : CodeExpression) → Added a b k (tac.StorePart e.kind e.line x o 0 m)
+pub value_code : {a b c : Emitter} {x o n k m : ℕ} (e : CodeExpression)
+    → Added a b k (tac.StorePart e.kind e.line x o 0 m)
     → ExpressionCode b c (expression_of e) 0 n k → ContentCode a c x o (value_content (expression_of e)) n m
 value_code {x = x} {o = o} {k = k} {m = m} e h hx =
     let top = max 1 (height (expression_of e)) in
     let view = of_expression e in
     let store = added_emits top h (omega arith) in
-    let value = evaluated_emits (expression_of e) top (nodes (expression_of e)) hx (omega arith) (omega arith) in
+    let value = evaluated_emits (expression_of e) top hx (omega arith) in
     record {
-      emits = emits_then top (nodes (expression_of e) + 1) store value (omega arith) (omega arith) (omega arith);
+      emits = emits_then top (content_weight (value_content (expression_of e))) store value (omega arith) (omega arith)
+          (λ w. omega arith);
       stands = λ p f.
           let held = added_holds h tt (fills_before hx.emits f) in (
             k,
@@ -61,26 +68,28 @@ value_code {x = x} {o = o} {k = k} {m = m} e h hx =
 
 pub literal_code : {a b c : Emitter} {x o t n m : ℕ} {bytes : List ℕ} → TextAdded a b bytes t
     → Added b c n (tac.StoreText t x o m) → ContentCode a c x o (literal_content bytes) n m
-literal_code {t = t} ht h =
+literal_code {t = t} {bytes = bytes} ht h =
     let store = added_emits 1 h (omega arith) in
     record {
-      emits = emits_then 1 1 ht.emits store (omega arith) (omega arith) (omega arith);
+      emits = emits_then 1 (content_weight (literal_content bytes)) ht.emits store (omega arith) (omega arith)
+          (λ w. omega arith);
       stands = λ p f. (t, ht.is p (fills_before store f), added_holds h tt f);
     }
 
 pub parts_none : {a : Emitter} {x n : ℕ} → PartsCode a a x [] n n
-parts_none = record { emits = emits_none 1 0; stands = λ p f. refl }
+parts_none = record { emits = emits_none 1; stands = λ p f. refl }
 
 parts_more : {a b c : Emitter} {x n k m : ℕ} (q : Part) (qs : List Part) → PartsCode a b x qs k m
     → ContentCode b c x q.offset q.content n k → PartsCode a c x (q ∷ qs) n m
 parts_more {k = k} q qs hs h =
     let top = most (contents_in (q ∷ qs)) in
     record {
-      emits = emits_then top (parts_nodes (q ∷ qs)) hs.emits h.emits (omega arith) (omega arith) (omega arith);
+      emits = emits_then top (parts_weight (q ∷ qs)) hs.emits h.emits (omega arith) (omega arith) (λ w. omega arith);
       stands = λ p f. (k, h.stands p f, hs.stands p (fills_before h.emits f));
     }
 
-drop_from : {A : Type 0} (xs : List A) (k : ℕ) (x : A) → k < length xs → x ≡ get_or xs k x → drop k xs ≡ x ∷ drop (k + 1) xs
+drop_from : {A : Type 0} (xs : List A) (k : ℕ) (x : A) → k < length xs → x ≡ get_or xs k x → drop k xs ≡ x
+    ∷ drop (k + 1) xs
 drop_from [] k x lt e = absurd (omega (arith, lt))
 drop_from (y ∷ xs) zero x lt e = ap (λ z. z ∷ xs) (sym e)
 drop_from (y ∷ xs) (suc k) x lt e =
@@ -88,7 +97,8 @@ drop_from (y ∷ xs) (suc k) x lt e =
     drop_from xs k x (omega (arith, lt)) e ∙ ap (λ n. x ∷ drop n (y ∷ xs)) at
 
 -- the elements behind a model, of which one stands before the others
-pub drop_before : {A B : Type 0} (f : A → B) (xs : List A) (i : ℕ) (x : A) → 1 ≤ i → i ≤ length xs → x ≡ get_or xs (i - 1) x
+pub drop_before : {A B : Type 0} (f : A → B) (xs : List A) (i : ℕ) (x : A) → 1 ≤ i → i ≤ length xs → x
+    ≡ get_or xs (i - 1) x
     → f x ∷ map f (drop i xs) ≡ map f (drop (i - 1) xs)
 drop_before f xs i x ge le is =
     let at : i - 1 + 1 ≡ i = omega (arith, ge) in
@@ -109,16 +119,17 @@ part_height (y ∷ qs) (suc k) q lt e = omega (arith, part_height qs k q (omega 
 -- initializers
 
 pub initializer_none : {a : Emitter} {x n : ℕ} → InitializerCode a a x None n n
-initializer_none = record { emits = emits_none 1 0; stands = λ p f. refl }
+initializer_none = record { emits = emits_none 1; stands = λ p f. refl }
 
 pub initializer_plain : {a b c : Emitter} {x n k m : ℕ} {e : Expression} → Added a b k (tac.SetPlain x 0 m)
     → ExpressionCode b c e 0 n k → InitializerCode a c x (Some (of_plain e)) n m
 initializer_plain {k = k} {e = e} h hx =
     let top = most (value_content e ∷ []) in
     let set = added_emits top h (omega arith) in
-    let value = evaluated_emits e top (nodes e) hx (omega arith) (omega arith) in
+    let value = evaluated_emits e top hx (omega arith) in
     record {
-      emits = emits_then top (nodes e + 1) set value (omega arith) (omega arith) (omega arith);
+      emits = emits_then top (initializer_weight (Some (of_plain e))) set value (omega arith) (omega arith)
+          (λ w. omega arith);
       stands = λ p f. (k, hx.stands p f, added_holds h tt (fills_before hx.emits f));
     }
 
@@ -128,27 +139,31 @@ initializer_object {k = k} {qs = qs} hs h =
     let top = most (contents_in qs) in
     let clear = added_emits top h (omega arith) in
     record {
-      emits = emits_then top (1 + parts_nodes qs) hs.emits clear (omega arith) (omega arith) (omega arith);
+      emits = emits_then top (initializer_weight (Some (of_object qs))) hs.emits clear (omega arith) (omega arith)
+          (λ w. omega arith);
       stands = λ p f. (k, added_holds h tt f, hs.stands p (fills_before clear f));
     }
 
 pub declared_none : {a : Emitter} {n : ℕ} → DeclaredCode a a [] n n
-declared_none = record { emits = emits_none 1 0; stands = λ p f. refl }
+declared_none = record { emits = emits_none 1; stands = λ p f. refl }
 
-declared_more : {a b c : Emitter} {n k m : ℕ} (d : DeclaredVariable) (ds : List DeclaredVariable) → DeclaredCode a b ds k m
+declared_more : {a b c : Emitter} {n k m : ℕ} (d : DeclaredVariable) (ds : List DeclaredVariable)
+    → DeclaredCode a b ds k m
     → InitializerCode b c d.variable d.initializer n k → DeclaredCode a c (d ∷ ds) n m
 declared_more {k = k} d ds hs h =
     let top = most (declared_contents (d ∷ ds)) in
     let both = greatest_and (initializer_contents d.initializer) (declared_contents ds) in
     record {
-      emits = emits_then top (declared_nodes (d ∷ ds)) hs.emits h.emits (omega (arith, both)) (omega (arith, both))
-          (omega arith);
+      emits = emits_then top (declared_weight (d ∷ ds)) hs.emits h.emits (omega (arith, both)) (omega (arith, both))
+          (λ w. omega arith);
       stands = λ p f. (k, h.stands p f, hs.stands p (fills_before h.emits f));
     }
 
-pub next_declared : {a b c : Emitter} {n k m : ℕ} (ds : List CodeDeclared) (i : ℕ) (d : CodeDeclared) → 1 ≤ i → i ≤ length ds
+pub next_declared : {a b c : Emitter} {n k m : ℕ} (ds : List CodeDeclared) (i : ℕ) (d : CodeDeclared) → 1 ≤ i
+    → i ≤ length ds
     → d ≡ get_or ds (i - 1) d → DeclaredCode a b (map declared_of (drop i ds)) k m
-    → InitializerCode b c d.variable (declared_of d).initializer n k → DeclaredCode a c (map declared_of (drop (i - 1) ds)) n m
+    → InitializerCode b c d.variable (declared_of d).initializer n k
+    → DeclaredCode a c (map declared_of (drop (i - 1) ds)) n m
 next_declared {a = a} {c = c} {n = n} {m = m} ds i d ge le is hs h =
     subst (λ l. DeclaredCode a c l n m) (drop_before declared_of ds i d ge le is) (declared_more (declared_of d) _ hs h)
 
@@ -157,21 +172,23 @@ pub declared_height : (ds : List CodeDeclared) (k : ℕ) (d : CodeDeclared) → 
     ≤ greatest_height (declared_contents (map declared_of ds))
 declared_height [] k d lt e = absurd (omega (arith, lt))
 declared_height (y ∷ ds) zero d lt e =
-    let both = greatest_and (initializer_contents (declared_of y).initializer) (declared_contents (map declared_of ds)) in
+    let both = greatest_and (initializer_contents (declared_of y).initializer)
+    (declared_contents (map declared_of ds)) in
     omega (arith, both, ap (λ z. greatest_height (initializer_contents (declared_of z).initializer)) e)
 declared_height (y ∷ ds) (suc k) d lt e =
-    let both = greatest_and (initializer_contents (declared_of y).initializer) (declared_contents (map declared_of ds)) in
+    let both = greatest_and (initializer_contents (declared_of y).initializer)
+    (declared_contents (map declared_of ds)) in
     omega (arith, both, declared_height ds k d (omega (arith, lt)) e)
 
 -- the parts of a `for`
 
 pub first_nothing : {a : Emitter} {n : ℕ} → FirstCode a a nothing n n
-first_nothing = record { emits = emits_none 1 0; stands = λ p f. refl }
+first_nothing = record { emits = emits_none 1; stands = λ p f. refl }
 
 pub first_value : {a b : Emitter} {n m : ℕ} {e : Expression} → ExpressionCode a b e 0 n m
     → FirstCode a b (first_expression e) n m
 first_value {e = e} h = record {
-  emits = evaluated_emits e (most (value_content e ∷ [])) (nodes e) h (omega arith) (omega arith);
+  emits = evaluated_emits e (most (value_content e ∷ [])) h (omega arith);
   stands = h.stands;
 }
 
@@ -180,25 +197,25 @@ pub first_declared : {a b : Emitter} {n m : ℕ} {ds : List DeclaredVariable} �
 first_declared h = record { emits = h.emits; stands = h.stands }
 
 pub condition_none : {a : Emitter} {n m : ℕ} → ConditionCode a a None n n m
-condition_none = record { emits = emits_none 1 0; stands = λ p f. refl }
+condition_none = record { emits = emits_none 1; stands = λ p f. refl }
 
 pub condition_some : {a b c : Emitter} {n k t u : ℕ} {e : Expression} → Added a b k (tac.Branch 0 t u)
     → ExpressionCode b c e 0 n k → ConditionCode a c (Some e) n t u
 condition_some {k = k} {e = e} h hx =
     let top = most (value_content e ∷ []) in
     let branch = added_emits top h (omega arith) in
-    let value = evaluated_emits e top (nodes e) hx (omega arith) (omega arith) in
+    let value = evaluated_emits e top hx (omega arith) in
     record {
-      emits = emits_then top (nodes e + 1) branch value (omega arith) (omega arith) (omega arith);
+      emits = emits_then top (condition_weight (Some e)) branch value (omega arith) (omega arith) (λ w. omega arith);
       stands = λ p f. (k, hx.stands p f, added_holds h tt (fills_before hx.emits f));
     }
 
 pub part_none : {a : Emitter} {n : ℕ} → PartCode a a None n n
-part_none = record { emits = emits_none 1 0; stands = λ p f. refl }
+part_none = record { emits = emits_none 1; stands = λ p f. refl }
 
 pub part_some : {a b : Emitter} {n m : ℕ} {e : Expression} → ExpressionCode a b e 0 n m → PartCode a b (Some e) n m
 part_some {e = e} h = record {
-  emits = evaluated_emits e (most (value_content e ∷ [])) (nodes e) h (omega arith) (omega arith);
+  emits = evaluated_emits e (most (value_content e ∷ [])) h (omega arith);
   stands = h.stands;
 }
 

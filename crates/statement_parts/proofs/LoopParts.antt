@@ -1,5 +1,6 @@
 -- Loops from their parts.
-use Rattle.std.proofs.Common.{◌≡◌, ◌≢◌, ℕ, zero, suc, ◌+◌, ◌≤◌, ◌<◌, Bool, true, false, List, [], ◌∷◌, ◌++◌, length, Option, Some, None}
+use Rattle.std.proofs.Common.{◌≡◌, ◌≢◌, ℕ, zero, suc, ◌+◌, ◌*◌, ◌≤◌, ◌<◌, Bool, true, false, List, [], ◌∷◌, ◌++◌}
+use Rattle.std.proofs.Common.{length, Option, Some, None}
 use Rattle.std.proofs.Common.{refl, sym, ap, ◌∙◌, subst, arith}
 use Rattle.std.proofs.lemmas.Bool.{eqb-true, eqb-false}
 use Rattle.std.proofs.lemmas.Option.{slice_get_within}
@@ -15,13 +16,15 @@ use Rattle.tac_ir.specs.Temporaries.{temporaries}
 use Rattle.c_lower.specs.Counted.{CountedParts}
 use Rattle.c_lower.specs.Placed.{Placed, Holds, HasAt}
 use Rattle.expression_lowering.specs.declared.emitter.Emitter.{Emitter}
-use Rattle.expression_lowering.specs.Emitted.{Has, Added, Stays, Keeps, IsReal, Fills, Fits, ExpressionCode, nodes}
+use Rattle.expression_lowering.specs.Weights.{Weights, weight_of, code_weight, expression_weight}
+use Rattle.expression_lowering.specs.Emitted.{Has, Added, Stays, Keeps, IsReal, Fills, Fits, ExpressionCode}
 use Rattle.expression_lowering.proofs.Growing.{emits_none, emits_then, added_emits, added_has, added_holds}
 use Rattle.expression_lowering.proofs.Growing.{fills_before, keeps_on, same_emits, stays_by, one_more, has_last}
 use Rattle.statement_parts.specs.declared.exits.Exits.{Exits}
 use Rattle.statement_parts.specs.declared.counted.Range.{Range}
 use Rattle.statement_parts.specs.declared.loops.ForHead.{ForHead}
-use Rattle.statement_parts.specs.Code.{most, condition_nodes, part_nodes, first_nodes, ConditionCode, PartCode, FirstCode}
+use Rattle.statement_parts.specs.Weights.{first_weight, condition_weight, part_weight, objects_weight}
+use Rattle.statement_parts.specs.Code.{most, ConditionCode, PartCode, FirstCode}
 use Rattle.statement_parts.specs.Code.{EntryCode, LeavingCode}
 use Rattle.statement_parts.specs.Counting.{parts_with}
 use Rattle.statement_parts.specs.Loops.{Waits, Filled, HeadCode, ForHeadCode, LoopAdded, ForTailCode}
@@ -41,11 +44,6 @@ set_other (z ∷ xs) zero (suc m) y ne = refl
 set_other (z ∷ xs) (suc n) zero y ne = refl
 set_other (z ∷ xs) (suc n) (suc m) y ne = set_other xs n m y (λ e. ne (ap suc e))
 
-set_length : {A : Type 0} (xs : List A) (n : ℕ) (y : A) → length (slice_set xs n y) ≡ length xs
-set_length [] n y = refl
-set_length (z ∷ xs) zero y = refl
-set_length (z ∷ xs) (suc n) y = ap suc (set_length xs n y)
-
 same_some : {A : Type 0} {x y : A} → Some x ≡ Some y → x ≡ y
 same_some e = cc
 
@@ -58,7 +56,8 @@ filled_other {a = a} {n = n} {i = i} f m ne = ap (λ l. slice_get l m) f.code �
 filled_here : {a b : Emitter} {n : ℕ} {i : Instruction} → Filled a b n i → Has a n tac.Reserved → Has b n i
 filled_here {a = a} {n = n} {i = i} f h = ap (λ l. slice_get l n) f.code ∙ set_same a.code.items n tac.Reserved i h
 
-pub filled_fills : {a b : Emitter} {n : ℕ} {i : Instruction} {c : Placed} → Filled a b n i → Has a n tac.Reserved → Fills b c
+pub filled_fills : {a b : Emitter} {n : ℕ} {i : Instruction} {c : Placed} → Filled a b n i → Has a n tac.Reserved
+    → Fills b c
     → Fills a c
 filled_fills {a = a} {b = b} {n = n} f h g = record {
   code = λ m j r k.
@@ -94,11 +93,22 @@ pub filled_fits : {a b : Emitter} {n : ℕ} {i : Instruction} (limit : ℕ) → 
     → temporaries i ≤ limit → Fits limit a → Fits limit b
 filled_fits {n = n} limit f h le g = record { by = λ m j k. fits_by limit f h le g m j k (m == n) refl }
 
-pub filled_length : {a b : Emitter} {n : ℕ} {i : Instruction} → Filled a b n i
-    → length b.code.items ≡ length a.code.items
-filled_length {a = a} {n = n} {i = i} f = ap length f.code ∙ set_length a.code.items n i
+-- a turn weighs what was reserved for it
 
-pub filled_holds : {a b : Emitter} {n : ℕ} {i : Instruction} {c : Placed} → Filled a b n i → Has a n tac.Reserved → IsReal i
+set_weight : (is : List Instruction) (n : ℕ) (i : Instruction) (w : Weights) → HasAt is n tac.Reserved
+    → weight_of i w ≡ w.turn → code_weight (slice_set is n i) w ≡ code_weight is w
+set_weight [] n i w h e = refl
+set_weight (j ∷ is) zero i w h e =
+    let here : weight_of j w ≡ w.turn = ap (λ k. weight_of k w) (same_some h) in omega (arith, here, e)
+set_weight (j ∷ is) (suc n) i w h e = omega (arith, set_weight is n i w h e)
+
+pub filled_weight : {a b : Emitter} {n : ℕ} {i : Instruction} → Filled a b n i → Has a n tac.Reserved
+    → (w : Weights) → weight_of i w ≡ w.turn → code_weight b.code.items w ≡ code_weight a.code.items w
+filled_weight {a = a} {n = n} {i = i} f h w e =
+    ap (λ is. code_weight is w) f.code ∙ set_weight a.code.items n i w h e
+
+pub filled_holds : {a b : Emitter} {n : ℕ} {i : Instruction} {c : Placed} → Filled a b n i → Has a n tac.Reserved
+    → IsReal i
     → Fills b c → Holds c n i
 filled_holds {n = n} {i = i} f h r g = g.code n i r (filled_here f h)
 
@@ -126,10 +136,11 @@ head_code {a = a} {e = e} {x = x} {turn = turn} {k = k} h t v =
     let top = max 1 (height x) in
     let first = added_emits top h (omega arith) in
     let second = added_emits top t (omega arith) in
-    let value = evaluated_emits x top (nodes x) v (omega arith) (omega arith) in
-    let both = emits_then top 2 first second (omega arith) (omega arith) (omega arith) in
+    let value = evaluated_emits x top v (omega arith) in
+    let both = emits_then top (λ w. w.branch + w.turn) first second (omega arith) (omega arith) (λ w. omega arith) in
     record {
-      emits = emits_then top (nodes x + 2) both value (omega arith) (omega arith) (omega arith);
+      emits = emits_then top (λ w. expression_weight x w + (w.branch + w.turn)) both value (omega arith) (omega arith)
+          (λ w. omega arith);
       fresh = omega (arith, h.place);
       waits = record { by = v.emits.kept.code turn tac.Reserved (second.kept.code turn tac.Reserved (added_has h)) };
       stands = λ p f. (k, v.stands p f, added_holds t tt (fills_before v.emits f));
@@ -139,14 +150,18 @@ pub for_head_code : {vs : List Variable} {a b c d e : Emitter} {numbers : List �
     {y x : Exits} {turn h s : ℕ} → LeavingCode vs a b numbers y x → Added b c turn tac.Reserved
     → ConditionCode c d test h turn y.next → PartCode d e step s h
     → ForHeadCode vs a e numbers test step (record { inside = y; turn = turn; condition = h; step = s }) x
-for_head_code {a = a} {b = b} {test = test} {step = step} {turn = turn} l r t p =
+for_head_code {vs = vs} {a = a} {b = b} {numbers = numbers} {test = test} {step = step} {turn = turn} l r t p =
     let top = max (most (if_any test)) (most (if_any step)) in
     let reserved = added_emits top r (omega arith) in
-    let one = emits_then top 5 l.emits reserved (omega arith) (omega arith) (omega arith) in
-    let two = emits_then top (5 + condition_nodes test) one t.emits (omega arith) (omega arith) (omega arith) in
+    let one = emits_then top (λ w. 4 * objects_weight vs numbers w + w.turn) l.emits reserved (omega arith)
+    (omega arith)
+    (λ w. omega arith) in
+    let two = emits_then top (λ w. 4 * objects_weight vs numbers w + (w.turn + condition_weight test w)) one t.emits
+    (omega arith) (omega arith) (λ w. omega arith) in
     record {
-      emits = emits_then top (5 + (condition_nodes test + part_nodes step)) two p.emits (omega arith) (omega arith)
-          (omega arith);
+      emits = emits_then top
+          (λ w. 4 * objects_weight vs numbers w + (w.turn + (condition_weight test w + part_weight step w)))
+          two p.emits (omega arith) (omega arith) (λ w. omega arith);
       fresh = omega (arith, r.place, longer l.emits.kept);
       waits = record { by = p.emits.kept.code turn tac.Reserved (t.emits.kept.code turn tac.Reserved (added_has r)) };
       leaves = λ q v f. l.stands q v (fills_before reserved (fills_before t.emits (fills_before p.emits f)));
@@ -157,7 +172,7 @@ for_head_code {a = a} {b = b} {test = test} {step = step} {turn = turn} l r t p 
 -- counted loops
 
 pub no_loop : {a : Emitter} {n : ℕ} {h : ForHead} → LoopAdded a a None n h None
-no_loop = record { emits = emits_none 0 0; is = λ p f. tt }
+no_loop = record { emits = emits_none 0; is = λ p f. tt }
 
 pub some_loop : (a b : Emitter) (r : Range) (n setting : ℕ) (h : ForHead) → b.code.items ≡ a.code.items
     → b.keys.items ≡ a.keys.items → b.blocks.items ≡ a.blocks.items
@@ -178,14 +193,15 @@ some_loop a b r n setting h code keys blocks loops texts at = record {
   is = λ c f. f.loops n _ (has_last a.loops.items b.loops.items _ n loops at);
 }
 
-pub for_tail_code : {vs : List Variable} {a b c d e : Emitter} {numbers : List ℕ} {line setting body n : ℕ} {first : First}
+pub for_tail_code : {vs : List Variable} {a b c d e : Emitter} {numbers : List ℕ} {line setting body n : ℕ}
+    {first : First}
     {parts : Option CountedParts} {h : ForHead} {counted : Option ℕ} → Waits a h.turn
     → FirstCode a b first setting h.condition → LoopAdded b c parts setting h counted
     → Filled c d h.turn (tac.Turn counted body) → EntryCode vs d e numbers line n setting
     → ForTailCode vs a e numbers line first parts h body n
 for_tail_code {a = a} {setting = setting} {first = first} {h = h} {counted = counted} waits s l f y =
     let top = most (first_contents first) in
-    let grown = emits_then top (first_nodes first) s.emits l.emits (omega arith) (omega arith) (omega arith) in
+    let grown = emits_then top (first_weight first) s.emits l.emits (omega arith) (omega arith) (λ w. omega arith) in
     let still = grown.kept.code h.turn tac.Reserved waits.by in
     record {
       grows = record {
@@ -193,7 +209,7 @@ for_tail_code {a = a} {setting = setting} {first = first} {h = h} {counted = cou
         keeps = λ o k le. keeps_on (filled_keeps f (keeps_on k grown.kept) le) y.emits.kept;
         fits = λ limit le g. y.emits.fits limit (omega arith)
             (filled_fits limit f still (omega arith) (grown.fits limit le g));
-        grown = omega (arith, y.emits.grown, filled_length f, grown.grown);
+        grown = λ w. omega (arith, y.emits.grown w, filled_weight f still w refl, grown.grown w);
       };
       setting = setting;
       counted = counted;

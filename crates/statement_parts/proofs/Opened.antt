@@ -21,7 +21,8 @@ one_opened false v = shut v v.is_object refl
     shut v true e = ap (λ b. (if b then no_variable else v).is_object) e
     shut v false e = ap (λ b. (if b then no_variable else v).is_object) e ∙ e
 
-opened_from : (ns : List ℕ) (x : ℕ) (vs : List Variable) → has_objects (opened ns x vs (map closed vs)) ≡ found_from ns x vs
+opened_from : (ns : List ℕ) (x : ℕ) (vs : List Variable) → has_objects (opened ns x vs (map closed vs))
+    ≡ found_from ns x vs
 opened_from ns x [] = refl
 opened_from ns x (v ∷ vs) =
     ap (λ b. b || has_objects (opened ns (suc x) vs (map closed vs))) (one_opened (is_among ns x) v)

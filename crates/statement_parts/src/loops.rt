@@ -24,8 +24,8 @@ pub struct LoopHead {
     pub condition: usize,
 }
 
-/// A `for` whose condition and step stand: the exits of its body's block, the node that its turn will have, and where its
-/// condition and its step begin.
+/// A `for` whose condition and step stand: the exits of its body's block, the node that its turn will have, and where
+/// its condition and its step begin.
 #[derive(Clone, Copy)]
 pub struct ForHead {
     pub inside: Exits,
@@ -70,7 +70,8 @@ pub fn for_parts(
 ) -> Result<ForHead, AllocError>
     requires condition { greatest_height (if_any (option_map expression_of test.now)) < 2 ^ 64 }
     requires step { greatest_height (if_any (option_map expression_of step.now)) < 2 ^ 64 }
-    ensures { IfOk result (λ h. ForHeadCode variables.now code.old code.new numbers.now (option_map expression_of test.now)
+    ensures { IfOk result (λ h. ForHeadCode variables.now code.old code.new numbers.now
+        (option_map expression_of test.now)
         (option_map expression_of step.now) h x) }
 {
     let inside = leave(code, variables, numbers, x)?;

@@ -3,7 +3,7 @@ use Rattle.std.specs.List.{list_all}
 use Rattle.c_tree.specs.View.{program_of, function_of, function_type_of, static_of}
 use Rattle.source_meaning.specs.Meaning.{statics_end}
 use Rattle.program_lowering.specs.Whole.{AreFunctions, is_ready, results_of}
-use Rattle.program_lowering.proofs.InTurn.{program_from, nodes_from}
+use Rattle.program_lowering.proofs.InTurn.{program_from, weighed_from}
 use Rattle.program_lowering.proofs.Ready.{all_ready}
 use Rattle.program_lowering.proofs.program.lower.Goals as goal
 
@@ -25,6 +25,6 @@ returns c =
     let results = c.in-Ok.ensures ∙ ap (λ ts. results_of (map function_type_of ts)) c.as_slice-types.ensures in
     record {
       code = program_from p c.assembled.ensures refl bytes c.in_ok-statics.ensures.data results all;
-      nodes = nodes_from p c.assembled.ensures all;
+      weighed = weighed_from p c.assembled.ensures all;
       fault = tt;
     }

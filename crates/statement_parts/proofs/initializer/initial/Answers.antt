@@ -7,9 +7,11 @@ use Rattle.statement_parts.proofs.initializer.initial.Goals as goal
 
 pub returns-in_ok-first-in-Plain : goal.returns-in_ok-first-in-Plain
 returns-in_ok-first-in-Plain c =
-    subst (λ i. InitializerCode c.args.code.now c.expression.new.self c.args.variable (Some i) c.in_ok-first-in-Plain.first
+    subst (λ i. InitializerCode c.args.code.now c.expression.new.self c.args.variable
+    (Some i) c.in_ok-first-in-Plain.first
     c.args.next)
-    (sym (ap initializer_of c.in-Plain.is)) (initializer_plain c.in_ok-set-in-Plain.ensures c.in_ok-first-in-Plain.ensures)
+    (sym (ap initializer_of c.in-Plain.is)) (initializer_plain c.in_ok-set-in-Plain.ensures
+    c.in_ok-first-in-Plain.ensures)
 
 pub returns-in_ok-zero-in-Object : goal.returns-in_ok-zero-in-Object
 returns-in_ok-zero-in-Object c =

@@ -1,7 +1,8 @@
 use Rattle.std.proofs.Common.{◌+◌, ◌*◌, map, drop}
 use Rattle.c_tree.specs.Tree.{expressions_in}
 use Rattle.c_tree.specs.View.{expression_of, lvalue_of}
-use Rattle.expression_lowering.specs.Emitted.{ArgumentsCode, nodes, lvalue_nodes, arguments_nodes}
+use Rattle.expression_lowering.specs.Emitted.{ArgumentsCode}
+use Rattle.expression_lowering.specs.Sizes.{nodes, lvalue_nodes, arguments_nodes}
 use Rattle.expression_lowering.specs.Nodes.{node_of, lvalue_node_of}
 use Rattle.expression_lowering.specs.Shapes.{operands_in, operands_at, operands_nodes}
 use Rattle.expression_lowering.proofs.emitter.Emitter.+lowering.Given as goal
@@ -13,16 +14,16 @@ invariant-arguments-loop-i l =
 -- what is lowered has ever fewer nodes
 
 abbrev pub decreases-expression : goal.decreases-expression
-decreases-expression l = 2 * nodes (expression_of l.e.now)
+decreases-expression l = 3 * nodes (expression_of l.e.now)
 
 abbrev pub decreases-operands : goal.decreases-operands
-decreases-operands l = 2 * operands_nodes (operands_in (node_of l.node.now)) + 1
+decreases-operands l = 3 * operands_nodes (operands_in (node_of l.node.now)) + 2
 
 abbrev pub decreases-lvalue : goal.decreases-lvalue
-decreases-lvalue l = 2 * lvalue_nodes (lvalue_of l.p.now)
+decreases-lvalue l = 3 * lvalue_nodes (lvalue_of l.p.now)
 
 abbrev pub decreases-lvalue_operands : goal.decreases-lvalue_operands
-decreases-lvalue_operands l = 2 * operands_nodes (operands_at (lvalue_node_of l.node.now)) + 1
+decreases-lvalue_operands l = 3 * operands_nodes (operands_at (lvalue_node_of l.node.now)) + 2
 
 abbrev pub decreases-arguments : goal.decreases-arguments
-decreases-arguments l = 2 * arguments_nodes (expressions_in (map expression_of l.args.now))
+decreases-arguments l = 3 * arguments_nodes (expressions_in (map expression_of l.args.now)) + 1

@@ -1,0 +1,10 @@
+mod Words
+mod Expressions
+mod Statements
+mod Checked
+mod Numbers
+mod Reports
+mod Operators
+mod Blocks
+mod Functions
+mod Programs

@@ -25,7 +25,7 @@ use Rattle.c_expression_typing.specs.Constructs.{Printing, accessed, applied_to,
 use Rattle.c_expression_typing.specs.Constructs.{literal_alone, plain_name, prefixed, sized, valued}
 use Rattle.c_expression_typing.specs.Lines.{name_of, spellings}
 use Rattle.c_expression_typing.specs.Typed.{argument_values, more_values, printed_values, type_name, typed}
-use Rattle.c_typed_validity.specs.Characters.{has_characters, have_characters, more_have_characters}
+use Rattle.c_typed_validity.specs.Regular.{are_regular, is_regular, more_are_regular}
 use Rattle.c_typed_validity.specs.Sound.{Sound}
 use Rattle.c_typed_validity.specs.Steps.{Fine, FineAll, FineValue, PointerCalls, Structures, TypeNames, nothing}
 use Rattle.c_typed_validity.proofs.Constructs.{assigned_fine, combined_fine, operand_from, place_from}
@@ -144,7 +144,7 @@ module _ (scope : Scope) (last : Structures) (type_names : TypeNames scope last)
   added_fine es (u ∷ vs) v h g = (h.0, added_fine es vs v h.1 g)
 
   mutual
-    pub typed_sound : (is : Bool) (e : Expression) → has_characters e ≡ true → (s : State)
+    pub typed_sound : (is : Bool) (e : Expression) → is_regular e ≡ true → (s : State)
         → Sound scope last s nothing (Fine scope is) (typed is e s)
     typed_sound is (t.identifier x) c s = named_sound scope last is (name_of x) x.position.line s
     typed_sound is (t.integer x) c s =
@@ -201,17 +201,17 @@ module _ (scope : Scope) (last : Structures) (type_names : TypeNames scope last)
         (λ knows g covers p. operand_from scope (extents u) _ (size_fine scope (extents u) at.line (type_in o))))
     typed_sound is (t.sizeof_type at l x r) c s =
         sound_then scope last s nothing nothing_stays (λ (es : Structures) (type : List TypeWord). Unit {0})
-        (Fine scope is) (type_name x s) (λ type. judged (sized at.line type)) (type_names.each x s)
+        (Fine scope is) (type_name x s) (λ type. judged (sized at.line type)) (type_names.each x c s)
         (λ u type. judged_sound scope last u
         (both nothing (λ (es : Structures) (type : List TypeWord). Unit {0}) type) is (sized at.line type u)
         (λ knows g covers p. operand_from scope (extents u) _ (size_fine scope (extents u) at.line type)))
     typed_sound is (t.cast l x r e) c s =
         sound_then scope last s nothing nothing_stays (λ (es : Structures) (type : List TypeWord). Unit {0})
         (Fine scope is) (type_name x s) (λ type. valued (typed is e) >>> λ v. judged (cast_to l.line type v))
-        (type_names.each x s)
+        (type_names.each x (first _ _ c) s)
         (λ u type. value_then u (both nothing (λ (es : Structures) (type : List TypeWord). Unit {0}) type)
         (both_stay nothing (λ (es : Structures) (type : List TypeWord). Unit {0}) type nothing_stays
-        (λ es more h g. tt)) is (typed is e) (typed_sound is e c u) (Fine scope is)
+        (λ es more h g. tt)) is (typed is e) (typed_sound is e (second _ _ c) u) (Fine scope is)
         (λ v. judged (cast_to l.line type v))
         (λ w v. judged_sound scope last w
         (both (both nothing (λ (es : Structures) (type : List TypeWord). Unit {0}) type) (FineValue scope is) v) is
@@ -254,7 +254,7 @@ module _ (scope : Scope) (last : Structures) (type_names : TypeNames scope last)
         (assigned_by (assignment_form_of w) at.line o v z)
         (λ knows g covers p. assigned_fine scope (assignment_form_of w) at.line o v z (g.0.1 p) (g.1 p))))
 
-    arguments_sound : (is : Bool) (args : Arguments) → have_characters args ≡ true → (s : State)
+    arguments_sound : (is : Bool) (args : Arguments) → are_regular args ≡ true → (s : State)
         → Sound scope last s nothing (FineAll scope is) (argument_values is args s)
     arguments_sound is t.no_arguments c s = done_sound scope last s nothing (FineAll scope is) [] (λ g p. tt)
     arguments_sound is (t.arguments e more) c s =
@@ -264,7 +264,7 @@ module _ (scope : Scope) (last : Structures) (type_names : TypeNames scope last)
         (FineAll scope is) (more_values is more (v ∷ []) u) (λ g p. (g.1 p, tt))
         (more_sound is more (second _ _ c) (v ∷ []) u))
 
-    more_sound : (is : Bool) (more : MoreArguments) → more_have_characters more ≡ true → (vs : List Value) (s : State)
+    more_sound : (is : Bool) (more : MoreArguments) → more_are_regular more ≡ true → (vs : List Value) (s : State)
         → Sound scope last s (λ es. FineAll scope is es vs) (FineAll scope is) (more_values is more vs s)
     more_sound is t.end_of_arguments c vs s =
         done_sound scope last s (λ es. FineAll scope is es vs) (FineAll scope is) vs (λ g. g)
@@ -276,7 +276,7 @@ module _ (scope : Scope) (last : Structures) (type_names : TypeNames scope last)
         (more_values is more (vs ++ v ∷ []) u)
         (λ g p. added_fine (extents u) vs v (g.0 p) (g.1 p, tt)) (more_sound is more (second _ _ c) (vs ++ v ∷ []) u))
 
-    printed_sound_in : (is : Bool) (args : Arguments) → have_characters args ≡ true → (s : State)
+    printed_sound_in : (is : Bool) (args : Arguments) → are_regular args ≡ true → (s : State)
         → Sound scope last s nothing (FinePrinting is) (printed_values is args s)
     printed_sound_in is t.no_arguments c s =
         done_sound scope last s nothing (FinePrinting is) (record { format = None; values = [] }) (λ g p. tt)

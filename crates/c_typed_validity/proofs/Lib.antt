@@ -1,3 +1,4 @@
+pub mod Constants
 pub mod Constructs
 pub mod Expressions
 pub mod Kept

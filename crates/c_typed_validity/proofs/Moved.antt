@@ -61,7 +61,14 @@ keeps_marks scope last s formed taken undefined unused = record {
     members = record { each = k.members.each };
   };
   pending = λ n p. record { begun = p.begun; incomplete = p.incomplete };
-  formed = record { same = formed.same; begun = formed.begun; tags = formed.tags };
+  formed = record {
+    same = formed.same;
+    begun = formed.begun;
+    sizes = formed.sizes;
+    tags = formed.tags;
+    constants = formed.constants;
+    typedefs = formed.typedefs;
+  };
   undefined = unused;
 }
 
@@ -119,7 +126,14 @@ literal_keeps scope last bytes s formed = record {
     members = record { each = k.members.each };
   };
   pending = λ n p. record { begun = p.begun; incomplete = p.incomplete };
-  formed = record { same = formed.same; begun = formed.begun; tags = formed.tags };
+  formed = record {
+    same = formed.same;
+    begun = formed.begun;
+    sizes = formed.sizes;
+    tags = formed.tags;
+    constants = formed.constants;
+    typedefs = formed.typedefs;
+  };
   undefined = λ e. e;
 }
 

@@ -282,7 +282,14 @@ type_keeps_by scope last type s formed false = record {
     members = record { each = k.members.each };
   };
   pending = λ n p. record { begun = p.begun; incomplete = p.incomplete };
-  formed = record { same = formed.same; begun = formed.begun; tags = formed.tags };
+  formed = record {
+    same = formed.same;
+    begun = formed.begun;
+    sizes = formed.sizes;
+    tags = formed.tags;
+    constants = formed.constants;
+    typedefs = formed.typedefs;
+  };
   undefined = λ e. e;
 }
 

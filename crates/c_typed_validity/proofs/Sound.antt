@@ -17,13 +17,13 @@ Stays p = (es more : Structures) → AreMore es more → p es → p more
 pub same_more : (es : Structures) → AreMore es es
 same_more es = record { kept = λ n e is. is }
 
-more_more : (es more most : Structures) → AreMore es more → AreMore more most → AreMore es most
+pub more_more : (es more most : Structures) → AreMore es more → AreMore more most → AreMore es most
 more_more es more most h g = record { kept = λ n e is. g.kept n e (h.kept n e is) }
 
 pub same_list : {A : Type 0} (xs : List A) → Extended xs xs
 same_list xs = record { rest = []; is = sym (append-nil xs) }
 
-longer_list : {A : Type 0} (xs ys zs : List A) → Extended xs ys → Extended ys zs → Extended xs zs
+pub longer_list : {A : Type 0} (xs ys zs : List A) → Extended xs ys → Extended ys zs → Extended xs zs
 longer_list xs ys zs h g =
     record { rest = h.rest ++ g.rest; is = g.is ∙ ap (λ z. z ++ g.rest) h.is ∙ append_assoc xs h.rest g.rest }
 

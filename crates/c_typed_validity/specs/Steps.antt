@@ -12,6 +12,7 @@ use Rattle.c_call_rules.specs.FineCalls.{AreFine}
 use Rattle.c_typing.specs.Calls.{pointer_applied}
 use Rattle.c_typing.specs.State.{State}
 use Rattle.c_expression_typing.specs.Typed.{type_name}
+use Rattle.c_typed_validity.specs.Regular.{is_regular_name}
 use Rattle.c_typed_validity.specs.Sound.{Sound}
 
 abbrev pub Structures : Type 0
@@ -33,7 +34,7 @@ FineAll scope is es vs = is ≡ true → AreFine scope es vs
 
 -- type names keep what is known
 pub record TypeNames (scope : Scope) (last : Structures) : Type 0 where
-  pub each : (x : TypedDeclarator) (s : State)
+  pub each : (x : TypedDeclarator) → is_regular_name x ≡ true → (s : State)
       → Sound scope last s nothing (λ (es : Structures) (type : List TypeWord). Unit {0}) (type_name x s)
 
 -- calls through pointers give what is valid

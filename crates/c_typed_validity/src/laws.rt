@@ -14,7 +14,7 @@ ghost use Rattle.c_typing.specs.State.{State, extents, judged};
 ghost use Rattle.c_syntax.specs.Tree.{Expression};
 ghost use Rattle.c_expression_typing.specs.Typed.{typed};
 ghost use Rattle.c_expression_typing.specs.Constructs.{cast_to, chosen, prefixed, sized};
-ghost use Rattle.c_typed_validity.specs.Characters.{has_characters};
+ghost use Rattle.c_typed_validity.specs.Regular.{is_regular};
 ghost use Rattle.c_typed_validity.specs.Sound.{Sound};
 ghost use Rattle.c_typed_validity.specs.Steps.{Fine, Structures, TypeNames, nothing};
 ghost use Rattle.c_typed_validity.specs.Typed.{IfTyped, IfValued};
@@ -83,6 +83,6 @@ pub fn constants_are_valid()
 /// define. That type names keep what is known is taken as it is.
 pub fn expressions_are_typed_to_valid_trees()
     ensures { (scope : Scope) (last : Structures) → TypeNames scope last
-        → (is_evaluated : Bool) (e : Expression) → has_characters e ≡ true → (s : State)
+        → (is_evaluated : Bool) (e : Expression) → is_regular e ≡ true → (s : State)
         → Sound scope last s nothing (Fine scope is_evaluated) (typed is_evaluated e s) }
 {}

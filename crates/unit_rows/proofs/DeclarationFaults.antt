@@ -11,7 +11,8 @@ use Rattle.obj_memory.specs.Integers.{balanced_type, common_type, fit, is_signed
 use Rattle.obj_memory.specs.Integers.{unsigned_of}
 use Rattle.obj_memory.specs.Operators.{binary_value, shift_amount, unary_value}
 use Rattle.c_lexer.specs.Constants.{constant_in, constant_of, greatest_of, suffix_of, typed, types_of}
-use Rattle.c_lexer.specs.Literals.{bytes_of_literal, character_value, characters_of, escaped, literal_step, next_character}
+use Rattle.c_lexer.specs.Literals.{bytes_of_literal, character_value, characters_of, escaped, literal_step}
+use Rattle.c_lexer.specs.Literals.{next_character}
 use Rattle.c_tree.specs.Extents.{extent_of}
 use Rattle.c_tree.specs.Layout.{array_size, member_offsets, structure_of, union_of}
 use Rattle.c_tree.specs.Room.{room}
@@ -46,12 +47,12 @@ static_of_unknown_size :
     (at 1) (Some (t.integer (spelled (codes "0") 1))) (at 1))) s.no_items) (at 1))) ∷ []) 1)
     ≡ refused rule.Incomplete 1
 unfolding balanced_type common_type fit is_signed mixed_type promoted rank size_of unsigned_of binary_value
-    shift_amount unary_value constant_in constant_of greatest_of suffix_of typed types_of bytes_of_literal character_value
-    characters_of escaped literal_step next_character extent_of array_size member_offsets structure_of union_of room
-    is_valid_program constant_word binary assigned cast row_of comma combined unary dereferenced indexed size_of_words
-    assignment compound stepped condition conditional switch_value called called_through routine_words composite judged
-    start reached reached_by reached_in element_number member_number number_behind part closed opened with_literal
-    with_value without typed_unit
+    shift_amount unary_value constant_in constant_of greatest_of suffix_of typed types_of bytes_of_literal
+    character_value characters_of escaped literal_step next_character extent_of array_size member_offsets structure_of
+    union_of room is_valid_program constant_word binary assigned cast row_of comma combined unary dereferenced indexed
+    size_of_words assignment compound stepped condition conditional switch_value called called_through routine_words
+    composite judged start reached reached_by reached_in element_number member_number number_behind part closed opened
+    with_literal with_value without typed_unit
 static_of_unknown_size = refl
 
 -- struct S s;int n=
@@ -73,12 +74,12 @@ not_yet_complete :
     (at 2))) ∷ []) 2)
     ≡ refused rule.Incomplete 2
 unfolding balanced_type common_type fit is_signed mixed_type promoted rank size_of unsigned_of binary_value
-    shift_amount unary_value constant_in constant_of greatest_of suffix_of typed types_of bytes_of_literal character_value
-    characters_of escaped literal_step next_character extent_of array_size member_offsets structure_of union_of room
-    is_valid_program constant_word binary assigned cast row_of comma combined unary dereferenced indexed size_of_words
-    assignment compound stepped condition conditional switch_value called called_through routine_words composite judged
-    start reached reached_by reached_in element_number member_number number_behind part closed opened with_literal
-    with_value without typed_unit
+    shift_amount unary_value constant_in constant_of greatest_of suffix_of typed types_of bytes_of_literal
+    character_value characters_of escaped literal_step next_character extent_of array_size member_offsets structure_of
+    union_of room is_valid_program constant_word binary assigned cast row_of comma combined unary dereferenced indexed
+    size_of_words assignment compound stepped condition conditional switch_value called called_through routine_words
+    composite judged start reached reached_by reached_in element_number member_number number_behind part closed opened
+    with_literal with_value without typed_unit
 not_yet_complete = refl
 
 -- struct S s;int main(void){return 0;}
@@ -90,12 +91,12 @@ never_complete :
     (spelled (codes "0") 1))) (at 1))) s.no_items) (at 1))) ∷ []) 1)
     ≡ refused rule.Incomplete 1
 unfolding balanced_type common_type fit is_signed mixed_type promoted rank size_of unsigned_of binary_value
-    shift_amount unary_value constant_in constant_of greatest_of suffix_of typed types_of bytes_of_literal character_value
-    characters_of escaped literal_step next_character extent_of array_size member_offsets structure_of union_of room
-    is_valid_program constant_word binary assigned cast row_of comma combined unary dereferenced indexed size_of_words
-    assignment compound stepped condition conditional switch_value called called_through routine_words composite judged
-    start reached reached_by reached_in element_number member_number number_behind part closed opened with_literal
-    with_value without typed_unit
+    shift_amount unary_value constant_in constant_of greatest_of suffix_of typed types_of bytes_of_literal
+    character_value characters_of escaped literal_step next_character extent_of array_size member_offsets structure_of
+    union_of room is_valid_program constant_word binary assigned cast row_of comma combined unary dereferenced indexed
+    size_of_words assignment compound stepped condition conditional switch_value called called_through routine_words
+    composite judged start reached reached_by reached_in element_number member_number number_behind part closed opened
+    with_literal with_value without typed_unit
 never_complete = refl
 
 -- int main(void){void
@@ -108,12 +109,12 @@ of_void :
     (at 2))) ∷ []) 2)
     ≡ refused rule.Incomplete 2
 unfolding balanced_type common_type fit is_signed mixed_type promoted rank size_of unsigned_of binary_value
-    shift_amount unary_value constant_in constant_of greatest_of suffix_of typed types_of bytes_of_literal character_value
-    characters_of escaped literal_step next_character extent_of array_size member_offsets structure_of union_of room
-    is_valid_program constant_word binary assigned cast row_of comma combined unary dereferenced indexed size_of_words
-    assignment compound stepped condition conditional switch_value called called_through routine_words composite judged
-    start reached reached_by reached_in element_number member_number number_behind part closed opened with_literal
-    with_value without typed_unit
+    shift_amount unary_value constant_in constant_of greatest_of suffix_of typed types_of bytes_of_literal
+    character_value characters_of escaped literal_step next_character extent_of array_size member_offsets structure_of
+    union_of room is_valid_program constant_word binary assigned cast row_of comma combined unary dereferenced indexed
+    size_of_words assignment compound stepped condition conditional switch_value called called_through routine_words
+    composite judged start reached reached_by reached_in element_number member_number number_behind part closed opened
+    with_literal with_value without typed_unit
 of_void = refl
 
 -- int x;
@@ -127,12 +128,12 @@ other_type :
     (Some (t.integer (spelled (codes "0") 2))) (at 2))) s.no_items) (at 2))) ∷ []) 2)
     ≡ refused rule.Redeclared 2
 unfolding balanced_type common_type fit is_signed mixed_type promoted rank size_of unsigned_of binary_value
-    shift_amount unary_value constant_in constant_of greatest_of suffix_of typed types_of bytes_of_literal character_value
-    characters_of escaped literal_step next_character extent_of array_size member_offsets structure_of union_of room
-    is_valid_program constant_word binary assigned cast row_of comma combined unary dereferenced indexed size_of_words
-    assignment compound stepped condition conditional switch_value called called_through routine_words composite judged
-    start reached reached_by reached_in element_number member_number number_behind part closed opened with_literal
-    with_value without typed_unit
+    shift_amount unary_value constant_in constant_of greatest_of suffix_of typed types_of bytes_of_literal
+    character_value characters_of escaped literal_step next_character extent_of array_size member_offsets structure_of
+    union_of room is_valid_program constant_word binary assigned cast row_of comma combined unary dereferenced indexed
+    size_of_words assignment compound stepped condition conditional switch_value called called_through routine_words
+    composite judged start reached reached_by reached_in element_number member_number number_behind part closed opened
+    with_literal with_value without typed_unit
 other_type = refl
 
 -- const int x;
@@ -147,12 +148,12 @@ other_qualifier :
     s.no_items) (at 2))) ∷ []) 2)
     ≡ refused rule.Redeclared 2
 unfolding balanced_type common_type fit is_signed mixed_type promoted rank size_of unsigned_of binary_value
-    shift_amount unary_value constant_in constant_of greatest_of suffix_of typed types_of bytes_of_literal character_value
-    characters_of escaped literal_step next_character extent_of array_size member_offsets structure_of union_of room
-    is_valid_program constant_word binary assigned cast row_of comma combined unary dereferenced indexed size_of_words
-    assignment compound stepped condition conditional switch_value called called_through routine_words composite judged
-    start reached reached_by reached_in element_number member_number number_behind part closed opened with_literal
-    with_value without typed_unit
+    shift_amount unary_value constant_in constant_of greatest_of suffix_of typed types_of bytes_of_literal
+    character_value characters_of escaped literal_step next_character extent_of array_size member_offsets structure_of
+    union_of room is_valid_program constant_word binary assigned cast row_of comma combined unary dereferenced indexed
+    size_of_words assignment compound stepped condition conditional switch_value called called_through routine_words
+    composite judged start reached reached_by reached_in element_number member_number number_behind part closed opened
+    with_literal with_value without typed_unit
 other_qualifier = refl
 
 -- int f(void){return 0;}
@@ -168,12 +169,12 @@ defined_twice :
     (t.integer (spelled (codes "0") 2))) (at 2))) s.no_items) (at 2))) ∷ []) 2)
     ≡ refused rule.Redeclared 2
 unfolding balanced_type common_type fit is_signed mixed_type promoted rank size_of unsigned_of binary_value
-    shift_amount unary_value constant_in constant_of greatest_of suffix_of typed types_of bytes_of_literal character_value
-    characters_of escaped literal_step next_character extent_of array_size member_offsets structure_of union_of room
-    is_valid_program constant_word binary assigned cast row_of comma combined unary dereferenced indexed size_of_words
-    assignment compound stepped condition conditional switch_value called called_through routine_words composite judged
-    start reached reached_by reached_in element_number member_number number_behind part closed opened with_literal
-    with_value without typed_unit
+    shift_amount unary_value constant_in constant_of greatest_of suffix_of typed types_of bytes_of_literal
+    character_value characters_of escaped literal_step next_character extent_of array_size member_offsets structure_of
+    union_of room is_valid_program constant_word binary assigned cast row_of comma combined unary dereferenced indexed
+    size_of_words assignment compound stepped condition conditional switch_value called called_through routine_words
+    composite judged start reached reached_by reached_in element_number member_number number_behind part closed opened
+    with_literal with_value without typed_unit
 defined_twice = refl
 
 -- int
@@ -188,12 +189,12 @@ library_defined :
     s.no_items) (at 2))) ∷ []) 2)
     ≡ refused rule.Redeclared 2
 unfolding balanced_type common_type fit is_signed mixed_type promoted rank size_of unsigned_of binary_value
-    shift_amount unary_value constant_in constant_of greatest_of suffix_of typed types_of bytes_of_literal character_value
-    characters_of escaped literal_step next_character extent_of array_size member_offsets structure_of union_of room
-    is_valid_program constant_word binary assigned cast row_of comma combined unary dereferenced indexed size_of_words
-    assignment compound stepped condition conditional switch_value called called_through routine_words composite judged
-    start reached reached_by reached_in element_number member_number number_behind part closed opened with_literal
-    with_value without typed_unit
+    shift_amount unary_value constant_in constant_of greatest_of suffix_of typed types_of bytes_of_literal
+    character_value characters_of escaped literal_step next_character extent_of array_size member_offsets structure_of
+    union_of room is_valid_program constant_word binary assigned cast row_of comma combined unary dereferenced indexed
+    size_of_words assignment compound stepped condition conditional switch_value called called_through routine_words
+    composite judged start reached reached_by reached_in element_number member_number number_behind part closed opened
+    with_literal with_value without typed_unit
 library_defined = refl
 
 -- int f(int x,
@@ -209,12 +210,12 @@ parameters_of_one_name :
     s.no_items) (at 2))) ∷ []) 2)
     ≡ refused rule.Redeclared 2
 unfolding balanced_type common_type fit is_signed mixed_type promoted rank size_of unsigned_of binary_value
-    shift_amount unary_value constant_in constant_of greatest_of suffix_of typed types_of bytes_of_literal character_value
-    characters_of escaped literal_step next_character extent_of array_size member_offsets structure_of union_of room
-    is_valid_program constant_word binary assigned cast row_of comma combined unary dereferenced indexed size_of_words
-    assignment compound stepped condition conditional switch_value called called_through routine_words composite judged
-    start reached reached_by reached_in element_number member_number number_behind part closed opened with_literal
-    with_value without typed_unit
+    shift_amount unary_value constant_in constant_of greatest_of suffix_of typed types_of bytes_of_literal
+    character_value characters_of escaped literal_step next_character extent_of array_size member_offsets structure_of
+    union_of room is_valid_program constant_word binary assigned cast row_of comma combined unary dereferenced indexed
+    size_of_words assignment compound stepped condition conditional switch_value called called_through routine_words
+    composite judged start reached reached_by reached_in element_number member_number number_behind part closed opened
+    with_literal with_value without typed_unit
 parameters_of_one_name = refl
 
 -- int x;int main(void){int x;
@@ -230,12 +231,12 @@ local_and_extern :
     (t.integer (spelled (codes "0") 2))) (at 2))) s.no_items))) (at 2))) ∷ []) 2)
     ≡ refused rule.Redeclared 2
 unfolding balanced_type common_type fit is_signed mixed_type promoted rank size_of unsigned_of binary_value
-    shift_amount unary_value constant_in constant_of greatest_of suffix_of typed types_of bytes_of_literal character_value
-    characters_of escaped literal_step next_character extent_of array_size member_offsets structure_of union_of room
-    is_valid_program constant_word binary assigned cast row_of comma combined unary dereferenced indexed size_of_words
-    assignment compound stepped condition conditional switch_value called called_through routine_words composite judged
-    start reached reached_by reached_in element_number member_number number_behind part closed opened with_literal
-    with_value without typed_unit
+    shift_amount unary_value constant_in constant_of greatest_of suffix_of typed types_of bytes_of_literal
+    character_value characters_of escaped literal_step next_character extent_of array_size member_offsets structure_of
+    union_of room is_valid_program constant_word binary assigned cast row_of comma combined unary dereferenced indexed
+    size_of_words assignment compound stepped condition conditional switch_value called called_through routine_words
+    composite judged start reached reached_by reached_in element_number member_number number_behind part closed opened
+    with_literal with_value without typed_unit
 local_and_extern = refl
 
 -- int f(int x){
@@ -251,12 +252,12 @@ parameter_and_local :
     (t.integer (spelled (codes "0") 2))) (at 2))) s.no_items) (at 2))) ∷ []) 2)
     ≡ refused rule.Redeclared 2
 unfolding balanced_type common_type fit is_signed mixed_type promoted rank size_of unsigned_of binary_value
-    shift_amount unary_value constant_in constant_of greatest_of suffix_of typed types_of bytes_of_literal character_value
-    characters_of escaped literal_step next_character extent_of array_size member_offsets structure_of union_of room
-    is_valid_program constant_word binary assigned cast row_of comma combined unary dereferenced indexed size_of_words
-    assignment compound stepped condition conditional switch_value called called_through routine_words composite judged
-    start reached reached_by reached_in element_number member_number number_behind part closed opened with_literal
-    with_value without typed_unit
+    shift_amount unary_value constant_in constant_of greatest_of suffix_of typed types_of bytes_of_literal
+    character_value characters_of escaped literal_step next_character extent_of array_size member_offsets structure_of
+    union_of room is_valid_program constant_word binary assigned cast row_of comma combined unary dereferenced indexed
+    size_of_words assignment compound stepped condition conditional switch_value called called_through routine_words
+    composite judged start reached reached_by reached_in element_number member_number number_behind part closed opened
+    with_literal with_value without typed_unit
 parameter_and_local = refl
 
 -- void f(void){extern char x;}
@@ -272,12 +273,12 @@ types_of_an_entity :
     (s.return (at 2) (Some (t.integer (spelled (codes "0") 2))) (at 2))) s.no_items) (at 2))) ∷ []) 2)
     ≡ refused rule.Redeclared 2
 unfolding balanced_type common_type fit is_signed mixed_type promoted rank size_of unsigned_of binary_value
-    shift_amount unary_value constant_in constant_of greatest_of suffix_of typed types_of bytes_of_literal character_value
-    characters_of escaped literal_step next_character extent_of array_size member_offsets structure_of union_of room
-    is_valid_program constant_word binary assigned cast row_of comma combined unary dereferenced indexed size_of_words
-    assignment compound stepped condition conditional switch_value called called_through routine_words composite judged
-    start reached reached_by reached_in element_number member_number number_behind part closed opened with_literal
-    with_value without typed_unit
+    shift_amount unary_value constant_in constant_of greatest_of suffix_of typed types_of bytes_of_literal
+    character_value characters_of escaped literal_step next_character extent_of array_size member_offsets structure_of
+    union_of room is_valid_program constant_word binary assigned cast row_of comma combined unary dereferenced indexed
+    size_of_words assignment compound stepped condition conditional switch_value called called_through routine_words
+    composite judged start reached reached_by reached_in element_number member_number number_behind part closed opened
+    with_literal with_value without typed_unit
 types_of_an_entity = refl
 
 -- struct S{int a;};
@@ -293,12 +294,12 @@ tag_of_another_kind :
     (Some (t.integer (spelled (codes "0") 2))) (at 2))) s.no_items) (at 2))) ∷ []) 2)
     ≡ refused rule.MistakenTag 2
 unfolding balanced_type common_type fit is_signed mixed_type promoted rank size_of unsigned_of binary_value
-    shift_amount unary_value constant_in constant_of greatest_of suffix_of typed types_of bytes_of_literal character_value
-    characters_of escaped literal_step next_character extent_of array_size member_offsets structure_of union_of room
-    is_valid_program constant_word binary assigned cast row_of comma combined unary dereferenced indexed size_of_words
-    assignment compound stepped condition conditional switch_value called called_through routine_words composite judged
-    start reached reached_by reached_in element_number member_number number_behind part closed opened with_literal
-    with_value without typed_unit
+    shift_amount unary_value constant_in constant_of greatest_of suffix_of typed types_of bytes_of_literal
+    character_value characters_of escaped literal_step next_character extent_of array_size member_offsets structure_of
+    union_of room is_valid_program constant_word binary assigned cast row_of comma combined unary dereferenced indexed
+    size_of_words assignment compound stepped condition conditional switch_value called called_through routine_words
+    composite judged start reached reached_by reached_in element_number member_number number_behind part closed opened
+    with_literal with_value without typed_unit
 tag_of_another_kind = refl
 
 -- int f(void)[2];int main(void){return 0;}
@@ -311,12 +312,12 @@ result_is_an_array :
     s.no_items) (at 1))) ∷ []) 1)
     ≡ refused rule.MisplacedFunction 1
 unfolding balanced_type common_type fit is_signed mixed_type promoted rank size_of unsigned_of binary_value
-    shift_amount unary_value constant_in constant_of greatest_of suffix_of typed types_of bytes_of_literal character_value
-    characters_of escaped literal_step next_character extent_of array_size member_offsets structure_of union_of room
-    is_valid_program constant_word binary assigned cast row_of comma combined unary dereferenced indexed size_of_words
-    assignment compound stepped condition conditional switch_value called called_through routine_words composite judged
-    start reached reached_by reached_in element_number member_number number_behind part closed opened with_literal
-    with_value without typed_unit
+    shift_amount unary_value constant_in constant_of greatest_of suffix_of typed types_of bytes_of_literal
+    character_value characters_of escaped literal_step next_character extent_of array_size member_offsets structure_of
+    union_of room is_valid_program constant_word binary assigned cast row_of comma combined unary dereferenced indexed
+    size_of_words assignment compound stepped condition conditional switch_value called called_through routine_words
+    composite judged start reached reached_by reached_in element_number member_number number_behind part closed opened
+    with_literal with_value without typed_unit
 result_is_an_array = refl
 
 -- struct S;
@@ -331,12 +332,12 @@ result_is_incomplete :
     2)
     ≡ refused rule.Incomplete 2
 unfolding balanced_type common_type fit is_signed mixed_type promoted rank size_of unsigned_of binary_value
-    shift_amount unary_value constant_in constant_of greatest_of suffix_of typed types_of bytes_of_literal character_value
-    characters_of escaped literal_step next_character extent_of array_size member_offsets structure_of union_of room
-    is_valid_program constant_word binary assigned cast row_of comma combined unary dereferenced indexed size_of_words
-    assignment compound stepped condition conditional switch_value called called_through routine_words composite judged
-    start reached reached_by reached_in element_number member_number number_behind part closed opened with_literal
-    with_value without typed_unit
+    shift_amount unary_value constant_in constant_of greatest_of suffix_of typed types_of bytes_of_literal
+    character_value characters_of escaped literal_step next_character extent_of array_size member_offsets structure_of
+    union_of room is_valid_program constant_word binary assigned cast row_of comma combined unary dereferenced indexed
+    size_of_words assignment compound stepped condition conditional switch_value called called_through routine_words
+    composite judged start reached reached_by reached_in element_number member_number number_behind part closed opened
+    with_literal with_value without typed_unit
 result_is_incomplete = refl
 
 -- struct S;int f(struct S s){return 0;}int main(void){return 0;}
@@ -351,12 +352,12 @@ parameter_is_incomplete :
     (spelled (codes "0") 1))) (at 1))) s.no_items) (at 1))) ∷ []) 1)
     ≡ refused rule.Incomplete 1
 unfolding balanced_type common_type fit is_signed mixed_type promoted rank size_of unsigned_of binary_value
-    shift_amount unary_value constant_in constant_of greatest_of suffix_of typed types_of bytes_of_literal character_value
-    characters_of escaped literal_step next_character extent_of array_size member_offsets structure_of union_of room
-    is_valid_program constant_word binary assigned cast row_of comma combined unary dereferenced indexed size_of_words
-    assignment compound stepped condition conditional switch_value called called_through routine_words composite judged
-    start reached reached_by reached_in element_number member_number number_behind part closed opened with_literal
-    with_value without typed_unit
+    shift_amount unary_value constant_in constant_of greatest_of suffix_of typed types_of bytes_of_literal
+    character_value characters_of escaped literal_step next_character extent_of array_size member_offsets structure_of
+    union_of room is_valid_program constant_word binary assigned cast row_of comma combined unary dereferenced indexed
+    size_of_words assignment compound stepped condition conditional switch_value called called_through routine_words
+    composite judged start reached reached_by reached_in element_number member_number number_behind part closed opened
+    with_literal with_value without typed_unit
 parameter_is_incomplete = refl
 
 -- int n;int a[
@@ -371,12 +372,12 @@ no_size :
     s.no_items) (at 2))) ∷ []) 2)
     ≡ refused rule.NoConstant 1
 unfolding balanced_type common_type fit is_signed mixed_type promoted rank size_of unsigned_of binary_value
-    shift_amount unary_value constant_in constant_of greatest_of suffix_of typed types_of bytes_of_literal character_value
-    characters_of escaped literal_step next_character extent_of array_size member_offsets structure_of union_of room
-    is_valid_program constant_word binary assigned cast row_of comma combined unary dereferenced indexed size_of_words
-    assignment compound stepped condition conditional switch_value called called_through routine_words composite judged
-    start reached reached_by reached_in element_number member_number number_behind part closed opened with_literal
-    with_value without typed_unit
+    shift_amount unary_value constant_in constant_of greatest_of suffix_of typed types_of bytes_of_literal
+    character_value characters_of escaped literal_step next_character extent_of array_size member_offsets structure_of
+    union_of room is_valid_program constant_word binary assigned cast row_of comma combined unary dereferenced indexed
+    size_of_words assignment compound stepped condition conditional switch_value called called_through routine_words
+    composite judged start reached reached_by reached_in element_number member_number number_behind part closed opened
+    with_literal with_value without typed_unit
 no_size = refl
 
 -- char a[4294967297];int main(void){return 0;}
@@ -388,12 +389,12 @@ large_array :
     (s.return (at 1) (Some (t.integer (spelled (codes "0") 1))) (at 1))) s.no_items) (at 1))) ∷ []) 1)
     ≡ refused rule.LargeType 1
 unfolding balanced_type common_type fit is_signed mixed_type promoted rank size_of unsigned_of binary_value
-    shift_amount unary_value constant_in constant_of greatest_of suffix_of typed types_of bytes_of_literal character_value
-    characters_of escaped literal_step next_character extent_of array_size member_offsets structure_of union_of room
-    is_valid_program constant_word binary assigned cast row_of comma combined unary dereferenced indexed size_of_words
-    assignment compound stepped condition conditional switch_value called called_through routine_words composite judged
-    start reached reached_by reached_in element_number member_number number_behind part closed opened with_literal
-    with_value without typed_unit
+    shift_amount unary_value constant_in constant_of greatest_of suffix_of typed types_of bytes_of_literal
+    character_value characters_of escaped literal_step next_character extent_of array_size member_offsets structure_of
+    union_of room is_valid_program constant_word binary assigned cast row_of comma combined unary dereferenced indexed
+    size_of_words assignment compound stepped condition conditional switch_value called called_through routine_words
+    composite judged start reached reached_by reached_in element_number member_number number_behind part closed opened
+    with_literal with_value without typed_unit
 large_array = refl
 
 -- auto
@@ -406,12 +407,12 @@ auto_in_a_file :
     (spelled (codes "0") 2))) (at 2))) s.no_items) (at 2))) ∷ []) 2)
     ≡ refused rule.MisplacedStorage 1
 unfolding balanced_type common_type fit is_signed mixed_type promoted rank size_of unsigned_of binary_value
-    shift_amount unary_value constant_in constant_of greatest_of suffix_of typed types_of bytes_of_literal character_value
-    characters_of escaped literal_step next_character extent_of array_size member_offsets structure_of union_of room
-    is_valid_program constant_word binary assigned cast row_of comma combined unary dereferenced indexed size_of_words
-    assignment compound stepped condition conditional switch_value called called_through routine_words composite judged
-    start reached reached_by reached_in element_number member_number number_behind part closed opened with_literal
-    with_value without typed_unit
+    shift_amount unary_value constant_in constant_of greatest_of suffix_of typed types_of bytes_of_literal
+    character_value characters_of escaped literal_step next_character extent_of array_size member_offsets structure_of
+    union_of room is_valid_program constant_word binary assigned cast row_of comma combined unary dereferenced indexed
+    size_of_words assignment compound stepped condition conditional switch_value called called_through routine_words
+    composite judged start reached reached_by reached_in element_number member_number number_behind part closed opened
+    with_literal with_value without typed_unit
 auto_in_a_file = refl
 
 -- static extern
@@ -424,12 +425,12 @@ two_storages :
     (s.return (at 2) (Some (t.integer (spelled (codes "0") 2))) (at 2))) s.no_items) (at 2))) ∷ []) 2)
     ≡ refused rule.MisplacedStorage 1
 unfolding balanced_type common_type fit is_signed mixed_type promoted rank size_of unsigned_of binary_value
-    shift_amount unary_value constant_in constant_of greatest_of suffix_of typed types_of bytes_of_literal character_value
-    characters_of escaped literal_step next_character extent_of array_size member_offsets structure_of union_of room
-    is_valid_program constant_word binary assigned cast row_of comma combined unary dereferenced indexed size_of_words
-    assignment compound stepped condition conditional switch_value called called_through routine_words composite judged
-    start reached reached_by reached_in element_number member_number number_behind part closed opened with_literal
-    with_value without typed_unit
+    shift_amount unary_value constant_in constant_of greatest_of suffix_of typed types_of bytes_of_literal
+    character_value characters_of escaped literal_step next_character extent_of array_size member_offsets structure_of
+    union_of room is_valid_program constant_word binary assigned cast row_of comma combined unary dereferenced indexed
+    size_of_words assignment compound stepped condition conditional switch_value called called_through routine_words
+    composite judged start reached reached_by reached_in element_number member_number number_behind part closed opened
+    with_literal with_value without typed_unit
 two_storages = refl
 
 -- extern int
@@ -442,12 +443,12 @@ extern_undefined :
     (spelled (codes "0") 2))) (at 2))) s.no_items) (at 2))) ∷ []) 2)
     ≡ refused rule.MisplacedStorage 2
 unfolding balanced_type common_type fit is_signed mixed_type promoted rank size_of unsigned_of binary_value
-    shift_amount unary_value constant_in constant_of greatest_of suffix_of typed types_of bytes_of_literal character_value
-    characters_of escaped literal_step next_character extent_of array_size member_offsets structure_of union_of room
-    is_valid_program constant_word binary assigned cast row_of comma combined unary dereferenced indexed size_of_words
-    assignment compound stepped condition conditional switch_value called called_through routine_words composite judged
-    start reached reached_by reached_in element_number member_number number_behind part closed opened with_literal
-    with_value without typed_unit
+    shift_amount unary_value constant_in constant_of greatest_of suffix_of typed types_of bytes_of_literal
+    character_value characters_of escaped literal_step next_character extent_of array_size member_offsets structure_of
+    union_of room is_valid_program constant_word binary assigned cast row_of comma combined unary dereferenced indexed
+    size_of_words assignment compound stepped condition conditional switch_value called called_through routine_words
+    composite judged start reached reached_by reached_in element_number member_number number_behind part closed opened
+    with_literal with_value without typed_unit
 extern_undefined = refl
 
 -- int x;int main(void){extern int x=
@@ -465,12 +466,12 @@ extern_with_initializer :
     (t.integer (spelled (codes "0") 2))) (at 2))) s.no_items)) (at 2))) ∷ []) 2)
     ≡ refused rule.MisplacedStorage 2
 unfolding balanced_type common_type fit is_signed mixed_type promoted rank size_of unsigned_of binary_value
-    shift_amount unary_value constant_in constant_of greatest_of suffix_of typed types_of bytes_of_literal character_value
-    characters_of escaped literal_step next_character extent_of array_size member_offsets structure_of union_of room
-    is_valid_program constant_word binary assigned cast row_of comma combined unary dereferenced indexed size_of_words
-    assignment compound stepped condition conditional switch_value called called_through routine_words composite judged
-    start reached reached_by reached_in element_number member_number number_behind part closed opened with_literal
-    with_value without typed_unit
+    shift_amount unary_value constant_in constant_of greatest_of suffix_of typed types_of bytes_of_literal
+    character_value characters_of escaped literal_step next_character extent_of array_size member_offsets structure_of
+    union_of room is_valid_program constant_word binary assigned cast row_of comma combined unary dereferenced indexed
+    size_of_words assignment compound stepped condition conditional switch_value called called_through routine_words
+    composite judged start reached reached_by reached_in element_number member_number number_behind part closed opened
+    with_literal with_value without typed_unit
 extern_with_initializer = refl
 
 -- typedef int T=
@@ -487,12 +488,12 @@ typedef_with_initializer :
     (at 2))) ∷ []) 2)
     ≡ refused rule.MisplacedStorage 2
 unfolding balanced_type common_type fit is_signed mixed_type promoted rank size_of unsigned_of binary_value
-    shift_amount unary_value constant_in constant_of greatest_of suffix_of typed types_of bytes_of_literal character_value
-    characters_of escaped literal_step next_character extent_of array_size member_offsets structure_of union_of room
-    is_valid_program constant_word binary assigned cast row_of comma combined unary dereferenced indexed size_of_words
-    assignment compound stepped condition conditional switch_value called called_through routine_words composite judged
-    start reached reached_by reached_in element_number member_number number_behind part closed opened with_literal
-    with_value without typed_unit
+    shift_amount unary_value constant_in constant_of greatest_of suffix_of typed types_of bytes_of_literal
+    character_value characters_of escaped literal_step next_character extent_of array_size member_offsets structure_of
+    union_of room is_valid_program constant_word binary assigned cast row_of comma combined unary dereferenced indexed
+    size_of_words assignment compound stepped condition conditional switch_value called called_through routine_words
+    composite judged start reached reached_by reached_in element_number member_number number_behind part closed opened
+    with_literal with_value without typed_unit
 typedef_with_initializer = refl
 
 -- int main(void){
@@ -507,12 +508,12 @@ static_function_in_a_block :
     3)
     ≡ refused rule.MisplacedStorage 2
 unfolding balanced_type common_type fit is_signed mixed_type promoted rank size_of unsigned_of binary_value
-    shift_amount unary_value constant_in constant_of greatest_of suffix_of typed types_of bytes_of_literal character_value
-    characters_of escaped literal_step next_character extent_of array_size member_offsets structure_of union_of room
-    is_valid_program constant_word binary assigned cast row_of comma combined unary dereferenced indexed size_of_words
-    assignment compound stepped condition conditional switch_value called called_through routine_words composite judged
-    start reached reached_by reached_in element_number member_number number_behind part closed opened with_literal
-    with_value without typed_unit
+    shift_amount unary_value constant_in constant_of greatest_of suffix_of typed types_of bytes_of_literal
+    character_value characters_of escaped literal_step next_character extent_of array_size member_offsets structure_of
+    union_of room is_valid_program constant_word binary assigned cast row_of comma combined unary dereferenced indexed
+    size_of_words assignment compound stepped condition conditional switch_value called called_through routine_words
+    composite judged start reached reached_by reached_in element_number member_number number_behind part closed opened
+    with_literal with_value without typed_unit
 static_function_in_a_block = refl
 
 -- typedef
@@ -526,12 +527,12 @@ typedef_of_a_definition :
     (codes "0") 2))) (at 2))) s.no_items) (at 2))) ∷ []) 2)
     ≡ refused rule.MisplacedStorage 1
 unfolding balanced_type common_type fit is_signed mixed_type promoted rank size_of unsigned_of binary_value
-    shift_amount unary_value constant_in constant_of greatest_of suffix_of typed types_of bytes_of_literal character_value
-    characters_of escaped literal_step next_character extent_of array_size member_offsets structure_of union_of room
-    is_valid_program constant_word binary assigned cast row_of comma combined unary dereferenced indexed size_of_words
-    assignment compound stepped condition conditional switch_value called called_through routine_words composite judged
-    start reached reached_by reached_in element_number member_number number_behind part closed opened with_literal
-    with_value without typed_unit
+    shift_amount unary_value constant_in constant_of greatest_of suffix_of typed types_of bytes_of_literal
+    character_value characters_of escaped literal_step next_character extent_of array_size member_offsets structure_of
+    union_of room is_valid_program constant_word binary assigned cast row_of comma combined unary dereferenced indexed
+    size_of_words assignment compound stepped condition conditional switch_value called called_through routine_words
+    composite judged start reached reached_by reached_in element_number member_number number_behind part closed opened
+    with_literal with_value without typed_unit
 typedef_of_a_definition = refl
 
 -- int main(void){for(
@@ -548,12 +549,12 @@ static_in_a_for :
     s.no_items) (at 2))) ∷ []) 2)
     ≡ refused rule.MisplacedStorage 2
 unfolding balanced_type common_type fit is_signed mixed_type promoted rank size_of unsigned_of binary_value
-    shift_amount unary_value constant_in constant_of greatest_of suffix_of typed types_of bytes_of_literal character_value
-    characters_of escaped literal_step next_character extent_of array_size member_offsets structure_of union_of room
-    is_valid_program constant_word binary assigned cast row_of comma combined unary dereferenced indexed size_of_words
-    assignment compound stepped condition conditional switch_value called called_through routine_words composite judged
-    start reached reached_by reached_in element_number member_number number_behind part closed opened with_literal
-    with_value without typed_unit
+    shift_amount unary_value constant_in constant_of greatest_of suffix_of typed types_of bytes_of_literal
+    character_value characters_of escaped literal_step next_character extent_of array_size member_offsets structure_of
+    union_of room is_valid_program constant_word binary assigned cast row_of comma combined unary dereferenced indexed
+    size_of_words assignment compound stepped condition conditional switch_value called called_through routine_words
+    composite judged start reached reached_by reached_in element_number member_number number_behind part closed opened
+    with_literal with_value without typed_unit
 static_in_a_for = refl
 
 -- int main(void){for(
@@ -566,10 +567,10 @@ function_in_a_for :
     (at 2) None (at 2) (s.expression None (at 2)))) s.no_items) (at 2))) ∷ []) 2)
     ≡ refused rule.MisplacedStorage 2
 unfolding balanced_type common_type fit is_signed mixed_type promoted rank size_of unsigned_of binary_value
-    shift_amount unary_value constant_in constant_of greatest_of suffix_of typed types_of bytes_of_literal character_value
-    characters_of escaped literal_step next_character extent_of array_size member_offsets structure_of union_of room
-    is_valid_program constant_word binary assigned cast row_of comma combined unary dereferenced indexed size_of_words
-    assignment compound stepped condition conditional switch_value called called_through routine_words composite judged
-    start reached reached_by reached_in element_number member_number number_behind part closed opened with_literal
-    with_value without typed_unit
+    shift_amount unary_value constant_in constant_of greatest_of suffix_of typed types_of bytes_of_literal
+    character_value characters_of escaped literal_step next_character extent_of array_size member_offsets structure_of
+    union_of room is_valid_program constant_word binary assigned cast row_of comma combined unary dereferenced indexed
+    size_of_words assignment compound stepped condition conditional switch_value called called_through routine_words
+    composite judged start reached reached_by reached_in element_number member_number number_behind part closed opened
+    with_literal with_value without typed_unit
 function_in_a_for = refl

@@ -14,7 +14,8 @@ use Rattle.obj_memory.specs.Integers.{balanced_type, common_type, fit, is_signed
 use Rattle.obj_memory.specs.Integers.{unsigned_of}
 use Rattle.obj_memory.specs.Operators.{binary_value, shift_amount, unary_value}
 use Rattle.c_lexer.specs.Constants.{constant_in, constant_of, greatest_of, suffix_of, typed, types_of}
-use Rattle.c_lexer.specs.Literals.{bytes_of_literal, character_value, characters_of, escaped, literal_step, next_character}
+use Rattle.c_lexer.specs.Literals.{bytes_of_literal, character_value, characters_of, escaped, literal_step}
+use Rattle.c_lexer.specs.Literals.{next_character}
 use Rattle.c_tree.specs.Extents.{extent_of}
 use Rattle.c_tree.specs.Layout.{array_size, member_offsets, structure_of, union_of}
 use Rattle.c_tree.specs.Room.{room}
@@ -59,12 +60,12 @@ first_of_two :
     (s.return (at 3) (Some (t.integer (spelled (codes "0") 3))) (at 3))) s.no_items) (at 3))) ∷ []) 3)
     ≡ refused rule.Undeclared 2
 unfolding balanced_type common_type fit is_signed mixed_type promoted rank size_of unsigned_of binary_value
-    shift_amount unary_value constant_in constant_of greatest_of suffix_of typed types_of bytes_of_literal character_value
-    characters_of escaped literal_step next_character extent_of array_size member_offsets structure_of union_of room
-    is_valid_program constant_word binary assigned cast row_of comma combined unary dereferenced indexed size_of_words
-    assignment compound stepped condition conditional switch_value called called_through routine_words composite judged
-    start reached reached_by reached_in element_number member_number number_behind part closed opened with_literal
-    with_value without typed_unit
+    shift_amount unary_value constant_in constant_of greatest_of suffix_of typed types_of bytes_of_literal
+    character_value characters_of escaped literal_step next_character extent_of array_size member_offsets structure_of
+    union_of room is_valid_program constant_word binary assigned cast row_of comma combined unary dereferenced indexed
+    size_of_words assignment compound stepped condition conditional switch_value called called_through routine_words
+    composite judged start reached reached_by reached_in element_number member_number number_behind part closed opened
+    with_literal with_value without typed_unit
 first_of_two = refl
 
 -- int x;char
@@ -80,12 +81,12 @@ name_before_initializer :
     s.no_items) (at 3))) ∷ []) 3)
     ≡ refused rule.Redeclared 2
 unfolding balanced_type common_type fit is_signed mixed_type promoted rank size_of unsigned_of binary_value
-    shift_amount unary_value constant_in constant_of greatest_of suffix_of typed types_of bytes_of_literal character_value
-    characters_of escaped literal_step next_character extent_of array_size member_offsets structure_of union_of room
-    is_valid_program constant_word binary assigned cast row_of comma combined unary dereferenced indexed size_of_words
-    assignment compound stepped condition conditional switch_value called called_through routine_words composite judged
-    start reached reached_by reached_in element_number member_number number_behind part closed opened with_literal
-    with_value without typed_unit
+    shift_amount unary_value constant_in constant_of greatest_of suffix_of typed types_of bytes_of_literal
+    character_value characters_of escaped literal_step next_character extent_of array_size member_offsets structure_of
+    union_of room is_valid_program constant_word binary assigned cast row_of comma combined unary dereferenced indexed
+    size_of_words assignment compound stepped condition conditional switch_value called called_through routine_words
+    composite judged start reached reached_by reached_in element_number member_number number_behind part closed opened
+    with_literal with_value without typed_unit
 name_before_initializer = refl
 
 -- int x;char
@@ -101,12 +102,12 @@ size_before_name :
     s.no_items) (at 3))) ∷ []) 3)
     ≡ refused rule.Undeclared 3
 unfolding balanced_type common_type fit is_signed mixed_type promoted rank size_of unsigned_of binary_value
-    shift_amount unary_value constant_in constant_of greatest_of suffix_of typed types_of bytes_of_literal character_value
-    characters_of escaped literal_step next_character extent_of array_size member_offsets structure_of union_of room
-    is_valid_program constant_word binary assigned cast row_of comma combined unary dereferenced indexed size_of_words
-    assignment compound stepped condition conditional switch_value called called_through routine_words composite judged
-    start reached reached_by reached_in element_number member_number number_behind part closed opened with_literal
-    with_value without typed_unit
+    shift_amount unary_value constant_in constant_of greatest_of suffix_of typed types_of bytes_of_literal
+    character_value characters_of escaped literal_step next_character extent_of array_size member_offsets structure_of
+    union_of room is_valid_program constant_word binary assigned cast row_of comma combined unary dereferenced indexed
+    size_of_words assignment compound stepped condition conditional switch_value called called_through routine_words
+    composite judged start reached reached_by reached_in element_number member_number number_behind part closed opened
+    with_literal with_value without typed_unit
 size_before_name = refl
 
 -- int x;
@@ -122,12 +123,12 @@ specifiers_before_name :
     (at 3))) ∷ []) 3)
     ≡ refused rule.MisplacedStorage 2
 unfolding balanced_type common_type fit is_signed mixed_type promoted rank size_of unsigned_of binary_value
-    shift_amount unary_value constant_in constant_of greatest_of suffix_of typed types_of bytes_of_literal character_value
-    characters_of escaped literal_step next_character extent_of array_size member_offsets structure_of union_of room
-    is_valid_program constant_word binary assigned cast row_of comma combined unary dereferenced indexed size_of_words
-    assignment compound stepped condition conditional switch_value called called_through routine_words composite judged
-    start reached reached_by reached_in element_number member_number number_behind part closed opened with_literal
-    with_value without typed_unit
+    shift_amount unary_value constant_in constant_of greatest_of suffix_of typed types_of bytes_of_literal
+    character_value characters_of escaped literal_step next_character extent_of array_size member_offsets structure_of
+    union_of room is_valid_program constant_word binary assigned cast row_of comma combined unary dereferenced indexed
+    size_of_words assignment compound stepped condition conditional switch_value called called_through routine_words
+    composite judged start reached reached_by reached_in element_number member_number number_behind part closed opened
+    with_literal with_value without typed_unit
 specifiers_before_name = refl
 
 -- int x;
@@ -141,12 +142,12 @@ lowest_at_a_name :
     (Some (t.integer (spelled (codes "0") 2))) (at 2))) s.no_items) (at 2))) ∷ []) 2)
     ≡ refused rule.Redeclared 2
 unfolding balanced_type common_type fit is_signed mixed_type promoted rank size_of unsigned_of binary_value
-    shift_amount unary_value constant_in constant_of greatest_of suffix_of typed types_of bytes_of_literal character_value
-    characters_of escaped literal_step next_character extent_of array_size member_offsets structure_of union_of room
-    is_valid_program constant_word binary assigned cast row_of comma combined unary dereferenced indexed size_of_words
-    assignment compound stepped condition conditional switch_value called called_through routine_words composite judged
-    start reached reached_by reached_in element_number member_number number_behind part closed opened with_literal
-    with_value without typed_unit
+    shift_amount unary_value constant_in constant_of greatest_of suffix_of typed types_of bytes_of_literal
+    character_value characters_of escaped literal_step next_character extent_of array_size member_offsets structure_of
+    union_of room is_valid_program constant_word binary assigned cast row_of comma combined unary dereferenced indexed
+    size_of_words assignment compound stepped condition conditional switch_value called called_through routine_words
+    composite judged start reached reached_by reached_in element_number member_number number_behind part closed opened
+    with_literal with_value without typed_unit
 lowest_at_a_name = refl
 
 -- struct S;
@@ -162,12 +163,12 @@ array_of_functions :
     (at 3) (Some (t.integer (spelled (codes "0") 3))) (at 3))) s.no_items) (at 3))) ∷ []) 3)
     ≡ refused rule.MisplacedFunction 3
 unfolding balanced_type common_type fit is_signed mixed_type promoted rank size_of unsigned_of binary_value
-    shift_amount unary_value constant_in constant_of greatest_of suffix_of typed types_of bytes_of_literal character_value
-    characters_of escaped literal_step next_character extent_of array_size member_offsets structure_of union_of room
-    is_valid_program constant_word binary assigned cast row_of comma combined unary dereferenced indexed size_of_words
-    assignment compound stepped condition conditional switch_value called called_through routine_words composite judged
-    start reached reached_by reached_in element_number member_number number_behind part closed opened with_literal
-    with_value without typed_unit
+    shift_amount unary_value constant_in constant_of greatest_of suffix_of typed types_of bytes_of_literal
+    character_value characters_of escaped literal_step next_character extent_of array_size member_offsets structure_of
+    union_of room is_valid_program constant_word binary assigned cast row_of comma combined unary dereferenced indexed
+    size_of_words assignment compound stepped condition conditional switch_value called called_through routine_words
+    composite judged start reached reached_by reached_in element_number member_number number_behind part closed opened
+    with_literal with_value without typed_unit
 array_of_functions = refl
 
 -- int f(void){return
@@ -184,12 +185,12 @@ body_before_the_next :
     (at 3) (Some (t.integer (spelled (codes "0") 3))) (at 3))) s.no_items) (at 3))) ∷ []) 3)
     ≡ refused rule.Undeclared 2
 unfolding balanced_type common_type fit is_signed mixed_type promoted rank size_of unsigned_of binary_value
-    shift_amount unary_value constant_in constant_of greatest_of suffix_of typed types_of bytes_of_literal character_value
-    characters_of escaped literal_step next_character extent_of array_size member_offsets structure_of union_of room
-    is_valid_program constant_word binary assigned cast row_of comma combined unary dereferenced indexed size_of_words
-    assignment compound stepped condition conditional switch_value called called_through routine_words composite judged
-    start reached reached_by reached_in element_number member_number number_behind part closed opened with_literal
-    with_value without typed_unit
+    shift_amount unary_value constant_in constant_of greatest_of suffix_of typed types_of bytes_of_literal
+    character_value characters_of escaped literal_step next_character extent_of array_size member_offsets structure_of
+    union_of room is_valid_program constant_word binary assigned cast row_of comma combined unary dereferenced indexed
+    size_of_words assignment compound stepped condition conditional switch_value called called_through routine_words
+    composite judged start reached reached_by reached_in element_number member_number number_behind part closed opened
+    with_literal with_value without typed_unit
 body_before_the_next = refl
 
 -- int f(void){return 0;}
@@ -206,12 +207,12 @@ declarator_before_body :
     (at 3) (Some (t.integer (spelled (codes "0") 3))) (at 3))) s.no_items) (at 3))) ∷ []) 3)
     ≡ refused rule.Redeclared 2
 unfolding balanced_type common_type fit is_signed mixed_type promoted rank size_of unsigned_of binary_value
-    shift_amount unary_value constant_in constant_of greatest_of suffix_of typed types_of bytes_of_literal character_value
-    characters_of escaped literal_step next_character extent_of array_size member_offsets structure_of union_of room
-    is_valid_program constant_word binary assigned cast row_of comma combined unary dereferenced indexed size_of_words
-    assignment compound stepped condition conditional switch_value called called_through routine_words composite judged
-    start reached reached_by reached_in element_number member_number number_behind part closed opened with_literal
-    with_value without typed_unit
+    shift_amount unary_value constant_in constant_of greatest_of suffix_of typed types_of bytes_of_literal
+    character_value characters_of escaped literal_step next_character extent_of array_size member_offsets structure_of
+    union_of room is_valid_program constant_word binary assigned cast row_of comma combined unary dereferenced indexed
+    size_of_words assignment compound stepped condition conditional switch_value called called_through routine_words
+    composite judged start reached reached_by reached_in element_number member_number number_behind part closed opened
+    with_literal with_value without typed_unit
 declarator_before_body = refl
 
 -- int a[1]={1,
@@ -231,12 +232,12 @@ initializer_before_the_next :
     ) ∷ []))) (at 3))) ∷ []) 3)
     ≡ refused rule.MisplacedItem 1
 unfolding balanced_type common_type fit is_signed mixed_type promoted rank size_of unsigned_of binary_value
-    shift_amount unary_value constant_in constant_of greatest_of suffix_of typed types_of bytes_of_literal character_value
-    characters_of escaped literal_step next_character extent_of array_size member_offsets structure_of union_of room
-    is_valid_program constant_word binary assigned cast row_of comma combined unary dereferenced indexed size_of_words
-    assignment compound stepped condition conditional switch_value called called_through routine_words composite judged
-    start reached reached_by reached_in element_number member_number number_behind part closed opened with_literal
-    with_value without typed_unit
+    shift_amount unary_value constant_in constant_of greatest_of suffix_of typed types_of bytes_of_literal
+    character_value characters_of escaped literal_step next_character extent_of array_size member_offsets structure_of
+    union_of room is_valid_program constant_word binary assigned cast row_of comma combined unary dereferenced indexed
+    size_of_words assignment compound stepped condition conditional switch_value called called_through routine_words
+    composite judged start reached reached_by reached_in element_number member_number number_behind part closed opened
+    with_literal with_value without typed_unit
 initializer_before_the_next = refl
 
 -- int f(void){return 0;}
@@ -247,12 +248,12 @@ no_main :
     (t.integer (spelled (codes "0") 1))) (at 1))) s.no_items) (at 1))) ∷ []) 2)
     ≡ refused rule.NoMain 2
 unfolding balanced_type common_type fit is_signed mixed_type promoted rank size_of unsigned_of binary_value
-    shift_amount unary_value constant_in constant_of greatest_of suffix_of typed types_of bytes_of_literal character_value
-    characters_of escaped literal_step next_character extent_of array_size member_offsets structure_of union_of room
-    is_valid_program constant_word binary assigned cast row_of comma combined unary dereferenced indexed size_of_words
-    assignment compound stepped condition conditional switch_value called called_through routine_words composite judged
-    start reached reached_by reached_in element_number member_number number_behind part closed opened with_literal
-    with_value without typed_unit
+    shift_amount unary_value constant_in constant_of greatest_of suffix_of typed types_of bytes_of_literal
+    character_value characters_of escaped literal_step next_character extent_of array_size member_offsets structure_of
+    union_of room is_valid_program constant_word binary assigned cast row_of comma combined unary dereferenced indexed
+    size_of_words assignment compound stepped condition conditional switch_value called called_through routine_words
+    composite judged start reached reached_by reached_in element_number member_number number_behind part closed opened
+    with_literal with_value without typed_unit
 no_main = refl
 
 -- void main(void){}
@@ -262,12 +263,12 @@ main_of_another_type :
     "main") 1)) (at 1) (t.void_parameters (at 1)) (at 1)) (s.block (at 1) s.no_items (at 1))) ∷ []) 2)
     ≡ refused rule.NoMain 2
 unfolding balanced_type common_type fit is_signed mixed_type promoted rank size_of unsigned_of binary_value
-    shift_amount unary_value constant_in constant_of greatest_of suffix_of typed types_of bytes_of_literal character_value
-    characters_of escaped literal_step next_character extent_of array_size member_offsets structure_of union_of room
-    is_valid_program constant_word binary assigned cast row_of comma combined unary dereferenced indexed size_of_words
-    assignment compound stepped condition conditional switch_value called called_through routine_words composite judged
-    start reached reached_by reached_in element_number member_number number_behind part closed opened with_literal
-    with_value without typed_unit
+    shift_amount unary_value constant_in constant_of greatest_of suffix_of typed types_of bytes_of_literal
+    character_value characters_of escaped literal_step next_character extent_of array_size member_offsets structure_of
+    union_of room is_valid_program constant_word binary assigned cast row_of comma combined unary dereferenced indexed
+    size_of_words assignment compound stepped condition conditional switch_value called called_through routine_words
+    composite judged start reached reached_by reached_in element_number member_number number_behind part closed opened
+    with_literal with_value without typed_unit
 main_of_another_type = refl
 
 -- int main(void);
@@ -278,12 +279,12 @@ main_only_declared :
     [])) (at 1))) ∷ []) 2)
     ≡ refused rule.NoMain 2
 unfolding balanced_type common_type fit is_signed mixed_type promoted rank size_of unsigned_of binary_value
-    shift_amount unary_value constant_in constant_of greatest_of suffix_of typed types_of bytes_of_literal character_value
-    characters_of escaped literal_step next_character extent_of array_size member_offsets structure_of union_of room
-    is_valid_program constant_word binary assigned cast row_of comma combined unary dereferenced indexed size_of_words
-    assignment compound stepped condition conditional switch_value called called_through routine_words composite judged
-    start reached reached_by reached_in element_number member_number number_behind part closed opened with_literal
-    with_value without typed_unit
+    shift_amount unary_value constant_in constant_of greatest_of suffix_of typed types_of bytes_of_literal
+    character_value characters_of escaped literal_step next_character extent_of array_size member_offsets structure_of
+    union_of room is_valid_program constant_word binary assigned cast row_of comma combined unary dereferenced indexed
+    size_of_words assignment compound stepped condition conditional switch_value called called_through routine_words
+    composite judged start reached reached_by reached_in element_number member_number number_behind part closed opened
+    with_literal with_value without typed_unit
 main_only_declared = refl
 
 -- int f(void);int g(void){return f();}
@@ -297,12 +298,12 @@ main_before_uses :
     2)
     ≡ refused rule.NoMain 2
 unfolding balanced_type common_type fit is_signed mixed_type promoted rank size_of unsigned_of binary_value
-    shift_amount unary_value constant_in constant_of greatest_of suffix_of typed types_of bytes_of_literal character_value
-    characters_of escaped literal_step next_character extent_of array_size member_offsets structure_of union_of room
-    is_valid_program constant_word binary assigned cast row_of comma combined unary dereferenced indexed size_of_words
-    assignment compound stepped condition conditional switch_value called called_through routine_words composite judged
-    start reached reached_by reached_in element_number member_number number_behind part closed opened with_literal
-    with_value without typed_unit
+    shift_amount unary_value constant_in constant_of greatest_of suffix_of typed types_of bytes_of_literal
+    character_value characters_of escaped literal_step next_character extent_of array_size member_offsets structure_of
+    union_of room is_valid_program constant_word binary assigned cast row_of comma combined unary dereferenced indexed
+    size_of_words assignment compound stepped condition conditional switch_value called called_through routine_words
+    composite judged start reached reached_by reached_in element_number member_number number_behind part closed opened
+    with_literal with_value without typed_unit
 main_before_uses = refl
 
 -- int f(void);int g(void);int main(void){return
@@ -320,12 +321,12 @@ first_use :
     3)
     ≡ refused rule.UndefinedFunction 2
 unfolding balanced_type common_type fit is_signed mixed_type promoted rank size_of unsigned_of binary_value
-    shift_amount unary_value constant_in constant_of greatest_of suffix_of typed types_of bytes_of_literal character_value
-    characters_of escaped literal_step next_character extent_of array_size member_offsets structure_of union_of room
-    is_valid_program constant_word binary assigned cast row_of comma combined unary dereferenced indexed size_of_words
-    assignment compound stepped condition conditional switch_value called called_through routine_words composite judged
-    start reached reached_by reached_in element_number member_number number_behind part closed opened with_literal
-    with_value without typed_unit
+    shift_amount unary_value constant_in constant_of greatest_of suffix_of typed types_of bytes_of_literal
+    character_value characters_of escaped literal_step next_character extent_of array_size member_offsets structure_of
+    union_of room is_valid_program constant_word binary assigned cast row_of comma combined unary dereferenced indexed
+    size_of_words assignment compound stepped condition conditional switch_value called called_through routine_words
+    composite judged start reached reached_by reached_in element_number member_number number_behind part closed opened
+    with_literal with_value without typed_unit
 first_use = refl
 
 -- int f(void);int(*p)(void)=
@@ -341,12 +342,12 @@ use_in_an_initializer :
     (t.integer (spelled (codes "0") 2))) (at 2))) s.no_items) (at 2))) ∷ []) 2)
     ≡ refused rule.UndefinedFunction 2
 unfolding balanced_type common_type fit is_signed mixed_type promoted rank size_of unsigned_of binary_value
-    shift_amount unary_value constant_in constant_of greatest_of suffix_of typed types_of bytes_of_literal character_value
-    characters_of escaped literal_step next_character extent_of array_size member_offsets structure_of union_of room
-    is_valid_program constant_word binary assigned cast row_of comma combined unary dereferenced indexed size_of_words
-    assignment compound stepped condition conditional switch_value called called_through routine_words composite judged
-    start reached reached_by reached_in element_number member_number number_behind part closed opened with_literal
-    with_value without typed_unit
+    shift_amount unary_value constant_in constant_of greatest_of suffix_of typed types_of bytes_of_literal
+    character_value characters_of escaped literal_step next_character extent_of array_size member_offsets structure_of
+    union_of room is_valid_program constant_word binary assigned cast row_of comma combined unary dereferenced indexed
+    size_of_words assignment compound stepped condition conditional switch_value called called_through routine_words
+    composite judged start reached reached_by reached_in element_number member_number number_behind part closed opened
+    with_literal with_value without typed_unit
 use_in_an_initializer = refl
 
 -- int f(void);int main(void){return sizeof f();}
@@ -359,12 +360,12 @@ not_evaluated :
     (at 1))) s.no_items) (at 1))) ∷ []) 1)
     ≡ accepted true [] (function 1 0 [] [] (number 4 ∷ []) ∷ [])
 unfolding balanced_type common_type fit is_signed mixed_type promoted rank size_of unsigned_of binary_value
-    shift_amount unary_value constant_in constant_of greatest_of suffix_of typed types_of bytes_of_literal character_value
-    characters_of escaped literal_step next_character extent_of array_size member_offsets structure_of union_of room
-    is_valid_program constant_word binary assigned cast row_of comma combined unary dereferenced indexed size_of_words
-    assignment compound stepped condition conditional switch_value called called_through routine_words composite judged
-    start reached reached_by reached_in element_number member_number number_behind part closed opened with_literal
-    with_value without typed_unit
+    shift_amount unary_value constant_in constant_of greatest_of suffix_of typed types_of bytes_of_literal
+    character_value characters_of escaped literal_step next_character extent_of array_size member_offsets structure_of
+    union_of room is_valid_program constant_word binary assigned cast row_of comma combined unary dereferenced indexed
+    size_of_words assignment compound stepped condition conditional switch_value called called_through routine_words
+    composite judged start reached reached_by reached_in element_number member_number number_behind part closed opened
+    with_literal with_value without typed_unit
 not_evaluated = refl
 
 -- char a[4194305];int main(void){return 0;}
@@ -376,12 +377,12 @@ globals :
     (at 1) (Some (t.integer (spelled (codes "0") 1))) (at 1))) s.no_items) (at 1))) ∷ []) 1)
     ≡ large limited.Globals 4198400
 unfolding balanced_type common_type fit is_signed mixed_type promoted rank size_of unsigned_of binary_value
-    shift_amount unary_value constant_in constant_of greatest_of suffix_of typed types_of bytes_of_literal character_value
-    characters_of escaped literal_step next_character extent_of array_size member_offsets structure_of union_of room
-    is_valid_program constant_word binary assigned cast row_of comma combined unary dereferenced indexed size_of_words
-    assignment compound stepped condition conditional switch_value called called_through routine_words composite judged
-    start reached reached_by reached_in element_number member_number number_behind part closed opened with_literal
-    with_value without typed_unit
+    shift_amount unary_value constant_in constant_of greatest_of suffix_of typed types_of bytes_of_literal
+    character_value characters_of escaped literal_step next_character extent_of array_size member_offsets structure_of
+    union_of room is_valid_program constant_word binary assigned cast row_of comma combined unary dereferenced indexed
+    size_of_words assignment compound stepped condition conditional switch_value called called_through routine_words
+    composite judged start reached reached_by reached_in element_number member_number number_behind part closed opened
+    with_literal with_value without typed_unit
 globals = refl
 
 -- char a[4194304];int main(void){return 0;}
@@ -393,12 +394,12 @@ globals_that_fit :
     (at 1) (Some (t.integer (spelled (codes "0") 1))) (at 1))) s.no_items) (at 1))) ∷ []) 1)
     ≡ accepted true ((4194304, (None, [])) ∷ []) (function 1 0 [] [] (number 0 ∷ []) ∷ [])
 unfolding balanced_type common_type fit is_signed mixed_type promoted rank size_of unsigned_of binary_value
-    shift_amount unary_value constant_in constant_of greatest_of suffix_of typed types_of bytes_of_literal character_value
-    characters_of escaped literal_step next_character extent_of array_size member_offsets structure_of union_of room
-    is_valid_program constant_word binary assigned cast row_of comma combined unary dereferenced indexed size_of_words
-    assignment compound stepped condition conditional switch_value called called_through routine_words composite judged
-    start reached reached_by reached_in element_number member_number number_behind part closed opened with_literal
-    with_value without typed_unit
+    shift_amount unary_value constant_in constant_of greatest_of suffix_of typed types_of bytes_of_literal
+    character_value characters_of escaped literal_step next_character extent_of array_size member_offsets structure_of
+    union_of room is_valid_program constant_word binary assigned cast row_of comma combined unary dereferenced indexed
+    size_of_words assignment compound stepped condition conditional switch_value called called_through routine_words
+    composite judged start reached reached_by reached_in element_number member_number number_behind part closed opened
+    with_literal with_value without typed_unit
 globals_that_fit = refl
 
 -- char a[4194289];char b;int main(void){return 0;}
@@ -412,12 +413,12 @@ rounded :
     1))) s.no_items) (at 1))) ∷ []) 1)
     ≡ large limited.Globals 4198400
 unfolding balanced_type common_type fit is_signed mixed_type promoted rank size_of unsigned_of binary_value
-    shift_amount unary_value constant_in constant_of greatest_of suffix_of typed types_of bytes_of_literal character_value
-    characters_of escaped literal_step next_character extent_of array_size member_offsets structure_of union_of room
-    is_valid_program constant_word binary assigned cast row_of comma combined unary dereferenced indexed size_of_words
-    assignment compound stepped condition conditional switch_value called called_through routine_words composite judged
-    start reached reached_by reached_in element_number member_number number_behind part closed opened with_literal
-    with_value without typed_unit
+    shift_amount unary_value constant_in constant_of greatest_of suffix_of typed types_of bytes_of_literal
+    character_value characters_of escaped literal_step next_character extent_of array_size member_offsets structure_of
+    union_of room is_valid_program constant_word binary assigned cast row_of comma combined unary dereferenced indexed
+    size_of_words assignment compound stepped condition conditional switch_value called called_through routine_words
+    composite judged start reached reached_by reached_in element_number member_number number_behind part closed opened
+    with_literal with_value without typed_unit
 rounded = refl
 
 -- char a[4194305];int f(void){return 1;}int x=f();int main(void){return 0;}
@@ -435,12 +436,12 @@ not_constant_first :
     ≡ accepted true ((4194305, (None, [])) ∷ (4, (None, ((0, other) ∷ []))) ∷ []) (function 1 0 [] [] (number 1 ∷ [])
     ∷ function 1 0 [] [] (number 0 ∷ []) ∷ [])
 unfolding balanced_type common_type fit is_signed mixed_type promoted rank size_of unsigned_of binary_value
-    shift_amount unary_value constant_in constant_of greatest_of suffix_of typed types_of bytes_of_literal character_value
-    characters_of escaped literal_step next_character extent_of array_size member_offsets structure_of union_of room
-    is_valid_program constant_word binary assigned cast row_of comma combined unary dereferenced indexed size_of_words
-    assignment compound stepped condition conditional switch_value called called_through routine_words composite judged
-    start reached reached_by reached_in element_number member_number number_behind part closed opened with_literal
-    with_value without typed_unit
+    shift_amount unary_value constant_in constant_of greatest_of suffix_of typed types_of bytes_of_literal
+    character_value characters_of escaped literal_step next_character extent_of array_size member_offsets structure_of
+    union_of room is_valid_program constant_word binary assigned cast row_of comma combined unary dereferenced indexed
+    size_of_words assignment compound stepped condition conditional switch_value called called_through routine_words
+    composite judged start reached reached_by reached_in element_number member_number number_behind part closed opened
+    with_literal with_value without typed_unit
 not_constant_first = refl
 
 -- int f(int,int,int,int,int,int,int,int,int,int,int,int,int,int,int,int,int,int,int,int,int,int,int,in ..
@@ -581,12 +582,12 @@ parameters :
     (s.return (at 1) (Some (t.integer (spelled (codes "0") 1))) (at 1))) s.no_items) (at 1))) ∷ []) 1)
     ≡ large limited.Parameters 128
 unfolding balanced_type common_type fit is_signed mixed_type promoted rank size_of unsigned_of binary_value
-    shift_amount unary_value constant_in constant_of greatest_of suffix_of typed types_of bytes_of_literal character_value
-    characters_of escaped literal_step next_character extent_of array_size member_offsets structure_of union_of room
-    is_valid_program constant_word binary assigned cast row_of comma combined unary dereferenced indexed size_of_words
-    assignment compound stepped condition conditional switch_value called called_through routine_words composite judged
-    start reached reached_by reached_in element_number member_number number_behind part closed opened with_literal
-    with_value without typed_unit
+    shift_amount unary_value constant_in constant_of greatest_of suffix_of typed types_of bytes_of_literal
+    character_value characters_of escaped literal_step next_character extent_of array_size member_offsets structure_of
+    union_of room is_valid_program constant_word binary assigned cast row_of comma combined unary dereferenced indexed
+    size_of_words assignment compound stepped condition conditional switch_value called called_through routine_words
+    composite judged start reached reached_by reached_in element_number member_number number_behind part closed opened
+    with_literal with_value without typed_unit
 parameters = refl
 
 -- char a[4194305];int f(int,int,int,int,int,int,int,int,int,int,int,int,int,int,int,int,int,int,int,in ..
@@ -730,10 +731,10 @@ parameters_before_globals :
     (s.return (at 1) (Some (t.integer (spelled (codes "0") 1))) (at 1))) s.no_items) (at 1))) ∷ []) 1)
     ≡ large limited.Parameters 129
 unfolding balanced_type common_type fit is_signed mixed_type promoted rank size_of unsigned_of binary_value
-    shift_amount unary_value constant_in constant_of greatest_of suffix_of typed types_of bytes_of_literal character_value
-    characters_of escaped literal_step next_character extent_of array_size member_offsets structure_of union_of room
-    is_valid_program constant_word binary assigned cast row_of comma combined unary dereferenced indexed size_of_words
-    assignment compound stepped condition conditional switch_value called called_through routine_words composite judged
-    start reached reached_by reached_in element_number member_number number_behind part closed opened with_literal
-    with_value without typed_unit
+    shift_amount unary_value constant_in constant_of greatest_of suffix_of typed types_of bytes_of_literal
+    character_value characters_of escaped literal_step next_character extent_of array_size member_offsets structure_of
+    union_of room is_valid_program constant_word binary assigned cast row_of comma combined unary dereferenced indexed
+    size_of_words assignment compound stepped condition conditional switch_value called called_through routine_words
+    composite judged start reached reached_by reached_in element_number member_number number_behind part closed opened
+    with_literal with_value without typed_unit
 parameters_before_globals = refl

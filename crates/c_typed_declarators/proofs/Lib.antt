@@ -1,0 +1,13 @@
+pub mod Chained
+pub mod Completed
+pub mod Known
+pub mod Lists
+pub mod Marks
+pub mod Members
+pub mod Operators
+pub mod Parameters
+pub mod Recursion
+pub mod Steps
+pub mod Tags
+pub mod Types
+pub mod Words

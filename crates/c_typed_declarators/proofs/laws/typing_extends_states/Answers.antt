@@ -1,0 +1,10 @@
+use Rattle.c_typed_declarators.proofs.Recursion.{name_extends, shape_extends, specification_extends, typed_extends}
+use Rattle.c_typed_declarators.proofs.laws.typing_extends_states.Goals as goal
+
+pub returns : goal.returns
+returns c = record {
+  expression = typed_extends;
+  name = name_extends;
+  declarator = shape_extends;
+  specifiers = specification_extends;
+}

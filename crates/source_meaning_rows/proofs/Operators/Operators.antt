@@ -4,7 +4,7 @@
 --     int main(void){int i=-10;int j=3;unsigned u=4000000000U;unsigned v=7;long l=-10000000000L;unsigned long
 -- m=18446744073709551615UL;
 --     p(i+j);p(i-j);p(i*j);p(i/j);p(i%j);p(i&j);p(i|j);p(i^j);p(~j);p(-u);p(u+u);p(u*v);p(u/v);p(u%v);p(u-v-u);
---     p(l+i);p(l*l);p(l/i);p(l%j);p(l^m);p(m*m);p(m/u);p(m%v);p(i<j);p(i<u);p(l<=m);p(l>=i);p(i==-10);p(m!=-1);p(!l);p(+u);return
+-- p(l+i);p(l*l);p(l/i);p(l%j);p(l^m);p(m*m);p(m/u);p(m%v);p(i<j);p(i<u);p(l<=m);p(l>=i);p(i==-10);p(m!=-1);p(!l);p(+u);return
 -- 0;}
 use Rattle.c_tree.specs.Programs.{Program, Function}
 use Rattle.c_tree.specs.Statements.{Statement, expression_statement, declaration, return}

@@ -1,8 +1,8 @@
 -- Pointers are compared as unsigned addresses. The text is rows/pointer_comparison.c; gcc 12.2.0 gives the same output
 -- and status.
---     int a[4];int b[4];int main(void){int*p=a;int*q=a+3;int*n=0;char*w=n;w=w-1;
---     putchar(48+(p<q));putchar(48+(q<=p));putchar(48+(p>q));putchar(48+(q>=p));putchar(48+(p==a));putchar(48+(p!=&a[0]));
---     putchar(48+(n==0));putchar(48+!p);putchar(48+(p&&!n));putchar(48+((char*)p<w));putchar(48+(p+4<=b));putchar(48+(a<b));return
+--     int a[4];int b[4];int main(void){int*p=a;int*q=a+3;int*n=0;char*w=(char*)n;w=w-1;
+-- putchar(48+(p<q));putchar(48+(q<=p));putchar(48+(p>q));putchar(48+(q>=p));putchar(48+(p==a));putchar(48+(p!=&a[0]));
+-- putchar(48+(n==0));putchar(48+!p);putchar(48+(p&&!n));putchar(48+((char*)p<w));putchar(48+(p+4<=b));putchar(48+(a<b));return
 -- 0;}
 use Rattle.c_tree.specs.Programs.{Program}
 use Rattle.c_tree.specs.Statements.{Statement, expression_statement, declaration, return}
@@ -96,7 +96,7 @@ program = main_alone
     declaration (one (with_value 1
     (offset 1 PointerPlusIndex 4 (decay (lvalue 1 (Array 16) (tree.static 0))) (number 1 3)))) ∷
     declaration (one (with_value 2 (convert pointer (number 1 0)))) ∷
-    declaration (one (with_value 3 (plain 1 pointer 2))) ∷
+    declaration (one (with_value 3 (cast 1 pointer (plain 1 pointer 2)))) ∷
     expression_statement (set_plain 1 3 (offset 1 PointerMinusIndex 1 (plain 1 pointer 3) (number 1 1))) ∷
     statement_1 ∷
     statement_2 ∷

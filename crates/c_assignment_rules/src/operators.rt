@@ -42,8 +42,8 @@ pub struct Change {
 }
 
 /// `left = right`, with the line of its operator, among structures and unions with these extents, of which the second
-/// list tells, by number, whether they have a const member. The rules are those of `assignable`, and behind them that on
-/// conversions.
+/// list tells, by number, whether they have a const member. The rules are those of `assignable`, and behind them that
+/// on conversions.
 #[tactic(auto, unfolding(crate::specs::Assignments::assignment))]
 pub fn assignment(
     alloc: Global,

@@ -25,7 +25,8 @@ use Rattle.c_rules.proofs.TypeKinds.{HasKind, class_kind}
 use Rattle.c_rules.proofs.SameTypes.{both_true}
 use Rattle.c_rules.proofs.FineBinary.{all, Converts, integer_converts, from_pointer}
 use Rattle.c_call_rules.specs.FineCalls.{AreFine}
-use Rattle.c_call_rules.specs.Printing.{Format, a_literal, another, is_text, takes_text, promoted_kind, fits, printed_as}
+use Rattle.c_call_rules.specs.Printing.{Format, a_literal, another, is_text, takes_text, promoted_kind, fits}
+use Rattle.c_call_rules.specs.Printing.{printed_as}
 use Rattle.c_call_rules.specs.Printing.{one_printed, behind_first, all_printed, printed, printf_tree, printed_by}
 use Rattle.c_call_rules.specs.Printing.{no_literal, formatted}
 

@@ -4,7 +4,8 @@ ghost use Rattle.std.specs.Prelude.{◌≡◌, ◌∷◌, [], ◌++◌, map, opt
 ghost use Rattle.c_tree.specs.View.{expression_of};
 ghost use Rattle.c_rules.specs.Answer.{Gives};
 ghost use Rattle.c_rules.specs.Values.{value_of};
-ghost use Rattle.c_call_rules.specs.Calls.{call_tree, called, called_if, called_through, callee_of, counted, one_passed};
+ghost use Rattle.c_call_rules.specs.Calls.{call_tree, called, called_if, called_through, callee_of, counted};
+ghost use Rattle.c_call_rules.specs.Calls.{one_passed};
 ghost use Rattle.c_call_rules.specs.Calls.{passed};
 
 use crate::callee::{Callee, Outcome, outcome_in};
@@ -19,8 +20,8 @@ use std::alloc::{AllocError, Global};
 use tree_containers::{Boxed, Items};
 
 /// A call of what has a function type, with the line of its `(`. The rule on incomplete types is violated by a result
-/// that is not complete there, then that on conversions by the first argument that is none of its parameter's type, then
-/// that on counts where there are more or fewer arguments than parameters.
+/// that is not complete there, then that on conversions by the first argument that is none of its parameter's type,
+/// then that on counts where there are more or fewer arguments than parameters.
 #[tactic(auto, unfolding(crate::specs::Calls::called))]
 pub fn called(
     alloc: Global,

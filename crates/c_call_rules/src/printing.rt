@@ -32,9 +32,10 @@ pub enum Format {
     Other(TypedValue),
 }
 
-/// A call of `printf`, with the line of its `(`, of a first argument and those behind it. The rule on counts is violated
-/// where there is none, that on conversions by one that is no pointer to characters, and that on formats by one that is
-/// no literal, by a directive that is not among those of the subset, and where the arguments do not fit the directives.
+/// A call of `printf`, with the line of its `(`, of a first argument and those behind it. The rule on counts is
+/// violated where there is none, that on conversions by one that is no pointer to characters, and that on formats by
+/// one that is no literal, by a directive that is not among those of the subset, and where the arguments do not fit the
+/// directives.
 pub fn formatted(
     alloc: Global,
     structures: &[Option<Extent>],

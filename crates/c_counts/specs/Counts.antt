@@ -1,5 +1,5 @@
--- The lists of parameters and of members in a file, with how many each has, in the order of their `(` and `{`: those of a
--- tree, and then others, which stand behind it.
+-- The lists of parameters and of members in a file, with how many each has, in the order of their `(` and `{`: those of
+-- a tree, and then others, which stand behind it.
 use Rattle.std.specs.Prelude.{ℕ, suc, ◌+◌, List, [], ◌∷◌, Option, Some, None}
 use Rattle.c_syntax.specs.declared.position.Position.{Position}
 use Rattle.c_syntax.specs.Statements as s

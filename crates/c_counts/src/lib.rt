@@ -1,5 +1,5 @@
-//! How many parameters and members the lists of a file have: the first list of each kind that has more than a program may
-//! have (C99 5.2.4.1).
+//! How many parameters and members the lists of a file have: the first list of each kind that has more than a program
+//! may have (C99 5.2.4.1).
 #![tactic(auto)]
 
 pub mod declarations;

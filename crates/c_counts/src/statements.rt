@@ -125,8 +125,8 @@ fn externals(trees: &[External]) -> Excess
     so_far
 }
 
-/// How many parameters the first list of parameters in a file that has more than 127 has, and how many members the first
-/// list of members that has more than 1024, if there are such lists; in the order of their `(` and `{`.
+/// How many parameters the first list of parameters in a file that has more than 127 has, and how many members the
+/// first list of members that has more than 1024, if there are such lists; in the order of their `(` and `{`.
 pub fn excess_of(unit: &Unit) -> Excess
     ensures parameters { result.parameters ≡ first_above most_parameters
         (parameters_among (counts.counts_of (views.unit_of unit.now).externals)) }

@@ -285,7 +285,8 @@ fn is_alone(tree: &Declaration) -> bool
 }
 
 /// Types a declaration (C99 6.7), which stands in the head of a `for` (6.8.5.3) or not: its automatic variables, in
-/// order. The refusal is that of the first rule that is violated, in the order of the tokens, or that there is no memory.
+/// order. The refusal is that of the first rule that is violated, in the order of the tokens, or that there is no
+/// memory.
 pub fn declaration<'a>(
     file: &mut FileTyper<'a>,
     in_head: bool,

@@ -1,5 +1,5 @@
--- What a declarator derives its type from (C99 6.7.5): from the name outward one reads "array of 3, pointer to", and the
--- type that the specifiers name ends the list.
+-- What a declarator derives its type from (C99 6.7.5): from the name outward one reads "array of 3, pointer to", and
+-- the type that the specifiers name ends the list.
 use Rattle.std.specs.Prelude.{ℕ, ◌^◌, Bool, true, false, ◌||◌, not, ◌&&◌, nat_lt}
 use Rattle.std.specs.Prelude.{List, [], ◌∷◌, ◌++◌, Option, Some, None, is_none}
 use Rattle.c_tree.specs.declared.c_type.TypeWord.{TypeWord}

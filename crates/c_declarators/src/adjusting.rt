@@ -7,8 +7,8 @@ use c_place_rules::target::pointer_to;
 use c_tree::{CType, TypeWord};
 use std::alloc::{AllocError, Global};
 
-/// The type of a parameter that is declared with a type: an array is a pointer to its elements, and a function a pointer
-/// to it.
+/// The type of a parameter that is declared with a type: an array is a pointer to its elements, and a function a
+/// pointer to it.
 pub fn adjusted(alloc: Global, words: &[TypeWord]) -> Result<CType, AllocError>
     ensures { IfOk result (λ c_type. c_type ≡ adjusted words.now) }
 {

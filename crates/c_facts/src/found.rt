@@ -131,7 +131,8 @@ impl<'a> Found<'a> {
     ) -> Result<(), AllocError>
         ensures { OnOk result (found_of self.new ≡ with_more (heading_of heading)
             (views.more_init_declarators_in declarators.now.others)
-            (with_declarator (heading_of heading) (views.init_declarator_of declarators.now.first) (found_of self.old))) }
+            (with_declarator (heading_of heading) (views.init_declarator_of declarators.now.first)
+            (found_of self.old))) }
     {
         self.add_declarator(heading, &declarators.first)?;
         self.add_more(heading, declarators.others.as_slice())

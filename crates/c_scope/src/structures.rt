@@ -148,8 +148,8 @@ impl<'a> Structures<'a> {
         }
     }
 
-    /// This one is complete: its size and alignment, whether it has a const member, also within members, and its members
-    /// by name.
+    /// This one is complete: its size and alignment, whether it has a const member, also within members, and its
+    /// members by name.
     pub fn complete(
         &mut self,
         number: usize,

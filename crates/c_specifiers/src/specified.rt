@@ -36,8 +36,8 @@ pub enum Size {
     Void,
 }
 
-/// What the keywords among specifiers have said so far. `int` says nothing that the others do not: 6.7.2 paragraph 2 lists
-/// each type with it and without, and that alone of no words at all.
+/// What the keywords among specifiers have said so far. `int` says nothing that the others do not: 6.7.2 paragraph 2
+/// lists each type with it and without, and that alone of no words at all.
 #[derive(Clone, Copy)]
 pub struct Specified {
     /// The first storage-class specifier.

@@ -1,5 +1,5 @@
-//! The typing of function definitions and whole files (C99 6.9), and of a whole file to its typed program, or why there is
-//! none, exact against `c_unit_typing/specs/Units.antt` and `Typed.antt`.
+//! The typing of function definitions and whole files (C99 6.9), and of a whole file to its typed program, or why there
+//! is none, exact against `c_unit_typing/specs/Units.antt` and `Typed.antt`.
 #![tactic(auto)]
 
 pub mod ending;

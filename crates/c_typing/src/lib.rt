@@ -1,5 +1,6 @@
-//! Typing of constructs whose parts are typed: names, constants, operators, calls, specifiers, type names, parameters and
-//! members, with what typing carries from token to token (C99 6.5, 6.7). The recursion over the syntax stands above.
+//! Typing of constructs whose parts are typed: names, constants, operators, calls, specifiers, type names, parameters
+//! and members, with what typing carries from token to token (C99 6.5, 6.7). The recursion over the syntax stands
+//! above.
 #![tactic(auto)]
 
 pub mod callee;

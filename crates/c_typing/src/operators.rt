@@ -24,8 +24,8 @@ use c_tree::{Extent, Fixity, Lvalue, LvalueNode, TypeWord};
 use sb_base::Line;
 use std::alloc::{AllocError, Global};
 
-/// The value of an operand, among structures and unions with these extents (C99 6.3.2.1). The rule on incomplete types is
-/// violated by an lvalue, no array, whose type is not complete, and then those of `value_in`.
+/// The value of an operand, among structures and unions with these extents (C99 6.3.2.1). The rule on incomplete types
+/// is violated by an lvalue, no array, whose type is not complete, and then those of `value_in`.
 pub fn value_among(
     alloc: Global,
     extents: &[Option<Extent>],

@@ -322,8 +322,8 @@ impl<'a> Typer<'a> {
         }
     }
 
-    /// Whether a variable is an object: the text takes its address, or it is an array or a structure. What `sizeof` does not
-    /// evaluate needs no plain variables.
+    /// Whether a variable is an object: the text takes its address, or it is an array or a structure. What `sizeof`
+    /// does not evaluate needs no plain variables.
     pub fn is_object(&self, is_evaluated: bool, number: usize, words: &[TypeWord]) -> bool
         ensures { result ≡ is_object is_evaluated (state_of self.now) number words.now }
     {

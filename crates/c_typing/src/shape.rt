@@ -56,7 +56,8 @@ impl<'a> Shape<'a> {
 
     /// With one more step of the derivation.
     pub fn with_derivation(self, derivation: Derivation) -> Result<Self, AllocError>
-        ensures { IfOk result (λ shape. shape_of shape ≡ with_derivation (derivation_of derivation) (shape_of self.entry)) }
+        ensures { IfOk result (λ shape. shape_of shape ≡ with_derivation (derivation_of derivation)
+            (shape_of self.entry)) }
     {
         let Shape {
             name,
@@ -77,7 +78,8 @@ impl<'a> Shape<'a> {
         types: Vec<CType>,
         scope: ParameterScope<'a>,
     ) -> Result<Self, AllocError>
-        ensures { IfOk result (λ shape. shape_of shape ≡ with_function types.items (scope_of scope.entry) (shape_of self.entry)) }
+        ensures { IfOk result (λ shape. shape_of shape ≡ with_function types.items (scope_of scope.entry)
+            (shape_of self.entry)) }
     {
         let Shape {
             name,

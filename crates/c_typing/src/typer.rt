@@ -80,7 +80,8 @@ pub struct Typer<'a> {
     pub environment: Environment<'a>,
     /// The types of functions through pointers to which there are calls, all different.
     pub function_types: Vec<CType>,
-    /// By number, which variables of the function are objects since the text takes their addresses, where that is known.
+    /// By number, which variables of the function are objects since the text takes their addresses, where that is
+    /// known.
     pub objects: Option<Vec<bool>>,
     /// By number, of which variables of the function the text took the addresses so far.
     pub taken: Vec<bool>,

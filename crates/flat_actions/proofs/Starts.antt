@@ -40,7 +40,8 @@ by_tag (OfObject o b) P none some = some (λ e. (let z : OfObject o b ≡ Untagg
 
 module _ (map : MapSizes) (mapped : AreMapped map) (functions : ℕ) (types : ℕ → ℕ) (entry : View)
     (IsGood : Bytes → Type 0) (es : List StartEntry) (objects : Objects) (m : Bytes)
-    (statics : AreStatics map functions objects m) (entries : AreEntriesOf (views_of map functions types entry) objects es)
+    (statics : AreStatics map functions objects m) (entries : AreEntriesOf
+    (views_of map functions types entry) objects es)
     (spaces : AreSpacesAtStart map entry IsGood es m) where
   abbrev g : Views
   g = views_of map functions types entry

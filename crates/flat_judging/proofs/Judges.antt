@@ -154,15 +154,24 @@ module _ (c : Context) (ok : IsLaidOut c.sizes) (line : ℕ) (v : State) (w : Is
       ))))
       (λ e3.
       let narrow : (v.values 2 + (2 ^ 64 - v.values 0)) % 2 ^ 64 < v.values 5 = if_below _ _ e3 in
-      ended c code 5 (Spatial line) (worked c y) 6 10 R h.1.1.1.1.1.1.0
-      ((refl, record { input = refl; output = refl; taken = refl; accesses = refl; turns = refl }), Beyond refl refl (inr (omega arith))))))
+      ended c code 5 (Spatial line) (worked c y) 6 10 R h.1.1.1.1.1.1.0 (
+        (refl, record { input = refl; output = refl; taken = refl; accesses = refl; turns = refl }),
+        Beyond refl refl
+            (inr (omega arith)),
+      ))))
       (λ e2.
       let beyond : v.values 2 < v.values 0 = if_below (v.values 2) (v.values 0) e2 in
-      ended c code 7 (Spatial line) (worked c (worked c v)) 3 10 R h.1.1.1.0
-      ((refl, record { input = refl; output = refl; taken = refl; accesses = refl; turns = refl }), Beyond refl refl (inr (omega arith)))))
+      ended c code 7 (Spatial line) (worked c (worked c v)) 3 10 R h.1.1.1.0 (
+        (refl, record { input = refl; output = refl; taken = refl; accesses = refl; turns = refl }),
+        Beyond refl refl
+            (inr (omega arith)),
+      )))
       (λ e.
-      ended c code 8 (Spatial line) (worked c v) 1 10 R h.1.0
-      ((refl, record { input = refl; output = refl; taken = refl; accesses = refl; turns = refl }), Beyond refl refl (inl (if_below (v.values 0) (v.values 1) e))))
+      ended c code 8 (Spatial line) (worked c v) 1 10 R h.1.0 (
+        (refl, record { input = refl; output = refl; taken = refl; accesses = refl; turns = refl }),
+        Beyond refl refl
+            (inl (if_below (v.values 0) (v.values 1) e)),
+      ))
 
 -- ---- what the numbers say of the judgement
 

@@ -72,5 +72,6 @@ abbrev pub IsJudgeRoutine : Held → (size line scratch : ℕ) → List FlatInst
 IsJudgeRoutine h n line t r =
     (g : Views) (k : Keys) (objects : Objects) (v : Value) (size : ℕ) (runtime : Bool) (charge weight : ℕ)
     → AreMapped g.sizes
-    → Does (record { sizes = g.sizes; is_runtime = runtime; charge = charge; weight = weight }) r (IsToJudge g k objects v size h n)
+    → Does (record { sizes = g.sizes; is_runtime = runtime; charge = charge; weight = weight }) r
+    (IsToJudge g k objects v size h n)
     (λ s. 10) (λ s. IsJudged (judge size v objects) line t s)

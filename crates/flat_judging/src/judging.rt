@@ -11,8 +11,8 @@ use rv_isa::{BranchOp, LoadOp, RegOp};
 use sb_base::{Ending, Line};
 use std::alloc::{AllocError, Global};
 
-/// Judges an access of as many bytes as `size` holds, at least one, through the pointer in `pointer`: the run ends with a
-/// spatial or a temporal violation at `line` just where the judgement of the access is one, and else goes on. It may
+/// Judges an access of as many bytes as `size` holds, at least one, through the pointer in `pointer`: the run ends with
+/// a spatial or a temporal violation at `line` just where the judgement of the access is one, and else goes on. It may
 /// write the registers from `scratch` on, and shows nothing else. The only refusal is that memory fails.
 pub fn judge(
     alloc: Global,

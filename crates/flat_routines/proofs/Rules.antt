@@ -163,7 +163,8 @@ module _ (c : Context) (code : List FlatInstruction) where
       → Reaches c code b (Goes to (worked c s)) end R → Reaches c code (suc b) (Goes pc s) end R
   jump_back b pc back to s end R at e t =
       let same : pc - back ≡ to = omega arith in
-      step_on b (Goes pc s) (Goes to (worked c s)) end R (ap (λ o. act c o pc s) at ∙ ap (λ n. Goes n (worked c s)) same) t
+      step_on b (Goes pc s) (Goes to (worked c s)) end R
+      (ap (λ o. act c o pc s) at ∙ ap (λ n. Goes n (worked c s)) same) t
 
   -- a branch, by its condition
   pub branch : (b pc : ℕ) (s : State) (op : BranchOp) (x : ℕ) (y : RightOperand) (past end : ℕ) (R : Outcome → Type 0)

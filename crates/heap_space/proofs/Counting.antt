@@ -86,8 +86,10 @@ module _ (k : Keys) (objects : Objects) (rows : List BlockRow) (t : IsTable k ob
       let p = block_parts (object_at objects n) l in
       let q = block_parts (object_at objects j) h in
       let beside : AreBeside (object_at objects n) (object_at objects j) = d.apart n j ne p.1 q.1 in
-      let some : 16 ≤ object_room (object_at objects n).storage (object_at objects n).size = subst (λ s. 16 ≤ object_room s (object_at objects n).size) (sym p.0) (omega arith) in
-      let more : 16 ≤ object_room (object_at objects j).storage (object_at objects j).size = subst (λ s. 16 ≤ object_room s (object_at objects j).size) (sym q.0) (omega arith) in
+      let some : 16 ≤ object_room (object_at objects n).storage (object_at objects n).size =
+      subst (λ s. 16 ≤ object_room s (object_at objects n).size) (sym p.0) (omega arith) in
+      let more : 16 ≤ object_room (object_at objects j).storage (object_at objects j).size =
+      subst (λ s. 16 ≤ object_room s (object_at objects j).size) (sym q.0) (omega arith) in
       ⊎_elim (λ x. absurd (omega arith)) (λ x. absurd (omega arith)) beside)
       (cases_eq n j)
 
@@ -107,7 +109,8 @@ module _ (k : Keys) (objects : Objects) (rows : List BlockRow) (t : IsTable k ob
       (λ i j l h e.
       let a = t.block_of i l in let b = t.block_of j h in
       let same : a.0 ≡ b.0 = rank_once objects a.0 b.0
-      (live_block (object_at objects a.0) a.1.block a.1.live) (live_block (object_at objects b.0) b.1.block b.1.live) e in
+      (live_block (object_at objects a.0) a.1.block a.1.live)
+      (live_block (object_at objects b.0) b.1.block b.1.live) e in
       same_row i j l h (a.1.start ∙ ap (λ n. (object_at objects n).address) same ∙ sym b.1.start))
 
   blocks_below : block_count objects ≤ length rows

@@ -1,5 +1,6 @@
 -- A row is inserted: those behind it are moved up by one.
-use Rattle.std.proofs.Common.{◌≡◌, ◌≢◌, ℕ, zero, suc, ◌+◌, ◌-◌, ◌*◌, ◌%◌, ◌^◌, ◌<◌, ◌≤◌, ◌⊎◌, inl, inr, ⊎_elim, List, []}
+use Rattle.std.proofs.Common.{◌≡◌, ◌≢◌, ℕ, zero, suc, ◌+◌, ◌-◌, ◌*◌, ◌%◌, ◌^◌, ◌<◌, ◌≤◌, ◌⊎◌, inl, inr, ⊎_elim, List}
+use Rattle.std.proofs.Common.{[]}
 use Rattle.std.proofs.Common.{◌∷◌, true, false, refl, sym, ap, ◌∙◌, subst, arith}
 use Rattle.std.proofs.lemmas.Bool.{cases_lt, eq-eqb, ne_eqb}
 use Rattle.addr_map.specs.Places.{MapSizes}
@@ -44,13 +45,17 @@ same_four m p q a b c d a' b' c' d' ea eb ec ed ea' eb' ec' ed' l =
     let m2 = store 8 m1 b' (load 8 m1 b) in
     let m3 = store 8 m2 c' (load 8 m2 c) in
     let w1 : load 8 m1 b ≡ load 8 m (p + 8) =
-    load_beside 8 8 m a' b (load 8 m a) (⊎_elim (λ x. inl (omega arith)) (λ x. inr (omega arith)) l) ∙ ap (load 8 m) eb in
+    load_beside 8 8 m a' b (load 8 m a) (⊎_elim (λ x. inl (omega arith)) (λ x. inr (omega arith)) l)
+    ∙ ap (load 8 m) eb in
     let w2 : load 8 m2 c ≡ load 8 m (p + 16) =
-    load_beside 8 8 m1 b' c (load 8 m1 b) (⊎_elim (λ x. inl (omega arith)) (λ x. inr (omega arith)) l) ∙ load_beside 8 8 m a' c (load 8 m a) (⊎_elim (λ x. inl (omega arith)) (λ x. inr (omega arith)) l)
+    load_beside 8 8 m1 b' c (load 8 m1 b) (⊎_elim (λ x. inl (omega arith)) (λ x. inr (omega arith)) l)
+    ∙ load_beside 8 8 m a' c (load 8 m a) (⊎_elim (λ x. inl (omega arith)) (λ x. inr (omega arith)) l)
     ∙ ap (load 8 m) ec in
     let w3 : load 8 m3 d ≡ load 8 m (p + 24) =
-    load_beside 8 8 m2 c' d (load 8 m2 c) (⊎_elim (λ x. inl (omega arith)) (λ x. inr (omega arith)) l) ∙ load_beside 8 8 m1 b' d (load 8 m1 b) (⊎_elim (λ x. inl (omega arith)) (λ x. inr (omega arith)) l)
-    ∙ load_beside 8 8 m a' d (load 8 m a) (⊎_elim (λ x. inl (omega arith)) (λ x. inr (omega arith)) l) ∙ ap (load 8 m) ed in
+    load_beside 8 8 m2 c' d (load 8 m2 c) (⊎_elim (λ x. inl (omega arith)) (λ x. inr (omega arith)) l)
+    ∙ load_beside 8 8 m1 b' d (load 8 m1 b) (⊎_elim (λ x. inl (omega arith)) (λ x. inr (omega arith)) l)
+    ∙ load_beside 8 8 m a' d (load 8 m a) (⊎_elim (λ x. inl (omega arith)) (λ x. inr (omega arith)) l)
+    ∙ ap (load 8 m) ed in
     let w0 : load 8 m a ≡ load 8 m p = ap (load 8 m) ea in
     four m a' (load 8 m a) b' (load 8 m1 b) c' (load 8 m2 c) d' (load 8 m3 d) q (load 8 m p) (q + 8) (load 8 m (p + 8))
     (q + 16) (load 8 m (p + 16)) (q + 24) (load 8 m (p + 24)) ea' w0 eb' w1 ec' w2 ed' w3

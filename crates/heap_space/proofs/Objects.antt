@@ -74,7 +74,8 @@ module _ (k : Keys) (objects : Objects) (rows : List BlockRow) (first last size 
       let p = block_parts (object_at objects j) live in
       let row = t.row_of j p.1 p.0 in
       let start = row.2.start in let size' = row.2.size in
-      let end : row_end (get_or rows row.0 no_row) ≡ (object_at objects j).address + block_room (object_at objects j).size =
+      let end : row_end (get_or rows row.0 no_row) ≡ (object_at objects j).address + block_room
+      (object_at objects j).size =
       ap (λ a. a + block_room (get_or rows row.0 no_row).size) start
       ∙ ap (λ z. (object_at objects j).address + block_room z) size' in
       ⊎_elim (λ l. inl (omega arith)) (λ l. inr (omega arith)) (gap_clear first (last + 1) n rows order row.0 row.1)

@@ -229,7 +229,8 @@ module _ (c : Context) (ok : IsLaidOut c.sizes) (lie : IsTableLaidOut c.sizes) (
       let result = row_written c.sizes lie m s'.memory g (v.values 0) (v.values 1) f.index k count less h.moved words
       f.inserted fits in
       quiet_end c ok (alone c.sizes) v (tail c.sizes) 39 s' J shown'
-      (tail_quiet c lie s' (v.values 0) (v.values 1) gap f.index (gap + room) total h.carries less (omega arith) counted)
+      (tail_quiet c lie s' (v.values 0) (v.values 1) gap f.index (gap + room) total h.carries less
+      (omega arith) counted)
       (has_back (alone c.sizes) 28 move_loop (tail c.sizes) (has_27 c.sizes).1)
       (subst (λ x. Result c.sizes m (v.values 0) (v.values 1) x (effects c (tail c.sizes) s').memory) (sym does.0)
       (subst (Result c.sizes m (v.values 0) (v.values 1) gap) (sym does.1) result))))
@@ -291,8 +292,10 @@ module _ (c : Context) (ok : IsLaidOut c.sizes) (lie : IsTableLaidOut c.sizes) (
       let begin : region_start c.sizes Heap % 2 ^ 64 ≡ region_start c.sizes Heap =
       (let some = lie.heap_some in omega arith) in
       let cursor : (s.values 6 + 8) % 2 ^ 64 ≡ row_cell c.sizes 0 = omega arith in
-      let end : ((s.values 7 * 32) % 2 ^ 64 + (s.values 6 + 8) % 2 ^ 64) % 2 ^ 64 ≡ row_cell c.sizes total = omega arith in
-      quiet_line c ok (alone c.sizes) v (seek_head c.sizes) (total * (7 + 2) + 1 + (2 + suc (11 * total + 10))) 11 s 48 J
+      let end : ((s.values 7 * 32) % 2 ^ 64 + (s.values 6 + 8) % 2 ^ 64) % 2 ^ 64
+      ≡ row_cell c.sizes total = omega arith in
+      quiet_line c ok (alone c.sizes) v (seek_head c.sizes)
+      (total * (7 + 2) + 1 + (2 + suc (11 * total + 10))) 11 s 48 J
       shown quiet (has_11 c.sizes)
       (λ s1. quiet_next c ok (alone c.sizes) v (total * (7 + 2) + 1) (2 + suc (11 * total + 10)) 16 25 48 t FoundGap J
       (quiet_words c (seek_head c.sizes) s quiet ws)
@@ -342,7 +345,8 @@ module _ (c : Context) (ok : IsLaidOut c.sizes) (lie : IsTableLaidOut c.sizes) (
       (λ x y z. z)
       (quiet_line c ok (alone c.sizes) v (place_head c.sizes) (suc (7 + suc (5 + rest))) 0 v 48 J (shows_itself v) quiet
       (has_0 c.sizes)
-      (λ s1. quiet_branch c ok (alone c.sizes) v (7 + suc (5 + rest)) 2 t Bltu 3 (Register 0) 45 48 J (has_2 c.sizes).0 s1
+      (λ s1. quiet_branch c ok (alone c.sizes) v (7 + suc (5 + rest)) 2 t Bltu 3 (Register 0) 45 48 J
+      (has_2 c.sizes).0 s1
       (λ e s2. quiet_arrived c ok (alone c.sizes) v (7 + suc (5 + rest)) 48 48 (worked c t) J refl (
         s2,
         nothing_placed c.sizes m (v.values 0) (v.values 1) 0 m g
@@ -351,7 +355,8 @@ module _ (c : Context) (ok : IsLaidOut c.sizes) (lie : IsTableLaidOut c.sizes) (
       ))
       (λ e s2.
       let small : v.values 0 ≤ region_last c.sizes Heap = (let l = if_not_less _ _ e in omega arith) in
-      quiet_line c ok (alone c.sizes) v (count_head c.sizes) (suc (5 + rest)) 3 (worked c t) 48 J s2 quiet' (has_3 c.sizes)
+      quiet_line c ok (alone c.sizes) v (count_head c.sizes) (suc (5 + rest)) 3 (worked c t) 48 J s2 quiet'
+      (has_3 c.sizes)
       (λ s3. quiet_branch c ok (alone c.sizes) v (5 + rest) 10 u Bgeu 7 (Number c.sizes.budgets.blocks) 37 48 J
       (has_10 c.sizes).0 s3
       (λ e' s4. quiet_arrived c ok (alone c.sizes) v (5 + rest) 48 48 (worked c u) J refl (
@@ -361,7 +366,8 @@ module _ (c : Context) (ok : IsLaidOut c.sizes) (lie : IsTableLaidOut c.sizes) (
             (block_rows c.sizes m)
             (let l = if_not_below _ _ e' in let n = rows_length m (row_cell c.sizes 0) total in omega arith)) refl refl,
       ))
-      (λ e' s4. seeks_gap (worked c u) (worked_words c u (quiet_words c (count_head c.sizes) (worked c t) quiet' wt)) s4 refl
+      (λ e' s4. seeks_gap (worked c u) (worked_words c u (quiet_words c (count_head c.sizes) (worked c t) quiet' wt))
+      s4 refl
       refl refl last_is (room_rounded (v.values 0) (omega arith)) at got refl
       (let l = if_below _ _ e' in omega arith) small)))))
 
@@ -388,7 +394,8 @@ place_does map a k o t mapped apart below results count runtime charge weight =
       own_distinct = own_distinct t;
     } in
     let f = place_registers a k o t in
-    routine c 11 2 f (alone map) (λ s. HasBlocks map count s.memory) (registers_rename (a ∷ k ∷ []) (o ∷ []) own t r) refl
+    routine c 11 2 f (alone map) (λ s. HasBlocks map count s.memory)
+    (registers_rename (a ∷ k ∷ []) (o ∷ []) own t r) refl
     (λ s. 32 + 20 * count)
     (λ s. Quietly (through f s) (λ values m'. Result map s.memory (s.values a) (s.values k) (values 2) m'))
     (HasPlaced map a k o t)

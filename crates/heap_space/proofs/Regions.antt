@@ -3,7 +3,8 @@ use Rattle.std.proofs.Common.{◌≡◌, ℕ, ◌+◌, ◌*◌, ◌%◌, ◌^◌
 use Rattle.std.specs.Prelude.{◌==◌, nat_lt}
 use Rattle.std.proofs.lemmas.Bool.{lt-ltb, le-ltb, ltb-true, ltb-false}
 use Rattle.addr_map.specs.declared.region.Region.TheVariants.{Heap, Blocks, Cells}
-use Rattle.addr_map.specs.Places.{MapSizes, AreMapped, objects_begin, spaces_begin, region_size, region_start, region_last, region_end}
+use Rattle.addr_map.specs.Places.{MapSizes, AreMapped, objects_begin, spaces_begin, region_size, region_start}
+use Rattle.addr_map.specs.Places.{region_last, region_end}
 use Rattle.rv_isa.specs.declared.instruction.BranchOp.TheVariants.{Bne, Bltu, Bgeu}
 use Rattle.rv_isa.specs.Results.{branch_taken}
 

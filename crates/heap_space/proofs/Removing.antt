@@ -496,7 +496,8 @@ module _ (c : Context) (ok : IsLaidOut c.sizes) (lie : IsTableLaidOut c.sizes) (
       let f = lie.first in let e = lie.ends in let s = lie.small in let n = lie.inside in
       let some = lie.some_block in
       let at : (region_start c.sizes Blocks % 2 ^ 64 + 0) % 2 ^ 64 ≡ total_cell c.sizes = omega arith in
-      let first : ((region_start c.sizes Blocks % 2 ^ 64 + 8) % 2 ^ 64 + 0) % 2 ^ 64 ≡ row_cell c.sizes 0 = omega arith in (
+      let first : ((region_start c.sizes Blocks % 2 ^ 64 + 8) % 2 ^ 64 + 0) % 2 ^ 64
+      ≡ row_cell c.sizes 0 = omega arith in (
         tt,
         (
           in_spaces c _ (total_cell c.sizes) 8 at (omega arith) (omega arith),
@@ -524,8 +525,10 @@ module _ (c : Context) (ok : IsLaidOut c.sizes) (lie : IsTableLaidOut c.sizes) (
       let few = g.few in let least = lie.few in
       let some = some_left c ok lie v v.memory few (v.values 0) total (row_cell c.sizes 0) has in
       let at : (region_start c.sizes Blocks % 2 ^ 64 + 0) % 2 ^ 64 ≡ total_cell c.sizes = omega arith in
-      let got : load 8 v.memory ((region_start c.sizes Blocks % 2 ^ 64 + 0) % 2 ^ 64) ≡ total = ap (load 8 v.memory) at in
-      let first : ((region_start c.sizes Blocks % 2 ^ 64 + 8) % 2 ^ 64 + 0) % 2 ^ 64 ≡ row_cell c.sizes 0 = omega arith in
+      let got : load 8 v.memory ((region_start c.sizes Blocks % 2 ^ 64 + 0) % 2 ^ 64)
+      ≡ total = ap (load 8 v.memory) at in
+      let first : ((region_start c.sizes Blocks % 2 ^ 64 + 8) % 2 ^ 64 + 0) % 2 ^ 64
+      ≡ row_cell c.sizes 0 = omega arith in
       record {
         seen = 0;
         count = omega arith;

@@ -29,8 +29,8 @@ use Rattle.heap_space.specs.Routines.{seek_one, place_code}
 use Rattle.heap_space.proofs.Regions.{IsTableLaidOut, not_below, is_below, if_not_below, if_below}
 use Rattle.heap_space.proofs.Lists.{gap_here, gap_behind, gap_most, row_first, row_behind, rows_onward}
 
--- the routine alone: 0 the size, 1 the key, 2 the result, 3 the last address of the heap, 4 the room, 5 the place, 6 the
--- cursor, 7 the end of the rows, 8 where the search stops, 9 a word, 10 the end of the room
+-- the routine alone: 0 the size, 1 the key, 2 the result, 3 the last address of the heap, 4 the room, 5 the place, 6
+-- the cursor, 7 the end of the rows, 8 where the search stops, 9 a word, 10 the end of the room
 abbrev pub alone : MapSizes → List FlatInstruction
 alone map = place_code map 0 1 2 3 4 5 6 7 8 9 10
 
@@ -213,7 +213,8 @@ module _ (c : Context) (ok : IsLaidOut c.sizes) (lie : IsTableLaidOut c.sizes) (
                 cursor = omega arith;
                 stop = h.stop;
                 rest = ap (λ z. first_gap z n (rows_from m (row_cell c.sizes (suc h.seen)) k)) is_end ∙ next.0;
-                order = subst (λ z. AreInOrder z (region_end c.sizes Heap) (rows_from m (row_cell c.sizes (suc h.seen)) k))
+                order = subst (λ z. AreInOrder z (region_end c.sizes Heap)
+                    (rows_from m (row_cell c.sizes (suc h.seen)) k))
                     (sym is_end) next.1;
                 inserted = next.2;
               }),

@@ -12,8 +12,8 @@ use flat_meaning::{FlatInstruction, RightOperand};
 use rv_isa::{BranchOp, LoadOp, RegOp, StoreOp};
 use std::alloc::{AllocError, Global};
 
-/// Tells in `found` whether a live block has the start in `start` and the key in `key`: 1 where one has, and then `size`
-/// has its size, else 0.
+/// Tells in `found` whether a live block has the start in `start` and the key in `key`: 1 where one has, and then
+/// `size` has its size, else 0.
 pub fn find(
     alloc: Global,
     map: &AddrMap,

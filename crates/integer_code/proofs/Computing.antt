@@ -149,7 +149,8 @@ module _ (m : MapSizes) (p : FlatProgram) (x : Position) where
               ∙ ap (λ k. Over (code_of z) (report_of z) (record s { work = k })) sum;
         }
       where
-        bounded : w + w * (1 + length (report_of (ending.Divide line))) ≤ (4 + length (report_of (ending.Divide line))) * w
+        bounded : w + w * (1 + length (report_of (ending.Divide line))) ≤
+            (4 + length (report_of (ending.Divide line))) * w
         bounded =
             let r = length (report_of (ending.Divide line)) in
             let e1 : w * (1 + r) ≡ (1 + r) * w = mul_comm w (1 + r) in
@@ -189,7 +190,8 @@ module _ (m : MapSizes) (p : FlatProgram) (x : Position) where
         → Answers o t (binary_value o t y z)
     unfolding binary_code binary_value
     two_values Add t has =
-        straight (binary_code Add t line d a b n) d _ n 3 has (wrapping_gives c d n x.state words op.Add Addw t a b _ (sum_by y z) (int_sum y z))
+        straight (binary_code Add t line d a b n) d _ n 3 has
+        (wrapping_gives c d n x.state words op.Add Addw t a b _ (sum_by y z) (int_sum y z))
         (plain_wrapping op.Add Addw t d a b) (length_wrapping op.Add Addw t d a b)
     two_values Subtract t has =
         straight (binary_code Subtract t line d a b n) d _ n 3 has
@@ -197,7 +199,8 @@ module _ (m : MapSizes) (p : FlatProgram) (x : Position) where
         (int_difference y z (words.values b)))
         (plain_wrapping op.Sub Subw t d a b) (length_wrapping op.Sub Subw t d a b)
     two_values Multiply t has =
-        straight (binary_code Multiply t line d a b n) d _ n 4 has (wrapping_gives c d n x.state words op.Mul Mulw t a b _ (product_by y z) (int_product y z))
+        straight (binary_code Multiply t line d a b n) d _ n 4 has
+        (wrapping_gives c d n x.state words op.Mul Mulw t a b _ (product_by y z) (int_product y z))
         (plain_wrapping op.Mul Mulw t d a b) (omega (arith, length_wrapping op.Mul Mulw t d a b))
     two_values Divide t has =
         let o = if is_signed t then op.Div else op.Divu in
@@ -210,27 +213,37 @@ module _ (m : MapSizes) (p : FlatProgram) (x : Position) where
         by_zero Remainder t (fit t (f y z)) (divides o t line d a b n f (remainder_by (is_signed t)) has words)
         (ends o t line d a b n f (remainder_by (is_signed t)) has words)
     two_values ShiftLeft t has =
-        straight (binary_code ShiftLeft t line d a b n) d _ n 4 has (shift_left_gives c d n x.state words t a b) (plain_left t d a b)
+        straight (binary_code ShiftLeft t line d a b n) d _ n 4 has (shift_left_gives c d n x.state words t a b)
+        (plain_left t d a b)
         (omega (arith, length_left t d a b))
     two_values ShiftRight t has =
-        straight (binary_code ShiftRight t line d a b n) d _ n 4 has (shift_right_gives c d n x.state words t a b below) (plain_right t d a b n)
+        straight (binary_code ShiftRight t line d a b n) d _ n 4 has (shift_right_gives c d n x.state words t a b below)
+        (plain_right t d a b n)
         (omega (arith, length_right t d a b n))
     two_values BitAnd t has =
-        straight (binary_code BitAnd t line d a b n) d _ n 4 has (alone_gives c d n x.state words op.And a b _ (and_by y z)) (tt, tt) (omega arith)
+        straight (binary_code BitAnd t line d a b n) d _ n 4 has
+        (alone_gives c d n x.state words op.And a b _ (and_by y z)) (tt, tt) (omega arith)
     two_values BitXor t has =
-        straight (binary_code BitXor t line d a b n) d _ n 4 has (alone_gives c d n x.state words op.Xor a b _ (xor_by y z)) (tt, tt) (omega arith)
+        straight (binary_code BitXor t line d a b n) d _ n 4 has
+        (alone_gives c d n x.state words op.Xor a b _ (xor_by y z)) (tt, tt) (omega arith)
     two_values BitOr t has =
-        straight (binary_code BitOr t line d a b n) d _ n 4 has (alone_gives c d n x.state words op.Or a b _ (or_by y z)) (tt, tt) (omega arith)
+        straight (binary_code BitOr t line d a b n) d _ n 4 has
+        (alone_gives c d n x.state words op.Or a b _ (or_by y z)) (tt, tt) (omega arith)
     two_values Less t has =
-        straight (binary_code Less t line d a b n) d _ n 4 has (alone_gives c d n x.state words _ a b _ (less_by t y z)) (tt, tt) (omega arith)
+        straight (binary_code Less t line d a b n) d _ n 4 has (alone_gives c d n x.state words _ a b _ (less_by t y z))
+        (tt, tt) (omega arith)
     two_values Greater t has =
-        straight (binary_code Greater t line d a b n) d _ n 4 has (alone_gives c d n x.state words _ b a _ (less_by t z y)) (tt, tt) (omega arith)
+        straight (binary_code Greater t line d a b n) d _ n 4 has
+        (alone_gives c d n x.state words _ b a _ (less_by t z y)) (tt, tt) (omega arith)
     two_values LessOrEqual t has =
-        straight (binary_code LessOrEqual t line d a b n) d _ n 4 has (turned_gives c d n x.state words _ b a _ (less_by t z y)) (tt, (tt, tt)) (omega arith)
+        straight (binary_code LessOrEqual t line d a b n) d _ n 4 has
+        (turned_gives c d n x.state words _ b a _ (less_by t z y)) (tt, (tt, tt)) (omega arith)
     two_values GreaterOrEqual t has =
-        straight (binary_code GreaterOrEqual t line d a b n) d _ n 4 has (turned_gives c d n x.state words _ a b _ (less_by t y z)) (tt, (tt, tt)) (omega arith)
+        straight (binary_code GreaterOrEqual t line d a b n) d _ n 4 has
+        (turned_gives c d n x.state words _ a b _ (less_by t y z)) (tt, (tt, tt)) (omega arith)
     two_values Equal t has =
-        straight (binary_code Equal t line d a b n) d _ n 4 has (equal_gives c d n x.state words a b) (tt, (tt, tt)) (omega arith)
+        straight (binary_code Equal t line d a b n) d _ n 4 has (equal_gives c d n x.state words a b) (tt, (tt, tt))
+        (omega arith)
     two_values NotEqual t has =
         straight (binary_code NotEqual t line d a b n) d _ n 4 has (unequal_gives c d n x.state words a b)
         (tt, (tt, (tt, tt))) (omega arith)
@@ -239,18 +252,22 @@ module _ (m : MapSizes) (p : FlatProgram) (x : Position) where
 pub computing : AreOperators operators
 computing = record {
   constant = λ m p x d v n into low here.
-      straight m p x (constant_code d v) d v n 5 here.has (constant_gives (context m p x.function x.frames) d n x.state v low)
+      straight m p x (constant_code d v) d v n 5 here.has
+      (constant_gives (context m p x.function x.frames) d n x.state v low)
       (plain_constant d v) (length_constant d v);
   unary = λ m p x o t d y n into from here.
       straight m p x (unary_code o t d y n) d _ n 6 here.has
       (unary_gives (context m p x.function x.frames) d n x.state here.words o t y from) (plain_unary o t d y n)
       (omega (arith, length_unary o t d y n));
   binary = λ m p x o t d a b n line v into left right here e.
-      subst (Answers m p x line d a b n left here.words o t) e (two_values m p x line d a b n left here.words o t here.has);
+      subst (Answers m p x line d a b n left here.words o t) e
+      (two_values m p x line d a b n left here.words o t here.has);
   divides = λ m p x o t d a b n line into left right here e.
-      subst (Answers m p x line d a b n left here.words o t) e (two_values m p x line d a b n left here.words o t here.has);
+      subst (Answers m p x line d a b n left here.words o t) e
+      (two_values m p x line d a b n left here.words o t here.has);
   convert = λ m p x t d y n into from here.
       straight m p x (conversion_code t d y) d _ n 2 here.has
-      (conversion_gives (context m p x.function x.frames) d n t y x.state (here.words.values y)) (plain_conversion t d y)
+      (conversion_gives (context m p x.function x.frames) d n t y x.state (here.words.values y))
+      (plain_conversion t d y)
       (length_conversion t d y);
 }

@@ -1,6 +1,7 @@
 -- The operators of C on integers in flat code (C99 6.5.3.3, 6.5.5 to 6.5.12) and their conversions (6.3.1.3), on
 -- registers that hold words: `into` gets the result. The register `scratch` may change.
-use Rattle.std.specs.Prelude.{ℕ, ◌-◌, ◌/◌, ◌%◌, ◌^◌, Bool, ◌||◌, ◌==◌, nat_lt, nat_le, if◌then◌else◌, List, [], ◌∷◌, ◌++◌}
+use Rattle.std.specs.Prelude.{ℕ, ◌-◌, ◌/◌, ◌%◌, ◌^◌, Bool, ◌||◌, ◌==◌, nat_lt, nat_le, if◌then◌else◌, List, [], ◌∷◌}
+use Rattle.std.specs.Prelude.{◌++◌}
 use Rattle.sb_base.specs.declared.ending.Ending.TheVariants as ending
 use Rattle.rv_isa.specs.declared.instruction.BranchOp.TheVariants.{Bne}
 use Rattle.rv_isa.specs.declared.instruction.RegOp.{RegOp}
@@ -26,8 +27,8 @@ use Rattle.flat_meaning.specs.declared.instruction.FlatInstruction.TheVariants.{
 
 -- ---- constants
 
--- A number in an instruction has at most 32 bits with its sign, and not quite all of the positive ones, so that it takes
--- two instructions of the machine (RISC-V unprivileged ISA manual, 2.4: LUI and ADDI).
+-- A number in an instruction has at most 32 bits with its sign, and not quite all of the positive ones, so that it
+-- takes two instructions of the machine (RISC-V unprivileged ISA manual, 2.4: LUI and ADDI).
 abbrev pub is_short : ℕ → Bool
 is_short w = nat_lt w (2 ^ 31 - 2 ^ 11) || nat_le (2 ^ 64 - 2 ^ 31) w
 

@@ -1,5 +1,5 @@
--- The typed programs that have integers alone: no objects, pointers or structures, and of the library `putchar`, `getchar`,
--- `exit` and `abort`.
+-- The typed programs that have integers alone: no objects, pointers or structures, and of the library `putchar`,
+-- `getchar`, `exit` and `abort`.
 use Rattle.std.specs.Prelude.{ℕ, Bool, true, false, not, ◌&&◌, List, [], ◌∷◌, Option, Some, None}
 use Rattle.std.specs.List.{list_all}
 use Rattle.obj_memory.specs.declared.value.Scalar.TheVariants.{Integer, Pointer}
@@ -16,7 +16,8 @@ use Rattle.c_tree.specs.Tree.{assign_plain, change_plain, step_plain, call, libr
 use Rattle.c_tree.specs.Statements.{Initializer, of_plain, of_object, DeclaredVariable, First, nothing}
 use Rattle.c_tree.specs.Statements.{first_expression, first_declaration, Statement, expression_statement, empty}
 use Rattle.c_tree.specs.Statements.{declaration, block, if_then, if_else, while_do, do_while, for, switch, break}
-use Rattle.c_tree.specs.Statements.{continue, return, Statements, no_statements, statements, SwitchItems, no_items, items}
+use Rattle.c_tree.specs.Statements.{continue, return, Statements, no_statements, statements, SwitchItems, no_items}
+use Rattle.c_tree.specs.Statements.{items}
 use Rattle.c_tree.specs.Programs.{Function, FunctionType, StaticObject, Program}
 use Rattle.c_tree.specs.Blocks.{all_of}
 

@@ -3,7 +3,8 @@
 ghost use Rattle.std.specs.Prelude.{◌≡◌, map};
 ghost use Rattle.std.specs.List.{list_all};
 ghost use Rattle.c_tree.specs.View.{function_of, function_type_of, program_of};
-ghost use Rattle.integer_programs.specs.Programs.{gives_no_pointer, is_integer_function, is_integer_program, is_integer_variable};
+ghost use Rattle.integer_programs.specs.Programs.{gives_no_pointer, is_integer_function, is_integer_program};
+ghost use Rattle.integer_programs.specs.Programs.{is_integer_variable};
 
 use crate::expression::{has_no_pointer, is_integer_kind};
 use crate::statement::are_integer_statements;
@@ -57,8 +58,8 @@ fn give_no_pointers(types: &[FunctionType]) -> bool
     true
 }
 
-/// Whether a program has integers alone: no static objects, literals among them, no objects, pointers or structures, and
-/// of the library `putchar`, `getchar`, `exit` and `abort`. It takes no memory.
+/// Whether a program has integers alone: no static objects, literals among them, no objects, pointers or structures,
+/// and of the library `putchar`, `getchar`, `exit` and `abort`. It takes no memory.
 #[tactic(auto, unfolding(crate::specs::Programs::is_integer_program))]
 pub fn is_integer_program(program: &Program) -> bool
     ensures { result ≡ is_integer_program (program_of program.now) }

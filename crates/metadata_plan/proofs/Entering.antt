@@ -181,7 +181,8 @@ module _ (o : OperatorCode) (views : Views) (g : Setting) (t : Tac) (address : (
     enters_matches values most keys K at args fits stacked work stands wait =
         let th = there o views g t address p ops ex part f c found in
         let parts = integer_function o views g t address p ops ex part f c found in
-        let none = no_objects_of c.parameters c.entered (integers_front c.parameters c.variables parts.variables) parts.entered in
+        let none = no_objects_of c.parameters c.entered (integers_front c.parameters c.variables parts.variables)
+        parts.entered in
         let header = header_of_code c in
         let set = set_up_gives g header vs line (begun s) none stacked stack
         (le-leb (s.charged + c.room) g.sizes.budgets.calls fits) in
@@ -243,7 +244,8 @@ module _ (o : OperatorCode) (views : Views) (g : Setting) (t : Tac) (address : (
             place = refl;
             code = c;
             there = found;
-            holds = holds_free c parts.variables no_temps t'.plain (arguments first (length c.parameters) values) z.values
+            holds = holds_free c parts.variables no_temps t'.plain
+                (arguments first (length c.parameters) values) z.values
                 (callee_holds c vs first values parts.variables args) (λ y lt. z.same y);
             safe = parts.safe;
             alike = record {
@@ -269,7 +271,8 @@ module _ (o : OperatorCode) (views : Views) (g : Setting) (t : Tac) (address : (
         → g.sizes.budgets.calls < s.charged + c.room → s.charged ≤ g.sizes.budgets.calls
         → v.work ≤ factor * s.work + 4 → Gives call_stage
     exhausts has more fits work =
-        let none = exhausted g (header_of_code c) vs line (begun s) (not_le (s.charged + c.room) g.sizes.budgets.calls more)
+        let none = exhausted g (header_of_code c) vs line (begun s)
+        (not_le (s.charged + c.room) g.sizes.budgets.calls more)
         in
         let r = tests_end m p u pc v xs c.room line first has low (omega arith) (omega arith) in
         let result : Gives (Over (Stack line) (record (begun s) { work = s.work + 1 })) =

@@ -33,7 +33,8 @@ use Rattle.metadata_plan.specs.Part.{IsIntegerCode}
 use Rattle.metadata_plan.specs.Matching.{factor, IsAt, MatchesBy, Matches}
 use Rattle.metadata_plan.proofs.Flat.{words_kept}
 use Rattle.metadata_plan.proofs.Standing.{node, Result}
-use Rattle.metadata_plan.proofs.Simple.{constant, get_plain, set_plain, zero_of, convert, unary, binary, branch, case, turn}
+use Rattle.metadata_plan.proofs.Simple.{constant, get_plain, set_plain, zero_of, convert, unary, binary, branch, case}
+use Rattle.metadata_plan.proofs.Simple.{turn}
 use Rattle.metadata_plan.proofs.Updating.{update_plain_step}
 use Rattle.metadata_plan.proofs.Library.{library_step}
 use Rattle.metadata_plan.proofs.Stepping.{call_step, return_step, begins}

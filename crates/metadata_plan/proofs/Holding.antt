@@ -84,7 +84,8 @@ module _ (c : CodeFunction) (integers : are_integers (all_variables c) ≡ true)
           → (if b then rvalue (integer w) else temps i) ≡ rvalue (integer (after (temporary_register c i)))
       by i lt true same =
           let is : i ≡ d = eqb-true i d same in
-          ap (λ n. rvalue (integer n)) (sym e.gives) ∙ ap (λ k. rvalue (integer (after (temporary_register c k)))) (sym is)
+          ap (λ n. rvalue (integer n)) (sym e.gives) ∙ ap (λ k. rvalue (integer (after (temporary_register c k))))
+          (sym is)
       by i lt false other =
           let ne = eqb-false i d other in
           h.temporaries i lt

@@ -1,5 +1,6 @@
 -- Blocks that are laid one behind the other make an expansion.
-use Rattle.std.proofs.Common.{◌≡◌, ℕ, zero, suc, ◌+◌, ◌-◌, ◌<◌, ◌≤◌, refl, sym, ap, ◌∙◌, subst, arith, Bool, true, false}
+use Rattle.std.proofs.Common.{◌≡◌, ℕ, zero, suc, ◌+◌, ◌-◌, ◌<◌, ◌≤◌, refl, sym, ap, ◌∙◌, subst, arith, Bool, true}
+use Rattle.std.proofs.Common.{false}
 use Rattle.std.proofs.Common.{List, [], ◌∷◌, ◌++◌, length, length-append, append_assoc, append-nil, drop, Some}
 use Rattle.std.proofs.Common.{ltb-true, ltb-false}
 use Rattle.std.specs.Prelude.{slice_get, nat_lt, ◌==◌, not, ◌&&◌, if◌then◌else◌}
@@ -21,7 +22,8 @@ use Rattle.metadata_plan.specs.Blocks.{block, prologue}
 use Rattle.metadata_plan.specs.Expanded.{Leads, Falls, Forward, Back, LeadOn, IsPut, IsExpandedFunction, ExpandsAt}
 use Rattle.metadata_plan.specs.Expanded.{EntersAt, IsExpanded}
 use Rattle.metadata_plan.specs.Laid.{jump, jump_unless, falls, is_join, jumps, jump_count, size_at, size_from}
-use Rattle.metadata_plan.specs.Laid.{begin_size, place_of, laid_from, begin_code, body_of, function_of, functions_of, entry_of, address_of}
+use Rattle.metadata_plan.specs.Laid.{begin_size, place_of, laid_from, begin_code, body_of, function_of, functions_of}
+use Rattle.metadata_plan.specs.Laid.{entry_of, address_of}
 use Rattle.metadata_plan.specs.Laid.{place_in, program_of}
 
 -- ---- what stands in a list
@@ -78,7 +80,8 @@ drop_past [] (suc n) le = refl
 drop_past (x ∷ is) zero le = absurd (omega arith)
 drop_past (x ∷ is) (suc n) le = drop_past is n (omega arith)
 
-pub drop_at : (is : List Instruction) (n : ℕ) (i : Instruction) → slice_get is n ≡ Some i → drop n is ≡ i ∷ drop (suc n) is
+pub drop_at : (is : List Instruction) (n : ℕ) (i : Instruction) → slice_get is n ≡ Some i → drop n is ≡ i
+    ∷ drop (suc n) is
 drop_at [] n i e = cc
 drop_at (x ∷ is) zero i e = let same : x ≡ i = cc in ap (λ z. z ∷ is) same
 drop_at (x ∷ is) (suc n) i e = drop_at is n i e
@@ -99,7 +102,12 @@ module _ (o : OperatorCode) (m : MapSizes) (t : Tac) (c : CodeFunction) where
   part_length n i =
       let b = block o m t c i in
       let js = jumps c (place_of o m t c) n (place_of o m t c n + length b) (successors i) in
-      omega (arith, length-append b js, jumps_length c (place_of o m t c) n (place_of o m t c n + length b) (successors i))
+      omega (
+        arith,
+        length-append b js,
+        jumps_length c (place_of o m t c) n (place_of o m t c n + length b)
+            (successors i),
+      )
 
   pub laid_length : (n : ℕ) (is : List Instruction) → length (laid_from o m t c n is) ≡ size_from o m t c n is
   laid_length n [] = refl
@@ -200,7 +208,8 @@ module _ (o : OperatorCode) (m : MapSizes) (t : Tac) (c : CodeFunction) where
       → LeadOn (body_of o m t c) (place_of o m t c) (place_of o m t c n + length (block o m t c i)) ns
   leads n i e [] is has = tt
   leads n i e (x ∷ []) is has =
-      unless_leads (body_of o m t c) (falls c n x) (place_of o m t c n + length (block o m t c i)) (place_of o m t c x) has
+      unless_leads (body_of o m t c) (falls c n x) (place_of o m t c n + length (block o m t c i))
+      (place_of o m t c x) has
       (λ fallen. behind fallen (next_place n i e x (falls_to_next c n x fallen)))
     where
       behind : falls c n x ≡ true → place_of o m t c x ≡ place_of o m t c n + size_at o m t c n i
@@ -212,7 +221,8 @@ module _ (o : OperatorCode) (m : MapSizes) (t : Tac) (c : CodeFunction) where
           omega (arith, at, count, none, size)
   leads n i e (x ∷ y ∷ ns) is has = (
     jump_leads (body_of o m t c) (place_of o m t c n + length (block o m t c i)) (place_of o m t c y) has.0,
-    unless_leads (body_of o m t c) (falls c n x) (place_of o m t c n + length (block o m t c i) + 1) (place_of o m t c x)
+    unless_leads (body_of o m t c) (falls c n x) (place_of o m t c n + length (block o m t c i) + 1)
+        (place_of o m t c x)
         has.1 (λ fallen. behind fallen (next_place n i e x (falls_to_next c n x fallen))),
   )
     where

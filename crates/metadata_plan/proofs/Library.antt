@@ -1,7 +1,8 @@
 -- The routines of the library that integer programs call.
 use Rattle.std.proofs.Common.{inl}
 use Rattle.std.proofs.Common.{◌≡◌, ℕ, ◌+◌, ◌-◌, ◌*◌, ◌%◌, ◌^◌, ◌<◌, ◌≤◌, refl, sym, ap, ◌∙◌, subst}
-use Rattle.std.proofs.Common.{arith, Bool, true, false, List, [], ◌∷◌, ◌++◌, Option, Some, None, length, drop, mul-le-mul_right}
+use Rattle.std.proofs.Common.{arith, Bool, true, false, List, [], ◌∷◌, ◌++◌, Option, Some, None, length, drop}
+use Rattle.std.proofs.Common.{mul-le-mul_right}
 use Rattle.std.specs.Prelude.{slice_get, nat_lt}
 use Rattle.std.specs.Int.{int_wrap}
 use Rattle.std.proofs.lemmas.Bool.{eqb-true, ltb-false}
@@ -57,7 +58,8 @@ byte_of w = refl
 module _ (o : OperatorCode) (views : Views) (g : Setting) (t : Tac) (address : (function node : ℕ) → ℕ)
     (p : FlatProgram) (ops : AreOperators o) (ex : IsExpanded o g.sizes t address p)
     (part : IsIntegerCode t) (u n : ℕ) (temps : Temps) (ws : List Frame) (s : State) (v : flat.State)
-    (xs : List flat.Frame) (h : IsAt views g t address p u n temps ws s u (address u n) v xs) (words : IsOfWords v) where
+    (xs : List flat.Frame) (h : IsAt views g t address p u n temps ws s u (address u n) v xs)
+    (words : IsOfWords v) where
   abbrev m : MapSizes
   m = g.sizes
 
@@ -94,7 +96,8 @@ module _ (o : OperatorCode) (views : Views) (g : Setting) (t : Tac) (address : (
       let r = ops.convert m p at_byte UnsignedChar x x f free free
       (record { has = k.put.has.1; words = record { values = words.values; memory = words.memory } }) in
       let both = then_comes m p u pc v xs (pc + 1) place put_out (record here { values = r.after }) 4 4 first
-      (computed o views g t address p ops ex part u (pc + 1) here xs place x (fit UnsignedChar w) f 2 r (omega arith)) in
+      (computed o views g t address p ops ex part u (pc + 1) here xs place x (fit UnsignedChar w) f 2 r
+      (omega arith)) in
       let whole : Comes m p u pc v xs place (record put_out { values = r.after }) 8 =
       record { steps = both.steps; work = both.work; few = both.few; comes = both.comes } in
       let length_is : place ≡ pc + length (flat_code.Put x ∷ o.convert UnsignedChar x x f) = omega arith in
@@ -121,7 +124,8 @@ module _ (o : OperatorCode) (views : Views) (g : Setting) (t : Tac) (address : (
         accesses = h.alike.accesses;
         turns = h.alike.turns;
       })
-      (record { objects = refl; frame = refl; stacked = refl; charged = refl }) refl (omega arith) (k.on next (inl refl)) in
+      (record { objects = refl; frame = refl; stacked = refl; charged = refl }) refl (omega arith)
+      (k.on next (inl refl)) in
       subst (λ z. Gives (act g t (tac.Library routine.Putchar line d z next) u temps ws (spent 1 s))) (sym one)
       (subst (λ z. Gives (stage_at z)) (sym word) result)
 
@@ -159,7 +163,8 @@ module _ (o : OperatorCode) (views : Views) (g : Setting) (t : Tac) (address : (
             accesses = h.alike.accesses;
             turns = h.alike.turns;
           })
-          (record { objects = refl; frame = refl; stacked = refl; charged = refl }) refl (omega arith) (k.on next (inl refl))
+          (record { objects = refl; frame = refl; stacked = refl; charged = refl }) refl (omega arith)
+          (k.on next (inl refl))
       by (b ∷ bs) e =
           let x = temporary_register c d in
           let some : slice_get v.input 0 ≡ Some b = ap (λ l. slice_get l 0) (h.alike.input ∙ e) in
@@ -176,7 +181,8 @@ module _ (o : OperatorCode) (views : Views) (g : Setting) (t : Tac) (address : (
             accesses = h.alike.accesses;
             turns = h.alike.turns;
           })
-          (record { objects = refl; frame = refl; stacked = refl; charged = refl }) refl (omega arith) (k.on next (inl refl))
+          (record { objects = refl; frame = refl; stacked = refl; charged = refl }) refl (omega arith)
+          (k.on next (inl refl))
 
   exit : (line d count next : ℕ) → slice_get h.code.code n ≡ Some (tac.Library routine.Exit line d count next)
       → count ≡ 1

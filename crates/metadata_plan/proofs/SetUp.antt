@@ -12,7 +12,8 @@ use Rattle.source_meaning.specs.State.{State, Rvalue, Home, NoObject, InObject, 
 use Rattle.source_meaning.specs.State.{◌>>=◌, Header, Setting}
 use Rattle.source_meaning.specs.Places.{stack_first, stack_end}
 use Rattle.source_meaning.specs.Blocks.{objects_end, has_objects, place_object, place_variables, without_homes}
-use Rattle.source_meaning.specs.Calls.{body_objects, parameter_count, plain_count, plain_values, write_parameters, set_up}
+use Rattle.source_meaning.specs.Calls.{body_objects, parameter_count, plain_count, plain_values, write_parameters}
+use Rattle.source_meaning.specs.Calls.{set_up}
 use Rattle.source_meaning.specs.Calls.{lay_out}
 use Rattle.metadata_plan.specs.Part.{have_no_objects}
 use Rattle.metadata_plan.specs.Matching.{AreNoObjects, HaveNoObjects}

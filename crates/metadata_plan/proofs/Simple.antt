@@ -1,6 +1,7 @@
 -- Instructions whose blocks change registers, go one of two ways, or begin a turn.
 use Rattle.std.proofs.Common.{◌≡◌, ℕ, ◌+◌, ◌*◌, ◌^◌, ◌<◌, ◌≤◌, refl, sym, ap, ap₂, ◌∙◌, subst}
-use Rattle.std.proofs.Common.{arith, Bool, true, false, cond, not, List, [], ◌∷◌, ◌++◌, Option, Some, None, length, length-append}
+use Rattle.std.proofs.Common.{arith, Bool, true, false, cond, not, List, [], ◌∷◌, ◌++◌, Option, Some, None, length}
+use Rattle.std.proofs.Common.{length-append}
 use Rattle.std.proofs.Common.{mod-eq_of_lt, le_trans, mul-le-mul_left, set, ltb-true}
 use Rattle.std.specs.Prelude.{slice_get, ◌==◌}
 use Rattle.words.specs.TwosComplement.{low_bits}
@@ -88,7 +89,8 @@ most_small operator.NotEqual = omega arith
 module _ (o : OperatorCode) (views : Views) (g : Setting) (t : Tac) (address : (function node : ℕ) → ℕ)
     (p : FlatProgram) (ops : AreOperators o) (ex : IsExpanded o g.sizes t address p)
     (part : IsIntegerCode t) (u n : ℕ) (temps : Temps) (ws : List Frame) (s : State) (v : flat.State)
-    (xs : List flat.Frame) (h : IsAt views g t address p u n temps ws s u (address u n) v xs) (words : IsOfWords v) where
+    (xs : List flat.Frame) (h : IsAt views g t address p u n temps ws s u (address u n) v xs)
+    (words : IsOfWords v) where
   abbrev m : MapSizes
   m = g.sizes
 
@@ -320,7 +322,8 @@ module _ (o : OperatorCode) (views : Views) (g : Setting) (t : Tac) (address : (
       right : b < most_temporaries c.code
       right = omega (arith, k.temporaries_low)
 
-      by : (q : Option ℕ) → binary_value op ty (v.values (temporary_register c a)) (v.values (temporary_register c b)) ≡ q
+      by : (q : Option ℕ) → binary_value op ty (v.values (temporary_register c a))
+          (v.values (temporary_register c b)) ≡ q
           → Gives (came (as_rvalue (value_or_divide q line) (spent 1 s)) (given_in u next temps d ws))
       by (Some w) e =
           let x = temporary_register c d in
@@ -380,19 +383,23 @@ module _ (o : OperatorCode) (views : Views) (g : Setting) (t : Tac) (address : (
       k : Node (tac.Branch a x y)
       k = known (tac.Branch a x y) at
 
-      by : (b : Bool) → (v.values (temporary_register c a) == 0) ≡ b → Gives (Stands u (cond b y x) temps ws (spent 1 s))
+      by : (b : Bool) → (v.values (temporary_register c a) == 0) ≡ b
+          → Gives (Stands u (cond b y x) temps ws (spent 1 s))
       by true e = goes_on (tac.Branch a x y) k y 4 (inr (inl refl))
           (leads_on (pc + 1) (address u y) v 2
-          (branch_passed_comes m p u pc v xs Bne (temporary_register c a) (Number 0) 1 k.put.has.0 (not_equal (v.values (temporary_register c a)) 0 true e))
+          (branch_passed_comes m p u pc v xs Bne (temporary_register c a) (Number 0) 1 k.put.has.0
+          (not_equal (v.values (temporary_register c a)) 0 true e))
           k.put.leads.0) (omega arith)
       by false e = goes_on (tac.Branch a x y) k x 4 (inl refl)
           (leads_on (pc + 1 + 1) (address u x) v 2
-          (branch_taken_comes m p u pc v xs Bne (temporary_register c a) (Number 0) 1 k.put.has.0 (not_equal (v.values (temporary_register c a)) 0 false e))
+          (branch_taken_comes m p u pc v xs Bne (temporary_register c a) (Number 0) 1 k.put.has.0
+          (not_equal (v.values (temporary_register c a)) 0 false e))
           k.put.leads.1) (omega arith)
 
   -- registers of its own alone change, and the place
   goes_with : (i : Instruction) → Node i → (next most : ℕ) → LeadsTo i next → (values : flat.Values)
-      → ((y : ℕ) → y < first_free c → values y ≡ v.values y) → ComesTo (address u next) (record v { values = values }) most
+      → ((y : ℕ) → y < first_free c → values y ≡ v.values y)
+      → ComesTo (address u next) (record v { values = values }) most
       → most ≤ 21 → Gives (Stands u next temps ws (spent 1 s))
   goes_with i k next most l values same run_to few =
       stays o views g t address p ops ex part u n temps temps ws s (spent 1 s) v (record v { values = values }) xs next
@@ -426,7 +433,8 @@ module _ (o : OperatorCode) (views : Views) (g : Setting) (t : Tac) (address : (
     kept : (z : ℕ) → z < free → word_in.after z ≡ v.values z
     kept z lt = word_in.others z (omega arith) (λ e. absurd (omega arith))
 
-    same_test : (b : Bool) → (v.values register == w) ≡ b → branch_taken Beq (word_in.after register) (word_in.after free)
+    same_test : (b : Bool) → (v.values register == w) ≡ b
+        → branch_taken Beq (word_in.after register) (word_in.after free)
         ≡ b
     same_test b e =
         let low = temporary_free c label.integers a label.temporaries_low in
@@ -447,8 +455,10 @@ module _ (o : OperatorCode) (views : Views) (g : Setting) (t : Tac) (address : (
 
     equal_way : (v.values register == w) ≡ true → Gives (Stands u x temps ws (spent 1 s))
     equal_way e =
-        let b = branch_taken_comes m p u tested_at between xs Beq register (Register free) 1 at_test (same_test true e) in
-        let all = then_comes m p u pc v xs tested_at (tested_at + 1 + 1) (record v { values = word_in.after }) between 10 2
+        let b = branch_taken_comes m p u tested_at between xs Beq register (Register free) 1 at_test
+        (same_test true e) in
+        let all = then_comes m p u pc v xs tested_at (tested_at + 1 + 1)
+        (record v { values = word_in.after }) between 10 2
         first b in
         goes_with (tac.Case a w x y) label x 14 (inl refl) word_in.after kept
         (leads_on (tested_at + 1 + 1) (address u x) (record v { values = word_in.after }) 12
@@ -457,7 +467,8 @@ module _ (o : OperatorCode) (views : Views) (g : Setting) (t : Tac) (address : (
 
     other_way : (v.values register == w) ≡ false → Gives (Stands u y temps ws (spent 1 s))
     other_way e =
-        let b = branch_passed_comes m p u tested_at between xs Beq register (Register free) 1 at_test (same_test false e)
+        let b = branch_passed_comes m p u tested_at between xs Beq register (Register free) 1 at_test
+        (same_test false e)
         in
         let all = then_comes m p u pc v xs tested_at (tested_at + 1) (record v { values = word_in.after }) between 10 2
         first b in

@@ -156,7 +156,8 @@ module _ (o : OperatorCode) (views : Views) (g : Setting) (t : Tac) (address : (
       scaled a b w le small = le_trans le (mul-le-mul_left a small)
 
   pub computed_set : (x : Position) (place into value free scratch most : ℕ)
-      → (h : Computes m p x place into value scratch most) → free ≤ scratch → IsSet free into value x.state.values h.after
+      → (h : Computes m p x place into value scratch most) → free ≤ scratch
+      → IsSet free into value x.state.values h.after
   computed_set x place into value free scratch most h le =
       record { gives = h.gives; others = λ y lt ne. h.others y (omega arith) ne }
 

@@ -131,7 +131,8 @@ module _ (o : OperatorCode) (views : Views) (g : Setting) (t : Tac) (address : (
           let has_call = has_back body (pc + 4) moves calls rest in
           ⊎_elim
           (λ more. exhausts o views g t address p ops ex part low stack u pc 0 v xs f k is line free
-          (temporary_register c d) (gathered temps d count) (Waits waits ∷ ws) (spent 1 s) h.charge alike_spent has_tests
+          (temporary_register c d) (gathered temps d count) (Waits waits
+          ∷ ws) (spent 1 s) h.charge alike_spent has_tests
           more h.fits (omega (arith, h.work)))
           (λ fits.
           let inside : charged p u xs + k.room ≤ m.budgets.calls = omega (arith, h.charge) in
@@ -140,7 +141,8 @@ module _ (o : OperatorCode) (views : Views) (g : Setting) (t : Tac) (address : (
           let between : flat.State = record tried { work = v.work + K1.work } in
           let given = arguments_moved m p c u xs count (pc + 4) between free d lows.1 (omega arith) has_moves in
           let q = pc + 4 + length moves in
-          let both = then_comes m p u pc v xs (pc + 4) q tried (record between { values = given.values }) 6 (2 * count) K1
+          let both = then_comes m p u pc v xs (pc + 4) q tried (record between { values = given.values }) 6
+          (2 * count) K1
           given.comes in
           let K : Comes m p u pc v xs q (record v { turns = v.turns + 1; values = given.values }) (6 + 2 * count) =
           record { steps = both.steps; work = both.work; few = both.few; comes = both.comes } in
@@ -222,7 +224,8 @@ module _ (o : OperatorCode) (views : Views) (g : Setting) (t : Tac) (address : (
             ap (step m p) first ∙ second in
             let result : Result o views g t address p ops ex part (Over (ExitWith (int_of w)) (spent 1 s))
             (flat.Stands u (address u n) v (x ∷ [])) =
-            ends o views g t address p ops ex part (flat.Stands u pc v (x ∷ [])) (ExitWith (int_of w)) (spent 1 s) last 2
+            ends o views g t address p ops ex part (flat.Stands u pc v (x ∷ [])) (ExitWith (int_of w))
+            (spent 1 s) last 2
             (values 0 % 256) [] comes (ap (λ z. z % 256) status ∙ status_is w) refl
             (record {
               input = h.alike.input;
@@ -250,7 +253,8 @@ module _ (o : OperatorCode) (views : Views) (g : Setting) (t : Tac) (address : (
             let last : flat.State = record there_again { work = v.work + 10 + l.work } in
             let comes : run (step m p) (1 + l.steps) (flat.Stands u pc v (x ∷ rest))
             ≡ flat.Stands w.function (address w.function w.node) last rest =
-            run_add (step m p) 1 l.steps (flat.Stands u pc v (x ∷ rest)) ∙ ap (run (step m p) l.steps) first ∙ l.comes in
+            run_add (step m p) 1 l.steps (flat.Stands u pc v (x ∷ rest)) ∙ ap (run (step m p) l.steps) first
+            ∙ l.comes in
             let parts = integer_function o views g t address p ops ex part w.function k.code k.there in
             let is_set = subst (λ z. IsSet (first_free k.code) z value x.values
             (with_results x.into 1 v.values (temporary_register h.code a) x.values)) k.into
@@ -267,7 +271,8 @@ module _ (o : OperatorCode) (views : Views) (g : Setting) (t : Tac) (address : (
                     place = refl;
                     code = k.code;
                     there = k.there;
-                    holds = holds_temporary k.code parts.variables w.temps w.caller.plain x.values values w.place value k.holds is_set;
+                    holds = holds_temporary k.code parts.variables w.temps w.caller.plain x.values values w.place value
+                        k.holds is_set;
                     safe = k.safe;
                     alike = record {
                       input = h.alike.input;
@@ -282,7 +287,8 @@ module _ (o : OperatorCode) (views : Views) (g : Setting) (t : Tac) (address : (
                     charge = k.charge;
                     fits = k.fits;
                     keys = h.keys;
-                    stands = subst (λ z. StandsFor views h.keys z v.memory) (sym (none_die s.frame s.objects h.homes.by))
+                    stands = subst (λ z. StandsFor views h.keys z v.memory)
+                        (sym (none_die s.frame s.objects h.homes.by))
                         h.stands;
                     wait = record { by = wait };
                   });
@@ -318,7 +324,8 @@ module _ (o : OperatorCode) (views : Views) (g : Setting) (t : Tac) (address : (
       subst (λ z. Result o views g t address p ops ex part (called g t t.main [] (line_in (code_in t t.main)) [] z) x)
       (sym h.fresh_is)
       (subst (λ z. Result o views g t address p ops ex part
-      (called g t t.main [] (line_in (code_in t t.main)) [] (fresh g (objects_before t g) h.input)) z) (sym h.started_is)
+      (called g t t.main [] (line_in (code_in t t.main)) [] (fresh g (objects_before t g) h.input)) z)
+      (sym h.started_is)
       (subst (λ z. Result o views g t address p ops ex part
       (called_at g z t.main [] (line_in z) [] (fresh g (objects_before t g) h.input)) (started p h.memory h.input))
       (sym main.is) (by main.code main.is main.count)))
@@ -354,7 +361,8 @@ module _ (o : OperatorCode) (views : Views) (g : Setting) (t : Tac) (address : (
             few = next_turn.few;
             comes = next_turn.comes;
           } in
-          let two_turns = then_comes m p p.entry 0 v [] 1 2 (record v { turns = 1 }) (record v { turns = 2 }) 2 2 one_turn
+          let two_turns = then_comes m p p.entry 0 v [] 1 2 (record v { turns = 1 })
+          (record v { turns = 2 }) 2 2 one_turn
           second_turn in
           let w : flat.State = record v { turns = 2; work = 0 + two_turns.work } in
           let few = two_turns.few in

@@ -134,4 +134,5 @@ prologue c = zero_variables (words_in c.parameters) c.variables
 abbrev pub entry_code : MapSizes → Tac → List FlatInstruction
 entry_code m t =
     Turn ∷ Turn
-    ∷ call_tests m (room_in (function_in t t.main)) (line_in (function_in t t.main)) 0 ++ (Call t.main 0 0 ∷ Exit 0 ∷ [])
+    ∷ call_tests m (room_in (function_in t t.main)) (line_in (function_in t t.main)) 0
+    ++ (Call t.main 0 0 ∷ Exit 0 ∷ [])

@@ -1,5 +1,6 @@
 -- Where the blocks of a function lie: that of the last node first, since code that comes later has lower nodes.
-use Rattle.std.specs.Prelude.{ℕ, suc, ◌+◌, ◌-◌, Bool, true, false, not, ◌&&◌, ◌==◌, nat_lt, if◌then◌else◌, List, [], ◌∷◌}
+use Rattle.std.specs.Prelude.{ℕ, suc, ◌+◌, ◌-◌, Bool, true, false, not, ◌&&◌, ◌==◌, nat_lt, if◌then◌else◌, List, []}
+use Rattle.std.specs.Prelude.{◌∷◌}
 use Rattle.std.specs.Prelude.{◌++◌, drop, length, Option, Some, None, slice_get}
 use Rattle.addr_map.specs.Places.{MapSizes}
 use Rattle.tac_ir.specs.declared.instruction.Instruction.{Instruction}
@@ -34,8 +35,8 @@ ways_to c n = times_in n (c.entry ∷ []) + edges_to c.code n
 abbrev pub is_join : CodeFunction → (node : ℕ) → Bool
 is_join c n = nat_lt 1 (ways_to c n)
 
--- Code falls from a node into the next one, which lies behind it, unless that is a join. There a jump stands, so that the
--- result of a block, which nothing may read, is not needed where other code leads.
+-- Code falls from a node into the next one, which lies behind it, unless that is a join. There a jump stands, so that
+-- the result of a block, which nothing may read, is not needed where other code leads.
 unfoldable pub falls : CodeFunction → (node next : ℕ) → Bool
 falls c n next = (next + 1 == n) && not (is_join c next)
 

@@ -43,7 +43,8 @@ AreNoObjects (InObject o ∷ homes) = ⊥
 pub record HaveNoObjects (homes : List Home) : Type 0 where
   pub by : AreNoObjects homes
 
--- both have the same input, output and accesses, and flat code has begun as many turns, with those before its first call
+-- both have the same input, output and accesses, and flat code has begun as many turns, with those before its first
+-- call
 pub record IsAlike (s : State) (v : flat.State) : Type 0 where
   pub input : v.input ≡ s.input
   pub output : v.output ≡ s.output

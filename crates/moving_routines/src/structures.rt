@@ -15,8 +15,8 @@ use flat_routines::Held;
 use shadow_space::ShadowForm;
 use std::alloc::{AllocError, Global};
 
-/// A structure of `size` bytes moved, with the tags of its words, from the place that the pointer in `from` names to the
-/// one that `to` names. It may write the registers from `scratch` on. The only refusal is that memory fails.
+/// A structure of `size` bytes moved, with the tags of its words, from the place that the pointer in `from` names to
+/// the one that `to` names. It may write the registers from `scratch` on. The only refusal is that memory fails.
 pub fn copy_structure<S: ShadowForm>(
     alloc: Global,
     map: &AddrMap,

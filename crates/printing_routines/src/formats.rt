@@ -83,7 +83,8 @@ fn scans<S: ShadowForm>(
     requires printable { ArePrintable scratch printed.now }
     requires cursors { scratch + 1 + argument_count printed.now ≤ own }
     requires room { own ≤ 2 ^ 30 }
-    ensures { IfOk result (λ r. ScanThese (runtime_basis map.now S.entry (S.IsGood map.now)) line scratch own printed.now 0 r.items) }
+    ensures { IfOk result (λ r. ScanThese (runtime_basis map.now S.entry (S.IsGood map.now)) line scratch own
+        printed.now 0 r.items) }
 {
     let mut code = Vec::new(alloc);
     let mut index = 0;

@@ -42,7 +42,8 @@ pub fn answer_call<I: Source, O: Sink, E: Sink>(
     ensures fault { FaultKeeps result state.old state.new }
     ensures no_limit { result ≡ Some Stop.Limit → ⊥ }
     ensures input_counts { CountsInput result state.new (I.faults input.old) (I.faults input.new) }
-    ensures output_counts { CountsOutput result state.new (O.faults output.old) (O.faults output.new) (E.faults errors.old)
+    ensures output_counts { CountsOutput result state.new (O.faults output.old) (O.faults output.new)
+        (E.faults errors.old)
         (E.faults errors.new) }
 {
     match state.register(Reg::A7) {

@@ -72,7 +72,8 @@ impl Machine {
         ensures stays { self.old.stopped ≡ None → self.new.stopped ≡ last_stop result }
         ensures input_counts { self.old.stopped ≡ None
             → CountsInput (Some result) self.new.state (I.faults input.old) (I.faults input.new) }
-        ensures output_counts { self.old.stopped ≡ None → CountsOutput (Some result) self.new.state (O.faults output.old)
+        ensures output_counts { self.old.stopped ≡ None → CountsOutput (Some result) self.new.state
+            (O.faults output.old)
             (O.faults output.new) (E.faults errors.old) (E.faults errors.new) }
     {
         if let Some(stop) = self.stopped {
@@ -120,7 +121,8 @@ fn run_from<I: Source, O: Sink, E: Sink>(
         IsSeen o e state.old was (O.taken output.old) (E.taken errors.old) c →
         IsRun o e result limit c state.new rest (O.taken output.new) (E.taken errors.new)) }
     ensures input_counts { CountsInput (Some result) state.new (I.faults input.old) (I.faults input.new) }
-    ensures output_counts { CountsOutput (Some result) state.new (O.faults output.old) (O.faults output.new) (E.faults errors.old)
+    ensures output_counts { CountsOutput (Some result) state.new (O.faults output.old) (O.faults output.new)
+        (E.faults errors.old)
         (E.faults errors.new) }
 {
     for _count in 0..limit {
@@ -146,7 +148,8 @@ fn turn<I: Source, O: Sink, E: Sink>(
     ensures fault { FaultKeeps result state.old state.new }
     ensures no_limit { result ≡ Some Stop.Limit → ⊥ }
     ensures input_counts { CountsInput result state.new (I.faults input.old) (I.faults input.new) }
-    ensures output_counts { CountsOutput result state.new (O.faults output.old) (O.faults output.new) (E.faults errors.old)
+    ensures output_counts { CountsOutput result state.new (O.faults output.old) (O.faults output.new)
+        (E.faults errors.old)
         (E.faults errors.new) }
 {
     match state.step() {

@@ -187,7 +187,8 @@ impl Files for MemFiles {
             × (length bytes.now ≤ write_room self.old) × IsSome (held_in (files_of self.old) name.now)) }
         // The file holds all the bytes for which there is room, and after a listed write at most as many as are listed.
         ensures kept { files_of self.new ≡ written_in (files_of self.old) name.now
-            (take (kept_count (kept_by (failing_writes self.old) (next_write self.old)) (length bytes.now) (write_room self.old)) bytes.now) }
+            (take (kept_count (kept_by (failing_writes self.old) (next_write self.old)) (length bytes.now)
+            (write_room self.old)) bytes.now) }
         ensures room { write_room self.new ≡ write_room self.old }
         ensures listed { failing_writes self.new ≡ failing_writes self.old }
         ensures listed_reads { failing_reads self.new ≡ failing_reads self.old }

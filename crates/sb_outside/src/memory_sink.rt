@@ -86,7 +86,8 @@ impl Sink for MemSink {
             × (length (bytes_taken self.old) + length bytes.now ≤ sink_capacity self.old)) }
         // A call keeps all that fits, and a listed one at most what is listed.
         ensures kept { bytes_taken self.new ≡ bytes_taken self.old
-            ++ take (kept_count (kept_by (failing_puts self.old) (next_put self.old)) (length bytes.now) (sink_capacity self.old - length (bytes_taken self.old))) bytes.now }
+            ++ take (kept_count (kept_by (failing_puts self.old) (next_put self.old)) (length bytes.now)
+            (sink_capacity self.old - length (bytes_taken self.old))) bytes.now }
         ensures numbered { next_put self.new ≡ next_count (next_put self.old) }
         ensures listed { failing_puts self.new ≡ failing_puts self.old }
         ensures room { sink_capacity self.new ≡ sink_capacity self.old }

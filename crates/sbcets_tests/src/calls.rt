@@ -64,7 +64,8 @@ fn image_of_source(alloc: Global, case: &Case) -> Result<Vec<u8>> {
     }
 }
 
-// Prints what `compile` says of the source of a case that asks for it: the number of checks, or that it is too large.
+// Prints what `compile` says of the source of a case that asks for it: the number of checks, or that it or its code is
+// too large.
 fn put_compiled(rt: &HostRuntime, case: &Case) -> Result<()> {
     match compile(rt.alloc(), &case.source, &budgets()?) {
         Ok(built) => put_checks(rt, &built),
@@ -83,6 +84,10 @@ fn put_refusal(rt: &HostRuntime, refusal: &SourceRefusal) -> Result<()> {
             which: Counted::Source,
             count,
         } => println!(rt; "a source of {count} bytes")?,
+        SourceRefusal::TooLarge {
+            which: Counted::Code,
+            ..
+        } => println!(rt; "code of more than 8388608 bytes")?,
         _ => println!(rt; "refused")?,
     }
     Ok(())

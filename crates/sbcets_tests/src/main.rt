@@ -29,8 +29,8 @@
 // -fwrapv -funsigned-char), of the cases from `cases.txt`, where each expected line stands with its case, as the
 // documents state it (docs/LANGUAGE.md, docs/FORMATS.md), and of the sources that are typed from `typing_rows.py`,
 // whose
-// tables were worked out by hand; what gcc 12.2.0 says of them stands there. What static objects hold is what gcc's object
-// files hold (`static_rows.py`).
+// tables were worked out by hand; what gcc 12.2.0 says of them stands there. What static objects hold is what gcc's
+// object files hold (`static_rows.py`).
 #![tactic(auto)]
 
 mod calls;

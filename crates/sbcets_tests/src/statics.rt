@@ -48,8 +48,8 @@ fn function_pointers(alloc: Global) -> Result<Vec<Value>> {
     Ok(pointers)
 }
 
-/// Prints a line for each static object of a program: how many bytes it has, its words in their order, before one that is
-/// a pointer the number of its object or function, and the bytes behind the last word.
+/// Prints a line for each static object of a program: how many bytes it has, its words in their order, before one that
+/// is a pointer the number of its object or function, and the bytes behind the last word.
 pub fn put_statics(rt: &HostRuntime, program: &Program) -> Result<()> {
     let statics = static_pointers(rt.alloc())?;
     let functions = function_pointers(rt.alloc())?;

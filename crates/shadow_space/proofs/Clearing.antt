@@ -55,7 +55,8 @@ record Clearing (start : State) (p n k : ℕ) (v : State) : Type 0 where
   cleared : (i : ℕ) → i < done → metadata_at v.memory (p + 32 * i) ≡ no_metadata
 
 -- work alone differs
-worked_clearing : (c : Context) (start : State) (p n k : ℕ) (v : State) → Clearing start p n k v → Clearing start p n k (worked c v)
+worked_clearing : (c : Context) (start : State) (p n k : ℕ) (v : State) → Clearing start p n k v
+    → Clearing start p n k (worked c v)
 worked_clearing c start p n k v h = record {
   done = h.done;
   count = h.count;

@@ -12,7 +12,8 @@ use Rattle.shadow_space.specs.declared.start.StartEntry.{StartEntry}
 use Rattle.shadow_space.specs.Start.{metadata_of, IsStartEntry, AreStartEntries, StartsShadow, begun}
 use Rattle.shadow_space.specs.Direct.{direct_entry, direct_put, direct_start}
 use Rattle.shadow_space.proofs.Entries.{other_entry, direct_local}
-use Rattle.shadow_space.proofs.Starting.{Agrees, entry_agrees, length_entry, global_word, HasEntry, have_entries, started}
+use Rattle.shadow_space.proofs.Starting.{Agrees, entry_agrees, length_entry, global_word, HasEntry, have_entries}
+use Rattle.shadow_space.proofs.Starting.{started}
 use Rattle.shadow_space.proofs.Starting.{place_of_word, past_end, zeros_agree}
 
 abbrev written : Bytes → StartEntry → Bytes

@@ -1,6 +1,7 @@
 -- Bytes with entries are memory with entries, and entries that are written one after another are read.
 use Rattle.std.proofs.Common.{◌≡◌, ◌≢◌, ℕ, zero, suc, ◌+◌, ◌-◌, ◌*◌, ◌/◌, ◌%◌, ◌<◌, ◌≤◌, inl, inr, ⊎_elim}
-use Rattle.std.proofs.Common.{List, [], ◌∷◌, ◌++◌, length, get_or, take, drop, replicate, refl, sym, ap, ◌∙◌, subst, arith}
+use Rattle.std.proofs.Common.{List, [], ◌∷◌, ◌++◌, length, get_or, take, drop, replicate, refl, sym, ap, ◌∙◌, subst}
+use Rattle.std.proofs.Common.{arith}
 use Rattle.std.proofs.Common.{length-append, length-drop}
 use Rattle.std.specs.Int.{w64, to_le_bytes}
 use Rattle.std.proofs.lemmas.Bool.{cases_lt}
@@ -135,7 +136,8 @@ pub record HaveEntries (s : MapSizes) (entry : View) (IsGood : Bytes → Type 0)
   pub others : (a : ℕ) → IsObjectWord s a → IsNoneOf a (words_of es) → entry m' a ≡ entry m a
 
 module _ (s : MapSizes) (entry : View) (IsGood : Bytes → Type 0) (write : Bytes → StartEntry → Bytes)
-    (writes : (m : Bytes) (e : StartEntry) → IsGood m → IsStartEntry s e → HasEntry s entry IsGood e m (write m e)) where
+    (writes : (m : Bytes) (e : StartEntry) → IsGood m → IsStartEntry s e
+    → HasEntry s entry IsGood e m (write m e)) where
   pub have_entries : (es : List StartEntry) (m : Bytes) → IsGood m → AreStartEntries s es
       → HaveEntries s entry IsGood es m (begun write es m)
   have_entries [] m good h = record { good = good; there = tt; others = λ a w n. refl }

@@ -16,7 +16,8 @@ abbrev pub DoesAnywhere : MapSizes → List FlatInstruction → (State → Type 
     → Type 0
 DoesAnywhere map r P steps Q =
     (runtime : Bool) (charge weight : ℕ)
-    → Does (record { sizes = map; is_runtime = runtime; charge = charge; weight = weight }) r P (λ s. steps) (λ s. Either (Q s) Never)
+    → Does (record { sizes = map; is_runtime = runtime; charge = charge; weight = weight }) r P (λ s. steps)
+    (λ s. Either (Q s) Never)
 
 pub record HasRead (entry : View) (at : ℕ) (into : Entry) (scratch : ℕ) (s s' : State) : Type 0 where
   pub read : metadata_in s'.values into ≡ entry s.memory (s.values at)

@@ -3,7 +3,8 @@ use Rattle.std.proofs.Common.{◌≡◌, ◌≢◌, ℕ, ◌+◌, ◌-◌, ◌*�
 use Rattle.std.proofs.Common.{sym, ap, ◌∙◌, subst, arith}
 use Rattle.std.proofs.lemmas.Bool.{cases_lt, cases_eq, eq-eqb, ne_eqb, cond-true, cond-false}
 use Rattle.addr_map.specs.declared.region.Region.TheVariants.{Heap, Shadow, Cells}
-use Rattle.addr_map.specs.Places.{MapSizes, AreMapped, objects_begin, spaces_begin, region_size, region_start, region_end}
+use Rattle.addr_map.specs.Places.{MapSizes, AreMapped, objects_begin, spaces_begin, region_size, region_start}
+use Rattle.addr_map.specs.Places.{region_end}
 use Rattle.flat_meaning.specs.Memory.{Bytes, Keeps}
 use Rattle.flat_meaning.proofs.Stored.{load_kept, kept_beside, keeps_within}
 use Rattle.flat_routines.specs.Metadata.{Metadata, no_metadata, metadata_at, IsObjectWord, KeepsButShadow, KeepsShadow}
@@ -106,7 +107,8 @@ module _ (s : MapSizes) (lie : AreLevelsLaidOut s) (m : Bytes) (g : AreTablesGoo
   pub write_within : KeepsButShadow s m after
   write_within =
       let b = spot_within in let lo = b.0 in let hi = b.1 in let r = lie.room in let t = g.within in
-      keeps_within spot 32 spaces_begin (region_size s Shadow) m after (omega arith) (omega arith) (four_beside m spot e)
+      keeps_within spot 32 spaces_begin (region_size s Shadow) m after (omega arith) (omega arith)
+      (four_beside m spot e)
 
   pub write_read : IsOfFourWords e → two_level_entry after a ≡ e
   write_read words =

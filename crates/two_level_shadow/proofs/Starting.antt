@@ -203,7 +203,8 @@ module _ (s : MapSizes) (lie : AreLevelsLaidOut s) where
       let f = few in
       let zeros : List ℕ = replicate (start_size s) 0 in
       let all : length zeros ≡ start_size s = length-replicate (start_size s) 0 in
-      let one : length (with_word 0 (16384 * global_pages s) zeros) ≡ length zeros = length_word zeros 0 (16384 * global_pages s) (omega arith) in
+      let one : length (with_word 0 (16384 * global_pages s) zeros)
+      ≡ length zeros = length_word zeros 0 (16384 * global_pages s) (omega arith) in
       let first = word_agrees zeros (λ a. 0) 0 (16384 * global_pages s) (omega arith) (zeros_agree (start_size s)) in
       let r = tables_agree (global_pages s) (counted_bytes s) (counted s) (omega arith)
       first in

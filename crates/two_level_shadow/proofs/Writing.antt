@@ -244,11 +244,13 @@ module _ (c : Context) (ok : IsLaidOut c.sizes) (lie : AreLevelsLaidOut c.sizes)
       (λ t2 s2. quiet_branch c ok code v 12 10 (worked c (worked c s)) Bne 3 (Number 0) 1 23 J has.1.1.0 s2
       (λ t s3. quiet_weaken c ok code v 11 12 12 (worked c (worked c (worked c s))) 23 J J (omega arith) (λ x y z. z)
       (takes (worked c (worked c (worked c s))) s3 (again s h) none))
-      (λ t3 s3. quiet_branch c ok code v 11 11 (worked c (worked c (worked c s))) Beq 4 (Number 0) 11 23 J has.1.1.1.0 s3
+      (λ t3 s3. quiet_branch c ok code v 11 11 (worked c (worked c (worked c s))) Beq 4
+      (Number 0) 11 23 J has.1.1.1.0 s3
       (λ t4 s4. quiet_arrived c ok code v 11 23 23 (worked c (worked c (worked c (worked c s)))) J refl (
         s4,
         subst (IsWritten c.sizes m a e) (sym h.0.same) (none_written c.sizes lie m g a w e none
-            (sym h.1 ∙ same_metadata (metadata_in s.values own) no_metadata (if_zero (s.values 1) t1) (if_zero (s.values 2) t2)
+            (sym h.1 ∙ same_metadata (metadata_in s.values own) no_metadata (if_zero (s.values 1) t1)
+            (if_zero (s.values 2) t2)
             (if_zero (s.values 3) t3) (eqb-true (s.values 4) 0 t4))),
       ))
       (λ t4 s4. takes (worked c (worked c (worked c (worked c s)))) s4 (again s h) none))))

@@ -25,8 +25,10 @@ use Rattle.c_assignment_rules.specs.Assignments.{assignment, stepped}
 use Rattle.c_condition_rules.specs.Conditions.{conditional}
 use Rattle.c_call_rules.specs.Calls.{called, called_through}
 use Rattle.c_scope.specs.Declaring.{judged}
-use Rattle.typing_rows.proofs.Samples.{alone, array_of, assigning, at, before, between, calling, casting, declared, indexing}
-use Rattle.typing_rows.proofs.Samples.{member, members, name, number, of_type, size_of_type, spelled, type_shown, word as word_of}
+use Rattle.typing_rows.proofs.Samples.{alone, array_of, assigning, at, before, between, calling, casting, declared}
+use Rattle.typing_rows.proofs.Samples.{indexing}
+use Rattle.typing_rows.proofs.Samples.{member, members, name, number, of_type, size_of_type, spelled, type_shown}
+use Rattle.typing_rows.proofs.Samples.{word as word_of}
 use Rattle.typing_rows.proofs.Samples.{marks_shown, word_shown}
 
 -- `0x80000000`, `'a'`, `"ab" "c"`, `x+1L`, `p+1`, `p-p`, `*p`, `1[p]`, `x=1`, `f()`, `(f)()`
@@ -55,10 +57,11 @@ types : map (type_shown (Some []))
     ∷ Ok (word.Integer int.Int ∷ [])
     ∷ Ok (word.Integer int.Int ∷ [])
     ∷ []
-unfolding constant_of bytes_of_literal array_size binary dereferenced indexed assignment called called_through constant_in
-    suffix_of typed types_of greatest_of characters_of character_value row_of extent_of assigned literal_step common_type
-    size_of next_character balanced_type is_signed promoted rank size_of_words cast stepped unary comma combined conditional
-    member_offsets structure_of union_of constant_word judged unary_value binary_value fit
+unfolding constant_of bytes_of_literal array_size binary dereferenced indexed assignment called called_through
+    constant_in suffix_of typed types_of greatest_of characters_of character_value row_of extent_of assigned
+    literal_step common_type size_of next_character balanced_type is_signed promoted rank size_of_words cast stepped
+    unary comma combined conditional member_offsets structure_of union_of constant_word judged unary_value
+    binary_value fit
 types = refl
 
 -- `sizeof x`, `sizeof(int[3][4])`, `sizeof(struct{char c;int i;char d;})`, `sizeof(union{char c[5];int i;})`,
@@ -84,10 +87,11 @@ sizes : map word_shown
     (t.more_enumerators (at 1) (t.plain (spelled (codes "B") 1)) t.end_of_enumerators) None (at 1))) t.unnamed)
     ∷ [])
     ≡ Ok (Some 4) ∷ Ok (Some 48) ∷ Ok (Some 12) ∷ Ok (Some 8) ∷ Ok (Some 8) ∷ Ok (Some 3) ∷ Ok (Some 4) ∷ []
-unfolding constant_of bytes_of_literal array_size binary dereferenced indexed assignment called called_through constant_in
-    suffix_of typed types_of greatest_of characters_of character_value row_of extent_of assigned literal_step common_type
-    size_of next_character balanced_type is_signed promoted rank size_of_words cast stepped unary comma combined conditional
-    member_offsets structure_of union_of constant_word judged unary_value binary_value fit
+unfolding constant_of bytes_of_literal array_size binary dereferenced indexed assignment called called_through
+    constant_in suffix_of typed types_of greatest_of characters_of character_value row_of extent_of assigned
+    literal_step common_type size_of next_character balanced_type is_signed promoted rank size_of_words cast stepped
+    unary comma combined conditional member_offsets structure_of union_of constant_word judged unary_value
+    binary_value fit
 sizes = refl
 
 -- `y`, `*x`, `1=x`, `x=p`, `x.a`, `f(1)`, `x[1]`, `-p`, `p+p`, `&1`, `x?p:1`, `sizeof(int[0])`, `sizeof(int[-1])`,
@@ -112,7 +116,8 @@ faults : map (type_shown (Some []))
     (member (word_of keyword.Int) (declared (codes "a") 1)
     ∷ member (word_of keyword.Int) (declared (codes "a") 2)
     ∷ [])) (at 1))) t.unnamed)
-    ∷ size_of_type (of_type (alone (t.structure_body keyword.Struct (at 1) (Some (spelled (codes "S") 1)) (at 1) (members
+    ∷ size_of_type (of_type (alone (t.structure_body keyword.Struct (at 1) (Some (spelled (codes "S") 1)) (at 1)
+    (members
     (member (alone (t.structure keyword.Struct (at 2) (spelled (codes "S") 2))) (declared (codes "s") 2)
     ∷ [])) (at 2))) t.unnamed)
     ∷ size_of_type (of_type (word_of keyword.Int)
@@ -138,18 +143,20 @@ faults : map (type_shown (Some []))
     ∷ violates rule.MisplacedFunction 1
     ∷ violates rule.NoCast 1
     ∷ []
-unfolding constant_of bytes_of_literal array_size binary dereferenced indexed assignment called called_through constant_in
-    suffix_of typed types_of greatest_of characters_of character_value row_of extent_of assigned literal_step common_type
-    size_of next_character balanced_type is_signed promoted rank size_of_words cast stepped unary comma combined conditional
-    member_offsets structure_of union_of constant_word judged unary_value binary_value fit
+unfolding constant_of bytes_of_literal array_size binary dereferenced indexed assignment called called_through
+    constant_in suffix_of typed types_of greatest_of characters_of character_value row_of extent_of assigned
+    literal_step common_type size_of next_character balanced_type is_signed promoted rank size_of_words cast stepped
+    unary comma combined conditional member_offsets structure_of union_of constant_word judged unary_value
+    binary_value fit
 faults = refl
 
 -- `&x` while it is not known of which variables the text takes the addresses
 address : type_shown None (before sign.Ampersand (name (codes "x"))) ≡ Ok (word.Pointer ∷ word.Integer int.Int ∷ [])
-unfolding constant_of bytes_of_literal array_size binary dereferenced indexed assignment called called_through constant_in
-    suffix_of typed types_of greatest_of characters_of character_value row_of extent_of assigned literal_step common_type
-    size_of next_character balanced_type is_signed promoted rank size_of_words cast stepped unary comma combined conditional
-    member_offsets structure_of union_of constant_word judged unary_value binary_value fit
+unfolding constant_of bytes_of_literal array_size binary dereferenced indexed assignment called called_through
+    constant_in suffix_of typed types_of greatest_of characters_of character_value row_of extent_of assigned
+    literal_step common_type size_of next_character balanced_type is_signed promoted rank size_of_words cast stepped
+    unary comma combined conditional member_offsets structure_of union_of constant_word judged unary_value
+    binary_value fit
 address = refl
 
 -- `&x`, `sizeof&x`, `"a"+0`, `sizeof"a"`, `(f)()`, `f()`
@@ -168,8 +175,9 @@ marks : map marks_shown
     ∷ Ok ([], (0, 1))
     ∷ Ok ([], (0, 0))
     ∷ []
-unfolding constant_of bytes_of_literal array_size binary dereferenced indexed assignment called called_through constant_in
-    suffix_of typed types_of greatest_of characters_of character_value row_of extent_of assigned literal_step common_type
-    size_of next_character balanced_type is_signed promoted rank size_of_words cast stepped unary comma combined conditional
-    member_offsets structure_of union_of constant_word judged unary_value binary_value fit
+unfolding constant_of bytes_of_literal array_size binary dereferenced indexed assignment called called_through
+    constant_in suffix_of typed types_of greatest_of characters_of character_value row_of extent_of assigned
+    literal_step common_type size_of next_character balanced_type is_signed promoted rank size_of_words cast stepped
+    unary comma combined conditional member_offsets structure_of union_of constant_word judged unary_value
+    binary_value fit
 marks = refl

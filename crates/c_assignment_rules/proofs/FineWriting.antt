@@ -47,8 +47,7 @@ use Rattle.c_assignment_rules.specs.Assignable.{has_const, is_array_type, is_inc
 use Rattle.c_assignment_rules.specs.Assignable.{assignable}
 use Rattle.c_assignment_rules.specs.Writing.{Writing, set, change, step_by, written}
 use Rattle.c_assignment_rules.specs.Assignments.{assignment, no_pair, change_of, change_between, converted_if}
-use Rattle.c_assignment_rules.specs.Assignments.{change_to}
-use Rattle.c_assignment_rules.specs.Assignments.{compound, operator_of, step_to, stepped}
+use Rattle.c_assignment_rules.specs.Assignments.{change_to, compound, operator_of, step_to, stepped}
 
 some_kind : (j k : Kind) → Some j ≡ Some k → j ≡ k
 some_kind j k e = cc

@@ -5,8 +5,7 @@ ghost use Rattle.c_tree.specs.View.{expression_of};
 ghost use Rattle.c_rules.specs.Answer.{Gives};
 ghost use Rattle.c_rules.specs.Values.{value_of};
 ghost use Rattle.c_call_rules.specs.Calls.{call_tree, called, called_if, called_through, callee_of, counted};
-ghost use Rattle.c_call_rules.specs.Calls.{one_passed};
-ghost use Rattle.c_call_rules.specs.Calls.{passed};
+ghost use Rattle.c_call_rules.specs.Calls.{one_passed, passed};
 
 use crate::callee::{Callee, Outcome, outcome_in};
 use crate::function_type::{behind_parameter, callee_type, first_type};

@@ -1,8 +1,7 @@
 -- What a file says as a whole, before it is typed (C99 6.9): the functions that it defines, the objects that it
 -- defines, also tentatively, and the tags whose structures and unions get their members at file scope.
 use Rattle.std.specs.Prelude.{ℕ, Bool, true, false, not, ◌&&◌, ◌||◌, if◌then◌else◌, List, [], ◌∷◌, length, Option, Some}
-use Rattle.std.specs.Prelude.{None}
-use Rattle.std.specs.Prelude.{is_some}
+use Rattle.std.specs.Prelude.{None, is_some}
 use Rattle.c_lexer.specs.declared.keyword.Keyword.TheVariants as keyword
 use Rattle.c_syntax.specs.declared.position.Position.{Position}
 use Rattle.c_syntax.specs.declared.position.Spelled.{Spelled}

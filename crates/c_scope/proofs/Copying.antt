@@ -1,7 +1,6 @@
 -- A name that a scope does not declare yet stands behind all others.
 use Rattle.std.proofs.Common.{◌≡◌, ◌<◌, ℕ, zero, suc, Bool, true, false, cond, List, [], ◌∷◌, ◌++◌, length, map, take}
-use Rattle.std.proofs.Common.{slice_get, Option}
-use Rattle.std.proofs.Common.{Some, None, ◌≤◌, option_map, refl, sym, ap, subst, ◌∙◌, arith}
+use Rattle.std.proofs.Common.{slice_get, Option, Some, None, ◌≤◌, option_map, refl, sym, ap, subst, ◌∙◌, arith}
 use Rattle.std.specs.Borrow.{Bor}
 use Rattle.c_scope.specs.Names.{Name, Names, bound, is_name}
 

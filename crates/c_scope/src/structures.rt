@@ -44,8 +44,7 @@ pub struct Structures<'a> {
 impl<'a> Structures<'a> {
     ghost use Rattle.std.specs.Prelude.{◌≡◌, ◌++◌, ◌∷◌, [], IfOk, OnOk, option_copied, option_map, length, slice_get};
     ghost use Rattle.c_scope.specs.Structures.{begun, completed, declared_structure, file_tag_of, is_begun, is_known};
-    ghost use Rattle.c_scope.specs.Structures.{member_of, members_in, members_of, none};
-    ghost use Rattle.c_scope.specs.Structures.{structures_of};
+    ghost use Rattle.c_scope.specs.Structures.{member_of, members_in, members_of, none, structures_of};
     ghost use Rattle.c_scope.specs.Structures.{with_constness, with_extent, with_members};
     ghost use Rattle.c_scope.specs.Names.{names_of};
 

@@ -1,5 +1,6 @@
 //! Laws of layout, each as the contract of a function that does nothing: layers above rest on them.
-ghost use Rattle.std.specs.Prelude.{◌≡◌, ℕ, ◌*◌, ◌%◌, ◌^◌, ◌<◌, ◌≤◌, List, ◌∷◌, length, All, Option, Some, true};
+ghost use Rattle.std.specs.Prelude.{◌≡◌, ℕ, ◌*◌, ◌%◌, ◌^◌, ◌<◌, ◌≤◌, List, ◌∷◌, length};
+ghost use Rattle.std.specs.Prelude.{All, Option, Some, true};
 ghost use Rattle.c_tree.specs.declared.c_type.TypeWord.{TypeWord};
 ghost use Rattle.c_tree.specs.declared.c_type.TypeWord.TheVariants.{Array};
 ghost use Rattle.c_tree.specs.Arrays.{array_word, is_sized};

@@ -1,6 +1,5 @@
 -- Declarations lead to a file behind them.
-use Rattle.std.proofs.Common.{◌≡◌, ℕ, Bool, true, false, refl, List, [], ◌∷◌}
-use Rattle.std.proofs.Common.{◌++◌, Option, Some, None, if◌then◌else◌}
+use Rattle.std.proofs.Common.{◌≡◌, ℕ, Bool, true, false, refl, List, [], ◌∷◌, ◌++◌, Option, Some, None, if◌then◌else◌}
 use Rattle.std.specs.Prelude.{Ok, Err, not, is_none, is_some, option_map}
 use Rattle.std.specs.List.{list_all}
 use Rattle.c_syntax.specs.declared.position.Position.{Position}
@@ -25,11 +24,9 @@ use Rattle.c_typing.specs.Specifications.{Specification}
 use Rattle.c_typing.specs.State.{State, Typing, done, extents, judged, ◌>>>◌}
 use Rattle.c_expression_typing.specs.Typed.{shape, specification}
 use Rattle.c_unit_typing.specs.Declarations.{alone_in, completed, declaration, declaration_of, declared_as}
-use Rattle.c_unit_typing.specs.Declarations.{declared_with}
-use Rattle.c_unit_typing.specs.Declarations.{initialized_if, is_same_object, named_by, sized, specified}
+use Rattle.c_unit_typing.specs.Declarations.{declared_with, initialized_if, is_same_object, named_by, sized, specified}
 use Rattle.c_unit_typing.specs.Declarations.{stored_once, with_declarator, with_declarators}
-use Rattle.c_unit_typing.specs.Declarations.{with_others, with_parts, with_size, with_static}
-use Rattle.c_unit_typing.specs.Declarations.{with_variable}
+use Rattle.c_unit_typing.specs.Declarations.{with_others, with_parts, with_size, with_static, with_variable}
 use Rattle.c_unit_typing.specs.Files.{File, in_state}
 use Rattle.c_unit_typing.specs.Initializers.{initialized}
 use Rattle.c_unit_typing.specs.Lines.{initializer_line}

@@ -1,7 +1,5 @@
 -- Constructs of a file that are typed one behind the other.
-use Rattle.std.proofs.Common.{◌++◌, ◌∷◌}
-use Rattle.std.proofs.Common.{◌≡◌, false, refl, sym, ap, ◌∙◌, subst, [], length}
-use Rattle.std.proofs.Common.{arith}
+use Rattle.std.proofs.Common.{◌++◌, ◌∷◌, ◌≡◌, false, refl, sym, ap, ◌∙◌, subst, [], length, arith}
 use Rattle.std.specs.Prelude.{Ok, Err}
 use Rattle.std.proofs.lemmas.List.{append-nil}
 use Rattle.c_tree.specs.Extents.{structure_extent}

@@ -2,8 +2,7 @@
 use Rattle.std.specs.Prelude.{Bool, true, ◌&&◌, List, Option, Some, None, option_map}
 use Rattle.std.specs.List.{list_all}
 use Rattle.c_syntax.specs.Statements.{Block, BlockItem, BlockItems, Declaration, External, ForInit, InitDeclarator}
-use Rattle.c_syntax.specs.Statements.{InitDeclarators}
-use Rattle.c_syntax.specs.Statements.{Statement}
+use Rattle.c_syntax.specs.Statements.{InitDeclarators, Statement}
 use Rattle.c_syntax.specs.Statements as s
 use Rattle.c_syntax.specs.Tree.{Designation, Designator, Expression, Initializer, InitializerItem, MoreItems}
 use Rattle.c_syntax.specs.Tree as t

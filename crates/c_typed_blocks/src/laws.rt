@@ -17,8 +17,7 @@ ghost use Rattle.c_typed_validity.specs.Typed.{HaveMembers};
 ghost use Rattle.c_typed_declarators.specs.Extending.{Extending};
 ghost use Rattle.c_typed_declarators.specs.Given.{anything};
 ghost use Rattle.c_typed_blocks.specs.Leaving.{IfEnds, Leading};
-ghost use Rattle.c_typed_blocks.specs.Regular.{are_regular_block_items, are_regular_externals};
-ghost use Rattle.c_typed_blocks.specs.Regular.{is_regular_declaration};
+ghost use Rattle.c_typed_blocks.specs.Regular.{are_regular_block_items, are_regular_externals, is_regular_declaration};
 ghost use Rattle.c_typed_blocks.specs.Regular.{is_regular_initializer, is_regular_statement};
 
 /// Behind a file that is accepted, tags stand for structures and unions that are declared, complete ones have from 1 to

@@ -15,8 +15,7 @@ use Rattle.c_scope.specs.Environment.{with_declarator, with_name, without_linkag
 use Rattle.c_scope.specs.Names.{Name, Names, bound, declared, is_name}
 use Rattle.c_typing.specs.State.{State}
 use Rattle.c_typed_declarators.proofs.Tags.{bound_same}
-use Rattle.c_typed_declarations.specs.Binding.{Binds, bound_meaning, linked_meaning}
-use Rattle.c_typed_declarations.specs.Binding.{unlinked_meaning}
+use Rattle.c_typed_declarations.specs.Binding.{Binds, bound_meaning, linked_meaning, unlinked_meaning}
 
 -- a name that is bound is declared
 

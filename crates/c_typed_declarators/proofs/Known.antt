@@ -1,6 +1,5 @@
 -- What is known of a state is known of one that extends it: type names keep it.
-use Rattle.std.proofs.Common.{◌≡◌, ℕ, false, ◌||◌, sym, ap, ◌∙◌, subst, List, length}
-use Rattle.std.proofs.Common.{Option, Some, None, nat_le}
+use Rattle.std.proofs.Common.{◌≡◌, ℕ, false, ◌||◌, sym, ap, ◌∙◌, subst, List, length, Option, Some, None, nat_le}
 use Rattle.std.specs.Prelude.{Ok, Err}
 use Rattle.c_tree.specs.declared.c_type.TypeWord.{TypeWord}
 use Rattle.c_tree.specs.Valid.{Scope}

@@ -1,7 +1,6 @@
 -- Members, and structures and unions that are complete behind them.
 use Rattle.std.proofs.Common.{◌≡◌, ℕ, zero, suc, ◌+◌, ◌^◌, ◌<◌, ◌≤◌, Bool, true, false, refl, sym, ap}
-use Rattle.std.proofs.Common.{◌∙◌, subst, List, [], ◌∷◌, ◌++◌, length, map, Option, Some, None}
-use Rattle.std.proofs.Common.{arith}
+use Rattle.std.proofs.Common.{◌∙◌, subst, List, [], ◌∷◌, ◌++◌, length, map, Option, Some, None, arith}
 use Rattle.std.specs.Prelude.{All, slice_get, get_or, is_some}
 use Rattle.std.proofs.lemmas.List.Elements.{All-cons}
 use Rattle.c_tree.specs.declared.c_type.TypeWord.{TypeWord}
@@ -29,8 +28,7 @@ use Rattle.c_typed_declarators.specs.Given.{AreCounted, AreEntries, IsEntry}
 use Rattle.c_typed_declarators.proofs.Chained.{IfAnswer}
 use Rattle.c_typed_declarators.proofs.Tags.{bound_same}
 use Rattle.c_typed_declarators.proofs.Types.{NoFaults, built_sized, first_faultless, object_type}
-use Rattle.c_typed_declarators.proofs.Types.{size_high, size_low, is_size_of}
-use Rattle.c_typed_declarators.proofs.Types.{without_faults}
+use Rattle.c_typed_declarators.proofs.Types.{size_high, size_low, is_size_of, without_faults}
 
 -- a member that a declarator adds
 

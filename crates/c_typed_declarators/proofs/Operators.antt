@@ -37,8 +37,7 @@ use Rattle.c_rules.specs.Values.{Value, converted}
 use Rattle.c_rules.specs.Values as values
 use Rattle.c_place_rules.specs.Operands.{Operand, Place, a_value, a_place, a_variable, a_function, enclosed}
 use Rattle.c_place_rules.specs.Operands.{decayed_to, element_pointer, loaded_as, value_in}
-use Rattle.c_place_rules.specs.Places.{address, dereferenced, dereferenced_as, place_pointer, size_in, size_of}
-use Rattle.c_place_rules.specs.Places.{type_in}
+use Rattle.c_place_rules.specs.Places.{address, dereferenced, dereferenced_as, place_pointer, size_in, size_of, type_in}
 use Rattle.c_condition_rules.specs.Conditions.{conditional, shape_in}
 use Rattle.c_assignment_rules.specs.declared.operators.StepOperator.{StepOperator}
 use Rattle.c_assignment_rules.specs.Assignable.{assignable}

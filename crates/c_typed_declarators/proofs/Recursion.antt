@@ -21,8 +21,7 @@ use Rattle.c_scope.specs.declared.tags.TagKind.TheVariants as kind
 use Rattle.c_scope.specs.declared.meaning.Meaning.{Meaning}
 use Rattle.c_scope.specs.Names.{declared, found, is_empty, or_else}
 use Rattle.c_scope.specs.Parameters.{ParameterScope, parameters_in}
-use Rattle.c_typing.specs.Declarators.{is_nothing}
-use Rattle.c_typing.specs.Declarators.{Shape, has_storage, parameter, scope_left, scope_opened, type_named}
+use Rattle.c_typing.specs.Declarators.{is_nothing, Shape, has_storage, parameter, scope_left, scope_opened, type_named}
 use Rattle.c_typing.specs.Declarators.{with_derivation, with_function}
 use Rattle.c_typing.specs.Members.{Entries, member_added, member_specified, no_entries, tag_completed}
 use Rattle.c_typing.specs.Operators.{assigned_by, assignment_form_of, binary_form_of, combined, indexed}
@@ -34,8 +33,7 @@ use Rattle.c_typing.specs.Specifications.{typedef_type, with_named}
 use Rattle.c_typing.specs.State.{State, Typing, done, extents, judged, ◌>>>◌}
 use Rattle.c_expression_typing.specs.Constructs.{accessed, applied_to, begun_as, called_by, cast_to, chosen}
 use Rattle.c_expression_typing.specs.Constructs.{enumerated_as, format_by, has_words, literal_alone, plain_name}
-use Rattle.c_expression_typing.specs.Constructs.{prefixed}
-use Rattle.c_expression_typing.specs.Constructs.{sized, specified_by, tagged_as, valued, with_shape}
+use Rattle.c_expression_typing.specs.Constructs.{prefixed, sized, specified_by, tagged_as, valued, with_shape}
 use Rattle.c_expression_typing.specs.Lines.{first_line, name_of, spellings, tag_name}
 use Rattle.c_expression_typing.specs.Typed.{argument_values, enumerator, gathered, more_enumerators, more_types}
 use Rattle.c_expression_typing.specs.Typed.{more_values, parameter_type, parameter_types, printed_values, shape}
@@ -53,14 +51,12 @@ use Rattle.c_typed_declarators.specs.Given.{HasScope, IsParameterScope}
 use Rattle.c_typed_declarators.specs.Given.{AreCounted, HasType, HasWords, IsBegun, IsCounted, IsGathered, IsIntIf}
 use Rattle.c_typed_declarators.specs.Given.{IsShapeOf, IsSpecified, OperandHasWords, ValueHasWords, anything}
 use Rattle.c_typed_declarators.proofs.Chained.{IfAnswer, done_extends, extends_same, from_before, inside}
-use Rattle.c_typed_declarators.proofs.Chained.{judged_extends}
-use Rattle.c_typed_declarators.proofs.Chained.{then_extends, then_from, weaker}
+use Rattle.c_typed_declarators.proofs.Chained.{judged_extends, then_extends, then_from, weaker}
 use Rattle.c_typed_declarators.proofs.Completed.{completed_from}
 use Rattle.c_typed_declarators.proofs.Members.{Members, member_given, members_kept}
 use Rattle.c_typed_declarators.proofs.Operators.{assigned_words, cast_to_words, character_words, chosen_words}
 use Rattle.c_typed_declarators.proofs.Operators.{combined_words, enclosed_words, integer_words, place_words}
-use Rattle.c_typed_declarators.proofs.Operators.{sized_words}
-use Rattle.c_typed_declarators.proofs.Operators.{stepped_by_words}
+use Rattle.c_typed_declarators.proofs.Operators.{sized_words, stepped_by_words}
 use Rattle.c_typed_declarators.proofs.Parameters.{behind, behind_extends, parameter_extends, within, within_block}
 use Rattle.c_typed_declarators.proofs.Parameters.{within_formed}
 use Rattle.c_typed_declarators.proofs.Steps.{accessed_extends, applied_to_extends, called_extends, count_counted}

@@ -35,8 +35,7 @@ use Rattle.c_typing.specs.Calls.{called_by_value, called_plainly, name_called, p
 use Rattle.c_typing.specs.Calls.{printed, with_callee_type}
 use Rattle.c_typing.specs.Operators.{arrowed, as_operand, as_value, dotted, object_taken, stepped_by, unary_value}
 use Rattle.c_typing.specs.Operators.{value_among}
-use Rattle.c_typing.specs.Primaries.{designated, is_object, literal, meant, named, place, plain_variable}
-use Rattle.c_typing.specs.Primaries.{used_as}
+use Rattle.c_typing.specs.Primaries.{designated, is_object, literal, meant, named, place, plain_variable, used_as}
 use Rattle.c_typing.specs.Sizes.{count_in, is_count, has_sign, next_value, provided}
 use Rattle.c_typing.specs.Specifications.{typedef_meant, typedef_type}
 use Rattle.c_typing.specs.State.{State, Typing, done, extents, judged, ◌>>>◌}

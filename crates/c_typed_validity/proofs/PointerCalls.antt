@@ -24,8 +24,7 @@ use Rattle.c_rules.specs.Values.{Value}
 use Rattle.c_rules.proofs.FineConversions.{assigned_fine}
 use Rattle.c_rules.proofs.SameTypes.{words_are}
 use Rattle.c_call_rules.specs.Calls.{Callee, called, called_if, called_through, complete_result, of_function}
-use Rattle.c_call_rules.specs.Calls.{of_pointer}
-use Rattle.c_call_rules.specs.Calls.{call_tree, passed}
+use Rattle.c_call_rules.specs.Calls.{of_pointer, call_tree, passed}
 use Rattle.c_call_rules.specs.FineCalls.{AreFine, Spells}
 use Rattle.c_call_rules.specs.FunctionTypes.{callee_type, first_types, result_type}
 use Rattle.c_call_rules.proofs.FineCalls.{called_fine, through_fine}

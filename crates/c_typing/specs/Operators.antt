@@ -1,7 +1,6 @@
 -- The operators of the syntax, on operands that are typed (C99 6.5.2 to 6.5.17).
 use Rattle.std.specs.Prelude.{ℕ, zero, suc, Bool, true, false, ◌||◌, if◌then◌else◌, List, [], ◌∷◌, Option, Some, None}
-use Rattle.std.specs.Prelude.{Ok}
-use Rattle.std.specs.Prelude.{◌+◌, ◌-◌, ◌++◌, length, is_some, option_map, slice_set}
+use Rattle.std.specs.Prelude.{Ok, ◌+◌, ◌-◌, ◌++◌, length, is_some, option_map, slice_set}
 use Rattle.obj_memory.specs.declared.operator.BinaryOperator.TheVariants as binary_operator
 use Rattle.obj_memory.specs.declared.operator.UnaryOperator.TheVariants as unary_operator
 use Rattle.c_lexer.specs.declared.punctuator.Punctuator.{Punctuator}

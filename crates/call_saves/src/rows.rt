@@ -1,6 +1,7 @@
 //! The rows of a table while they grow, one virtual register after the other.
 
-ghost use Rattle.std.specs.Prelude.{◌≡◌, ◌+◌, ◌<◌, ◌≤◌, ◌&&◌, ℕ, OnOk, length, slice_get, if◌then◌else◌, nat_le};
+ghost use Rattle.std.specs.Prelude.{◌≡◌, ◌+◌, ◌<◌, ◌≤◌, ◌&&◌, ℕ, OnOk, length, slice_get};
+ghost use Rattle.std.specs.Prelude.{if◌then◌else◌, nat_le};
 ghost use Rattle.std.specs.Prelude.{nat_lt};
 ghost use Rattle.reg_plan.specs.Accepted.{holds, covers};
 ghost use Rattle.call_saves.specs.Saves.{ends_with, with_last, items_of, is_call_at, calls_before, is_saved};

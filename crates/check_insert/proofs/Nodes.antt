@@ -1,7 +1,6 @@
 -- Code with its checks put in is what `Inserted` says.
 use Rattle.std.proofs.Common.{◌≡◌, ℕ, suc, zero, ◌+◌, ◌≤◌, List, [], ◌∷◌, length, Option, Some, None, refl, sym, ap}
-use Rattle.std.proofs.Common.{◌∙◌}
-use Rattle.std.proofs.Common.{subst, arith, length-append}
+use Rattle.std.proofs.Common.{◌∙◌, subst, arith, length-append}
 use Rattle.std.specs.Prelude.{slice_get, map, ◌++◌}
 use Rattle.c_tree.specs.declared.expression.Kind.{Kind}
 use Rattle.c_tree.specs.declared.expression.Kind.TheVariants.{Void, Scalar as OfScalar, Structure, Array}
@@ -14,8 +13,7 @@ use Rattle.tac_ir.specs.declared.instruction.Instruction.TheVariants.{StaticPoin
 use Rattle.tac_ir.specs.declared.instruction.Instruction.TheVariants.{Offset, Difference, Narrow, Member, Take, Read}
 use Rattle.tac_ir.specs.declared.instruction.Instruction.TheVariants.{Write, Update, Judge, Zero, StorePart}
 use Rattle.tac_ir.specs.declared.instruction.Instruction.TheVariants.{StoreText, Branch, Case, Turn, Library, Print}
-use Rattle.tac_ir.specs.declared.instruction.Instruction.TheVariants.{Call, CallThrough, EnterBlock, LeaveBlock}
-use Rattle.tac_ir.specs.declared.instruction.Instruction.TheVariants.{Return}
+use Rattle.tac_ir.specs.declared.instruction.Instruction.TheVariants.{Call, CallThrough, EnterBlock, LeaveBlock, Return}
 use Rattle.tac_ir.specs.declared.function.CodeFunction.{CodeFunction}
 use Rattle.tac_ir.specs.declared.function.StaticData.{StaticData}
 use Rattle.tac_ir.specs.declared.function.Tac.{Tac}

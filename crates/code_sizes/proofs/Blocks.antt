@@ -27,8 +27,7 @@ use Rattle.reg_plan.specs.Effects.{is_among, many}
 use Rattle.rv_blocks.specs.declared.location.Location.{Location}
 use Rattle.rv_blocks.specs.Blocks.{constant, used, used_right, fetch, keep, fetch_right, operands}
 use Rattle.rv_blocks.specs.Blocks.{asks, received_block, operator_block, operate_block, operate32_block, end_block}
-use Rattle.rv_blocks.specs.Blocks.{local_block}
-use Rattle.rv_blocks.specs.Blocks.{wide, digits, load_at, store_at}
+use Rattle.rv_blocks.specs.Blocks.{local_block, wide, digits, load_at, store_at}
 use Rattle.rv_blocks.specs.Immediates.{is_immediate, immediate, immediate32, immediate_of, immediate32_of}
 use Rattle.rv_blocks.proofs.Lengths.{constant_length, fetch_length, keep_length}
 use Rattle.rv_blocks.proofs.Reports.{end_length}

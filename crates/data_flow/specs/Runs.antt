@@ -1,7 +1,6 @@
 -- Runs of nodes: stretches along which a fact can only flow from each node to the one before it.
 use Rattle.std.specs.Prelude.{◌≡◌, ℕ, ◌+◌, ◌<◌, ◌≤◌, List, [], ◌∷◌, length, Bool, true, ◌&&◌, nat_le, Option, Some}
-use Rattle.std.specs.Prelude.{None}
-use Rattle.std.specs.Prelude.{slice_get}
+use Rattle.std.specs.Prelude.{None, slice_get}
 use Rattle.std.specs.List.{list_any}
 use Rattle.data_flow.specs.declared.node_set.NodeSet.{NodeSet}
 use Rattle.data_flow.specs.declared.relation.Relation.{Relation}

@@ -12,7 +12,8 @@ pub struct NodeSet {
     ghost begun: { 0 < current },
 }
 
-ghost use Rattle.std.specs.Prelude.{◌≡◌, ◌<◌, ◌≤◌, ◌+◌, ◌≢◌, ℕ, IfOk, OnOk, length, slice_index, not, true, false};
+ghost use Rattle.std.specs.Prelude.{◌≡◌, ◌<◌, ◌≤◌, ◌+◌, ◌≢◌, ℕ, IfOk, OnOk, length, slice_index};
+ghost use Rattle.std.specs.Prelude.{not, true, false};
 ghost use Rattle.std.specs.Prelude.{if◌then◌else◌};
 
 impl NodeSet {

@@ -1,6 +1,5 @@
 -- Expressions from their operands.
-use Rattle.std.proofs.Common.{ℕ, ◌+◌, ◌*◌, ◌≤◌, List, [], ◌∷◌, length, map, refl}
-use Rattle.std.proofs.Common.{arith}
+use Rattle.std.proofs.Common.{ℕ, ◌+◌, ◌*◌, ◌≤◌, List, [], ◌∷◌, length, map, refl, arith}
 use Rattle.std.specs.Prelude.{max}
 use Rattle.c_tree.specs.Tree.{Expression, Expressions, no_expressions, expressions, Lvalue}
 use Rattle.c_tree.specs.declared.expression.Expression.{Expression as CodeExpression}

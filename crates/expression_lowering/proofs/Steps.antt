@@ -24,8 +24,7 @@ use Rattle.expression_lowering.specs.Emitted.{Added, IsReal, arguments_used}
 use Rattle.expression_lowering.specs.Last.{key_in, last_in, last_at, KeyAdded, TextAdded, FormatAdded, TextIs}
 use Rattle.expression_lowering.specs.Shapes.{operands_in, operands_at, operands_of, lvalue_operands}
 use Rattle.expression_lowering.specs.Shapes.{LowersOperands, operands_used, operands_nodes, operands_weight}
-use Rattle.expression_lowering.specs.Shapes.{finish_weight, lvalue_finish_weight}
-use Rattle.expression_lowering.specs.Shapes.{Finishes, LvalueFinishes}
+use Rattle.expression_lowering.specs.Shapes.{finish_weight, lvalue_finish_weight, Finishes, LvalueFinishes}
 use Rattle.expression_lowering.proofs.Growing.{emits_none, emits_then, emits_within, added_emits, added_has}
 use Rattle.expression_lowering.proofs.Growing.{fills_before}
 

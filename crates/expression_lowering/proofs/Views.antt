@@ -1,7 +1,6 @@
 -- Expressions and lvalues of the code as plain data, and arguments from one on.
 use Rattle.std.proofs.Common.{◌≡◌, ℕ, zero, suc, ◌+◌, ◌-◌, ◌≤◌, ◌<◌, List, [], ◌∷◌, length, map, drop, sym, ap, ◌∙◌}
-use Rattle.std.proofs.Common.{subst}
-use Rattle.std.proofs.Common.{arith}
+use Rattle.std.proofs.Common.{subst, arith}
 use Rattle.std.specs.Prelude.{get_or, ◌⊎◌}
 use mathlib.Core.Logic.{inl, inr}
 use Rattle.c_tree.specs.declared.expression.Expression.{Expression as CodeExpression}
@@ -19,8 +18,7 @@ use Rattle.c_tree.specs.declared.expression.Update.{Update}
 use Rattle.c_tree.specs.Tree.{Expression, expression, Lvalue, lvalue, Node, LvalueNode, expressions_in, kind_of}
 use Rattle.c_tree.specs.Tree.{line_of}
 use Rattle.c_tree.specs.Tree.{binary, offset_by, difference, logical_and, logical_or, comma, conditional, assign}
-use Rattle.c_tree.specs.Tree.{compound}
-use Rattle.c_tree.specs.Tree.{call_through, index}
+use Rattle.c_tree.specs.Tree.{compound, call_through, index}
 use Rattle.c_tree.specs.View.{expression_of, lvalue_of, lvalue_node_step, node_step, expression_step, lvalue_step}
 use Rattle.c_lower.specs.Homes.{used, used_by_lvalue}
 use Rattle.expression_lowering.specs.declared.emitter.Emitter.{Emitter}
@@ -28,8 +26,7 @@ use Rattle.expression_lowering.specs.Emitted.{ExpressionCode, LvalueCode, Argume
 use Rattle.expression_lowering.specs.Sizes.{nodes, lvalue_nodes, arguments_nodes}
 use Rattle.expression_lowering.specs.Shapes.{Operands, two, place_and, callee_and, both, either, sequence, choice}
 use Rattle.expression_lowering.specs.Shapes.{operands_in, operands_at, operands_of, lvalue_operands, operands_used}
-use Rattle.expression_lowering.specs.Shapes.{operands_nodes}
-use Rattle.expression_lowering.specs.Shapes.{OperandsCode, Finishes, LvalueFinishes}
+use Rattle.expression_lowering.specs.Shapes.{operands_nodes, OperandsCode, Finishes, LvalueFinishes}
 use Rattle.expression_lowering.specs.Last.{TakingCode}
 use Rattle.expression_lowering.specs.Nodes.{node_of, lvalue_node_of}
 use Rattle.expression_lowering.proofs.Parts.{no_arguments, more_arguments, finished, lvalue_finished}

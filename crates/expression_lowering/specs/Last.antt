@@ -6,8 +6,7 @@ use Rattle.c_tree.specs.Tree.{Node, constant, function, plain, read}
 use Rattle.c_tree.specs.Tree.{decay, address, parenthesized, deref_function, address_function, cast, convert, unary}
 use Rattle.c_tree.specs.Tree.{binary, offset_by, difference, logical_and, logical_or, comma, conditional, assign}
 use Rattle.c_tree.specs.Tree.{assign_plain, compound, change_plain, step, step_plain, call, call_through, library}
-use Rattle.c_tree.specs.Tree.{printf}
-use Rattle.c_tree.specs.Tree.{LvalueNode, automatic, static, deref, index, member, arrow, member_of_value}
+use Rattle.c_tree.specs.Tree.{printf, LvalueNode, automatic, static, deref, index, member, arrow, member_of_value}
 use Rattle.c_tree.specs.Tree.{parenthesized_lvalue, kind_of, lvalue_kind, lvalue_line}
 use Rattle.source_meaning.specs.Actions.{scalar_of, integer_type}
 use Rattle.source_meaning.specs.Expressions.{is_judged}

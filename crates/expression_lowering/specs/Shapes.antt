@@ -5,8 +5,7 @@ use Rattle.c_tree.specs.Tree.{read}
 use Rattle.c_tree.specs.Tree.{decay, address, parenthesized, deref_function, address_function, cast, convert, unary}
 use Rattle.c_tree.specs.Tree.{binary, offset_by, difference, logical_and, logical_or, comma, conditional, assign}
 use Rattle.c_tree.specs.Tree.{assign_plain, compound, change_plain, step, step_plain, call, call_through, library}
-use Rattle.c_tree.specs.Tree.{printf}
-use Rattle.c_tree.specs.Tree.{LvalueNode, automatic, static, deref, index, member, arrow, member_of_value}
+use Rattle.c_tree.specs.Tree.{printf, LvalueNode, automatic, static, deref, index, member, arrow, member_of_value}
 use Rattle.c_tree.specs.Tree.{parenthesized_lvalue}
 use Rattle.tac_ir.specs.declared.instruction.Instruction.TheVariants as tac
 use Rattle.c_lower.specs.Homes.{used, used_by_lvalue}

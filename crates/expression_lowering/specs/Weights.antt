@@ -8,8 +8,7 @@ use Rattle.c_tree.specs.Tree.{plain, read, decay, address, parenthesized, deref_
 use Rattle.c_tree.specs.Tree.{convert}
 use Rattle.c_tree.specs.Tree.{unary, binary, offset_by, difference, logical_and, logical_or, comma, conditional, assign}
 use Rattle.c_tree.specs.Tree.{assign_plain, compound, change_plain, step, step_plain, call, call_through, library}
-use Rattle.c_tree.specs.Tree.{printf}
-use Rattle.c_tree.specs.Tree.{LvalueNode, automatic, static, deref, index, member, arrow, member_of_value}
+use Rattle.c_tree.specs.Tree.{printf, LvalueNode, automatic, static, deref, index, member, arrow, member_of_value}
 use Rattle.c_tree.specs.Tree.{parenthesized_lvalue, kind_of}
 use Rattle.c_tree.specs.Walk.{Visited, visited, visited_lvalue, walk, walk_lvalue, sum_of}
 use Rattle.tac_ir.specs.declared.instruction.Instruction.{Instruction}

@@ -16,8 +16,7 @@ impl Emitter {
     ghost use Rattle.expression_lowering.specs.Last.{KeyAdded, FormatAdded, key_in};
     ghost use Rattle.expression_lowering.specs.Nodes.{node_of, lvalue_node_of};
     ghost use Rattle.expression_lowering.specs.Shapes.{OperandsCode, Finishes, LvalueFinishes, operands_in};
-    ghost use Rattle.expression_lowering.specs.Shapes.{operands_at};
-    ghost use Rattle.expression_lowering.specs.Shapes.{operands_used};
+    ghost use Rattle.expression_lowering.specs.Shapes.{operands_at, operands_used};
 
     // The number of the key of an expression's access, where it has one.
     #[tactic(auto, using(crate::proofs::Growing::keys_added))]

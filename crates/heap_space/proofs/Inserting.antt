@@ -1,7 +1,6 @@
 -- A row is inserted: those behind it are moved up by one.
 use Rattle.std.proofs.Common.{◌≡◌, ◌≢◌, ℕ, zero, suc, ◌+◌, ◌-◌, ◌*◌, ◌%◌, ◌^◌, ◌<◌, ◌≤◌, ◌⊎◌, inl, inr, ⊎_elim, List}
-use Rattle.std.proofs.Common.{[]}
-use Rattle.std.proofs.Common.{◌∷◌, true, false, refl, sym, ap, ◌∙◌, subst, arith}
+use Rattle.std.proofs.Common.{[], ◌∷◌, true, false, refl, sym, ap, ◌∙◌, subst, arith}
 use Rattle.std.proofs.lemmas.Bool.{cases_lt, eq-eqb, ne_eqb}
 use Rattle.addr_map.specs.Places.{MapSizes}
 use Rattle.rv_isa.specs.declared.instruction.BranchOp.TheVariants.{Beq}
@@ -13,8 +12,7 @@ use Rattle.flat_meaning.specs.Memory.{Bytes, AreBytes, put, load, store, KeepsBu
 use Rattle.flat_meaning.specs.State.{Values, State}
 use Rattle.flat_meaning.specs.Words.{IsOfWords}
 use Rattle.flat_meaning.specs.Meaning.{Context}
-use Rattle.flat_meaning.proofs.Stored.{load_beside, kept_beside, keeps_within, keeps_both}
-use Rattle.flat_meaning.proofs.Stored.{load_fits}
+use Rattle.flat_meaning.proofs.Stored.{load_beside, kept_beside, keeps_within, keeps_both, load_fits}
 use Rattle.flat_routines.specs.Routine.{HasAt, until_code}
 use Rattle.flat_routines.specs.Effects.{worked, effects}
 use Rattle.flat_routines.specs.Metadata.{metadata_at, ShowsNothing}

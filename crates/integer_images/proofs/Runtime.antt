@@ -47,8 +47,7 @@ use Rattle.rv_follows.specs.Code.{keeping_of, keeping, block, wanted, charged_fr
 use Rattle.rv_follows.proofs.Bounds.{turn_bound, end_bound}
 use Rattle.rv_follows.specs.Start.{start_block}
 use Rattle.rv_layout.specs.Lists.{plain, tail_of, items_at, items_from, items_of}
-use Rattle.rv_segments.specs.Segments.{is_of, function_words, words_if, words_below, begin, rows_below}
-use Rattle.rv_segments.specs.Segments.{table_bytes}
+use Rattle.rv_segments.specs.Segments.{is_of, function_words, words_if, words_below, begin, rows_below, table_bytes}
 use Rattle.rv_segments.proofs.Parts.{map_length}
 use Rattle.metadata_plan.specs.Blocks.{entry_code, room_in}
 use Rattle.metadata_plan.specs.Laid.{functions_of, entry_of, program_of}

@@ -1,7 +1,6 @@
 -- How many words the blocks of instructions have at most, with the jumps behind them.
 use Rattle.std.proofs.Common.{◌≡◌, ℕ, zero, suc, ◌+◌, ◌-◌, ◌*◌, ◌^◌, ◌<◌, ◌≤◌, Bool, true, false, List, [], ◌∷◌, ◌++◌}
-use Rattle.std.proofs.Common.{length}
-use Rattle.std.proofs.Common.{refl, arith}
+use Rattle.std.proofs.Common.{length, refl, arith}
 use Rattle.std.specs.Prelude.{if◌then◌else◌, nat_lt}
 use Rattle.sb_base.specs.declared.ending.Ending.TheVariants as ending
 use Rattle.addr_map.specs.Places.{MapSizes, function_address}

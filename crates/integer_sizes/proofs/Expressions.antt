@@ -9,8 +9,7 @@ use Rattle.c_tree.specs.Tree.{plain, read, decay, address, parenthesized, deref_
 use Rattle.c_tree.specs.Tree.{convert}
 use Rattle.c_tree.specs.Tree.{unary, binary, offset_by, difference, logical_and, logical_or, comma, conditional, assign}
 use Rattle.c_tree.specs.Tree.{assign_plain, compound, change_plain, step, step_plain, call, call_through, library}
-use Rattle.c_tree.specs.Tree.{printf}
-use Rattle.c_tree.specs.Tree.{kind_of}
+use Rattle.c_tree.specs.Tree.{printf, kind_of}
 use Rattle.c_tree.specs.Walk.{walk_each, sum_of}
 use Rattle.c_tree.specs.Valid as valid
 use Rattle.c_lower.specs.Values.{count}

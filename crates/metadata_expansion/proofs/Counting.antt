@@ -1,7 +1,6 @@
 -- How many ways lead to each node, counted one by one.
 use Rattle.std.proofs.Common.{◌≡◌, ◌≢◌, ℕ, zero, suc, ◌+◌, ◌<◌, ◌≤◌, Bool, true, false, refl, sym, ap, ◌∙◌, subst}
-use Rattle.std.proofs.Common.{arith}
-use Rattle.std.proofs.Common.{List, [], ◌∷◌, length, drop, Some, get_or}
+use Rattle.std.proofs.Common.{arith, List, [], ◌∷◌, length, drop, Some, get_or}
 use Rattle.std.specs.Prelude.{replicate, slice_get, slice_set, nat_lt, ◌==◌, not, ◌&&◌, if◌then◌else◌}
 use Rattle.std.proofs.lemmas.List.{length-replicate, length-set, get_or-replicate, get_or-set_same, get_or-set_other}
 use Rattle.std.proofs.lemmas.Option.{same_Some, slice_get_read, slice_get_within, slice_get-get_or}

@@ -1,6 +1,7 @@
 //! Calls, and what stands before them.
 
-ghost use Rattle.std.specs.Prelude.{◌≡◌, ◌+◌, ◌*◌, ◌<◌, ◌≤◌, ◌^◌, ◌++◌, ◌∷◌, [], if◌then◌else◌, OnOk};
+ghost use Rattle.std.specs.Prelude.{◌≡◌, ◌+◌, ◌*◌, ◌<◌, ◌≤◌, ◌^◌, ◌++◌, ◌∷◌, []};
+ghost use Rattle.std.specs.Prelude.{if◌then◌else◌, OnOk};
 ghost use Rattle.sb_base.specs.declared.ending.Ending.TheVariants.{Abort};
 ghost use Rattle.tac_ir.specs.Meaning.{function_in};
 ghost use Rattle.flat_meaning.specs.declared.instruction.FlatInstruction.TheVariants.{End};

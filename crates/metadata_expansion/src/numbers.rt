@@ -1,7 +1,7 @@
 //! Whether the numbers of an expansion fit the instructions of flat code.
 
-ghost use Rattle.std.specs.Prelude.{◌≡◌, ℕ, ◌↔◌, max, ◌+◌, ◌*◌, ◌<◌, ◌≤◌};
-ghost use Rattle.std.specs.Prelude.{◌^◌, length, Some, slice_get, IfOk, IsTrue};
+ghost use Rattle.std.specs.Prelude.{◌≡◌, ℕ, ◌↔◌, max, ◌+◌, ◌*◌, ◌<◌, ◌≤◌, ◌^◌, length};
+ghost use Rattle.std.specs.Prelude.{Some, slice_get, IfOk, IsTrue};
 ghost use Rattle.metadata_plan.specs.Registers.{most_temporaries, words_in};
 ghost use Rattle.metadata_expansion.specs.Numbering.{AreRegisters};
 ghost use Rattle.metadata_expansion.specs.Numbers.{AreAllSmall, AreSmall, body_size, callee, greatest_callee};

@@ -18,16 +18,14 @@ use Rattle.source_meaning.specs.Places.{stack_first, stack_end}
 use Rattle.source_meaning.specs.Calls.{set_up}
 use Rattle.tac_ir.specs.declared.function.CodeFunction.{CodeFunction}
 use Rattle.tac_ir.specs.declared.function.Tac.{Tac}
-use Rattle.tac_ir.specs.Stage.{no_temps, Frame, Waits, Entered, Stage, Stands, Over}
-use Rattle.tac_ir.specs.Stage.{came}
+use Rattle.tac_ir.specs.Stage.{no_temps, Frame, Waits, Entered, Stage, Stands, Over, came}
 use Rattle.tac_ir.specs.Meaning.{header_of_code, begun}
 use Rattle.flat_meaning.specs.declared.instruction.FlatInstruction.TheVariants as flat_code
 use Rattle.flat_meaning.specs.declared.function.FlatFunction.{FlatFunction}
 use Rattle.flat_meaning.specs.declared.function.FlatProgram.{FlatProgram}
 use Rattle.flat_meaning.specs.State as flat
 use Rattle.flat_meaning.specs.Calls.{function_in, room_if, rooms, charged, arguments, with_results}
-use Rattle.flat_meaning.specs.Meaning.{body_of, step, parameters_of, results_of, has_room, enters}
-use Rattle.flat_meaning.specs.Meaning.{instruction_at}
+use Rattle.flat_meaning.specs.Meaning.{body_of, step, parameters_of, results_of, has_room, enters, instruction_at}
 use Rattle.flat_routines.specs.Routine.{HasAt}
 use Rattle.flat_routines.proofs.Steps.{has_self}
 use Rattle.flat_objects.specs.StandsFor.{Views, Keys, StandsFor}
@@ -38,13 +36,11 @@ use Rattle.metadata_plan.specs.Part.{are_integers, have_no_objects, IsIntegerCod
 use Rattle.metadata_plan.specs.Matching.{factor, IsAlike, AllWait, Wait, MatchesBy}
 use Rattle.metadata_plan.proofs.Numbers.{integers_back, integers_words, integers_front, is_integer_variable}
 use Rattle.metadata_plan.proofs.Flat.{Comes, leads_comes, one}
-use Rattle.metadata_plan.proofs.Holding.{IsSet}
-use Rattle.metadata_plan.proofs.Holding.{holds_free}
+use Rattle.metadata_plan.proofs.Holding.{IsSet, holds_free}
 use Rattle.metadata_plan.specs.Registers.{words_in}
 use Rattle.metadata_plan.proofs.SetUp.{laid_out, laid_out_homes, exhausted, set_up_gives}
 use Rattle.metadata_plan.proofs.Standing.{there, integer_function, Result, ends}
-use Rattle.metadata_plan.proofs.Calling.{tested, tests_end, counted}
-use Rattle.metadata_plan.proofs.Calling.{callee_holds}
+use Rattle.metadata_plan.proofs.Calling.{tested, tests_end, counted, callee_holds}
 use Rattle.metadata_plan.proofs.Calling.{variables_zeroed, plain_counted, argument_out}
 
 pub room_behind : (b : Bool) (p : FlatProgram) (x : flat.Frame) (xs : List flat.Frame)

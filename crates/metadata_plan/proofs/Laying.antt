@@ -1,7 +1,6 @@
 -- Blocks that are laid one behind the other make an expansion.
 use Rattle.std.proofs.Common.{◌≡◌, ℕ, zero, suc, ◌+◌, ◌-◌, ◌<◌, ◌≤◌, refl, sym, ap, ◌∙◌, subst, arith, Bool, true}
-use Rattle.std.proofs.Common.{false}
-use Rattle.std.proofs.Common.{List, [], ◌∷◌, ◌++◌, length, length-append, append_assoc, append-nil, drop, Some}
+use Rattle.std.proofs.Common.{false, List, [], ◌∷◌, ◌++◌, length, length-append, append_assoc, append-nil, drop, Some}
 use Rattle.std.proofs.Common.{ltb-true, ltb-false}
 use Rattle.std.specs.Prelude.{slice_get, nat_lt, ◌==◌, not, ◌&&◌, if◌then◌else◌}
 use Rattle.std.proofs.Math.Seq.{get_or-append_seam}
@@ -23,8 +22,7 @@ use Rattle.metadata_plan.specs.Expanded.{Leads, Falls, Forward, Back, LeadOn, Is
 use Rattle.metadata_plan.specs.Expanded.{EntersAt, IsExpanded}
 use Rattle.metadata_plan.specs.Laid.{jump, jump_unless, falls, is_join, jumps, jump_count, size_at, size_from}
 use Rattle.metadata_plan.specs.Laid.{begin_size, place_of, laid_from, begin_code, body_of, function_of, functions_of}
-use Rattle.metadata_plan.specs.Laid.{entry_of, address_of}
-use Rattle.metadata_plan.specs.Laid.{place_in, program_of}
+use Rattle.metadata_plan.specs.Laid.{entry_of, address_of, place_in, program_of}
 
 -- ---- what stands in a list
 

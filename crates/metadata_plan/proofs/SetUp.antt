@@ -1,6 +1,5 @@
 -- What a call lays out where no variable is an object.
-use Rattle.std.proofs.Common.{◌≡◌, ℕ, ◌+◌, ◌≤◌, refl, sym, ap, ◌∙◌, Bool, true, false, not}
-use Rattle.std.proofs.Common.{List, [], ◌∷◌}
+use Rattle.std.proofs.Common.{◌≡◌, ℕ, ◌+◌, ◌≤◌, refl, sym, ap, ◌∙◌, Bool, true, false, not, List, [], ◌∷◌}
 use Rattle.std.specs.Prelude.{nat_le, if◌then◌else◌}
 use Rattle.std.proofs.lemmas.Bool.{and_parts, le-leb}
 use Rattle.sb_base.specs.declared.ending.Ending.TheVariants.{Stack}
@@ -13,8 +12,7 @@ use Rattle.source_meaning.specs.State.{◌>>=◌, Header, Setting}
 use Rattle.source_meaning.specs.Places.{stack_first, stack_end}
 use Rattle.source_meaning.specs.Blocks.{objects_end, has_objects, place_object, place_variables, without_homes}
 use Rattle.source_meaning.specs.Calls.{body_objects, parameter_count, plain_count, plain_values, write_parameters}
-use Rattle.source_meaning.specs.Calls.{set_up}
-use Rattle.source_meaning.specs.Calls.{lay_out}
+use Rattle.source_meaning.specs.Calls.{set_up, lay_out}
 use Rattle.metadata_plan.specs.Part.{have_no_objects}
 use Rattle.metadata_plan.specs.Matching.{AreNoObjects, HaveNoObjects}
 

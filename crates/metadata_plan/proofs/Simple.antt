@@ -1,8 +1,7 @@
 -- Instructions whose blocks change registers, go one of two ways, or begin a turn.
 use Rattle.std.proofs.Common.{◌≡◌, ℕ, ◌+◌, ◌*◌, ◌^◌, ◌<◌, ◌≤◌, refl, sym, ap, ap₂, ◌∙◌, subst}
 use Rattle.std.proofs.Common.{arith, Bool, true, false, cond, not, List, [], ◌∷◌, ◌++◌, Option, Some, None, length}
-use Rattle.std.proofs.Common.{length-append}
-use Rattle.std.proofs.Common.{mod-eq_of_lt, le_trans, mul-le-mul_left, set, ltb-true}
+use Rattle.std.proofs.Common.{length-append, mod-eq_of_lt, le_trans, mul-le-mul_left, set, ltb-true}
 use Rattle.std.specs.Prelude.{slice_get, ◌==◌}
 use Rattle.words.specs.TwosComplement.{low_bits}
 use Rattle.addr_map.specs.Places.{MapSizes}
@@ -51,10 +50,8 @@ use Rattle.metadata_plan.specs.Matching.{IsAlike, IsAt}
 use Rattle.metadata_plan.proofs.Flat.{then_comes}
 use Rattle.metadata_plan.proofs.Flat.{weight_small, Comes, constant_comes, move_comes, turn_comes, branch_taken_comes}
 use Rattle.metadata_plan.proofs.Flat.{branch_passed_comes}
-use Rattle.metadata_plan.proofs.Holding.{IsSet, set_by_put, holds_free, holds_temporary, holds_variable}
-use Rattle.metadata_plan.proofs.Holding.{temporary_free}
-use Rattle.metadata_plan.proofs.Standing.{IsNode, node, Result, then_leads}
-use Rattle.metadata_plan.proofs.Standing.{computed, computed_set, stays, ends}
+use Rattle.metadata_plan.proofs.Holding.{IsSet, set_by_put, holds_free, holds_temporary, holds_variable, temporary_free}
+use Rattle.metadata_plan.proofs.Standing.{IsNode, node, Result, then_leads, computed, computed_set, stays, ends}
 
 pub low_word_same : (w : ℕ) → is_word w ≡ true → low_bits 64 w ≡ w
 low_word_same w e = mod-eq_of_lt (ltb-true w (2 ^ 64) e)

@@ -1,8 +1,6 @@
 -- Functions and their expansions, and the result of a step that stays in its function.
-use Rattle.std.proofs.Common.{Bool, suc}
-use Rattle.std.proofs.Common.{◌≡◌, ℕ, ◌+◌, ◌*◌, ◌≤◌, refl, sym, ap, ◌∙◌, subst, arith}
-use Rattle.std.proofs.Common.{true, false, ◌&&◌, List, Option, Some, None, length, le_trans}
-use Rattle.std.proofs.Common.{mul-le-mul_left}
+use Rattle.std.proofs.Common.{Bool, suc, ◌≡◌, ℕ, ◌+◌, ◌*◌, ◌≤◌, refl, sym, ap, ◌∙◌, subst, arith}
+use Rattle.std.proofs.Common.{true, false, ◌&&◌, List, Option, Some, None, length, le_trans, mul-le-mul_left}
 use Rattle.std.specs.Prelude.{slice_get, if◌then◌else◌}
 use Rattle.std.proofs.lemmas.Bool.{and_parts}
 use Rattle.behaviours.specs.Steps.{run}

@@ -1,8 +1,6 @@
 -- Calls and returns of three-address code, and the start of a run.
-use Rattle.std.proofs.Common.{inl}
-use Rattle.std.proofs.Common.{⊎_elim, ◌≡◌, ℕ, ◌+◌, ◌*◌, ◌%◌, ◌^◌, ◌<◌, ◌≤◌, refl, sym, ap, ◌∙◌, subst}
-use Rattle.std.proofs.Common.{arith, Bool, true, false, List, [], ◌∷◌, ◌++◌, Option, Some, None}
-use Rattle.std.proofs.Common.{length, length-append}
+use Rattle.std.proofs.Common.{inl, ⊎_elim, ◌≡◌, ℕ, ◌+◌, ◌*◌, ◌%◌, ◌^◌, ◌<◌, ◌≤◌, refl, sym, ap, ◌∙◌, subst}
+use Rattle.std.proofs.Common.{arith, Bool, true, false, List, [], ◌∷◌, ◌++◌, Option, Some, None, length, length-append}
 use Rattle.std.specs.Prelude.{slice_get, if◌then◌else◌}
 use Rattle.std.proofs.lemmas.Bool.{eqb-true, cases_lt}
 use Rattle.behaviours.specs.Steps.{run}
@@ -44,8 +42,7 @@ use Rattle.metadata_plan.proofs.SetUp.{none_die}
 use Rattle.metadata_plan.proofs.Standing.{IsNode, there, integer_function, node, Result, ends}
 use Rattle.metadata_plan.proofs.Library.{status_is}
 use Rattle.metadata_plan.proofs.Calling.{tested, tests_pass, arguments_moved, gathered_at}
-use Rattle.metadata_plan.proofs.Entering.{entry_there, returns_step, result_set, no_rooms, enters_matches}
-use Rattle.metadata_plan.proofs.Entering.{exhausts}
+use Rattle.metadata_plan.proofs.Entering.{entry_there, returns_step, result_set, no_rooms, enters_matches, exhausts}
 
 -- a function that takes so many arguments is there
 record Takes (o : Option CodeFunction) (n : ℕ) : Type 0 where

@@ -1,6 +1,7 @@
 //! Laws of the definitions, each as the contract of a function that does nothing: layers above rest on
 //! them.
-ghost use Rattle.std.specs.Prelude.{◌≡◌, ◌≢◌, ℕ, ◌+◌, ◌-◌, ◌*◌, ◌/◌, ◌%◌, ◌^◌, ◌<◌, ◌≤◌, ◌⊎◌, List, [], length, take};
+ghost use Rattle.std.specs.Prelude.{◌≡◌, ◌≢◌, ℕ, ◌+◌, ◌-◌, ◌*◌, ◌/◌, ◌%◌, ◌^◌, ◌<◌};
+ghost use Rattle.std.specs.Prelude.{◌≤◌, ◌⊎◌, List, [], length, take};
 ghost use Rattle.std.specs.Prelude.{drop, get_or, replicate, true, false, ◌==◌, if◌then◌else◌, IfSome, Some, None};
 ghost use Rattle.obj_memory.specs.declared.int_type.IntType.{IntType};
 ghost use Rattle.obj_memory.specs.declared.operator.UnaryOperator.{UnaryOperator};

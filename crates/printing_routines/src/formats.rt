@@ -1,12 +1,11 @@
 //! `printf`.
 
-ghost use Rattle.std.specs.Prelude.{◌≡◌, ℕ, ◌+◌, ◌*◌, ◌≤◌, ◌<◌, ◌^◌, ◌++◌};
-ghost use Rattle.std.specs.Prelude.{IfOk, OnOk, List, [], ◌∷◌, Some, length};
+ghost use Rattle.std.specs.Prelude.{◌≡◌, ℕ, ◌+◌, ◌*◌, ◌≤◌, ◌<◌, ◌^◌, ◌++◌, IfOk, OnOk, List};
+ghost use Rattle.std.specs.Prelude.{[], ◌∷◌, Some, length};
 ghost use Rattle.addr_map.specs.Places.{AreMapped};
 ghost use Rattle.c_tree.specs.Format.{pieces};
 ghost use Rattle.source_meaning.specs.Printing.{print_formatted};
-ghost use Rattle.flat_actions.specs.Actions.{IsAction, Word};
-ghost use Rattle.flat_actions.specs.Actions.{runtime_basis};
+ghost use Rattle.flat_actions.specs.Actions.{IsAction, Word, runtime_basis};
 ghost use Rattle.printing_routines.specs.Formats.{byte_code, count_string};
 ghost use Rattle.printing_routines.specs.Printed.{pieces_of, holders_of, argument_count, ArePrintable, ScanThese};
 ghost use Rattle.printing_routines.specs.Printed.{PutThese, ScansNext, PutsNext, index_after};

@@ -1,7 +1,8 @@
 //! Whether a plan is accepted. The test takes no memory, and time that grows with the product of the numbers of
 //! instructions and of virtual registers; plans that `slots` and `registers` make need no test.
 
-ghost use Rattle.std.specs.Prelude.{◌≡◌, ◌<◌, ◌≤◌, ◌+◌, ◌*◌, ◌^◌, ℕ, Option, length, Some, true, false, slice_get};
+ghost use Rattle.std.specs.Prelude.{◌≡◌, ◌<◌, ◌≤◌, ◌+◌, ◌*◌, ◌^◌, ℕ, Option, length, Some, true};
+ghost use Rattle.std.specs.Prelude.{false, slice_get};
 ghost use Rattle.flat_meaning.specs.declared.function.FlatFunction.{FlatFunction};
 ghost use Rattle.reg_plan.specs.declared.plan.Place.{Place};
 ghost use Rattle.reg_plan.specs.declared.plan.Place.TheVariants.{Register};

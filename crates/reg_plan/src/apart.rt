@@ -1,6 +1,7 @@
 //! Whether values that are live together are kept apart.
 
-ghost use Rattle.std.specs.Prelude.{◌≡◌, ◌≢◌, ◌<◌, ◌≤◌, ◌+◌, ◌*◌, ◌^◌, ℕ, Option, length, Some, true, false, slice_get};
+ghost use Rattle.std.specs.Prelude.{◌≡◌, ◌≢◌, ◌<◌, ◌≤◌, ◌+◌, ◌*◌, ◌^◌, ℕ, Option, length};
+ghost use Rattle.std.specs.Prelude.{Some, true, false, slice_get};
 ghost use Rattle.reg_plan.specs.declared.plan.Place.{Place};
 ghost use Rattle.reg_plan.specs.declared.plan.Place.TheVariants.{Register};
 ghost use Rattle.reg_plan.specs.Accepted.{holds, covers, is_live, IsLive, intervals_of};

@@ -1,6 +1,7 @@
 //! Whether the live ranges of a plan are closed.
 
-ghost use Rattle.std.specs.Prelude.{◌≡◌, ◌<◌, ◌≤◌, ◌^◌, ◌+◌, ◌&&◌, ℕ, length, Some, true, false, not, slice_get};
+ghost use Rattle.std.specs.Prelude.{◌≡◌, ◌<◌, ◌≤◌, ◌^◌, ◌+◌, ◌&&◌, ℕ, length, Some, true, false};
+ghost use Rattle.std.specs.Prelude.{not, slice_get};
 ghost use Rattle.flat_meaning.specs.declared.instruction.FlatInstruction.{FlatInstruction};
 ghost use Rattle.reg_plan.specs.Effects.{is_among, is_read, read_by, made_by, next_of, taken_of};
 ghost use Rattle.reg_plan.specs.Accepted.{holds, covers, is_live, IsLive};

@@ -1,7 +1,8 @@
 //! Registers by greedy colouring: each register goes, in turn, to the virtual registers that share no instruction with
 //! one that has it.
 
-ghost use Rattle.std.specs.Prelude.{◌≡◌, ◌<◌, ◌≤◌, ◌+◌, ◌⊎◌, ℕ, IfOk, OnOk, length, Some, true, false, slice_get};
+ghost use Rattle.std.specs.Prelude.{◌≡◌, ◌<◌, ◌≤◌, ◌+◌, ◌⊎◌, ℕ, IfOk, OnOk, length, Some, true};
+ghost use Rattle.std.specs.Prelude.{false, slice_get};
 ghost use Rattle.data_flow.specs.NodeSets.{is_in, node_count};
 ghost use Rattle.reg_plan.specs.Accepted.{holds, covers, intervals_of};
 ghost use Rattle.reg_plan.specs.declared.plan.Place.{Place};

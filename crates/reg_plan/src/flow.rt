@@ -1,6 +1,7 @@
 //! Live ranges as a data-flow problem.
 
-ghost use Rattle.std.specs.Prelude.{◌≡◌, ◌<◌, ◌≤◌, ◌+◌, ◌^◌, ◌⊎◌, ℕ, IfOk, OnOk, length, Some, true, slice_get};
+ghost use Rattle.std.specs.Prelude.{◌≡◌, ◌<◌, ◌≤◌, ◌+◌, ◌^◌, ◌⊎◌, ℕ, IfOk, OnOk, length, Some};
+ghost use Rattle.std.specs.Prelude.{true, slice_get};
 ghost use Rattle.data_flow.specs.Relations.{IsRelated};
 ghost use Rattle.flat_meaning.specs.declared.instruction.FlatInstruction.{FlatInstruction};
 ghost use Rattle.reg_plan.specs.Effects.{is_among, is_read, read_by, made_by, next_of, taken_of};

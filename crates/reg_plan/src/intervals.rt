@@ -1,6 +1,7 @@
 //! Live ranges as intervals.
 
-ghost use Rattle.std.specs.Prelude.{◌≡◌, ◌<◌, ◌≤◌, ◌+◌, ◌^◌, ◌||◌, ◌&&◌, ℕ, IfOk, OnOk, Some, slice_get, nat_le};
+ghost use Rattle.std.specs.Prelude.{◌≡◌, ◌<◌, ◌≤◌, ◌+◌, ◌^◌, ◌||◌, ◌&&◌, ℕ, IfOk, OnOk, Some};
+ghost use Rattle.std.specs.Prelude.{slice_get, nat_le};
 ghost use Rattle.data_flow.specs.declared.runs.Run.{Run};
 ghost use Rattle.data_flow.specs.Runs.{in_run, is_covered};
 ghost use Rattle.reg_plan.specs.Accepted.{holds, covers};

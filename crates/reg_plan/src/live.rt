@@ -1,6 +1,7 @@
 //! Live ranges of all virtual registers of a function.
 
-ghost use Rattle.std.specs.Prelude.{◌≡◌, ◌<◌, ◌≤◌, ◌+◌, ◌-◌, ◌^◌, ℕ, IfOk, OnOk, length, Some, true, slice_get};
+ghost use Rattle.std.specs.Prelude.{◌≡◌, ◌<◌, ◌≤◌, ◌+◌, ◌-◌, ◌^◌, ℕ, IfOk, OnOk, length, Some};
+ghost use Rattle.std.specs.Prelude.{true, slice_get};
 ghost use Rattle.std.specs.List.Sorted.{IsNonDecreasing};
 ghost use Rattle.data_flow.specs.Relations.{Has};
 ghost use Rattle.data_flow.specs.NodeSets.{node_count};

@@ -1,7 +1,6 @@
 -- An instruction that has a number in itself makes what the operator gives of the register and the number.
 use Rattle.std.proofs.Common.{◌≡◌, ℕ, ◌+◌, ◌-◌, ◌/◌, ◌%◌, ◌^◌, ◌<◌, ◌++◌, Bool, true, false, Option, Some, None, refl}
-use Rattle.std.proofs.Common.{ap}
-use Rattle.std.proofs.Common.{◌∙◌, ⊎_elim, subst, arith}
+use Rattle.std.proofs.Common.{ap, ◌∙◌, ⊎_elim, subst, arith}
 use Rattle.std.specs.Prelude.{nat_lt, nat_le, if◌then◌else◌}
 use Rattle.std.proofs.lemmas.Bool.{ltb-true, leb-true, le-leb, or_cases}
 use Rattle.words.specs.TwosComplement.{low_bits, negated}

@@ -13,8 +13,7 @@ use Rattle.flat_meaning.specs.declared.instruction.RightOperand.TheVariants as r
 use Rattle.rv_blocks.specs.declared.location.Location.{Location}
 use Rattle.rv_blocks.specs.declared.location.Location.TheVariants.{Register, Frame}
 use Rattle.rv_blocks.specs.Blocks.{wide, digits, constant, load_at, store_at, fetch, keep, fetch_right, operands}
-use Rattle.rv_blocks.specs.Blocks.{operator_block}
-use Rattle.rv_blocks.specs.Blocks.{IsShort, RightIsShort}
+use Rattle.rv_blocks.specs.Blocks.{operator_block, IsShort, RightIsShort}
 use Rattle.rv_blocks.specs.Effects.{IsIn, RightIsIn}
 
 choice : (b : Bool) (is js : List Instr) (n : ℕ) → length is ≤ n → length js ≤ n → length (if b then is else js) ≤ n

@@ -1,6 +1,7 @@
 //! The generator.
 
-ghost use Rattle.std.specs.Prelude.{◌≡◌, ◌+◌, ◌*◌, ◌<◌, ◌≤◌, ◌^◌, ◌++◌, length, map, MatchResult, OnOk, IfOk};
+ghost use Rattle.std.specs.Prelude.{◌≡◌, ◌+◌, ◌*◌, ◌<◌, ◌≤◌, ◌^◌, ◌++◌, length, map};
+ghost use Rattle.std.specs.Prelude.{MatchResult, OnOk, IfOk};
 ghost use Rattle.flat_meaning.specs.Calls.{function_in};
 ghost use Rattle.flat_meaning.specs.Meaning.{body_of};
 ghost use Rattle.rv_isa.specs.Table.{word_of};

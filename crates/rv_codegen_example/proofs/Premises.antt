@@ -1,7 +1,6 @@
 -- The premises, by computation and arithmetic.
 use Rattle.std.proofs.Common.{◌≡◌, ℕ, zero, suc, ◌+◌, ◌-◌, ◌^◌, ◌<◌, ◌≤◌, Bool, true, false, ◌&&◌, List, [], ◌∷◌}
-use Rattle.std.proofs.Common.{length}
-use Rattle.std.proofs.Common.{inl, Some, refl, subst, arith}
+use Rattle.std.proofs.Common.{length, inl, Some, refl, subst, arith}
 use Rattle.std.specs.Prelude.{slice_get, nat_lt, nat_le, Vec}
 use Rattle.std.specs.Global.{Global}
 use Rattle.std.proofs.lemmas.Bool.{ltb-true, leb-true, and_parts, false≢true}
@@ -44,8 +43,7 @@ use Rattle.rv_view.specs.Segments.{Hold}
 use Rattle.rv_segments.specs.Segments.{words_below, rows_below, start_address, code_words, table_words}
 use Rattle.rv_segments.specs.Segments.{code_bytes, table_bytes, FitsSegments}
 use Rattle.rv_segments.proofs.Labels.{labels_meet}
-use Rattle.rv_codegen_example.specs.Program.{sizes, doublings, main, next, same, program, MeetsPremises}
-use Rattle.rv_codegen_example.specs.Program.{HasNearForms}
+use Rattle.rv_codegen_example.specs.Program.{sizes, doublings, main, next, same, program, MeetsPremises, HasNearForms}
 use Rattle.rv_codegen_example.proofs.Tested.{all_below}
 use Rattle.rv_codegen_example.proofs.Tested as tested
 use Rattle.rv_codegen_example.proofs.Course.{never_stuck}

@@ -1,7 +1,8 @@
 //! Calls and returns: arguments and results go through their words, and what is wanted behind a call waits in its
 //! home.
 
-ghost use Rattle.std.specs.Prelude.{◌≡◌, ◌+◌, ◌*◌, ◌<◌, ◌≤◌, ◌^◌, ◌++◌, ◌∷◌, [], if◌then◌else◌, OnOk, length};
+ghost use Rattle.std.specs.Prelude.{◌≡◌, ◌+◌, ◌*◌, ◌<◌, ◌≤◌, ◌^◌, ◌++◌, ◌∷◌, []};
+ghost use Rattle.std.specs.Prelude.{if◌then◌else◌, OnOk, length};
 ghost use Rattle.reg_plan.specs.Effects.{is_among, many};
 ghost use Rattle.call_saves.specs.Saves.{saved_below};
 ghost use Rattle.addr_map.specs.Places.{function_address};
@@ -10,8 +11,7 @@ ghost use Rattle.rv_isa.specs.declared.instruction.Instr.TheVariants.{Jalr, Op};
 ghost use Rattle.rv_blocks.specs.Blocks.{constant, used, keep, load_at, store_at, fetch};
 ghost use Rattle.rv_blocks.specs.Places.{location, frame_register, argument_words, left_scratch, right_scratch};
 ghost use Rattle.rv_blocks.specs.Places.{callee_scratch};
-ghost use Rattle.rv_calls.specs.Calls.{give, take, save, restore, back_block, entry_block};
-ghost use Rattle.rv_calls.specs.Calls.{return_block};
+ghost use Rattle.rv_calls.specs.Calls.{give, take, save, restore, back_block, entry_block, return_block};
 ghost use Rattle.rv_follows.specs.Code.{wanted};
 ghost use Rattle.rv_emission.specs.Kept.{kept_by, call_of};
 ghost use Rattle.rv_emission.specs.Saving.{save_unless, restore_unless};

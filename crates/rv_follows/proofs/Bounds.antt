@@ -1,7 +1,6 @@
 -- How many instructions a block has at most: by how many reach a home in the function's record.
 use Rattle.std.proofs.Common.{◌≡◌, ℕ, ◌+◌, ◌-◌, ◌*◌, ◌%◌, ◌^◌, ◌<◌, ◌≤◌, inl, sym, ap, ◌∙◌, subst, Bool, true, false}
-use Rattle.std.proofs.Common.{List}
-use Rattle.std.proofs.Common.{[], ◌∷◌, length, Option, Some, None, arith, length-append}
+use Rattle.std.proofs.Common.{List, [], ◌∷◌, length, Option, Some, None, arith, length-append}
 use Rattle.std.specs.Prelude.{nat_le, if◌then◌else◌}
 use Rattle.addr_map.specs.Places.{MapSizes}
 use Rattle.words.specs.TwosComplement.{low_bits}

@@ -3,8 +3,7 @@ use Rattle.std.proofs.Common.{◌≡◌, ◌≢◌, ℕ, zero, suc, ◌+◌, ◌
 use Rattle.std.proofs.Common.{ap, ◌∙◌, subst, arith, ⊎_elim, Bool, true, false, List, [], ◌∷◌, ◌++◌, length, Some, None}
 use Rattle.std.proofs.Common.{length-append}
 use Rattle.std.specs.Prelude.{if◌then◌else◌, not, nat_le, nat_lt, ◌&&◌, ◌||◌}
-use Rattle.std.proofs.lemmas.Bool.{cases_eq, and_parts, leb-true, le-leb, lt-ltb, lt-leb, le-ltb}
-use Rattle.std.proofs.lemmas.Bool.{or_cases}
+use Rattle.std.proofs.lemmas.Bool.{cases_eq, and_parts, leb-true, le-leb, lt-ltb, lt-leb, le-ltb, or_cases}
 use Rattle.words.specs.TwosComplement.{low_bits}
 use Rattle.behaviours.specs.Shown.{Access, AccessKind, Read, Write}
 use Rattle.addr_map.specs.Places.{MapSizes, region_start, region_end, objects_begin, spaces_begin, code_begin}

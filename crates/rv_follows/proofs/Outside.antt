@@ -1,7 +1,6 @@
 -- Instructions that ask the environment: the machine comes to where the run goes, or ends as it does.
 use Rattle.std.proofs.Common.{◌≡◌, ◌≢◌, ℕ, ◌+◌, ◌-◌, ◌*◌, ◌%◌, ◌^◌, ◌<◌, ◌≤◌, inl, inr, refl, sym}
-use Rattle.std.proofs.Common.{ap, ◌∙◌, subst, arith, List, [], ◌∷◌, ◌++◌, length, Some}
-use Rattle.std.proofs.Common.{None, length-append}
+use Rattle.std.proofs.Common.{ap, ◌∙◌, subst, arith, List, [], ◌∷◌, ◌++◌, length, Some, None, length-append}
 use Rattle.addr_map.specs.Places.{MapSizes, region_start, spaces_begin}
 use Rattle.addr_map.specs.declared.region.Region.TheVariants.{Arguments}
 use Rattle.behaviours.specs.Shown.{Write}
@@ -27,8 +26,7 @@ use Rattle.reg_plan.specs.Effects.{made_by, is_among, none, Leads}
 use Rattle.rv_sim.specs.declared.stop.Stop.TheVariants.{Exited}
 use Rattle.rv_sim.specs.Run.{Configuration, Turn, runs}
 use Rattle.rv_view.specs.Segments.{IsOfData}
-use Rattle.rv_view.specs.Views.{View, Fits, AllStand, Shows, with_value}
-use Rattle.rv_view.specs.Views.{perform, performs, address_in}
+use Rattle.rv_view.specs.Views.{View, Fits, AllStand, Shows, with_value, perform, performs, address_in}
 use Rattle.rv_view.proofs.Straight.{runs_then}
 use Rattle.rv_view.proofs.Leaving.{no_access, exits, writes_bytes, reads_byte, reads_nothing}
 use Rattle.rv_blocks.specs.declared.location.Location.{Location}
@@ -46,8 +44,7 @@ use Rattle.rv_follows.proofs.Sound.{IsSound}
 use Rattle.rv_follows.proofs.Standing.{frame_of, made, moves, before_untouched, record_behind}
 use Rattle.rv_follows.proofs.Locals.{layout, among_one, among_none, Steps}
 use Rattle.rv_follows.proofs.Asks.{asking, asking_asks, IsAsking, immediate, immediate_other, small_immediate}
-use Rattle.rv_follows.proofs.Asks.{stored_byte}
-use Rattle.rv_follows.proofs.Asks.{reports, receiving, receives}
+use Rattle.rv_follows.proofs.Asks.{stored_byte, reports, receiving, receives}
 
 -- where registers of values stay, and of memory all but so many bytes before the record, so does what is kept
 kept_behind : (fp room area n : ℕ) (v w : View) (x : Location) → area + n ≤ fp

@@ -1,6 +1,7 @@
 //! The operands of instructions. In a clause each of them is the number in its field: a register its number, an
 //! immediate its bits in two's complement, with the zeros that its format leaves out.
-ghost use Rattle.std.specs.Prelude.{◌≡◌, [], ◌∷◌, ℕ, ◌+◌, ◌-◌, ◌*◌, ◌/◌, ◌%◌, ◌^◌, ◌<◌, ◌≤◌};
+ghost use Rattle.std.specs.Prelude.{◌≡◌, [], ◌∷◌, ℕ, ◌+◌, ◌-◌, ◌*◌, ◌/◌, ◌%◌, ◌^◌};
+ghost use Rattle.std.specs.Prelude.{◌<◌, ◌≤◌};
 ghost use Rattle.rv_isa.specs.Registers.{zero_register, ra, sp, a0, a1, a2, a7};
 ghost use Rattle.rv_isa.specs.Word.{sext};
 

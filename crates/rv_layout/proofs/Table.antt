@@ -38,8 +38,7 @@ use Rattle.rv_blocks.specs.Immediates.{immediate, immediate32, immediate_of, imm
 use Rattle.rv_blocks.specs.Blocks.{fetch_right, operator_block}
 use Rattle.rv_blocks.specs.Blocks.{operands, asks, received_block, report_bytes, report_block, local_block}
 use Rattle.rv_calls.specs.Calls.{Keeping, give, take, save_one, restore_one, save, restore, advance, retreat}
-use Rattle.rv_calls.specs.Calls.{call_block}
-use Rattle.rv_calls.specs.Calls.{entry_block, return_block}
+use Rattle.rv_calls.specs.Calls.{call_block, entry_block, return_block}
 use Rattle.rv_follows.specs.Code.{keeping_of, keeping, CallShape, wanted, call_part, back_part, charged_from, block}
 
 abbrev pub AllOfTable : List Instr → Type 0

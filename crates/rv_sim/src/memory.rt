@@ -1,6 +1,7 @@
 //! Memory: segments of bytes with permissions. An access lies in the one segment that holds its first
 //! byte, or is refused; it may be misaligned. Numbers are little endian.
-ghost use Rattle.std.specs.Prelude.{◌≡◌, ℕ, ◌+◌, ◌-◌, ◌*◌, ◌/◌, ◌%◌, ◌^◌, ◌<◌, ◌≤◌, length, IfSome, MatchOption};
+ghost use Rattle.std.specs.Prelude.{◌≡◌, ℕ, ◌+◌, ◌-◌, ◌*◌, ◌/◌, ◌%◌, ◌^◌, ◌<◌, ◌≤◌};
+ghost use Rattle.std.specs.Prelude.{length, IfSome, MatchOption};
 ghost use Rattle.std.specs.Prelude.{true, false, Some, None};
 ghost use Rattle.rv_sim.specs.Memory.{SegmentState, holds, covers, place_of, number_in, with_number, segment_at};
 ghost use Rattle.rv_sim.specs.Memory.{read_in, fetched_in, written_in, bytes_in, bytes_at, room_in, may_write, load};

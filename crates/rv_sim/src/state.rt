@@ -34,7 +34,8 @@ impl Model for State {
 }
 
 impl State {
-    ghost use Rattle.std.specs.Prelude.{◌≡◌, ℕ, ◌+◌, ◌-◌, ◌*◌, ◌/◌, ◌%◌, ◌^◌, ◌<◌, ◌≤◌, Bool, replicate, Some, None};
+    ghost use Rattle.std.specs.Prelude.{◌≡◌, ℕ, ◌+◌, ◌-◌, ◌*◌, ◌/◌, ◌%◌, ◌^◌, ◌<◌};
+    ghost use Rattle.std.specs.Prelude.{◌≤◌, Bool, replicate, Some, None};
     ghost use Rattle.std.specs.Prelude.{MatchOption};
     ghost use Rattle.rv_isa.specs.Word.{sext};
     ghost use Rattle.rv_isa.specs.declared.instruction.Instr.TheVariants as instr;

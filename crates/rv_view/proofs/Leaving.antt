@@ -25,8 +25,7 @@ use Rattle.rv_sim.proofs.Steps.{step-word, turn-done}
 use Rattle.rv_sim.proofs.Runs.{runs-zero, runs-suc}
 use Rattle.rv_view.specs.Segments.{segments, IsOfData}
 use Rattle.rv_view.specs.Views.{View, Layout, Fits, StandsAt, Shows, StaysOutside, Sends, SendsErrors, Takes}
-use Rattle.rv_view.specs.Views.{with_value}
-use Rattle.rv_view.specs.Views.{access_in, accesses_by, bytes_from}
+use Rattle.rv_view.specs.Views.{with_value, access_in, accesses_by, bytes_from}
 use Rattle.rv_view.proofs.Places.{sent_data, received_data, store_data}
 use Rattle.rv_view.proofs.Straight.{Sees, Reaches, given, passes_reaches, next_is, apart_of, length_with, reads_with}
 use Rattle.rv_view.proofs.Straight.{runs_one, accesses_are}

@@ -1,15 +1,13 @@
 -- Loads, stores, fetches and buffers in the four segments.
 use Rattle.std.proofs.Common.{◌≡◌, ℕ, zero, suc, ◌+◌, ◌-◌, ◌<◌, ◌≤◌, inl, inr, ⊎_elim}
-use Rattle.std.proofs.Common.{List, [], ◌∷◌, length, take, drop, Some, true, false, refl, sym}
-use Rattle.std.proofs.Common.{ap, ◌∙◌, subst, arith}
+use Rattle.std.proofs.Common.{List, [], ◌∷◌, length, take, drop, Some, true, false, refl, sym, ap, ◌∙◌, subst, arith}
 use Rattle.std.specs.Prelude.{slice_index, slice_get, slice_set}
 use Rattle.std.proofs.lemmas.Bool.{le-leb, lt-leb, lt-ltb, le-ltb}
 use Rattle.byteorder.specs.Endian.{little_number}
 use Rattle.addr_map.specs.Places.{functions_begin, code_begin, objects_begin, spaces_begin}
 use Rattle.flat_meaning.specs.Memory.{Bytes, load as load_of, store as store_of}
 use Rattle.flat_meaning.proofs.Stored.{store_beside}
-use Rattle.rv_sim.specs.Memory.{SegmentState, holds, covers, place_of, load, store, fetch}
-use Rattle.rv_sim.specs.Memory.{bytes_at, may_write}
+use Rattle.rv_sim.specs.Memory.{SegmentState, holds, covers, place_of, load, store, fetch, bytes_at, may_write}
 use Rattle.rv_view.specs.Segments.{code_segment, data_segment, segments, AreApart, Hold, IsOfData}
 use Rattle.rv_view.specs.Views.{bytes_from}
 use Rattle.rv_view.proofs.Numbers.{StandAt, number_is_load, with_number_at, length-with_number_at, stored_stands}

@@ -1,8 +1,7 @@
 -- What is seen of a machine: registers and memory as functions, and the accesses so far; and what an instruction that
 -- goes on to the next does to it.
 use Rattle.std.specs.Prelude.{◌≡◌, ℕ, zero, suc, ◌+◌, ◌*◌, ◌^◌, ◌<◌, ◌≤◌, ◌==◌, if◌then◌else◌, List, [], ◌∷◌, ◌++◌}
-use Rattle.std.specs.Prelude.{length}
-use Rattle.std.specs.Prelude.{Bool, Option, Some, None}
+use Rattle.std.specs.Prelude.{length, Bool, Option, Some, None}
 use Rattle.addr_map.specs.Places.{functions_begin, code_begin, objects_begin, spaces_begin, is_code_address}
 use Rattle.behaviours.specs.Shown.{Access, Read, Write}
 use Rattle.rv_isa.specs.declared.instruction.Instr.{Instr}

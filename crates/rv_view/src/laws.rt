@@ -1,11 +1,10 @@
 //! Laws of the view, each as the contract of a function that does nothing: the back end rests on them.
 
-ghost use Rattle.std.specs.Prelude.{◌≡◌, ℕ, ◌+◌, ◌%◌, ◌<◌, ◌≤◌, List, [], ◌∷◌, Some, None, true, length};
-ghost use Rattle.std.specs.Prelude.{drop};
+ghost use Rattle.std.specs.Prelude.{◌≡◌, ℕ, ◌+◌, ◌%◌, ◌<◌, ◌≤◌, List, [], ◌∷◌, Some, None};
+ghost use Rattle.std.specs.Prelude.{true, length, drop};
 ghost use Rattle.byteorder.specs.Endian.{little_number};
 ghost use Rattle.addr_map.specs.Places.{functions_begin, code_begin};
-ghost use Rattle.flat_meaning.specs.Memory.{Bytes};
-ghost use Rattle.flat_meaning.specs.Memory.{load as load_of, store as store_of};
+ghost use Rattle.flat_meaning.specs.Memory.{Bytes, load as load_of, store as store_of};
 ghost use Rattle.rv_sim.specs.Memory.{load, store, fetch, bytes_at, may_write};
 ghost use Rattle.rv_isa.specs.declared.instruction.BranchOp.{BranchOp};
 ghost use Rattle.rv_isa.specs.declared.instruction.Instr.{Instr};

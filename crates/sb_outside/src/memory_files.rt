@@ -130,7 +130,8 @@ impl MemFiles {
 }
 
 impl Files for MemFiles {
-    ghost use Rattle.std.specs.Prelude.{◌≡◌, ◌↔◌, ◌⊎◌, ◌≤◌, length, take, None, Some, IsOk, IsSome, IsErrOf, Contains};
+    ghost use Rattle.std.specs.Prelude.{◌≡◌, ◌↔◌, ◌⊎◌, ◌≤◌, length, take, None, Some, IsOk, IsSome};
+    ghost use Rattle.std.specs.Prelude.{IsErrOf, Contains};
     ghost use Rattle.sb_outside.specs.HeldFile.{HeldFile, held_in, written_in};
     ghost use Rattle.sb_outside.specs.Content.{Reads, Writes};
     ghost use Rattle.sb_outside.specs.Faults.{CountsFaults, CountsReadFaults, next_count};

@@ -65,7 +65,8 @@ impl MemSink {
 }
 
 impl Sink for MemSink {
-    ghost use Rattle.std.specs.Prelude.{◌≡◌, ◌↔◌, ◌+◌, ◌-◌, ◌++◌, ◌≤◌, take, length, Some, None, OnOk, OnErr, IsOk};
+    ghost use Rattle.std.specs.Prelude.{◌≡◌, ◌↔◌, ◌+◌, ◌-◌, ◌++◌, ◌≤◌, take, length, Some, None};
+    ghost use Rattle.std.specs.Prelude.{OnOk, OnErr, IsOk};
     ghost use Rattle.sb_outside.specs.Content.{gained, GainsPart};
     ghost use Rattle.sb_outside.specs.Faults.{CountsFaults, next_count};
     ghost use Rattle.sb_outside.specs.Failures.{kept_by, kept_count};

@@ -1,6 +1,5 @@
 -- The bytes with which the direct form begins.
-use Rattle.std.proofs.Common.{◌≡◌, ℕ, ◌+◌, ◌-◌, ◌*◌, ◌≤◌, List, [], ◌∷◌, drop, length}
-use Rattle.std.proofs.Common.{replicate, refl}
+use Rattle.std.proofs.Common.{◌≡◌, ℕ, ◌+◌, ◌-◌, ◌*◌, ◌≤◌, List, [], ◌∷◌, drop, length, replicate, refl}
 use Rattle.std.proofs.Common.{◌∙◌, subst, sym, arith}
 use Rattle.std.proofs.lemmas.List.{length-replicate}
 use Rattle.addr_map.specs.Places.{MapSizes, AreMapped, objects_begin, spaces_begin, whole_pages}
@@ -13,8 +12,7 @@ use Rattle.shadow_space.specs.Start.{metadata_of, IsStartEntry, AreStartEntries,
 use Rattle.shadow_space.specs.Direct.{direct_entry, direct_put, direct_start}
 use Rattle.shadow_space.proofs.Entries.{other_entry, direct_local}
 use Rattle.shadow_space.proofs.Starting.{Agrees, entry_agrees, length_entry, global_word, HasEntry, have_entries}
-use Rattle.shadow_space.proofs.Starting.{started}
-use Rattle.shadow_space.proofs.Starting.{place_of_word, past_end, zeros_agree}
+use Rattle.shadow_space.proofs.Starting.{started, place_of_word, past_end, zeros_agree}
 
 abbrev written : Bytes → StartEntry → Bytes
 written m e = store_four m (4 * e.at) (metadata_of e)

@@ -1,14 +1,11 @@
 -- Bytes with entries are memory with entries, and entries that are written one after another are read.
 use Rattle.std.proofs.Common.{◌≡◌, ◌≢◌, ℕ, zero, suc, ◌+◌, ◌-◌, ◌*◌, ◌/◌, ◌%◌, ◌<◌, ◌≤◌, inl, inr, ⊎_elim}
 use Rattle.std.proofs.Common.{List, [], ◌∷◌, ◌++◌, length, get_or, take, drop, replicate, refl, sym, ap, ◌∙◌, subst}
-use Rattle.std.proofs.Common.{arith}
-use Rattle.std.proofs.Common.{length-append, length-drop}
+use Rattle.std.proofs.Common.{arith, length-append, length-drop}
 use Rattle.std.specs.Int.{w64, to_le_bytes}
 use Rattle.std.proofs.lemmas.Bool.{cases_lt}
-use Rattle.std.proofs.lemmas.List.{get_or_append_left, get_or-append_right, get_or-take, get_or-drop}
-use Rattle.std.proofs.lemmas.List.{length-take-le}
-use Rattle.addr_map.specs.Places.{MapSizes, objects_begin, spaces_begin, region_size, region_start}
-use Rattle.addr_map.specs.Places.{whole_pages}
+use Rattle.std.proofs.lemmas.List.{get_or_append_left, get_or-append_right, get_or-take, get_or-drop, length-take-le}
+use Rattle.addr_map.specs.Places.{MapSizes, objects_begin, spaces_begin, region_size, region_start, whole_pages}
 use Rattle.flat_meaning.specs.Memory.{Bytes, put, store}
 use Rattle.flat_meaning.proofs.Stored.{put_same, store_beside}
 use Rattle.flat_routines.specs.Registers.{IsNoneOf}

@@ -1,7 +1,6 @@
 -- Elements of lists of statements and of items of a switch.
 use Rattle.std.proofs.Common.{◌≡◌, ℕ, zero, suc, ◌+◌, ◌-◌, ◌≤◌, ◌<◌, Bool, true, false, List, [], ◌∷◌, length, map}
-use Rattle.std.proofs.Common.{drop, refl, sym}
-use Rattle.std.proofs.Common.{ap, ◌∙◌, arith}
+use Rattle.std.proofs.Common.{drop, refl, sym, ap, ◌∙◌, arith}
 use Rattle.std.specs.Prelude.{get_or, set, ◌&&◌}
 use Rattle.c_tree.specs.declared.statement.CaseLabel.{CaseLabel}
 use Rattle.c_tree.specs.declared.statement.Statement.{Statement as CodeStatement}
@@ -10,8 +9,8 @@ use Rattle.c_tree.specs.declared.statement.Statement.TheFolds.{fold_out-SwitchIt
 use Rattle.c_tree.specs.Statements.{Statement, statements_in, items_in}
 use Rattle.c_tree.specs.View.{statement_of, statement_step, item_step}
 use Rattle.statement_parts.specs.Items.{item_of}
-use Rattle.statement_lowering.specs.Sizes.{statement_height, each_height, items_height, statement_nodes, each_nodes}
-use Rattle.statement_lowering.specs.Sizes.{items_nodes}
+use Rattle.statement_lowering.specs.Sizes.{statement_height, each_height, items_height, statement_count, each_count}
+use Rattle.statement_lowering.specs.Sizes.{items_count}
 use Rattle.statement_lowering.specs.Switches.{are_decided, each_decided, items_decided}
 
 pub of_item : (x : CodeItem) → item_of x ≡ (x.labels, statement_of x.statement)
@@ -68,9 +67,9 @@ height_at (y ∷ xs) zero x lt e = omega (arith, ap (λ z. statement_height (sta
 height_at (y ∷ xs) (suc k) x lt e = omega (arith, height_at xs k x (omega (arith, lt)) e)
 
 pub nodes_at : (xs : List CodeStatement) (k : ℕ) (x : CodeStatement) → k < length xs → x ≡ get_or xs k x
-    → statement_nodes (statement_of x) ≤ each_nodes (statements_in (map statement_of xs))
+    → statement_count (statement_of x) ≤ each_count (statements_in (map statement_of xs))
 nodes_at [] k x lt e = absurd (omega (arith, lt))
-nodes_at (y ∷ xs) zero x lt e = omega (arith, ap (λ z. statement_nodes (statement_of z)) e)
+nodes_at (y ∷ xs) zero x lt e = omega (arith, ap (λ z. statement_count (statement_of z)) e)
 nodes_at (y ∷ xs) (suc k) x lt e = omega (arith, nodes_at xs k x (omega (arith, lt)) e)
 
 pub decided_at : (xs : List CodeStatement) (k : ℕ) (x : CodeStatement) → k < length xs → x ≡ get_or xs k x
@@ -93,10 +92,10 @@ item_height_at (y ∷ xs) zero x lt e =
 item_height_at (y ∷ xs) (suc k) x lt e = omega (arith, item_height_at xs k x (omega (arith, lt)) e)
 
 pub item_nodes_at : (xs : List CodeItem) (k : ℕ) (x : CodeItem) → k < length xs → x ≡ get_or xs k x
-    → statement_nodes (statement_of x.statement) ≤ items_nodes (items_in (map item_of xs))
+    → statement_count (statement_of x.statement) ≤ items_count (items_in (map item_of xs))
 item_nodes_at [] k x lt e = absurd (omega (arith, lt))
 item_nodes_at (y ∷ xs) zero x lt e =
-    omega (arith, ap (λ z. statement_nodes (statement_of z.statement)) e, ap (λ i. statement_nodes i.1) (of_item y))
+    omega (arith, ap (λ z. statement_count (statement_of z.statement)) e, ap (λ i. statement_count i.1) (of_item y))
 item_nodes_at (y ∷ xs) (suc k) x lt e = omega (arith, item_nodes_at xs k x (omega (arith, lt)) e)
 
 pub item_decided_at : (xs : List CodeItem) (k : ℕ) (x : CodeItem) → k < length xs → x ≡ get_or xs k x

@@ -1,7 +1,6 @@
 -- Switches from their parts.
 use Rattle.std.proofs.Common.{◌≡◌, ℕ, ◌+◌, ◌-◌, ◌*◌, ◌≤◌, Bool, true, false, List, [], ◌∷◌, length, map, drop, refl}
-use Rattle.std.proofs.Common.{sym}
-use Rattle.std.proofs.Common.{ap, ◌∙◌, subst, arith}
+use Rattle.std.proofs.Common.{sym, ap, ◌∙◌, subst, arith}
 use Rattle.std.specs.Prelude.{get_or, set, max, not, ◌&&◌, ◌||◌, if◌then◌else◌}
 use Rattle.c_tree.specs.declared.program.Variable.{Variable}
 use Rattle.c_tree.specs.declared.statement.SwitchItem.{SwitchItem as CodeItem}
@@ -12,8 +11,7 @@ use Rattle.c_tree.specs.Statements.{SwitchItems, no_items, items, items_in, swit
 use Rattle.c_tree.specs.View.{statement_of}
 use Rattle.c_lower.specs.Placed.{Placed}
 use Rattle.c_lower.specs.Statements.{Exits as Left, LowersStatement, LowersItems, LowersEntry, LowersLeaving}
-use Rattle.c_lower.specs.Statements.{has_objects_of}
-use Rattle.c_lower.specs.Statements.{LowersLabels, in_switch, any_default, has_default}
+use Rattle.c_lower.specs.Statements.{has_objects_of, LowersLabels, in_switch, any_default, has_default}
 use Rattle.expression_lowering.specs.declared.emitter.Emitter.{Emitter}
 use Rattle.expression_lowering.specs.Weights.{Weights}
 use Rattle.expression_lowering.specs.Emitted.{ExpressionCode}

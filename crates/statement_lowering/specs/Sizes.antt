@@ -35,25 +35,25 @@ abbrev mutual
 
 -- how many statements there are: recursion over them goes by this
 abbrev mutual
-  pub statement_nodes : Statement → ℕ
-  statement_nodes (expression_statement e) = 1
-  statement_nodes empty = 1
-  statement_nodes (declaration ds) = 1
-  statement_nodes (block line body) = 1 + each_nodes body
-  statement_nodes (if_then e s) = 1 + statement_nodes s
-  statement_nodes (if_else e s other) = 1 + (statement_nodes s + statement_nodes other)
-  statement_nodes (while_do e s) = 1 + statement_nodes s
-  statement_nodes (do_while s e) = 1 + statement_nodes s
-  statement_nodes (for line first condition step s) = 1 + statement_nodes s
-  statement_nodes (switch e line is) = 1 + items_nodes is
-  statement_nodes break = 1
-  statement_nodes continue = 1
-  statement_nodes (return e) = 1
+  pub statement_count : Statement → ℕ
+  statement_count (expression_statement e) = 1
+  statement_count empty = 1
+  statement_count (declaration ds) = 1
+  statement_count (block line body) = 1 + each_count body
+  statement_count (if_then e s) = 1 + statement_count s
+  statement_count (if_else e s other) = 1 + (statement_count s + statement_count other)
+  statement_count (while_do e s) = 1 + statement_count s
+  statement_count (do_while s e) = 1 + statement_count s
+  statement_count (for line first condition step s) = 1 + statement_count s
+  statement_count (switch e line is) = 1 + items_count is
+  statement_count break = 1
+  statement_count continue = 1
+  statement_count (return e) = 1
 
-  pub each_nodes : Statements → ℕ
-  each_nodes no_statements = 0
-  each_nodes (statements s ss) = statement_nodes s + each_nodes ss
+  pub each_count : Statements → ℕ
+  each_count no_statements = 0
+  each_count (statements s ss) = statement_count s + each_count ss
 
-  pub items_nodes : SwitchItems → ℕ
-  items_nodes no_items = 0
-  items_nodes (items labels s is) = statement_nodes s + items_nodes is
+  pub items_count : SwitchItems → ℕ
+  items_count no_items = 0
+  items_count (items labels s is) = statement_count s + items_count is

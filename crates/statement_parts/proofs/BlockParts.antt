@@ -11,8 +11,7 @@ use Rattle.expression_lowering.specs.declared.emitter.Emitter.{Emitter}
 use Rattle.expression_lowering.specs.Weights.{Weights}
 use Rattle.expression_lowering.specs.Emitted.{Added}
 use Rattle.expression_lowering.proofs.Growing.{emits_none, emits_then, added_emits, added_holds, fills_before}
-use Rattle.expression_lowering.proofs.Growing.{same_emits}
-use Rattle.expression_lowering.proofs.Growing.{stays_by, one_more, has_last}
+use Rattle.expression_lowering.proofs.Growing.{same_emits, stays_by, one_more, has_last}
 use Rattle.statement_parts.specs.declared.exits.Exits.{Exits}
 use Rattle.statement_parts.specs.Code.{BlockAdded, EntryCode, LeavingCode}
 use Rattle.statement_parts.specs.Leaving.{exits_of}

@@ -24,8 +24,7 @@ use Rattle.expression_lowering.proofs.Growing.{fills_before}
 use Rattle.expression_lowering.proofs.Views.{of_expression}
 use Rattle.statement_parts.specs.Weights.{content_weight, parts_weight, initializer_weight, declared_weight}
 use Rattle.statement_parts.specs.Weights.{condition_weight}
-use Rattle.statement_parts.specs.Code.{most, contents_in}
-use Rattle.statement_parts.specs.Code.{ContentCode, PartsCode, InitializerCode}
+use Rattle.statement_parts.specs.Code.{most, contents_in, ContentCode, PartsCode, InitializerCode}
 use Rattle.statement_parts.specs.Code.{DeclaredCode, FirstCode, ConditionCode, PartCode}
 
 -- heights

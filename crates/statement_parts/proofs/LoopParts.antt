@@ -1,7 +1,6 @@
 -- Loops from their parts.
 use Rattle.std.proofs.Common.{◌≡◌, ◌≢◌, ℕ, zero, suc, ◌+◌, ◌*◌, ◌≤◌, ◌<◌, Bool, true, false, List, [], ◌∷◌, ◌++◌}
-use Rattle.std.proofs.Common.{length, Option, Some, None}
-use Rattle.std.proofs.Common.{refl, sym, ap, ◌∙◌, subst, arith}
+use Rattle.std.proofs.Common.{length, Option, Some, None, refl, sym, ap, ◌∙◌, subst, arith}
 use Rattle.std.proofs.lemmas.Bool.{eqb-true, eqb-false}
 use Rattle.std.proofs.lemmas.Option.{slice_get_within}
 use Rattle.std.specs.Prelude.{slice_get, slice_set, max, ◌==◌}
@@ -24,8 +23,7 @@ use Rattle.statement_parts.specs.declared.exits.Exits.{Exits}
 use Rattle.statement_parts.specs.declared.counted.Range.{Range}
 use Rattle.statement_parts.specs.declared.loops.ForHead.{ForHead}
 use Rattle.statement_parts.specs.Weights.{first_weight, condition_weight, part_weight, objects_weight}
-use Rattle.statement_parts.specs.Code.{most, ConditionCode, PartCode, FirstCode}
-use Rattle.statement_parts.specs.Code.{EntryCode, LeavingCode}
+use Rattle.statement_parts.specs.Code.{most, ConditionCode, PartCode, FirstCode, EntryCode, LeavingCode}
 use Rattle.statement_parts.specs.Counting.{parts_with}
 use Rattle.statement_parts.specs.Loops.{Waits, Filled, HeadCode, ForHeadCode, LoopAdded, ForTailCode}
 use Rattle.statement_parts.proofs.InitializerParts.{evaluated_emits, room_for}

@@ -15,8 +15,7 @@ use Rattle.shadow_space.proofs.Starting.{Agrees, word_agrees, length_word, entry
 use Rattle.shadow_space.proofs.Starting.{HasEntry, have_entries, started, entry_at, past_end, zeros_agree}
 use Rattle.two_level_shadow.specs.Tables.{pages, page_of, entry_offset, taken_cell, page_cell, first_table, table_of}
 use Rattle.two_level_shadow.specs.Tables.{taken_bytes, two_level_entry, AreTablesGood}
-use Rattle.two_level_shadow.specs.Start.{global_pages, start_size, with_tables, empty_tables, table_put}
-use Rattle.two_level_shadow.specs.Start.{counted_bytes}
+use Rattle.two_level_shadow.specs.Start.{global_pages, start_size, with_tables, empty_tables, table_put, counted_bytes}
 use Rattle.two_level_shadow.specs.Start.{two_level_start}
 use Rattle.two_level_shadow.proofs.Levels.{AreLevelsLaidOut, levels_laid_out, no_table, with_table}
 use Rattle.two_level_shadow.proofs.Levels.{offset_below, cell_kept, levels_local}

@@ -7,8 +7,7 @@ use Rattle.c_lexer.specs.declared.punctuator.Punctuator.{Punctuator}
 use Rattle.c_syntax.specs.declared.position.Position.{Position}
 use Rattle.c_syntax.specs.declared.position.Spelled.{Spelled}
 use Rattle.c_syntax.specs.Tree.{Declarator, Enumerator, Expression, Member, Members, MoreArguments, Specifier}
-use Rattle.c_syntax.specs.Tree.{Specifiers}
-use Rattle.c_syntax.specs.Tree.{TypedDeclarator}
+use Rattle.c_syntax.specs.Tree.{Specifiers, TypedDeclarator}
 use Rattle.c_syntax.specs.Tree as t
 use Rattle.c_tree.specs.declared.c_type.TypeWord.{TypeWord}
 use Rattle.c_tree.specs.declared.c_type.TypeWord.TheVariants.{Gives, Integer, Pointer}

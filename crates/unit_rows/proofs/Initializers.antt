@@ -37,8 +37,7 @@ use Rattle.c_initializer_rules.specs.Initializing.{closed, opened, with_literal,
 use Rattle.c_initializer_rules.specs.Placed.{without}
 use Rattle.c_unit_typing.specs.Typed.{typed_unit}
 use Rattle.unit_rows.proofs.Sources.{accepted, at, bytes, declaration, declarators, designation, function}
-use Rattle.unit_rows.proofs.Sources.{init_declarator}
-use Rattle.unit_rows.proofs.Sources.{number, other, refused, source, spelled, word}
+use Rattle.unit_rows.proofs.Sources.{init_declarator, number, other, refused, source, spelled, word}
 
 -- int a[2][2]={1,2,3};int main(void){return 0;}
 elided :

@@ -1,5 +1,6 @@
 //! Laws of words, each as the contract of a function that does nothing: layers above rest on them.
-ghost use Rattle.std.specs.Prelude.{◌≡◌, ◌↔◌, ℕ, ◌-◌, ◌/◌, ◌^◌, ◌<◌, ◌≤◌, ℤ, ◌<ℤ◌, IsTrue, bit_and, bit_or, bit_xor};
+ghost use Rattle.std.specs.Prelude.{◌≡◌, ◌↔◌, ℕ, ◌-◌, ◌/◌, ◌^◌, ◌<◌, ◌≤◌, ℤ, ◌<ℤ◌};
+ghost use Rattle.std.specs.Prelude.{IsTrue, bit_and, bit_or, bit_xor};
 ghost use Rattle.words.specs.TwosComplement.{IsExtendable, IsSigned, low_bits, signed, twos_complement, sign_extended};
 ghost use Rattle.words.specs.Operations.{sum, difference, product, complement, shifted_left, shifted_right_signed};
 ghost use Rattle.words.specs.Operations.{is_less_signed, signed_quotient, signed_remainder};

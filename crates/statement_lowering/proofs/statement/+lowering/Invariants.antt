@@ -3,7 +3,7 @@ use Rattle.c_tree.specs.Statements.{block, if_then, if_else, while_do, do_while,
 use Rattle.c_tree.specs.View.{expression_of, first_of, statement_of}
 use Rattle.statement_parts.specs.Items.{item_of}
 use Rattle.statement_lowering.specs.Code.{StatementsCode, ItemsFrom}
-use Rattle.statement_lowering.specs.Sizes.{statement_nodes, each_nodes, items_nodes}
+use Rattle.statement_lowering.specs.Sizes.{statement_count, each_count, items_count}
 use Rattle.statement_lowering.proofs.statement.+lowering.Given as goal
 
 abbrev pub invariant-statements-loop-i : goal.invariant-statements-loop-i
@@ -21,34 +21,34 @@ invariant-switch_items-loop-i l = record {
 -- what is lowered has ever fewer nodes
 
 abbrev pub decreases-statement : goal.decreases-statement
-decreases-statement l = 3 * statement_nodes (statement_of l.s.now) + 1
+decreases-statement l = 3 * statement_count (statement_of l.s.now) + 1
 
 abbrev pub decreases-statements : goal.decreases-statements
-decreases-statements l = 3 * each_nodes (statements_in (map statement_of l.body.now)) + 2
+decreases-statements l = 3 * each_count (statements_in (map statement_of l.body.now)) + 2
 
 abbrev pub decreases-switch_items : goal.decreases-switch_items
-decreases-switch_items l = 3 * items_nodes (items_in (map item_of l.items.now)) + 2
+decreases-switch_items l = 3 * items_count (items_in (map item_of l.items.now)) + 2
 
 abbrev pub decreases-block : goal.decreases-block
-decreases-block l = 3 * statement_nodes (block l.line (statements_in (map statement_of l.body.now)))
+decreases-block l = 3 * statement_count (block l.line (statements_in (map statement_of l.body.now)))
 
 abbrev pub decreases-if_then : goal.decreases-if_then
-decreases-if_then l = 3 * statement_nodes (if_then (expression_of l.e.now) (statement_of l.body.now))
+decreases-if_then l = 3 * statement_count (if_then (expression_of l.e.now) (statement_of l.body.now))
 
 abbrev pub decreases-if_else : goal.decreases-if_else
 decreases-if_else l =
-    3 * statement_nodes (if_else (expression_of l.e.now) (statement_of l.body.now) (statement_of l.other.now))
+    3 * statement_count (if_else (expression_of l.e.now) (statement_of l.body.now) (statement_of l.other.now))
 
 abbrev pub decreases-while_do : goal.decreases-while_do
-decreases-while_do l = 3 * statement_nodes (while_do (expression_of l.e.now) (statement_of l.body.now))
+decreases-while_do l = 3 * statement_count (while_do (expression_of l.e.now) (statement_of l.body.now))
 
 abbrev pub decreases-do_while : goal.decreases-do_while
-decreases-do_while l = 3 * statement_nodes (do_while (statement_of l.body.now) (expression_of l.e.now))
+decreases-do_while l = 3 * statement_count (do_while (statement_of l.body.now) (expression_of l.e.now))
 
 abbrev pub decreases-for_loop : goal.decreases-for_loop
 decreases-for_loop l =
-    3 * statement_nodes (for l.line (first_of l.first.now) (option_map expression_of l.condition.now)
+    3 * statement_count (for l.line (first_of l.first.now) (option_map expression_of l.condition.now)
     (option_map expression_of l.step.now) (statement_of l.body.now))
 
 abbrev pub decreases-switch : goal.decreases-switch
-decreases-switch l = 3 * statement_nodes (switch (expression_of l.e.now) l.line (items_in (map item_of l.items.now)))
+decreases-switch l = 3 * statement_count (switch (expression_of l.e.now) l.line (items_in (map item_of l.items.now)))

@@ -5,8 +5,7 @@ use Rattle.expression_lowering.proofs.Parts.{either_code, sequence_code, choice_
 use Rattle.expression_lowering.proofs.Views.{next_argument, pair_shape, assigned_shape, and_shape, or_shape}
 use Rattle.expression_lowering.proofs.Views.{comma_shape}
 use Rattle.expression_lowering.proofs.Views.{choice_shape, callee_shape, index_shape, whole_from, lvalue_from, room_in}
-use Rattle.expression_lowering.proofs.Views.{argument_room}
-use Rattle.expression_lowering.proofs.Views.{nodes_in, nodes_at}
+use Rattle.expression_lowering.proofs.Views.{argument_room, nodes_in, nodes_at}
 use Rattle.expression_lowering.proofs.emitter.Emitter.+lowering.Goals as goal
 
 pub operands-returns-in_ok-first-in-Binary : goal.operands-returns-in_ok-first-in-Binary

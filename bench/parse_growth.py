@@ -38,7 +38,7 @@ def empty_statements(length):
 
 
 def typedef_names(length):
-    """Typedefs alone: a name is looked for among all typedef names, so the time grows faster than the text."""
+    """Typedefs alone: over forty-nine thousand names at 1048576 bytes, which are kept in a set."""
     text = "".join(f"typedef int T{i:06};\n" for i in range(length // 21))
     return text + " " * (length - len(text))
 

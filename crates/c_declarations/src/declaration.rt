@@ -17,7 +17,8 @@ use c_expressions::leveled::{beside, with_item};
 use c_expressions::nested::{declarator, specifiers};
 use c_grammar::cursor::{Cursor, Fault, next_is};
 use c_grammar::declarator_kind::DeclaratorKind;
-use c_lexer::{Punctuator, Spelling};
+use c_grammar::typedef_names::TypedefNames;
+use c_lexer::Punctuator;
 use c_syntax::names::declared_name;
 use c_syntax::specifiers::has_typedef;
 use c_syntax::{
@@ -29,11 +30,10 @@ use std::alloc::{AllocError, Global};
 /// Puts the name of a declarator, if it has one, behind the typedef names, or answers that there is no memory (C99
 /// 6.7.7).
 fn add_typedef_name<'a>(
-    names: &mut Vec<Spelling<'a>>,
+    names: &mut TypedefNames<'a>,
     declarator: &Declarator<'a>,
 ) -> Result<(), AllocError>
-    ensures { IfOk result (λ _. names.new.items ≡ formed.names_after true (declarator_of declarator.now)
-        names.old.items) }
+    ensures { IfOk result (λ _. names.new ≡ formed.names_after true (declarator_of declarator.now) names.old) }
 {
     if let Some(name) = declared_name(declarator) {
         names.push(name)?;
@@ -44,12 +44,12 @@ fn add_typedef_name<'a>(
 /// Puts the name of a declarator, if the specifiers before it have `typedef`, behind the typedef names, or answers that
 /// there is no memory (C99 6.7.7).
 pub fn add_defined_name<'a>(
-    names: &mut Vec<Spelling<'a>>,
+    names: &mut TypedefNames<'a>,
     specifiers: &[Specifier<'a>],
     declarator: &Declarator<'a>,
 ) -> Result<(), AllocError>
-    ensures { IfOk result (λ _. names.new.items ≡ formed.names_after (formed.has_typedef (specifiers_in specifiers.now))
-        (declarator_of declarator.now) names.old.items) }
+    ensures { IfOk result (λ _. names.new ≡ formed.names_after (formed.has_typedef (specifiers_in specifiers.now))
+        (declarator_of declarator.now) names.old) }
 {
     if has_typedef(specifiers) {
         add_typedef_name(names, declarator)?;
@@ -60,7 +60,7 @@ pub fn add_defined_name<'a>(
 /// Reads a declarator with a name (C99 6.7.5).
 pub fn named_declarator<'a>(
     alloc: Global,
-    names: &[Spelling<'a>],
+    names: &TypedefNames<'a>,
     tokens: &mut Cursor<'_, 'a>,
     levels: u8,
 ) -> Result<Boxed<Declarator<'a>>, Fault>
@@ -82,7 +82,7 @@ pub fn named_declarator<'a>(
 #[tactic(auto, unfolding(c_grammar::specs::DeclarationReader::initialized_from))]
 fn initialized<'a>(
     alloc: Global,
-    names: &[Spelling<'a>],
+    names: &TypedefNames<'a>,
     tokens: &mut Cursor<'_, 'a>,
     levels: u8,
 ) -> Result<Option<(Position, Boxed<Initializer<'a>>)>, Fault>
@@ -102,7 +102,7 @@ fn initialized<'a>(
 #[tactic(auto, unfolding(c_grammar::specs::DeclarationReader::init_declarator_behind))]
 fn init_declarator_behind<'a>(
     alloc: Global,
-    names: &[Spelling<'a>],
+    names: &TypedefNames<'a>,
     tokens: &mut Cursor<'_, 'a>,
     levels: u8,
     declarator: Boxed<Declarator<'a>>,
@@ -122,7 +122,7 @@ fn init_declarator_behind<'a>(
 #[tactic(auto, unfolding(c_grammar::specs::DeclarationReader::init_declarator_from))]
 fn init_declarator<'a>(
     alloc: Global,
-    names: &[Spelling<'a>],
+    names: &TypedefNames<'a>,
     tokens: &mut Cursor<'_, 'a>,
     levels: u8,
 ) -> Result<InitDeclarator<'a>, Fault>
@@ -137,7 +137,7 @@ fn init_declarator<'a>(
 #[tactic(auto, unfolding(c_grammar::specs::DeclarationReader::more_init_declarators_from))]
 fn more_init_declarators<'a>(
     alloc: Global,
-    names: &[Spelling<'a>],
+    names: &TypedefNames<'a>,
     tokens: &mut Cursor<'_, 'a>,
     levels: u8,
 ) -> Result<Items<(Position, InitDeclarator<'a>)>, Fault>
@@ -159,20 +159,19 @@ fn more_init_declarators<'a>(
 #[tactic(auto, unfolding(c_grammar::specs::DeclarationReader::init_declarator_behind))]
 fn typedef_behind<'a>(
     alloc: Global,
-    names: &mut Vec<Spelling<'a>>,
+    names: &mut TypedefNames<'a>,
     tokens: &mut Cursor<'_, 'a>,
     levels: u8,
     declarator: Boxed<Declarator<'a>>,
 ) -> Result<InitDeclarator<'a>, Fault>
-    ensures read { Reads init_declarator_of (spec.init_declarator_behind levels true names.old.items
+    ensures read { Reads init_declarator_of (spec.init_declarator_behind levels true names.old
         (declarator_of declarator.entry) tokens.old.rest.now) result tokens.new.rest.now }
     ensures declarator { IfOk result (λ x. x.declarator ≡ declarator.entry) }
-    ensures names { IfOk result (λ _. names.new.items ≡ formed.names_after true (declarator_of declarator.entry)
-        names.old.items) }
+    ensures names { IfOk result (λ _. names.new ≡ formed.names_after true (declarator_of declarator.entry) names.old) }
 {
     let added = add_typedef_name(names, declarator.get());
     let (declarator, ()) = beside(declarator, added)?;
-    let initializer = initialized(alloc, names.as_slice(), tokens, levels);
+    let initializer = initialized(alloc, names, tokens, levels);
     let (declarator, initializer) = beside(declarator, initializer)?;
     Ok(InitDeclarator {
         declarator,
@@ -184,16 +183,15 @@ fn typedef_behind<'a>(
 #[tactic(auto, unfolding(c_grammar::specs::DeclarationReader::init_declarator_from))]
 fn typedef_declarator<'a>(
     alloc: Global,
-    names: &mut Vec<Spelling<'a>>,
+    names: &mut TypedefNames<'a>,
     tokens: &mut Cursor<'_, 'a>,
     levels: u8,
 ) -> Result<InitDeclarator<'a>, Fault>
-    ensures read { Reads init_declarator_of (spec.init_declarator_from levels true names.old.items tokens.old.rest.now)
+    ensures read { Reads init_declarator_of (spec.init_declarator_from levels true names.old tokens.old.rest.now)
         result tokens.new.rest.now }
-    ensures names { IfOk result (λ x. names.new.items ≡ formed.names_after true (declarator_of x.declarator)
-        names.old.items) }
+    ensures names { IfOk result (λ x. names.new ≡ formed.names_after true (declarator_of x.declarator) names.old) }
 {
-    let declarator = named_declarator(alloc, names.as_slice(), tokens, levels)?;
+    let declarator = named_declarator(alloc, names, tokens, levels)?;
     typedef_behind(alloc, names, tokens, levels, declarator)
 }
 
@@ -201,14 +199,13 @@ fn typedef_declarator<'a>(
 #[tactic(auto, unfolding(c_grammar::specs::DeclarationReader::more_init_declarators_from))]
 fn more_typedef_declarators<'a>(
     alloc: Global,
-    names: &mut Vec<Spelling<'a>>,
+    names: &mut TypedefNames<'a>,
     tokens: &mut Cursor<'_, 'a>,
     levels: u8,
 ) -> Result<Items<(Position, InitDeclarator<'a>)>, Fault>
     ensures read { Reads more_init_declarators_in (spec.more_init_declarators_from levels true
-        (length tokens.old.rest.now) names.old.items tokens.old.rest.now) result tokens.new.rest.now }
-    ensures names { IfOk result (λ z. names.new.items ≡ formed.names_after_more true (more_init_declarators_in z)
-        names.old.items) }
+        (length tokens.old.rest.now) names.old tokens.old.rest.now) result tokens.new.rest.now }
+    ensures names { IfOk result (λ z. names.new ≡ formed.names_after_more true (more_init_declarators_in z) names.old) }
 {
     let mut others = Vec::new(alloc);
     for _ in 0..tokens.rest.len() {
@@ -225,7 +222,7 @@ fn more_typedef_declarators<'a>(
 #[tactic(auto, unfolding(c_grammar::specs::DeclarationReader::declaration_behind))]
 fn plain_declaration_behind<'a>(
     alloc: Global,
-    names: &[Spelling<'a>],
+    names: &TypedefNames<'a>,
     tokens: &mut Cursor<'_, 'a>,
     levels: u8,
     specifiers: Items<Specifier<'a>>,
@@ -254,17 +251,16 @@ fn plain_declaration_behind<'a>(
 #[tactic(auto, unfolding(c_grammar::specs::DeclarationReader::declaration_behind))]
 fn typedef_declaration_behind<'a>(
     alloc: Global,
-    names: &mut Vec<Spelling<'a>>,
+    names: &mut TypedefNames<'a>,
     tokens: &mut Cursor<'_, 'a>,
     levels: u8,
     specifiers: Items<Specifier<'a>>,
     declarator: Boxed<Declarator<'a>>,
 ) -> Result<Declaration<'a>, Fault>
     requires { formed.has_typedef (specifiers_in specifiers) ≡ true }
-    ensures read { Reads declaration_of (spec.declaration_behind levels names.old.items (specifiers_in specifiers.entry)
+    ensures read { Reads declaration_of (spec.declaration_behind levels names.old (specifiers_in specifiers.entry)
         (declarator_of declarator.entry) tokens.old.rest.now) result tokens.new.rest.now }
-    ensures names { IfOk result (λ x. names.new.items ≡ formed.names_after_declaration (declaration_of x)
-        names.old.items) }
+    ensures names { IfOk result (λ x. names.new ≡ formed.names_after_declaration (declaration_of x) names.old) }
 {
     let first = typedef_behind(alloc, names, tokens, levels, declarator);
     let parts = beside(specifiers, first)?;
@@ -287,27 +283,21 @@ fn typedef_declaration_behind<'a>(
 /// names (C99 6.7, 6.7.7).
 pub fn declaration_behind<'a>(
     alloc: Global,
-    names: &mut Vec<Spelling<'a>>,
+    names: &mut TypedefNames<'a>,
     tokens: &mut Cursor<'_, 'a>,
     levels: u8,
     specifiers: Items<Specifier<'a>>,
     declarator: Boxed<Declarator<'a>>,
 ) -> Result<Declaration<'a>, Fault>
-    ensures read { Reads declaration_of (spec.declaration_behind levels names.old.items (specifiers_in specifiers.entry)
+    ensures read { Reads declaration_of (spec.declaration_behind levels names.old (specifiers_in specifiers.entry)
         (declarator_of declarator.entry) tokens.old.rest.now) result tokens.new.rest.now }
-    ensures names { IfOk result (λ x. names.new.items ≡ formed.names_after_declaration (declaration_of x)
-        names.old.items) }
+    ensures names { IfOk result (λ x. names.new ≡ formed.names_after_declaration (declaration_of x) names.old) }
 {
     if has_typedef(specifiers.as_slice()) {
         return typedef_declaration_behind(alloc, names, tokens, levels, specifiers, declarator);
     }
     let declaration = plain_declaration_behind(
-        alloc,
-        names.as_slice(),
-        tokens,
-        levels,
-        specifiers,
-        declarator,
+        alloc, names, tokens, levels, specifiers, declarator,
     )?;
     Ok(declaration)
 }
@@ -336,7 +326,7 @@ pub fn bare_declaration<'a>(
 #[tactic(auto, unfolding(c_grammar::specs::DeclarationReader::local_from), using(crate::proofs::Typedefs::no_typedef))]
 pub fn local<'a>(
     alloc: Global,
-    names: &[Spelling<'a>],
+    names: &TypedefNames<'a>,
     tokens: &mut Cursor<'_, 'a>,
     levels: u8,
 ) -> Result<Declaration<'a>, Fault>

@@ -13,7 +13,8 @@ ghost use Rattle.c_syntax.specs.StatementsView.{designator_of, designators_in, d
 use c_expressions::leveled::{beside, with_item};
 use c_expressions::nested::expression;
 use c_grammar::cursor::{Cursor, Fault, next_is};
-use c_lexer::{Punctuator, Spelling};
+use c_grammar::typedef_names::TypedefNames;
+use c_lexer::Punctuator;
 use c_syntax::{
     Boxed, Designation, Designator, InitialValue, Initializer, InitializerItem, Items, Position,
     Positioned,
@@ -31,7 +32,7 @@ fn begins_designator(rest: &[Positioned]) -> bool
 #[tactic(auto, unfolding(c_grammar::specs::InitializerReader::element_from))]
 fn element<'a>(
     alloc: Global,
-    names: &[Spelling<'a>],
+    names: &TypedefNames<'a>,
     tokens: &mut Cursor<'_, 'a>,
     levels: usize,
 ) -> Result<Designator<'a>, Fault>
@@ -47,7 +48,7 @@ fn element<'a>(
 /// Reads `.` and the name of a member (C99 6.7.8).
 #[tactic(auto, unfolding(c_grammar::specs::InitializerReader::member_named_from))]
 fn member_named<'a>(
-    names: &[Spelling<'a>],
+    names: &TypedefNames<'a>,
     tokens: &mut Cursor<'_, 'a>,
     levels: usize,
 ) -> Result<Designator<'a>, Fault>
@@ -62,7 +63,7 @@ fn member_named<'a>(
 /// Reads a designator (C99 6.7.8).
 fn designator<'a>(
     alloc: Global,
-    names: &[Spelling<'a>],
+    names: &TypedefNames<'a>,
     tokens: &mut Cursor<'_, 'a>,
     levels: usize,
 ) -> Result<Designator<'a>, Fault>
@@ -80,7 +81,7 @@ fn designator<'a>(
 #[tactic(auto, unfolding(c_grammar::specs::InitializerReader::designators_from))]
 fn designators<'a>(
     alloc: Global,
-    names: &[Spelling<'a>],
+    names: &TypedefNames<'a>,
     tokens: &mut Cursor<'_, 'a>,
     levels: usize,
 ) -> Result<Items<Designator<'a>>, Fault>
@@ -102,7 +103,7 @@ fn designators<'a>(
 #[tactic(auto, unfolding(c_grammar::specs::InitializerReader::designation_from))]
 fn designation<'a>(
     alloc: Global,
-    names: &[Spelling<'a>],
+    names: &TypedefNames<'a>,
     tokens: &mut Cursor<'_, 'a>,
     levels: usize,
 ) -> Result<Option<Designation<'a>>, Fault>
@@ -124,7 +125,7 @@ fn designation<'a>(
 #[tactic(auto, unfolding(c_grammar::specs::InitializerReader::value_from))]
 pub fn value<'a>(
     alloc: Global,
-    names: &[Spelling<'a>],
+    names: &TypedefNames<'a>,
     tokens: &mut Cursor<'_, 'a>,
     levels: usize,
 ) -> Result<Initializer<'a>, Fault>
@@ -143,7 +144,7 @@ pub struct Initializers<'t, 'a, I> {
     /// Where memory comes from.
     alloc: Global,
     /// The typedef names.
-    names: &'t [Spelling<'a>],
+    names: &'t TypedefNames<'a>,
     /// The number of levels.
     levels: usize,
     /// Reads an initializer with fewer levels than the number that it is given.
@@ -153,7 +154,7 @@ pub struct Initializers<'t, 'a, I> {
 impl<
     't,
     'a,
-    I: Fn(Global, &[Spelling<'a>], &mut Cursor<'_, 'a>, usize) -> Result<Initializer<'a>, Fault>,
+    I: Fn(Global, &TypedefNames<'a>, &mut Cursor<'_, 'a>, usize) -> Result<Initializer<'a>, Fault>,
 > Initializers<'t, 'a, I> {
     /// Reads an initializer with fewer levels.
     fn deeper(&self, tokens: &mut Cursor<'_, 'a>) -> Result<Initializer<'a>, Fault>
@@ -230,7 +231,7 @@ pub fn begins_braced(rest: &[Positioned], levels: usize) -> bool
 /// Reads an initializer with fewer than this number of levels (C99 6.7.8).
 pub fn initializer<'a>(
     alloc: Global,
-    names: &[Spelling<'a>],
+    names: &TypedefNames<'a>,
     tokens: &mut Cursor<'_, 'a>,
     levels: usize,
 ) -> Result<Initializer<'a>, Fault>

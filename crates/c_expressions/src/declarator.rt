@@ -17,8 +17,8 @@ use crate::leveled::{Leveled, beside, leaf};
 use crate::specifier::begins_specifiers;
 use c_grammar::cursor::{Cursor, Fault, is_punctuator, is_same, next_is, spelled};
 use c_grammar::declarator_kind::DeclaratorKind;
-use c_lexer::{Punctuator, Spelling, TokenKind};
-use c_syntax::names::is_among;
+use c_grammar::typedef_names::TypedefNames;
+use c_lexer::{Punctuator, TokenKind};
 use c_syntax::{Boxed, Declarator, Expression, Items, Position, Positioned, Specifier, Spelled};
 use std::alloc::Global;
 
@@ -59,7 +59,7 @@ fn named<'a>(name: Spelled<'a>) -> Leveled<Declarator<'a>>
 }
 
 /// Whether the next word begins or ends parameters.
-fn begins_parameters(names: &[Spelling], rest: &[Positioned]) -> bool
+fn begins_parameters(names: &TypedefNames, rest: &[Positioned]) -> bool
     ensures { result ≡ next_is_punctuator p.RightParenthesis rest.now || common.begins_specifiers names.now rest.now }
 {
     next_is(rest, Punctuator::RightParenthesis) || begins_specifiers(names, rest)
@@ -79,7 +79,7 @@ impl<
     'a,
     E: Fn(
         Global,
-        &[Spelling<'a>],
+        &TypedefNames<'a>,
         &mut Cursor<'_, 'a>,
         usize,
         Option<Position>,
@@ -87,14 +87,14 @@ impl<
     ) -> Result<Leveled<Boxed<Expression<'a>>>, Fault>,
     S: Fn(
         Global,
-        &[Spelling<'a>],
+        &TypedefNames<'a>,
         &mut Cursor<'_, 'a>,
         usize,
         bool,
     ) -> Result<Leveled<Items<Specifier<'a>>>, Fault>,
     D: Fn(
         Global,
-        &[Spelling<'a>],
+        &TypedefNames<'a>,
         &mut Cursor<'_, 'a>,
         usize,
         DeclaratorKind,
@@ -174,7 +174,7 @@ impl<
         };
         match &first.kind {
             TokenKind::Identifier(spelling) => {
-                if !may_have_name(kind) || is_among(self.names, spelling) {
+                if !may_have_name(kind) || self.names.has(spelling) {
                     return unnamed(self.alloc, kind, tokens.rest);
                 }
                 tokens.rest = rest;

@@ -14,7 +14,8 @@ use crate::leveled::{Leveled, before_comma, beside, leaf, no_trees, with_next};
 use crate::structure::begins_body;
 use c_grammar::cursor::{Cursor, Fault, next_is};
 use c_grammar::declarator_kind::DeclaratorKind;
-use c_lexer::{Punctuator, Spelling};
+use c_grammar::typedef_names::TypedefNames;
+use c_lexer::Punctuator;
 use c_syntax::{Boxed, Declarator, Enumerator, Expression, Items, Position, Specifier, Spelled};
 use std::alloc::Global;
 
@@ -23,7 +24,7 @@ impl<
     'a,
     E: Fn(
         Global,
-        &[Spelling<'a>],
+        &TypedefNames<'a>,
         &mut Cursor<'_, 'a>,
         usize,
         Option<Position>,
@@ -31,14 +32,14 @@ impl<
     ) -> Result<Leveled<Boxed<Expression<'a>>>, Fault>,
     S: Fn(
         Global,
-        &[Spelling<'a>],
+        &TypedefNames<'a>,
         &mut Cursor<'_, 'a>,
         usize,
         bool,
     ) -> Result<Leveled<Items<Specifier<'a>>>, Fault>,
     D: Fn(
         Global,
-        &[Spelling<'a>],
+        &TypedefNames<'a>,
         &mut Cursor<'_, 'a>,
         usize,
         DeclaratorKind,

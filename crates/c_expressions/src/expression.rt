@@ -18,7 +18,8 @@ use crate::leveled::{Leveled, as_items, beside, leaf, no_trees, with_next};
 use c_grammar::cursor::{Cursor, Fault, next_is};
 use c_grammar::declarator_kind::DeclaratorKind;
 use c_grammar::operation::{Operation, binds, needs, operation_of};
-use c_lexer::{Punctuator, Spelling, TokenKind};
+use c_grammar::typedef_names::TypedefNames;
+use c_lexer::{Punctuator, TokenKind};
 use c_syntax::operators::{binary_precedence, precedence};
 use c_syntax::{Arguments, Boxed, Declarator, Expression, Items, Position, Positioned, Specifier};
 use std::alloc::Global;
@@ -28,7 +29,7 @@ impl<
     'a,
     E: Fn(
         Global,
-        &[Spelling<'a>],
+        &TypedefNames<'a>,
         &mut Cursor<'_, 'a>,
         usize,
         Option<Position>,
@@ -36,14 +37,14 @@ impl<
     ) -> Result<Leveled<Boxed<Expression<'a>>>, Fault>,
     S: Fn(
         Global,
-        &[Spelling<'a>],
+        &TypedefNames<'a>,
         &mut Cursor<'_, 'a>,
         usize,
         bool,
     ) -> Result<Leveled<Items<Specifier<'a>>>, Fault>,
     D: Fn(
         Global,
-        &[Spelling<'a>],
+        &TypedefNames<'a>,
         &mut Cursor<'_, 'a>,
         usize,
         DeclaratorKind,

@@ -10,7 +10,7 @@ ghost use Rattle.c_syntax.specs.Levels.{expression_levels, specifiers_levels, de
 use crate::leveled::Leveled;
 use c_grammar::cursor::{Cursor, Fault};
 use c_grammar::declarator_kind::DeclaratorKind;
-use c_lexer::Spelling;
+use c_grammar::typedef_names::TypedefNames;
 use c_syntax::{Boxed, Declarator, Expression, Items, Position, Specifier};
 use std::alloc::Global;
 
@@ -20,7 +20,7 @@ pub struct Grammar<'t, 'a, E, S, D> {
     /// Where memory comes from.
     pub alloc: Global,
     /// The typedef names.
-    pub names: &'t [Spelling<'a>],
+    pub names: &'t TypedefNames<'a>,
     /// How many levels there may be.
     pub levels: usize,
     /// Reads an expression with fewer levels than the number that it is given.
@@ -36,7 +36,7 @@ impl<
     'a,
     E: Fn(
         Global,
-        &[Spelling<'a>],
+        &TypedefNames<'a>,
         &mut Cursor<'_, 'a>,
         usize,
         Option<Position>,
@@ -44,14 +44,14 @@ impl<
     ) -> Result<Leveled<Boxed<Expression<'a>>>, Fault>,
     S: Fn(
         Global,
-        &[Spelling<'a>],
+        &TypedefNames<'a>,
         &mut Cursor<'_, 'a>,
         usize,
         bool,
     ) -> Result<Leveled<Items<Specifier<'a>>>, Fault>,
     D: Fn(
         Global,
-        &[Spelling<'a>],
+        &TypedefNames<'a>,
         &mut Cursor<'_, 'a>,
         usize,
         DeclaratorKind,

@@ -10,7 +10,7 @@ use crate::grammar::Grammar;
 use crate::leveled::Leveled;
 use c_grammar::cursor::{Cursor, Fault};
 use c_grammar::declarator_kind::DeclaratorKind;
-use c_lexer::Spelling;
+use c_grammar::typedef_names::TypedefNames;
 use c_syntax::{Boxed, Declarator, Expression, Items, Position, Specifier};
 use std::alloc::Global;
 
@@ -19,7 +19,7 @@ use std::alloc::Global;
 #[cycle(reader)]
 pub fn expression<'a>(
     alloc: Global,
-    names: &[Spelling<'a>],
+    names: &TypedefNames<'a>,
     tokens: &mut Cursor<'_, 'a>,
     levels: usize,
     opened: Option<Position>,
@@ -47,7 +47,7 @@ pub fn expression<'a>(
 #[cycle(reader)]
 pub fn specifiers<'a>(
     alloc: Global,
-    names: &[Spelling<'a>],
+    names: &TypedefNames<'a>,
     tokens: &mut Cursor<'_, 'a>,
     levels: usize,
     allowed: bool,
@@ -73,7 +73,7 @@ pub fn specifiers<'a>(
 #[cycle(reader)]
 pub fn declarator<'a>(
     alloc: Global,
-    names: &[Spelling<'a>],
+    names: &TypedefNames<'a>,
     tokens: &mut Cursor<'_, 'a>,
     levels: usize,
     kind: DeclaratorKind,

@@ -16,8 +16,8 @@ use crate::leveled::{Leveled, beside, leaf};
 use crate::specifier::begins_specifiers;
 use c_grammar::cursor::{Cursor, Fault, is_punctuator, is_same, spelled};
 use c_grammar::declarator_kind::DeclaratorKind;
+use c_grammar::typedef_names::TypedefNames;
 use c_lexer::{Keyword, Punctuator, Spelling, TokenKind};
-use c_syntax::names::is_among;
 use c_syntax::operators::operand_precedence;
 use c_syntax::{Boxed, Declarator, Expression, Items, Position, Positioned, Specifier, Spelled};
 use std::alloc::Global;
@@ -64,7 +64,7 @@ impl<
     'a,
     E: Fn(
         Global,
-        &[Spelling<'a>],
+        &TypedefNames<'a>,
         &mut Cursor<'_, 'a>,
         usize,
         Option<Position>,
@@ -72,14 +72,14 @@ impl<
     ) -> Result<Leveled<Boxed<Expression<'a>>>, Fault>,
     S: Fn(
         Global,
-        &[Spelling<'a>],
+        &TypedefNames<'a>,
         &mut Cursor<'_, 'a>,
         usize,
         bool,
     ) -> Result<Leveled<Items<Specifier<'a>>>, Fault>,
     D: Fn(
         Global,
-        &[Spelling<'a>],
+        &TypedefNames<'a>,
         &mut Cursor<'_, 'a>,
         usize,
         DeclaratorKind,
@@ -293,7 +293,7 @@ impl<
         let position = first.position;
         match &first.kind {
             TokenKind::Identifier(spelling) => {
-                if is_among(self.names, spelling) {
+                if self.names.has(spelling) {
                     return Err(Fault::Refused);
                 }
                 tokens.rest = rest;

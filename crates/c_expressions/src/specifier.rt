@@ -15,8 +15,8 @@ use crate::grammar::Grammar;
 use crate::leveled::{Leveled, as_items, beside, leaf, no_trees, where_true, with_tree};
 use c_grammar::cursor::{Cursor, Fault, spelled};
 use c_grammar::declarator_kind::DeclaratorKind;
-use c_lexer::{Keyword, Spelling, TokenKind};
-use c_syntax::names::is_among;
+use c_grammar::typedef_names::TypedefNames;
+use c_lexer::{Keyword, TokenKind};
 use c_syntax::{
     Boxed, Declarator, Expression, Items, Position, Positioned, Specifier, Spelled, TypeWords,
 };
@@ -33,13 +33,13 @@ fn is_specifier_keyword(keyword: Keyword) -> bool
 }
 
 /// Whether the next word may begin specifiers.
-pub fn begins_specifiers(names: &[Spelling], rest: &[Positioned]) -> bool
+pub fn begins_specifiers(names: &TypedefNames, rest: &[Positioned]) -> bool
     ensures { result ≡ common.begins_specifiers names.now rest.now }
 {
     match rest.first() {
         Some(first) => match &first.kind {
             TokenKind::Keyword(keyword) => is_specifier_keyword(*keyword),
-            TokenKind::Identifier(spelling) => is_among(names, spelling),
+            TokenKind::Identifier(spelling) => names.has(spelling),
             _ => false,
         },
         None => false,
@@ -77,7 +77,7 @@ impl<
     'a,
     E: Fn(
         Global,
-        &[Spelling<'a>],
+        &TypedefNames<'a>,
         &mut Cursor<'_, 'a>,
         usize,
         Option<Position>,
@@ -85,14 +85,14 @@ impl<
     ) -> Result<Leveled<Boxed<Expression<'a>>>, Fault>,
     S: Fn(
         Global,
-        &[Spelling<'a>],
+        &TypedefNames<'a>,
         &mut Cursor<'_, 'a>,
         usize,
         bool,
     ) -> Result<Leveled<Items<Specifier<'a>>>, Fault>,
     D: Fn(
         Global,
-        &[Spelling<'a>],
+        &TypedefNames<'a>,
         &mut Cursor<'_, 'a>,
         usize,
         DeclaratorKind,
@@ -151,7 +151,7 @@ impl<
     {
         match word {
             TokenKind::Keyword(keyword) => goes_on_with_keyword(allowed, words, *keyword),
-            TokenKind::Identifier(spelling) => is_among(self.names, spelling)
+            TokenKind::Identifier(spelling) => self.names.has(spelling)
                 && words.with_other().is_some(),
             _ => false,
         }

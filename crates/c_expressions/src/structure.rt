@@ -17,7 +17,8 @@ use crate::grammar::Grammar;
 use crate::leveled::{Leveled, as_items, beside, leaf, no_trees, with_next, with_tree};
 use c_grammar::cursor::{Cursor, Fault, next_is};
 use c_grammar::declarator_kind::DeclaratorKind;
-use c_lexer::{Keyword, Punctuator, Spelling};
+use c_grammar::typedef_names::TypedefNames;
+use c_lexer::{Keyword, Punctuator};
 use c_syntax::{
     Boxed, Declarator, Expression, Items, Member, Position, Positioned, Specifier, Spelled,
 };
@@ -69,7 +70,7 @@ impl<
     'a,
     E: Fn(
         Global,
-        &[Spelling<'a>],
+        &TypedefNames<'a>,
         &mut Cursor<'_, 'a>,
         usize,
         Option<Position>,
@@ -77,14 +78,14 @@ impl<
     ) -> Result<Leveled<Boxed<Expression<'a>>>, Fault>,
     S: Fn(
         Global,
-        &[Spelling<'a>],
+        &TypedefNames<'a>,
         &mut Cursor<'_, 'a>,
         usize,
         bool,
     ) -> Result<Leveled<Items<Specifier<'a>>>, Fault>,
     D: Fn(
         Global,
-        &[Spelling<'a>],
+        &TypedefNames<'a>,
         &mut Cursor<'_, 'a>,
         usize,
         DeclaratorKind,

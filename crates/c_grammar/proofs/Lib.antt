@@ -6,6 +6,7 @@ pub mod Facts
 pub mod FirstWords
 pub mod Longer
 pub mod Lists
+pub mod AddedNames
 pub mod CompleteTyped
 pub mod CompleteExpressions
 pub mod CompleteDeclarators

@@ -9,3 +9,4 @@ pub mod DeclarationReader
 pub mod StatementReader
 pub mod UnitReader
 pub mod Reads
+pub mod NameSets

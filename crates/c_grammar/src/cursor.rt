@@ -5,8 +5,8 @@ ghost use Rattle.c_grammar.specs.Reader as spec;
 ghost use Rattle.c_grammar.specs.declared.cursor.Fault.TheVariants.{Refused};
 ghost use Rattle.c_grammar.specs.Reads.{Reads, Takes, TakesConst};
 
+use crate::typedef_names::TypedefNames;
 use c_lexer::{Keyword, Punctuator, Spelling, TokenKind};
-use c_syntax::names::is_among;
 use c_syntax::{Items, Position, Positioned, Spelled};
 use std::alloc::{AllocError, AllocFailed, Global};
 
@@ -120,7 +120,7 @@ impl<'t, 'a> Cursor<'t, 'a> {
 
     /// Takes an identifier that is no typedef name.
     #[tactic(auto, unfolding(crate::specs::Reader::ordinary_from))]
-    pub fn ordinary(&mut self, names: &[Spelling]) -> Result<Spelled<'a>, Fault>
+    pub fn ordinary(&mut self, names: &TypedefNames) -> Result<Spelled<'a>, Fault>
         ensures read { Reads (λ x. x) (spec.ordinary_from names.now self.old.rest.now) result self.new.rest.now }
         ensures no_memory { IfErr result (λ f. f ≡ Refused) }
     {
@@ -130,7 +130,7 @@ impl<'t, 'a> Cursor<'t, 'a> {
         let TokenKind::Identifier(spelling) = &first.kind else {
             return Err(Fault::Refused);
         };
-        if is_among(names, spelling) {
+        if names.has(spelling) {
             return Err(Fault::Refused);
         }
         self.rest = rest;

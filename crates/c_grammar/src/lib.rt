@@ -7,3 +7,4 @@ pub mod cursor;
 pub mod declarator_kind;
 pub mod laws;
 pub mod operation;
+pub mod typedef_names;

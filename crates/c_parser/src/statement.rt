@@ -21,7 +21,8 @@ use c_declarations::declaration::local;
 use c_expressions::nested::expression;
 use c_expressions::specifier::begins_specifiers;
 use c_grammar::cursor::{Cursor, Fault, is_same, next_is};
-use c_lexer::{Keyword, Punctuator, Spelling, TokenKind};
+use c_grammar::typedef_names::TypedefNames;
+use c_lexer::{Keyword, Punctuator, TokenKind};
 use c_syntax::{
     Block, BlockItem, Boxed, CaseLabel, DoEnd, Expression, ForHead, ForInit, Items, Parenthesized,
     Position, Positioned, Statement,
@@ -91,7 +92,7 @@ pub struct Statements<'t, 'a> {
     /// Where memory comes from.
     alloc: Global,
     /// The typedef names.
-    names: &'t [Spelling<'a>],
+    names: &'t TypedefNames<'a>,
     /// How many levels there may be in an expression or declaration.
     levels: u8,
 }
@@ -99,7 +100,7 @@ pub struct Statements<'t, 'a> {
 /// Reads an expression (C99 6.5).
 fn whole<'a>(
     alloc: Global,
-    names: &[Spelling<'a>],
+    names: &TypedefNames<'a>,
     tokens: &mut Cursor<'_, 'a>,
     levels: u8,
 ) -> Result<Boxed<Expression<'a>>, Fault>
@@ -113,7 +114,7 @@ fn whole<'a>(
 #[tactic(auto, unfolding(c_grammar::specs::StatementReader::optional_from))]
 fn optional<'a>(
     alloc: Global,
-    names: &[Spelling<'a>],
+    names: &TypedefNames<'a>,
     tokens: &mut Cursor<'_, 'a>,
     levels: u8,
     end: Punctuator,
@@ -132,7 +133,7 @@ fn optional<'a>(
 #[tactic(auto, unfolding(c_grammar::specs::StatementReader::ended_from))]
 fn ended<'a>(
     alloc: Global,
-    names: &[Spelling<'a>],
+    names: &TypedefNames<'a>,
     tokens: &mut Cursor<'_, 'a>,
     levels: u8,
     end: Punctuator,
@@ -149,7 +150,7 @@ fn ended<'a>(
 #[tactic(auto, unfolding(c_grammar::specs::StatementReader::expression_statement_from))]
 fn expression_statement<'a>(
     alloc: Global,
-    names: &[Spelling<'a>],
+    names: &TypedefNames<'a>,
     tokens: &mut Cursor<'_, 'a>,
     levels: u8,
 ) -> Result<Boxed<Statement<'a>>, Fault>
@@ -164,7 +165,7 @@ fn expression_statement<'a>(
 #[tactic(auto, unfolding(c_grammar::specs::StatementReader::for_init_from))]
 fn for_init<'a>(
     alloc: Global,
-    names: &[Spelling<'a>],
+    names: &TypedefNames<'a>,
     tokens: &mut Cursor<'_, 'a>,
     levels: u8,
 ) -> Result<ForInit<'a>, Fault>
@@ -183,7 +184,7 @@ fn for_init<'a>(
 #[tactic(auto, unfolding(c_grammar::specs::StatementReader::for_head_from))]
 fn for_head<'a>(
     alloc: Global,
-    names: &[Spelling<'a>],
+    names: &TypedefNames<'a>,
     tokens: &mut Cursor<'_, 'a>,
     levels: u8,
 ) -> Result<ForHead<'a>, Fault>
@@ -208,7 +209,7 @@ fn for_head<'a>(
 #[tactic(auto, unfolding(c_grammar::specs::StatementReader::return_from))]
 fn return_statement<'a>(
     alloc: Global,
-    names: &[Spelling<'a>],
+    names: &TypedefNames<'a>,
     tokens: &mut Cursor<'_, 'a>,
     levels: u8,
     position: Position,
@@ -224,7 +225,7 @@ fn return_statement<'a>(
 #[tactic(auto, unfolding(c_grammar::specs::StatementReader::parenthesized_from))]
 fn parenthesized<'a>(
     alloc: Global,
-    names: &[Spelling<'a>],
+    names: &TypedefNames<'a>,
     tokens: &mut Cursor<'_, 'a>,
     levels: u8,
 ) -> Result<Parenthesized<'a>, Fault>
@@ -241,7 +242,7 @@ fn parenthesized<'a>(
 #[tactic(auto, unfolding(c_grammar::specs::StatementReader::case_label_from))]
 fn case_label<'a>(
     alloc: Global,
-    names: &[Spelling<'a>],
+    names: &TypedefNames<'a>,
     tokens: &mut Cursor<'_, 'a>,
     levels: u8,
     position: Position,
@@ -262,7 +263,7 @@ fn case_label<'a>(
 #[tactic(auto, unfolding(c_grammar::specs::StatementReader::do_end_from))]
 fn do_end<'a>(
     alloc: Global,
-    names: &[Spelling<'a>],
+    names: &TypedefNames<'a>,
     tokens: &mut Cursor<'_, 'a>,
     levels: u8,
 ) -> Result<DoEnd<'a>, Fault>
@@ -693,7 +694,7 @@ impl<'t, 'a> Statements<'t, 'a> {
 /// 6.8.2).
 pub fn block<'a>(
     alloc: Global,
-    names: &[Spelling<'a>],
+    names: &TypedefNames<'a>,
     tokens: &mut Cursor<'_, 'a>,
     levels: u8,
     depth: usize,

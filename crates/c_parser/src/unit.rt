@@ -13,6 +13,7 @@ use c_declarations::declaration::{
 };
 use c_expressions::nested::specifiers;
 use c_grammar::cursor::{Cursor, Fault, next_is};
+use c_grammar::typedef_names::TypedefNames;
 use c_lexer::{Punctuator, Spelling};
 use c_syntax::declarators::defines_function;
 use c_syntax::specifiers::has_typedef;
@@ -29,21 +30,21 @@ const SIZE_T: &[u8] = b"size_t";
 #[tactic(auto, unfolding(c_grammar::specs::UnitReader::definition_from))]
 fn definition<'a>(
     alloc: Global,
-    names: &mut Vec<Spelling<'a>>,
+    names: &mut TypedefNames<'a>,
     tokens: &mut Cursor<'_, 'a>,
     levels: u8,
     specifiers: Items<Specifier<'a>>,
     declarator: Boxed<Declarator<'a>>,
 ) -> Result<External<'a>, Fault>
-    ensures read { Reads external_of (spec.definition_from levels names.old.items (specifiers_in specifiers.entry)
+    ensures read { Reads external_of (spec.definition_from levels names.old (specifiers_in specifiers.entry)
         (declarator_of declarator.entry) tokens.old.rest.now) result tokens.new.rest.now }
-    ensures names { IfOk result (λ x. names.new.items ≡ formed.names_after_external (external_of x) names.old.items) }
+    ensures names { IfOk result (λ x. names.new ≡ formed.names_after_external (external_of x) names.old) }
 {
     if !defines_function(declarator.get()) {
         return Err(Fault::Refused);
     }
     add_defined_name(names, specifiers.as_slice(), declarator.get())?;
-    let block = block(alloc, names.as_slice(), tokens, levels, levels as usize + 1)?;
+    let block = block(alloc, names, tokens, levels, levels as usize + 1)?;
     Ok(External::Function(specifiers, declarator, block))
 }
 
@@ -51,15 +52,15 @@ fn definition<'a>(
 #[tactic(auto, unfolding(c_grammar::specs::UnitReader::external_behind))]
 fn external_behind<'a>(
     alloc: Global,
-    names: &mut Vec<Spelling<'a>>,
+    names: &mut TypedefNames<'a>,
     tokens: &mut Cursor<'_, 'a>,
     levels: u8,
     specifiers: Items<Specifier<'a>>,
     declarator: Boxed<Declarator<'a>>,
 ) -> Result<External<'a>, Fault>
-    ensures read { Reads external_of (spec.external_behind levels names.old.items (specifiers_in specifiers.entry)
+    ensures read { Reads external_of (spec.external_behind levels names.old (specifiers_in specifiers.entry)
         (declarator_of declarator.entry) tokens.old.rest.now) result tokens.new.rest.now }
-    ensures names { IfOk result (λ x. names.new.items ≡ formed.names_after_external (external_of x) names.old.items) }
+    ensures names { IfOk result (λ x. names.new ≡ formed.names_after_external (external_of x) names.old) }
 {
     if next_is(tokens.rest, Punctuator::LeftBrace) {
         return definition(alloc, names, tokens, levels, specifiers, declarator);
@@ -72,20 +73,20 @@ fn external_behind<'a>(
 #[tactic(auto, unfolding(c_grammar::specs::UnitReader::external_from))]
 fn external<'a>(
     alloc: Global,
-    names: &mut Vec<Spelling<'a>>,
+    names: &mut TypedefNames<'a>,
     tokens: &mut Cursor<'_, 'a>,
     levels: u8,
 ) -> Result<External<'a>, Fault>
-    ensures read { Reads external_of (spec.external_from levels names.old.items tokens.old.rest.now) result
+    ensures read { Reads external_of (spec.external_from levels names.old tokens.old.rest.now) result
         tokens.new.rest.now }
-    ensures names { IfOk result (λ x. names.new.items ≡ formed.names_after_external (external_of x) names.old.items) }
+    ensures names { IfOk result (λ x. names.new ≡ formed.names_after_external (external_of x) names.old) }
 {
-    let specifiers = specifiers(alloc, names.as_slice(), tokens, levels as usize + 1, true)?;
+    let specifiers = specifiers(alloc, names, tokens, levels as usize + 1, true)?;
     if next_is(tokens.rest, Punctuator::Semicolon) {
         let declaration = bare_declaration(tokens, levels, specifiers.tree)?;
         return Ok(External::Declaration(declaration));
     }
-    let declarator = named_declarator(alloc, names.as_slice(), tokens, levels)?;
+    let declarator = named_declarator(alloc, names, tokens, levels)?;
     external_behind(alloc, names, tokens, levels, specifiers.tree, declarator)
 }
 
@@ -93,11 +94,11 @@ fn external<'a>(
 #[tactic(auto, unfolding(c_grammar::specs::UnitReader::externals_from))]
 fn externals<'a>(
     alloc: Global,
-    names: &mut Vec<Spelling<'a>>,
+    names: &mut TypedefNames<'a>,
     tokens: &mut Cursor<'_, 'a>,
     levels: u8,
 ) -> Result<Items<External<'a>>, Fault>
-    ensures { Reads externals_in (spec.externals_from levels (length tokens.old.rest.now) names.old.items
+    ensures { Reads externals_in (spec.externals_from levels (length tokens.old.rest.now) names.old
         tokens.old.rest.now) result tokens.new.rest.now }
 {
     let mut externals = Vec::new(alloc);
@@ -122,7 +123,7 @@ pub fn unit<'a>(alloc: Global, tokens: &mut Cursor<'_, 'a>) -> Result<Unit<'a>, 
     let [_, ..] = tokens.rest else {
         return Err(Fault::Refused);
     };
-    let mut names = Vec::new(alloc);
+    let mut names = TypedefNames::new(alloc);
     names.push(Spelling::new(SIZE_T))?;
     let externals = externals(alloc, &mut names, tokens, LEVELS)?;
     Ok(Unit { externals })

@@ -5,5 +5,5 @@ use Rattle.c_declarations.proofs.declaration.declaration_behind.Goals as goal
 
 pub returns-clause-names : goal.returns-clause-names
 returns-clause-names c =
-    sym (plain_leaves (declaration_of c.in_ok-declaration.declaration) c.args.names.now.items
+    sym (plain_leaves (declaration_of c.in_ok-declaration.declaration) c.args.names.now
     c.in_ok-declaration.ensures.plain)

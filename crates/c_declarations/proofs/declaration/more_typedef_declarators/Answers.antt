@@ -13,43 +13,43 @@ use Rattle.c_declarations.proofs.declaration.more_typedef_declarators.Goals as g
 
 pub returns-in_default-clause-read : goal.returns-in_default-clause-read
 returns-in_default-clause-read c =
-    let e = c.loop.invariant.read ∙ init_declarators_end c.args.levels true _ c.loop.names.items
+    let e = c.loop.invariant.read ∙ init_declarators_end c.args.levels true _ c.loop.names
     (more_init_declarators_in c.loop.others.items) c.loop.tokens.rest.now c.in_default.ensures.0 in
     first_of (search rules, grind (arith, common_steps))
 
 pub returns-in_err-before-clause-read : goal.returns-in_err-before-clause-read
 returns-in_err-before-clause-read c =
     let e = one_more (λ n. extending (more_init_declarators_in c.loop.others.items)
-    (more_init_declarators_from c.args.levels true n c.loop.names.items c.loop.tokens.rest.now)) _ c.loop.counter
+    (more_init_declarators_from c.args.levels true n c.loop.names c.loop.tokens.rest.now)) _ c.loop.counter
     c.loop-test.true c.loop.invariant.read in
     let f = init_declarator_fails c.args.levels true (length c.args.tokens.now.rest.now - (c.loop.counter + 1))
-    c.loop.names.items (more_init_declarators_in c.loop.others.items) c.loop.tokens.rest.now c.in-Some.position
+    c.loop.names (more_init_declarators_in c.loop.others.items) c.loop.tokens.rest.now c.in-Some.position
     c.take.new.self.rest.now c.typedef_declarator.new.tokens.rest.now _ c.in_err-before.field-0.0 e c.in-Some.ensures
     (refused init_declarator_of _ _ _ _ c.typedef_declarator.ensures.read (c.in_err-before.ensures.err _ refl)) in
     first_of (search rules, grind (arith, common_steps))
 
 pub loop-preserved : goal.loop-preserved
 loop-preserved c =
-    let n = of_ok (λ x. c.typedef_declarator.new.names.items ≡ names_after true (declarator_of x.declarator)
-    c.loop.names.items) _ _ c.typedef_declarator.ensures.names c.in_ok-before.ensures.ok.1 in
+    let n = of_ok (λ x. c.typedef_declarator.new.names ≡ names_after true (declarator_of x.declarator)
+    c.loop.names) _ _ c.typedef_declarator.ensures.names c.in_ok-before.ensures.ok.1 in
     let e = one_more (λ n. extending (more_init_declarators_in c.loop.others.items)
-    (more_init_declarators_from c.args.levels true n c.loop.names.items c.loop.tokens.rest.now)) _ c.loop.counter
+    (more_init_declarators_from c.args.levels true n c.loop.names c.loop.tokens.rest.now)) _ c.loop.counter
     c.loop-test.true c.loop.invariant.read in
     record {
       read = rw (c.in_ok-others.ensures, c.in_ok-before.ensures.ok.0, n)
           (e ∙ init_declarator_turn c.args.levels true (length c.args.tokens.now.rest.now - (c.loop.counter + 1))
-          c.loop.names.items c.loop.others.items c.in_ok-before.other c.loop.tokens.rest.now c.in-Some.position
+          c.loop.names c.loop.others.items c.in_ok-before.other c.loop.tokens.rest.now c.in-Some.position
           c.take.new.self.rest.now c.typedef_declarator.new.tokens.rest.now c.in-Some.ensures
           (read init_declarator_of _ _ _ _ c.typedef_declarator.ensures.read c.in_ok-before.ensures.ok.1));
       added = rw (c.in_ok-others.ensures, c.in_ok-before.ensures.ok.0)
-          (names_turn c.loop.others.items c.in-Some.position c.in_ok-before.other c.args.names.now.items
-          c.loop.names.items c.typedef_declarator.new.names.items c.loop.invariant.added n);
+          (names_turn c.loop.others.items c.in-Some.position c.in_ok-before.other c.args.names.now
+          c.loop.names c.typedef_declarator.new.names c.loop.invariant.added n);
     }
 
 pub returns-clause-read : goal.returns-clause-read
 returns-clause-read c =
     let e = no_more (λ n. extending (more_init_declarators_in c.loop.others.items)
-    (more_init_declarators_from c.args.levels true n c.loop.names.items c.loop.tokens.rest.now)) _ c.loop.counter
-    c.loop-test.false c.loop.invariant.read ∙ init_declarators_done c.args.levels true c.loop.names.items
+    (more_init_declarators_from c.args.levels true n c.loop.names c.loop.tokens.rest.now)) _ c.loop.counter
+    c.loop-test.false c.loop.invariant.read ∙ init_declarators_done c.args.levels true c.loop.names
     (more_init_declarators_in c.loop.others.items) c.loop.tokens.rest.now in
     first_of (search rules, grind (arith, common_steps))

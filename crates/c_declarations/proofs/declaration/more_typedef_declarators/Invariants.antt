@@ -7,8 +7,8 @@ use Rattle.c_declarations.proofs.declaration.more_typedef_declarators.Given as g
 
 abbrev pub invariant-loop : goal.invariant-loop
 invariant-loop l = record {
-  read : more_init_declarators_from l.levels true (length l.fn.tokens.rest.now) l.fn.names.items l.fn.tokens.rest.now
+  read : more_init_declarators_from l.levels true (length l.fn.tokens.rest.now) l.fn.names l.fn.tokens.rest.now
       ≡ extending (more_init_declarators_in l.others.items) (more_init_declarators_from l.levels true
-      (l.end - l.counter) l.names.items l.tokens.rest.now);
-  added : l.names.items ≡ names_after_more true (more_init_declarators_in l.others.items) l.fn.names.items;
+      (l.end - l.counter) l.names l.tokens.rest.now);
+  added : l.names ≡ names_after_more true (more_init_declarators_in l.others.items) l.fn.names;
 }

@@ -9,16 +9,16 @@ use Rattle.c_parser.proofs.unit.externals.Goals as goal
 
 pub returns-then-is_empty : goal.returns-then-is_empty
 returns-then-is_empty c =
-    let e = c.loop.invariant ∙ externals_end c.args.levels _ c.loop.names.items (externals_in c.loop.externals.items)
+    let e = c.loop.invariant ∙ externals_end c.args.levels _ c.loop.names (externals_in c.loop.externals.items)
     c.loop.tokens.rest.now (sym c.is_empty.ensures ∙ c.if-is_empty.true) in
     first_of (search rules, grind (arith, common_steps))
 
 pub returns-in_err-external : goal.returns-in_err-external
 returns-in_err-external c =
     let e = one_more (λ n. extending (externals_in c.loop.externals.items)
-    (externals_from c.args.levels n c.loop.names.items c.loop.tokens.rest.now)) _ c.loop.counter c.loop-test.true
+    (externals_from c.args.levels n c.loop.names c.loop.tokens.rest.now)) _ c.loop.counter c.loop-test.true
     c.loop.invariant in
-    let f = external_fails c.args.levels (length c.args.tokens.now.rest.now - (c.loop.counter + 1)) c.loop.names.items
+    let f = external_fails c.args.levels (length c.args.tokens.now.rest.now - (c.loop.counter + 1)) c.loop.names
     (externals_in c.loop.externals.items) c.loop.tokens.rest.now c.external.new.tokens.rest.now _
     c.in_err-external.field-0.0 e (sym c.is_empty.ensures ∙ c.if-is_empty.false) c.in_err-external.ensures.read in
     first_of (search rules, grind (arith, common_steps))
@@ -26,9 +26,9 @@ returns-in_err-external c =
 pub loop-preserved : goal.loop-preserved
 loop-preserved c =
     let e = one_more (λ n. extending (externals_in c.loop.externals.items)
-    (externals_from c.args.levels n c.loop.names.items c.loop.tokens.rest.now)) _ c.loop.counter c.loop-test.true
+    (externals_from c.args.levels n c.loop.names c.loop.tokens.rest.now)) _ c.loop.counter c.loop-test.true
     c.loop.invariant in
     rw (c.in_ok-push.ensures.items, c.in_ok-external.ensures.names)
-    (e ∙ external_turn c.args.levels (length c.args.tokens.now.rest.now - (c.loop.counter + 1)) c.loop.names.items
+    (e ∙ external_turn c.args.levels (length c.args.tokens.now.rest.now - (c.loop.counter + 1)) c.loop.names
     c.loop.externals.items c.in_ok-external.external c.loop.tokens.rest.now c.external.new.tokens.rest.now
     (sym c.is_empty.ensures ∙ c.if-is_empty.false) c.in_ok-external.ensures.read)

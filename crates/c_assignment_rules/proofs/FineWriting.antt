@@ -38,12 +38,13 @@ use Rattle.c_rules.proofs.FineUnary.{same_kind}
 use Rattle.c_rules.proofs.FineConversions.{unqualified_kind, assigned_fine}
 use Rattle.c_place_rules.specs.Targets.{object_kind}
 use Rattle.c_place_rules.specs.Operands.{Place, Variable, Operand, a_value, a_place, a_variable, a_function}
-use Rattle.c_place_laws.specs.FinePlaces.{IsFinePlace, IsFineVariable, IsFineOperand}
+use Rattle.c_place_laws.specs.FinePlaces.{IsEarlierPlace, IsFineVariable, IsEarlierOperand, WasSized, complete_as, unsized_as}
+use Rattle.c_place_laws.specs.FinePlaces.{is_unsized_kind}
 use Rattle.c_place_laws.proofs.Sizes.{Complete, complete}
 use Rattle.c_assignment_rules.specs.declared.operators.Change.{Change}
 use Rattle.c_assignment_rules.specs.declared.operators.StepOperator.{StepOperator}
 use Rattle.c_assignment_rules.specs.declared.operators.StepOperator.TheVariants.{Increment, Decrement}
-use Rattle.c_assignment_rules.specs.Assignable.{has_const, is_array_type, is_incomplete_structure, lowest, where_none}
+use Rattle.c_assignment_rules.specs.Assignable.{has_const, is_array_type, is_unsized_structure, lowest, where_none}
 use Rattle.c_assignment_rules.specs.Assignable.{assignable}
 use Rattle.c_assignment_rules.specs.Writing.{Writing, set, change, step_by, written}
 use Rattle.c_assignment_rules.specs.Assignments.{assignment, no_pair, change_of, change_between, converted_if}
@@ -57,34 +58,56 @@ record Holds (structures : List (Option TypeExtent)) (type : List TypeWord) (k :
   kind : kind_of_type structures type ≡ Some k
   value : is_value k ≡ true
 
-holds_cases : (structures : List (Option TypeExtent)) (ws : List TypeWord) (k : Kind) → is_array_type ws ≡ false
+holds_complete : (structures : List (Option TypeExtent)) (ws : List TypeWord) (k : Kind) → is_array_type ws ≡ false
     → target_of structures ws ≡ target.Object (size_of_kind k) → k ≡ object_kind (size_of_kind k) ws
     → Holds structures ws k
 unfolding extent_of
-holds_cases structures [] k a s e = absurd cc
-holds_cases structures (word.Void ∷ behind) k a s e = absurd cc
-holds_cases structures (word.Integer t ∷ behind) k a s e = record { kind = ap Some (sym e); value = ap is_value e }
-holds_cases structures (word.Enumeration m ∷ behind) k a s e = record { kind = ap Some (sym e); value = ap is_value e }
-holds_cases structures (word.Pointer ∷ behind) k a s e = record { kind = ap Some (sym e); value = ap is_value e }
-holds_cases structures (word.Array count bytes ∷ behind) k a s e = absurd cc
-holds_cases structures (word.OpenArray ∷ behind) k a s e = absurd cc
-holds_cases structures (word.Structure m ∷ behind) k a s e =
+holds_complete structures [] k a s e = absurd cc
+holds_complete structures (word.Void ∷ behind) k a s e = absurd cc
+holds_complete structures (word.Integer t ∷ behind) k a s e = record { kind = ap Some (sym e); value = ap is_value e }
+holds_complete structures (word.Enumeration m ∷ behind) k a s e =
+    record { kind = ap Some (sym e); value = ap is_value e }
+holds_complete structures (word.Pointer ∷ behind) k a s e = record { kind = ap Some (sym e); value = ap is_value e }
+holds_complete structures (word.Array count bytes ∷ behind) k a s e = absurd cc
+holds_complete structures (word.OpenArray ∷ behind) k a s e = absurd cc
+holds_complete structures (word.Structure m ∷ behind) k a s e =
     let c : Complete (structure_extent structures m) (size_of_kind k) =
     complete (structure_extent structures m) (size_of_kind k) s in
     let there : structure_kind (structure_extent structures m) ≡ Some (kind.Structure (size_of_kind k)) =
     ap structure_kind c.there ∙ ap (λ n. Some (kind.Structure n)) c.bytes in
     record { kind = there ∙ ap Some (sym e); value = ap is_value e }
-holds_cases structures (word.Const ∷ behind) k a s e =
-    let h : Holds structures behind k = holds_cases structures behind k a s e in
+holds_complete structures (word.Const ∷ behind) k a s e =
+    let h : Holds structures behind k = holds_complete structures behind k a s e in
     record { kind = h.kind; value = h.value }
-holds_cases structures (word.Takes ∷ behind) k a s e = absurd cc
-holds_cases structures (word.Gives ∷ behind) k a s e = absurd cc
+holds_complete structures (word.Takes ∷ behind) k a s e = absurd cc
+holds_complete structures (word.Gives ∷ behind) k a s e = absurd cc
+
+-- what is no array, and counts bytes if it is a structure, has a size where it is named
+never_unsized : {P : Type 0} (ws : List TypeWord) (k : Kind) (n : ℕ) → k ≡ object_kind n ws → is_array_type ws ≡ false
+    → is_unsized_structure k ≡ false → is_unsized_kind k ≡ true → P
+never_unsized [] k n e a i u = absurd cc
+never_unsized (word.Void ∷ behind) k n e a i u = absurd cc
+never_unsized (word.Integer t ∷ behind) k n e a i u = absurd cc
+never_unsized (word.Enumeration m ∷ behind) k n e a i u = absurd cc
+never_unsized (word.Pointer ∷ behind) k n e a i u = absurd cc
+never_unsized (word.Array count bytes ∷ behind) k n e a i u = absurd cc
+never_unsized (word.OpenArray ∷ behind) k n e a i u = absurd cc
+never_unsized (word.Structure m ∷ behind) k n e a i u = absurd cc
+never_unsized (word.Const ∷ behind) k n e a i u = never_unsized behind k n e a i u
+never_unsized (word.Takes ∷ behind) k n e a i u = absurd cc
+never_unsized (word.Gives ∷ behind) k n e a i u = absurd cc
+
+holds_cases : (structures : List (Option TypeExtent)) (ws : List TypeWord) (k : Kind) → is_array_type ws ≡ false
+    → is_unsized_structure k ≡ false → WasSized structures ws k → k ≡ object_kind (size_of_kind k) ws
+    → Holds structures ws k
+holds_cases structures ws k a i (complete_as s) e = holds_complete structures ws k a s e
+holds_cases structures ws k a i (unsized_as u) e = never_unsized ws k (size_of_kind k) e a i u
 
 module _ (scope : Scope) (structures : List (Option TypeExtent)) where
   -- what may be written is an lvalue and no array, or a variable
 
   place_cases : (incomplete reached array const : Bool) (line : ℕ) (o : Operand) (next : Operand → Answer Value)
-      → (reached ≡ true → array ≡ false → IfFine scope structures (next o))
+      → (incomplete ≡ false → reached ≡ true → array ≡ false → IfFine scope structures (next o))
       → IfFine scope structures (where_none
       (lowest ((rule.Incomplete, incomplete) ∷ (rule.NotAssignable, not reached || (array || const)) ∷ [])) line o
       >>= next)
@@ -92,7 +115,7 @@ module _ (scope : Scope) (structures : List (Option TypeExtent)) where
   place_cases false false array const line o next h = tt
   place_cases false true true const line o next h = tt
   place_cases false true false true line o next h = tt
-  place_cases false true false false line o next h = h refl refl
+  place_cases false true false false line o next h = h refl refl refl
 
   variable_cases : (const : Bool) (line : ℕ) (o : Operand) (next : Operand → Answer Value)
       → IfFine scope structures (next o)
@@ -101,16 +124,16 @@ module _ (scope : Scope) (structures : List (Option TypeExtent)) where
   variable_cases false line o next h = h
 
   assignable_fine : (with_const : List Bool) (line : ℕ) (o : Operand) (next : Operand → Answer Value)
-      → IsFineOperand scope structures o
-      → ((p : Place) → IsFinePlace scope structures p → is_lvalue p.tree ≡ true
+      → IsEarlierOperand scope structures o
+      → ((p : Place) → IsEarlierPlace scope structures p → is_lvalue p.tree ≡ true
       → Holds structures p.type (lvalue_kind p.tree) → IfFine scope structures (next (a_place p)))
       → ((x : Variable) → IsFineVariable scope structures x → IfFine scope structures (next (a_variable x)))
-      → IfFine scope structures (assignable structures with_const line o >>= next)
+      → IfFine scope structures (assignable with_const line o >>= next)
   assignable_fine with_const line (a_value v) next fo hp hx = tt
   assignable_fine with_const line (a_place p) next fo hp hx =
-      place_cases (is_incomplete_structure structures p.type) (is_lvalue p.tree) (is_array_type p.type)
+      place_cases (is_unsized_structure (lvalue_kind p.tree)) (is_lvalue p.tree) (is_array_type p.type)
       (has_const with_const p.type) line (a_place p) next
-      (λ l a. hp p fo l (holds_cases structures p.type (lvalue_kind p.tree) a fo.sized fo.kind))
+      (λ i l a. hp p fo l (holds_cases structures p.type (lvalue_kind p.tree) a i fo.sized fo.kind))
   assignable_fine with_const line (a_variable x) next fo hp hx =
       variable_cases (has_const with_const x.type) line (a_variable x) next (hx x fo)
   assignable_fine with_const line (a_function f) next fo hp hx = tt
@@ -121,7 +144,7 @@ module _ (scope : Scope) (structures : List (Option TypeExtent)) where
 
   -- `=`
 
-  set_place : (line : ℕ) (p : Place) → IsFinePlace scope structures p → is_lvalue p.tree ≡ true
+  set_place : (line : ℕ) (p : Place) → IsEarlierPlace scope structures p → is_lvalue p.tree ≡ true
       → Holds structures p.type (lvalue_kind p.tree) → (r : Answer Expression) → IfFineAs scope structures p.type r
       → IfFine scope structures (r >>= λ e. written line (a_place p) (set e))
   set_place line p fp l h (Ok e) fe =
@@ -149,7 +172,7 @@ module _ (scope : Scope) (structures : List (Option TypeExtent)) where
   set_variable line x fx (Err f) fe = tt
 
   pub assignment_fine : (with_const : List Bool) (line : ℕ) (o : Operand) (a : Value)
-      → IsFineOperand scope structures o → IsFine scope structures a
+      → IsEarlierOperand scope structures o → IsFine scope structures a
       → IfFine scope structures (assignment structures with_const line o a)
   unfolding assignment
   assignment_fine with_const line o a fo fa =
@@ -248,7 +271,7 @@ module _ (scope : Scope) (structures : List (Option TypeExtent)) where
 
   -- the compound assignments
 
-  change_place : (line : ℕ) (p : Place) (a : Value) → IsFinePlace scope structures p → is_lvalue p.tree ≡ true
+  change_place : (line : ℕ) (p : Place) (a : Value) → IsEarlierPlace scope structures p → is_lvalue p.tree ≡ true
       → Holds structures p.type (lvalue_kind p.tree) → (c : Option Change) → Fits (lvalue_kind p.tree) a c
       → IfFine scope structures (change_to line c a >>= λ w. written line (a_place p) w)
   change_place line p a fp l h None f = tt
@@ -266,7 +289,7 @@ module _ (scope : Scope) (structures : List (Option TypeExtent)) where
       record { valid = all (all f.0 fx.plain) f.1; kind = fx.value.kind; bare = refl }
 
   pub compound_fine : (with_const : List Bool) (op : BinaryOperator) (line : ℕ) (o : Operand) (a : Value)
-      → IsFineOperand scope structures o → IsFine scope structures a
+      → IsEarlierOperand scope structures o → IsFine scope structures a
       → IfFine scope structures (compound structures with_const op line o a)
   unfolding compound
   compound_fine with_const op line o a fo fa =
@@ -306,7 +329,7 @@ module _ (scope : Scope) (structures : List (Option TypeExtent)) where
   steps_fit k Decrement (class.Pointer target.Function) h = tt
   steps_fit k Decrement class.Other h = tt
 
-  step_place : (line : ℕ) (fixity : Fixity) (p : Place) → IsFinePlace scope structures p → is_lvalue p.tree ≡ true
+  step_place : (line : ℕ) (fixity : Fixity) (p : Place) → IsEarlierPlace scope structures p → is_lvalue p.tree ≡ true
       → Holds structures p.type (lvalue_kind p.tree) → (c : Option Change) → Steps (lvalue_kind p.tree) c
       → IfFine scope structures (step_to line fixity c >>= λ w. written line (a_place p) w)
   step_place line fixity p fp l h None f = tt
@@ -324,7 +347,7 @@ module _ (scope : Scope) (structures : List (Option TypeExtent)) where
       record { valid = all fx.plain f; kind = fx.value.kind; bare = refl }
 
   pub stepped_fine : (with_const : List Bool) (op : StepOperator) (fixity : Fixity) (line : ℕ) (o : Operand)
-      → IsFineOperand scope structures o → IfFine scope structures (stepped structures with_const op fixity line o)
+      → IsEarlierOperand scope structures o → IfFine scope structures (stepped structures with_const op fixity line o)
   unfolding stepped
   stepped_fine with_const op fixity line o fo =
       assignable_fine with_const line o _ fo

@@ -33,7 +33,7 @@ use Rattle.c_assignment_rules.specs.Writing.{Writing, set, change, step_by, writ
 unfoldable pub assignment : List (Option TypeExtent) → (with_const : List Bool) → (line : ℕ) → Operand → Value
     → Answer Value
 assignment structures with_const line o a =
-    assignable structures with_const line o >>= λ p. assigned structures line (type_in p) a >>= λ e.
+    assignable with_const line o >>= λ p. assigned structures line (type_in p) a >>= λ e.
     written line p (set e)
 
 -- no two pointers are operands of a compound assignment
@@ -64,7 +64,7 @@ change_to line (Some c) a = Ok (change c.update (converted_if c.operand a.tree))
 unfoldable pub compound : List (Option TypeExtent) → (with_const : List Bool) → BinaryOperator → (line : ℕ) → Operand
     → Value → Answer Value
 compound structures with_const op line o a =
-    assignable structures with_const line o >>= λ p.
+    assignable with_const line o >>= λ p.
     change_to line (change_between op (class_of structures (type_in p)) (class_of structures a.type)) a >>= λ w.
     written line p w
 
@@ -80,6 +80,6 @@ step_to line fixity (Some c) = Ok (step_by c.update fixity)
 unfoldable pub stepped : List (Option TypeExtent) → (with_const : List Bool) → StepOperator → Fixity → (line : ℕ)
     → Operand → Answer Value
 stepped structures with_const op fixity line o =
-    assignable structures with_const line o >>= λ p.
+    assignable with_const line o >>= λ p.
     step_to line fixity (change_between (operator_of op) (class_of structures (type_in p)) (class.Integer Int)) >>= λ w.
     written line p w

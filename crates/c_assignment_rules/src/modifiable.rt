@@ -3,55 +3,44 @@
 ghost use Rattle.std.specs.Prelude.{◌≡◌, get_or, false};
 ghost use Rattle.c_rules.specs.Answer.{Gives};
 ghost use Rattle.c_place_rules.specs.Operands.{operand_of, place_of, variable_of};
-ghost use Rattle.c_assignment_rules.specs.Assignable.{assignable, has_const, is_array_type, is_incomplete_structure};
+ghost use Rattle.c_assignment_rules.specs.Assignable.{assignable, has_const, is_array_type, is_unsized_structure};
 ghost use Rattle.c_assignment_rules.specs.Assignable.{place_rule, variable_rule, write_rule};
 
 use c_place_rules::operand::is_lvalue;
 use c_place_rules::refusal::refused;
-use c_place_rules::target::target;
 use c_place_rules::{Operand, TypedPlace, TypedVariable};
-use c_rules::value::unqualified;
-use c_rules::{Refusal, Rule, Target};
-use c_tree::{Extent, TypeWord};
+use c_rules::{Refusal, Rule};
+use c_tree::{Kind, TypeWord};
 use sb_base::Line;
 
-/// An operand that may be written, with the line of the operator, among structures and unions with these extents, of
-/// which the second list tells, by number, whether they have a const member, also within members. The rule on
-/// incomplete types is violated by an lvalue of an incomplete structure or union, that on writes by what is no lvalue,
-/// by an array, and by what is const or has a const member.
-pub fn assignable(
-    structures: &[Option<Extent>],
-    with_const: &[bool],
-    line: Line,
-    operand: Operand,
-) -> Result<Operand, Refusal>
-    ensures { Gives operand_of result (assignable structures.now with_const.now line (operand_of operand)) }
+/// An operand that may be written, with the line of the operator, where the list tells of each structure and union, by
+/// number, whether it has a const member, also within members. The rule on incomplete types is violated by an lvalue of
+/// a structure or union that is incomplete where it is named, that on writes by what is no lvalue, by an array, and by
+/// what is const or has a const member.
+pub fn assignable(with_const: &[bool], line: Line, operand: Operand) -> Result<Operand, Refusal>
+    ensures { Gives operand_of result (assignable with_const.now line (operand_of operand)) }
 {
-    match write_rule(structures, with_const, &operand) {
+    match write_rule(with_const, &operand) {
         Some(rule) => refused(operand, rule, line),
         None => Ok(operand),
     }
 }
 
-fn write_rule(structures: &[Option<Extent>], with_const: &[bool], operand: &Operand) -> Option<Rule>
-    ensures { result ≡ write_rule structures.now with_const.now (operand_of operand.now) }
+fn write_rule(with_const: &[bool], operand: &Operand) -> Option<Rule>
+    ensures { result ≡ write_rule with_const.now (operand_of operand.now) }
 {
     match operand {
-        Operand::Place(place) => place_rule(structures, with_const, place),
+        Operand::Place(place) => place_rule(with_const, place),
         Operand::Variable(variable) => variable_rule(with_const, variable),
         Operand::Value(_) | Operand::Function(_) => Some(Rule::NotAssignable),
     }
 }
 
-fn place_rule(
-    structures: &[Option<Extent>],
-    with_const: &[bool],
-    place: &TypedPlace,
-) -> Option<Rule>
-    ensures { result ≡ place_rule structures.now with_const.now (place_of place.now) }
+fn place_rule(with_const: &[bool], place: &TypedPlace) -> Option<Rule>
+    ensures { result ≡ place_rule with_const.now (place_of place.now) }
 {
     let words = place.c_type.words();
-    if is_incomplete_structure(structures, words) {
+    if is_unsized_structure(place.tree.kind) {
         return Some(Rule::Incomplete);
     }
     if !is_lvalue(&place.tree) || (is_array_type(words) || has_const(with_const, words)) {
@@ -105,9 +94,11 @@ fn is_array_type(words: &[TypeWord]) -> bool
     }
 }
 
-fn is_incomplete_structure(structures: &[Option<Extent>], words: &[TypeWord]) -> bool
-    ensures { result ≡ is_incomplete_structure structures.now words.now }
+fn is_unsized_structure(kind: Kind) -> bool
+    ensures { result ≡ is_unsized_structure kind }
 {
-    matches!(unqualified(words), [TypeWord::Structure(_), ..])
-        && matches!(target(structures, words), Target::Incomplete)
+    match kind {
+        Kind::Structure(bytes) => bytes == 0,
+        _ => false,
+    }
 }

@@ -56,7 +56,7 @@ pub fn assignment(
     ensures { Gives value_of result
         (assignment structures.now with_const.now line (operand_of left) (value_of right)) }
 {
-    let (right, left) = beside(right, assignable(structures, with_const, line, left))?;
+    let (right, left) = beside(right, assignable(with_const, line, left))?;
     let right = assigned(alloc, structures, line, type_in(&left), right);
     let (left, right) = beside(left, right)?;
     written(alloc, line, left, Writing::Set(right))
@@ -77,7 +77,7 @@ pub fn compound(
     ensures { Gives value_of result
         (compound structures.now with_const.now operator line (operand_of left) (value_of right)) }
 {
-    let (right, left) = beside(right, assignable(structures, with_const, line, left))?;
+    let (right, left) = beside(right, assignable(with_const, line, left))?;
     let of_left = Class::of(structures, type_in(&left));
     let of_right = Class::of(structures, right.c_type.words());
     let change = change_between(operator, of_left, of_right);
@@ -168,7 +168,7 @@ pub fn stepped(
     ensures { Gives value_of result
         (stepped structures.now with_const.now operator fixity line (operand_of operand)) }
 {
-    let operand = assignable(structures, with_const, line, operand)?;
+    let operand = assignable(with_const, line, operand)?;
     let class = Class::of(structures, type_in(&operand));
     let change = change_between(operator_of(operator), class, Class::Integer(IntType::Int));
     let (operand, writing) = beside(operand, step_to(line, fixity, change))?;

@@ -44,7 +44,7 @@ use Rattle.source_meaning.proofs.ValidProgramNames.{expression_if, statement_nam
 use Rattle.source_meaning.proofs.Sure.{sure_skip, sure_beside}
 use Rattle.source_meaning.proofs.SureActions.{sure_zero_variable}
 use Rattle.source_meaning.proofs.SureTree.{evaluate_sure, IsBase, stable_base, base_part, content_sure, initialize_sure}
-use Rattle.source_meaning.proofs.SureTree.{home_sure}
+use Rattle.source_meaning.proofs.SureTree.{home_sure, named_same}
 use Rattle.source_meaning.proofs.SureFlow.{holds_sure, perform_sure, first_sure, execute_sure}
 use Rattle.tac_ir.specs.declared.function.Tac.{Tac}
 use Rattle.tac_ir.specs.Stage.{Temps, Frame, Stage, Stands, came}
@@ -208,7 +208,7 @@ module _ (t : Tac) (n : ℕ) (env : Env) (sc : Context) (sure : Calling sc env)
       let after = subst (λ (home : Home). After sc s (λ _. Any) (zero_home home s)) h.home
       ((sure_zero_variable x).by s good tt) in
       let good1 : IsGood sc s1 = after.0.good in
-      let l = home_sure x kind has s1 good1 in
+      let l = home_sure x kind (named_same (object_kind sc.scope.variables x) kind has) s1 good1 in
       let pay = sized x kind has in
       let same = h.held.size in
       subst (λ (home : Home). Goes env.setting t env.limit 0 0 u frames (λ v. n1) Anyhow

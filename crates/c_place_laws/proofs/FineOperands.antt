@@ -1,7 +1,7 @@
 -- What the operators on lvalues and functions give is valid where their operands are.
 use Rattle.std.proofs.Common.{◌≡◌, ℕ, ◌+◌, ◌^◌, Bool, true, false, Option, Some, None, List, [], ◌∷◌, refl, ap, sym}
 use Rattle.std.proofs.Common.{◌∙◌, subst}
-use Rattle.std.specs.Prelude.{◌&&◌, ◌==◌, not, nat_le, if◌then◌else◌, Ok}
+use Rattle.std.specs.Prelude.{◌&&◌, ◌==◌, not, nat_le, if◌then◌else◌, is_none, Ok}
 use Rattle.std.proofs.lemmas.Bool.{eq-eqb}
 use Rattle.c_tree.specs.declared.c_type.TypeWord.{TypeWord}
 use Rattle.c_tree.specs.declared.c_type.TypeWord.TheVariants as word
@@ -34,12 +34,49 @@ use Rattle.c_place_rules.specs.Places.{object_at, dereferenced, dereferenced_as,
 use Rattle.c_place_rules.specs.Places.{element_as, element_at, indexed, Member, structure_of, type_in, selected}
 use Rattle.c_place_rules.specs.Places.{member_of_value, member_of_place, member_behind, arrow, size_in, size_of}
 use Rattle.c_place_laws.specs.FinePlaces.{IsFinePlace, IsFineVariable, IsFineFunction, IsFineOperand, IfFinePlace}
-use Rattle.c_place_laws.specs.FinePlaces.{IfFineOperand, IsMemberOf, IsFound, IsFoundBehind}
-use Rattle.c_place_laws.proofs.Sizes.{Complete, complete, target_size, kind_bytes, qualified_target, pointee_target}
+use Rattle.c_place_laws.specs.FinePlaces.{IfFineOperand, IsMemberOf, IsFound, IsFoundBehind, IsReadable, IsSized, complete, unsized}
+use Rattle.c_place_laws.specs.FinePlaces.{is_incomplete_structure, is_unsized}
+use Rattle.c_place_laws.proofs.Sizes.{Complete, complete as completes, target_size, kind_bytes, qualified_target, pointee_target}
 use Rattle.c_place_laws.proofs.Sizes.{structure_kind_at, structure_target, structure_object, size_fits}
 
 some_kind : (j k : Kind) → Some j ≡ Some k → k ≡ j
 some_kind j k e = cc
+
+some_extent : (e g : TypeExtent) → Some e ≡ Some g → e ≡ g
+some_extent e g h = cc
+
+none_or : {P : Type 0} (e : TypeExtent) (o : Option TypeExtent) → o ≡ Some e → is_none o ≡ true → P
+none_or e None is n = absurd cc
+none_or e (Some g) is n = absurd cc
+
+never : {P : Type 0} (b : Bool) → b ≡ true → b ≡ false → P
+never b e f = absurd cc
+
+object_is : (e : TypeExtent) → is_size e.size ≡ true → object_of (Some e) ≡ target.Object e.size
+object_is e h = ap (λ b. if b then target.Object e.size else target.Incomplete) h
+
+same_size : (m n : ℕ) → target.Object m ≡ target.Object n → m ≡ n
+same_size m n e = cc
+
+-- a structure that is complete has its bytes where it is named
+whole_bytes : (structures : List (Option TypeExtent)) (ws : List TypeWord) (n size : ℕ) (whole : TypeExtent)
+    → structure_of ws ≡ Some n → structure_extent structures n ≡ Some whole → is_size whole.size ≡ true
+    → IsSized structures ws size → whole.size ≡ size
+whole_bytes structures ws n size whole e there object (complete s) =
+    same_size whole.size size
+    (sym (object_is whole object) ∙ ap object_of (sym there) ∙ sym (structure_target structures ws n e) ∙ s)
+whole_bytes structures ws n size whole e there object (unsized u z) = unsized_whole ws e u
+  where
+    same_number : (m k : ℕ) → Some m ≡ Some k → m ≡ k
+    same_number m k h = cc
+
+    unsized_whole : (ws : List TypeWord) → structure_of ws ≡ Some n → is_unsized structures ws ≡ true
+        → whole.size ≡ size
+    unsized_whole [] e u = absurd cc
+    unsized_whole (word.Structure m ∷ behind) e u =
+        none_or whole (structure_extent structures m) (ap (structure_extent structures) (same_number m n e) ∙ there) u
+    unsized_whole (word.Const ∷ behind) e u = unsized_whole behind e u
+    unsized_whole (w ∷ behind) e u = absurd cc
 
 module _ (scope : Scope) (structures : List (Option TypeExtent)) where
   -- values
@@ -62,40 +99,57 @@ module _ (scope : Scope) (structures : List (Option TypeExtent)) where
     bare = refl;
   }
 
+  read_structure : (p : Place) → IsFinePlace scope structures p → (m : ℕ) (behind : List TypeWord) (k : Kind)
+      → lvalue_kind p.tree ≡ k → k ≡ kind.Structure (size_of_kind k)
+      → kind_of_type structures (unqualified p.type) ≡ structure_kind (structure_extent structures m)
+      → IsSized structures (word.Structure m ∷ behind) (size_of_kind k)
+      → is_none (structure_extent structures m) ≡ false → IfFine scope structures (read_value p)
+  unfolding extent_of
+  read_structure p fp m behind k l e t (complete s) i =
+      let c : Complete (structure_extent structures m) (size_of_kind k) =
+      completes (structure_extent structures m) (size_of_kind k) s in
+      let there : structure_kind (structure_extent structures m) ≡ Some (kind.Structure (size_of_kind k)) =
+      ap structure_kind c.there ∙ ap (λ n. Some (kind.Structure n)) c.bytes in
+      read_fine p fp (t ∙ there ∙ ap Some (sym (l ∙ e))) (ap is_value (l ∙ e))
+  read_structure p fp m behind k l e t (unsized u z) i =
+      never (is_none (structure_extent structures m)) u i
+
   -- by the words of its type
   loaded_cases : (p : Place) → IsFinePlace scope structures p → (ws : List TypeWord) (k : Kind)
       → lvalue_kind p.tree ≡ k
       → kind_of_type structures (unqualified p.type) ≡ kind_of_type structures ws
-      → target_of structures ws ≡ target.Object (size_of_kind k) → k ≡ object_kind (size_of_kind k) ws
-      → IfFine scope structures (loaded_as (unqualified ws) p)
+      → IsSized structures ws (size_of_kind k) → k ≡ object_kind (size_of_kind k) ws
+      → is_incomplete_structure structures ws ≡ false → IfFine scope structures (loaded_as (unqualified ws) p)
   unfolding extent_of
-  loaded_cases p fp [] k l t s e = absurd cc
-  loaded_cases p fp (word.Void ∷ behind) k l t s e = absurd cc
-  loaded_cases p fp (word.Integer i ∷ behind) k l t s e =
+  loaded_cases p fp [] k l t (complete s) e i = absurd cc
+  loaded_cases p fp [] k l t (unsized u z) e i = absurd cc
+  loaded_cases p fp (word.Void ∷ behind) k l t (complete s) e i = absurd cc
+  loaded_cases p fp (word.Void ∷ behind) k l t (unsized u z) e i = absurd cc
+  loaded_cases p fp (word.Integer z ∷ behind) k l t s e i =
       read_fine p fp (t ∙ ap Some (sym (l ∙ e))) (ap is_value (l ∙ e))
-  loaded_cases p fp (word.Enumeration m ∷ behind) k l t s e =
+  loaded_cases p fp (word.Enumeration m ∷ behind) k l t s e i =
       read_fine p fp (t ∙ ap Some (sym (l ∙ e))) (ap is_value (l ∙ e))
-  loaded_cases p fp (word.Pointer ∷ behind) k l t s e =
+  loaded_cases p fp (word.Pointer ∷ behind) k l t s e i =
       read_fine p fp (t ∙ ap Some (sym (l ∙ e))) (ap is_value (l ∙ e))
-  loaded_cases p fp (word.Array count bytes ∷ behind) k l t s e =
+  loaded_cases p fp (word.Array count bytes ∷ behind) k l t s e i =
       decayed_cases (is_lvalue p.tree) p refl fp (ap is_array (l ∙ e))
-  loaded_cases p fp (word.OpenArray ∷ behind) k l t s e = absurd cc
-  loaded_cases p fp (word.Structure m ∷ behind) k l t s e =
-      let c : Complete (structure_extent structures m) (size_of_kind k) =
-      complete (structure_extent structures m) (size_of_kind k) s in
-      let there : structure_kind (structure_extent structures m) ≡ Some (kind.Structure (size_of_kind k)) =
-      ap structure_kind c.there ∙ ap (λ n. Some (kind.Structure n)) c.bytes in
-      read_fine p fp (t ∙ there ∙ ap Some (sym (l ∙ e))) (ap is_value (l ∙ e))
-  loaded_cases p fp (word.Const ∷ behind) k l t s e = loaded_cases p fp behind k l t s e
-  loaded_cases p fp (word.Takes ∷ behind) k l t s e = absurd cc
-  loaded_cases p fp (word.Gives ∷ behind) k l t s e = absurd cc
+  loaded_cases p fp (word.OpenArray ∷ behind) k l t s e i =
+      decayed_cases (is_lvalue p.tree) p refl fp (ap is_array (l ∙ e))
+  loaded_cases p fp (word.Structure m ∷ behind) k l t s e i = read_structure p fp m behind k l e t s i
+  loaded_cases p fp (word.Const ∷ behind) k l t (complete s) e i = loaded_cases p fp behind k l t (complete s) e i
+  loaded_cases p fp (word.Const ∷ behind) k l t (unsized u z) e i = loaded_cases p fp behind k l t (unsized u z) e i
+  loaded_cases p fp (word.Takes ∷ behind) k l t (complete s) e i = absurd cc
+  loaded_cases p fp (word.Takes ∷ behind) k l t (unsized u z) e i = absurd cc
+  loaded_cases p fp (word.Gives ∷ behind) k l t (complete s) e i = absurd cc
+  loaded_cases p fp (word.Gives ∷ behind) k l t (unsized u z) e i = absurd cc
 
-  pub value_fine : (o : Operand) → IsFineOperand scope structures o → IfFine scope structures (value_in o)
-  value_fine (a_value v) fo = fo
-  value_fine (a_place p) fo =
-      loaded_cases p fo p.type (lvalue_kind p.tree) refl (unqualified_kind structures p.type) fo.sized fo.kind
-  value_fine (a_variable x) fo = fo.value
-  value_fine (a_function f) fo = record { valid = fo.valid; kind = ap Some (sym fo.kind); bare = fo.bare }
+  pub value_fine : (o : Operand) → IsFineOperand scope structures o → IsReadable structures o
+      → IfFine scope structures (value_in o)
+  value_fine (a_value v) fo r = fo
+  value_fine (a_place p) fo r =
+      loaded_cases p fo p.type (lvalue_kind p.tree) refl (unqualified_kind structures p.type) fo.sized fo.kind r
+  value_fine (a_variable x) fo r = fo.value
+  value_fine (a_function f) fo r = record { valid = fo.valid; kind = ap Some (sym fo.kind); bare = fo.bare }
 
   -- parentheses
   pub enclosed_fine : (line : ℕ) (o : Operand) → IsFineOperand scope structures o
@@ -124,7 +178,7 @@ module _ (scope : Scope) (structures : List (Option TypeExtent)) where
       let bytes : size_of_kind (object_kind size type) ≡ size = kind_bytes structures type size sized in
       record {
         valid = valid;
-        sized = sized ∙ ap target.Object (sym bytes);
+        sized = complete (sized ∙ ap target.Object (sym bytes));
         kind = ap (λ n. object_kind n type) (sym bytes);
       }
 
@@ -223,18 +277,18 @@ module _ (scope : Scope) (structures : List (Option TypeExtent)) where
   of_value line n m v fv h (Some whole) e s =
       let lies : has_member (kind_of v.tree) m.offset m.size ≡ true =
       ap (λ k. has_member k m.offset m.size) (some_kind (kind.Structure whole.size) (kind_of v.tree) s)
-      ∙ h.inside whole e in
+      ∙ ap (λ x. nat_le (m.offset + m.size) x.size) (some_extent whole h.whole (sym e ∙ h.complete)) ∙ h.inside in
       object_fine m.type m.size line _ h.sized (all (all fv.valid lies) (member_node false n m h))
 
   of_place : (line n : ℕ) (m : Member) (p : Place) → IsFinePlace scope structures p → IsMemberOf structures n m
       → structure_of p.type ≡ Some n → IsFinePlace scope structures (member_of_place line m p)
   of_place line n m p fp h e =
       let size = size_of_kind (lvalue_kind p.tree) in
-      let c : Complete (structure_extent structures n) size =
-      complete (structure_extent structures n) size (sym (structure_target structures p.type n e) ∙ fp.sized) in
+      let bytes : h.whole.size ≡ size =
+      whole_bytes structures p.type n size h.whole e h.complete h.object fp.sized in
       let lies : has_member (lvalue_kind p.tree) m.offset m.size ≡ true =
       ap (λ k. has_member k m.offset m.size) (fp.kind ∙ structure_object p.type n size e)
-      ∙ ap (nat_le (m.offset + m.size)) (sym c.bytes) ∙ h.inside c.extent c.there in
+      ∙ ap (nat_le (m.offset + m.size)) (sym bytes) ∙ h.inside in
       object_fine (qualified (is_const p.type) m.type) m.size line _
       (qualified_target structures (is_const p.type) m.type ∙ h.sized)
       (all (all fp.valid lies) (member_node (is_const p.type) n m h))

@@ -1,8 +1,11 @@
 -- Operands that are valid, of the kind that their type has (C99 6.2.5, 6.3.2.1).
-use Rattle.std.specs.Prelude.{◌≡◌, ℕ, ◌+◌, ◌^◌, true, false, nat_le, List, Option, Some, None, Ok, Err}
+use Rattle.std.specs.Prelude.{◌≡◌, ◌==◌, ℕ, ◌+◌, ◌^◌, Bool, true, false, nat_le, List, ◌∷◌, Option, Some, None, is_none, Ok, Err}
 use Rattle.c_tree.specs.declared.c_type.TypeWord.{TypeWord}
-use Rattle.c_tree.specs.Extents.{TypeExtent, structure_extent}
-use Rattle.c_tree.specs.Kinds.{pointer, size_of_kind}
+use Rattle.c_tree.specs.declared.c_type.TypeWord.TheVariants as word
+use Rattle.c_tree.specs.declared.expression.Kind.{Kind}
+use Rattle.c_tree.specs.declared.expression.Kind.TheVariants as kind
+use Rattle.c_tree.specs.Extents.{TypeExtent, extent_of, structure_extent}
+use Rattle.c_tree.specs.Kinds.{pointer, is_size, size_of_kind}
 use Rattle.c_tree.specs.Tree.{kind_of, lvalue_kind}
 use Rattle.c_tree.specs.TypesAgree.{kind_of_type}
 use Rattle.c_tree.specs.Valid.{Scope, is_valid, is_converted, is_valid_lvalue, is_plain}
@@ -16,10 +19,40 @@ use Rattle.c_place_rules.specs.Operands.{Place, Variable, Operand, a_value, a_pl
 use Rattle.c_place_rules.specs.Operands.{variable_value}
 use Rattle.c_place_rules.specs.Places.{Member, structure_of}
 
--- a valid lvalue of a complete type: what it designates has the bytes and the kind of that type
+-- an array of unknown size, or of elements whose size is not known, or a structure or union whose members are not known
+-- (6.2.5 paragraph 22)
+abbrev pub is_unsized : List (Option TypeExtent) → List TypeWord → Bool
+is_unsized structures (word.Array count bytes ∷ element) = is_none (extent_of structures element)
+is_unsized structures (word.OpenArray ∷ element) = true
+is_unsized structures (word.Structure n ∷ behind) = is_none (structure_extent structures n)
+is_unsized structures (word.Const ∷ type) = is_unsized structures type
+is_unsized structures type = false
+
+-- the bytes of an object of a type where it is named: none are counted of one that is not complete there
+pub data IsSized (structures : List (Option TypeExtent)) (type : List TypeWord) (bytes : ℕ) : Type 0 where
+  complete : target_of structures type ≡ Object bytes → IsSized structures type bytes
+  unsized : is_unsized structures type ≡ true → bytes ≡ 0 → IsSized structures type bytes
+
+-- a valid lvalue: what it designates has the bytes and the kind that its type tells
 pub record IsFinePlace (scope : Scope) (structures : List (Option TypeExtent)) (p : Place) : Type 0 where
   pub valid : is_valid_lvalue scope p.tree ≡ true
-  pub sized : target_of structures p.type ≡ Object (size_of_kind (lvalue_kind p.tree))
+  pub sized : IsSized structures p.type (size_of_kind (lvalue_kind p.tree))
+  pub kind : lvalue_kind p.tree ≡ object_kind (size_of_kind (lvalue_kind p.tree)) p.type
+
+-- the kind of an array or a structure whose size is not known where it is named
+abbrev pub is_unsized_kind : Kind → Bool
+is_unsized_kind (kind.Array bytes) = bytes == 0
+is_unsized_kind (kind.Structure bytes) = bytes == 0
+is_unsized_kind k = false
+
+pub data WasSized (structures : List (Option TypeExtent)) (type : List TypeWord) (k : Kind) : Type 0 where
+  complete_as : target_of structures type ≡ Object (size_of_kind k) → WasSized structures type k
+  unsized_as : is_unsized_kind k ≡ true → WasSized structures type k
+
+-- a valid lvalue that was named where fewer structures may have been complete
+pub record IsEarlierPlace (scope : Scope) (structures : List (Option TypeExtent)) (p : Place) : Type 0 where
+  pub valid : is_valid_lvalue scope p.tree ≡ true
+  pub sized : WasSized structures p.type (lvalue_kind p.tree)
   pub kind : lvalue_kind p.tree ≡ object_kind (size_of_kind (lvalue_kind p.tree)) p.type
 
 -- the name of a plain variable of this kind
@@ -39,6 +72,23 @@ IsFineOperand scope structures (a_place p) = IsFinePlace scope structures p
 IsFineOperand scope structures (a_variable x) = IsFineVariable scope structures x
 IsFineOperand scope structures (a_function f) = IsFineFunction scope f
 
+abbrev pub IsEarlierOperand : Scope → List (Option TypeExtent) → Operand → Type 0
+IsEarlierOperand scope structures (a_value v) = IsFine scope structures v
+IsEarlierOperand scope structures (a_place p) = IsEarlierPlace scope structures p
+IsEarlierOperand scope structures (a_variable x) = IsFineVariable scope structures x
+IsEarlierOperand scope structures (a_function f) = IsFineFunction scope f
+
+-- an operand that may be read: a structure or union is complete there (6.3.2.1 paragraph 2)
+
+abbrev pub is_incomplete_structure : List (Option TypeExtent) → List TypeWord → Bool
+is_incomplete_structure structures (word.Structure n ∷ behind) = is_none (structure_extent structures n)
+is_incomplete_structure structures (word.Const ∷ type) = is_incomplete_structure structures type
+is_incomplete_structure structures type = false
+
+abbrev pub IsReadable : List (Option TypeExtent) → Operand → Type 0
+IsReadable structures (a_place p) = is_incomplete_structure structures p.type ≡ false
+IsReadable structures o = Unit {0}
+
 abbrev pub IfFinePlace : Scope → List (Option TypeExtent) → Answer Place → Type 0
 IfFinePlace scope structures (Ok p) = IsFinePlace scope structures p
 IfFinePlace scope structures (Err f) = Unit {0}
@@ -47,12 +97,14 @@ abbrev pub IfFineOperand : Scope → List (Option TypeExtent) → Answer Operand
 IfFineOperand scope structures (Ok o) = IsFineOperand scope structures o
 IfFineOperand scope structures (Err f) = Unit {0}
 
--- a member that lies in the structure or union with a number
+-- a member that lies in the structure or union with a number, which is complete
 pub record IsMemberOf (structures : List (Option TypeExtent)) (number : ℕ) (m : Member) : Type 0 where
   pub sized : target_of structures m.type ≡ Object m.size
   pub small : nat_le (m.offset + m.size) (2 ^ 32) ≡ true
-  pub inside : (whole : TypeExtent) → structure_extent structures number ≡ Some whole
-      → nat_le (m.offset + m.size) whole.size ≡ true
+  pub whole : TypeExtent
+  pub complete : structure_extent structures number ≡ Some whole
+  pub object : is_size whole.size ≡ true
+  pub inside : nat_le (m.offset + m.size) whole.size ≡ true
 
 -- what was found in a structure, if a type is one, is a member of it
 abbrev pub IsFound : List (Option TypeExtent) → (number : Option ℕ) → Option Member → Type 0

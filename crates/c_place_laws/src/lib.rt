@@ -11,13 +11,13 @@ ghost use Rattle.c_rules.specs.Values.{Value};
 ghost use Rattle.c_place_rules.specs.Operands.{Operand, enclosed, value_in};
 ghost use Rattle.c_place_rules.specs.Places.{Member, address, arrow, dereferenced, indexed, selected, size_of};
 ghost use Rattle.c_place_rules.specs.Places.{structure_of, type_in};
-ghost use Rattle.c_place_laws.specs.FinePlaces.{IfFineOperand, IfFinePlace, IsFineOperand, IsFound, IsFoundBehind};
+ghost use Rattle.c_place_laws.specs.FinePlaces.{IfFineOperand, IfFinePlace, IsFineOperand, IsFound, IsFoundBehind, IsReadable};
 
-/// The value of a valid operand is valid: what an lvalue holds, the pointer to the first element of an array, the
-/// pointer to a function; and a valid operand stays one in parentheses.
+/// The value of a valid operand is valid: what an lvalue of a complete type holds, the pointer to the first element of
+/// an array, the pointer to a function; and a valid operand stays one in parentheses.
 pub fn operands_have_valid_values()
     ensures value { (scope : Scope) (structures : List (Option TypeExtent)) (o : Operand)
-        → IsFineOperand scope structures o → IfFine scope structures (value_in o) }
+        → IsFineOperand scope structures o → IsReadable structures o → IfFine scope structures (value_in o) }
     ensures enclosed { (scope : Scope) (structures : List (Option TypeExtent)) (line : ℕ) (o : Operand)
         → IsFineOperand scope structures o → IfFineOperand scope structures (enclosed line o) }
 {}

@@ -1,6 +1,6 @@
 -- What makes an expression valid: each node has the kind that C99 6.5 gives it, and each name stands for something of
 -- that kind that can be named there.
-use Rattle.std.specs.Prelude.{ℕ, ◌+◌, ◌^◌, Bool, true, false, not, ◌&&◌, ◌==◌, nat_lt, nat_le, List, [], length, Option}
+use Rattle.std.specs.Prelude.{ℕ, ◌+◌, ◌^◌, Bool, true, false, not, ◌&&◌, ◌||◌, ◌==◌, nat_lt, nat_le, List, [], length, Option}
 use Rattle.std.specs.Prelude.{Some, None, get_or}
 use Rattle.obj_memory.specs.declared.int_type.IntType.{IntType}
 use Rattle.obj_memory.specs.declared.int_type.IntType.TheVariants.{Int, Long}
@@ -59,11 +59,20 @@ variable_at scope x = at_number scope.variables x
 abbrev pub is_plain : Scope → ℕ → Kind → Bool
 is_plain scope x k = not (variable_at scope x).is_object && is_kind (variable_at scope x).kind k && is_scalar k
 
+-- an array or a structure may be named where its size is not known yet (6.2.5 paragraph 22): there it counts no bytes
+abbrev pub is_unsized : (declared named : Kind) → Bool
+is_unsized (kind.Array size) (kind.Array bytes) = bytes == 0
+is_unsized (kind.Structure size) (kind.Structure bytes) = bytes == 0
+is_unsized _ _ = false
+
+abbrev pub is_named_as : (declared named : Kind) → Bool
+is_named_as declared named = is_kind declared named || is_unsized declared named
+
 abbrev pub is_static : Scope → ℕ → Kind → Bool
-is_static scope n k = nat_lt n (length scope.statics) && is_kind (get_or scope.statics n kind.Void) k
+is_static scope n k = nat_lt n (length scope.statics) && is_named_as (get_or scope.statics n kind.Void) k
 
 abbrev pub is_automatic : Scope → ℕ → Kind → Bool
-is_automatic scope x k = (variable_at scope x).is_object && is_kind (variable_at scope x).kind k
+is_automatic scope x k = (variable_at scope x).is_object && is_named_as (variable_at scope x).kind k
 
 -- a unary operator (6.5.3.3)
 abbrev pub is_operand : UnaryOperator → (operand result : Kind) → Bool

@@ -200,7 +200,11 @@ body = record {
                       15,
                       record { next = 19; breaks = 25; continues = 24; returns = 26 },
                       (refl, refl),
-                      (17, (16, (16, 16, refl, refl, refl), refl), (19, (26, (18, Some 0, refl, refl, refl), refl), refl)),
+                      (
+                        17,
+                        (16, (16, 16, refl, refl, refl), refl),
+                        (19, (26, (18, Some 0, refl, refl, refl), refl), refl),
+                      ),
                     ),
                   ),
                   (22, (20, 21, None, tt, refl, refl, refl), (24, (23, refl, refl), refl)),

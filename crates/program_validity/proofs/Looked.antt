@@ -10,9 +10,9 @@ use Rattle.c_tree.specs.declared.program.Function as ru
 use Rattle.c_tree.specs.declared.program.FunctionType as rt
 use Rattle.c_tree.specs.declared.program.Program as rg
 use Rattle.c_tree.specs.declared.program.StaticObject as ro
-use Rattle.c_tree.specs.Kinds.{Signature, is_kind}
+use Rattle.c_tree.specs.Kinds.{Signature}
 use Rattle.c_tree.specs.Programs.{Program}
-use Rattle.c_tree.specs.Valid.{has_number, is_call, is_static, no_signature}
+use Rattle.c_tree.specs.Valid.{has_number, is_call, is_named_as, is_static, no_signature}
 use Rattle.c_tree.specs.ValidProgram.{is_main, is_main_signature, signature_at, signature_of}
 use Rattle.c_tree.specs.ValidProgram.{variables_of_function}
 use Rattle.c_tree.specs.Blocks.{all_of}
@@ -63,20 +63,20 @@ statics_are (o ∷ os) = ap (λ z. o.kind ∷ z) (statics_are os)
 
 -- a static object
 pub static_there : (s : code.Scope) (os : List ro.StaticObject) (n : ℕ) (o : ro.StaticObject) (k : Kind) (r : Bool)
-    → os ≡ s.program.now.statics → true ≡ nat_lt n (length os) → o ≡ get_or os n o → r ≡ is_kind o.kind k
+    → os ≡ s.program.now.statics → true ≡ nat_lt n (length os) → o ≡ get_or os n o → r ≡ is_named_as o.kind k
     → r ≡ is_static (scope_of s) n k
 unfolding scope_of
 static_there s os n o k r same low is result =
-    result ∙ sym (found kind_of_static kind.Void os n o (λ z. is_kind z k) low is)
-    ∙ ap (λ z. has_number z n && is_kind (get_or z n kind.Void) k)
+    result ∙ sym (found kind_of_static kind.Void os n o (λ z. is_named_as z k) low is)
+    ∙ ap (λ z. has_number z n && is_named_as (get_or z n kind.Void) k)
     (sym (statics_are os) ∙ ap (λ z. map (λ s. s.kind) (map static_of z)) same)
 
 pub static_missing : (s : code.Scope) (os : List ro.StaticObject) (n : ℕ) (k : Kind) → os ≡ s.program.now.statics
     → false ≡ nat_lt n (length os) → false ≡ is_static (scope_of s) n k
 unfolding scope_of
 static_missing s os n k same past =
-    missing kind_of_static os n (is_kind (get_or (map kind_of_static os) n kind.Void) k) past
-    ∙ ap (λ z. has_number z n && is_kind (get_or z n kind.Void) k)
+    missing kind_of_static os n (is_named_as (get_or (map kind_of_static os) n kind.Void) k) past
+    ∙ ap (λ z. has_number z n && is_named_as (get_or z n kind.Void) k)
     (sym (statics_are os) ∙ ap (λ z. map (λ s. s.kind) (map static_of z)) same)
 
 abbrev signature_in : Program → ru.Function → Signature

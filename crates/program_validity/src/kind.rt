@@ -4,7 +4,7 @@ ghost use Rattle.std.specs.Prelude.{◌≡◌, ◌+◌, ◌==◌, ◌^◌, nat_l
 ghost use Rattle.c_tree.specs.Kinds.{has_member, has_size, int_number, integer, is_array, is_int_type, is_integer};
 ghost use Rattle.c_tree.specs.Kinds.{is_kind, is_promoted, is_promoted_type, is_scalar, is_size, is_value, pointer};
 ghost use Rattle.c_tree.specs.Kinds.{size_of_kind};
-ghost use Rattle.c_tree.specs.Valid.{is_member};
+ghost use Rattle.c_tree.specs.Valid.{is_member, is_named_as, is_unsized};
 
 use c_tree::{Kind, MAX_SIZE};
 use obj_memory::{IntType, Scalar};
@@ -27,6 +27,25 @@ pub fn is_kind(left: Kind, right: Kind) -> bool
         (Kind::Structure(m), Kind::Structure(n)) | (Kind::Array(m), Kind::Array(n)) => m == n,
         _ => false,
     }
+}
+
+// Whether both are arrays, or both are structures, and the second has no bytes: it is named where its size is not known.
+fn is_unsized(declared: Kind, named: Kind) -> bool
+    ensures { result ≡ is_unsized declared named }
+{
+    match (declared, named) {
+        (Kind::Array(_), Kind::Array(bytes)) | (Kind::Structure(_), Kind::Structure(bytes)) => bytes
+            == 0,
+        _ => false,
+    }
+}
+
+/// Whether the name of an object of a kind may stand as an lvalue of another: of the same, or, where the size of an array
+/// or a structure is not known yet, of one without bytes (C99 6.2.5 paragraph 22).
+pub fn is_named_as(declared: Kind, named: Kind) -> bool
+    ensures { result ≡ is_named_as declared named }
+{
+    is_kind(declared, named) || is_unsized(declared, named)
 }
 
 /// Whether a kind is that of an integer type.

@@ -10,7 +10,7 @@ ghost use Rattle.c_tree.specs.ValidProgram.{signature_at};
 ghost use Rattle.c_tree.specs.View.{expression_of, program_of};
 ghost use Rattle.program_validity.specs.View.{scope_of};
 
-use crate::kind::{is_kind, is_pointer, is_scalar};
+use crate::kind::{is_kind, is_named_as, is_pointer, is_scalar};
 use crate::routine::are_arguments;
 use c_tree::{Expression, Kind, Program, Variable};
 
@@ -92,7 +92,7 @@ pub fn is_automatic(scope: &Scope, number: usize, kind: Kind) -> bool
     ensures { result ≡ is_automatic (scope_of scope.now) number kind }
 {
     let variable = variable_at(scope, number);
-    variable.is_object && is_kind(variable.kind, kind)
+    variable.is_object && is_named_as(variable.kind, kind)
 }
 
 /// Whether the static object with a number is there, of a kind.
@@ -101,7 +101,7 @@ pub fn is_static(scope: &Scope, number: usize, kind: Kind) -> bool
 {
     match scope.program.statics.as_slice().get(number) {
         None => false,
-        Some(object) => is_kind(object.kind, kind),
+        Some(object) => is_named_as(object.kind, kind),
     }
 }
 

@@ -79,6 +79,11 @@ IsStructureWith (OfScalar k) bytes = ⊥
 IsStructureWith (Structure n) bytes = bytes ≤ n
 IsStructureWith (Array n) bytes = ⊥
 
+-- an object that is declared with a kind has the bytes of the kind that its name stands for
+abbrev pub IsNamedAs : (declared : Option Kind) → Kind → Type 0
+IsNamedAs None named = ⊥
+IsNamedAs (Some declared) named = size_of_kind named ≤ size_of_kind declared
+
 abbrev mutual
   pub Names : Scope → Expression → Type 0
   Names sc (expression kind line node) = ValueNames sc node kind
@@ -129,8 +134,8 @@ abbrev mutual
   LvalueNames sc (lvalue kind line node) = PlaceNames sc node kind
 
   pub PlaceNames : Scope → LvalueNode → Kind → Type 0
-  PlaceNames sc (automatic x) kind = object_kind sc.variables x ≡ Some kind
-  PlaceNames sc (static n) kind = static_kind sc.statics n ≡ Some kind
+  PlaceNames sc (automatic x) kind = IsNamedAs (object_kind sc.variables x) kind
+  PlaceNames sc (static n) kind = IsNamedAs (static_kind sc.statics n) kind
   PlaceNames sc (deref a) kind = Names sc a
   PlaceNames sc (index form size a b) kind = Names sc a × Names sc b
   PlaceNames sc (member p offset size) kind = LvalueNames sc p × (offset + size ≤ size_of_kind (lvalue_kind p))

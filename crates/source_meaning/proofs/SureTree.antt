@@ -49,7 +49,8 @@ use Rattle.source_meaning.specs.Structures.{rvalue, give, as_rvalue, values_of, 
 use Rattle.source_meaning.specs.Expressions.{header_at, has_type, callee_by, callee, argument, counted, nodes_of}
 use Rattle.source_meaning.specs.Expressions.{is_judged, is_node_judged, value, place, node_place, values, evaluate}
 use Rattle.source_meaning.specs.Initializers.{store_bytes, store_content, store_parts, initialize, initialize_all}
-use Rattle.source_meaning.proofs.Naming.{IsNoStructure, IsStructureWith, IsConstantOf, PlainNames, UpdatesKind}
+use Rattle.source_meaning.proofs.Naming.{IsNamedAs, IsNoStructure, IsStructureWith, IsConstantOf, PlainNames}
+use Rattle.source_meaning.proofs.Naming.{UpdatesKind}
 use Rattle.source_meaning.proofs.Naming.{ValueNames, LvalueNames, PlaceNames, RowNames, Names, ContentNames, PartsName}
 use Rattle.source_meaning.proofs.Naming.{InitializerNames, DeclaredName}
 use Rattle.source_meaning.specs.Keeping.{IsNamed}
@@ -223,21 +224,36 @@ structure_reach functions (OfScalar s) bytes v h k = absurd h
 structure_reach functions (Structure n) bytes v h k = k n h (λ o d. d)
 structure_reach functions (Array n) bytes v h k = absurd h
 
-pub home_sure : {sc : Context} (x : ℕ) (kind : Kind) → object_kind sc.scope.variables x ≡ Some kind → (s : State)
+-- a name that stands for as many bytes as an object has, or for fewer
+named_as : (functions : ℕ) (o : Option Kind) (kind : Kind) (v : Value) (objects : Objects)
+    → ((declared : Kind) → o ≡ Some declared → PlaceIs functions OnName declared v objects) → IsNamedAs o kind
+    → PlaceIs functions OnName kind v objects
+named_as functions None kind v objects h e = absurd e
+named_as functions (Some declared) kind v objects h e =
+    let place = h declared refl in
+    (place.0, named_less objects v (size_of_kind declared) (size_of_kind kind) e place.1)
+
+pub named_same : (o : Option Kind) (kind : Kind) → o ≡ Some kind → IsNamedAs o kind
+named_same o kind e = subst (λ x. IsNamedAs x kind) (sym e) (omega arith)
+
+pub home_sure : {sc : Context} (x : ℕ) (kind : Kind) → IsNamedAs (object_kind sc.scope.variables x) kind → (s : State)
     → IsGood sc s → PlaceIs (function_count sc) OnName kind (home_pointer x s) s.objects
 home_sure {sc = sc} x kind e s good =
-    let h = good.homes x kind e in
-    subst (λ (home : Home). PlaceIs (function_count sc) OnName kind (home_value home s.objects) s.objects) (sym h.home) (
+    named_as (function_count sc) (object_kind sc.scope.variables x) kind (home_pointer x s) s.objects (λ declared is.
+    let h = good.homes x declared is in
+    subst (λ (home : Home). PlaceIs (function_count sc) OnName declared (home_value home s.objects) s.objects)
+    (sym h.home) (
       sound_pointer _ h.object s.objects h.held.made (low_word s.objects h.object good.low),
-      held_named s.objects
-          h.object kind h.held,
-    )
+      held_named s.objects h.object declared h.held,
+    )) e
 
-static_sure : {sc : Context} (n : ℕ) (kind : Kind) → static_kind sc.scope.statics n ≡ Some kind → (s : State)
+static_sure : {sc : Context} (n : ℕ) (kind : Kind) → IsNamedAs (static_kind sc.scope.statics n) kind → (s : State)
     → IsGood sc s → PlaceIs (function_count sc) OnName kind (pointer_to n s.objects) s.objects
-static_sure n kind e s good =
-    let h = good.statics n kind e in
-    (sound_pointer _ n s.objects h.made (low_word s.objects n good.low), held_named s.objects n kind h)
+static_sure {sc = sc} n kind e s good =
+    named_as (function_count sc) (static_kind sc.scope.statics n) kind (pointer_to n s.objects) s.objects
+    (λ declared is.
+    let h = good.statics n declared is in
+    (sound_pointer _ n s.objects h.made (low_word s.objects n good.low), held_named s.objects n declared h)) e
 
 place_named : (functions : ℕ) (kind : Kind) (v : Value) (o : Objects)
     → PlaceIs functions OnName kind v o × IsWord functions v.word → LvalueIs functions OnName kind (rvalue v) o
@@ -416,7 +432,8 @@ module _ {sc : Context} {env : Env} (c : Calling sc env) where
         (sure_weak (λ o x. (
           arguments_tagged _ (kinds_of args) vs o x,
           subst
-              (λ ks. AreOfKinds (function_count sc) ks (values_of vs)) h.1 (arguments_of_kinds _ (kinds_of args) vs o x),
+              (λ ks. AreOfKinds (function_count sc) ks (values_of vs)) h.1
+              (arguments_of_kinds _ (kinds_of args) vs o x),
         ))
         (c.library name (values_of vs) line)))))))
     value_sure (printf format args) kind line h =
@@ -547,7 +564,8 @@ module _ {sc : Context} {env : Env} (c : Calling sc env) where
   initialize_sure x (Some (of_object parts)) h =
       sure_on (sure_zero_variable x) (λ _.
       sure_on (sure_read {Q = λ v. IsBase v (size_of_kind h.0)} {f = home_pointer x}
-      (λ s good y. home_sure x h.0 h.1 s good)) (λ p. parts_sure p (size_of_kind h.0) parts h.2))
+      (λ s good y. home_sure x h.0 (named_same (object_kind sc.scope.variables x) h.0 h.1) s good))
+      (λ p. parts_sure p (size_of_kind h.0) parts h.2))
 
   pub initialize_all_sure : (ds : List DeclaredVariable) → DeclaredName sc.scope ds
       → Sure sc Any (initialize_all env ds) (λ _. Any)

@@ -3,7 +3,8 @@ use Rattle.source_meaning.specs.Good.{basis_of, node_basis, object_kind, plain_t
 use Rattle.source_meaning.specs.Good.{static_kind}
 use Rattle.c_tree.specs.Valid.{Scope}
 use Rattle.std.proofs.Common.{◌≡◌, ℕ, ◌+◌, ◌^◌, ◌<◌, ◌≤◌, nat_le, nat_lt, length, List, [], ◌∷◌, Bool, true, false}
-use Rattle.std.proofs.Common.{◌&&◌, ◌==◌, not, zero, suc, None, if◌then◌else◌, Some, get_or, refl, sym, ap, ◌∙◌, subst}
+use Rattle.std.proofs.Common.{◌&&◌, ◌||◌, ◌==◌, not, zero, suc, None, if◌then◌else◌, Some, get_or, refl, sym, ap, ◌∙◌}
+use Rattle.std.proofs.Common.{subst}
 use Rattle.std.proofs.Common.{arith}
 use Rattle.std.proofs.lemmas.Bool.{eqb-true, leb-true, ltb-true}
 use Rattle.obj_memory.specs.declared.int_type.IntType.{IntType}
@@ -34,10 +35,11 @@ use Rattle.c_tree.specs.Kinds.{size_of_kind, is_integer, is_promoted_type, is_sc
 use Rattle.c_tree.specs.Kinds.{class_of, are_operands, routine_signature}
 use Rattle.c_tree.specs.Valid.{is_constant, is_plain, is_operand, is_conversion, is_right_of, is_update, is_step}
 use Rattle.c_tree.specs.Valid.{is_call, no_signature, is_lvalue, is_lvalue_node, is_member, is_valid, is_node}
-use Rattle.c_tree.specs.Valid.{are_valid, is_valid_lvalue, is_valid_lvalue_node}
+use Rattle.c_tree.specs.Valid.{are_valid, is_valid_lvalue, is_valid_lvalue_node, is_named_as, is_unsized}
 use Rattle.c_tree.specs.declared.program.Variable.{Variable}
 use Rattle.c_tree.specs.Valid as valid
-use Rattle.source_meaning.proofs.Naming.{IsNoStructure, IsWritable, IsStructureWith, IsConstantOf, PlainNames}
+use Rattle.source_meaning.proofs.Naming.{IsNamedAs, IsNoStructure, IsWritable, IsStructureWith, IsConstantOf}
+use Rattle.source_meaning.proofs.Naming.{PlainNames}
 use Rattle.source_meaning.proofs.Naming.{UpdatesKind, Names, ValueNames, LvalueNames, PlaceNames, RowNames}
 
 -- tests that hold
@@ -126,6 +128,30 @@ same_kinds (k ∷ ks) [] e = never e
 same_kinds (k ∷ ks) (t ∷ ts) e =
     let h = both (is_kind k t) (are_kinds ks ts) e in ap (λ x. x ∷ ks) (same_kind k t h.0)
     ∙ ap (λ xs. t ∷ xs) (same_kinds ks ts h.1)
+
+-- a name stands for the bytes of its object, or for none
+unsized_within : (declared named : Kind) → is_unsized declared named ≡ true
+    → size_of_kind named ≤ size_of_kind declared
+unsized_within Void named e = never e
+unsized_within (OfScalar s) named e = never e
+unsized_within (Structure m) Void e = never e
+unsized_within (Structure m) (OfScalar s) e = never e
+unsized_within (Structure m) (Structure n) e = let none = eqb-true n 0 e in omega arith
+unsized_within (Structure m) (Array n) e = never e
+unsized_within (Array m) Void e = never e
+unsized_within (Array m) (OfScalar s) e = never e
+unsized_within (Array m) (Structure n) e = never e
+unsized_within (Array m) (Array n) e = let none = eqb-true n 0 e in omega arith
+
+named_by : (b : Bool) (declared named : Kind) → is_kind declared named ≡ b
+    → (b || is_unsized declared named) ≡ true → size_of_kind named ≤ size_of_kind declared
+named_by true declared named same e =
+    let bytes = ap size_of_kind (same_kind declared named same) in omega arith
+named_by false declared named same e = unsized_within declared named e
+
+pub named_within : (declared named : Kind) → is_named_as declared named ≡ true
+    → size_of_kind named ≤ size_of_kind declared
+named_within declared named e = named_by (is_kind declared named) declared named refl e
 
 -- kinds that are no structures
 
@@ -223,7 +249,7 @@ mutual
 
 -- what a scope of validity and one of names have in common
 pub record Agree (scope : valid.Scope) (sc : Scope) : Type 0 where
-  pub static : (n : ℕ) (k : Kind) → valid.is_static scope n k ≡ true → static_kind sc.statics n ≡ Some k
+  pub static : (n : ℕ) (k : Kind) → valid.is_static scope n k ≡ true → IsNamedAs (static_kind sc.statics n) k
   pub all : scope.all ≡ sc.all
   pub variables : scope.variables ≡ sc.variables
   pub functions : scope.functions ≡ sc.functions
@@ -407,8 +433,8 @@ module _ {scope : valid.Scope} {sc : Scope} (g : Agree scope sc) where
     place_names : (n : LvalueNode) (k : Kind) → is_valid_lvalue_node scope n k ≡ true → PlaceNames sc n k
     place_names (automatic x) k e =
         let v = valid.variable_at scope x in
-        let h = both v.is_object (is_kind v.kind k) e in
-        object_named g x h.0 ∙ ap Some (same_kind v.kind k h.1)
+        let h = both v.is_object (is_named_as v.kind k) e in
+        subst (λ o. IsNamedAs o k) (sym (object_named g x h.0)) (named_within v.kind k h.1)
     place_names (static n) k e = g.static n k e
     place_names (deref a) k e = names a (three (is_valid scope a) _ _ e).0
     place_names (index form size a b) k e =

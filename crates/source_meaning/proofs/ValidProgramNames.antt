@@ -18,7 +18,7 @@ use Rattle.c_tree.specs.Statements.{do_while, for, switch, break, continue, retu
 use Rattle.c_tree.specs.Statements.{statements, SwitchItems, no_items, items}
 use Rattle.c_tree.specs.Kinds.{has_size, is_kind, size_of_kind, is_scalar, is_value}
 use Rattle.c_tree.specs.Valid as valid
-use Rattle.c_tree.specs.Valid.{has_number, within, is_valid, is_condition, is_plain}
+use Rattle.c_tree.specs.Valid.{has_number, within, is_named_as, is_valid, is_condition, is_plain}
 use Rattle.c_tree.specs.ValidProgram.{content_size, is_content, is_part, are_parts, is_initializer, are_declared}
 use Rattle.c_tree.specs.ValidProgram.{is_first, is_condition_if, is_expression_if, is_return, Inside, in_loop}
 use Rattle.c_tree.specs.ValidProgram.{in_switch, is_statement, are_statements, are_items, is_function_type}
@@ -27,11 +27,12 @@ use Rattle.c_tree.specs.ValidProgram.{is_function, are_functions, name_variables
 use Rattle.c_tree.specs.ValidProgram.{is_function_number, is_static_object, is_main, is_main_signature}
 use Rattle.c_tree.specs.ValidProgram.{is_valid_program}
 use Rattle.c_tree.specs.Blocks.{opened, all_of, body_variables, block_variables, switch_variables, first_variables}
-use Rattle.source_meaning.proofs.Naming.{Names, NamesIfAny, ContentNames, PartsName, InitializerNames, DeclaredName}
+use Rattle.source_meaning.proofs.Naming.{IsNamedAs, Names, NamesIfAny, ContentNames, PartsName, InitializerNames}
+use Rattle.source_meaning.proofs.Naming.{DeclaredName}
 use Rattle.source_meaning.proofs.Naming.{FirstNames, ReturnNames, StatementNames, StatementsName, ItemsName, kinds_in}
 use Rattle.source_meaning.proofs.Naming.{names_of, FunctionNames, FunctionsName, file_scope, StaticsName, NamesObjects}
 use Rattle.source_meaning.proofs.ValidNames.{both, three, five, six, never, same_kind, Agree, object_named, plain_names}
-use Rattle.source_meaning.proofs.ValidNames.{names}
+use Rattle.source_meaning.proofs.ValidNames.{named_within, names}
 
 -- a block that declares some variables
 within_agree : {scope : valid.Scope} {sc : Scope} (numbers : List ℕ) → Agree scope sc
@@ -149,10 +150,10 @@ mutual
 later : (n m : ℕ) → nat_lt (suc n) (suc m) ≡ true → nat_lt n m ≡ true
 later n m e = lt-ltb n m (let lt = ltb-true (suc n) (suc m) e in omega arith)
 
-static_at : (ks : List Kind) (n : ℕ) (k : Kind) → nat_lt n (length ks) ≡ true → is_kind (get_or ks n Void) k ≡ true
-    → static_kind ks n ≡ Some k
+static_at : (ks : List Kind) (n : ℕ) (k : Kind) → nat_lt n (length ks) ≡ true
+    → is_named_as (get_or ks n Void) k ≡ true → IsNamedAs (static_kind ks n) k
 static_at [] n k lt e = let never = ltb-true n 0 lt in absurd (omega arith)
-static_at (j ∷ ks) zero k lt e = ap Some (same_kind j k e)
+static_at (j ∷ ks) zero k lt e = named_within j k e
 static_at (j ∷ ks) (suc n) k lt e = static_at ks n k (later n (length ks) lt) e
 
 -- a scope of validity names what is there

@@ -4,6 +4,7 @@
 use Rattle.std.proofs.Common.{◌≡◌, [], ◌∷◌, Some, None, refl}
 use Rattle.std.specs.Prelude.{codes}
 use Rattle.c_lexer.specs.declared.keyword.Keyword.TheVariants as keyword
+use Rattle.c_lexer.specs.declared.punctuator.Punctuator.TheVariants as sign
 use Rattle.c_syntax.specs.Statements as s
 use Rattle.c_syntax.specs.Tree as t
 use Rattle.c_rules.specs.declared.fault.Rule.TheVariants as rule
@@ -98,6 +99,62 @@ unfolding balanced_type common_type fit is_signed mixed_type promoted rank size_
     composite judged start reached reached_by reached_in element_number member_number number_behind part closed opened
     with_literal with_value without typed_unit
 never_complete = refl
+
+-- struct S s;int f(void){
+-- s;return 0;}struct S{int a;};int main(void){return 0;}
+read_before_its_members :
+    (source ((s.declaration (declaration (t.specifiers (t.structure keyword.Struct (at 1) (spelled (codes "S") 1))
+    t.no_specifiers) (Some (declarators (init_declarator (t.named (spelled (codes "s") 1)) None) [])) (at 1))) ∷
+    (s.definition (t.specifiers (word keyword.Int 1) t.no_specifiers) (t.function (t.named (spelled (codes "f") 1))
+    (at 1) (t.void_parameters (at 1)) (at 1)) (s.block (at 1) (s.items (s.inner (s.expression (Some (t.identifier
+    (spelled (codes "s") 2))) (at 2))) (s.items (s.inner (s.return (at 2) (Some (t.integer (spelled (codes "0") 2)))
+    (at 2))) s.no_items)) (at 2))) ∷ (s.declaration (declaration (t.specifiers (t.structure_body keyword.Struct (at 2)
+    (Some (spelled (codes "S") 2)) (at 2) (t.members (t.member_declaration (t.specifiers (word keyword.Int 2)
+    t.no_specifiers) (t.named (spelled (codes "a") 2)) t.end_of_declarators (at 2)) t.no_members) (at 2))
+    t.no_specifiers) None (at 2))) ∷ (s.definition (t.specifiers (word keyword.Int 2) t.no_specifiers) (t.function
+    (t.named (spelled (codes "main") 2)) (at 2) (t.void_parameters (at 2)) (at 2)) (s.block (at 2) (s.items (s.inner
+    (s.return (at 2) (Some (t.integer (spelled (codes "0") 2))) (at 2))) s.no_items) (at 2))) ∷ []) 2)
+    ≡ refused rule.Incomplete 2
+unfolding balanced_type common_type fit is_signed mixed_type promoted rank size_of unsigned_of binary_value
+    shift_amount unary_value constant_in constant_of greatest_of suffix_of typed types_of bytes_of_literal
+    character_value
+    characters_of escaped literal_step next_character extent_of array_size member_offsets structure_of union_of room
+    is_valid_program constant_word binary assigned cast row_of comma combined unary dereferenced indexed size_of_words
+    assignment compound stepped condition conditional switch_value called called_through routine_words composite judged
+    start reached reached_by reached_in element_number member_number number_behind part closed opened with_literal
+    with_value without typed_unit
+read_before_its_members = refl
+
+-- extern struct S s;int n=(s
+-- =*(struct S{int a;}*)0,1);struct S s;int main(void){return 0;}
+written_before_its_members :
+    (source ((s.declaration (declaration (t.specifiers (word keyword.Extern 1) (t.specifiers (t.structure
+    keyword.Struct (at 1) (spelled (codes "S") 1)) t.no_specifiers)) (Some (declarators (init_declarator (t.named
+    (spelled (codes "s") 1)) None) [])) (at 1))) ∷ (s.declaration (declaration (t.specifiers (word keyword.Int 1)
+    t.no_specifiers) (Some (declarators (init_declarator (t.named (spelled (codes "n") 1)) (Some (
+      (at 1),
+      (t.value
+          (t.parenthesized (at 1) (t.binary (t.assignment (t.identifier (spelled (codes "s") 1)) sign.Assign (at 2) (t.unary
+          sign.Star (at 2) (t.cast (at 2) (t.typed (t.specifiers (t.structure_body keyword.Struct (at 2) (Some (spelled
+          (codes "S") 2)) (at 2) (t.members (t.member_declaration (t.specifiers (word keyword.Int 2) t.no_specifiers)
+          (t.named (spelled (codes "a") 2)) t.end_of_declarators (at 2)) t.no_members) (at 2)) t.no_specifiers) (t.pointer
+          (at 2) [] t.unnamed)) (at 2) (t.integer (spelled (codes "0") 2))))) sign.Comma (at 2) (t.integer (spelled (codes
+          "1") 2))) (at 2))),
+    ))) [])) (at 2))) ∷ (s.declaration (declaration (t.specifiers (t.structure keyword.Struct (at 2)
+    (spelled (codes "S") 2)) t.no_specifiers) (Some (declarators (init_declarator (t.named (spelled (codes "s") 2))
+    None) [])) (at 2))) ∷ (s.definition (t.specifiers (word keyword.Int 2) t.no_specifiers) (t.function (t.named
+    (spelled (codes "main") 2)) (at 2) (t.void_parameters (at 2)) (at 2)) (s.block (at 2) (s.items (s.inner (s.return
+    (at 2) (Some (t.integer (spelled (codes "0") 2))) (at 2))) s.no_items) (at 2))) ∷ []) 2)
+    ≡ refused rule.Incomplete 2
+unfolding balanced_type common_type fit is_signed mixed_type promoted rank size_of unsigned_of binary_value
+    shift_amount unary_value constant_in constant_of greatest_of suffix_of typed types_of bytes_of_literal
+    character_value
+    characters_of escaped literal_step next_character extent_of array_size member_offsets structure_of union_of room
+    is_valid_program constant_word binary assigned cast row_of comma combined unary dereferenced indexed size_of_words
+    assignment compound stepped condition conditional switch_value called called_through routine_words composite judged
+    start reached reached_by reached_in element_number member_number number_behind part closed opened with_literal
+    with_value without typed_unit
+written_before_its_members = refl
 
 -- int main(void){void
 -- x;return 0;}

@@ -370,7 +370,7 @@ named_before_its_size :
     (s.definition (t.specifiers (word keyword.Int 1) t.no_specifiers) (t.function (t.named (spelled (codes "main") 1))
     (at 1) (t.void_parameters (at 1)) (at 1)) (s.block (at 1) (s.items (s.inner (s.return (at 1) (Some (t.integer
     (spelled (codes "0") 1))) (at 1))) s.no_items) (at 1))) ∷ []) 1)
-    ≡ accepted false ((12, (None, [])) ∷ []) (function 1 0 [] [] (other ∷ []) ∷ function 1 0 [] [] (number 0 ∷ []) ∷
+    ≡ accepted true ((12, (None, [])) ∷ []) (function 1 0 [] [] (other ∷ []) ∷ function 1 0 [] [] (number 0 ∷ []) ∷
     [])
 unfolding balanced_type common_type fit is_signed mixed_type promoted rank size_of unsigned_of binary_value
     shift_amount unary_value constant_in constant_of greatest_of suffix_of typed types_of bytes_of_literal
@@ -394,7 +394,7 @@ named_before_its_members :
     1)) t.no_specifiers) None (at 1))) ∷ (s.definition (t.specifiers (word keyword.Int 1) t.no_specifiers) (t.function
     (t.named (spelled (codes "main") 1)) (at 1) (t.void_parameters (at 1)) (at 1)) (s.block (at 1) (s.items (s.inner
     (s.return (at 1) (Some (t.integer (spelled (codes "0") 1))) (at 1))) s.no_items) (at 1))) ∷ []) 1)
-    ≡ accepted false ((4, (None, [])) ∷ []) (function 1 0 [] [] (other ∷ []) ∷ function 1 1 [] [] (number 0 ∷ []) ∷
+    ≡ accepted true ((4, (None, [])) ∷ []) (function 1 0 [] [] (other ∷ []) ∷ function 1 1 [] [] (number 0 ∷ []) ∷
     [])
 unfolding balanced_type common_type fit is_signed mixed_type promoted rank size_of unsigned_of binary_value
     shift_amount unary_value constant_in constant_of greatest_of suffix_of typed types_of bytes_of_literal
@@ -420,7 +420,7 @@ named_in_its_initializer :
           (at 1)),
     ))) [])) (at 1))) (s.items (s.inner (s.return (at 1) (Some (t.subscript (t.identifier (spelled (codes "a")
     1)) (at 1) (t.integer (spelled (codes "0") 1)) (at 1))) (at 1))) s.no_items)) (at 1))) ∷ []) 1)
-    ≡ accepted false [] (function 1 0 [] ((4, true) ∷ []) (other ∷ other ∷ []) ∷ [])
+    ≡ accepted true [] (function 1 0 [] ((4, true) ∷ []) (other ∷ other ∷ []) ∷ [])
 unfolding balanced_type common_type fit is_signed mixed_type promoted rank size_of unsigned_of binary_value
     shift_amount unary_value constant_in constant_of greatest_of suffix_of typed types_of bytes_of_literal
     character_value characters_of escaped literal_step next_character extent_of array_size member_offsets structure_of

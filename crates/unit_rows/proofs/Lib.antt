@@ -1,4 +1,4 @@
-mod Sources
+pub mod Sources
 mod Initializers
 mod Declarations
 mod DeclarationFaults

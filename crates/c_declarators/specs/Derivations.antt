@@ -6,6 +6,7 @@ use Rattle.c_tree.specs.declared.c_type.TypeWord.{TypeWord}
 use Rattle.c_tree.specs.declared.c_type.TypeWord.TheVariants as word
 use Rattle.c_tree.specs.Arrays.{array_word}
 use Rattle.c_tree.specs.Extents.{TypeExtent, extent_of}
+use Rattle.c_rules.specs.Types.{unqualified}
 use Rattle.c_scope.specs.Declaring.{is_function}
 use Rattle.c_declarators.specs.declared.faults.TypeFaults.{TypeFaults}
 use Rattle.c_declarators.specs.declared.derivation.BuiltType as code_built
@@ -69,7 +70,7 @@ array_built structures None b = record {
 array_built structures (Some count) b =
     sized_array (array_of count (extent_of structures b.type)) b (element_faults structures b.type)
 
--- 6.7.5.3: the result is no function and no array
+-- 6.7.5.3: the result is no function, const or not (6.7.3 paragraph 8), and no array
 
 abbrev pub is_array : List TypeWord → Bool
 is_array (word.Array count bytes ∷ element) = true
@@ -83,7 +84,8 @@ function_words (p ∷ ps) result = word.Takes ∷ p ++ function_words ps result
 abbrev pub function_built : (parameters : List (List TypeWord)) → BuiltType → BuiltType
 function_built ps b = record {
   type = function_words ps b.type;
-  faults = and_faults b.faults (record no_faults { misplaced = is_function b.type || is_array b.type });
+  faults =
+      and_faults b.faults (record no_faults { misplaced = is_function (unqualified b.type) || is_array b.type });
 }
 
 abbrev pub derived : List (Option TypeExtent) → Derivation → BuiltType → BuiltType

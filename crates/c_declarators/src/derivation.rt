@@ -8,6 +8,7 @@ ghost use Rattle.c_declarators.specs.Derivations.{pointer_words, sized_array, to
 ghost use Rattle.c_declarators.specs.Faults.{and_faults};
 
 use crate::faults::TypeFaults;
+use c_rules::value::unqualified;
 use c_scope::declaring::is_function;
 use c_tree::{CType, Extent, MAX_SIZE, TypeWord};
 use std::alloc::{AllocError, Global};
@@ -179,7 +180,7 @@ fn function(alloc: Global, parameters: &[CType], inner: BuiltType) -> Result<Bui
 {
     let result = inner.c_type.words();
     let faults = TypeFaults {
-        misplaced: is_function(result) || is_array(result),
+        misplaced: is_function(unqualified(result)) || is_array(result),
         ..TypeFaults::none()
     };
     let words = function_words(alloc, parameters, result)?;

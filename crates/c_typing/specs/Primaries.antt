@@ -3,7 +3,7 @@ use Rattle.std.specs.Prelude.{ℕ, ◌+◌, Bool, true, false, not, ◌&&◌, �
 use Rattle.std.specs.Prelude.{List, [], ◌∷◌, ◌++◌, length, Option, Some, None, Ok, slice_get}
 use Rattle.obj_memory.specs.declared.int_type.IntType.{IntType}
 use Rattle.obj_memory.specs.declared.int_type.IntType.TheVariants as int
-use Rattle.obj_memory.specs.Integers.{size_of}
+use Rattle.obj_memory.specs.Integers.{fit, size_of}
 use Rattle.c_lexer.specs.declared.integer.IntegerConstant.{IntegerConstant}
 use Rattle.c_lexer.specs.declared.integer.IntegerType.{IntegerType}
 use Rattle.c_lexer.specs.declared.integer.IntegerType.TheVariants as spelled_type
@@ -54,9 +54,9 @@ abbrev pub or_zero : Option ℕ → ℕ
 or_zero None = 0
 or_zero (Some n) = n
 
--- a character constant is an int (6.4.4.4 paragraph 10)
+-- a character constant is its character converted to int (6.4.4.4 paragraph 10)
 abbrev pub character_constant : (spelling : List ℕ) → (line : ℕ) → Value
-character_constant spelling line = constant_value line int.Int (or_zero (character_value spelling))
+character_constant spelling line = constant_value line int.Int (fit int.Int (or_zero (character_value spelling)))
 
 -- string literals (6.4.5): those that stand side by side are one, and a 0 ends it
 

@@ -72,7 +72,8 @@ pub fn character_constant(alloc: Global, spelling: &[u8], line: Line) -> Result<
         None => 0,
         Some(value) => value,
     };
-    constant_value(alloc, line, IntType::Int, u64::from(value))
+    let word = IntType::Int.fit(u64::from(value));
+    constant_value(alloc, line, IntType::Int, word)
 }
 
 /// The bytes of one string literal, without a final 0, behind others.

@@ -1,0 +1,14 @@
+pub mod Agreeing
+pub mod Lists
+pub mod Expressions
+pub mod Initializers
+pub mod Declarations
+pub mod Constructs
+pub mod Statements
+pub mod Files
+pub mod Order
+pub mod ExpressionParts
+pub mod ExpressionOrder
+pub mod DeclarationOrder
+pub mod StatementOrder
+pub mod FileOrder

@@ -1,6 +1,8 @@
 -- Constructs that are typed one behind the other: the state behind the last extends the first.
-use Rattle.std.proofs.Common.{◌≡◌, ℕ, Bool, true, false, refl, sym, ap, ◌∙◌, subst, List, Option, Some, None, arith}
+use Rattle.std.proofs.Common.{◌≡◌, ℕ, Bool, true, false, refl, sym, ap, ◌∙◌, subst, List, [], ◌∷◌, ◌++◌, Option, Some}
+use Rattle.std.proofs.Common.{None, arith}
 use Rattle.std.specs.Prelude.{Ok, Err}
+use Rattle.std.proofs.lemmas.List.{append-nil, append_assoc}
 use Rattle.obj_memory.specs.declared.int_type.IntType.TheVariants.{Int}
 use Rattle.obj_memory.specs.Integers.{fit}
 use Rattle.c_tree.specs.declared.c_type.TypeWord.{TypeWord}
@@ -9,11 +11,12 @@ use Rattle.c_scope.specs.declared.meaning.Designated.{Designated}
 use Rattle.c_scope.specs.declared.meaning.Designated.TheVariants as what
 use Rattle.c_scope.specs.declared.meaning.Meaning.{Meaning}
 use Rattle.c_scope.specs.declared.meaning.Meaning.TheVariants as meaning
-use Rattle.c_scope.specs.Names.{Name, declared, found, or_else}
+use Rattle.c_scope.specs.Names.{Name, Names, declared, found, or_else}
 use Rattle.c_typing.specs.State.{State, Typing, extents}
 use Rattle.c_typed_validity.specs.Sound.{IsFormed, is_sized_array}
 use Rattle.c_typed_validity.proofs.Sound.{longer_list, more_more, same_list, same_more}
-use Rattle.c_typed_declarators.specs.Extending.{Extending, Extends, IsNew, IsNewObject, IsSameOr, new, same}
+use Rattle.c_typed_declarators.specs.Extending.{AddsEnumerators, AreEnumerators, Extending, Extends}
+use Rattle.c_typed_declarators.specs.Extending.{IsNew, IsNewObject, IsSameOr, new, same}
 
 no_new : (P : Type 0) → true ≡ false → P
 no_new P e = cc
@@ -23,6 +26,22 @@ some_is e = cc
 
 no_some : {A : Type 0} (x : A) (P : Type 0) → None ≡ Some x → P
 no_some x P e = cc
+
+-- enumerators that are declared in a scope
+
+pub adds_none : (names : Names Meaning) → AddsEnumerators names names
+adds_none names = record { rest = []; is = sym (append-nil names); each = tt }
+
+both_enumerators : (xs ys : Names Meaning) → AreEnumerators xs → AreEnumerators ys → AreEnumerators (xs ++ ys)
+both_enumerators [] ys h g = g
+both_enumerators (x ∷ xs) ys h g = (h.0, both_enumerators xs ys h.1 g)
+
+adds_on : (a b c : Names Meaning) → AddsEnumerators a b → AddsEnumerators b c → AddsEnumerators a c
+adds_on a b c h g = record {
+  rest = h.rest ++ g.rest;
+  is = g.is ∙ ap (λ z. z ++ g.rest) h.is ∙ append_assoc a h.rest g.rest;
+  each = both_enumerators h.rest g.rest h.each g.each;
+}
 
 pub extends_same : (b : Bool) (s : State) → IsFormed s → Extends b s s
 extends_same b s formed = record {
@@ -35,9 +54,11 @@ extends_same b s formed = record {
   facts = refl;
   entities = refl;
   statics = omega arith;
+  numbers = λ n. refl;
   variables = λ e. refl;
   outer = refl;
   names = λ name. same refl;
+  entries = λ e. adds_none s.environment.names.current;
   outer_tags = refl;
   members = λ h. h;
   pending = λ n p. p;
@@ -61,9 +82,12 @@ extends_on b s t u h g = record {
   facts = g.facts ∙ h.facts;
   entities = g.entities ∙ h.entities;
   statics = let low = h.statics in let high = g.statics in omega arith;
+  numbers = λ n. (let first = h.numbers n in let second = g.numbers n in omega arith);
   variables = λ e. g.variables e ∙ h.variables e;
   outer = g.outer ∙ h.outer;
   names = λ name. then_names (IsNew b) _ _ _ (h.names name) (g.names name);
+  entries = λ e. adds_on s.environment.names.current t.environment.names.current u.environment.names.current
+      (h.entries e) (g.entries e);
   outer_tags = g.outer_tags ∙ h.outer_tags;
   members = λ m. g.members (h.members m);
   pending = λ n p. g.pending n (h.pending n p);
@@ -138,9 +162,11 @@ inside_extends s t h = record {
   facts = h.facts;
   entities = h.entities;
   statics = h.statics;
+  numbers = h.numbers;
   variables = λ e. no_new _ e;
   outer = h.outer;
   names = λ name. names_inside _ _ (h.names name);
+  entries = λ e. no_new _ e;
   outer_tags = h.outer_tags;
   members = h.members;
   pending = h.pending;

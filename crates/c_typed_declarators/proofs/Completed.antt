@@ -1,6 +1,7 @@
 -- A structure or union is complete behind its members.
-use Rattle.std.proofs.Common.{◌≡◌, ◌⊎◌, inl, inr, ℕ, ◌+◌, ◌^◌, ◌≤◌, Bool, true, false, refl, sym, ap, ◌∙◌, subst}
-use Rattle.std.proofs.Common.{List, [], length, Option, Some, None, if◌then◌else◌, nat_le, arith}
+use Rattle.std.proofs.Common.{◌≡◌, ◌⊎◌, inl, inr, ℕ, zero, suc, ◌+◌, ◌^◌, ◌<◌, ◌≤◌, Bool, true, false, refl, sym, ap}
+use Rattle.std.proofs.Common.{◌∙◌, subst}
+use Rattle.std.proofs.Common.{List, [], ◌∷◌, length, Option, Some, None, if◌then◌else◌, nat_le, arith}
 use Rattle.std.specs.Prelude.{Ok, slice_get, get_or, nat_lt}
 use Rattle.std.proofs.lemmas.Bool.{le-leb, ltb-false}
 use Rattle.c_tree.specs.Extents.{TypeExtent, structure_extent}
@@ -38,13 +39,13 @@ none_or a b x P e g = by (sym e ∙ g)
 the_same : {A : Type 0} {a b : A} → Some a ≡ Some b → a ≡ b
 the_same e = cc
 
-abbrev filled : ℕ → TypeExtent → List (Option TypeExtent) → List (Option TypeExtent)
+abbrev pub filled : ℕ → TypeExtent → List (Option TypeExtent) → List (Option TypeExtent)
 filled n whole es = changed n (λ e. Some whole) es
 
-abbrev bodies_with : ℕ → Names Member → List Body → List Body
+abbrev pub bodies_with : ℕ → Names Member → List Body → List Body
 bodies_with n members bodies = changed n (λ b. record b { members = members }) bodies
 
-filled_more : (n : ℕ) (whole : TypeExtent) (es : List (Option TypeExtent)) → structure_extent es n ≡ None
+pub filled_more : (n : ℕ) (whole : TypeExtent) (es : List (Option TypeExtent)) → structure_extent es n ≡ None
     → AreMore es (filled n whole es)
 filled_more n whole es none = record { kept = λ m e is. by m e is (same_or m n) }
   where
@@ -83,12 +84,17 @@ with_begun : (n : ℕ) (members : Names Member) (bodies : List Body) (m : ℕ)
     → is_begun m (bodies_with n members bodies) ≡ is_begun m bodies
 with_begun n members bodies m = read_changed begun_body (λ b. record b { members = members }) (λ b. refl) n bodies m
 
+begun_low : (n : ℕ) (bodies : List Body) → is_begun n bodies ≡ true → n < length bodies
+begun_low n [] e = absurd cc
+begun_low zero (b ∷ bodies) e = omega arith
+begun_low (suc n) (b ∷ bodies) e = let low = begun_low n bodies e in omega arith
+
 -- each member of the one that is complete now lies in it
 
 module _ (u : State) (formed : IsFormed u) (is_union : Bool) (n : ℕ) (entries : List Entry)
     (each : AreEntries u entries)
     (some : 1 ≤ length entries) (small : (extent_with is_union entries).size ≤ 2 ^ 32) (pending : IsPending u n) where
-  inside : (k : ℕ) (e : Entry) → slice_get entries k ≡ Some e
+  pub inside : (k : ℕ) (e : Entry) → slice_get entries k ≡ Some e
       → IsMemberOf (filled n (extent_with is_union entries) (extents u)) n
       (member_view (member_at (get_or (offsets_in is_union entries) k 0) e))
   inside k e is =
@@ -97,16 +103,16 @@ module _ (u : State) (formed : IsFormed u) (is_union : Bool) (n : ℕ) (entries 
       let more = filled_more n (extent_with is_union entries) (extents u) pending.incomplete in
       let complete = extent_kept (extents u) es more e.type e.extent entry.complete in
       let ends = inside_by u is_union entries each small k e is in
+      let begun = begun_low n u.environment.structures.bodies pending.begun in
+      let low : n < length (extents u) = subst (λ z. n < z) (sym formed.same) begun in
       record {
         sized = target_is es e.type e.extent complete entry.object.size;
         small = le-leb (get_or (offsets_in is_union entries) k 0 + e.extent.size) (2 ^ 32) (omega arith);
-        inside = λ found at.
-            filled_has n (extent_with is_union entries) (extents u)
-            (λ m x. m ≡ n → nat_le (get_or (offsets_in is_union entries) k 0 + e.extent.size) x.size ≡ true)
-            (λ g. le-leb (get_or (offsets_in is_union entries) k 0 + e.extent.size)
-            (extent_with is_union entries).size ends)
-            (λ m x there g. none_or (structure_extent (extents u) n) None x _ pending.incomplete
-            (ap (structure_extent (extents u)) (sym g) ∙ there)) n found at refl;
+        whole = extent_with is_union entries;
+        complete = got_changed n (λ e. Some (extent_with is_union entries)) (extents u) low;
+        object = (whole_object u is_union entries each some small).size;
+        inside = le-leb (get_or (offsets_in is_union entries) k 0 + e.extent.size)
+            (extent_with is_union entries).size ends;
       }
 
   here : (name : Name) (m : Member)
@@ -128,8 +134,10 @@ module _ (u : State) (formed : IsFormed u) (is_union : Bool) (n : ℕ) (entries 
       record {
         sized = target_kept (extents u) es more (member_view m).type (member_view m).size before.sized;
         small = before.small;
-        inside = λ found at.
-            before.inside found (sym (other_got n (λ e. Some (extent_with is_union entries)) (extents u) k other) ∙ at);
+        whole = before.whole;
+        complete = other_got n (λ e. Some (extent_with is_union entries)) (extents u) k other ∙ before.complete;
+        object = before.object;
+        inside = before.inside;
       }
 
   in_body : (name : Name) (m : Member) (members : Names Member) (o : Option Body)
@@ -191,9 +199,11 @@ module _ (u : State) (formed : IsFormed u) (is_union : Bool) (n : ℕ) (entries 
         facts = h.facts;
         entities = h.entities;
         statics = h.statics;
+        numbers = h.numbers;
         variables = h.variables;
         outer = h.outer;
         names = h.names;
+        entries = h.entries;
         outer_tags = h.outer_tags;
         members = λ m. record { each = have_members (h.members m) };
         pending = λ k p. pending_stays k (not_now s k fresh p.begun) (h.pending k p);

@@ -13,40 +13,27 @@ use Rattle.c_typing.specs.Primaries.{is_aggregate, is_marked}
 use Rattle.c_typing.specs.State.{State, extents}
 use Rattle.c_expression_typing.specs.Typed.{type_name}
 use Rattle.c_typed_validity.specs.More.{AreMore}
-use Rattle.c_typed_validity.specs.Names.{IsMeant, IsStaticOf}
+use Rattle.c_typed_validity.specs.Names.{IsMeant}
 use Rattle.c_typed_validity.specs.Sound.{IsFormed, Keeps, Knows, Sound}
 use Rattle.c_typed_validity.specs.Steps.{Structures, TypeNames, nothing}
-use Rattle.c_typed_validity.proofs.Kept.{target_kept}
 use Rattle.c_typed_declarators.specs.Extending.{Extending, Extends, IsNew, IsNewObject, IsSameOr, new, same}
 use Rattle.c_typed_declarators.specs.Given.{anything}
 use Rattle.c_typed_declarators.proofs.Recursion.{name_extends}
 
-static_kept : (scope : Scope) (es more : Structures) → AreMore es more → (n : ℕ) (type : List TypeWord)
-    → IsStaticOf scope es n type → IsStaticOf scope more n type
-static_kept scope es more h n type is = record {
-  size = is.size;
-  sized = target_kept es more h type is.size is.sized;
-  there = is.there;
-  kind = is.kind;
-}
-
--- what a name stands for, where structures are complete that were not
-pub meant_kept : (scope : Scope) (last : Structures) (s t : State) → AreMore (extents s) (extents t)
-    → t.objects ≡ s.objects → t.environment.facts ≡ s.environment.facts → (m : Option Meaning)
+-- what a name stands for, with the same marks and facts
+pub meant_kept : (scope : Scope) (last : Structures) (s t : State) → t.objects ≡ s.objects
+    → t.environment.facts ≡ s.environment.facts → (m : Option Meaning)
     → IsMeant scope last s m → IsMeant scope last t m
-meant_kept scope last s t more o f None is = tt
-meant_kept scope last s t more o f (Some (meaning.Typedef type)) is = tt
-meant_kept scope last s t more o f (Some (meaning.Constant w)) is = is
-meant_kept scope last s t more o f (Some (meaning.Named (what.Object n) type)) is =
-    static_kept scope (extents s) (extents t) more n type is
-meant_kept scope last s t more o f (Some (meaning.Named (what.Static n) type)) is =
-    static_kept scope (extents s) (extents t) more n type is
-meant_kept scope last s t more o f (Some (meaning.Named (what.Function n) type)) is =
+meant_kept scope last s t o f None is = tt
+meant_kept scope last s t o f (Some (meaning.Typedef type)) is = tt
+meant_kept scope last s t o f (Some (meaning.Constant w)) is = is
+meant_kept scope last s t o f (Some (meaning.Named (what.Object n) type)) is = is
+meant_kept scope last s t o f (Some (meaning.Named (what.Static n) type)) is = is
+meant_kept scope last s t o f (Some (meaning.Named (what.Function n) type)) is =
     λ defined. is (ap (λ z. nat_le (length z.functions) n) (sym f) ∙ defined)
-meant_kept scope last s t more o f (Some (meaning.Named (what.Library r) type)) is = tt
-meant_kept scope last s t more o f (Some (meaning.Named (what.Variable n) type)) is = record {
-  size = is.size;
-  sized = target_kept (extents s) (extents t) more type is.size is.sized;
+meant_kept scope last s t o f (Some (meaning.Named (what.Library r) type)) is = tt
+meant_kept scope last s t o f (Some (meaning.Named (what.Variable n) type)) is = record {
+  sized = is.sized;
   kind = is.kind;
   object = is.object ∙ ap (λ z. is_aggregate type || is_marked z n) (sym o);
 }
@@ -81,7 +68,7 @@ known_behind scope last s t h knows = record {
       (found name t.environment.names.outer) (h.names name)
       (subst (λ z. IsMeant scope last t (or_else (declared name s.environment.names.current) (found name z)))
       (sym h.outer)
-      (meant_kept scope last s t h.more h.objects h.facts
+      (meant_kept scope last s t h.objects h.facts
       (or_else (declared name s.environment.names.current) (found name s.environment.names.outer)) (knows.names name)));
   members = h.members knows.members;
 }

@@ -192,7 +192,7 @@ assignment_words : (es : List (Option TypeExtent)) (marks : List Bool) (line : �
     → Words (assignment es marks line o v)
 unfolding assignment
 assignment_words es marks line o v =
-    then_words (assignable es marks line o) _
+    then_words (assignable marks line o) _
     (λ p. then_words (conversions.assigned es line _ v) _ (λ e. written_words line p (set e)))
 
 compound_words : (es : List (Option TypeExtent)) (marks : List Bool) (op : BinaryOperator) (line : ℕ) (o : Operand)
@@ -200,7 +200,7 @@ compound_words : (es : List (Option TypeExtent)) (marks : List Bool) (op : Binar
     → Words (compound es marks op line o v)
 unfolding compound
 compound_words es marks op line o v =
-    then_words (assignable es marks line o) _
+    then_words (assignable marks line o) _
     (λ p. then_words (change_to line (change_between op (class_of es (type_in p)) (class_of es v.type)) v)
     (λ w. written line p w) (λ w. written_words line p w))
 
@@ -209,7 +209,7 @@ stepped_words : (es : List (Option TypeExtent)) (marks : List Bool)
     (o : Operand) → Words (stepped es marks op fix line o)
 unfolding stepped
 stepped_words es marks op fix line o =
-    then_words (assignable es marks line o) _
+    then_words (assignable marks line o) _
     (λ p. then_words
     (step_to line fix (change_between (operator_of op) (class_of es (type_in p)) (class.Integer Int)))
     (λ w. written line p w) (λ w. written_words line p w))
@@ -411,6 +411,5 @@ integer_by line (Some c) h =
 pub integer_words : (spelling : List ℕ) (line : ℕ) → HasWords (integer_constant spelling line).tree
 integer_words spelling line = integer_by line (constant_of spelling) (constant_held spelling)
 
-pub character_words : (spelling : List ℕ) (line : ℕ) → or_zero (character_value spelling) < 2 ^ 31
-    → HasWords (character_constant spelling line).tree
-character_words spelling line small = omega arith
+pub character_words : (spelling : List ℕ) (line : ℕ) → HasWords (character_constant spelling line).tree
+character_words spelling line = fit_below Int (or_zero (character_value spelling))

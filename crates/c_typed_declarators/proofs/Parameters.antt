@@ -1,5 +1,5 @@
 -- Lists of parameters have a scope of their own.
-use Rattle.std.proofs.Common.{◌≡◌, ℕ, ◌≤◌, Bool, true, false, ◌&&◌, ◌||◌, refl, sym, ap, ◌∙◌, List, [], ◌∷◌}
+use Rattle.std.proofs.Common.{◌≡◌, ℕ, ◌≤◌, Bool, true, false, ◌&&◌, ◌||◌, refl, sym, ap, subst, ◌∙◌, List, [], ◌∷◌}
 use Rattle.std.proofs.Common.{◌++◌, length, Option, Some, None, if◌then◌else◌, arith}
 use Rattle.std.specs.Prelude.{Ok, Err, not}
 use Rattle.c_tree.specs.declared.c_type.TypeWord.{TypeWord}
@@ -28,9 +28,9 @@ use Rattle.c_typing.specs.Specifications.{Specification}
 use Rattle.c_typing.specs.State.{State, extents}
 use Rattle.c_typed_validity.specs.Sound.{IsFormed, IsNumbered}
 use Rattle.c_typed_validity.proofs.Sound.{same_list, same_more}
-use Rattle.c_typed_declarators.specs.Extending.{Extending, Extends, IsNew, IsSameOr, same}
+use Rattle.c_typed_declarators.specs.Extending.{AddsEnumerators, Extending, Extends, IsNew, IsSameOr, same}
 use Rattle.c_typed_declarators.specs.Given.{anything}
-use Rattle.c_typed_declarators.proofs.Chained.{IfAnswer, constants_stay, judged_extends, typedefs_stay}
+use Rattle.c_typed_declarators.proofs.Chained.{IfAnswer, adds_none, constants_stay, judged_extends, typedefs_stay}
 use Rattle.c_typed_declarators.proofs.Tags.{bound_same}
 
 -- a scope that is opened and left
@@ -123,9 +123,12 @@ module _ (b : Bool) (s t : State) (formed : IsFormed s) (h : Extends true (withi
     facts = h.facts;
     entities = h.entities;
     statics = h.statics;
+    numbers = h.numbers;
     variables = λ e. refl;
     outer = outer_is;
     names = λ name. same (ap (declared name) current_is);
+    entries = λ e. subst (AddsEnumerators s.environment.names.current) (sym current_is)
+        (adds_none s.environment.names.current);
     outer_tags = outer_tags_are;
     members = λ m. (let after = h.members (record { each = m.each }) in record { each = after.each });
     pending = λ n p.
@@ -146,7 +149,7 @@ module _ (b : Bool) (s t : State) (formed : IsFormed s) (h : Extends true (withi
 
 -- a parameter is a variable without linkage
 
-no_function : (type : List TypeWord) → is_function (adjusted type) ≡ false
+pub no_function : (type : List TypeWord) → is_function (adjusted type) ≡ false
 no_function [] = refl
 no_function (word.Void ∷ ws) = refl
 no_function (word.Integer t ∷ ws) = refl
@@ -181,9 +184,11 @@ there_extends s formed name type = record {
   facts = refl;
   entities = refl;
   statics = omega arith;
+  numbers = λ n. refl;
   variables = λ e. conflict e;
   outer = refl;
   names = there_names s name type;
+  entries = λ e. conflict e;
   outer_tags = refl;
   members = λ h. record { each = h.each };
   pending = λ n p. record { begun = p.begun; incomplete = p.incomplete };
@@ -202,11 +207,11 @@ there_extends s formed name type = record {
     conflict e = cc
 
 -- neither typedef nor extern
-record IsPlain (z : Storage) : Type 0 where
-  no_typedef : is_typedef z ≡ false
-  no_extern : is_extern z ≡ false
+pub record IsPlain (z : Storage) : Type 0 where
+  pub no_typedef : is_typedef z ≡ false
+  pub no_extern : is_extern z ≡ false
 
-plain_by : (z : Storage) → not_for_parameter z ≡ false → IsPlain z
+pub plain_by : (z : Storage) → not_for_parameter z ≡ false → IsPlain z
 plain_by storage.Absent e = record { no_typedef = refl; no_extern = refl }
 plain_by storage.Register e = record { no_typedef = refl; no_extern = refl }
 plain_by storage.Auto e = absurd cc
@@ -214,7 +219,7 @@ plain_by storage.Static e = absurd cc
 plain_by storage.Extern e = absurd cc
 plain_by storage.Typedef e = absurd cc
 
-unlinked_is : (a f g x : Bool) → a ≡ false → f ≡ false → g ≡ false → (not x && (a || f || g)) ≡ false
+pub unlinked_is : (a f g x : Bool) → a ≡ false → f ≡ false → g ≡ false → (not x && (a || f || g)) ≡ false
 unlinked_is true f g x e h i = absurd cc
 unlinked_is false true g x e h i = absurd cc
 unlinked_is false false true x e h i = absurd cc
@@ -244,7 +249,7 @@ judged_by : (s : State) (d : Declaration) (type : List TypeWord) (a : Answer (Un
 judged_by s d type (Ok x) h = (h, tt)
 judged_by s d type (Err f) h = tt
 
-misplaced_by : (a b : Bool) → (a || b) ≡ false → b ≡ false
+pub misplaced_by : (a b : Bool) → (a || b) ≡ false → b ≡ false
 misplaced_by true b e = absurd cc
 misplaced_by false b e = e
 

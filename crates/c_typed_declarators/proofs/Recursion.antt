@@ -2,7 +2,6 @@
 use Rattle.std.proofs.Common.{◌≡◌, ℕ, suc, ◌≤◌, Bool, true, false, ◌&&◌, refl, sym, ap, ◌∙◌, subst, List, [], ◌∷◌, ◌++◌}
 use Rattle.std.proofs.Common.{Option, Some, None, if◌then◌else◌, arith, length}
 use Rattle.std.specs.Prelude.{Ok, Err, not, ◌||◌}
-use Rattle.std.proofs.lemmas.Bool.{ltb-true}
 use Rattle.c_syntax.specs.Formed.{has_name, is_no_member, is_plain_name}
 use Rattle.c_syntax.specs.Tree.{Expression, Arguments, MoreArguments, TypedDeclarator, Declarator, Parameters}
 use Rattle.c_syntax.specs.Tree.{MoreParameters, Specifiers, Specifier, MoreDeclarators, Enumerator, MoreEnumerators}
@@ -66,15 +65,15 @@ use Rattle.c_typed_declarators.proofs.Tags.{BegunFrom, begun_extends, tagged_ext
 use Rattle.c_typed_declarators.proofs.Types.{specified_sized}
 use Rattle.c_typed_declarators.proofs.Words.{enumeration_int, int_word}
 
-first : (a b : Bool) → (a && b) ≡ true → a ≡ true
+pub first : (a b : Bool) → (a && b) ≡ true → a ≡ true
 first true b e = refl
 first false b e = e
 
-second : (a b : Bool) → (a && b) ≡ true → b ≡ true
+pub second : (a b : Bool) → (a && b) ≡ true → b ≡ true
 second true b e = e
 second false b e = cc
 
-value_then : {B : Type 0} (s : State) (operand : Typing Operand) (q : State → B → Type 0) (next : Value → Typing B)
+pub value_then : {B : Type 0} (s : State) (operand : Typing Operand) (q : State → B → Type 0) (next : Value → Typing B)
     → Extending false s OperandHasWords (operand s)
     → ((u : State) (v : Value) → Extends false s u → HasWords v.tree → Extending false u q (next v u))
     → Extending false s q ((valued operand >>> next) s)
@@ -83,68 +82,68 @@ value_then s operand q next h g =
 
 -- specifiers
 
-specified_extends : (s : State) (specs : Specifiers) (gathering : Typing Gathered)
+pub specified_extends : (s : State) (specs : Specifiers) (gathering : Typing Gathered)
     → Extending false s IsGathered (gathering s) → Extending false s IsSpecified (specified_by specs gathering s)
 specified_extends s specs gathering h =
     then_extends false s IsGathered IsSpecified (gathering s) (λ g. done (specified (first_line specs) g)) h
     (λ u g e is. done_extends false u IsSpecified (specified (first_line specs) g) e.formed
     (specified_sized (first_line specs) g is))
 
-tag_sized : (x : Tag) → is_sized_array (tag_type x) ≡ true
+pub tag_sized : (x : Tag) → is_sized_array (tag_type x) ≡ true
 tag_sized (tag.Structure n) = refl
 tag_sized (tag.Union n) = refl
 tag_sized (tag.Enumeration n) = refl
 
-tagged_then : (s : State) (g : Gathered) (a : Answer (State × Tag)) → Extending false s anything a
+pub tagged_then : (s : State) (g : Gathered) (a : Answer (State × Tag)) → Extending false s anything a
     → Extending false s IsGathered (a >>= λ r. done (with_named (tag_type r.1) g) r.0)
 tagged_then s g a h =
     then_extends false s anything IsGathered a (λ x. done (with_named (tag_type x) g)) h
     (λ u x e is. done_extends false u IsGathered (with_named (tag_type x) g) e.formed (tag_sized x))
 
-abbrev with_type : State → List TypeWord → Answer (State × List TypeWord)
+abbrev pub with_type : State → List TypeWord → Answer (State × List TypeWord)
 with_type s type = Ok (s, type)
 
-named_then : (s : State) → IsFormed s → (g : Gathered) (a : Answer (List TypeWord))
+pub named_then : (s : State) → IsFormed s → (g : Gathered) (a : Answer (List TypeWord))
     → IfAnswer (λ type. is_sized_array type ≡ true) a
     → Extending false s IsGathered (a >>= with_type s >>= λ r. done (with_named r.1 g) r.0)
 named_then s formed g (Ok type) h = (extends_same false s formed, h)
 named_then s formed g (Err f) h = tt
 
 -- what holds of the state behind too
-also : {A : Type 0} (b : Bool) (s : State) (p : State → A → Type 0) (k : State → Type 0) (a : Answer (State × A))
+pub also : {A : Type 0} (b : Bool) (s : State) (p : State → A → Type 0) (k : State → Type 0) (a : Answer (State × A))
     → ((u : State) → Extends b s u → k u) → Extending b s p a → Extending b s (λ u x. p u x × k u) a
 also b s p k (Ok r) h is = (is.0, (is.1, h r.0 is.0))
 also b s p k (Err f) h is = tt
 
-begun_stays : (s u : State) → Extends false s u → (x : Tag) → IsBegun s x → IsBegun u x
+pub begun_stays : (s u : State) → Extends false s u → (x : Tag) → IsBegun s x → IsBegun u x
 begun_stays s u h (tag.Structure n) is = h.pending n is
 begun_stays s u h (tag.Union n) is = h.pending n is
 begun_stays s u h (tag.Enumeration n) is = tt
 
 -- members
 
-abbrev after : t.Members → ℕ → ℕ
+abbrev pub after : t.Members → ℕ → ℕ
 after t.no_members n = n
 after (t.members m more) n = suc n
 
-less : (s : State) (n : ℕ) (es : Entries) → Members s (suc n) es → Members s n es
+pub less : (s : State) (n : ℕ) (es : Entries) → Members s (suc n) es → Members s n es
 less s n es is = record { each = is.each; count = (let low = is.count in omega arith) }
 
-no_less : (ms : t.Members) (n : ℕ) (s : State) (es : Entries) → Members s (after ms n) es → Members s n es
+pub no_less : (ms : t.Members) (n : ℕ) (s : State) (es : Entries) → Members s (after ms n) es → Members s n es
 no_less t.no_members n s es is = is
 no_less (t.members m more) n s es is = less s n es is
 
-some_members : (ms : t.Members) → not (is_no_member ms) ≡ true → (s : State) (es : Entries)
+pub some_members : (ms : t.Members) → not (is_no_member ms) ≡ true → (s : State) (es : Entries)
     → Members s (after ms 0) es → Members s 1 es
 some_members t.no_members c s es is = absurd cc
 some_members (t.members m more) c s es is = is
 
-member_by : (s : State) (is : Bool) (line : ℕ) (spec : Specification) → IsSpecified s spec
+pub member_by : (s : State) (is : Bool) (line : ℕ) (spec : Specification) → IsSpecified s spec
     → IfAnswer (IsSpecified s) (if is then violates MisplacedStorage line else Ok spec)
 member_by s true line spec h = tt
 member_by s false line spec h = h
 
-shape_then : (s : State) (spec : Specification) → is_sized_array spec.type ≡ true → (n : ℕ) (es : Entries)
+pub shape_then : (s : State) (spec : Specification) → is_sized_array spec.type ≡ true → (n : ℕ) (es : Entries)
     → Members s n es → (d : Declarator) → has_name d ≡ true → (shaping : Typing Shape)
     → Extending false s (λ u sh. IsShapeOf u d sh) (shaping s)
     → Extending false s (λ u es. Members u (suc n) es) (with_shape spec es shaping s)
@@ -156,7 +155,7 @@ shape_then s spec sized n es is d named shaping h =
 
 -- shapes
 
-counted_more : (ds : List Derivation) (d : Derivation) → AreCounted ds → IsCounted d → AreCounted (ds ++ d ∷ [])
+pub counted_more : (ds : List Derivation) (d : Derivation) → AreCounted ds → IsCounted d → AreCounted (ds ++ d ∷ [])
 counted_more [] d h is = (is, tt)
 counted_more (x ∷ ds) d h is = (h.0, counted_more ds d h.1 is)
 
@@ -168,14 +167,14 @@ scope_kept s t low (Some p) is = record {
   tags = λ name x e. numbered_more (length (extents s)) (length (extents t)) low x (is.tags name x e);
 }
 
-shape_kept : (s t : State) → length (extents s) ≤ length (extents t) → (d : Declarator) (sh : Shape)
+pub shape_kept : (s t : State) → length (extents s) ≤ length (extents t) → (d : Declarator) (sh : Shape)
     → IsShapeOf s d sh → IsShapeOf t d sh
 shape_kept s t low d sh is =
     record { counted = is.counted; named = is.named; scope = scope_kept s t low sh.parameters is.scope }
 
 -- what a list of parameters declares is new in its scope
 
-new_there : (behind : Option Meaning) (m : Meaning) → IsSameOr (IsNew true) None behind → behind ≡ Some m → IsNew true m
+pub new_there : (behind : Option Meaning) (m : Meaning) → IsSameOr (IsNew true) None behind → behind ≡ Some m → IsNew true m
 new_there behind m (same e) is = none_new (sym e ∙ is)
   where
     none_new : None ≡ Some m → IsNew true m
@@ -185,18 +184,18 @@ new_there behind m (new x e p) is = subst (IsNew true) (the_same (sym e ∙ is))
     the_same : Some x ≡ Some m → x ≡ m
     the_same e = cc
 
-parameters_scope : (s t : State) → Extends true (within s) t → IsParameterScope t (parameters_in t.environment)
+pub parameters_scope : (s t : State) → Extends true (within s) t → IsParameterScope t (parameters_in t.environment)
 parameters_scope s t h = record {
   names = λ name m e. new_there (declared name t.environment.names.current) m (h.names name) e;
   tags = λ name x e. h.formed.tags name x (ap (λ z. or_else z (found name t.environment.tags.outer)) e);
 }
 
-scope_choice : (t : State) (b : Bool) (p : ParameterScope) (o : Option ParameterScope) → IsParameterScope t p
+pub scope_choice : (t : State) (b : Bool) (p : ParameterScope) (o : Option ParameterScope) → IsParameterScope t p
     → HasScope t o → HasScope t (if b then Some p else o)
 scope_choice t true p o is h = is
 scope_choice t false p o is h = h
 
-function_by : (s : State) → IsFormed s → (d e : Declarator) (sh : Shape) → IsShapeOf s d sh
+pub function_by : (s : State) → IsFormed s → (d e : Declarator) (sh : Shape) → IsShapeOf s d sh
     → (has_name e ≡ true → has_name d ≡ true) → (a : Answer (State × List (List TypeWord)))
     → Extending true (within s) anything a
     → Extending false s (λ u sh. IsShapeOf u e sh)
@@ -216,7 +215,7 @@ function_by s formed d e sh is h (Ok r) g =
     )
 function_by s formed d e sh is h (Err f) g = tt
 
-with_one : (s : State) (d e : Declarator) (sh : Shape) → IsShapeOf s d sh → (has_name e ≡ true → has_name d ≡ true)
+pub with_one : (s : State) (d e : Declarator) (sh : Shape) → IsShapeOf s d sh → (has_name e ≡ true → has_name d ≡ true)
     → (x : Derivation) → IsCounted x → IsShapeOf s e (with_derivation x sh)
 with_one s d e sh is h x counted = record {
   counted = counted_more sh.derivations x is.counted counted;
@@ -233,7 +232,7 @@ mutual
       (integer_words x.spelling x.position.line)
   typed_extends is (t.character x) c s formed =
       done_extends false s OperandHasWords (a_value (character_constant x.spelling x.position.line)) formed
-      (character_words x.spelling x.position.line (ltb-true _ _ c))
+      (character_words x.spelling x.position.line)
   typed_extends is (t.strings x more) c s formed =
       literal_extends false is (literal_bytes (spellings x more)) x.position.line s formed
   typed_extends is (t.parenthesized l e r) c s formed =
@@ -310,7 +309,7 @@ mutual
       (λ z v g hv. judged_extends false z OperandHasWords (assigned_by (assignment_form_of w) at.line o v z) g.formed
       (assigned_words z (assignment_form_of w) at.line o v)))
 
-  arguments_extend : (is : Bool) (args : Arguments) → are_regular args ≡ true → (s : State) → IsFormed s
+  pub arguments_extend : (is : Bool) (args : Arguments) → are_regular args ≡ true → (s : State) → IsFormed s
       → Extending false s anything (argument_values is args s)
   arguments_extend is t.no_arguments c s formed = (extends_same false s formed, tt)
   arguments_extend is (t.arguments e more) c s formed =
@@ -318,7 +317,7 @@ mutual
       (typed_extends is e (first _ _ c) s formed)
       (λ u v g h. more_extend is more (second _ _ c) (v ∷ []) u g.formed)
 
-  more_extend : (is : Bool) (more : MoreArguments) → more_are_regular more ≡ true → (vs : List Value) (s : State)
+  pub more_extend : (is : Bool) (more : MoreArguments) → more_are_regular more ≡ true → (vs : List Value) (s : State)
       → IsFormed s → Extending false s anything (more_values is more vs s)
   more_extend is t.end_of_arguments c vs s formed = (extends_same false s formed, tt)
   more_extend is (t.more_arguments at e more) c vs s formed =
@@ -326,7 +325,7 @@ mutual
       (typed_extends is e (first _ _ c) s formed)
       (λ u v g h. more_extend is more (second _ _ c) (vs ++ v ∷ []) u g.formed)
 
-  printed_extend : (is : Bool) (args : Arguments) → are_regular args ≡ true → (s : State) → IsFormed s
+  pub printed_extend : (is : Bool) (args : Arguments) → are_regular args ≡ true → (s : State) → IsFormed s
       → Extending false s anything (printed_values is args s)
   printed_extend is t.no_arguments c s formed = (extends_same false s formed, tt)
   printed_extend is (t.arguments e more) c s formed =
@@ -399,7 +398,7 @@ mutual
       (parameters_extend (in_definition && is_plain_name d) ps (second _ _ c) (within u)
       (within_formed u e.formed) (within_block u)))
 
-  parameters_extend : (in_definition : Bool) (ps : Parameters) → are_regular_parameters ps ≡ true → (s : State)
+  pub parameters_extend : (in_definition : Bool) (ps : Parameters) → are_regular_parameters ps ≡ true → (s : State)
       → IsFormed s → is_empty s.environment.names.outer ≡ false
       → Extending true s anything (parameter_types in_definition ps s)
   parameters_extend in_definition t.no_parameters c s formed inner = (extends_same true s formed, tt)
@@ -411,7 +410,7 @@ mutual
       (λ u type e h. more_parameters_extend in_definition more (second _ _ c) (type ∷ []) u e.formed
       (ap is_empty e.outer ∙ inner))
 
-  more_parameters_extend : (in_definition : Bool) (more : MoreParameters) → more_are_regular_parameters more ≡ true
+  pub more_parameters_extend : (in_definition : Bool) (more : MoreParameters) → more_are_regular_parameters more ≡ true
       → (before : List (List TypeWord)) (s : State) → IsFormed s → is_empty s.environment.names.outer ≡ false
       → Extending true s anything (more_types in_definition more before s)
   more_parameters_extend in_definition t.end_of_parameters c before s formed inner = (extends_same true s formed, tt)
@@ -422,8 +421,9 @@ mutual
       (λ u type e h. more_parameters_extend in_definition more (second _ _ c) (before ++ type ∷ []) u e.formed
       (ap is_empty e.outer ∙ inner))
 
-  parameter_extend : (in_definition : Bool) (x : TypedDeclarator) → is_regular_name x ≡ true → (s : State) → IsFormed s
-      → is_empty s.environment.names.outer ≡ false → Extending true s anything (parameter_type in_definition x s)
+  pub parameter_extend : (in_definition : Bool) (x : TypedDeclarator) → is_regular_name x ≡ true → (s : State)
+      → IsFormed s → is_empty s.environment.names.outer ≡ false
+      → Extending true s anything (parameter_type in_definition x s)
   parameter_extend in_definition (t.typed specs d) c s formed inner =
       then_extends true s IsSpecified anything
       (specified_by specs (gathered false (first_line specs) specs nothing_gathered) s)
@@ -445,7 +445,7 @@ mutual
       (λ g'. gathered is_alone line more g') (specifier_extends is_alone line x (first _ _ c) g has s formed)
       (λ u g' e h. gathered_extends is_alone line more (second _ _ c) g' h u e.formed)
 
-  specifier_extends : (is_alone : Bool) (line : ℕ) (x : Specifier) → is_regular_specifier x ≡ true → (g : Gathered)
+  pub specifier_extends : (is_alone : Bool) (line : ℕ) (x : Specifier) → is_regular_specifier x ≡ true → (g : Gathered)
       → HasType g.type → (s : State) → IsFormed s → Extending false s IsGathered (with_specifier is_alone line x g s)
   specifier_extends is_alone line (t.keyword w at) c g has s formed = (extends_same false s formed, has)
   specifier_extends is_alone line (t.typedef_name x) c g has s formed =
@@ -482,8 +482,8 @@ mutual
       (λ next. done (with_named (tag_type tag) g)) (more_enumerators_extend more (second _ _ c) next h' v f'.formed)
       (λ w next f'' h''. (extends_same false w f''.formed, tag_sized tag))))
 
-  members_extend : (ms : t.Members) → are_regular_members ms ≡ true → (n : ℕ) (es : Entries) (s : State) → IsFormed s
-      → Members s n es → Extending false s (λ u es. Members u (after ms n) es) (with_members ms es s)
+  pub members_extend : (ms : t.Members) → are_regular_members ms ≡ true → (n : ℕ) (es : Entries) (s : State)
+      → IsFormed s → Members s n es → Extending false s (λ u es. Members u (after ms n) es) (with_members ms es s)
   members_extend t.no_members c n es s formed is = (extends_same false s formed, is)
   members_extend (t.members m more) c n es s formed is =
       then_extends false s (λ u es. Members u (suc n) es) (λ u es. Members u (suc n) es) (with_member m es s)
@@ -492,7 +492,7 @@ mutual
       (with_members more es u) (λ v es k. no_less more (suc n) v es k)
       (members_extend more (second _ _ c) (suc n) es u e.formed h))
 
-  member_extend : (m : t.Member) → is_regular_member m ≡ true → (n : ℕ) (es : Entries) (s : State) → IsFormed s
+  pub member_extend : (m : t.Member) → is_regular_member m ≡ true → (n : ℕ) (es : Entries) (s : State) → IsFormed s
       → Members s n es → Extending false s (λ u es. Members u (suc n) es) (with_member m es s)
   member_extend (t.member_declaration specs d more at) c n es s formed is =
       then_extends false s IsSpecified (λ u es. Members u (suc n) es)
@@ -515,7 +515,7 @@ mutual
       (shape_extends false d (second _ _ (first _ _ c)) v f.formed))
       (λ w es f' is'. more_declared_extend spec k more (second _ _ c) (suc n) es w f'.formed is')))
 
-  more_declared_extend : (spec : Specification) → is_sized_array spec.type ≡ true → (more : MoreDeclarators)
+  pub more_declared_extend : (spec : Specification) → is_sized_array spec.type ≡ true → (more : MoreDeclarators)
       → more_are_regular_declarators more ≡ true → (n : ℕ) (es : Entries) (s : State) → IsFormed s → Members s n es
       → Extending false s (λ u es. Members u n es) (with_more_declared spec more es s)
   more_declared_extend spec sized t.end_of_declarators c n es s formed is = (extends_same false s formed, is)
@@ -526,8 +526,8 @@ mutual
       (shape_extends false d (second _ _ (first _ _ c)) s formed))
       (λ u es e h. more_declared_extend spec sized more (second _ _ c) n es u e.formed (less u n es h))
 
-  enumerator_extend : (next : Option ℕ) → IsIntIf next → (e : Enumerator) → is_regular_enumerator e ≡ true → (s : State)
-      → IsFormed s → Extending false s (λ u o. IsIntIf o) (enumerator next e s)
+  pub enumerator_extend : (next : Option ℕ) → IsIntIf next → (e : Enumerator) → is_regular_enumerator e ≡ true
+      → (s : State) → IsFormed s → Extending false s (λ u o. IsIntIf o) (enumerator next e s)
   enumerator_extend next is (t.plain x) c s formed =
       enumerated_extends false s formed (name_of x) x.position.line next is
   enumerator_extend next is (t.valued x at e) c s formed =
@@ -536,7 +536,7 @@ mutual
       (λ u v g h. enumerated_extends false u g.formed (name_of x) x.position.line (enumeration_value v)
       (enumeration_int v h))
 
-  more_enumerators_extend : (more : MoreEnumerators) → more_are_regular_enumerators more ≡ true → (next : Option ℕ)
+  pub more_enumerators_extend : (more : MoreEnumerators) → more_are_regular_enumerators more ≡ true → (next : Option ℕ)
       → IsIntIf next → (s : State) → IsFormed s → Extending false s (λ u o. IsIntIf o) (more_enumerators more next s)
   more_enumerators_extend t.end_of_enumerators c next is s formed = (extends_same false s formed, is)
   more_enumerators_extend (t.more_enumerators at x more) c next is s formed =

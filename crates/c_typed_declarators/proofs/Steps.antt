@@ -1,6 +1,6 @@
 -- Each construct leaves a state that extends the one before it.
-use Rattle.std.proofs.Common.{◌≡◌, ℕ, zero, suc, ◌^◌, ◌<◌, Bool, true, false, ◌&&◌, ◌||◌, ◌==◌, refl, List}
-use Rattle.std.proofs.Common.{Option, Some, None, if◌then◌else◌, arith}
+use Rattle.std.proofs.Common.{◌≡◌, ℕ, zero, suc, ◌^◌, ◌<◌, Bool, true, false, ◌&&◌, ◌||◌, ◌==◌, refl}
+use Rattle.std.proofs.Common.{List, [], ◌∷◌, Option, Some, None, if◌then◌else◌, arith}
 use Rattle.std.specs.Prelude.{Ok, Err, is_some, not, nat_lt}
 use Rattle.obj_memory.specs.declared.int_type.IntType.TheVariants.{Int}
 use Rattle.obj_memory.specs.Integers.{fit}
@@ -52,7 +52,7 @@ use Rattle.c_typed_declarators.proofs.Chained.{then_extends, typedefs_stay}
 use Rattle.c_typed_declarators.proofs.Marks.{address_extends, callee_extends, literal_by, used_extends}
 use Rattle.c_typed_declarators.proofs.Operators.{address_words, among_words, operand_words, place_words, plainly_words}
 use Rattle.c_typed_declarators.proofs.Operators.{printed_words, stepped_by_words, through_words, unary_value_words}
-use Rattle.c_typed_declarators.proofs.Tags.{bound_same}
+use Rattle.c_typed_declarators.proofs.Tags.{bound_last, bound_same}
 use Rattle.c_typed_declarators.proofs.Words.{next_int, word_of_int}
 
 pub whatever : {A : Type 0} (s : State) (a : Answer A) → IfAnswer (anything s) a
@@ -74,13 +74,13 @@ valued_extends b s operand h =
 
 -- names and literals
 
-variable_has : (t s : State) (b : Bool) (line n : ℕ) (type : List TypeWord)
+pub variable_has : (t s : State) (b : Bool) (line n : ℕ) (type : List TypeWord)
     → OperandHasWords t (if b then place (extents s) line type (automatic n)
     else plain_variable (extents s) line n type)
 variable_has t s true line n type = tt
 variable_has t s false line n type = tt
 
-designated_has : (t : State) (is : Bool) (line : ℕ) (d : Designated) (type : List TypeWord) (s : State)
+pub designated_has : (t : State) (is : Bool) (line : ℕ) (d : Designated) (type : List TypeWord) (s : State)
     → IfAnswer (OperandHasWords t) (designated is line d type s)
 designated_has t is line (what.Object n) type s = tt
 designated_has t is line (what.Static n) type s = tt
@@ -88,7 +88,7 @@ designated_has t is line (what.Function n) type s = tt
 designated_has t is line (what.Library f) type s = tt
 designated_has t is line (what.Variable n) type s = variable_has t s (is_object is s n type) line n type
 
-meant_has : (t : State) (is : Bool) (line : ℕ) (m : Option Meaning) (s : State)
+pub meant_has : (t : State) (is : Bool) (line : ℕ) (m : Option Meaning) (s : State)
     → ((w : ℕ) → m ≡ Some (meaning.Constant w) → fit Int w ≡ w)
     → IfAnswer (OperandHasWords t) (meant is line m s)
 meant_has t is line None s h = tt
@@ -96,7 +96,7 @@ meant_has t is line (Some (meaning.Typedef type)) s h = tt
 meant_has t is line (Some (meaning.Constant w)) s h = word_of_int w (h w refl)
 meant_has t is line (Some (meaning.Named d type)) s h = designated_has t is line d type s
 
-used_by : {A : Type 0} (b : Bool) (s t : State) (p : State → A → Type 0) → Extends b s t → (a : Answer A)
+pub used_by : {A : Type 0} (b : Bool) (s t : State) (p : State → A → Type 0) → Extends b s t → (a : Answer A)
     → IfAnswer (p t) a → Extending b s p (a >>= λ x. Ok (t, x))
 used_by b s t p h (Ok x) is = (h, is)
 used_by b s t p h (Err f) is = tt
@@ -114,19 +114,19 @@ literal_extends b is bytes line s formed = (literal_by b is bytes s formed, tt)
 
 -- unary operators, and `.` and `->`
 
-abbrev address_made : (is : Bool) → Operand → State → Value → Answer (State × Value)
+abbrev pub address_made : (is : Bool) → Operand → State → Value → Answer (State × Value)
 address_made is o s v = Ok (if is then object_taken o s else s, v)
 
-abbrev as_made : State × Value → Answer (State × Operand)
+abbrev pub as_made : State × Value → Answer (State × Operand)
 as_made r = Ok (r.0, a_value r.1)
 
-addressed_by : (b is : Bool) (o : Operand) (s : State) → IsFormed s → (a : Answer Value)
+pub addressed_by : (b is : Bool) (o : Operand) (s : State) → IsFormed s → (a : Answer Value)
     → IfAnswer (λ v. HasWords v.tree) a
     → Extending b s OperandHasWords (a >>= address_made is o s >>= as_made)
 addressed_by b is o s formed (Ok v) h = (address_extends b is o s formed, h)
 addressed_by b is o s formed (Err f) h = tt
 
-unary_by : (b : Bool) (s : State) → IsFormed s → (f : PrefixForm) (line : ℕ) (o : Operand) → OperandHasWords s o
+pub unary_by : (b : Bool) (s : State) → IsFormed s → (f : PrefixForm) (line : ℕ) (o : Operand) → OperandHasWords s o
     → Extending b s OperandHasWords ((as_value o >>> λ v. judged (unary_value f line v)) s)
 unary_by b s formed f line o h =
     then_extends b s ValueHasWords OperandHasWords (as_value o s) (λ v. judged (unary_value f line v))
@@ -161,7 +161,7 @@ pub pointer_called_extends : (b : Bool) (s : State) → IsFormed s → (o : Oper
 pointer_called_extends b s formed o =
     judged_extends b s anything (pointer_called o s) formed (whatever s (pointer_called o s))
 
-name_called_extends : (b is : Bool) (name : Name) (line : ℕ) (s : State) → IsFormed s
+pub name_called_extends : (b is : Bool) (name : Name) (line : ℕ) (s : State) → IsFormed s
     → Extending b s anything (name_called is name line s)
 name_called_extends b is name line s formed =
     let m = names.meaning name s.environment.names in
@@ -191,13 +191,13 @@ applied_extends b s formed line (a_pointer v) vs =
     (operand_words (with_callee_type o s) (called_through (extents s) line (callee_number o s) v vs)
     (through_words (extents s) line (callee_number o s) v vs))
 
-values_by : (b : Bool) (line : ℕ) (c : Called) (values : Typing (List Value)) (s : State)
+pub values_by : (b : Bool) (line : ℕ) (c : Called) (values : Typing (List Value)) (s : State)
     → Extending b s anything (values s) → Extending b s OperandHasWords ((values >>> λ vs. applied line c vs) s)
 values_by b line c values s h =
     then_extends b s anything OperandHasWords (values s) (λ vs. applied line c vs) h
     (λ t vs e is. applied_extends b t e.formed line c vs)
 
-printing_by : (b : Bool) (line : ℕ) (printing : Typing Printing) (s : State) → Extending b s anything (printing s)
+pub printing_by : (b : Bool) (line : ℕ) (printing : Typing Printing) (s : State) → Extending b s anything (printing s)
     → Extending b s OperandHasWords ((printing >>> λ p. judged (printed line p.format p.values)) s)
 printing_by b line printing s h =
     then_extends b s anything OperandHasWords (printing s) (λ p. judged (printed line p.format p.values)) h
@@ -222,7 +222,7 @@ format_extends b None operand s formed h =
 
 -- counts of arrays
 
-positive : (w : ℕ) (b : Bool) → (w == 0) ≡ b → (c : Bool) → (not b && c) ≡ true → 0 < w
+pub positive : (w : ℕ) (b : Bool) → (w == 0) ≡ b → (c : Bool) → (not b && c) ≡ true → 0 < w
 positive zero b e c is = absurd (conflict b e is)
   where
     conflict : (b : Bool) → true ≡ b → (not b && c) ≡ true → ⊥
@@ -230,11 +230,11 @@ positive zero b e c is = absurd (conflict b e is)
     conflict false e is = cc
 positive (suc w) b e c is = omega arith
 
-counted_by : (w : ℕ) (s b : Bool) → is_count s w ≡ b → IsCounted (to_array (if b then Some w else None))
+pub counted_by : (w : ℕ) (s b : Bool) → is_count s w ≡ b → IsCounted (to_array (if b then Some w else None))
 counted_by w s true e = positive w (w == 0) refl (not s || nat_lt w (2 ^ 63)) e
 counted_by w s false e = tt
 
-provided_count : (s : Bool) (o : Option ℕ) → IsCounted (to_array (provided is_count s o))
+pub provided_count : (s : Bool) (o : Option ℕ) → IsCounted (to_array (provided is_count s o))
 provided_count s None = tt
 provided_count s (Some w) = counted_by w s (is_count s w) refl
 
@@ -243,7 +243,7 @@ count_counted v = provided_count (has_sign v.tree) (constant_word v.tree)
 
 -- typedef names
 
-typedef_by : (s : State) (line : ℕ) (m : Option Meaning)
+pub typedef_by : (s : State) (line : ℕ) (m : Option Meaning)
     → ((type : List TypeWord) → m ≡ Some (meaning.Typedef type) → is_sized_array type ≡ true)
     → IfAnswer (λ type. is_sized_array type ≡ true) (typedef_meant line m)
 typedef_by s line None h = tt
@@ -258,18 +258,18 @@ typedef_sized s formed name line =
 
 -- enumerators
 
-abbrev enumerator_there : State → Name → ℕ → State
+abbrev pub enumerator_there : State → Name → ℕ → State
 enumerator_there s name w = record s { environment = with_name name (meaning.Constant w) s.environment }
 
-enumerator_names : (b : Bool) (s : State) (name : Name) (w : ℕ) → fit Int w ≡ w → (other : Name)
+pub enumerator_names : (b : Bool) (s : State) (name : Name) (w : ℕ) → fit Int w ≡ w → (other : Name)
     → IsSameOr (IsNew b) (declared other s.environment.names.current)
     (declared other (enumerator_there s name w).environment.names.current)
 enumerator_names b s name w is other =
     bound_same (IsNew b) name other (meaning.Constant w) s.environment.names.current is
 
-enumerator_extends : (b : Bool) (s : State) → IsFormed s → (name : Name) (w : ℕ) → fit Int w ≡ w
-    → Extends b s (enumerator_there s name w)
-enumerator_extends b s formed name w is = record {
+pub enumerator_extends : (b : Bool) (s : State) → IsFormed s → (name : Name) (w : ℕ) → fit Int w ≡ w
+    → declared name s.environment.names.current ≡ None → Extends b s (enumerator_there s name w)
+enumerator_extends b s formed name w is fresh = record {
   more = same_more (extents s);
   longer = omega arith;
   literals = same_list s.literals;
@@ -279,9 +279,15 @@ enumerator_extends b s formed name w is = record {
   facts = refl;
   entities = refl;
   statics = omega arith;
+  numbers = λ n. refl;
   variables = λ e. refl;
   outer = refl;
   names = enumerator_names b s name w is;
+  entries = λ e. record {
+    rest = (name, meaning.Constant w) ∷ [];
+    is = bound_last name (meaning.Constant w) s.environment.names.current fresh;
+    each = (tt, tt);
+  };
   outer_tags = refl;
   members = λ h. record { each = h.each };
   pending = λ n p. record { begun = p.begun; incomplete = p.incomplete };
@@ -299,23 +305,29 @@ enumerator_extends b s formed name w is = record {
 abbrev IntNext : State → Option ℕ → Type 0
 IntNext s o = IsIntIf o
 
-value_by : (b : Bool) (s : State) → IsFormed s → (name : Name) (line : ℕ) (o : Option ℕ) → IsIntIf o
-    → Extending b s IntNext
+pub value_by : (b : Bool) (s : State) → IsFormed s → (name : Name) (line : ℕ) (o : Option ℕ) → IsIntIf o
+    → declared name s.environment.names.current ≡ None → Extending b s IntNext
     (with_value name line o s.environment >>= λ env. Ok (record s { environment = env }, next_value o))
-value_by b s formed name line None h = tt
-value_by b s formed name line (Some w) h = (enumerator_extends b s formed name w h, next_int (Some w) h)
+value_by b s formed name line None h fresh = tt
+value_by b s formed name line (Some w) h fresh =
+    (enumerator_extends b s formed name w h fresh, next_int (Some w) h)
 
-abbrev unless_declared : Bool → ℕ → Answer Environment → Answer Environment
+abbrev pub unless_declared : Bool → ℕ → Answer Environment → Answer Environment
 unless_declared is line other = if is then violates Redeclared line else other
 
-declared_by : (b : Bool) (s : State) → IsFormed s → (name : Name) (line : ℕ) (o : Option ℕ) → IsIntIf o → (is : Bool)
-    → Extending b s IntNext
+none_is : {A : Type 0} (o : Option A) → is_some o ≡ false → o ≡ None
+none_is None e = refl
+none_is (Some x) e = absurd cc
+
+pub declared_by : (b : Bool) (s : State) → IsFormed s → (name : Name) (line : ℕ) (o : Option ℕ) → IsIntIf o → (is : Bool)
+    → is_some (declared name s.environment.names.current) ≡ is → Extending b s IntNext
     (unless_declared is line (with_value name line o s.environment)
     >>= λ env. Ok (record s { environment = env }, next_value o))
-declared_by b s formed name line o h true = tt
-declared_by b s formed name line o h false = value_by b s formed name line o h
+declared_by b s formed name line o h true e = tt
+declared_by b s formed name line o h false e =
+    value_by b s formed name line o h (none_is (declared name s.environment.names.current) e)
 
 pub enumerated_extends : (b : Bool) (s : State) → IsFormed s → (name : Name) (line : ℕ) (o : Option ℕ) → IsIntIf o
     → Extending b s (λ s o. IsIntIf o) (enumerated_as name line o s)
 enumerated_extends b s formed name line o h =
-    declared_by b s formed name line o h (is_some (declared name s.environment.names.current))
+    declared_by b s formed name line o h (is_some (declared name s.environment.names.current)) refl

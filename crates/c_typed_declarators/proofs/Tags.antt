@@ -27,7 +27,7 @@ use Rattle.c_typed_validity.proofs.Kept.{target_kept}
 use Rattle.c_typed_validity.proofs.Sound.{same_list, same_more}
 use Rattle.c_typed_declarators.specs.Extending.{Extending, Extends, IsSameOr, new, same}
 use Rattle.c_typed_declarators.specs.Given.{IsBegun, anything}
-use Rattle.c_typed_declarators.proofs.Chained.{extends_on, extends_same}
+use Rattle.c_typed_declarators.proofs.Chained.{adds_none, extends_on, extends_same}
 use Rattle.c_typed_declarators.proofs.Lists.{added_length, changed_length, get_added, get_behind, read_added}
 use Rattle.c_typed_declarators.proofs.Lists.{read_changed, there_changed}
 
@@ -59,6 +59,20 @@ pub bound_same : {A : Type 0} (P : A → Type 0) (name other : Name) (x : A) (na
 bound_same P name other x [] is = bound_new P (is_name other name) x is
 bound_same P name other x (e ∷ es) is =
     bound_by P name other x e es (is_name name e.0) is (bound_same P name other x es is)
+
+-- a name that is not declared yet stands behind the others
+
+last_by : {A : Type 0} (name : Name) (x : A) (e : Name × A) (es : Names A) (b : Bool)
+    → (if b then Some e.1 else declared name es) ≡ None
+    → (declared name es ≡ None → bound name x es ≡ es ++ (name, x) ∷ [])
+    → (if b then (e.0, x) ∷ es else e ∷ bound name x es) ≡ e ∷ es ++ (name, x) ∷ []
+last_by name x e es true is h = absurd cc
+last_by name x e es false is h = ap (λ z. e ∷ z) (h is)
+
+pub bound_last : {A : Type 0} (name : Name) (x : A) (names : Names A) → declared name names ≡ None
+    → bound name x names ≡ names ++ (name, x) ∷ []
+bound_last name x [] is = refl
+bound_last name x (e ∷ es) is = last_by name x e es (is_name name e.0) is (bound_last name x es)
 
 stays_by : {A : Type 0} (P : A → Type 0) (before behind around : Option A) → IsSameOr P before behind
     → ((x : A) → or_else before around ≡ Some x → P x) → (x : A) → or_else behind around ≡ Some x → P x
@@ -109,9 +123,11 @@ restructured_extends b s formed st current enumerations h = record {
   facts = refl;
   entities = refl;
   statics = omega arith;
+  numbers = λ n. refl;
   variables = λ e. refl;
   outer = refl;
   names = λ name. same refl;
+  entries = λ e. adds_none s.environment.names.current;
   outer_tags = refl;
   members = λ m. record { each = h.members m };
   pending = λ n p. (let r = h.pending n p.begun p.incomplete in record { begun = r.0; incomplete = r.1 });
@@ -126,13 +142,15 @@ restructured_extends b s formed st current enumerations h = record {
   undefined = λ e. e;
 }
 
-member_kept : (es more : List (Option TypeExtent)) → AreMore es more → (n : ℕ)
-    → ((whole : TypeExtent) → structure_extent more n ≡ Some whole → structure_extent es n ≡ Some whole)
-    → (m : places.Member) → IsMemberOf es n m → IsMemberOf more n m
-member_kept es more h n back m is = record {
+pub member_kept : (es more : List (Option TypeExtent)) → AreMore es more → (n : ℕ) (m : places.Member)
+    → IsMemberOf es n m → IsMemberOf more n m
+member_kept es more h n m is = record {
   sized = target_kept es more h m.type m.size is.sized;
   small = is.small;
-  inside = λ whole e. is.inside whole (back whole e);
+  whole = is.whole;
+  complete = h.kept n is.whole is.complete;
+  object = is.object;
+  inside = is.inside;
 }
 
 -- the tags of this scope, with one more
@@ -179,7 +197,7 @@ declares s formed file_tag current tags =
       sizes = λ n e is. formed.sizes n e (sym (get_added es n) ∙ is);
       tags = tags_with s formed (length (es ++ None ∷ [])) (omega (arith, longer)) current tags;
       members = λ h n name m is.
-          member_kept es (es ++ None ∷ []) (more_added es) n (λ whole e. sym (get_added es n) ∙ e) (member_view m)
+          member_kept es (es ++ None ∷ []) (more_added es) n (member_view m)
           (h.each n name m (sym (added_member file_tag bodies n name) ∙ is));
       pending = λ n begun none. (added_begun file_tag bodies n ∙ begun, get_added es n ∙ none);
     }

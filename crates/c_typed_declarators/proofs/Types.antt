@@ -179,7 +179,7 @@ no_faults_by false false false false e = record { complete = refl; placed = refl
 pub without_faults : (f : TypeFaults) → rule_of f ≡ None → NoFaults f
 without_faults f e = no_faults_by f.incomplete f.misplaced f.miscounted f.large e
 
-neither_left : (a b : Bool) → (a || b) ≡ false → a ≡ false
+pub neither_left : (a b : Bool) → (a || b) ≡ false → a ≡ false
 neither_left true b e = e
 neither_left false b e = refl
 

@@ -1,18 +1,22 @@
 -- Constructs whose parts are typed give what is valid.
-use Rattle.std.proofs.Common.{◌≡◌, ℕ, Bool, true, false, refl, sym, subst, List, Option, Some, None}
+use Rattle.std.proofs.Common.{◌≡◌, ℕ, Bool, true, false, refl, sym, subst, List, [], ◌∷◌, Option, Some, None}
 use Rattle.std.proofs.Common.{if◌then◌else◌}
-use Rattle.std.specs.Prelude.{Ok, Err}
+use Rattle.std.specs.Prelude.{◌||◌, is_none, is_some, Ok, Err}
 use Rattle.c_tree.specs.declared.c_type.TypeWord.{TypeWord}
+use Rattle.c_tree.specs.declared.c_type.TypeWord.TheVariants as word
 use Rattle.c_tree.specs.declared.expression.Fixity.{Fixity}
 use Rattle.c_tree.specs.declared.expression.Fixity.TheVariants as fixity
-use Rattle.c_tree.specs.Extents.{TypeExtent}
+use Rattle.c_tree.specs.Extents.{TypeExtent, extent_of, structure_extent}
+use Rattle.c_tree.specs.Tree.{lvalue_line}
 use Rattle.c_tree.specs.Valid.{Scope}
 use Rattle.c_rules.specs.Answer.{Answer, ◌>>=◌}
 use Rattle.c_rules.specs.Fine.{IfFine, IsFine}
+use Rattle.c_rules.specs.Types.{unqualified}
 use Rattle.c_rules.specs.Values.{Value}
 use Rattle.c_place_rules.specs.Operands.{Operand, Place, a_value, a_place, a_variable, a_function, enclosed}
 use Rattle.c_place_rules.specs.Places.{address}
-use Rattle.c_place_laws.specs.FinePlaces.{IfFineOperand, IfFinePlace, IsFineOperand}
+use Rattle.c_place_laws.specs.FinePlaces.{IfFineOperand, IfFinePlace, IsEarlierOperand, IsFineOperand}
+use Rattle.c_place_laws.specs.FinePlaces.{IsReadable, is_incomplete_structure}
 use Rattle.c_call_rules.specs.FineCalls.{AreFine}
 use Rattle.c_call_rules.specs.Printing.{Format}
 use Rattle.c_rules.proofs.FineBinary.{binary_fine}
@@ -31,11 +35,14 @@ use Rattle.c_typing.specs.declared.forms.PrefixForm.{PrefixForm}
 use Rattle.c_typing.specs.declared.forms.PrefixForm.TheVariants as form
 use Rattle.c_typing.specs.Calls.{printed}
 use Rattle.c_typing.specs.Operators.{as_operand, as_place, as_value, assigned_by, combined, indexed}
-use Rattle.c_typing.specs.Operators.{object_taken, read_unless, stepped_by, unary_value, unreadable, value_among}
+use Rattle.c_typing.specs.Operators.{is_array_type, is_readable, object_taken, read_unless, stepped_by, unary_value}
+use Rattle.c_typing.specs.Operators.{unreadable, value_among}
 use Rattle.c_typing.specs.Operators.{variable_named, with_taken}
 use Rattle.c_typing.specs.State.{State, extents, judged, with_const}
 use Rattle.c_expression_typing.specs.Constructs.{cast_to, chosen, prefixed, sized}
 use Rattle.c_typed_validity.specs.Typed.{IfTyped, IfValued}
+use Rattle.c_typed_validity.proofs.Kept.{operand_kept}
+use Rattle.c_typed_validity.proofs.Sound.{same_more}
 
 pub operand_from : (scope : Scope) (es : List (Option TypeExtent)) (a : Answer Value) → IfFine scope es a
     → IfFineOperand scope es (as_operand a)
@@ -59,15 +66,49 @@ valued_from scope s (Err f) is = is
 
 -- values of operands
 
-pub among_fine : (scope : Scope) (es : List (Option TypeExtent)) (line : Option ℕ) (o : Operand)
-    → IsFineOperand scope es o → IfFine scope es (read_unless line o)
-among_fine scope es None o is = value_fine scope es o is
-among_fine scope es (Some line) o is = tt
+-- what may be read is complete, or an array
+readable_words : (es : List (Option TypeExtent)) (ws : List TypeWord)
+    → (is_array_type (unqualified ws) || is_some (extent_of es ws)) ≡ true → is_incomplete_structure es ws ≡ false
+unfolding extent_of
+readable_words es [] e = refl
+readable_words es (word.Void ∷ ws) e = refl
+readable_words es (word.Integer t ∷ ws) e = refl
+readable_words es (word.Enumeration n ∷ ws) e = refl
+readable_words es (word.Pointer ∷ ws) e = refl
+readable_words es (word.Array c b ∷ ws) e = refl
+readable_words es (word.OpenArray ∷ ws) e = refl
+readable_words es (word.Structure n ∷ ws) e = some_none (structure_extent es n) e
+  where
+    some_none : (o : Option TypeExtent) → is_some o ≡ true → is_none o ≡ false
+    some_none None e = absurd cc
+    some_none (Some x) e = refl
+readable_words es (word.Const ∷ ws) e = readable_words es ws e
+readable_words es (word.Takes ∷ ws) e = refl
+readable_words es (word.Gives ∷ ws) e = refl
+
+readable_place : (es : List (Option TypeExtent)) (p : Place) (b : Bool) → is_readable es p.type ≡ b
+    → (if b then None else Some (lvalue_line p.tree)) ≡ None → is_incomplete_structure es p.type ≡ false
+readable_place es p true e u = readable_words es p.type e
+readable_place es p false e u = absurd cc
+
+readable : (es : List (Option TypeExtent)) (o : Operand) → unreadable es o ≡ None → IsReadable es o
+readable es (a_value v) u = tt
+readable es (a_place p) u = readable_place es p (is_readable es p.type) refl u
+readable es (a_variable x) u = tt
+readable es (a_function f) u = tt
+
+among_cases : (scope : Scope) (es : List (Option TypeExtent)) (o : Operand) (line : Option ℕ)
+    → unreadable es o ≡ line → IsFineOperand scope es o → IfFine scope es (read_unless line o)
+among_cases scope es o None e is = value_fine scope es o is (readable es o e)
+among_cases scope es o (Some line) e is = tt
+
+pub among_fine : (scope : Scope) (es : List (Option TypeExtent)) (o : Operand) → IsFineOperand scope es o
+    → IfFine scope es (value_among es o)
+among_fine scope es o is = among_cases scope es o (unreadable es o) refl is
 
 pub value_typed : (scope : Scope) (s : State) (o : Operand) → IsFineOperand scope (extents s) o
     → IfValued scope (as_value o s)
-value_typed scope s o is =
-    valued_from scope s (value_among (extents s) o) (among_fine scope (extents s) (unreadable (extents s) o) o is)
+value_typed scope s o is = valued_from scope s (value_among (extents s) o) (among_fine scope (extents s) o is)
 
 pub enclosed_typed : (scope : Scope) (s : State) (line : ℕ) (o : Operand) → IsFineOperand scope (extents s) o
     → IfTyped scope (judged (λ s. enclosed line o) s)
@@ -91,7 +132,7 @@ combined_typed scope f line a b s x y =
     typed_from scope s (combined f line a b s) (combined_fine scope f line a b s x y)
 
 pub assigned_fine : (scope : Scope) (f : AssignmentForm) (line : ℕ) (o : Operand) (v : Value) (s : State)
-    → IsFineOperand scope (extents s) o → IsFine scope (extents s) v
+    → IsEarlierOperand scope (extents s) o → IsFine scope (extents s) v
     → IfFineOperand scope (extents s) (assigned_by f line o v s)
 assigned_fine scope assignment_form.Simple line o v s x y =
     operand_from scope (extents s) _ (assignment_fine scope (extents s) (with_const s) line o v x y)
@@ -100,7 +141,7 @@ assigned_fine scope (assignment_form.Compound op) line o v s x y =
 assigned_fine scope assignment_form.Nothing line o v s x y = tt
 
 pub assigned_typed : (scope : Scope) (f : AssignmentForm) (line : ℕ) (o : Operand) (v : Value) (s : State)
-    → IsFineOperand scope (extents s) o → IsFine scope (extents s) v
+    → IsEarlierOperand scope (extents s) o → IsFine scope (extents s) v
     → IfTyped scope (judged (assigned_by f line o v) s)
 assigned_typed scope f line o v s x y =
     typed_from scope s (assigned_by f line o v s) (assigned_fine scope f line o v s x y)
@@ -108,7 +149,8 @@ assigned_typed scope f line o v s x y =
 pub stepped_fine_by : (scope : Scope) (f : PrefixForm) (fix : Fixity) (line : ℕ) (o : Operand) (s : State)
     → IsFineOperand scope (extents s) o → IfFineOperand scope (extents s) (stepped_by f fix line o s)
 stepped_fine_by scope (form.Step op) fix line o s x =
-    operand_from scope (extents s) _ (stepped_fine scope (extents s) (with_const s) op fix line o x)
+    operand_from scope (extents s) _ (stepped_fine scope (extents s) (with_const s) op fix line o
+    (operand_kept scope (extents s) (extents s) (same_more (extents s)) o x))
 stepped_fine_by scope form.Address fix line o s x = tt
 stepped_fine_by scope form.Dereference fix line o s x = tt
 stepped_fine_by scope (form.Value op) fix line o s x = tt
@@ -171,7 +213,7 @@ address_made is o s v = Ok (if is then object_taken o s else s, v)
 abbrev as_made : State × Value → Answer (State × Operand)
 as_made r = Ok (r.0, a_value r.1)
 
-abbrev with_state : State → Value → Answer (State × Value)
+abbrev pub with_state : State → Value → Answer (State × Value)
 with_state s v = Ok (s, v)
 
 addressed_from : (scope : Scope) (is : Bool) (o : Operand) (s : State) (a : Answer Value)
@@ -202,10 +244,10 @@ prefixed_typed scope is form.Address line o s x =
 prefixed_typed scope is (form.Step op) line o s x = stepped_typed scope (form.Step op) fixity.Prefix line o s x
 prefixed_typed scope is form.Dereference line o s x =
     value_then scope form.Dereference line s (value_among (extents s) o)
-    (among_fine scope (extents s) (unreadable (extents s) o) o x)
+    (among_fine scope (extents s) o x)
 prefixed_typed scope is (form.Value op) line o s x =
     value_then scope (form.Value op) line s (value_among (extents s) o)
-    (among_fine scope (extents s) (unreadable (extents s) o) o x)
+    (among_fine scope (extents s) o x)
 prefixed_typed scope is form.Nothing line o s x =
     value_then scope form.Nothing line s (value_among (extents s) o)
-    (among_fine scope (extents s) (unreadable (extents s) o) o x)
+    (among_fine scope (extents s) o x)

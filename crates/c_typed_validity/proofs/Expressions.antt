@@ -1,6 +1,5 @@
 -- What expressions are typed to is valid.
 use Rattle.std.proofs.Common.{◌≡◌, ℕ, Bool, true, false, ◌&&◌, refl, List, [], ◌∷◌, ◌++◌, Option, Some, None}
-use Rattle.std.proofs.lemmas.Bool.{ltb-true}
 use Rattle.c_syntax.specs.declared.position.Spelled.{Spelled}
 use Rattle.c_syntax.specs.Tree.{Expression, Arguments, MoreArguments}
 use Rattle.c_syntax.specs.Tree as t
@@ -27,14 +26,15 @@ use Rattle.c_expression_typing.specs.Lines.{name_of, spellings}
 use Rattle.c_expression_typing.specs.Typed.{argument_values, more_values, printed_values, type_name, typed}
 use Rattle.c_typed_validity.specs.Regular.{are_regular, is_regular, more_are_regular}
 use Rattle.c_typed_validity.specs.Sound.{Sound}
-use Rattle.c_typed_validity.specs.Steps.{Fine, FineAll, FineValue, PointerCalls, Structures, TypeNames, nothing}
+use Rattle.c_typed_validity.specs.Steps.{Fine, FineAll, FineValue, PointerCalls, Structures, TypeNames, Written}
+use Rattle.c_typed_validity.specs.Steps.{nothing}
 use Rattle.c_typed_validity.proofs.Constructs.{assigned_fine, combined_fine, operand_from, place_from}
 use Rattle.c_typed_validity.proofs.Primaries.{character_fine, integer_fine}
 use Rattle.c_typed_validity.proofs.Sound.{Stays, both, keeps_same, sound_then, whatever, with_given}
 use Rattle.c_typed_validity.proofs.Steps.{FineCalled, accessed_sound, all_stays, applied_sound, both_stay, called_stays}
-use Rattle.c_typed_validity.proofs.Steps.{fine_stays, judged_sound, literal_sound, name_called_sound, named_sound}
+use Rattle.c_typed_validity.proofs.Steps.{fine_written, judged_sound, literal_sound, name_called_sound, named_sound}
 use Rattle.c_typed_validity.proofs.Steps.{nothing_stays, pointer_called_sound, prefixed_sound, printed_sound}
-use Rattle.c_typed_validity.proofs.Steps.{stepped_sound, value_stays, valued_sound}
+use Rattle.c_typed_validity.proofs.Steps.{stepped_sound, value_stays, valued_sound, written_stays}
 
 first : (a b : Bool) → (a && b) ≡ true → a ≡ true
 first true b e = refl
@@ -44,7 +44,7 @@ second : (a b : Bool) → (a && b) ≡ true → b ≡ true
 second true b e = e
 second false b e = cc
 
-done_sound : {A : Type 0} (scope : Scope) (last : Structures) (s : State) (given : Structures → Type 0)
+pub done_sound : {A : Type 0} (scope : Scope) (last : Structures) (s : State) (given : Structures → Type 0)
     (p : Structures → A → Type 0) (x : A) → (given (extents s) → p (extents s) x)
     → Sound scope last s given p (done x s)
 done_sound scope last s given p x h = λ formed. (keeps_same scope last s formed, λ knows g covers. h g)
@@ -152,7 +152,7 @@ module _ (scope : Scope) (last : Structures) (type_names : TypeNames scope last)
         (λ g p. integer_fine scope (extents s) x.spelling x.position.line)
     typed_sound is (t.character x) c s =
         done_sound scope last s nothing (Fine scope is) (a_value (character_constant x.spelling x.position.line))
-        (λ g p. character_fine scope (extents s) x.spelling x.position.line (ltb-true _ _ c))
+        (λ g p. character_fine scope (extents s) x.spelling x.position.line)
     typed_sound is (t.strings x more) c s =
         literal_sound scope last is (literal_bytes (spellings x more)) x.position.line s
     typed_sound is (t.parenthesized l e r) c s =
@@ -180,9 +180,7 @@ module _ (scope : Scope) (last : Structures) (type_names : TypeNames scope last)
     typed_sound is (t.member e w at x) c s =
         sound_then scope last s nothing nothing_stays (Fine scope is) (Fine scope is) (typed is e s)
         (accessed w at.line (name_of x)) (typed_sound is e c s)
-        (λ u o. accessed_sound scope last u (both nothing (Fine scope is) o)
-        (both_stay nothing (Fine scope is) o nothing_stays (fine_stays scope is o)) is w at.line (name_of x) o
-        (λ g. g.1))
+        (λ u o. accessed_sound scope last u (both nothing (Fine scope is) o) is w at.line (name_of x) o (λ g. g.1))
     typed_sound is (t.postfix e w at) c s =
         sound_then scope last s nothing nothing_stays (Fine scope is) (Fine scope is) (typed is e s)
         (λ o. judged (stepped_by (step_form w) fixity.Postfix at.line o)) (typed_sound is e c s)
@@ -191,8 +189,7 @@ module _ (scope : Scope) (last : Structures) (type_names : TypeNames scope last)
     typed_sound is (t.unary w at e) c s =
         sound_then scope last s nothing nothing_stays (Fine scope is) (Fine scope is) (typed is e s)
         (prefixed is (prefix_form_of w) at.line) (typed_sound is e c s)
-        (λ u o. prefixed_sound scope last u (both nothing (Fine scope is) o)
-        (both_stay nothing (Fine scope is) o nothing_stays (fine_stays scope is o)) is (prefix_form_of w) at.line o
+        (λ u o. prefixed_sound scope last u (both nothing (Fine scope is) o) is (prefix_form_of w) at.line o
         (λ g. g.1))
     typed_sound is (t.sizeof_expression at e) c s =
         sound_then scope last s nothing nothing_stays (Fine scope false) (Fine scope is) (typed false e s)
@@ -246,13 +243,15 @@ module _ (scope : Scope) (last : Structures) (type_names : TypeNames scope last)
         sound_then scope last s nothing nothing_stays (Fine scope is) (Fine scope is) (typed is a s)
         (λ o. valued (typed is b) >>> λ v. judged (assigned_by (assignment_form_of w) at.line o v))
         (typed_sound is a (first _ _ c) s)
-        (λ u o. value_then u (both nothing (Fine scope is) o)
-        (both_stay nothing (Fine scope is) o nothing_stays (fine_stays scope is o)) is (typed is b)
+        (λ u o. with_given scope last u (λ es. Written scope is es o) (both nothing (Fine scope is) o) (Fine scope is)
+        ((valued (typed is b) >>> λ v. judged (assigned_by (assignment_form_of w) at.line o v)) u)
+        (λ g. fine_written scope is (extents u) o g.1)
+        (value_then u (λ es. Written scope is es o) (written_stays scope is o) is (typed is b)
         (typed_sound is b (second _ _ c) u) (Fine scope is)
         (λ v. judged (assigned_by (assignment_form_of w) at.line o v))
-        (λ z v. judged_sound scope last z (both (both nothing (Fine scope is) o) (FineValue scope is) v) is
+        (λ z v. judged_sound scope last z (both (λ es. Written scope is es o) (FineValue scope is) v) is
         (assigned_by (assignment_form_of w) at.line o v z)
-        (λ knows g covers p. assigned_fine scope (assignment_form_of w) at.line o v z (g.0.1 p) (g.1 p))))
+        (λ knows g covers p. assigned_fine scope (assignment_form_of w) at.line o v z (g.0 p) (g.1 p)))))
 
     arguments_sound : (is : Bool) (args : Arguments) → are_regular args ≡ true → (s : State)
         → Sound scope last s nothing (FineAll scope is) (argument_values is args s)

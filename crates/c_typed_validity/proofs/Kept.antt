@@ -16,8 +16,10 @@ use Rattle.c_rules.specs.declared.class.Target.TheVariants as target
 use Rattle.c_rules.specs.Fine.{IsFine}
 use Rattle.c_rules.specs.Types.{object_of, target_of}
 use Rattle.c_rules.specs.Values.{Value}
-use Rattle.c_place_rules.specs.Operands.{Operand, a_value, a_place, a_variable, a_function}
-use Rattle.c_place_laws.specs.FinePlaces.{IsFineOperand}
+use Rattle.c_place_rules.specs.Operands.{Operand, Variable, a_value, a_place, a_variable, a_function}
+use Rattle.c_place_rules.specs.Targets.{object_kind}
+use Rattle.c_place_laws.specs.FinePlaces.{IsEarlierOperand, IsFineOperand, IsFineVariable, IsSized, WasSized, complete}
+use Rattle.c_place_laws.specs.FinePlaces.{complete_as, is_unsized, is_unsized_kind, unsized, unsized_as}
 use Rattle.c_call_rules.specs.FineCalls.{AreFine}
 use Rattle.c_typed_validity.specs.More.{AreMore}
 
@@ -155,19 +157,56 @@ value_kept scope s more h v is = record {
   bare = is.bare;
 }
 
+-- an lvalue of a type that is not complete where it is named counts no bytes
+unsized_kind : (s : List (Option TypeExtent)) (ws : List TypeWord) (k : Kind) → is_unsized s ws ≡ true
+    → k ≡ object_kind 0 ws → is_unsized_kind k ≡ true
+unsized_kind s [] k u e = absurd cc
+unsized_kind s (Void ∷ behind) k u e = absurd cc
+unsized_kind s (Integer t ∷ behind) k u e = absurd cc
+unsized_kind s (Enumeration n ∷ behind) k u e = absurd cc
+unsized_kind s (Pointer ∷ behind) k u e = absurd cc
+unsized_kind s (Array count bytes ∷ element) k u e = ap is_unsized_kind e
+unsized_kind s (OpenArray ∷ element) k u e = ap is_unsized_kind e
+unsized_kind s (Structure n ∷ behind) k u e = ap is_unsized_kind e
+unsized_kind s (Const ∷ behind) k u e = unsized_kind s behind k u e
+unsized_kind s (Takes ∷ behind) k u e = absurd cc
+unsized_kind s (Gives ∷ behind) k u e = absurd cc
+
+was_sized : (s more : List (Option TypeExtent)) → AreMore s more → (ws : List TypeWord) (k : Kind)
+    → k ≡ object_kind (size_of_kind k) ws → IsSized s ws (size_of_kind k) → WasSized more ws k
+was_sized s more h ws k e (complete is) = complete_as (target_kept s more h ws (size_of_kind k) is)
+was_sized s more h ws k e (unsized u z) = unsized_as (unsized_kind s ws k u (e ∙ ap (λ n. object_kind n ws) z))
+
+variable_kept : (scope : Scope) (s more : List (Option TypeExtent)) → AreMore s more → (x : Variable)
+    → IsFineVariable scope s x → IsFineVariable scope more x
+variable_kept scope s more h x is = record { value = value_kept scope s more h _ is.value; plain = is.plain }
+
 pub operand_kept : (scope : Scope) (s more : List (Option TypeExtent)) → AreMore s more → (o : Operand)
-    → IsFineOperand scope s o → IsFineOperand scope more o
+    → IsFineOperand scope s o → IsEarlierOperand scope more o
 operand_kept scope s more h (a_value v) is = value_kept scope s more h v is
 operand_kept scope s more h (a_place p) is = record {
   valid = is.valid;
-  sized = target_kept s more h p.type (size_of_kind (lvalue_kind p.tree)) is.sized;
+  sized = was_sized s more h p.type (lvalue_kind p.tree) is.kind is.sized;
   kind = is.kind;
 }
-operand_kept scope s more h (a_variable x) is = record {
-  value = value_kept scope s more h _ is.value;
-  plain = is.plain;
-}
+operand_kept scope s more h (a_variable x) is = variable_kept scope s more h x is
 operand_kept scope s more h (a_function f) is = is
+
+still_sized : (s more : List (Option TypeExtent)) → AreMore s more → (ws : List TypeWord) (k : Kind)
+    → WasSized s ws k → WasSized more ws k
+still_sized s more h ws k (complete_as is) = complete_as (target_kept s more h ws (size_of_kind k) is)
+still_sized s more h ws k (unsized_as u) = unsized_as u
+
+pub earlier_kept : (scope : Scope) (s more : List (Option TypeExtent)) → AreMore s more → (o : Operand)
+    → IsEarlierOperand scope s o → IsEarlierOperand scope more o
+earlier_kept scope s more h (a_value v) is = value_kept scope s more h v is
+earlier_kept scope s more h (a_place p) is = record {
+  valid = is.valid;
+  sized = still_sized s more h p.type (lvalue_kind p.tree) is.sized;
+  kind = is.kind;
+}
+earlier_kept scope s more h (a_variable x) is = variable_kept scope s more h x is
+earlier_kept scope s more h (a_function f) is = is
 
 pub arguments_kept : (scope : Scope) (s more : List (Option TypeExtent)) → AreMore s more → (vs : List Value)
     → AreFine scope s vs → AreFine scope more vs

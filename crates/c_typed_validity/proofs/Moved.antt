@@ -1,48 +1,48 @@
 -- States that differ in what names stand for nowhere.
-use Rattle.std.proofs.Common.{◌≡◌, ℕ, ◌*◌, ◌^◌, ◌≤◌, Bool, true, false, ◌||◌, ◌&&◌, refl, ap, ◌∙◌, subst}
+use Rattle.std.proofs.Common.{◌≡◌, ℕ, ◌*◌, ◌^◌, ◌≤◌, Bool, true, false, ◌||◌, ◌&&◌, refl, ap, sym, ◌∙◌}
 use Rattle.std.proofs.Common.{List, [], ◌∷◌, ◌++◌, length, Option, Some, None, if◌then◌else◌, nat_le, arith}
 use Rattle.std.specs.Prelude.{slice_get}
 use Rattle.std.proofs.lemmas.Bool.{leb-true}
 use Rattle.obj_memory.specs.Integers.{size_of}
 use Rattle.c_tree.specs.Extents.{TypeExtent, capped, extent_of}
-use Rattle.c_tree.specs.Kinds.{is_size}
+use Rattle.c_tree.specs.declared.expression.Kind.TheVariants as kind
+use Rattle.c_tree.specs.Kinds.{is_size, size_of_kind}
 use Rattle.c_tree.specs.Layout.{array_size}
-use Rattle.c_tree.specs.Valid.{Scope}
+use Rattle.c_tree.specs.Tree.{lvalue_kind}
+use Rattle.c_tree.specs.Valid.{Scope, is_named_as}
 use Rattle.c_rules.specs.declared.class.Target.TheVariants as target
 use Rattle.c_rules.specs.Types.{target_of}
-use Rattle.c_place_rules.specs.Operands.{Operand, a_value, a_place, a_variable, a_function}
-use Rattle.c_place_laws.specs.FinePlaces.{IsFineOperand}
+use Rattle.c_rules.proofs.FineUnary.{same_kind}
+use Rattle.c_place_rules.specs.Operands.{Operand, Place, a_value, a_place, a_variable, a_function}
+use Rattle.c_place_laws.specs.FinePlaces.{IsFineOperand, IsFinePlace, IsSized, complete, is_unsized, unsized}
 use Rattle.c_scope.specs.declared.meaning.Designated.TheVariants as what
 use Rattle.c_scope.specs.declared.meaning.Meaning.{Meaning}
 use Rattle.c_scope.specs.declared.meaning.Meaning.TheVariants as meaning
 use Rattle.c_typing.specs.Operators.{object_taken, variable_named, with_taken}
-use Rattle.c_typing.specs.Primaries.{is_aggregate, is_marked, is_undefined, literal_place, literal_type, used_as}
+use Rattle.c_typing.specs.Primaries.{is_aggregate, is_marked, is_undefined, literal_place, literal_type, size_or_zero}
+use Rattle.c_typing.specs.Primaries.{used_as}
 use Rattle.c_typing.specs.Primaries.{earlier_or, with_literal, with_use}
 use Rattle.c_typing.specs.State.{State, extents}
 use Rattle.c_typed_validity.specs.More.{AreMore}
-use Rattle.c_typed_validity.specs.Names.{IsMeant, IsStaticOf}
+use Rattle.c_typed_validity.specs.Names.{IsMeant, kind_among}
 use Rattle.c_typed_validity.specs.Sound.{Covers, IsFormed, Keeps}
-use Rattle.c_typed_validity.proofs.Kept.{none_some, operand_kept}
+use Rattle.c_typed_validity.proofs.Kept.{none_some, target_kept}
 use Rattle.c_typed_validity.proofs.Primaries.{static_fine}
 use Rattle.c_typed_validity.proofs.Sound.{keeps_same, same_list, same_more}
 
-pub meant_moved : (scope : Scope) (last : List (Option TypeExtent)) (s t : State) → extents s ≡ extents t
-    → s.objects ≡ t.objects
+pub meant_moved : (scope : Scope) (last : List (Option TypeExtent)) (s t : State) → s.objects ≡ t.objects
     → s.environment.facts ≡ t.environment.facts → (m : Option Meaning)
     → IsMeant scope last s m → IsMeant scope last t m
-meant_moved scope last s t e o f None is = tt
-meant_moved scope last s t e o f (Some (meaning.Typedef type)) is = tt
-meant_moved scope last s t e o f (Some (meaning.Constant w)) is = is
-meant_moved scope last s t e o f (Some (meaning.Named (what.Object n) type)) is =
-    subst (λ es. IsStaticOf scope es n type) e is
-meant_moved scope last s t e o f (Some (meaning.Named (what.Static n) type)) is =
-    subst (λ es. IsStaticOf scope es n type) e is
-meant_moved scope last s t e o f (Some (meaning.Named (what.Function n) type)) is =
+meant_moved scope last s t o f None is = tt
+meant_moved scope last s t o f (Some (meaning.Typedef type)) is = tt
+meant_moved scope last s t o f (Some (meaning.Constant w)) is = is
+meant_moved scope last s t o f (Some (meaning.Named (what.Object n) type)) is = is
+meant_moved scope last s t o f (Some (meaning.Named (what.Static n) type)) is = is
+meant_moved scope last s t o f (Some (meaning.Named (what.Function n) type)) is =
     λ defined. is (ap (λ z. nat_le (length z.functions) n) f ∙ defined)
-meant_moved scope last s t e o f (Some (meaning.Named (what.Library r) type)) is = tt
-meant_moved scope last s t e o f (Some (meaning.Named (what.Variable n) type)) is = record {
-  size = is.size;
-  sized = subst (λ es. target_of es type ≡ target.Object is.size) e is.sized;
+meant_moved scope last s t o f (Some (meaning.Named (what.Library r) type)) is = tt
+meant_moved scope last s t o f (Some (meaning.Named (what.Variable n) type)) is = record {
+  sized = is.sized;
   kind = is.kind;
   object = is.object ∙ ap (λ z. is_aggregate type || is_marked z n) o;
 }
@@ -57,7 +57,7 @@ keeps_marks scope last s formed taken undefined unused = record {
   types = same_list s.function_types;
   knows = λ k. record {
     names = λ name.
-        meant_moved scope last s (record s { taken = taken; undefined = undefined }) refl refl refl _ (k.names name);
+        meant_moved scope last s (record s { taken = taken; undefined = undefined }) refl refl _ (k.names name);
     members = record { each = k.members.each };
   };
   pending = λ n p. record { begun = p.begun; incomplete = p.incomplete };
@@ -122,7 +122,7 @@ literal_keeps scope last bytes s formed = record {
   literals = record { rest = _; is = refl };
   types = same_list s.function_types;
   knows = λ k. record {
-    names = λ name. meant_moved scope last s (with_literal bytes s) refl refl refl _ (k.names name);
+    names = λ name. meant_moved scope last s (with_literal bytes s) refl refl _ (k.names name);
     members = record { each = k.members.each };
   };
   pending = λ n p. record { begun = p.begun; incomplete = p.incomplete };
@@ -156,18 +156,50 @@ literal_sized size sized =
     ap (λ n. if is_size n then target.Object n else target.Incomplete) e
     ∙ ap (λ b. if b then target.Object size else target.Incomplete) sized
 
+literal_bytes : (size : ℕ) → is_size size ≡ true → size_or_zero (extent_of [] (literal_type size)) ≡ size
+unfolding extent_of array_size size_of
+literal_bytes size sized =
+    let small = at_most size sized in
+    let e : capped (capped (size * 1)) ≡ size = omega (arith, small) in e
+
+literal_complete : (size : ℕ) → is_unsized [] (literal_type size) ≡ false
+unfolding extent_of
+literal_complete size = refl
+
+pub or_left : {a : Bool} (b : Bool) → a ≡ true → (a || b) ≡ true
+or_left b e = ap (λ z. z || b) e
+
 no_structures : (es : List (Option TypeExtent)) → AreMore [] es
 no_structures es = record { kept = λ n e is. none_some e _ is }
+
+-- an lvalue of a type that is complete without any structure
+complete_kept : (scope : Scope) (es : List (Option TypeExtent)) (p : Place) → is_unsized [] p.type ≡ false
+    → IsFinePlace scope [] p → IsFinePlace scope es p
+complete_kept scope es p whole is = record {
+  valid = is.valid;
+  sized = sized_whole is.sized;
+  kind = is.kind;
+}
+  where
+    sized_whole : IsSized [] p.type (size_of_kind (lvalue_kind p.tree))
+        → IsSized es p.type (size_of_kind (lvalue_kind p.tree))
+    sized_whole (complete s) =
+        complete (target_kept [] es (no_structures es) p.type (size_of_kind (lvalue_kind p.tree)) s)
+    sized_whole (unsized u z) = absurd cc
 
 pub literal_fine : (scope : Scope) (last es : List (Option TypeExtent)) (bytes : List ℕ) (line : ℕ) (s : State)
     → Covers scope last (with_literal bytes s)
     → IsFineOperand scope es (literal_place line (length bytes) s.environment.statics)
 literal_fine scope last es bytes line s covers =
     let is = covers.literals (length s.literals) _ (get_last s.literals _) in
-    operand_kept scope [] es (no_structures es) (literal_place line (length bytes) s.environment.statics)
-    (static_fine scope [] line s.environment.statics (literal_type (length bytes)) (record {
-      size = length bytes;
-      sized = literal_sized (length bytes) is.sized;
+    let n = s.environment.statics in
+    let type = literal_type (length bytes) in
+    let e = literal_bytes (length bytes) is.sized in
+    complete_kept scope es _ (literal_complete (length bytes))
+    (static_fine scope [] [] (no_structures []) line n type (record {
+      sized = complete (literal_sized (length bytes) is.sized ∙ ap target.Object (sym e));
       there = is.there;
-      kind = is.kind;
+      kind = ap (λ k. is_named_as k (kind_among [] type)) is.kind
+          ∙ ap (λ z. is_named_as (kind.Array (length bytes)) (kind.Array z)) e
+          ∙ or_left _ (same_kind (kind.Array (length bytes)));
     }))

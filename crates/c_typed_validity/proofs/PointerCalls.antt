@@ -54,7 +54,7 @@ first_kind es (word.Const ∷ ws) = first_kind es ws
 first_kind es (word.Takes ∷ ws) = refl
 first_kind es (word.Gives ∷ ws) = refl
 
-result_behind : (n : ℕ) (ws : List TypeWord) → result_type n ws ≡ result_type 0 (behind_types n ws)
+pub result_behind : (n : ℕ) (ws : List TypeWord) → result_type n ws ≡ result_type 0 (behind_types n ws)
 result_behind zero ws = refl
 result_behind (suc n) [] = refl
 result_behind (suc n) (w ∷ ws) = result_behind (still w n) ws
@@ -260,7 +260,7 @@ place_by type t ts true e low rest = ap Some (sym (words_are type t e))
 place_by type t ts false e low rest =
     get_next type t ts (place_among type ts) (place_among type ts + 1) refl (rest (omega (arith, low)))
 
-place_get : (type : List TypeWord) (ts : List (List TypeWord)) → place_among type ts < length ts
+pub place_get : (type : List TypeWord) (ts : List (List TypeWord)) → place_among type ts < length ts
     → slice_get ts (place_among type ts) ≡ Some type
 place_get type [] low = absurd (omega arith)
 place_get type (t ∷ ts) low = place_by type t ts (same_words type t) refl low (λ l. place_get type ts l)
@@ -276,7 +276,7 @@ type_keeps_by scope last type s formed false = record {
   types = record { rest = type ∷ []; is = refl };
   knows = λ k. record {
     names = λ name.
-        meant_moved scope last s (record s { function_types = s.function_types ++ type ∷ [] }) refl refl refl _
+        meant_moved scope last s (record s { function_types = s.function_types ++ type ∷ [] }) refl refl _
         (k.names name);
     members = record { each = k.members.each };
   };
@@ -309,7 +309,7 @@ type_there_by type s false e =
     let same : place_among type s.function_types ≡ length s.function_types = omega (arith, past, low) in
     ap (slice_get (s.function_types ++ type ∷ [])) same ∙ get_last s.function_types type
 
-type_there : (type : List TypeWord) (s : State)
+pub type_there : (type : List TypeWord) (s : State)
     → slice_get (with_type type s).function_types (place_among type s.function_types) ≡ Some type
 type_there type s =
     type_there_by type s (nat_lt (place_among type s.function_types) (length s.function_types)) refl

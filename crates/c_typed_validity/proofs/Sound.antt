@@ -32,7 +32,7 @@ get_longer [] rest n x e = cc
 get_longer (y ∷ xs) rest zero x e = e
 get_longer (y ∷ xs) rest (suc n) x e = get_longer xs rest n x e
 
-get_extended : {A : Type 0} (xs ys : List A) → Extended xs ys → (n : ℕ) (x : A) → slice_get xs n ≡ Some x
+pub get_extended : {A : Type 0} (xs ys : List A) → Extended xs ys → (n : ℕ) (x : A) → slice_get xs n ≡ Some x
     → slice_get ys n ≡ Some x
 get_extended xs ys h n x e = ap (λ z. slice_get z n) h.is ∙ get_longer xs h.rest n x e
 

@@ -41,7 +41,7 @@ use Rattle.c_typing.specs.Calls.{Called, a_function, a_pointer, a_printf, a_rout
 use Rattle.c_typing.specs.Calls.{called_by_value, called_plainly, library_called, name_called, plainly_applied}
 use Rattle.c_typing.specs.Calls.{plainly_or, pointer_applied, pointer_called, printed}
 use Rattle.c_typing.specs.Operators.{arrowed, as_value, dotted, member_in}
-use Rattle.c_typing.specs.Operators.{object_taken, stepped_by, structure_behind, unary_value, unreadable}
+use Rattle.c_typing.specs.Operators.{object_taken, stepped_by, structure_behind, unary_value}
 use Rattle.c_typing.specs.Operators.{value_among}
 use Rattle.c_typing.specs.Primaries.{is_undefined, literal, meant, named, used_as}
 use Rattle.c_typing.specs.State.{State, Typing, extents, judged, ◌>>>◌}
@@ -50,18 +50,23 @@ use Rattle.c_typed_validity.specs.More.{AreMore}
 use Rattle.c_typed_validity.specs.Names.{IsFunctionOf, IsMeant}
 use Rattle.c_typed_validity.specs.Sound.{Covers, IsFormed, Knows, Sound}
 use Rattle.c_typed_validity.proofs.PointerCalls.{function_called}
-use Rattle.c_typed_validity.specs.Steps.{Fine, FineAll, FineValue, PointerCalls, Structures, nothing}
+use Rattle.c_typed_validity.specs.Steps.{Fine, FineAll, FineValue, PointerCalls, Structures, Written, nothing}
 use Rattle.c_typed_validity.specs.Typed.{HaveMembers}
-use Rattle.c_typed_validity.proofs.Constructs.{among_fine, operand_from, place_from, stepped_fine_by, unary_fine_by}
-use Rattle.c_typed_validity.proofs.Kept.{arguments_kept, operand_kept, value_kept}
+use Rattle.c_typed_validity.proofs.Constructs.{among_fine, operand_from, with_state, place_from, stepped_fine_by}
+use Rattle.c_typed_validity.proofs.Constructs.{unary_fine_by}
+use Rattle.c_typed_validity.proofs.Kept.{arguments_kept, earlier_kept, operand_kept, value_kept}
 use Rattle.c_typed_validity.proofs.Moved.{address_keeps, literal_fine, literal_keeps, used_keeps}
 use Rattle.c_typed_validity.proofs.Primaries.{defined_by, meant_fine, used_extents}
-use Rattle.c_typed_validity.proofs.Sound.{If, Stays, both, keeps_same, sound_judged, sound_then, with_given}
+use Rattle.c_typed_validity.proofs.Sound.{If, Stays, both, keeps_same, same_more, sound_judged, sound_then, with_given}
 
 -- what is evaluated is valid
 
-pub fine_stays : (scope : Scope) (is : Bool) (o : Operand) → Stays (λ es. Fine scope is es o)
-fine_stays scope is o = λ es more h f p. operand_kept scope es more h o (f p)
+pub written_stays : (scope : Scope) (is : Bool) (o : Operand) → Stays (λ es. Written scope is es o)
+written_stays scope is o = λ es more h f p. earlier_kept scope es more h o (f p)
+
+pub fine_written : (scope : Scope) (is : Bool) (es : Structures) (o : Operand) → Fine scope is es o
+    → Written scope is es o
+fine_written scope is es o f = λ p. operand_kept scope es es (same_more es) o (f p)
 
 pub value_stays : (scope : Scope) (is : Bool) (v : Value) → Stays (λ es. FineValue scope is es v)
 value_stays scope is v = λ es more h f p. value_kept scope es more h v (f p)
@@ -112,15 +117,12 @@ judged_value scope last s given is a h =
 
 -- the value of an operand
 
-among : (scope : Scope) (es : Structures) (o : Operand) → IsFineOperand scope es o → IfFine scope es (value_among es o)
-among scope es o is = among_fine scope es (unreadable es o) o is
-
 pub as_value_sound : (scope : Scope) (last : Structures) (s : State) (given : Structures → Type 0) (is : Bool)
     (o : Operand) → (given (extents s) → Fine scope is (extents s) o)
     → Sound scope last s given (FineValue scope is) (as_value o s)
 as_value_sound scope last s given is o h =
     judged_value scope last s given is (value_among (extents s) o)
-    (λ knows g covers p. among scope (extents s) o (h g p))
+    (λ knows g covers p. among_fine scope (extents s) o (h g p))
 
 pub valued_sound : (scope : Scope) (last : Structures) (s : State) (given : Structures → Type 0) → Stays given
     → (is : Bool) (operand : Typing Operand) → Sound scope last s given (Fine scope is) (operand s)
@@ -132,19 +134,21 @@ valued_sound scope last s given stays is operand h =
 -- names and literals
 
 meant_as : (scope : Scope) (last : Structures) (is : Bool) (line : ℕ) (m : Option Meaning) (s : State)
-    → IsMeant scope last s m
+    → AreMore (extents s) last → IsMeant scope last s m
     → (used_as is line m s).undefined ≡ None → is ≡ true → IfFineOperand scope (extents s) (meant is line m s)
-meant_as scope last true line m s h unused p = meant_fine scope last line m s h unused
-meant_as scope last false line m s h unused p = cc
+meant_as scope last true line m s more h unused p = meant_fine scope last line m s more h unused
+meant_as scope last false line m s more h unused p = cc
 
 used_sound : (scope : Scope) (last : Structures) (is : Bool) (line : ℕ) (m : Option Meaning) (s : State)
     (a : Answer Operand)
-    → (Knows scope last s → (used_as is line m s).undefined ≡ None → is ≡ true → IfFineOperand scope (extents s) a)
+    → (Knows scope last s → AreMore (extents s) last → (used_as is line m s).undefined ≡ None → is ≡ true
+    → IfFineOperand scope (extents s) a)
     → Sound scope last s nothing (Fine scope is) (a >>= λ o. Ok (used_as is line m s, o))
 used_sound scope last is line m s (Ok o) h = λ formed. (
   used_keeps scope last is line m s formed,
   λ knows g covers p.
-      subst (λ es. IsFineOperand scope es o) (sym (used_extents is line m s)) (h knows covers.undefined p),
+      subst (λ es. IsFineOperand scope es o) (sym (used_extents is line m s))
+      (h knows (subst (λ es. AreMore es last) (used_extents is line m s) covers.more) covers.undefined p),
 )
 used_sound scope last is line m s (Err f) h = tt
 
@@ -153,7 +157,7 @@ pub named_sound : (scope : Scope) (last : Structures) (is : Bool) (name : Name) 
 named_sound scope last is name line s =
     let m = names.meaning name s.environment.names in
     used_sound scope last is line m s (meant is line m s)
-    (λ knows unused p. meant_as scope last is line m s (knows.names name) unused p)
+    (λ knows more unused p. meant_as scope last is line m s more (knows.names name) unused p)
 
 pub literal_sound : (scope : Scope) (last : Structures) (is : Bool) (bytes : List ℕ) (line : ℕ) (s : State)
     → Sound scope last s nothing (Fine scope is) (literal is bytes line s)
@@ -190,14 +194,32 @@ address_sound scope last s given is o (Ok v) h =
     )
 address_sound scope last s given is o (Err f) h = tt
 
-value_then : (scope : Scope) (last : Structures) (s : State) (given : Structures → Type 0) → Stays given → (is : Bool)
+-- the value of an operand, and what is made of it in the same state
+value_first : {A : Type 0} (scope : Scope) (last : Structures) (s : State) (given : Structures → Type 0) (is : Bool)
+    (p : Structures → A → Type 0) (next : Value → Typing A) (a : Answer Value)
+    → (given (extents s) → is ≡ true → IfFine scope (extents s) a)
+    → ((v : Value) → Sound scope last s (λ es. FineValue scope is es v) p (next v s))
+    → Sound scope last s given p (a >>= with_state s >>= λ r. next r.1 r.0)
+value_first scope last s given is p next (Ok v) h f =
+    with_given scope last s (λ es. FineValue scope is es v) given p (next v s) h (f v)
+value_first scope last s given is p next (Err e) h f = tt
+
+as_value_then : {A : Type 0} (scope : Scope) (last : Structures) (s : State) (given : Structures → Type 0) (is : Bool)
+    (p : Structures → A → Type 0) (next : Value → Typing A) (o : Operand)
+    → (given (extents s) → Fine scope is (extents s) o)
+    → ((v : Value) → Sound scope last s (λ es. FineValue scope is es v) p (next v s))
+    → Sound scope last s given p ((as_value o >>> next) s)
+as_value_then scope last s given is p next o h f =
+    value_first scope last s given is p next (value_among (extents s) o)
+    (λ g e. among_fine scope (extents s) o (h g e)) f
+
+value_then : (scope : Scope) (last : Structures) (s : State) (given : Structures → Type 0) (is : Bool)
     (f : PrefixForm) (line : ℕ) (o : Operand) → (given (extents s) → Fine scope is (extents s) o)
     → Sound scope last s given (Fine scope is) ((as_value o >>> λ v. judged (unary_value f line v)) s)
-value_then scope last s given stays is f line o h =
-    sound_then scope last s given stays (FineValue scope is) (Fine scope is) (as_value o s)
-    (λ v. judged (unary_value f line v)) (as_value_sound scope last s given is o h)
-    (λ t v. judged_sound scope last t (both given (FineValue scope is) v) is (unary_value f line v t)
-    (λ knows g covers p. unary_fine_by scope f line v t (g.1 p)))
+value_then scope last s given is f line o h =
+    as_value_then scope last s given is (Fine scope is) (λ v. judged (unary_value f line v)) o h
+    (λ v. judged_sound scope last s (λ es. FineValue scope is es v) is (unary_value f line v s)
+    (λ knows g covers p. unary_fine_by scope f line v s (g p)))
 
 pub stepped_sound : (scope : Scope) (last : Structures) (s : State) (given : Structures → Type 0) (is : Bool)
     (f : PrefixForm) (fix : Fixity) (line : ℕ) (o : Operand) → (given (extents s) → Fine scope is (extents s) o)
@@ -206,19 +228,19 @@ stepped_sound scope last s given is f fix line o h =
     judged_sound scope last s given is (stepped_by f fix line o s)
     (λ knows g covers p. stepped_fine_by scope f fix line o s (h g p))
 
-pub prefixed_sound : (scope : Scope) (last : Structures) (s : State) (given : Structures → Type 0) → Stays given
-    → (is : Bool) (f : PrefixForm) (line : ℕ) (o : Operand) → (given (extents s) → Fine scope is (extents s) o)
+pub prefixed_sound : (scope : Scope) (last : Structures) (s : State) (given : Structures → Type 0) (is : Bool)
+    (f : PrefixForm) (line : ℕ) (o : Operand) → (given (extents s) → Fine scope is (extents s) o)
     → Sound scope last s given (Fine scope is) (prefixed is f line o s)
-prefixed_sound scope last s given stays is form.Address line o h =
+prefixed_sound scope last s given is form.Address line o h =
     address_sound scope last s given is o (address line o) (λ g p. address_fine scope (extents s) line o (h g p))
-prefixed_sound scope last s given stays is (form.Step op) line o h =
+prefixed_sound scope last s given is (form.Step op) line o h =
     stepped_sound scope last s given is (form.Step op) fixity.Prefix line o h
-prefixed_sound scope last s given stays is form.Dereference line o h =
-    value_then scope last s given stays is form.Dereference line o h
-prefixed_sound scope last s given stays is (form.Value op) line o h =
-    value_then scope last s given stays is (form.Value op) line o h
-prefixed_sound scope last s given stays is form.Nothing line o h =
-    value_then scope last s given stays is form.Nothing line o h
+prefixed_sound scope last s given is form.Dereference line o h =
+    value_then scope last s given is form.Dereference line o h
+prefixed_sound scope last s given is (form.Value op) line o h =
+    value_then scope last s given is (form.Value op) line o h
+prefixed_sound scope last s given is form.Nothing line o h =
+    value_then scope last s given is form.Nothing line o h
 
 -- `.` and `->`
 
@@ -274,16 +296,15 @@ arrowed_sound scope last s given is line name v h =
     (arrow_fine scope (extents s) line (member_in (structure_behind (unqualified v.type)) name s) v (h g p)
     (found_behind s knows.members v.type name)))
 
-pub accessed_sound : (scope : Scope) (last : Structures) (s : State) (given : Structures → Type 0) → Stays given
-    → (is : Bool) (w : Punctuator) (line : ℕ) (name : Name) (o : Operand)
+pub accessed_sound : (scope : Scope) (last : Structures) (s : State) (given : Structures → Type 0) (is : Bool)
+    (w : Punctuator) (line : ℕ) (name : Name) (o : Operand)
     → (given (extents s) → Fine scope is (extents s) o)
     → Sound scope last s given (Fine scope is) (accessed w line name o s)
-accessed_sound scope last s given stays is sign.Dot line name o h = dotted_sound scope last s given is line name o h
-accessed_sound scope last s given stays is sign.Arrow line name o h =
-    sound_then scope last s given stays (FineValue scope is) (Fine scope is) (as_value o s)
-    (λ v. judged (arrowed line name v)) (as_value_sound scope last s given is o h)
-    (λ t v. arrowed_sound scope last t (both given (FineValue scope is) v) is line name v (λ g. g.1))
-accessed_sound scope last s given stays is w line name o h = tt
+accessed_sound scope last s given is sign.Dot line name o h = dotted_sound scope last s given is line name o h
+accessed_sound scope last s given is sign.Arrow line name o h =
+    as_value_then scope last s given is (Fine scope is) (λ v. judged (arrowed line name v)) o h
+    (λ v. arrowed_sound scope last s (λ es. FineValue scope is es v) is line name v (λ g. g))
+accessed_sound scope last s given is w line name o h = tt
 
 -- calls
 
@@ -316,7 +337,7 @@ pointer_if scope last es (Err f) h = tt
 value_called : (scope : Scope) (last : Structures) (s : State) (a : Answer Operand) → IfFineOperand scope (extents s) a
     → If (IsCalled scope last (extents s)) (a >>= λ o. pointer_called o s)
 value_called scope last s (Ok o) h =
-    pointer_if scope last (extents s) (value_among (extents s) o) (among scope (extents s) o h)
+    pointer_if scope last (extents s) (value_among (extents s) o) (among_fine scope (extents s) o h)
 value_called scope last s (Err f) h = tt
 
 library_if : (scope : Scope) (last : Structures) (es : Structures) (f : LibraryFunction)
@@ -324,42 +345,46 @@ library_if : (scope : Scope) (last : Structures) (es : Structures) (f : LibraryF
 library_if scope last es (library.Routine r) = tt
 library_if scope last es library.Printf = tt
 
-called_if : (scope : Scope) (last : Structures) (line : ℕ) (m : Option Meaning) (s : State) → IsMeant scope last s m
+called_if : (scope : Scope) (last : Structures) (line : ℕ) (m : Option Meaning) (s : State)
+    → AreMore (extents s) last → IsMeant scope last s m
     → (used_as true line m s).undefined ≡ None
     → If (IsCalled scope last (extents s)) (plainly_or (called_plainly m) (called_by_value true line m s))
-called_if scope last line None s h unused = tt
-called_if scope last line (Some (meaning.Typedef type)) s h unused = tt
-called_if scope last line (Some (meaning.Constant w)) s h unused =
+called_if scope last line None s more h unused = tt
+called_if scope last line (Some (meaning.Typedef type)) s more h unused = tt
+called_if scope last line (Some (meaning.Constant w)) s more h unused =
     value_called scope last s (meant true line (Some (meaning.Constant w)) s)
-    (meant_fine scope last line (Some (meaning.Constant w)) s h unused)
-called_if scope last line (Some (meaning.Named (what.Function n) type)) s h unused =
+    (meant_fine scope last line (Some (meaning.Constant w)) s more h unused)
+called_if scope last line (Some (meaning.Named (what.Function n) type)) s more h unused =
     h (defined_by line s (is_undefined n s) unused)
-called_if scope last line (Some (meaning.Named (what.Library f) type)) s h unused = library_if scope last (extents s) f
-called_if scope last line (Some (meaning.Named (what.Object n) type)) s h unused =
+called_if scope last line (Some (meaning.Named (what.Library f) type)) s more h unused =
+    library_if scope last (extents s) f
+called_if scope last line (Some (meaning.Named (what.Object n) type)) s more h unused =
     value_called scope last s (meant true line (Some (meaning.Named (what.Object n) type)) s)
-    (meant_fine scope last line (Some (meaning.Named (what.Object n) type)) s h unused)
-called_if scope last line (Some (meaning.Named (what.Static n) type)) s h unused =
+    (meant_fine scope last line (Some (meaning.Named (what.Object n) type)) s more h unused)
+called_if scope last line (Some (meaning.Named (what.Static n) type)) s more h unused =
     value_called scope last s (meant true line (Some (meaning.Named (what.Static n) type)) s)
-    (meant_fine scope last line (Some (meaning.Named (what.Static n) type)) s h unused)
-called_if scope last line (Some (meaning.Named (what.Variable n) type)) s h unused =
+    (meant_fine scope last line (Some (meaning.Named (what.Static n) type)) s more h unused)
+called_if scope last line (Some (meaning.Named (what.Variable n) type)) s more h unused =
     value_called scope last s (meant true line (Some (meaning.Named (what.Variable n) type)) s)
-    (meant_fine scope last line (Some (meaning.Named (what.Variable n) type)) s h unused)
+    (meant_fine scope last line (Some (meaning.Named (what.Variable n) type)) s more h unused)
 
 called_as_is : (scope : Scope) (last : Structures) (is : Bool) (line : ℕ) (m : Option Meaning) (s : State)
-    → IsMeant scope last s m
+    → AreMore (extents s) last → IsMeant scope last s m
     → (used_as is line m s).undefined ≡ None → is ≡ true
     → If (IsCalled scope last (extents s)) (plainly_or (called_plainly m) (called_by_value is line m s))
-called_as_is scope last true line m s h unused p = called_if scope last line m s h unused
-called_as_is scope last false line m s h unused p = cc
+called_as_is scope last true line m s more h unused p = called_if scope last line m s more h unused
+called_as_is scope last false line m s more h unused p = cc
 
 called_used : (scope : Scope) (last : Structures) (is : Bool) (line : ℕ) (m : Option Meaning) (s : State)
     (a : Answer Called)
-    → (Knows scope last s → (used_as is line m s).undefined ≡ None → is ≡ true → If (IsCalled scope last (extents s)) a)
+    → (Knows scope last s → AreMore (extents s) last → (used_as is line m s).undefined ≡ None → is ≡ true
+    → If (IsCalled scope last (extents s)) a)
     → Sound scope last s nothing (FineCalled scope last is) (a >>= λ c. Ok (used_as is line m s, c))
 called_used scope last is line m s (Ok c) h = λ formed. (
   used_keeps scope last is line m s formed,
   λ knows g covers p.
-      subst (λ es. IsCalled scope last es c) (sym (used_extents is line m s)) (h knows covers.undefined p),
+      subst (λ es. IsCalled scope last es c) (sym (used_extents is line m s))
+      (h knows (subst (λ es. AreMore es last) (used_extents is line m s) covers.more) covers.undefined p),
 )
 called_used scope last is line m s (Err f) h = tt
 
@@ -368,7 +393,7 @@ pub name_called_sound : (scope : Scope) (last : Structures) (is : Bool) (name : 
 name_called_sound scope last is name line s =
     let m = names.meaning name s.environment.names in
     called_used scope last is line m s (plainly_or (called_plainly m) (called_by_value is line m s))
-    (λ knows unused p. called_as_is scope last is line m s (knows.names name) unused p)
+    (λ knows more unused p. called_as_is scope last is line m s more (knows.names name) unused p)
 
 pub pointer_called_sound : (scope : Scope) (last : Structures) (s : State) (given : Structures → Type 0) (is : Bool)
     (o : Operand) → (given (extents s) → Fine scope is (extents s) o)
@@ -376,7 +401,7 @@ pub pointer_called_sound : (scope : Scope) (last : Structures) (s : State) (give
 pointer_called_sound scope last s given is o h =
     sound_judged scope last s given (FineCalled scope last is) (pointer_called o s)
     (λ knows g covers. if_true is (IsCalled scope last (extents s)) (pointer_called o s)
-    (λ p. pointer_if scope last (extents s) (value_among (extents s) o) (among scope (extents s) o (h g p))))
+    (λ p. pointer_if scope last (extents s) (value_among (extents s) o) (among_fine scope (extents s) o (h g p))))
 
 pub printed_sound : (scope : Scope) (last : Structures) (s : State) (given : Structures → Type 0) (is : Bool) (line : ℕ)
     (format : Option Format) (vs : List Value) → (given (extents s) → FineAll scope is (extents s) vs)

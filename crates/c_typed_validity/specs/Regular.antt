@@ -1,19 +1,16 @@
--- Trees whose character constants have values of at most 31 bits, as those of bytes have (C99 6.4.4.4), and whose
--- structures and unions have members with names, as well-formed ones have (6.7.2.1).
-use Rattle.std.specs.Prelude.{◌^◌, Bool, true, not, ◌&&◌, nat_lt}
-use Rattle.c_lexer.specs.Literals.{character_value}
+-- Trees whose structures and unions have members with names, as well-formed ones have (C99 6.7.2.1).
+use Rattle.std.specs.Prelude.{Bool, true, not, ◌&&◌}
 use Rattle.c_syntax.specs.Formed.{has_name, is_no_member}
 use Rattle.c_syntax.specs.Tree.{Expression, Arguments, MoreArguments, TypedDeclarator, Declarator, Parameters}
 use Rattle.c_syntax.specs.Tree.{MoreParameters, Specifiers, Specifier, Members, Member, MoreDeclarators, Enumerator}
 use Rattle.c_syntax.specs.Tree.{MoreEnumerators}
 use Rattle.c_syntax.specs.Tree as t
-use Rattle.c_typing.specs.Primaries.{or_zero}
 
 abbrev mutual
   pub is_regular : Expression → Bool
   is_regular (t.identifier x) = true
   is_regular (t.integer x) = true
-  is_regular (t.character x) = nat_lt (or_zero (character_value x.spelling)) (2 ^ 31)
+  is_regular (t.character x) = true
   is_regular (t.strings x more) = true
   is_regular (t.parenthesized l e r) = is_regular e
   is_regular (t.subscript a l b r) = is_regular a && is_regular b

@@ -7,7 +7,7 @@ use Rattle.c_tree.specs.Valid.{Scope}
 use Rattle.c_rules.specs.Fine.{IsFine}
 use Rattle.c_rules.specs.Values.{Value}
 use Rattle.c_place_rules.specs.Operands.{Operand}
-use Rattle.c_place_laws.specs.FinePlaces.{IsFineOperand}
+use Rattle.c_place_laws.specs.FinePlaces.{IsEarlierOperand, IsFineOperand}
 use Rattle.c_call_rules.specs.FineCalls.{AreFine}
 use Rattle.c_typing.specs.Calls.{pointer_applied}
 use Rattle.c_typing.specs.State.{State}
@@ -25,6 +25,10 @@ nothing es = Unit {0}
 
 abbrev pub Fine : Scope → (is_evaluated : Bool) → Structures → Operand → Type 0
 Fine scope is es o = is ≡ true → IsFineOperand scope es o
+
+-- what is written may be typed where fewer structures are complete
+abbrev pub Written : Scope → (is_evaluated : Bool) → Structures → Operand → Type 0
+Written scope is es o = is ≡ true → IsEarlierOperand scope es o
 
 abbrev pub FineValue : Scope → (is_evaluated : Bool) → Structures → Value → Type 0
 FineValue scope is es v = is ≡ true → IsFine scope es v

@@ -1,8 +1,7 @@
 //! Laws of typed operands.
 
-ghost use Rattle.std.specs.Prelude.{◌≡◌, ℕ, ◌^◌, ◌<◌, Bool, true, List, Option};
-ghost use Rattle.c_lexer.specs.Literals.{character_value};
-ghost use Rattle.c_typing.specs.Primaries.{character_constant, integer_constant, or_zero};
+ghost use Rattle.std.specs.Prelude.{◌≡◌, ℕ, Bool, true, List, Option};
+ghost use Rattle.c_typing.specs.Primaries.{character_constant, integer_constant};
 ghost use Rattle.c_tree.specs.declared.expression.Fixity.{Fixity};
 ghost use Rattle.c_call_rules.specs.Printing.{Format};
 ghost use Rattle.c_typing.specs.declared.forms.AssignmentForm.{AssignmentForm};
@@ -25,7 +24,7 @@ ghost use Rattle.c_tree.specs.Valid.{Scope};
 ghost use Rattle.c_rules.specs.Fine.{IsFine};
 ghost use Rattle.c_rules.specs.Values.{Value};
 ghost use Rattle.c_place_rules.specs.Operands.{Operand};
-ghost use Rattle.c_place_laws.specs.FinePlaces.{IsFineOperand};
+ghost use Rattle.c_place_laws.specs.FinePlaces.{IsEarlierOperand, IsFineOperand};
 ghost use Rattle.c_call_rules.specs.FineCalls.{AreFine, Spells};
 ghost use Rattle.c_typed_validity.specs.More.{AreMore};
 
@@ -33,7 +32,7 @@ ghost use Rattle.c_typed_validity.specs.More.{AreMore};
 /// kinds of their types, and types of functions keep their signatures.
 pub fn completed_structures_keep_operands_valid()
     ensures operand { (scope : Scope) (structures more : List (Option TypeExtent)) → AreMore structures more
-        → (o : Operand) → IsFineOperand scope structures o → IsFineOperand scope more o }
+        → (o : Operand) → IsFineOperand scope structures o → IsEarlierOperand scope more o }
     ensures value { (scope : Scope) (structures more : List (Option TypeExtent)) → AreMore structures more
         → (v : Value) → IsFine scope structures v → IsFine scope more v }
     ensures arguments { (scope : Scope) (structures more : List (Option TypeExtent)) → AreMore structures more
@@ -50,7 +49,7 @@ pub fn operators_keep_operands_valid()
     ensures combined { (scope : Scope) (f : BinaryForm) (line : ℕ) (a b : Value) (s : State)
         → IsFine scope (extents s) a → IsFine scope (extents s) b → IfTyped scope (judged (combined f line a b) s) }
     ensures assigned { (scope : Scope) (f : AssignmentForm) (line : ℕ) (o : Operand) (v : Value) (s : State)
-        → IsFineOperand scope (extents s) o → IsFine scope (extents s) v
+        → IsEarlierOperand scope (extents s) o → IsFine scope (extents s) v
         → IfTyped scope (judged (assigned_by f line o v) s) }
     ensures stepped { (scope : Scope) (f : PrefixForm) (fix : Fixity) (line : ℕ) (o : Operand) (s : State)
         → IsFineOperand scope (extents s) o → IfTyped scope (judged (stepped_by f fix line o) s) }
@@ -73,7 +72,6 @@ pub fn constants_are_valid()
     ensures integer { (scope : Scope) (structures : List (Option TypeExtent)) (spelling : List ℕ) (line : ℕ)
         → IsFine scope structures (integer_constant spelling line) }
     ensures character { (scope : Scope) (structures : List (Option TypeExtent)) (spelling : List ℕ) (line : ℕ)
-        → or_zero (character_value spelling) < 2 ^ 31
         → IsFine scope structures (character_constant spelling line) }
 {}
 

@@ -1,8 +1,11 @@
 -- Why a file has no typed program.
 use Rattle.std.proofs.Common.{◌≡◌, ℕ, List, Some, None, refl, sym, ap, ◌∙◌, subst}
-use Rattle.std.specs.Prelude.{Option, Ok, Err}
+use Rattle.std.specs.Prelude.{◌*◌, ◌≤◌, IfOk, Option, Result, Ok, Err, length}
 use Rattle.c_syntax.specs.Statements.{External, Unit as SyntaxUnit}
+use Rattle.c_syntax.specs.Words.{unit_words}
+use Rattle.c_tree.specs.declared.program.Program.{Program as CodeProgram}
 use Rattle.c_tree.specs.Programs.{Program}
+use Rattle.c_tree.specs.View as view
 use Rattle.c_rules.specs.declared.fault.Fault.{Fault}
 use Rattle.c_rules.specs.declared.fault.Refusal.{Refusal}
 use Rattle.c_rules.specs.declared.fault.Refusal.TheVariants as rules
@@ -15,6 +18,8 @@ use Rattle.c_unit_typing.specs.Units.{file_in}
 use Rattle.c_unit_program.specs.Limits.{IsExcess}
 use Rattle.c_unit_program.specs.Outlines.{Outline, program_in}
 use Rattle.c_unit_program.specs.Rooms.{first_without_room}
+use Rattle.c_typed_sizes.specs.Nodes.{nodes_of}
+use Rattle.c_program_sizes.proofs.Programs.{unit_words_program}
 use Rattle.c_typer.specs.declared.unit.UnitRefusal.{UnitRefusal}
 use Rattle.c_typer.specs.declared.unit.UnitRefusal.TheVariants.{Fault as OfFault, Memory, RoomTooLarge, TooLarge}
 use Rattle.c_typer.specs.Refused.{IsCauseOf, IsWithoutRoom, UnlessMemory, refusal_of}
@@ -68,3 +73,11 @@ cause_of end u (rules.Fault f) e is fails =
     subst (λ z. UnlessMemory z (IsCauseOf z (typed_unit end u))) (sym is) (fault end u f fails)
 cause_of end u rules.Memory e is fails =
     subst (λ z. UnlessMemory z (IsCauseOf z (typed_unit end u))) (sym is) tt
+
+-- a program that comes of a file has few nodes
+
+pub few_nodes : (end : ℕ) (u : SyntaxUnit) (r : Result CodeProgram UnitRefusal)
+    → IfOk r (λ program. typed_unit end u ≡ a_program (view.program_of program))
+    → IfOk r (λ program. nodes_of (view.program_of program) ≤ 3 * length (unit_words u))
+few_nodes end u (Ok program) typed = unit_words_program end u (view.program_of program) typed
+few_nodes end u (Err e) typed = tt

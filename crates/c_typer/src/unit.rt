@@ -1,8 +1,10 @@
 //! The typed program of a file.
 
-ghost use Rattle.std.specs.Prelude.{◌≡◌, IfErr, IfOk};
+ghost use Rattle.std.specs.Prelude.{◌≡◌, ◌*◌, ◌≤◌, IfErr, IfOk, length};
 ghost use Rattle.c_syntax.specs.StatementsView.{externals_in, unit_of};
+ghost use Rattle.c_syntax.specs.Words.{unit_words};
 ghost use Rattle.c_tree.specs.View as view;
+ghost use Rattle.c_typed_sizes.specs.Nodes.{nodes_of};
 ghost use Rattle.c_unit_state.specs.FileState.{file_of};
 ghost use Rattle.c_unit_typing.specs.Programs.{program_of};
 ghost use Rattle.c_unit_typing.specs.Typed.{a_program, typed_unit, within_limits};
@@ -86,10 +88,13 @@ fn program_in(alloc: Global, unit: &Unit, file: FileTyper) -> Result<Program, Un
 }
 
 /// The typed program of a file whose text ends on a line (C99 6.9), or why there is none: a rule that it violates, else
-/// that it has too much of something, else that calls of a function take too much; or that there is no memory.
+/// that it has too much of something, else that calls of a function take too much; or that there is no memory. The
+/// program has at most 3 nodes for each word of the file, the bytes of its literals aside.
 pub fn type_unit(alloc: Global, end: Line, unit: &Unit) -> Result<Program, UnitRefusal>
     ensures typed { IfOk result
         (λ program. typed_unit end (unit_of unit.now) ≡ a_program (view.program_of program)) }
+    ensures small { IfOk result
+        (λ program. nodes_of (view.program_of program) ≤ 3 * length (unit_words (unit_of unit.now))) }
     ensures refused { IfErr result
         (λ refusal. UnlessMemory refusal (IsCauseOf refusal (typed_unit end (unit_of unit.now)))) }
 {

@@ -2,7 +2,7 @@
 use Rattle.std.proofs.Common.{◌≡◌, ◌≤◌, ℕ, suc, zero, Bool, true, false, List, [], ◌∷◌, length, Option, Some, None}
 use Rattle.std.proofs.Common.{Ok, Err}
 use Rattle.std.proofs.Common.{refl, sym, ap, ◌∙◌, subst, arith}
-use Rattle.std.specs.Prelude.{◌&&◌, nat_lt, if◌then◌else◌}
+use Rattle.std.specs.Prelude.{◌&&◌, nat_le, nat_lt, if◌then◌else◌}
 use Rattle.std.specs.List.{list_all}
 use Rattle.std.proofs.lemmas.Bool.Decides.{nat_tests}
 use Rattle.c_syntax.specs.Statements.{Unit as Tree, External}
@@ -26,12 +26,13 @@ use Rattle.c_unit_typing.specs.Typed.{are_constant, most_functions, most_bytes, 
 use Rattle.c_unit_typing.specs.Typed.{limited_program}
 use Rattle.c_unit_typing.specs.Typed.{typed_as, typed_unit}
 use Rattle.c_unit_program.specs.Rooms.{first_without_room}
+use Rattle.c_typed_limits.proofs.Files.{unit_bounded}
 use Rattle.source_meaning.specs.Calls.{function_at}
 use Rattle.integer_images.specs.Images.{HaveFewParameters, most_parameters}
 use Rattle.integer_programs.specs.Programs.{is_integer_program}
 use Rattle.sbcets_core.specs.declared.refusal.SourceRefusal.TheVariants.{Uncompiled}
 use Rattle.sbcets_core.specs.Programs.{Judged, line_unless, content_fault, or_later, parts_fault, statics_fault}
-use Rattle.sbcets_core.specs.Programs.{constant_fault, has_few_parameters, is_compiled, unless_large, unless_fault}
+use Rattle.sbcets_core.specs.Programs.{constant_fault, is_compiled, unless_large, unless_fault}
 use Rattle.sbcets_core.specs.Programs.{judged_program, judged_unit}
 use Rattle.sbcets_core.specs.Accepted.{Readable, supported_tokens, JudgesReadable, Judges}
 
@@ -153,6 +154,9 @@ second_holds : (a b : Bool) → (a && b) ≡ true → b ≡ true
 second_holds true b e = e
 second_holds false b e = absurd (cc e)
 
+abbrev has_few_parameters : Function → Bool
+has_few_parameters f = nat_le (length f.parameters) most_listed
+
 few_parameters : (f : Function) → has_few_parameters f ≡ true → length f.parameters ≤ most_parameters
 few_parameters f e = grind (arith, nat_tests)
 
@@ -173,19 +177,15 @@ pub record IsFine (p : Program) : Type 0 where
   pub few : length p.functions ≤ most_functions
   pub parameters : HaveFewParameters p
 
-fine : (p : Program) → is_compiled p ≡ true → length p.functions ≤ most_functions → IsFine p
+fine : (p : Program) → is_compiled p ≡ true → length p.functions ≤ most_functions
+    → list_all has_few_parameters p.functions ≡ true → IsFine p
 unfolding is_compiled
-fine p e few =
-    let integers = is_integer_program p in
-    let valid = is_valid_program p in
-    let all = list_all has_few_parameters p.functions in
-    let rest = second_holds integers (valid && all) e in
-    record {
-      integers = first_holds integers (valid && all) e;
-      valid = first_holds valid all rest;
-      few = few;
-      parameters = record { each = each_few p.functions (second_holds valid all rest) };
-    }
+fine p e few all = record {
+  integers = first_holds (is_integer_program p) (is_valid_program p) e;
+  valid = second_holds (is_integer_program p) (is_valid_program p) e;
+  few = few;
+  parameters = record { each = each_few p.functions all };
+}
 
 -- the tests of a program that is accepted
 record IsTested (q p : Program) : Type 0 where
@@ -212,7 +212,8 @@ by_typed end u p (a_program q) typed e =
     let same = t.same in
     let compiled : is_compiled p ≡ true = subst (λ x. is_compiled x ≡ true) same t.compiled in
     let none : constant_fault p ≡ None = subst (λ x. constant_fault x ≡ None) same t.constant in
-    fine p compiled (few_functions end u p (typed ∙ ap a_program same) none)
+    let typed_so : typed_unit end u ≡ a_program p = typed ∙ ap a_program same in
+    fine p compiled (few_functions end u p typed_so none) (unit_bounded end u p typed_so (constant p none))
 by_typed end u p (a_fault f) typed e = absurd (cc e)
 by_typed end u p (too_large which n) typed e = absurd (cc e)
 

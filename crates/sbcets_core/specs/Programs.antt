@@ -1,8 +1,7 @@
 -- What comes of a typed file: the program that is compiled, or why there is none.
-use Rattle.std.specs.Prelude.{ℕ, Bool, ◌&&◌, nat_le, if◌then◌else◌, List, [], ◌∷◌, length, Option}
+use Rattle.std.specs.Prelude.{ℕ, Bool, ◌&&◌, if◌then◌else◌, List, [], ◌∷◌, Option}
 use Rattle.std.specs.Prelude.{Some, None, Result, Ok, Err}
-use Rattle.std.specs.List.{list_all}
-use Rattle.c_tree.specs.Programs.{Function, Program, StaticObject}
+use Rattle.c_tree.specs.Programs.{Program, StaticObject}
 use Rattle.c_tree.specs.Statements.{Content, Part, literal_content, value_content}
 use Rattle.c_tree.specs.Tree.{line_of}
 use Rattle.c_tree.specs.ValidProgram.{is_valid_program}
@@ -11,7 +10,6 @@ use Rattle.c_unit_typing.specs.declared.limits.Limited.{Limited}
 use Rattle.c_unit_typing.specs.declared.limits.Limited.TheVariants as limited
 use Rattle.c_unit_typing.specs.Typed.{TypedUnit, a_program, a_fault, too_large, any_pointers, is_constant}
 use Rattle.c_unit_program.specs.Rooms.{first_without_room}
-use Rattle.integer_images.specs.Images.{most_parameters}
 use Rattle.integer_programs.specs.Programs.{is_integer_program}
 use Rattle.sbcets_core.specs.declared.refusal.Counted.{Counted}
 use Rattle.sbcets_core.specs.declared.refusal.Counted.TheVariants as counted
@@ -48,14 +46,10 @@ statics_fault ps (o ∷ statics) = or_later (parts_fault ps o.parts) (statics_fa
 unfoldable pub constant_fault : Program → Option ℕ
 constant_fault p = statics_fault (any_pointers p) p.statics
 
--- The programs that are compiled: valid ones of integers alone. (No function of a typed file has more parameters than
--- this, and each typed file is valid; as long as neither is proved, both are tested.)
-
-abbrev pub has_few_parameters : Function → Bool
-has_few_parameters f = nat_le (length f.parameters) most_parameters
-
+-- The programs that are compiled: valid ones of integers alone. (Each typed file is valid; as long as that is not proved,
+-- it is tested.)
 unfoldable pub is_compiled : Program → Bool
-is_compiled p = is_integer_program p && (is_valid_program p && list_all has_few_parameters p.functions)
+is_compiled p = is_integer_program p && is_valid_program p
 
 -- The tests of a typed program in their order: the room of its functions, its initializers, and whether it is compiled.
 -- The text ends on this line.

@@ -1,13 +1,12 @@
 //! What is tested of a typed program before it is compiled.
 ghost use Rattle.std.specs.Prelude.{◌≡◌, ◌^◌, nat_lt, true, None, Ok, Err, IfOk, IfErr, OnOk, is_some, map};
-ghost use Rattle.std.specs.List.{list_all};
 ghost use Rattle.c_tree.specs.View.{content_of, expression_of, function_of, part_of, program_of, static_of};
 ghost use Rattle.c_const.specs.Addresses.{untagged};
 ghost use Rattle.c_const.specs.Contents.{constant_in};
 ghost use Rattle.c_const.specs.View.{pointers_of};
 ghost use Rattle.c_unit_program.specs.Rooms.{first_without_room};
 ghost use Rattle.sbcets_core.specs.Accepted.{UnlessMemory};
-ghost use Rattle.sbcets_core.specs.Programs.{constant_fault, content_fault, has_few_parameters, is_compiled};
+ghost use Rattle.sbcets_core.specs.Programs.{constant_fault, content_fault, is_compiled};
 ghost use Rattle.sbcets_core.specs.Programs.{judged_program, parts_fault, statics_fault};
 
 use crate::refusal::SourceRefusal;
@@ -18,9 +17,6 @@ use obj_memory::{Scalar, Tag, Value};
 use program_validity::is_valid;
 use sb_base::Line;
 use std::alloc::{AllocError, Global};
-
-// The most parameters of a function.
-const MAX_PARAMETERS: usize = 127;
 
 // A pointer for objects and functions of which it matters only that they are there.
 fn pointer() -> Value
@@ -111,17 +107,6 @@ fn rooms_are_numbers(functions: &[Function])
     }
 }
 
-fn have_few_parameters(functions: &[Function]) -> bool
-    ensures { result ≡ list_all has_few_parameters (map function_of functions.now) }
-{
-    for function in functions {
-        if function.parameters.as_slice().len() > MAX_PARAMETERS {
-            return false;
-        }
-    }
-    true
-}
-
 // Whether it is a valid program of integers alone.
 #[tactic(auto, unfolding(crate::specs::Programs::is_compiled))]
 fn is_compiled(alloc: Global, program: &Program) -> Result<bool, AllocError>
@@ -131,7 +116,7 @@ fn is_compiled(alloc: Global, program: &Program) -> Result<bool, AllocError>
         return Ok(false);
     }
     let valid = is_valid(alloc, program)?;
-    Ok(valid && have_few_parameters(program.functions.as_slice()))
+    Ok(valid)
 }
 
 /// Tests the program of a text that ends on a line: its initializers are constant, and it is compiled.

@@ -1,6 +1,0 @@
-pub mod Declarations
-pub mod Files
-pub mod Initializers
-pub mod Leading
-pub mod Start
-pub mod Statements

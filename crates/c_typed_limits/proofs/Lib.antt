@@ -1,0 +1,8 @@
+mod Chained
+mod Counted
+pub mod Files
+mod Kept
+mod Recursion
+mod Scopes
+mod Shapes
+mod Steps

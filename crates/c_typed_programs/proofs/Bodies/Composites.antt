@@ -1,0 +1,265 @@
+-- Composite types spell the signatures of the types that they are composed of (C99 6.2.7).
+use Rattle.std.proofs.Common.{◌≡◌, ℕ, zero, suc, Bool, true, false, ◌&&◌, refl, sym, ap, ◌∙◌, subst, List, [], ◌∷◌}
+use Rattle.std.proofs.Common.{Option, Some, None, if◌then◌else◌}
+use Rattle.c_tree.specs.declared.c_type.TypeWord.{TypeWord}
+use Rattle.c_tree.specs.declared.c_type.TypeWord.TheVariants as word
+use Rattle.c_tree.specs.declared.expression.Kind.{Kind}
+use Rattle.c_tree.specs.TypesAgree.{agrees, behind_types, gives_kind, is_end, is_kind_of, kind_of_type, same_words}
+use Rattle.c_tree.specs.TypesAgree.{still}
+use Rattle.c_tree.specs.TypesAgree.{takes_kind}
+use Rattle.c_rules.proofs.SameTypes.{words_are}
+use Rattle.c_scope.specs.Composite.{composite, joined, joint}
+use Rattle.c_typed_validity.specs.Steps.{Structures}
+
+-- words that differ in the sizes of arrays alone
+
+abbrev pub is_array_word : TypeWord → Bool
+is_array_word (word.Array count bytes) = true
+is_array_word word.OpenArray = true
+is_array_word w = false
+
+pub data IsAlike (v w : TypeWord) : Type 0 where
+  same_word : v ≡ w → IsAlike v w
+  both_arrays : is_array_word v ≡ true → is_array_word w ≡ true → IsAlike v w
+
+abbrev pub AreAlike : List TypeWord → List TypeWord → Type 0
+AreAlike [] [] = Unit {0}
+AreAlike [] (w ∷ ws) = true ≡ false
+AreAlike (v ∷ vs) [] = true ≡ false
+AreAlike (v ∷ vs) (w ∷ ws) = IsAlike v w × AreAlike vs ws
+
+array_still : (w : TypeWord) → is_array_word w ≡ true → (n : ℕ) → still w n ≡ suc n
+array_still word.Void e n = absurd cc
+array_still (word.Integer x) e n = absurd cc
+array_still (word.Enumeration x) e n = absurd cc
+array_still word.Pointer e n = absurd cc
+array_still (word.Array x y) e n = refl
+array_still word.OpenArray e n = refl
+array_still (word.Structure x) e n = absurd cc
+array_still word.Const e n = absurd cc
+array_still word.Takes e n = absurd cc
+array_still word.Gives e n = absurd cc
+
+array_kind : (es : Structures) (w : TypeWord) (ws : List TypeWord) → is_array_word w ≡ true
+    → kind_of_type es (w ∷ ws) ≡ None
+array_kind es word.Void ws e = absurd cc
+array_kind es (word.Integer x) ws e = absurd cc
+array_kind es (word.Enumeration x) ws e = absurd cc
+array_kind es word.Pointer ws e = absurd cc
+array_kind es (word.Array x y) ws e = refl
+array_kind es word.OpenArray ws e = refl
+array_kind es (word.Structure x) ws e = absurd cc
+array_kind es word.Const ws e = absurd cc
+array_kind es word.Takes ws e = absurd cc
+array_kind es word.Gives ws e = absurd cc
+
+array_gives : (es : Structures) (w : TypeWord) (ws : List TypeWord) (k : Kind) → is_array_word w ≡ true
+    → gives_kind es (w ∷ ws) k ≡ false
+array_gives es word.Void ws k e = absurd cc
+array_gives es (word.Integer x) ws k e = absurd cc
+array_gives es (word.Enumeration x) ws k e = absurd cc
+array_gives es word.Pointer ws k e = absurd cc
+array_gives es (word.Array x y) ws k e = refl
+array_gives es word.OpenArray ws k e = refl
+array_gives es (word.Structure x) ws k e = absurd cc
+array_gives es word.Const ws k e = absurd cc
+array_gives es word.Takes ws k e = absurd cc
+array_gives es word.Gives ws k e = absurd cc
+
+array_takes : (es : Structures) (w : TypeWord) (ws : List TypeWord) (k : Kind) → is_array_word w ≡ true
+    → takes_kind es (w ∷ ws) k ≡ false
+array_takes es word.Void ws k e = absurd cc
+array_takes es (word.Integer x) ws k e = absurd cc
+array_takes es (word.Enumeration x) ws k e = absurd cc
+array_takes es word.Pointer ws k e = absurd cc
+array_takes es (word.Array x y) ws k e = refl
+array_takes es word.OpenArray ws k e = refl
+array_takes es (word.Structure x) ws k e = absurd cc
+array_takes es word.Const ws k e = absurd cc
+array_takes es word.Takes ws k e = absurd cc
+array_takes es word.Gives ws k e = absurd cc
+
+still_alike : (v w : TypeWord) → IsAlike v w → (n : ℕ) → still v n ≡ still w n
+still_alike v w (same_word e) n = ap (λ z. still z n) e
+still_alike v w (both_arrays e g) n = array_still v e n ∙ sym (array_still w g n)
+
+behind_alike : (n : ℕ) (vs ws : List TypeWord) → AreAlike vs ws → AreAlike (behind_types n vs) (behind_types n ws)
+behind_alike zero vs ws h = h
+behind_alike (suc n) [] [] h = tt
+behind_alike (suc n) [] (w ∷ ws) h = absurd (conflict h)
+  where
+    conflict : true ≡ false → ⊥
+    conflict e = cc
+behind_alike (suc n) (v ∷ vs) [] h = absurd (conflict h)
+  where
+    conflict : true ≡ false → ⊥
+    conflict e = cc
+behind_alike (suc n) (v ∷ vs) (w ∷ ws) h =
+    subst (λ k. AreAlike (behind_types (still v n) vs) (behind_types k ws)) (still_alike v w h.0 n)
+    (behind_alike (still v n) vs ws h.1)
+
+same_kinds : (es : Structures) (w : TypeWord) (vs ws : List TypeWord)
+    → kind_of_type es vs ≡ kind_of_type es ws → kind_of_type es (w ∷ vs) ≡ kind_of_type es (w ∷ ws)
+same_kinds es word.Void vs ws h = refl
+same_kinds es (word.Integer x) vs ws h = refl
+same_kinds es (word.Enumeration x) vs ws h = refl
+same_kinds es word.Pointer vs ws h = refl
+same_kinds es (word.Array x y) vs ws h = refl
+same_kinds es word.OpenArray vs ws h = refl
+same_kinds es (word.Structure x) vs ws h = refl
+same_kinds es word.Const vs ws h = h
+same_kinds es word.Takes vs ws h = refl
+same_kinds es word.Gives vs ws h = refl
+
+kind_alike : (es : Structures) (vs ws : List TypeWord) → AreAlike vs ws → kind_of_type es vs ≡ kind_of_type es ws
+kind_alike es [] [] h = refl
+kind_alike es [] (w ∷ ws) h = absurd cc
+kind_alike es (v ∷ vs) [] h = absurd cc
+kind_alike es (v ∷ vs) (w ∷ ws) h = by h.0 (kind_alike es vs ws h.1)
+  where
+    by : IsAlike v w → kind_of_type es vs ≡ kind_of_type es ws → kind_of_type es (v ∷ vs) ≡ kind_of_type es (w ∷ ws)
+    by (same_word e) g = ap (λ z. kind_of_type es (z ∷ vs)) e ∙ same_kinds es w vs ws g
+    by (both_arrays e f) g = array_kind es v vs e ∙ sym (array_kind es w ws f)
+
+end_alike : (vs ws : List TypeWord) → AreAlike vs ws → is_end vs ≡ is_end ws
+end_alike [] [] h = refl
+end_alike [] (w ∷ ws) h = absurd cc
+end_alike (v ∷ vs) [] h = absurd cc
+end_alike (v ∷ vs) (w ∷ ws) h = refl
+
+both_same : (a b c d : Bool) → a ≡ c → b ≡ d → (a && b) ≡ (c && d)
+both_same a b c d e g = ap (λ z. z && b) e ∙ ap (λ z. c && z) g
+
+same_gives : (es : Structures) (w : TypeWord) (vs ws : List TypeWord) (k : Kind) → AreAlike vs ws
+    → gives_kind es (w ∷ vs) k ≡ gives_kind es (w ∷ ws) k
+same_gives es word.Void vs ws k h = refl
+same_gives es (word.Integer x) vs ws k h = refl
+same_gives es (word.Enumeration x) vs ws k h = refl
+same_gives es word.Pointer vs ws k h = refl
+same_gives es (word.Array x y) vs ws k h = refl
+same_gives es word.OpenArray vs ws k h = refl
+same_gives es (word.Structure x) vs ws k h = refl
+same_gives es word.Const vs ws k h = refl
+same_gives es word.Takes vs ws k h = refl
+same_gives es word.Gives vs ws k h =
+    both_same (is_kind_of (kind_of_type es vs) k) (is_end (behind_types 1 vs)) (is_kind_of (kind_of_type es ws) k)
+    (is_end (behind_types 1 ws)) (ap (λ o. is_kind_of o k) (kind_alike es vs ws h))
+    (end_alike (behind_types 1 vs) (behind_types 1 ws) (behind_alike 1 vs ws h))
+
+same_takes : (es : Structures) (w : TypeWord) (vs ws : List TypeWord) (k : Kind) → AreAlike vs ws
+    → takes_kind es (w ∷ vs) k ≡ takes_kind es (w ∷ ws) k
+same_takes es word.Void vs ws k h = refl
+same_takes es (word.Integer x) vs ws k h = refl
+same_takes es (word.Enumeration x) vs ws k h = refl
+same_takes es word.Pointer vs ws k h = refl
+same_takes es (word.Array x y) vs ws k h = refl
+same_takes es word.OpenArray vs ws k h = refl
+same_takes es (word.Structure x) vs ws k h = refl
+same_takes es word.Const vs ws k h = refl
+same_takes es word.Takes vs ws k h = ap (λ o. is_kind_of o k) (kind_alike es vs ws h)
+same_takes es word.Gives vs ws k h = refl
+
+pub agrees_alike : (es : Structures) (vs ws : List TypeWord) → AreAlike vs ws → (ks : List Kind) (k : Kind)
+    → agrees es vs ks k ≡ agrees es ws ks k
+agrees_alike es [] [] h [] k = refl
+agrees_alike es [] (w ∷ ws) h ks k = absurd cc
+agrees_alike es (v ∷ vs) [] h ks k = absurd cc
+agrees_alike es [] [] h (j ∷ ks) k = refl
+agrees_alike es (v ∷ vs) (w ∷ ws) h [] k = by h.0
+  where
+    by : IsAlike v w → gives_kind es (v ∷ vs) k ≡ gives_kind es (w ∷ ws) k
+    by (same_word e) = ap (λ z. gives_kind es (z ∷ vs) k) e ∙ same_gives es w vs ws k h.1
+    by (both_arrays e f) = array_gives es v vs k e ∙ sym (array_gives es w ws k f)
+agrees_alike es (v ∷ vs) (w ∷ ws) h (j ∷ ks) k =
+    both_same (takes_kind es (v ∷ vs) j) (agrees es (behind_types 1 vs) ks k) (takes_kind es (w ∷ ws) j)
+    (agrees es (behind_types 1 ws) ks k) (by h.0)
+    (agrees_alike es (behind_types 1 vs) (behind_types 1 ws) (behind_alike 1 vs ws h.1) ks k)
+  where
+    by : IsAlike v w → takes_kind es (v ∷ vs) j ≡ takes_kind es (w ∷ ws) j
+    by (same_word e) = ap (λ z. takes_kind es (z ∷ vs) j) e ∙ same_takes es w vs ws j h.1
+    by (both_arrays e f) = array_takes es v vs j e ∙ sym (array_takes es w ws j f)
+
+-- composite types
+
+word_same : {v w : TypeWord} {vs ws : List TypeWord} → v ∷ vs ≡ w ∷ ws → v ≡ w
+word_same e = cc
+
+the_same : {A : Type 0} {a b : A} → Some a ≡ Some b → a ≡ b
+the_same e = cc
+
+chosen_alike : (v w c : TypeWord) (b : Bool) → same_words (v ∷ []) (w ∷ []) ≡ b
+    → (if b then Some v else None) ≡ Some c → IsAlike c w
+chosen_alike v w c true e g = same_word (sym (the_same g) ∙ word_same (words_are (v ∷ []) (w ∷ []) e))
+chosen_alike v w c false e g = absurd cc
+
+joint_alike : (v w c : TypeWord) → joint v w ≡ Some c → IsAlike c w
+joint_alike word.Void w c e = chosen_alike word.Void w c (same_words (word.Void ∷ []) (w ∷ [])) refl e
+joint_alike (word.Integer x) w c e =
+    chosen_alike (word.Integer x) w c (same_words (word.Integer x ∷ []) (w ∷ [])) refl e
+joint_alike (word.Enumeration x) w c e =
+    chosen_alike (word.Enumeration x) w c (same_words (word.Enumeration x ∷ []) (w ∷ [])) refl e
+joint_alike word.Pointer w c e = chosen_alike word.Pointer w c (same_words (word.Pointer ∷ []) (w ∷ [])) refl e
+joint_alike (word.Array x y) word.Void c e =
+    chosen_alike (word.Array x y) word.Void c (same_words (word.Array x y ∷ []) (word.Void ∷ [])) refl e
+joint_alike (word.Array x y) (word.Integer m) c e =
+    chosen_alike (word.Array x y) (word.Integer m) c (same_words (word.Array x y ∷ []) (word.Integer m ∷ [])) refl e
+joint_alike (word.Array x y) (word.Enumeration m) c e =
+    chosen_alike (word.Array x y) (word.Enumeration m) c (same_words (word.Array x y ∷ []) (word.Enumeration m ∷ []))
+    refl e
+joint_alike (word.Array x y) word.Pointer c e =
+    chosen_alike (word.Array x y) word.Pointer c (same_words (word.Array x y ∷ []) (word.Pointer ∷ [])) refl e
+joint_alike (word.Array x y) (word.Array m n) c e =
+    chosen_alike (word.Array x y) (word.Array m n) c (same_words (word.Array x y ∷ []) (word.Array m n ∷ [])) refl e
+joint_alike (word.Array x y) word.OpenArray c e = both_arrays (ap is_array_word (sym (the_same e))) refl
+joint_alike (word.Array x y) (word.Structure m) c e =
+    chosen_alike (word.Array x y) (word.Structure m) c (same_words (word.Array x y ∷ []) (word.Structure m ∷ [])) refl e
+joint_alike (word.Array x y) word.Const c e =
+    chosen_alike (word.Array x y) word.Const c (same_words (word.Array x y ∷ []) (word.Const ∷ [])) refl e
+joint_alike (word.Array x y) word.Takes c e =
+    chosen_alike (word.Array x y) word.Takes c (same_words (word.Array x y ∷ []) (word.Takes ∷ [])) refl e
+joint_alike (word.Array x y) word.Gives c e =
+    chosen_alike (word.Array x y) word.Gives c (same_words (word.Array x y ∷ []) (word.Gives ∷ [])) refl e
+joint_alike word.OpenArray word.Void c e =
+    chosen_alike word.OpenArray word.Void c (same_words (word.OpenArray ∷ []) (word.Void ∷ [])) refl e
+joint_alike word.OpenArray (word.Integer m) c e =
+    chosen_alike word.OpenArray (word.Integer m) c (same_words (word.OpenArray ∷ []) (word.Integer m ∷ [])) refl e
+joint_alike word.OpenArray (word.Enumeration m) c e =
+    chosen_alike word.OpenArray (word.Enumeration m) c (same_words (word.OpenArray ∷ []) (word.Enumeration m ∷ []))
+    refl e
+joint_alike word.OpenArray word.Pointer c e =
+    chosen_alike word.OpenArray word.Pointer c (same_words (word.OpenArray ∷ []) (word.Pointer ∷ [])) refl e
+joint_alike word.OpenArray (word.Array m n) c e = same_word (sym (the_same e))
+joint_alike word.OpenArray word.OpenArray c e =
+    chosen_alike word.OpenArray word.OpenArray c (same_words (word.OpenArray ∷ []) (word.OpenArray ∷ [])) refl e
+joint_alike word.OpenArray (word.Structure m) c e =
+    chosen_alike word.OpenArray (word.Structure m) c (same_words (word.OpenArray ∷ []) (word.Structure m ∷ [])) refl e
+joint_alike word.OpenArray word.Const c e =
+    chosen_alike word.OpenArray word.Const c (same_words (word.OpenArray ∷ []) (word.Const ∷ [])) refl e
+joint_alike word.OpenArray word.Takes c e =
+    chosen_alike word.OpenArray word.Takes c (same_words (word.OpenArray ∷ []) (word.Takes ∷ [])) refl e
+joint_alike word.OpenArray word.Gives c e =
+    chosen_alike word.OpenArray word.Gives c (same_words (word.OpenArray ∷ []) (word.Gives ∷ [])) refl e
+joint_alike (word.Structure x) w c e =
+    chosen_alike (word.Structure x) w c (same_words (word.Structure x ∷ []) (w ∷ [])) refl e
+joint_alike word.Const w c e = chosen_alike word.Const w c (same_words (word.Const ∷ []) (w ∷ [])) refl e
+joint_alike word.Takes w c e = chosen_alike word.Takes w c (same_words (word.Takes ∷ []) (w ∷ [])) refl e
+joint_alike word.Gives w c e = chosen_alike word.Gives w c (same_words (word.Gives ∷ []) (w ∷ [])) refl e
+
+composite_alike : (s t c : List TypeWord) → composite s t ≡ Some c → AreAlike c t
+unfolding composite
+composite_alike [] [] c e = subst (λ z. AreAlike z []) (the_same e) tt
+composite_alike [] (w ∷ t) c e = absurd cc
+composite_alike (v ∷ s) [] c e = absurd cc
+composite_alike (v ∷ s) (w ∷ t) c e =
+    by (joint v w) (composite s t) (joint_alike v w) (composite_alike s t) e
+  where
+    by : (o : Option TypeWord) (p : Option (List TypeWord)) → ((x : TypeWord) → o ≡ Some x → IsAlike x w)
+        → ((xs : List TypeWord) → p ≡ Some xs → AreAlike xs t) → joined o p ≡ Some c → AreAlike c (w ∷ t)
+    by None p h g e = absurd cc
+    by (Some x) None h g e = absurd cc
+    by (Some x) (Some xs) h g e = subst (λ z. AreAlike z (w ∷ t)) (the_same e) (h x refl, g xs refl)
+
+-- a composite type spells what the types that it is composed of spell
+pub composite_agrees : (es : Structures) (s t c : List TypeWord) → composite s t ≡ Some c → (ks : List Kind) (k : Kind)
+    → agrees es c ks k ≡ agrees es t ks k
+composite_agrees es s t c e ks k = agrees_alike es c t (composite_alike s t c e) ks k

@@ -1,0 +1,10 @@
+pub mod Declarations
+pub mod Definitions
+pub mod Ends
+pub mod Files
+pub mod FunctionWords
+pub mod Functions
+pub mod StaticKinds
+pub mod Numbers
+pub mod Spelled
+pub mod Statics

@@ -1,0 +1,16 @@
+pub mod Contents
+pub mod Counted
+pub mod Cursor
+pub mod Ended
+pub mod Extents
+pub mod Fitting
+pub mod Giving
+pub mod Initialized
+pub mod Objects
+pub mod Places
+pub mod Placings
+pub mod Recursion
+pub mod Scalars
+pub mod Some
+pub mod Steps
+pub mod Valid

@@ -1,0 +1,4 @@
+pub mod Chained
+pub mod Declarations
+pub mod Files
+pub mod Statements

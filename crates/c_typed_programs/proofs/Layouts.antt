@@ -1,0 +1,9 @@
+pub mod Arrays
+pub mod Behind
+pub mod Chained
+pub mod Composite
+pub mod Declared
+pub mod Lists
+pub mod Recursion
+pub mod Standing
+pub mod Start

@@ -1,0 +1,14 @@
+pub mod Bodies
+pub mod Declarations
+pub mod Files
+pub mod Functions
+pub mod Initializers
+pub mod LaidOut
+pub mod Layouts
+pub mod Names
+pub mod Places
+pub mod Programs
+pub mod Scopes
+pub mod SpelledTypes
+pub mod Statics
+pub mod Types

@@ -1,0 +1,10 @@
+pub mod Built
+pub mod Calls
+pub mod Declarators
+pub mod Kept
+pub mod Operators
+pub mod Parameters
+pub mod Recursion
+pub mod States
+pub mod Steps
+pub mod Tags

@@ -1,0 +1,10 @@
+use Rattle.c_typed_programs.proofs.Bodies.Bodies.{function_body, function_declares, function_parameters, function_variables}
+use Rattle.c_typed_programs.proofs.laws.bodies.functions_have_valid_bodies.Goals as goal
+
+pub returns : goal.returns
+returns c = record {
+  body = function_body;
+  declares = function_declares;
+  variables = function_variables;
+  parameters = function_parameters;
+}

@@ -1,0 +1,4 @@
+pub mod Cursor
+pub mod Giving
+pub mod Initialized
+pub mod Placing

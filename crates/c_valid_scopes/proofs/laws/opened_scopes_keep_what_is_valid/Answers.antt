@@ -1,0 +1,13 @@
+use Rattle.c_valid_scopes.proofs.Agreeing.{opened_content, opened_expression, opened_lvalue, opened_part, opened_parts}
+use Rattle.c_valid_scopes.proofs.Agreeing.{opened_row}
+use Rattle.c_valid_scopes.proofs.laws.opened_scopes_keep_what_is_valid.Goals as goal
+
+pub returns : goal.returns
+returns c = record {
+  expression = opened_expression;
+  row = opened_row;
+  place = opened_lvalue;
+  content = opened_content;
+  part = opened_part;
+  parts = opened_parts;
+}

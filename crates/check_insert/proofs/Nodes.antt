@@ -270,7 +270,8 @@ abbrev From : List Instruction → (node : ℕ) → List Instruction → Type 0
 From code n is = (k : ℕ) (i : Instruction) → Has is k i → Has code (n + k) i
 
 next_from : (code is : List Instruction) (n : ℕ) (j : Instruction) → From code n (j ∷ is) → From code (n + 1) is
-next_from code is n j h k i e = let at : n + suc k ≡ n + 1 + k = omega arith in subst (λ m. Has code m i) at (h (suc k) i e)
+next_from code is n j h k i e = let at : n + suc k ≡ n + 1 + k =
+    omega arith in subst (λ m. Has code m i) at (h (suc k) i e)
 
 first_from : (code is : List Instruction) (n : ℕ) (i : Instruction) → From code n (i ∷ is) → Has code n i
 first_from code is n i h = let at : n + 0 ≡ n = omega arith in subst (λ m. Has code m i) at (h 0 i refl)
@@ -289,7 +290,8 @@ rest_from : (code : List Instruction) (next : ℕ) (a : Option Access) (more : L
 rest_from code next None more b = b
 rest_from code next (Some a) more b = λ k i h.
     let at : next + 1 + 1 + k ≡ next + 2 + k = omega arith in
-    subst (λ m. Has code m i) at (next_from code more (next + 1) a.judged (next_from code (a.judged ∷ more) next _ b) k i h)
+    subst (λ m. Has code m i) at (next_from code more (next + 1) a.judged (next_from code (a.judged ∷ more) next _ b) k
+    i h)
 
 all_stand : (code : List Instruction) (n next : ℕ) (is : List Instruction) → From code n (fronts next is)
     → From code next (backs next is) → (k : ℕ) (i : Instruction) → Has is k i → StandsFor code (n + k) i
@@ -305,7 +307,8 @@ all_stand code n next (j ∷ is) f b zero i h =
 all_stand code n next (j ∷ is) f b (suc k) i h =
     let at : n + 1 + k ≡ n + suc k = omega arith in
     subst (λ m. StandsFor code m i) at
-    (all_stand code (n + 1) (behind next (access_of j)) is (next_from code _ n (front next (access_of j) j) f) (rest_from code next (access_of j) _ b) k i h)
+    (all_stand code (n + 1) (behind next (access_of j)) is (next_from code _ n (front next (access_of j) j) f)
+    (rest_from code next (access_of j) _ b) k i h)
 
 front_length : (next : ℕ) (is : List Instruction) → length (fronts next is) ≡ length is
 front_length next [] = refl
@@ -362,7 +365,8 @@ need_backs : (code : List Instruction) (n next : ℕ) (is : List Instruction) �
     → Each (NeedsNoMore code) (backs next is)
 need_backs code n next [] f = tt
 need_backs code n next (i ∷ is) f =
-    each_and (NeedsNoMore code) (back next (access_of i)) _ (need_back code n next (access_of i) i (first_from code is n i f) (few i))
+    each_and (NeedsNoMore code) (back next (access_of i)) _
+    (need_back code n next (access_of i) i (first_from code is n i f) (few i))
     (need_backs code (n + 1) (behind next (access_of i)) is (next_from code is n i f))
 
 sum_and : (f : Instruction → ℕ) (xs ys : List Instruction) → sum_over f (xs ++ ys) ≡ sum_over f xs + sum_over f ys

@@ -218,7 +218,8 @@ module _ (map : MapSizes) (mapped : AreMapped map) (entry : View) (IsGood : Byte
             cursor = o 0 (omega arith) ∙ left_spells.word;
             other = o 5 (omega arith) ∙ right_spells.word;
             bound = o 2 (omega arith) ∙ ap (λ q. q.bound) left_spells.tag ∙ ap (λ t. (spell g k t).bound) r.tag_is;
-            other_bound = o 7 (omega arith) ∙ ap (λ q. q.bound) right_spells.tag ∙ ap (λ t. (spell g k t).bound) s.tag_is;
+            other_bound = o 7 (omega arith) ∙ ap (λ q. q.bound) right_spells.tag
+                ∙ ap (λ t. (spell g k t).bound) s.tag_is;
             memory = same.memory;
             shows = record {
               input = shows.input;

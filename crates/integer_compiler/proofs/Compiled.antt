@@ -134,7 +134,8 @@ large_code p t m bytes law h =
 
 pub nodes_result : (p : Program) (t : Tac) (m : MapSizes) (r : Result Built CompileError)
     → ((k : Tac) (plans : List FunctionPlan) (bytes : ℕ) → Inserted t k → AreAllSmall m k
-    → AreAccepted (flat_code m k) plans → IsCause m (flat_code m k) plans (generate.TooLarge bytes) → 8192 < program_nodes p)
+    → AreAccepted (flat_code m k) plans → IsCause m (flat_code m k) plans (generate.TooLarge bytes)
+    → 8192 < program_nodes p)
     → IfErr r (λ e. UnlessMemory e (IsRefused (Inserted t) m e)) → IfErr r (λ e. NeedsNodes e p)
 nodes_result p t m (Ok b) law h = tt
 nodes_result p t m (Err NumbersTooLarge) law h = tt

@@ -171,7 +171,8 @@ all_placed m t c xs p b r le h same begin =
 abbrev pub node_code : MapSizes → Tac → CodeFunction → (node : ℕ) → Instruction → List FlatInstruction
 node_code m t c n i =
     block operators m t c i
-    ++ jumps c (place_of operators m t c) n (place_of operators m t c n + length (block operators m t c i)) (successors i)
+    ++ jumps c (place_of operators m t c) n (place_of operators m t c n + length (block operators m t c i))
+    (successors i)
 
 -- the code of so many nodes stands, from the last down
 pub record HaveCode (m : MapSizes) (t : Tac) (c : CodeFunction) (before now : List FlatInstruction) (behind : ℕ)

@@ -91,7 +91,8 @@ module _ (map : MapSizes) (mapped : AreMapped map) (charge weight : ℕ) (t w : 
       (Either (HasPrinted bytes t w f) Never) words
       ((puts n charge weight).from code pc f (has_front code pc putting (count_string h k t w) has) words (record {
         end_is = ends;
-        allowed = λ i l. object_allowed map (f.values h.value + i) (f.values h.value + i) 1 refl (omega arith) (omega arith);
+        allowed = λ i l. object_allowed map (f.values h.value + i) (f.values h.value + i) 1 refl (omega arith)
+            (omega arith);
       }))
       (λ z wz put.
       line c code (count_string h k t w) (pc + length putting) z (HasPrinted bytes t w f) Never (tt, (tt, tt))

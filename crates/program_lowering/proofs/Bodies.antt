@@ -34,7 +34,8 @@ pub body_code : {vs : List Variable} {ss : Statements} {result : Kind} {texts : 
     {returns end entry : ℕ} {x : Exits} → a.code.items ≡ [] → a.texts.items ≡ texts → Added a b returns (tac.Return 0)
     → Added b c end (tac.ZeroOf result 0 returns) → exits_of x ≡ function_exits end returns
     → StatementsCode vs c d ss entry x → BodyCode vs ss result texts d entry
-body_code {vs = vs} {ss = ss} {texts = texts} {a = a} {returns = returns} {end = end} {entry = entry} {x = x} none same r z q h =
+body_code {vs = vs} {ss = ss} {texts = texts} {a = a} {returns = returns} {end = end} {entry = entry} {x = x} none same
+    r z q h =
     let most = each_height ss in
     let one = each_needs_one ss in
     let er = added_emits most r (omega (arith, one)) in

@@ -89,7 +89,8 @@ pub if_else_code : {vs : List Variable} {a b c d : Emitter} {e : Expression} {s 
     → StatementCode vs a d (if_else e s other) n x
 if_else_code {vs = vs} {e = e} {s = s} {other = other} {k = k} {j = j} ho h t =
     let top = max (height e) (max (statement_height s) (statement_height other)) in
-    let both = emits_then top (λ w. statement_weight vs s w + statement_weight vs other w) ho.emits h.emits (omega arith)
+    let both = emits_then top (λ w. statement_weight vs s w + statement_weight vs other w) ho.emits h.emits
+    (omega arith)
     (omega arith) (λ w. omega arith) in
     record {
       emits = emits_then top (statement_weight vs (if_else e s other)) both t.emits (omega arith)

@@ -83,7 +83,8 @@ more_tests : {a b c : Emitter} {n k m start : ℕ} (x : CodeItem) (is : SwitchIt
 more_tests {a = a} {c = c} {n = n} {k = k} {m = m} {start = start} x is starts hs h =
     let view = of_item x in
     let code : TestsCode a c (items x.labels (item_of x).1 is) (start ∷ starts) n m = record {
-      emits = emits_then 1 (λ w. labels_weight x.labels w + tests_weight is w) hs.emits h.emits (omega arith) (omega arith)
+      emits = emits_then 1 (λ w. labels_weight x.labels w + tests_weight is w) hs.emits h.emits (omega arith)
+          (omega arith)
           (λ w. omega arith);
       stands = λ p f d. (k, h.stands p f m d.0, hs.stands p (fills_before h.emits f) d.1);
     } in

@@ -92,7 +92,8 @@ pub for_code : {vs : List Variable} {a b c d : Emitter} {numbers : List ℕ} {li
     → exits_of y ≡ in_loop (exits_of h.inside) h.step → StatementCode vs b c s body y
     → parts ≡ counted_parts first test step s → ForTailCode vs c d numbers line first parts h body n
     → StatementCode vs a d (for line first test step s) n x
-for_code {vs = vs} {line = line} {first = first} {test = test} {step = step} {s = s} {h = h} {n = n} {body = body} {x = x} same
+for_code {vs = vs} {line = line} {first = first} {test = test} {step = step} {s = s} {h = h} {n = n} {body = body}
+    {x = x} same
     k q g
     ranged t = record {
       emits = record {

@@ -15,4 +15,5 @@ returns-then-node-len c =
     (adds_one table x c.index.result.now inside at)
 
 pub returns-else-node-len : goal.returns-else-node-len
-returns-else-node-len c = adds_none c.args.table.now.items c.args.node (omega (arith, c.if-node-len.false, c.len.ensures))
+returns-else-node-len c = adds_none c.args.table.now.items c.args.node
+    (omega (arith, c.if-node-len.false, c.len.ensures))

@@ -1,4 +1,5 @@
 pub mod Bodies
+pub mod Common
 pub mod Declarations
 pub mod Files
 pub mod Functions

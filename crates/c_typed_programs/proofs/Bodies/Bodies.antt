@@ -70,7 +70,7 @@ use Rattle.c_typed_programs.specs.Bodies.Standing.{AreLinked, AreOpen, AreVariab
 use Rattle.c_typed_programs.specs.Bodies.Standing.{Stands}
 use Rattle.c_typed_programs.specs.Bodies.Typed.{IfTyped}
 use Rattle.c_typed_programs.specs.Bodies.Types.{is_type}
-use Rattle.c_typed_programs.proofs.Bodies.Chained.{filed, typed_as}
+use Rattle.c_typed_programs.proofs.Bodies.Chained.{typed_as}
 use Rattle.c_typed_programs.proofs.Bodies.Entities.{StandsLinked, entities_on, entities_same}
 use Rattle.c_typed_programs.proofs.Bodies.Entities.{linked_extended}
 use Rattle.c_typed_programs.proofs.Bodies.Declared.{IfMade, answered_made}
@@ -88,6 +88,7 @@ use Rattle.c_typed_programs.proofs.Bodies.Matching.{TakesParameters, shape_takes
 use Rattle.c_typed_programs.proofs.Bodies.Takes.{parameters_fit}
 use Rattle.c_typed_programs.proofs.Bodies.Types.{WholeShape, also_gives, built_type, shape_types, stored_type}
 use Rattle.c_typed_programs.proofs.Bodies.Together.{statements_valid}
+use Rattle.c_typed_programs.proofs.Common.{filed}
 
 -- the scope of a function's parameters
 

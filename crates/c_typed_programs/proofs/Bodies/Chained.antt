@@ -28,6 +28,7 @@ use Rattle.c_typed_programs.proofs.Bodies.Entities.{entities_on, entities_same, 
 use Rattle.c_typed_programs.proofs.Bodies.Laid.{laid_closed, laid_opened}
 use Rattle.c_typed_programs.proofs.Bodies.Opened.{among_either, among_left, among_right, within_open}
 use Rattle.c_typed_programs.proofs.Bodies.Standing.{stands_closed, stands_extended, stands_opened, stands_within}
+use Rattle.c_typed_programs.proofs.Common.{filed}
 
 pub no_numbers : (f g : File) → g.state.environment.variables ≡ f.state.environment.variables
     → length g.variables ≡ length f.variables → Numbers [] f g
@@ -72,8 +73,6 @@ open_none scope = λ n e. absurd (no e)
     no e = cc
 
 -- what is typed in the state of expressions and declarators, in its file
-abbrev pub filed : {A : Type 0} → File → State × A → Answer (File × A)
-filed f r = Ok (record f { state = r.0 }, r.1)
 
 module _ (result : List TypeWord) where
   pub finished_typed : {A : Type 0} (made opens : A → List ℕ) (p : Scope → A → Type 0) (f : File) → IsReady f.state

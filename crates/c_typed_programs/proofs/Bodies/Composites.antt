@@ -10,6 +10,7 @@ use Rattle.c_tree.specs.TypesAgree.{takes_kind}
 use Rattle.c_rules.proofs.SameTypes.{words_are}
 use Rattle.c_scope.specs.Composite.{composite, joined, joint}
 use Rattle.c_typed_validity.specs.Steps.{Structures}
+use Rattle.c_typed_programs.proofs.Common.{the_same}
 
 -- words that differ in the sizes of arrays alone
 
@@ -183,9 +184,6 @@ agrees_alike es (v ∷ vs) (w ∷ ws) h (j ∷ ks) k =
 
 word_same : {v w : TypeWord} {vs ws : List TypeWord} → v ∷ vs ≡ w ∷ ws → v ≡ w
 word_same e = cc
-
-the_same : {A : Type 0} {a b : A} → Some a ≡ Some b → a ≡ b
-the_same e = cc
 
 chosen_alike : (v w c : TypeWord) (b : Bool) → same_words (v ∷ []) (w ∷ []) ≡ b
     → (if b then Some v else None) ≡ Some c → IsAlike c w

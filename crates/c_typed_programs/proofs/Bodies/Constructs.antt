@@ -34,7 +34,6 @@ use Rattle.c_typed_validity.specs.Steps.{nothing}
 use Rattle.c_typed_validity.proofs.Sound.{If, sound_judged}
 use Rattle.c_typed_declarators.specs.Extending.{Extending}
 use Rattle.c_typed_declarators.specs.Given.{anything}
-use Rattle.c_typed_programs.proofs.Places.Labels.{both}
 use Rattle.c_typed_programs.specs.Scopes.Regular.{is_regular_if}
 use Rattle.c_typed_programs.proofs.Scopes.Extended.{step_extends}
 use Rattle.c_typed_programs.proofs.Scopes.Extended.{controlling_extends, expression_extends}
@@ -48,6 +47,7 @@ use Rattle.c_typed_programs.proofs.Bodies.Chained.{one_typed, scoped_typed, stat
 use Rattle.c_typed_programs.proofs.Bodies.Evaluated.{controlling_sound, expression_sound}
 use Rattle.c_typed_programs.proofs.Bodies.Evaluated.{returned_sound}
 use Rattle.c_typed_programs.proofs.Bodies.Laid.{controlling_laid, expression_laid, returned_laid, step_laid}
+use Rattle.c_typed_programs.proofs.Common.{both}
 
 -- what constructs are typed to
 

@@ -46,11 +46,10 @@ use Rattle.c_typed_declarators.proofs.Known.{meant_kept}
 use Rattle.c_typed_declarators.proofs.Recursion.{shape_extends}
 use Rattle.c_typed_programs.specs.Declarations.Binding.{Binds, Declares, IfDeclared, IsCompleteFor, bound_meaning}
 use Rattle.c_typed_programs.specs.Declarations.Binding.{linked_meaning, unlinked_meaning}
-use Rattle.c_typed_programs.proofs.Declarations.Judged.{answered, declared_as_declares, passed, passed_some}
+use Rattle.c_typed_programs.proofs.Declarations.Judged.{answered, declared_as_declares}
 use Rattle.c_typed_programs.specs.Scopes.Regular.{are_regular_declarators, initializer_of, is_regular_declaration}
 use Rattle.c_typed_programs.specs.Scopes.Regular.{is_regular_initializer_if, is_regular_object}
 use Rattle.c_typed_programs.proofs.Scopes.Declarations.{specified_extends}
-use Rattle.c_typed_programs.proofs.Scopes.Initializers.{first, second}
 use Rattle.c_typed_programs.proofs.Scopes.Leading.{bound_leads, state_leads}
 use Rattle.c_typed_programs.proofs.Places.Labels.{all_append}
 use Rattle.c_typed_programs.specs.Layouts.Listed.{HasArrays, HasArraysOf, HasSizes, IfLaidOut, IsLaidOut}
@@ -60,7 +59,7 @@ use Rattle.c_typed_programs.proofs.Layouts.Behind.{shape_behind}
 use Rattle.c_typed_programs.proofs.Layouts.Declared.{declared_as_laid}
 use Rattle.c_typed_programs.specs.Bodies.Standing.{AreLinked, Ends, EntitiesLead, IsOpenMeaning, IsReady, Stands}
 use Rattle.c_typed_programs.specs.Bodies.Typed.{IfTyped, Typed}
-use Rattle.c_typed_programs.proofs.Bodies.Chained.{filed, after_state, finished_typed, given_typed, kept_sound, no_numbers, no_variables}
+use Rattle.c_typed_programs.proofs.Bodies.Chained.{after_state, finished_typed, given_typed, kept_sound, no_numbers, no_variables}
 use Rattle.c_typed_programs.proofs.Bodies.Chained.{two_behind}
 use Rattle.c_typed_programs.proofs.Bodies.Ends.{linked_open}
 use Rattle.c_typed_programs.proofs.Bodies.Entities.{declared_linked, entities_linked, entities_same, linked_behind}
@@ -69,6 +68,7 @@ use Rattle.c_typed_programs.proofs.Bodies.Laid.{stored_laid}
 use Rattle.c_typed_programs.proofs.Bodies.Meant.{if_linked}
 use Rattle.c_typed_programs.proofs.Bodies.Objects.{AreDeclared, static_typed, variable_typed}
 use Rattle.c_typed_programs.proofs.Bodies.Standing.{stands_bound}
+use Rattle.c_typed_programs.proofs.Common.{filed, first, passed, passed_some, second, some_mapped}
 
 -- what is declared, and that it violates no rule
 
@@ -123,10 +123,6 @@ linked_bare : (s : State) (d : Declaration) → in_file s.environment ≡ false
 linked_bare s d inner e has =
     none_by d.has_initializer (is_typedef d.storage) (in_file s.environment) (is_function d.type) (is_extern d.storage)
     inner has (well_initialized (surroundings s.environment d) d e)
-
-some_mapped : {A B : Type 0} (g : A → B) (x : Option A) → is_some (option_map g x) ≡ is_some x
-some_mapped g None = refl
-some_mapped g (Some x) = refl
 
 -- what is bound, by linkage and storage
 

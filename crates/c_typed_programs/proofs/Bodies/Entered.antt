@@ -35,11 +35,11 @@ use Rattle.c_typed_declarators.proofs.Parameters.{found_last}
 use Rattle.c_typed_programs.specs.Declarations.Binding.{HasVariable, IsObjectType}
 use Rattle.c_typed_programs.proofs.Declarations.Variables.{declared_is_variable, variable_is}
 use Rattle.c_typed_programs.proofs.Scopes.Files.{entered_leads, inside}
-use Rattle.c_typed_programs.proofs.Places.Labels.{both}
 use Rattle.c_typed_programs.specs.Bodies.Parameters.{AreParameters, EntryThen, IsFileScope, NumberedThen}
 use Rattle.c_typed_programs.specs.Bodies.Standing.{IsOpen, IsOpenMeaning, Stands}
 use Rattle.c_typed_programs.proofs.Bodies.Ends.{linked_open}
 use Rattle.c_typed_programs.proofs.Bodies.Functions.{parameter_open}
+use Rattle.c_typed_programs.proofs.Common.{both}
 
 -- how many parameters there are, and where each stands among them
 

@@ -42,12 +42,12 @@ use Rattle.c_typed_declarators.specs.Extending.{Extending}
 use Rattle.c_typed_declarators.proofs.Chained.{extends_same, then_extends}
 use Rattle.c_typed_declarators.proofs.Known.{type_names}
 use Rattle.c_typed_declarators.specs.Given.{anything}
-use Rattle.c_typed_programs.proofs.Places.Labels.{both as and}
 use Rattle.c_typed_programs.specs.Scopes.Regular.{is_regular_if}
 use Rattle.c_typed_programs.proofs.Scopes.Extended.{step_extends}
 use Rattle.c_typed_programs.proofs.Scopes.Extended.{evaluated_if_extends, valued_if_extends}
 use Rattle.c_typed_programs.specs.Bodies.Parts.{has_valid_parts}
 use Rattle.c_typed_programs.specs.Bodies.Standing.{IsResult}
+use Rattle.c_typed_programs.proofs.Common.{both as and}
 
 -- the kind of what a function gives
 

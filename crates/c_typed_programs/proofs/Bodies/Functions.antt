@@ -11,9 +11,9 @@ use Rattle.c_tree.specs.Blocks.{all_of, block_variables, body_variables, closed,
 use Rattle.c_tree.specs.Programs.{Function}
 use Rattle.c_tree.specs.Valid.{Scope, at_number}
 use Rattle.c_tree.specs.ValidProgram.{count_from, declares_all}
-use Rattle.c_typed_programs.proofs.Places.Labels.{both}
 use Rattle.c_typed_programs.specs.Bodies.Standing.{AreOpen, IsOpen}
 use Rattle.c_typed_programs.proofs.Bodies.Opened.{opened_at, opened_length}
+use Rattle.c_typed_programs.proofs.Common.{both}
 
 -- a scope in the block of the body of a function
 module _ (scope : Scope) (f : Function) (all : scope.all ≡ all_of f)

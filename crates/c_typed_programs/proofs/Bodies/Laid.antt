@@ -56,6 +56,7 @@ use Rattle.c_typed_programs.proofs.Layouts.Declared.{declared_by}
 use Rattle.c_typed_programs.proofs.Layouts.Recursion.{typed_laid, valued_laid}
 use Rattle.c_typed_programs.proofs.Layouts.Standing.{same_lists}
 use Rattle.c_typed_programs.proofs.Bodies.Evaluated.{head_extends}
+use Rattle.c_typed_programs.proofs.Common.{neither_left as first_false}
 
 -- in and behind blocks
 
@@ -226,10 +227,6 @@ stored_laid is_alone specs c s formed laid =
     stored_behind (specification is_alone specs s) (specification_behind is_alone specs c s formed laid)
 
 -- the declarator of a definition
-
-first_false : (a b : Bool) → (a || b) ≡ false → a ≡ false
-first_false true b e = e
-first_false false b e = refl
 
 module _ (s : State) (formed : IsFormed s) (laid : IsLaidOut s) (spec : Specification) (has : HasArrays s spec)
     (sh : Shape) (name : Name × ℕ) where

@@ -34,18 +34,18 @@ use Rattle.c_typed_programs.specs.Declarations.Binding.{Binds, HasStatic, HasVar
 use Rattle.c_typed_programs.proofs.Declarations.Variables.{declared_is_variable, static_is, variable_is}
 use Rattle.c_typed_programs.specs.Scopes.Regular.{is_regular_initializer_if}
 use Rattle.c_typed_programs.proofs.Scopes.Leading.{bound_leads, leads_on}
-use Rattle.c_typed_programs.proofs.Places.Labels.{both}
 use Rattle.c_typed_programs.specs.Layouts.Listed.{HasSizes, IfLaidOut, IsLaidOut}
 use Rattle.c_typed_programs.specs.Bodies.Given.{AreInitialized, IfInitialized, IsScalarPart}
 use Rattle.c_typed_programs.specs.Bodies.Standing.{AreVariables, Ends, IsOpen, IsReady, Stands}
 use Rattle.c_typed_programs.specs.Bodies.Typed.{IfTyped, Typed}
-use Rattle.c_typed_programs.proofs.Bodies.Chained.{filed, no_numbers, no_variables}
+use Rattle.c_typed_programs.proofs.Bodies.Chained.{no_numbers, no_variables}
 use Rattle.c_typed_programs.proofs.Bodies.Entities.{entities_same, linked_bound}
 use Rattle.c_typed_programs.proofs.Bodies.Given.{initializer_given, initializer_laid}
 use Rattle.c_typed_programs.proofs.Bodies.Initialized.{IfInitializes, Initializes, TypeBehind, as_it_is, extent_at, initialized_is}
 use Rattle.c_typed_programs.proofs.Bodies.Initialized.{static_meant, variable_meant, with_count}
 use Rattle.c_typed_programs.proofs.Bodies.Opened.{alone_among, among_alone, count_alone}
 use Rattle.c_typed_programs.proofs.Bodies.Standing.{stands_bound}
+use Rattle.c_typed_programs.proofs.Common.{both, filed}
 
 abbrev pub AreDeclared : Scope → List DeclaredVariable → Type 0
 AreDeclared scope ds = are_declared scope ds ≡ true

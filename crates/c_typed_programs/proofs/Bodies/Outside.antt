@@ -51,10 +51,9 @@ use Rattle.c_typed_programs.proofs.Declarations.Judged.{declared_as_declares}
 use Rattle.c_typed_programs.specs.Scopes.Regular.{are_regular_declarators, initializer_of, is_regular_declaration}
 use Rattle.c_typed_programs.specs.Scopes.Regular.{is_regular_initializer_if, is_regular_object}
 use Rattle.c_typed_programs.proofs.Scopes.Declarations.{specified_extends}
-use Rattle.c_typed_programs.proofs.Scopes.Initializers.{first, initialized_extends, second}
+use Rattle.c_typed_programs.proofs.Scopes.Initializers.{initialized_extends}
 use Rattle.c_typed_programs.specs.Bodies.Parameters.{IsFileScope, IsOutside}
 use Rattle.c_typed_programs.specs.Bodies.Standing.{AreLinked, EntitiesLead, EntityLeads, IsEntity}
-use Rattle.c_typed_programs.proofs.Bodies.Chained.{filed}
 use Rattle.c_typed_programs.proofs.Bodies.Declared.{IfMade, placed_made}
 use Rattle.c_typed_programs.proofs.Bodies.Entities.{declared_linked, entities_linked, entities_on, entities_same}
 use Rattle.c_typed_programs.proofs.Bodies.Entities.{entity_bound, entity_leads, entity_links, linked_behind, linked_bound}
@@ -63,6 +62,7 @@ use Rattle.c_typed_programs.specs.Bodies.Types.{is_type}
 use Rattle.c_typed_programs.proofs.Bodies.Standing.{either}
 use Rattle.c_typed_programs.proofs.Bodies.Types.{WholeShape, also_gives, built_type, shape_types, stored_type, types_bound}
 use Rattle.c_typed_programs.proofs.Bodies.Types.{types_extended}
+use Rattle.c_typed_programs.proofs.Common.{filed, first, second}
 
 -- names at file scope
 

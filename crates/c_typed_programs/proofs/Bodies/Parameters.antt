@@ -54,9 +54,10 @@ use Rattle.c_typed_declarators.proofs.Recursion.{parameters_extend}
 use Rattle.c_typed_declarators.proofs.Tags.{bound_last}
 use Rattle.c_typed_declarators.proofs.Types.{built_sized, neither_left, without_faults}
 use Rattle.c_typed_programs.specs.Declarations.Binding.{IsObjectType}
-use Rattle.c_typed_programs.proofs.Declarations.Judged.{IsBuilt, declares_by, passed}
-use Rattle.c_typed_programs.proofs.Scopes.Initializers.{first, second, value_extends}
+use Rattle.c_typed_programs.proofs.Declarations.Judged.{IsBuilt, declares_by}
+use Rattle.c_typed_programs.proofs.Scopes.Initializers.{value_extends}
 use Rattle.c_typed_programs.specs.Bodies.Parameters.{AreParameters, EntryThen, NumberedThen}
+use Rattle.c_typed_programs.proofs.Common.{first, passed, second}
 
 -- lists of parameters, with more structures complete, and longer
 

@@ -27,11 +27,10 @@ use Rattle.c_unit_typing.specs.Units.{parameter_in, parameters_in}
 use Rattle.c_typed_validity.specs.More.{AreMore}
 use Rattle.c_typed_validity.specs.Steps.{Structures}
 use Rattle.c_typed_programs.specs.Declarations.Binding.{IsObjectType}
-use Rattle.c_typed_programs.proofs.Scopes.Initializers.{first, second}
-use Rattle.c_typed_programs.proofs.Places.Labels.{both}
 use Rattle.c_typed_programs.specs.Bodies.Parameters.{AreParameters, EntryThen, NumberedThen}
 use Rattle.c_typed_programs.specs.Bodies.Types.{AreTypesOf, EntryTypes, KindsFit, NextType, is_type}
 use Rattle.c_typed_programs.proofs.Bodies.Types.{AllTypes, behind_type}
+use Rattle.c_typed_programs.proofs.Common.{both, first, no_value as none_is, second, the_same}
 
 -- the types of a function type, and the kinds of its signature
 
@@ -64,12 +63,6 @@ function_takes es (p ∷ ps) result (j ∷ ks) k all e =
     )
 
 -- the kind of a variable is that of its type
-
-the_same : {A : Type 0} {a b : A} → Some a ≡ Some b → a ≡ b
-the_same e = cc
-
-none_is : {A : Type 0} (x : A) (P : Type 0) → None ≡ Some x → P
-none_is x P e = cc
 
 record HasKind (k j : Kind) : Type 0 where
   is : k ≡ j

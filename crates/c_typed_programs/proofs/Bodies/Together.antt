@@ -1,5 +1,5 @@
 -- Statements that stand where they may and whose parts are valid are valid.
-use Rattle.std.proofs.Common.{◌≡◌, Bool, true, ◌&&◌, refl}
+use Rattle.std.proofs.Common.{◌≡◌, true, ◌&&◌, refl}
 use Rattle.std.specs.Prelude.{not}
 use Rattle.std.specs.List.{list_all}
 use Rattle.c_tree.specs.Blocks.{block_variables, first_variables, switch_variables}
@@ -12,12 +12,8 @@ use Rattle.c_tree.specs.ValidProgram.{Inside, are_different, are_items, are_stat
 use Rattle.c_tree.specs.ValidProgram.{is_condition_if, is_declaration, is_expression_if, is_first, is_label}
 use Rattle.c_tree.specs.ValidProgram.{is_statement, labels_of}
 use Rattle.c_typed_programs.specs.Places.Placed.{are_placed, are_placed_items, is_placed}
-use Rattle.c_typed_programs.proofs.Places.Labels.{both}
-use Rattle.c_typed_programs.proofs.Scopes.Initializers.{first, second}
 use Rattle.c_typed_programs.specs.Bodies.Parts.{has_valid_parts, have_valid_parts, is_valid_head, items_have_valid_parts}
-
-three : (a b c : Bool) → a ≡ true → b ≡ true → c ≡ true → (a && b && c) ≡ true
-three a b c e g h = both (a && b) c (both a b e g) h
+use Rattle.c_typed_programs.proofs.Common.{both, first, second, three}
 
 mutual
   pub statement_valid : (scope : Scope) (inside : Inside) (s : Statement) → is_placed inside s ≡ true

@@ -54,12 +54,12 @@ use Rattle.c_typed_declarators.specs.Given.{HasType, IsGathered, IsShapeOf, IsSp
 use Rattle.c_typed_declarators.proofs.Parameters.{found_last, within, within_block, within_formed}
 use Rattle.c_typed_declarators.proofs.Recursion.{parameter_extend, shape_extends, specification_extends}
 use Rattle.c_typed_declarators.proofs.Recursion.{specifier_extends}
-use Rattle.c_typed_programs.proofs.Scopes.Initializers.{first, second}
-use Rattle.c_typed_programs.proofs.Places.Labels.{all_append, both}
+use Rattle.c_typed_programs.proofs.Places.Labels.{all_append}
 use Rattle.c_typed_programs.specs.Declarations.Binding.{Binds}
 use Rattle.c_unit_typing.specs.Declarations.{stored_once}
 use Rattle.c_typed_programs.specs.Bodies.Types.{IsTypeIf, NameTypes, TakeTypes, TakesTypes, are_types, is_type}
 use Rattle.c_typed_programs.proofs.Bodies.Standing.{either}
+use Rattle.c_typed_programs.proofs.Common.{both, first, second}
 
 -- types that stand one behind the other
 

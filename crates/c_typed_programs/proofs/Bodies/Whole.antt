@@ -41,7 +41,6 @@ use Rattle.c_typed_programs.proofs.Declarations.Bound.{named_binds}
 use Rattle.c_typed_programs.specs.Scopes.Leaving.{Grows, Growing}
 use Rattle.c_typed_programs.specs.Scopes.Regular.{are_regular_externals, is_regular_external}
 use Rattle.c_typed_programs.proofs.Scopes.Files.{external_grows, grows_on, grows_same}
-use Rattle.c_typed_programs.proofs.Scopes.Initializers.{first, second}
 use Rattle.c_typed_programs.proofs.Scopes.Start.{file_formed}
 use Rattle.c_typed_programs.specs.Layouts.Listed.{IsLaidOut}
 use Rattle.c_typed_programs.proofs.Layouts.Start.{file_laid}
@@ -57,6 +56,7 @@ use Rattle.c_typed_programs.proofs.Bodies.Bodies.{definition_defined}
 use Rattle.c_typed_programs.proofs.Bodies.Entities.{entities_on, entities_same, entity_links, linked_bound}
 use Rattle.c_typed_programs.proofs.Bodies.Outside.{IfBeyond, IsBeyond, IsLinkedIf, declaration_beyond}
 use Rattle.c_typed_programs.proofs.Bodies.Standing.{either}
+use Rattle.c_typed_programs.proofs.Common.{first, second}
 
 -- declarations and definitions one behind the other
 

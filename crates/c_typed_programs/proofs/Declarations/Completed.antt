@@ -1,13 +1,13 @@
 -- An object has a complete type behind its initializer, which gives an array of unknown size its size.
 use Rattle.std.proofs.Common.{◌≡◌, inl, inr, ℕ, ◌<◌, Bool, true, false, refl, sym, ap, ◌∙◌, subst, List, [], ◌∷◌}
 use Rattle.std.proofs.Common.{Option, Some, None, if◌then◌else◌, arith}
-use Rattle.std.specs.Prelude.{Ok, not, option_map}
+use Rattle.std.specs.Prelude.{not, option_map}
 use Rattle.c_tree.specs.declared.c_type.TypeWord.{TypeWord}
 use Rattle.c_tree.specs.declared.c_type.TypeWord.TheVariants as word
 use Rattle.c_tree.specs.Arrays.{array_word}
 use Rattle.c_tree.specs.Extents.{TypeExtent, array_extent, extent_of}
-use Rattle.c_rules.specs.declared.fault.Rule.TheVariants.{LargeType, Redeclared}
-use Rattle.c_rules.specs.Answer.{Answer, violates}
+use Rattle.c_rules.specs.declared.fault.Rule.TheVariants.{Redeclared}
+use Rattle.c_rules.specs.Answer.{violates}
 use Rattle.c_declarators.specs.Derivations.{array_of, is_large}
 use Rattle.c_scope.specs.declared.meaning.Designated.{Designated}
 use Rattle.c_scope.specs.declared.meaning.Designated.TheVariants as what
@@ -22,6 +22,7 @@ use Rattle.c_typed_declarators.proofs.Types.{array_sized, object_type}
 use Rattle.c_typed_programs.specs.Declarations.Binding.{Binds, Completes, IfCompleted, IsCompleteFor, IsObjectType}
 use Rattle.c_typed_programs.proofs.Declarations.Bound.{named_binds}
 use Rattle.c_typed_programs.proofs.Declarations.Formed.{formed_behind}
+use Rattle.c_typed_programs.proofs.Common.{unless_large}
 
 entity_binds : (s : State) (name : Name) (d : Designated) (type : List TypeWord) (o : Option Entity)
     → Binds name (meaning.Named d type) s
@@ -77,12 +78,6 @@ array_object s formed count element some e is object small =
 object_behind : (s t : State) (type : List TypeWord) → extents t ≡ extents s → IsObjectType (extents s) type
     → IsObjectType (extents t) type
 object_behind s t type e is = subst (λ es. IsObjectType es type) (sym e) is
-
-abbrev unless_large : State → Designated → Name → (array : TypeWord) → (element : List TypeWord) → (line : ℕ)
-    → (large : Bool) → Answer (State × List TypeWord)
-unless_large s d name array element line large =
-    if large then violates LargeType line
-    else Ok (record s { environment = with_size d name (array ∷ element) s.environment }, array ∷ element)
 
 large_by : (s : State) → IsFormed s → (d : Designated) (name : Name) (count : ℕ) (element : List TypeWord) (line : ℕ)
     → 0 < count → (e : TypeExtent) → extent_of (extents s) element ≡ Some e → IsObjectExtent e → (large : Bool)

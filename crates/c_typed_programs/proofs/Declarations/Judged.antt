@@ -5,7 +5,6 @@ use Rattle.std.specs.Prelude.{Ok, Err, not, is_some}
 use Rattle.c_tree.specs.declared.c_type.TypeWord.{TypeWord}
 use Rattle.c_tree.specs.declared.c_type.TypeWord.TheVariants as word
 use Rattle.c_tree.specs.Extents.{TypeExtent, extent_of}
-use Rattle.c_rules.specs.declared.fault.Rule.{Rule}
 use Rattle.c_rules.specs.declared.fault.Rule.TheVariants as rule
 use Rattle.c_rules.specs.Answer.{Answer, violates, ◌>>=◌}
 use Rattle.c_scope.specs.declared.meaning.Meaning.{Meaning}
@@ -13,7 +12,7 @@ use Rattle.c_scope.specs.declared.meaning.Storage.{Storage}
 use Rattle.c_scope.specs.declared.meaning.Storage.TheVariants as storage
 use Rattle.c_scope.specs.Declaring.{Declaration, Surroundings, has_linkage, is_complete, is_extern, is_function}
 use Rattle.c_scope.specs.Declaring.{is_incomplete, is_misplaced, is_redeclared, is_tentative, is_typedef}
-use Rattle.c_scope.specs.Declaring.{is_undefined, is_wrongly_initialized, judged, sized_by_initializer, when, when_some}
+use Rattle.c_scope.specs.Declaring.{is_undefined, is_wrongly_initialized, judged, sized_by_initializer}
 use Rattle.c_scope.specs.Environment.{Environment, in_file, surroundings, with_declarator}
 use Rattle.c_scope.specs.Names.{Name, declared}
 use Rattle.c_typing.specs.Declarators.{Shape, built_in}
@@ -27,16 +26,7 @@ use Rattle.c_typed_programs.specs.Declarations.Binding.{Declares, IfDeclared, Is
 use Rattle.c_typed_programs.specs.Declarations.Binding.{linked_meaning, unlinked_meaning}
 use Rattle.c_typed_programs.proofs.Declarations.Bound.{declarator_binds}
 use Rattle.c_typed_programs.proofs.Declarations.Formed.{IsPlainMeaning, formed_behind}
-
-pub passed : (b : Bool) (r : Rule) (line : ℕ) (other : Answer (Unit {0})) (x : Unit {0}) → when b r line other ≡ Ok x
-    → (b ≡ false) × (other ≡ Ok x)
-passed true r line other x e = absurd cc
-passed false r line other x e = (refl, e)
-
-pub passed_some : (o : Option Rule) (line : ℕ) (other : Answer (Unit {0})) (x : Unit {0})
-    → when_some o line other ≡ Ok x → (o ≡ None) × (other ≡ Ok x)
-passed_some (Some r) line other x e = absurd cc
-passed_some None line other x e = (refl, e)
+use Rattle.c_typed_programs.proofs.Common.{passed, passed_some}
 
 pub record IsJudged (s : Surroundings) (d : Declaration) : Type 0 where
   pub complete : is_incomplete s d ≡ false

@@ -11,7 +11,7 @@ use Rattle.c_tree.specs.declared.c_type.TypeWord.TheVariants as word
 use Rattle.c_tree.specs.Extents.{extent_of}
 use Rattle.c_tree.specs.Programs.{StaticObject}
 use Rattle.c_tree.specs.Statements.{DeclaredVariable, Part}
-use Rattle.c_rules.specs.declared.fault.Rule.TheVariants.{LargeType, MisplacedStorage, Redeclared}
+use Rattle.c_rules.specs.declared.fault.Rule.TheVariants.{MisplacedStorage, Redeclared}
 use Rattle.c_rules.specs.Answer.{Answer, violates, ◌>>=◌}
 use Rattle.c_declarators.specs.Derivations.{array_of, is_large}
 use Rattle.c_initializer_rules.specs.Initializing.{begun}
@@ -30,7 +30,7 @@ use Rattle.c_expression_typing.specs.Typed.{shape}
 use Rattle.c_unit_typing.specs.Declarations.{alone_in, completed, declaration, declaration_of, declared_as}
 use Rattle.c_unit_typing.specs.Declarations.{declared_with, has_place, initialized_if, is_same_object, named_by}
 use Rattle.c_unit_typing.specs.Declarations.{specified, with_declarator, with_declarators, with_others, with_parts}
-use Rattle.c_unit_typing.specs.Declarations.{with_size, with_static, with_variable}
+use Rattle.c_unit_typing.specs.Declarations.{with_static, with_variable}
 use Rattle.c_unit_typing.specs.Files.{File, FileTyping}
 use Rattle.c_unit_typing.specs.Initializers.{initialized}
 use Rattle.c_unit_typing.specs.Lines.{initializer_line}
@@ -47,9 +47,10 @@ use Rattle.c_typed_programs.specs.Scopes.Leaving.{Leading}
 use Rattle.c_typed_programs.specs.Scopes.Regular.{are_regular_declarators, initializer_of, is_regular_declaration}
 use Rattle.c_typed_programs.specs.Scopes.Regular.{is_regular_initializer_if, is_regular_object}
 use Rattle.c_typed_programs.proofs.Scopes.Declarations.{declarator_leads, specified_extends}
-use Rattle.c_typed_programs.proofs.Scopes.Initializers.{first, initialized_extends, second}
+use Rattle.c_typed_programs.proofs.Scopes.Initializers.{initialized_extends}
 use Rattle.c_typed_programs.specs.Files.Numbers.{are_linked, owners, statics_at, waiting}
 use Rattle.c_typed_programs.proofs.Files.Numbers.{Counts, counts_by, counts_on, counts_same, declarator_counts, size_counts}
+use Rattle.c_typed_programs.proofs.Common.{filed, first, second, unless_large}
 
 abbrev pub AreLinked : State → Type 0
 AreLinked s = are_linked s.environment.entities ≡ true
@@ -96,9 +97,6 @@ pub then_adds : {A B : Type 0} (m : Option Meaning) (f : File) (a : Answer (File
 then_adds m f (Ok r) next l h g = from_added m f r.0 h (next r.1 r.0) (g r.1 r.0 l.state.formed h.linked)
 then_adds m f (Err e) next l h g = tt
 
-abbrev filed : {A : Type 0} → File → State × A → Answer (File × A)
-filed f r = Ok (record f { state = r.0 }, r.1)
-
 -- what is typed in the state, and gives something on which what follows depends
 pub extending_adds : {A B : Type 0} (f : File) (p : State → A → Type 0) (a : Answer (State × A))
     (next : A → FileTyping B) → AreLinked f.state → Extending false f.state p a
@@ -129,12 +127,6 @@ extending_counts : {A : Type 0} (s : State) (p : State → A → Type 0) (a : An
     → Extending false s p a → IfCounts s a
 extending_counts s p (Ok r) linked is = counts_by false s r.0 is.0 linked
 extending_counts s p (Err e) linked is = tt
-
-abbrev unless_large : State → Designated → Name → (array : TypeWord) → (element : List TypeWord) → (line : ℕ)
-    → (large : Bool) → Answer (State × List TypeWord)
-unless_large s d name array element line large =
-    if large then violates LargeType line
-    else Ok (record s { environment = with_size d name (array ∷ element) s.environment }, array ∷ element)
 
 large_by : (s : State) → AreLinked s → (d : Designated) (name : Name) (array : TypeWord) (element : List TypeWord)
     (line : ℕ) (large : Bool) → IfCounts s (unless_large s d name array element line large)

@@ -50,9 +50,8 @@ use Rattle.c_typed_programs.proofs.Declarations.Judged.{answered}
 use Rattle.c_typed_programs.specs.Scopes.Leaving.{FileLeads, Growing, Leading}
 use Rattle.c_typed_programs.specs.Scopes.Regular.{are_regular_externals, is_regular_block, is_regular_external}
 use Rattle.c_typed_programs.proofs.Scopes.Declarations.{declaration_leads}
-use Rattle.c_typed_programs.proofs.Scopes.Files.{defined_as_declares, entered_leads, external_grows, filed, inside, scope_is}
+use Rattle.c_typed_programs.proofs.Scopes.Files.{defined_as_declares, entered_leads, external_grows, inside, scope_is}
 use Rattle.c_typed_programs.proofs.Scopes.Files.{stored_extends}
-use Rattle.c_typed_programs.proofs.Scopes.Initializers.{first, second}
 use Rattle.c_typed_programs.proofs.Scopes.Leading.{bound_leads, closed_leads, file_on, file_same, leads_by, state_leads}
 use Rattle.c_typed_programs.proofs.Scopes.Statements.{IfFileBehind, Walk, items_walk}
 use Rattle.c_typed_programs.specs.Types.Typed.{AreNamed, Each, IsDerived, IsNamed, IsSpelled, OfParameters}
@@ -68,6 +67,7 @@ use Rattle.c_typed_programs.specs.Scopes.Defined.{define_functions, defines}
 use Rattle.c_typed_programs.proofs.Files.FunctionWords.{composite_function_type, rest_spelled, result_kinded, words_parameters}
 use Rattle.c_typed_programs.proofs.Files.FunctionWords.{words_result}
 use Rattle.c_typed_programs.proofs.Files.Spelled.{IfTypes, Values, declaration_typed, state_then, stored_specification, types_walk}
+use Rattle.c_typed_programs.proofs.Common.{filed, first, neither_left, neither_right, second, the_same}
 
 -- blocks
 
@@ -191,14 +191,6 @@ body_typed line o b c (Some (meaning.Named (what.Variable n) type)) f formed has
 
 -- the type that the declarator of a definition makes
 
-neither_left : (a b : Bool) → (a || b) ≡ false → a ≡ false
-neither_left true b e = absurd cc
-neither_left false b e = refl
-
-neither_right : (a b : Bool) → (a || b) ≡ false → b ≡ false
-neither_right true b e = absurd cc
-neither_right false b e = e
-
 function_by : (es : Structures) (base : List TypeWord) → IsSpelled es base → (ds : List Derivation)
     → Each (IsDerived es) ds → HasKinds es ds → NoFaults (built es base ds).faults
     → gives_incomplete es (built es base ds).type ≡ false → IsFunctionType es (built es base ds).type
@@ -286,9 +278,6 @@ record IfDefined (t : State) (m : Option Meaning) : Type 0 where
 abbrev OfDefined : Answer (State × Option Meaning) → Type 0
 OfDefined (Ok r) = IfDefined r.0 r.1
 OfDefined (Err e) = Unit {0}
-
-the_same : {A : Type 0} {a b : A} → Some a ≡ Some b → a ≡ b
-the_same e = cc
 
 answered_typed : (s : State) → Types s → (d : Declaration) → (d.type_rule ≡ None → IsFunctionType (extents s) d.type)
     → (name : Name × ℕ) → d.name ≡ name.0 → (a : Answer (Unit {0}))

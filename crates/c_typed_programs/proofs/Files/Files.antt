@@ -33,16 +33,17 @@ use Rattle.c_typed_programs.proofs.Declarations.Judged.{answered}
 use Rattle.c_typed_programs.specs.Scopes.Leaving.{FileLeads, Growing, Leading}
 use Rattle.c_typed_programs.specs.Scopes.Regular.{are_regular_externals, is_regular_block, is_regular_external}
 use Rattle.c_typed_programs.proofs.Scopes.Declarations.{declaration_leads}
-use Rattle.c_typed_programs.proofs.Scopes.Files.{defined_as_declares, entered_leads, external_grows, filed, inside}
+use Rattle.c_typed_programs.proofs.Scopes.Files.{defined_as_declares, entered_leads, external_grows, inside}
 use Rattle.c_typed_programs.proofs.Scopes.Files.{inside_formed}
 use Rattle.c_typed_programs.proofs.Scopes.Files.{scope_is, stored_extends}
-use Rattle.c_typed_programs.proofs.Scopes.Initializers.{first, second, values_walk}
+use Rattle.c_typed_programs.proofs.Scopes.Initializers.{values_walk}
 use Rattle.c_typed_programs.proofs.Scopes.Leading.{bound_leads, closed_leads, file_on, file_same, leads_by, leads_on, outer_is, state_leads}
 use Rattle.c_typed_programs.proofs.Scopes.Statements.{IfFileBehind, Walk, items_walk}
 use Rattle.c_typed_programs.specs.Files.Numbers.{statics_at}
 use Rattle.c_typed_programs.proofs.Files.Declarations.{AddsFor, AreLinked, IfAdds, adds_on, adds_same}
 use Rattle.c_typed_programs.proofs.Files.Declarations.{declaration_adds, state_adds}
 use Rattle.c_typed_programs.proofs.Files.Numbers.{Counts, counts_by, linked_counts}
+use Rattle.c_typed_programs.proofs.Common.{filed, first, second}
 
 -- blocks
 

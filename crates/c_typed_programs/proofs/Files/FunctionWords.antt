@@ -19,9 +19,10 @@ use Rattle.c_unit_typing.specs.Units.{is_incomplete_structure}
 use Rattle.c_typed_programs.specs.SpelledTypes.Spelled.{IsFunctionType, fits, has_parameters, is_spelled}
 use Rattle.c_typed_programs.proofs.SpelledTypes.Composites.{IsJoint, alike, first_sized, composite_nothing, composite_spelled, joins}
 use Rattle.c_typed_programs.proofs.SpelledTypes.Composites.{none_first, none_second, second_sized}
-use Rattle.c_typed_programs.proofs.SpelledTypes.Words.{both, left, right, spelled_end, still_more}
+use Rattle.c_typed_programs.proofs.SpelledTypes.Words.{spelled_end, still_more}
 use Rattle.c_typed_programs.specs.Types.Typed.{AreSpelled, Each, IsSpelled, Structures}
 use Rattle.c_typed_programs.proofs.Types.Parameters.{IsKinded}
+use Rattle.c_typed_programs.proofs.Common.{both, first as left, second as right}
 
 -- the words agree with the kinds (6.7.5.3)
 

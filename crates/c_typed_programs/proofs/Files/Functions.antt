@@ -28,7 +28,7 @@ use Rattle.c_unit_typing.specs.Files.{File}
 use Rattle.c_unit_typing.specs.Programs.{function_type, parameter_kinds, program_of, result_kind}
 use Rattle.c_unit_typing.specs.Units.{externals, file_before, file_with}
 use Rattle.c_typed_programs.specs.SpelledTypes.Spelled.{IsFunctionType}
-use Rattle.c_typed_programs.proofs.SpelledTypes.Words.{both, spelled_sized}
+use Rattle.c_typed_programs.proofs.SpelledTypes.Words.{spelled_sized}
 use Rattle.c_typed_programs.specs.Scopes.Regular.{are_regular_externals}
 use Rattle.c_typed_programs.proofs.Scopes.Start.{file_formed}
 use Rattle.c_typed_programs.specs.Types.Typed.{Each, HaveTypes, IsEntity, IsNamed, IsSpelled, Structures, Types, are_different}
@@ -40,6 +40,7 @@ use Rattle.c_typed_programs.proofs.Files.Definitions.{externals_typed}
 use Rattle.c_typed_programs.proofs.Files.Ends.{answer, behind_all, same_ok}
 use Rattle.c_typed_programs.proofs.Files.FunctionWords.{function_agrees}
 use Rattle.c_typed_programs.proofs.Files.Spelled.{IfTypes}
+use Rattle.c_typed_programs.proofs.Common.{both}
 
 -- the start
 

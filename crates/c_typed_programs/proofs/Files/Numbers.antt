@@ -1,5 +1,5 @@
 -- Numbers of static objects: what each step of typing adds.
-use Rattle.std.proofs.Common.{◌≡◌, ℕ, ◌+◌, Bool, true, false, ◌&&◌, refl, sym, ap, ◌∙◌, List, [], ◌∷◌}
+use Rattle.std.proofs.Common.{◌≡◌, ℕ, ◌+◌, Bool, true, false, refl, sym, ap, ◌∙◌, List, [], ◌∷◌}
 use Rattle.std.proofs.Common.{Option, Some, None, if◌then◌else◌, arith}
 use Rattle.std.specs.Prelude.{option_map}
 use Rattle.c_tree.specs.declared.c_type.TypeWord.{TypeWord}
@@ -20,21 +20,7 @@ use Rattle.c_typed_declarators.specs.Extending.{Extends, below, literals_at}
 use Rattle.c_typed_declarators.proofs.Marks.{next_below}
 use Rattle.c_typed_programs.specs.Declarations.Binding.{bound_meaning, linked_meaning, unlinked_meaning}
 use Rattle.c_typed_programs.specs.Files.Numbers.{are_linked, object_at, objects_at, waiting}
-
-both : (a b : Bool) → a ≡ true → b ≡ true → (a && b) ≡ true
-both true b e g = g
-both false b e g = absurd cc
-
-left : (a b : Bool) → (a && b) ≡ true → a ≡ true
-left true b e = refl
-left false b e = e
-
-right : (a b : Bool) → (a && b) ≡ true → b ≡ true
-right true b e = e
-right false b e = absurd cc
-
-the_same : {A : Type 0} {a b : A} → Some a ≡ Some b → a ≡ b
-the_same e = cc
+use Rattle.c_typed_programs.proofs.Common.{both, first as left, second as right, the_same}
 
 -- entities with one more, or one that is bound again
 

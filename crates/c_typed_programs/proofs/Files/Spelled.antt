@@ -10,7 +10,7 @@ use Rattle.c_tree.specs.declared.c_type.TypeWord.{TypeWord}
 use Rattle.c_tree.specs.declared.c_type.TypeWord.TheVariants as word
 use Rattle.c_tree.specs.Extents.{TypeExtent, extent_of}
 use Rattle.c_tree.specs.Statements.{DeclaredVariable, Part}
-use Rattle.c_rules.specs.declared.fault.Rule.TheVariants.{LargeType, MisplacedStorage, Redeclared}
+use Rattle.c_rules.specs.declared.fault.Rule.TheVariants.{MisplacedStorage, Redeclared}
 use Rattle.c_rules.specs.Answer.{Answer, violates, ◌>>=◌}
 use Rattle.c_rules.specs.Values.{Value}
 use Rattle.c_declarators.specs.Derivations.{array_of, is_large}
@@ -63,7 +63,7 @@ use Rattle.c_typed_programs.specs.Scopes.Leaving.{Leading}
 use Rattle.c_typed_programs.specs.Scopes.Regular.{are_regular_declarators, initializer_of, is_regular_declaration}
 use Rattle.c_typed_programs.specs.Scopes.Regular.{is_regular_initializer_if, is_regular_object}
 use Rattle.c_typed_programs.proofs.Scopes.Declarations.{declarator_leads, specified_extends}
-use Rattle.c_typed_programs.proofs.Scopes.Initializers.{IfBehind, ValueWalk, first, initialized_walks, second, value_extends}
+use Rattle.c_typed_programs.proofs.Scopes.Initializers.{IfBehind, ValueWalk, initialized_walks, value_extends}
 use Rattle.c_typed_programs.specs.Types.Typed.{HasType, IsEntity, IsNamed, IsSpelled, OfSpecification, OfValueType, Structures}
 use Rattle.c_typed_programs.specs.Types.Typed.{Typed, Types, nothing}
 use Rattle.c_typed_programs.proofs.Types.Built.{array_spelled, built_spelled}
@@ -74,6 +74,7 @@ use Rattle.c_typed_programs.proofs.Types.Recursion.{shape_typed, specification_t
 use Rattle.c_typed_programs.proofs.Types.States.{declarator_extents, declarator_types, composite_type, library_visible, name_types}
 use Rattle.c_typed_programs.proofs.Types.States.{spelled_has, visible_spelled}
 use Rattle.c_typed_programs.proofs.Types.Steps.{then_typed, valued_typed}
+use Rattle.c_typed_programs.proofs.Common.{filed, first, second, the_same, unless_large}
 
 -- values
 
@@ -146,12 +147,6 @@ size_types s (what.Static n) name type h is = name_types s name (meaning.Named (
 size_types s (what.Function n) name type h is = name_types s name (meaning.Named (what.Function n) type) h is
 size_types s (what.Library r) name type h is = name_types s name (meaning.Named (what.Library r) type) h (inr is)
 size_types s (what.Variable n) name type h is = name_types s name (meaning.Named (what.Variable n) type) h is
-
-abbrev unless_large : State → Designated → Name → (array : TypeWord) → (element : List TypeWord) → (line : ℕ)
-    → (large : Bool) → Answer (State × List TypeWord)
-unless_large s d name array element line large =
-    if large then violates LargeType line
-    else Ok (record s { environment = with_size d name (array ∷ element) s.environment }, array ∷ element)
 
 large_by : (s : State) → Types s → (d : Designated) (name : Name) (array : TypeWord) (element : List TypeWord)
     (line : ℕ) → IsSpelled (extents s) (array ∷ element) → (large : Bool)
@@ -368,9 +363,6 @@ abbrev OfDeclared : Bool → Answer (State × Option Meaning) → Type 0
 OfDeclared b (Ok r) = IfBoundTypes b r.0 r.1
 OfDeclared b (Err e) = Unit {0}
 
-the_same : {A : Type 0} {a b : A} → Some a ≡ Some b → a ≡ b
-the_same e = cc
-
 pub record IsBuiltOf (s : State) (d : Declaration) : Type 0 where
   pub spelled : d.type_rule ≡ None → IsSpelled (extents s) d.type
   pub placed : d.type_rule ≡ None → d.may_be_incomplete ≡ false
@@ -416,9 +408,6 @@ built_of s spec h b e sh is name initializer = record {
 abbrev pub IfTypes : {A : Type 0} → Answer (File × A) → Type 0
 IfTypes (Ok r) = Types r.0.state
 IfTypes (Err e) = Unit {0}
-
-abbrev filed : {A : Type 0} → File → State × A → Answer (File × A)
-filed f r = Ok (record f { state = r.0 }, r.1)
 
 parts_if : (k : ℕ) (b : Bool) (r : List TypeWord × List Part) (g : File) → Types g.state
     → Types (if b then record g { initializers = g.initializers ++ (k, r.1) ∷ [] } else g).state

@@ -2,7 +2,7 @@
 use Rattle.std.proofs.Common.{◌≡◌, ℕ, zero, suc, ◌+◌, ◌<◌, ◌≤◌, ◌==◌, Bool, true, false, refl, sym, ap, ◌∙◌, subst, List}
 use Rattle.std.proofs.Common.{[], ◌∷◌, ◌++◌, length, map, Some, if◌then◌else◌, arith}
 use Rattle.std.specs.Prelude.{slice_get, nat_lt}
-use Rattle.std.proofs.lemmas.Bool.{eq-eqb, eqb-true, lt-ltb, ltb-true}
+use Rattle.std.proofs.lemmas.Bool.{eqb-true, lt-ltb, ltb-true}
 use Rattle.c_tree.specs.declared.c_type.TypeWord.{TypeWord}
 use Rattle.c_tree.specs.Programs.{StaticObject}
 use Rattle.c_scope.specs.declared.meaning.Designated.{Designated}
@@ -16,15 +16,10 @@ use Rattle.c_unit_typing.specs.Programs.{with_number}
 use Rattle.c_typed_declarators.specs.Extending.{below, literals_at, one_if}
 use Rattle.c_typed_programs.specs.Files.Numbers.{AreInOrder, entries, object_at, objects_at, statics_at}
 use Rattle.c_typed_programs.proofs.Files.Ends.{OwnsAll}
+use Rattle.c_typed_programs.proofs.Common.{same_number, the_same}
 
 abbrev Entries : Type 0
 Entries = List (ℕ × StaticObject)
-
-the_same : {A : Type 0} {a b : A} → Some a ≡ Some b → a ≡ b
-the_same e = cc
-
-same_number : (n : ℕ) → (n == n) ≡ true
-same_number n = eq-eqb n n refl
 
 -- how many entries have a number
 

@@ -47,8 +47,7 @@ use Rattle.c_typed_declarators.proofs.Recursion.{scope_kept, shape_extends}
 use Rattle.c_typed_programs.specs.Declarations.Binding.{IfDeclared, bound_meaning}
 use Rattle.c_typed_programs.proofs.Declarations.Judged.{answered, if_declared}
 use Rattle.c_typed_programs.specs.Scopes.Regular.{is_regular_block, is_regular_external}
-use Rattle.c_typed_programs.proofs.Scopes.Files.{built_definition, entered_leads, filed, inside, inside_formed, scope_is, stored_extends}
-use Rattle.c_typed_programs.proofs.Scopes.Initializers.{first, second}
+use Rattle.c_typed_programs.proofs.Scopes.Files.{built_definition, entered_leads, inside, inside_formed, scope_is, stored_extends}
 use Rattle.c_typed_programs.proofs.Scopes.Leading.{bound_leads}
 use Rattle.c_typed_programs.proofs.Scopes.Statements.{IfFileBehind, items_walk}
 use Rattle.c_typed_programs.proofs.Types.Parameters.{IsJudged, judged_known}
@@ -67,6 +66,7 @@ use Rattle.c_typed_programs.specs.Functions.Entities.{Continue, IfContinues, IsS
 use Rattle.c_typed_programs.proofs.Functions.Entities.{bound_either, unlinked_entities}
 use Rattle.c_typed_programs.proofs.Functions.Files.{KeepsFile, keeps_walk, visible_words}
 use Rattle.c_typed_programs.specs.Functions.Entities.{Keeps}
+use Rattle.c_typed_programs.proofs.Common.{filed, first, or_left as or_first, second}
 
 still_same : (x : Entity) → IsStill x (Some x)
 still_same x = record { entity = x; there = refl; what = refl; words = refl; fills = fills_same x.c_type; defined = λ d. d }
@@ -105,10 +105,6 @@ bound_continues es name x old = record { each = λ other y e. by other y e (boun
         → IsStill y (declared other (bound name x es))
     by other y e (inl g) = subst (IsStill y) (sym (g ∙ e)) (still_same y)
     by other y e (inr g) = subst (IsStill y) (sym g.1) (old y (ap (λ z. declared z es) (sym g.0) ∙ e))
-
-or_first : (a b : Bool) → a ≡ true → (a || b) ≡ true
-or_first true b e = refl
-or_first false b e = absurd cc
 
 linked_continues : (env : Environment) (d : Declaration) → IsJudged (surroundings env d) d
     → has_linkage (in_file env) d ≡ true → (o : Option Entity) → declared d.name env.entities ≡ o

@@ -10,7 +10,7 @@ use Rattle.c_tree.specs.declared.c_type.TypeWord.{TypeWord}
 use Rattle.c_tree.specs.declared.c_type.TypeWord.TheVariants as word
 use Rattle.c_tree.specs.Extents.{extent_of}
 use Rattle.c_tree.specs.Statements.{DeclaredVariable, Part}
-use Rattle.c_rules.specs.declared.fault.Rule.TheVariants.{LargeType, MisplacedStorage, Redeclared}
+use Rattle.c_rules.specs.declared.fault.Rule.TheVariants.{MisplacedStorage, Redeclared}
 use Rattle.c_rules.specs.Answer.{Answer, violates, ◌>>=◌}
 use Rattle.c_declarators.specs.Derivations.{array_of, is_large}
 use Rattle.c_initializer_rules.specs.Initializing.{begun}
@@ -29,7 +29,7 @@ use Rattle.c_expression_typing.specs.Typed.{shape}
 use Rattle.c_unit_typing.specs.Declarations.{alone_in, completed, declaration, declaration_of, declared_as}
 use Rattle.c_unit_typing.specs.Declarations.{declared_with, has_place, initialized_if, is_same_object, named_by}
 use Rattle.c_unit_typing.specs.Declarations.{specified, with_declarator, with_declarators, with_others, with_parts}
-use Rattle.c_unit_typing.specs.Declarations.{with_size, with_static, with_variable}
+use Rattle.c_unit_typing.specs.Declarations.{with_static, with_variable}
 use Rattle.c_unit_typing.specs.Files.{File, FileTyping}
 use Rattle.c_unit_typing.specs.Initializers.{initialized}
 use Rattle.c_unit_typing.specs.Lines.{initializer_line}
@@ -43,11 +43,12 @@ use Rattle.c_typed_programs.specs.Scopes.Leaving.{Leading}
 use Rattle.c_typed_programs.specs.Scopes.Regular.{are_regular_declarators, initializer_of, is_regular_declaration}
 use Rattle.c_typed_programs.specs.Scopes.Regular.{is_regular_initializer_if, is_regular_object}
 use Rattle.c_typed_programs.proofs.Scopes.Declarations.{declarator_leads, specified_extends}
-use Rattle.c_typed_programs.proofs.Scopes.Initializers.{first, initialized_extends, second}
+use Rattle.c_typed_programs.proofs.Scopes.Initializers.{initialized_extends}
 use Rattle.c_typed_programs.proofs.Types.Parameters.{judged_known}
 use Rattle.c_typed_programs.specs.Functions.Entities.{Keeps}
 use Rattle.c_typed_programs.proofs.Functions.Entities.{declarator_facts, declarator_keeps, keeps_on, keeps_same, size_facts}
 use Rattle.c_typed_programs.proofs.Functions.Entities.{size_keeps}
+use Rattle.c_typed_programs.proofs.Common.{filed, first, second, unless_large}
 
 abbrev pub KeepsIn : State → State → Type 0
 KeepsIn s t =
@@ -101,9 +102,6 @@ pub then_file : {A B : Type 0} (f : File) (a : Answer (File × A)) (next : A →
 then_file f (Ok r) next l h g = from_file f r.0 h (next r.1 r.0) (g r.1 r.0 l.state.formed)
 then_file f (Err e) next l h g = tt
 
-abbrev filed : {A : Type 0} → File → State × A → Answer (File × A)
-filed f r = Ok (record f { state = r.0 }, r.1)
-
 pub state_then : {A B : Type 0} (f : File) (p : State → A → Type 0) (a : Answer (State × A)) (next : A → FileTyping B)
     → Extending false f.state p a
     → ((x : A) (g : File) → IsFormed g.state → p g.state x → IfKept g (next x g))
@@ -114,12 +112,6 @@ state_then f p (Ok r) next is h =
 state_then f p (Err e) next is h = tt
 
 -- an object gets its size
-
-abbrev unless_large : State → Designated → Name → (array : TypeWord) → (element : List TypeWord) → (line : ℕ)
-    → (large : Bool) → Answer (State × List TypeWord)
-unless_large s d name array element line large =
-    if large then violates LargeType line
-    else Ok (record s { environment = with_size d name (array ∷ element) s.environment }, array ∷ element)
 
 large_by : (s : State) (d : Designated) (name : Name) (array : TypeWord) (element : List TypeWord) (line : ℕ)
     → is_same_object d name (array ∷ element) s.environment ≡ true → (large : Bool)

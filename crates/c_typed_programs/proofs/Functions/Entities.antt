@@ -22,6 +22,7 @@ use Rattle.c_typed_programs.proofs.SpelledTypes.Composites.{none_second, second_
 use Rattle.c_typed_programs.proofs.Types.Parameters.{IsJudged}
 use Rattle.c_typed_programs.specs.Functions.Entities.{Fills, FillsWord, IsFirst, IsSame, Keeps, is_library, names_function, number_of}
 use Rattle.c_typed_programs.specs.Functions.Entities.{without_sizes}
+use Rattle.c_typed_programs.proofs.Common.{or_left}
 
 -- names
 
@@ -311,10 +312,6 @@ differs_by : (compatible defined definition : Bool) → (not compatible || (defi
     → (compatible ≡ true) × ((defined && definition) ≡ false)
 differs_by true defined definition e = (refl, e)
 differs_by false defined definition e = absurd cc
-
-or_left : (a b : Bool) → a ≡ true → (a || b) ≡ true
-or_left true b e = refl
-or_left false b e = absurd cc
 
 or_only : (a b c : Bool) → b ≡ false → c ≡ false → (a || (b || c)) ≡ true → a ≡ true
 or_only true b c e g h = refl

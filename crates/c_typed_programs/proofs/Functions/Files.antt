@@ -52,8 +52,8 @@ use Rattle.c_typed_programs.proofs.Declarations.Judged.{answered, if_declared}
 use Rattle.c_typed_programs.specs.Scopes.Leaving.{FileLeads, Leading}
 use Rattle.c_typed_programs.specs.Scopes.Regular.{is_regular_block, is_regular_external}
 use Rattle.c_typed_programs.proofs.Scopes.Declarations.{declaration_leads}
-use Rattle.c_typed_programs.proofs.Scopes.Files.{built_definition, entered_leads, filed, inside, inside_formed, scope_is, stored_extends}
-use Rattle.c_typed_programs.proofs.Scopes.Initializers.{first, second, values_walk}
+use Rattle.c_typed_programs.proofs.Scopes.Files.{built_definition, entered_leads, inside, inside_formed, scope_is, stored_extends}
+use Rattle.c_typed_programs.proofs.Scopes.Initializers.{values_walk}
 use Rattle.c_typed_programs.proofs.Scopes.Leading.{bound_leads, closed_leads, file_on, file_same, leads_by, state_leads}
 use Rattle.c_typed_programs.proofs.Scopes.Statements.{IfFileBehind, Walk, items_walk}
 use Rattle.c_typed_programs.specs.Scopes.Defined.{defines}
@@ -72,6 +72,7 @@ use Rattle.c_typed_programs.proofs.Functions.Defined.{defines_kept, defines_more
 use Rattle.c_typed_programs.proofs.Functions.Defined.{registered_add, registered_more}
 use Rattle.c_typed_programs.proofs.Functions.Entities.{compatible_words, composite_words, conflict, function_words}
 use Rattle.c_typed_programs.proofs.Functions.Entities.{declarator_facts, known_old, new_number}
+use Rattle.c_typed_programs.proofs.Common.{filed, first, or_right as or_true, second}
 
 -- blocks
 
@@ -223,10 +224,6 @@ record IsDefinedEntity (d : Declaration) (x : Entity) : Type 0 where
   defined : x.is_defined ≡ true
   function : names_function x.what ≡ true
   words : without_sizes x.c_type ≡ without_sizes d.type
-
-or_true : (a b : Bool) → b ≡ true → (a || b) ≡ true
-or_true true b e = refl
-or_true false b e = e
 
 and_true : (a b : Bool) → b ≡ true → (a && b) ≡ false → a ≡ false
 and_true true b e g = conflict (sym g ∙ e)

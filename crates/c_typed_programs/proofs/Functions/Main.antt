@@ -2,7 +2,7 @@
 use Rattle.std.proofs.Common.{◌≡◌, ℕ, zero, suc, ◌+◌, ◌<◌, Bool, true, false, ◌&&◌, ◌==◌, refl, sym, ap}
 use Rattle.std.proofs.Common.{◌∙◌, subst, List, [], ◌∷◌, length, map, Option, Some, None, if◌then◌else◌, arith}
 use Rattle.std.specs.Prelude.{Ok, Err, codes, get_or, slice_get, nat_le}
-use Rattle.std.proofs.lemmas.Bool.{eq-eqb, le-leb, lt-ltb}
+use Rattle.std.proofs.lemmas.Bool.{le-leb, lt-ltb}
 use Rattle.obj_memory.specs.declared.int_type.IntType.TheVariants.{Int}
 use Rattle.c_syntax.specs.Statements as t
 use Rattle.c_tree.specs.declared.c_type.TypeWord.{TypeWord}
@@ -40,7 +40,6 @@ use Rattle.c_typed_validity.specs.Sound.{IsTypeOf}
 use Rattle.c_typed_programs.specs.Scopes.Leaving.{Grows, Growing}
 use Rattle.c_typed_programs.specs.Scopes.Regular.{are_regular_externals}
 use Rattle.c_typed_programs.proofs.Scopes.Files.{external_grows, externals_grow}
-use Rattle.c_typed_programs.proofs.Scopes.Initializers.{first, second}
 use Rattle.c_typed_programs.proofs.Scopes.Start.{file_formed}
 use Rattle.c_typed_programs.specs.Scopes.Defined.{define_functions}
 use Rattle.c_typed_programs.proofs.Files.Definitions.{external_typed}
@@ -58,6 +57,7 @@ use Rattle.c_typed_programs.specs.Functions.Functions.{Functions, HasTypeAndRoom
 use Rattle.c_typed_programs.proofs.Functions.Entities.{conflict, none_some, some_is}
 use Rattle.c_typed_programs.proofs.Functions.Words.{spells_alike}
 use Rattle.c_typed_programs.proofs.Functions.Files.{FunctionsOf, IfDefines, external_defines}
+use Rattle.c_typed_programs.proofs.Common.{first, same_number, second}
 
 -- one behind the other
 
@@ -358,9 +358,6 @@ definition_at objects end es f c d is name x n e w known =
         ((functions_stand objects end es f c d is).defines.each name k g)
 
 -- the type and the room of each function
-
-same_number : (n : ℕ) → (n == n) ≡ true
-same_number n = eq-eqb n n refl
 
 types_count : (es : List (Option TypeExtent)) (types : List (List TypeWord)) → length (map (function_type es) types) ≡ length types
 types_count es [] = refl

@@ -13,7 +13,7 @@ use Rattle.c_initializer_rules.specs.Placed.{PlacedPart, count_of, count_with, g
 use Rattle.c_typed_programs.specs.Initializers.Cursor.{Every}
 use Rattle.c_typed_programs.specs.Initializers.Initialized.{IsValidPart}
 use Rattle.c_typed_programs.specs.Initializers.Placing.{FitsIn, reach}
-use Rattle.c_typed_programs.proofs.Initializers.Valid.{both}
+use Rattle.c_typed_programs.proofs.Common.{both}
 
 -- parts that end within so many bytes
 

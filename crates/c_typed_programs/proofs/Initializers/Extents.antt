@@ -13,9 +13,9 @@ use Rattle.c_rules.specs.declared.class.Target.TheVariants as target
 use Rattle.c_rules.specs.Types.{target_of, unqualified}
 use Rattle.c_place_laws.proofs.Sizes.{Complete, complete}
 use Rattle.c_typed_declarators.proofs.Types.{is_size_of, size_high, size_low}
-use Rattle.c_typed_programs.proofs.Scopes.Initializers.{first, second}
 use Rattle.c_typed_programs.specs.Layouts.Listed.{has_array_bytes}
 use Rattle.c_typed_programs.specs.Initializers.Placing.{HasExtent}
+use Rattle.c_typed_programs.proofs.Common.{first, second, the_same}
 
 -- qualifiers change no extent
 
@@ -81,9 +81,6 @@ pub record HasElements (es : List (Option TypeExtent)) (count size : ℕ) (eleme
   pub each : ℕ
   pub has : HasExtent es each element
   pub all : count * each ≡ size
-
-pub the_same : {A : Type 0} {a b : A} → Some a ≡ Some b → a ≡ b
-the_same e = cc
 
 pub rows : (n count each : ℕ) → n < count → n * each + each ≤ count * each
 rows n count each low =

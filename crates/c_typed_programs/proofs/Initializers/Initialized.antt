@@ -36,7 +36,6 @@ use Rattle.c_typed_programs.specs.Scopes.Regular.{is_regular_initializer, is_reg
 use Rattle.c_typed_declarators.proofs.Types.{size_high, size_low}
 use Rattle.c_typed_programs.proofs.Layouts.Behind.{expression_behind}
 use Rattle.c_typed_programs.proofs.Layouts.Declared.{laid_out_binds}
-use Rattle.c_typed_programs.proofs.Initializers.Extents.{the_same}
 use Rattle.c_typed_programs.specs.Initializers.Cursor.{Every, IsPlacing}
 use Rattle.c_typed_programs.specs.Initializers.Giving.{ExpressionsKeep, Gives, Giving, IfKept}
 use Rattle.c_typed_programs.specs.Initializers.Initialized.{IfInitialized, IfScalar, IsValidPart, IsValueOf}
@@ -55,6 +54,7 @@ use Rattle.c_typed_programs.proofs.Initializers.Scalars.{IsAtMostOne, IsOne, at_
 use Rattle.c_typed_programs.proofs.Initializers.Scalars.{parts_whole, same_aggregate, scalar_kind}
 use Rattle.c_typed_programs.proofs.Initializers.Some.{At, HasSome, IsAwaited, IsStored, begun_awaited, ended_some, some_steps}
 use Rattle.c_typed_programs.proofs.Initializers.Valid.{initialized_valid, nothing_kept}
+use Rattle.c_typed_programs.proofs.Common.{the_same}
 
 -- expressions keep the arrays of names and members laid out
 

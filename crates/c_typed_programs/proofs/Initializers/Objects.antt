@@ -29,9 +29,9 @@ use Rattle.c_typed_programs.proofs.Declarations.Completed.{completed_by, size_bi
 use Rattle.c_typed_declarators.proofs.Types.{is_size_of, size_low, target_is}
 use Rattle.c_typed_programs.specs.Layouts.Listed.{has_array_bytes}
 use Rattle.c_typed_programs.proofs.Layouts.Arrays.{array_arrays}
-use Rattle.c_typed_programs.proofs.Initializers.Extents.{the_same}
 use Rattle.c_typed_programs.specs.Initializers.Placing.{HasExtent, whole_type}
 use Rattle.c_typed_programs.proofs.Initializers.Cursor.{If}
+use Rattle.c_typed_programs.proofs.Common.{the_same}
 
 -- what is initialized is of a complete type, or an array of unknown size with elements of one
 

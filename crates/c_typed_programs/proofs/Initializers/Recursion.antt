@@ -25,11 +25,11 @@ use Rattle.c_typed_validity.specs.Steps.{Structures}
 use Rattle.c_typed_validity.proofs.Sound.{Stays, both}
 use Rattle.c_typed_programs.specs.Scopes.Regular.{are_regular_items, is_regular_designation, is_regular_designator}
 use Rattle.c_typed_programs.specs.Scopes.Regular.{is_regular_initializer, is_regular_item}
-use Rattle.c_typed_programs.proofs.Scopes.Initializers.{first, second}
 use Rattle.c_typed_programs.specs.Initializers.Giving.{ExpressionsKeep, Giving, IsFineIf}
 use Rattle.c_typed_programs.proofs.Initializers.Cursor.{If}
 use Rattle.c_typed_programs.proofs.Initializers.Giving.{IsFineValue, giving_done, giving_judged, giving_then, then_only}
 use Rattle.c_typed_programs.proofs.Initializers.Giving.{value_given, weaker_given}
+use Rattle.c_typed_programs.proofs.Common.{first, second}
 
 -- behind a literal that fills an array, or before an initializer that is no such literal
 abbrev pub FilledIf : (Before Behind : Structures → Initializing → Type 0) → (is_filled : Bool) → Structures

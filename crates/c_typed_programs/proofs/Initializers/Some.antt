@@ -1,5 +1,5 @@
 -- An initializer that violates no rule stores at least one part (C99 6.7.8).
-use Rattle.std.proofs.Common.{◌≡◌, ◌⊎◌, inl, inr, ℕ, zero, suc, ◌-◌, Bool, true, false, ◌&&◌, refl, sym, ap, ◌∙◌}
+use Rattle.std.proofs.Common.{◌≡◌, ◌⊎◌, inl, inr, ℕ, zero, suc, ◌-◌, Bool, true, false, refl, sym, ap, ◌∙◌}
 use Rattle.std.proofs.Common.{subst, List, [], ◌∷◌, ◌++◌, length, take, Option, Some, None, if◌then◌else◌, arith}
 use Rattle.std.specs.Prelude.{Ok, Err, is_some, slice_index_or}
 use Rattle.c_tree.specs.declared.c_type.TypeWord.{TypeWord}
@@ -31,6 +31,7 @@ use Rattle.c_unit_typing.specs.Initializers.{member_lists}
 use Rattle.c_typed_validity.specs.Steps.{Structures}
 use Rattle.c_typed_programs.proofs.Initializers.Cursor.{If}
 use Rattle.c_typed_programs.proofs.Initializers.Recursion.{Filled, FilledIf, Steps}
+use Rattle.c_typed_programs.proofs.Common.{second}
 
 pub record HasSome (ps : List PlacedPart) : Type 0 where
   pub part : PlacedPart
@@ -129,10 +130,6 @@ pub data IsWanted (i : Initializing) : Type 0 where
 pub data IsAwaited (i : Initializing) : Type 0 where
   wanted : IsWanted i → IsAwaited i
   awaited : is_some i.next ≡ true → IsAwaited i
-
-second : (a b : Bool) → (a && b) ≡ true → b ≡ true
-second true b e = e
-second false b e = cc
 
 none_some : {A : Type 0} (o : Option A) (P : Type 0) → o ≡ None → is_some o ≡ true → P
 none_some None P e g = absurd cc

@@ -1,5 +1,5 @@
 -- What an initializer stores is valid (C99 6.7.8).
-use Rattle.std.proofs.Common.{◌≡◌, Bool, true, false, ◌&&◌, refl, Option, Some, None}
+use Rattle.std.proofs.Common.{◌≡◌, true, refl, Option, Some, None}
 use Rattle.std.specs.Prelude.{Ok, Err}
 use Rattle.c_syntax.specs.Tree.{Initializer}
 use Rattle.c_tree.specs.Kinds.{is_value}
@@ -20,10 +20,7 @@ use Rattle.c_typed_programs.specs.Initializers.Initialized.{IsValidPart}
 use Rattle.c_typed_programs.proofs.Initializers.Placings.{any_objects, placing_steps}
 use Rattle.c_typed_programs.proofs.Initializers.Recursion.{initialized_given}
 use Rattle.c_typed_programs.proofs.Initializers.Steps.{KeepsParts, keeps_every}
-
-pub both : (a b : Bool) → a ≡ true → b ≡ true → (a && b) ≡ true
-both true b e g = g
-both false b e g = cc
+use Rattle.c_typed_programs.proofs.Common.{both}
 
 pub keeps_valid : (scope : Scope) (es : Structures) (P : Subobject → Type 0)
     → KeepsParts true scope es P (Every (IsValidPart scope))

@@ -22,6 +22,7 @@ use Rattle.c_typed_programs.proofs.Layouts.Recursion.{typed_laid, valued_laid, w
 use Rattle.c_typed_programs.specs.Scopes.Leaving.{FileLeads}
 use Rattle.c_typed_programs.proofs.Scopes.Leading.{closed_leads, file_on, file_same, leads_by, names_are, state_leads}
 use Rattle.c_typed_programs.specs.LaidOut.Behind.{IfLaid}
+use Rattle.c_typed_programs.proofs.Common.{filed}
 
 -- scopes
 
@@ -120,9 +121,6 @@ in_file g f (Err e) h = tt
 
 pub state_lays : {A : Type 0} (typing : Typing A) → StateLays typing → Lays (in_state typing)
 state_lays typing h f formed laid = in_file anything f (typing f.state) (h f.state formed laid)
-
-abbrev filed : {A : Type 0} → File → State × A → Answer (File × A)
-filed f r = Ok (record f { state = r.0 }, r.1)
 
 -- and gives something on which what follows depends
 pub in_state_then : {A B : Type 0} (p q : State → A → Type 0) (f : File) (a : Answer (State × A))

@@ -40,13 +40,13 @@ use Rattle.c_typed_programs.specs.Scopes.Regular.{are_regular_declarators, initi
 use Rattle.c_typed_programs.specs.Scopes.Regular.{is_regular_initializer_if, is_regular_object}
 use Rattle.c_typed_programs.proofs.Scopes.Declarations.{StateLeads, declares_leads, initialized_leads, parts_by}
 use Rattle.c_typed_programs.proofs.Scopes.Declarations.{specified_extends, static_leads, variable_leads}
-use Rattle.c_typed_programs.proofs.Scopes.Initializers.{first, second}
 use Rattle.c_typed_programs.proofs.Scopes.Leading.{file_same, state_leads}
 use Rattle.c_typed_programs.specs.Initializers.Initialized.{IfInitialized}
 use Rattle.c_typed_programs.proofs.Initializers.Initialized.{initialized_if_is}
 use Rattle.c_typed_programs.specs.LaidOut.Behind.{IfLaid}
 use Rattle.c_typed_programs.proofs.LaidOut.Chained.{StateLaid, both_laid, from_file, in_state_then, judged_lays, state_lays}
 use Rattle.c_typed_programs.proofs.LaidOut.Chained.{then_lays}
+use Rattle.c_typed_programs.proofs.Common.{first, second}
 
 -- an object with its initializer
 

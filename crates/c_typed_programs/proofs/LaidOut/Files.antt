@@ -44,13 +44,13 @@ use Rattle.c_typed_programs.proofs.Layouts.Recursion.{shape_laid, specification_
 use Rattle.c_typed_programs.specs.Scopes.Leaving.{FileLeads, Growing}
 use Rattle.c_typed_programs.specs.Scopes.Regular.{are_regular_externals, is_regular_block, is_regular_external}
 use Rattle.c_typed_programs.proofs.Scopes.Files.{built_definition, defined_as_declares, entered_leads, external_grows, inside}
-use Rattle.c_typed_programs.proofs.Scopes.Files.{neither_left, scope_is, stored_extends}
-use Rattle.c_typed_programs.proofs.Scopes.Initializers.{first, second}
+use Rattle.c_typed_programs.proofs.Scopes.Files.{scope_is, stored_extends}
 use Rattle.c_typed_programs.proofs.Scopes.Leading.{bound_leads, leads_on, names_are}
 use Rattle.c_typed_programs.specs.LaidOut.Behind.{IfLaid, IsLaidIf}
 use Rattle.c_typed_programs.proofs.LaidOut.Chained.{StateLaid}
 use Rattle.c_typed_programs.proofs.LaidOut.Declarations.{declaration_laid, stored_laid}
 use Rattle.c_typed_programs.proofs.LaidOut.Statements.{items_laid}
+use Rattle.c_typed_programs.proofs.Common.{filed, first, neither_left, second}
 
 -- in the block of a function names stand for its parameters too
 
@@ -150,9 +150,6 @@ defined_by_test s formed laid spec sized arrays sh counted name false =
     declared_by s formed laid d (built_definition s formed spec sized sh counted name)
     (definition_arrays s spec arrays sh name) name (declaring.judged (surroundings s.environment d) d) refl
     (defined_as_declares s formed spec sized sh counted name false)
-
-abbrev filed : {A : Type 0} → File → State × A → Answer (File × A)
-filed f r = Ok (record f { state = r.0 }, r.1)
 
 named_by : (f : File) (d : Declaration) (o : Option ParameterScope) (line : ℕ) (b : t.Block)
     → is_regular_block b ≡ true → HasScope f.state o → (a : Answer (State × Option Meaning)) → IfDeclared d f.state a

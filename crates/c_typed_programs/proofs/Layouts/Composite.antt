@@ -1,5 +1,5 @@
 -- The composite type of two types whose arrays have the bytes of their elements is such a type too (C99 6.2.7).
-use Rattle.std.proofs.Common.{◌≡◌, ℕ, Bool, true, false, ◌&&◌, refl, sym, ap, ◌∙◌, subst, List, [], ◌∷◌, Option}
+use Rattle.std.proofs.Common.{◌≡◌, ℕ, Bool, true, false, refl, sym, ap, ◌∙◌, subst, List, [], ◌∷◌, Option}
 use Rattle.std.proofs.Common.{Some, None, if◌then◌else◌, arith}
 use Rattle.std.specs.Prelude.{option_map}
 use Rattle.c_tree.specs.declared.c_type.TypeWord.{TypeWord}
@@ -17,9 +17,7 @@ use Rattle.c_typed_declarators.proofs.Types.{size_high}
 use Rattle.c_typed_programs.specs.Declarations.Binding.{IsCompleteFor}
 use Rattle.c_typed_programs.specs.Layouts.Listed.{HasSizes, has_array_bytes}
 use Rattle.c_typed_programs.proofs.Layouts.Arrays.{both_true, bytes_kept}
-
-pub the_same : {A : Type 0} {a b : A} → Some a ≡ Some b → a ≡ b
-the_same e = cc
+use Rattle.c_typed_programs.proofs.Common.{second, the_same}
 
 -- what stands where two words are
 
@@ -164,10 +162,6 @@ composite_right es (v ∷ s) (w ∷ t) c is =
     (right_by es v w p.first t p.others (composite_right es s t p.others p.rest) (joint_is v w p.first p.joint_of))
 
 -- its arrays have the bytes of their elements
-
-second : (a b : Bool) → (a && b) ≡ true → b ≡ true
-second true b e = e
-second false b e = cc
 
 array_arrays : (es : List (Option TypeExtent)) (count bytes : ℕ) (s c : List TypeWord) → Completes es s c
     → (has_array_bytes es s ≡ true → has_array_bytes es c ≡ true)

@@ -42,7 +42,7 @@ use Rattle.c_typed_declarators.proofs.Types.{NoFaults, first_faultless, without_
 use Rattle.c_typed_programs.specs.Layouts.Listed.{AreListed, IsListed, has_array_bytes}
 use Rattle.c_typed_programs.proofs.Layouts.Arrays.{arrays_kept, built_arrays, listed_kept}
 use Rattle.c_typed_programs.proofs.Layouts.Chained.{HasLists, Laid}
-use Rattle.c_typed_programs.proofs.Layouts.Composite.{the_same}
+use Rattle.c_typed_programs.proofs.Common.{the_same}
 
 -- a list of members, each with a property
 

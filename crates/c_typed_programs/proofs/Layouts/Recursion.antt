@@ -69,14 +69,7 @@ use Rattle.c_typed_programs.proofs.Layouts.Lists.{tagged_laid}
 use Rattle.c_typed_programs.proofs.Layouts.Standing.{accessed_stands, applied_stands, enumerated_stands, literal_stands}
 use Rattle.c_typed_programs.proofs.Layouts.Standing.{name_called_stands, named_stands, parameter_stands, prefixed_stands}
 use Rattle.c_typed_programs.proofs.Layouts.Standing.{stands_laid, value_stands}
-
-first : (a b : Bool) → (a && b) ≡ true → a ≡ true
-first true b e = refl
-first false b e = e
-
-second : (a b : Bool) → (a && b) ≡ true → b ≡ true
-second true b e = e
-second false b e = cc
+use Rattle.c_typed_programs.proofs.Common.{first, second}
 
 whatever : {A : Type 0} (s : State) (a : Answer A) → IfAnswer (anything s) a
 whatever s (Ok x) = tt

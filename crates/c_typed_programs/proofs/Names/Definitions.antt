@@ -33,15 +33,15 @@ use Rattle.c_typed_programs.specs.Declarations.Binding.{IfDeclared, bound_meanin
 use Rattle.c_typed_programs.proofs.Declarations.Judged.{answered, if_declared}
 use Rattle.c_typed_programs.specs.Scopes.Leaving.{FileLeads, Leading}
 use Rattle.c_typed_programs.specs.Scopes.Regular.{is_regular_block, is_regular_external}
-use Rattle.c_typed_programs.proofs.Scopes.Files.{built_definition, entered_leads, filed, inside, inside_formed, scope_is}
+use Rattle.c_typed_programs.proofs.Scopes.Files.{built_definition, entered_leads, inside, inside_formed, scope_is}
 use Rattle.c_typed_programs.proofs.Scopes.Files.{stored_extends}
-use Rattle.c_typed_programs.proofs.Scopes.Initializers.{first, second}
 use Rattle.c_typed_programs.proofs.Scopes.Leading.{bound_leads, names_are}
 use Rattle.c_typed_programs.proofs.Scopes.Statements.{items_lead}
 use Rattle.c_typed_programs.specs.Functions.Entities.{IfContinues}
 use Rattle.c_typed_programs.proofs.Functions.Continuing.{items_continue}
 use Rattle.c_typed_programs.specs.Names.Linked.{AreFilled, IsFilled}
 use Rattle.c_typed_programs.proofs.Names.Filled.{IfFileFilled, declaration_filled, declarator_filled, state_filled, still_filled}
+use Rattle.c_typed_programs.proofs.Common.{filed, first, second}
 
 -- behind the block of a function names stand for what they did before it
 

@@ -33,7 +33,6 @@ use Rattle.c_typed_programs.specs.Scopes.Defined.{define_functions, defines}
 use Rattle.c_typed_programs.specs.Scopes.Leaving.{Grows, Growing}
 use Rattle.c_typed_programs.specs.Scopes.Regular.{are_regular_externals, is_regular_external}
 use Rattle.c_typed_programs.proofs.Scopes.Files.{external_grows, grows_on, grows_same}
-use Rattle.c_typed_programs.proofs.Scopes.Initializers.{first, second}
 use Rattle.c_typed_programs.proofs.Scopes.Start.{file_members}
 use Rattle.c_typed_programs.specs.Layouts.Listed.{IsLaidOut}
 use Rattle.c_typed_programs.proofs.Layouts.Start.{file_laid}
@@ -54,6 +53,7 @@ use Rattle.c_typed_programs.specs.Names.Known.{AreKnown}
 use Rattle.c_typed_programs.specs.Names.Linked.{AreFilled, IsFilled}
 use Rattle.c_typed_programs.proofs.Names.Definitions.{external_filled}
 use Rattle.c_typed_programs.proofs.Names.Filled.{IfFileFilled, filled_named, unchanged}
+use Rattle.c_typed_programs.proofs.Common.{first, second}
 
 -- where a file begins
 

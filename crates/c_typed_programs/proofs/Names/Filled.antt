@@ -51,9 +51,8 @@ use Rattle.c_typed_programs.specs.Scopes.Leaving.{Leading}
 use Rattle.c_typed_programs.specs.Scopes.Regular.{are_regular_declarators, initializer_of, is_regular_declaration}
 use Rattle.c_typed_programs.specs.Scopes.Regular.{is_regular_initializer_if, is_regular_object}
 use Rattle.c_typed_programs.proofs.Scopes.Declarations.{declarator_leads, specified_extends}
-use Rattle.c_typed_programs.proofs.Scopes.Initializers.{first, initialized_extends, second}
+use Rattle.c_typed_programs.proofs.Scopes.Initializers.{initialized_extends}
 use Rattle.c_typed_programs.proofs.Types.Parameters.{judged_known}
-use Rattle.c_typed_programs.proofs.Bodies.Chained.{filed}
 use Rattle.c_typed_programs.proofs.Bodies.Declared.{IfMade, placed_made}
 use Rattle.c_typed_programs.proofs.Bodies.Standing.{either}
 use Rattle.c_typed_programs.specs.Functions.Entities.{Continue, Fills}
@@ -61,6 +60,7 @@ use Rattle.c_typed_programs.proofs.Functions.Continuing.{bound_fills, declarator
 use Rattle.c_typed_programs.proofs.Functions.Entities.{bound_either, compatible_fills, conflict, fills_on, keeps_same, none_some}
 use Rattle.c_typed_programs.proofs.Functions.Entities.{size_keeps, some_is}
 use Rattle.c_typed_programs.specs.Names.Linked.{AreFilled, IsFilled}
+use Rattle.c_typed_programs.proofs.Common.{filed, first, second}
 
 -- names
 

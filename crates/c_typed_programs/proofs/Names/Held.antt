@@ -32,6 +32,7 @@ use Rattle.c_typed_validity.specs.Steps.{Structures}
 use Rattle.c_typed_programs.specs.Layouts.Listed.{has_array_bytes}
 use Rattle.c_typed_programs.specs.Functions.Entities.{Fills, FillsWord}
 use Rattle.c_typed_programs.proofs.Functions.Entities.{conflict}
+use Rattle.c_typed_programs.proofs.Common.{or_left as or_first, or_right as or_second}
 
 -- The kind that a static object has where a type declares it: an array of a known size has its bytes, one of an unknown
 -- size may have any number of bytes.
@@ -55,14 +56,6 @@ HoldsArray k (word.Const ∷ ws) = HoldsArray k ws
 HoldsArray k ws = Unit {0}
 
 -- an object of such a type may be named by it
-
-or_second : (a b : Bool) → b ≡ true → (a || b) ≡ true
-or_second true b e = refl
-or_second false b e = e
-
-or_first : (a b : Bool) → a ≡ true → (a || b) ≡ true
-or_first true b e = refl
-or_first false b e = absurd cc
 
 named_same : (k l : Kind) → k ≡ l → is_named_as k l ≡ true
 named_same k l e = ap (is_named_as k) (sym e) ∙ or_first (is_kind k k) (valid.is_unsized k k) (same_kind k)

@@ -1,5 +1,5 @@
 -- Labels of a switch.
-use Rattle.std.proofs.Common.{◌≡◌, ℕ, Bool, true, false, ◌&&◌, ◌||◌, ◌==◌, refl, sym, ap, ◌∙◌, List, [], ◌∷◌, ◌++◌}
+use Rattle.std.proofs.Common.{◌≡◌, ℕ, Bool, true, false, ◌||◌, ◌==◌, refl, sym, ap, ◌∙◌, List, [], ◌∷◌, ◌++◌}
 use Rattle.std.proofs.Common.{Option, Some, None, if◌then◌else◌}
 use Rattle.std.specs.Prelude.{Ok, Err, not}
 use Rattle.std.specs.List.{list_all, list_any}
@@ -27,26 +27,7 @@ use Rattle.c_rules.specs.Values.{Value}
 use Rattle.c_condition_rules.specs.Conditions.{switch_value, switched}
 use Rattle.c_unit_typing.specs.Constructs.{Labels, added, case_on, case_with, default_on}
 use Rattle.c_typed_programs.specs.Places.Placed.{AreFine, are_labels_of}
-
-pub both : (a b : Bool) → a ≡ true → b ≡ true → (a && b) ≡ true
-both true b e g = g
-both false b e g = cc
-
-pub left_true : (a b : Bool) → (a && b) ≡ true → a ≡ true
-left_true true b e = refl
-left_true false b e = e
-
-pub right_true : (a b : Bool) → (a && b) ≡ true → b ≡ true
-right_true true b e = e
-right_true false b e = cc
-
-neither_left : (a b : Bool) → (a || b) ≡ false → a ≡ false
-neither_left true b e = e
-neither_left false b e = refl
-
-neither_right : (a b : Bool) → (a || b) ≡ false → b ≡ false
-neither_right true b e = cc
-neither_right false b e = e
+use Rattle.c_typed_programs.proofs.Common.{both, first as left_true, neither_left, neither_right, second as right_true}
 
 same_number : (v w : ℕ) → (v == w) ≡ (w == v)
 same_number v w = by (v == w) (w == v) refl refl

@@ -38,8 +38,9 @@ use Rattle.c_unit_typing.specs.Statements.{block, block_item, block_items, state
 use Rattle.c_unit_typing.specs.Statements.{switch_items}
 use Rattle.c_typed_programs.specs.Places.Placed.{AreFine, IfGives, IsFineStatement, are_labels_of, are_placed}
 use Rattle.c_typed_programs.specs.Places.Placed.{are_placed_items, is_placed}
-use Rattle.c_typed_programs.proofs.Places.Labels.{IfInteger, IfLabels, all_append, both, case_fine, default_fine, integer_is}
+use Rattle.c_typed_programs.proofs.Places.Labels.{IfInteger, IfLabels, all_append, case_fine, default_fine, integer_is}
 use Rattle.c_typed_programs.proofs.Places.Labels.{switch_integer}
+use Rattle.c_typed_programs.proofs.Common.{both}
 
 abbrev anything : {A : Type 0} → A → Type 0
 anything x = Unit {0}

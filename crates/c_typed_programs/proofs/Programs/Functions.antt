@@ -24,7 +24,6 @@ use Rattle.c_unit_typing.specs.Programs.{program_of, room_of, static_objects}
 use Rattle.c_unit_typing.specs.Units.{file_with}
 use Rattle.c_typed_validity.specs.Sound.{IsTypeOf}
 use Rattle.c_typed_validity.proofs.PointerCalls.{place_get}
-use Rattle.c_typed_programs.proofs.Places.Labels.{both}
 use Rattle.c_typed_programs.specs.Scopes.Defined.{define_functions}
 use Rattle.c_typed_programs.specs.Scopes.Regular.{are_regular_externals}
 use Rattle.c_typed_programs.specs.Bodies.Defined.{IsScopeOf, no_jumps}
@@ -40,6 +39,7 @@ use Rattle.c_typed_programs.specs.Names.Linked.{HaveSizes, IsOf}
 use Rattle.c_typed_programs.proofs.Names.Files.{file_known}
 use Rattle.c_typed_programs.proofs.Names.Has.{program_has}
 use Rattle.c_typed_programs.proofs.Names.Known.{definition_knows}
+use Rattle.c_typed_programs.proofs.Common.{both}
 
 -- the definition that a function of the program is made of
 

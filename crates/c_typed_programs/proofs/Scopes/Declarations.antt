@@ -9,7 +9,7 @@ use Rattle.c_tree.specs.declared.c_type.TypeWord.{TypeWord}
 use Rattle.c_tree.specs.declared.c_type.TypeWord.TheVariants as word
 use Rattle.c_tree.specs.Extents.{extent_of}
 use Rattle.c_tree.specs.Statements.{DeclaredVariable, Part}
-use Rattle.c_rules.specs.declared.fault.Rule.TheVariants.{LargeType, MisplacedStorage, Redeclared}
+use Rattle.c_rules.specs.declared.fault.Rule.TheVariants.{MisplacedStorage, Redeclared}
 use Rattle.c_rules.specs.Answer.{Answer, violates, ◌>>=◌}
 use Rattle.c_declarators.specs.Derivations.{array_of, is_large}
 use Rattle.c_initializer_rules.specs.Initializing.{begun}
@@ -44,9 +44,10 @@ use Rattle.c_typed_programs.proofs.Declarations.Judged.{declared_as_declares}
 use Rattle.c_typed_programs.specs.Scopes.Leaving.{FileLeads, Leading, Leads}
 use Rattle.c_typed_programs.specs.Scopes.Regular.{are_regular_declarators, initializer_of, is_regular_declaration}
 use Rattle.c_typed_programs.specs.Scopes.Regular.{is_regular_initializer_if, is_regular_object}
-use Rattle.c_typed_programs.proofs.Scopes.Initializers.{first, initialized_extends, second}
+use Rattle.c_typed_programs.proofs.Scopes.Initializers.{initialized_extends}
 use Rattle.c_typed_programs.proofs.Scopes.Leading.{bound_leads, file_same, in_state_by, in_state_then, leads_by}
 use Rattle.c_typed_programs.proofs.Scopes.Leading.{leads_on, leads_same, state_leads, then_leads}
+use Rattle.c_typed_programs.proofs.Common.{first, second, unless_large}
 
 -- states behind which something is bound
 
@@ -74,12 +75,6 @@ in_file_by f (Ok r) h = state_leads f r.0 h
 in_file_by f (Err e) h = tt
 
 -- an array that gets its size
-
-abbrev pub unless_large : State → Designated → Name → (array : TypeWord) → (element : List TypeWord) → (line : ℕ)
-    → (large : Bool) → Answer (State × List TypeWord)
-unless_large s d name array element line large =
-    if large then violates LargeType line
-    else Ok (record s { environment = with_size d name (array ∷ element) s.environment }, array ∷ element)
 
 pub large_by : (s : State) → IsFormed s → (d : Designated) (name : Name) (array : TypeWord) (element : List TypeWord)
     (line : ℕ) (large : Bool) → StateLeads s (unless_large s d name array element line large)

@@ -47,10 +47,10 @@ use Rattle.c_typed_programs.proofs.Declarations.Judged.{IsBuilt, answered, if_de
 use Rattle.c_typed_programs.specs.Scopes.Leaving.{FileLeads, Grows, Growing, IfEnds, Leading, Leads}
 use Rattle.c_typed_programs.specs.Scopes.Regular.{are_regular_externals, is_regular_block, is_regular_external}
 use Rattle.c_typed_programs.proofs.Scopes.Declarations.{declaration_leads, stored_by}
-use Rattle.c_typed_programs.proofs.Scopes.Initializers.{first, second}
 use Rattle.c_typed_programs.proofs.Scopes.Leading.{bound_leads, leads_by, leads_on, names_are, state_leads, the_tags_are}
 use Rattle.c_typed_programs.proofs.Scopes.Start.{file_formed, file_members}
 use Rattle.c_typed_programs.proofs.Scopes.Statements.{items_lead}
+use Rattle.c_typed_programs.proofs.Common.{filed, first, neither_left, second}
 
 pub grows_by : (f g : File) → FileLeads f g → Grows f g
 grows_by f g h = record {
@@ -234,10 +234,6 @@ body_grows line o b c (Some (meaning.Named (what.Static n) type)) f formed has =
 body_grows line o b c (Some (meaning.Named (what.Library r) type)) f formed has = grows_same f formed
 body_grows line o b c (Some (meaning.Named (what.Variable n) type)) f formed has = grows_same f formed
 
-pub neither_left : (a b : Bool) → (a || b) ≡ false → a ≡ false
-neither_left true b e = e
-neither_left false b e = refl
-
 pub built_definition : (s : State) → IsFormed s → (spec : Specification) → is_sized_array spec.type ≡ true
     → (sh : Shape) → AreCounted sh.derivations → (name : Name × ℕ)
     → IsBuilt (definition_of (extents s) spec (built_in s spec sh) name)
@@ -270,9 +266,6 @@ defined_as_declares s formed spec sized sh counted name false =
     (built_definition s formed spec sized sh counted name) name refl
     (judged_declarator (surroundings s.environment (definition_of (extents s) spec (built_in s spec sh) name))
     (definition_of (extents s) spec (built_in s spec sh) name)) refl
-
-abbrev pub filed : {A : Type 0} → File → State × A → Answer (File × A)
-filed f r = Ok (record f { state = r.0 }, r.1)
 
 pub named_by : (f : File) (d : Declaration) (name : Name) (o : Option ParameterScope) (line : ℕ) (b : t.Block)
     → is_regular_block b ≡ true → HasScope f.state o → (a : Answer (State × Option Meaning)) → IfDeclared d f.state a

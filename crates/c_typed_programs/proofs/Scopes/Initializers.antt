@@ -1,5 +1,5 @@
 -- Initializers keep what the values of expressions keep; so they leave a state that extends the one before.
-use Rattle.std.proofs.Common.{◌≡◌, Bool, true, false, ◌&&◌, refl, List, [], ◌∷◌, Option, Some, None, if◌then◌else◌}
+use Rattle.std.proofs.Common.{◌≡◌, Bool, true, false, List, [], ◌∷◌, Option, Some, None, if◌then◌else◌}
 use Rattle.std.specs.Prelude.{Ok, Err}
 use Rattle.std.specs.List.{list_all}
 use Rattle.c_syntax.specs.Tree.{Designation, Designator, Expression, Initializer, InitializerItem, MoreItems}
@@ -27,14 +27,7 @@ use Rattle.c_typed_declarators.proofs.Recursion.{typed_extends}
 use Rattle.c_typed_declarators.proofs.Steps.{valued_extends}
 use Rattle.c_typed_programs.specs.Scopes.Regular.{are_regular_items, is_regular_designation, is_regular_designator}
 use Rattle.c_typed_programs.specs.Scopes.Regular.{is_regular_initializer, is_regular_item}
-
-pub first : (a b : Bool) → (a && b) ≡ true → a ≡ true
-first true b e = refl
-first false b e = e
-
-pub second : (a b : Bool) → (a && b) ≡ true → b ≡ true
-second true b e = e
-second false b e = cc
+use Rattle.c_typed_programs.proofs.Common.{first, second}
 
 -- the value of an expression
 pub value_extends : (is : Bool) (e : Expression) → is_regular e ≡ true → (s : State) → IsFormed s

@@ -20,6 +20,7 @@ use Rattle.c_typed_declarators.proofs.Tags.{numbered_more}
 use Rattle.c_typed_programs.specs.Declarations.Binding.{Binds}
 use Rattle.c_typed_programs.proofs.Declarations.Formed.{members_behind}
 use Rattle.c_typed_programs.specs.Scopes.Leaving.{FileLeads, Leading, Leads}
+use Rattle.c_typed_programs.proofs.Common.{filed}
 
 -- states
 
@@ -154,9 +155,6 @@ pub in_state_by : {A : Type 0} (f : File) (p : State → A → Type 0) (a : Answ
     → Extending false f.state p a → Leading f (a >>= λ r. Ok (record f { state = r.0 }, r.1))
 in_state_by f p (Ok r) is = state_leads f r.0 (leads_by f.state r.0 is.0)
 in_state_by f p (Err e) is = tt
-
-abbrev filed : {A : Type 0} → File → State × A → Answer (File × A)
-filed f r = Ok (record f { state = r.0 }, r.1)
 
 -- and gives something on which what follows depends
 pub in_state_then : {A B : Type 0} (f : File) (p : State → A → Type 0) (a : Answer (State × A)) (next : A

@@ -25,15 +25,13 @@ use Rattle.c_typed_validity.specs.Typed.{HaveMembers}
 use Rattle.c_typed_declarators.specs.Extending.{IsSameOr, new, same}
 use Rattle.c_typed_declarators.proofs.Tags.{bound_same}
 use Rattle.c_typed_programs.proofs.Declarations.Formed.{IsPlainMeaning}
+use Rattle.c_typed_programs.proofs.Common.{no_value as no_some}
 
 record IsStart (env : Environment) : Type 0 where
   outer : env.names.outer ≡ []
   names : (name : Name) (m : Meaning) → declared name env.names.current ≡ Some m → IsPlainMeaning m
   tags : env.tags ≡ record { outer = []; current = [] }
   structures : env.structures ≡ none
-
-no_some : {A : Type 0} (x : A) (P : Type 0) → None ≡ Some x → P
-no_some x P e = cc
 
 kept : (before behind : Option Meaning) → IsSameOr IsPlainMeaning before behind
     → ((m : Meaning) → before ≡ Some m → IsPlainMeaning m) → (m : Meaning) → behind ≡ Some m → IsPlainMeaning m

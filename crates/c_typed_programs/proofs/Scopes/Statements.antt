@@ -37,9 +37,10 @@ use Rattle.c_typed_programs.specs.Scopes.Leaving.{FileLeads, Leading}
 use Rattle.c_typed_programs.specs.Scopes.Regular.{are_regular_block_items, is_regular_block, is_regular_block_item}
 use Rattle.c_typed_programs.specs.Scopes.Regular.{is_regular_declaration, is_regular_first, is_regular_if, is_regular_statement}
 use Rattle.c_typed_programs.proofs.Scopes.Declarations.{declaration_leads}
-use Rattle.c_typed_programs.proofs.Scopes.Initializers.{IfBehind, ValueWalk, first, judged_walks, second}
+use Rattle.c_typed_programs.proofs.Scopes.Initializers.{IfBehind, ValueWalk, judged_walks}
 use Rattle.c_typed_programs.proofs.Scopes.Initializers.{then_state, values_walk, walks_then}
 use Rattle.c_typed_programs.proofs.Scopes.Leading.{closed_leads, file_on, file_same, leads_by, state_leads}
+use Rattle.c_typed_programs.proofs.Common.{first, second}
 
 abbrev pub IfFileBehind : {A : Type 0} → (File → File → Type 0) → File → Answer (File × A) → Type 0
 IfFileBehind files f (Ok r) = files f r.0

@@ -13,16 +13,14 @@ use Rattle.c_scope.specs.Composite.{composite, joined, joint}
 use Rattle.c_scope.specs.Declaring.{is_function}
 use Rattle.c_declarators.specs.Derivations.{is_array}
 use Rattle.c_typed_programs.specs.SpelledTypes.Spelled.{fits, is_spelled}
-use Rattle.c_typed_programs.proofs.SpelledTypes.Words.{Structures, both, left, right}
+use Rattle.c_typed_programs.proofs.SpelledTypes.Words.{Structures}
+use Rattle.c_typed_programs.proofs.Common.{both, first as left, no_value as none_is, second as right, the_same}
 
 -- the words of a composite: those of both, but for the size of an array that one leaves open
 pub data IsJoint (v w x : TypeWord) : Type 0 where
   alike : v ≡ w → x ≡ v → IsJoint v w x
   first_sized : (count bytes : ℕ) → v ≡ word.Array count bytes → w ≡ word.OpenArray → x ≡ v → IsJoint v w x
   second_sized : (count bytes : ℕ) → v ≡ word.OpenArray → w ≡ word.Array count bytes → x ≡ w → IsJoint v w x
-
-the_same : {A : Type 0} {a b : A} → Some a ≡ Some b → a ≡ b
-the_same e = cc
 
 heads : {v w : TypeWord} → v ∷ [] ≡ w ∷ [] → v ≡ w
 heads e = cc
@@ -167,9 +165,6 @@ composite_array (v ∷ s) (w ∷ t) c e =
     let j = joins v s w t c e in ap is_array j.is ∙ joint_array v w j.first s j.rest j.joint
 
 -- extents: what is complete in one of both is so in the composite
-
-none_is : {A : Type 0} (x : A) (P : Type 0) → None ≡ Some x → P
-none_is x P e = cc
 
 no_open : (es : Structures) (s : List TypeWord) (x : TypeExtent) (P : Type 0)
     → extent_of es (word.OpenArray ∷ s) ≡ Some x → P

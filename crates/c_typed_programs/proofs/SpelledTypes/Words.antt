@@ -14,21 +14,10 @@ use Rattle.c_declarators.specs.Derivations.{is_array}
 use Rattle.c_scope.specs.Declaring.{is_function}
 use Rattle.c_call_rules.specs.FunctionTypes.{callee_type, result_type}
 use Rattle.c_typed_programs.specs.SpelledTypes.Spelled.{fits, is_readable, is_spelled}
+use Rattle.c_typed_programs.proofs.Common.{both, first as left, second as right}
 
 abbrev pub Structures : Type 0
 Structures = List (Option TypeExtent)
-
-pub left : (a b : Bool) → (a && b) ≡ true → a ≡ true
-left true b e = refl
-left false b e = e
-
-pub right : (a b : Bool) → (a && b) ≡ true → b ≡ true
-right true b e = e
-right false b e = absurd cc
-
-pub both : (a b : Bool) → a ≡ true → b ≡ true → (a && b) ≡ true
-both true b e g = g
-both false b e g = absurd cc
 
 pub spelled_sized : (es : Structures) (n : ℕ) (ws : List TypeWord) → is_spelled es n ws ≡ true → is_sized es ws ≡ true
 spelled_sized es n [] e = refl

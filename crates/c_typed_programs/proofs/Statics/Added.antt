@@ -17,12 +17,13 @@ use Rattle.c_typed_programs.proofs.Places.Labels.{all_append}
 use Rattle.c_typed_programs.specs.Layouts.Listed.{IfLaidOut, IsLaidOut}
 use Rattle.c_typed_programs.specs.Bodies.Standing.{Ends, IsReady, Stands}
 use Rattle.c_typed_programs.specs.Bodies.Typed.{Typed}
-use Rattle.c_typed_programs.proofs.Bodies.Chained.{filed, no_numbers, ready_behind}
+use Rattle.c_typed_programs.proofs.Bodies.Chained.{no_numbers, ready_behind}
 use Rattle.c_typed_programs.proofs.Bodies.Ends.{ends_before, ends_closed, numbers_on}
 use Rattle.c_typed_programs.proofs.Bodies.Entities.{entities_on, entities_same, linked_closed, linked_extended}
 use Rattle.c_typed_programs.proofs.Bodies.Laid.{laid_closed}
 use Rattle.c_typed_programs.proofs.Bodies.Standing.{stands_closed, stands_extended, stands_opened}
 use Rattle.c_typed_programs.specs.Statics.Added.{Adds, IfAdds, StandIn, are_valid_objects, is_valid_object}
+use Rattle.c_typed_programs.proofs.Common.{filed}
 
 pub stand_together : (function : Option ℕ) (xs ys : List (ℕ × StaticObject)) → StandIn function xs
     → StandIn function ys → StandIn function (xs ++ ys)

@@ -39,7 +39,6 @@ use Rattle.c_typed_programs.proofs.Declarations.Judged.{declared_as_declares}
 use Rattle.c_typed_programs.specs.Scopes.Regular.{are_regular_declarators, initializer_of, is_regular_declaration}
 use Rattle.c_typed_programs.specs.Scopes.Regular.{is_regular_initializer_if, is_regular_object}
 use Rattle.c_typed_programs.proofs.Scopes.Declarations.{specified_extends}
-use Rattle.c_typed_programs.proofs.Scopes.Initializers.{first, second}
 use Rattle.c_typed_programs.specs.Layouts.Listed.{HasArrays, HasArraysOf, IfLaidOut, IsLaidOut}
 use Rattle.c_typed_programs.specs.Layouts.Listed.{IsDeclared as HasDeclared}
 use Rattle.c_typed_programs.proofs.Layouts.Arrays.{arrays_kept}
@@ -47,7 +46,6 @@ use Rattle.c_typed_programs.proofs.Layouts.Behind.{shape_behind}
 use Rattle.c_typed_programs.proofs.Layouts.Declared.{declared_as_laid}
 use Rattle.c_typed_programs.specs.Bodies.Standing.{AreLinked, IsReady}
 use Rattle.c_typed_programs.specs.Bodies.Typed.{IfTyped}
-use Rattle.c_typed_programs.proofs.Bodies.Chained.{filed}
 use Rattle.c_typed_programs.proofs.Bodies.Declared.{IfMade, declared_typed, placed_made}
 use Rattle.c_typed_programs.proofs.Bodies.Entities.{declared_linked}
 use Rattle.c_typed_programs.proofs.Bodies.Laid.{stored_laid}
@@ -55,6 +53,7 @@ use Rattle.c_typed_programs.proofs.Bodies.Objects.{AreDeclared}
 use Rattle.c_typed_programs.specs.Statics.Added.{IfAdds}
 use Rattle.c_typed_programs.proofs.Statics.Added.{adds_same, adds_typed, from_file, state_then}
 use Rattle.c_typed_programs.proofs.Statics.Objects.{static_adds}
+use Rattle.c_typed_programs.proofs.Common.{filed, first, second, some_mapped}
 
 -- what is no object without linkage leaves the static objects of a file as they are
 
@@ -108,10 +107,6 @@ static_name env linked d n type true e g =
     conflict : false ≡ true → ⊥
     conflict e = cc
 static_name env linked d n type false e g = by_storage env d n type e d.storage refl g
-
-some_mapped : {A B : Type 0} (g : A → B) (x : Option A) → is_some (option_map g x) ≡ is_some x
-some_mapped g None = refl
-some_mapped g (Some x) = refl
 
 module _ (result : List TypeWord) where
   kept_adds : (f g : File) → IsReady f.state → g.statics ≡ f.statics → (a : Answer (File × List DeclaredVariable))

@@ -23,14 +23,14 @@ use Rattle.c_typed_validity.specs.Sound.{IsFormed}
 use Rattle.c_typed_validity.specs.Steps.{Structures}
 use Rattle.c_typed_programs.specs.Declarations.Binding.{IsCompleteFor}
 use Rattle.c_typed_programs.specs.Scopes.Regular.{is_regular_initializer}
-use Rattle.c_typed_programs.proofs.Places.Labels.{all_append, both, left_true, right_true}
+use Rattle.c_typed_programs.proofs.Places.Labels.{all_append}
 use Rattle.c_typed_programs.specs.Layouts.Listed.{HasSizes, IsLaidOut}
 use Rattle.c_typed_programs.specs.Initializers.Initialized.{IfInitialized}
 use Rattle.c_typed_programs.proofs.Initializers.Initialized.{initialized_if_is}
-use Rattle.c_typed_programs.proofs.Bodies.Chained.{filed}
 use Rattle.c_typed_programs.specs.Statics.Linked.{IfAddsParts, are_initialized, are_parts_at, is_initialized}
 use Rattle.c_typed_programs.specs.Statics.Program.{are_static_objects}
 use Rattle.c_typed_programs.proofs.Statics.Program.{object_in}
+use Rattle.c_typed_programs.proofs.Common.{both, filed, first as left_true, second as right_true}
 
 -- in the program
 

@@ -21,18 +21,17 @@ use Rattle.c_typed_validity.proofs.Moved.{get_last}
 use Rattle.c_typed_programs.specs.Declarations.Binding.{Binds, HasStatic, IsCompleteFor}
 use Rattle.c_typed_programs.proofs.Declarations.Variables.{declared_has_size}
 use Rattle.c_typed_programs.specs.Scopes.Regular.{is_regular_initializer_if}
-use Rattle.c_typed_programs.proofs.Places.Labels.{both}
 use Rattle.c_typed_programs.specs.Layouts.Listed.{HasSizes, IsLaidOut}
 use Rattle.c_typed_programs.specs.Initializers.Initialized.{IfInitialized, IsInitialized}
 use Rattle.c_typed_programs.proofs.Initializers.Initialized.{initialized_if_is}
 use Rattle.c_typed_programs.specs.Bodies.Standing.{Ends, IsReady, Stands}
 use Rattle.c_typed_programs.specs.Bodies.Typed.{IfTyped}
-use Rattle.c_typed_programs.proofs.Bodies.Chained.{filed}
 use Rattle.c_typed_programs.proofs.Bodies.Initialized.{IfInitializes, Initializes, initialized_is, static_meant}
 use Rattle.c_typed_programs.proofs.Bodies.Objects.{AreDeclared}
 use Rattle.c_typed_programs.proofs.Bodies.Standing.{stands_bound}
 use Rattle.c_typed_programs.specs.Statics.Added.{IfAdds, is_valid_object}
 use Rattle.c_typed_programs.proofs.Statics.Added.{adds_typed}
+use Rattle.c_typed_programs.proofs.Common.{both, filed}
 
 -- an object behind its initializer, if it has one
 pub object_valid : (scope : Scope) (s t : State) (type : List TypeWord) (parts : List Part)

@@ -21,7 +21,6 @@ use Rattle.c_valid_scopes.specs.Scopes.{AreAmong, AreOfOneProgram}
 use Rattle.c_valid_scopes.proofs.Agreeing.{static_parts}
 use Rattle.c_typed_validity.specs.Sound.{Covers}
 use Rattle.c_typed_validity.specs.Steps.{Structures}
-use Rattle.c_typed_programs.proofs.Places.Labels.{both, left_true, right_true}
 use Rattle.c_typed_programs.specs.Bodies.Defined.{Defines}
 use Rattle.c_typed_programs.specs.Bodies.Standing.{Ends}
 use Rattle.c_typed_programs.proofs.Bodies.Bodies.{function_ends, names_stand}
@@ -31,11 +30,9 @@ use Rattle.c_typed_programs.specs.Statics.Added.{Adds, IfAdds, StandIn, are_vali
 use Rattle.c_typed_programs.specs.Statics.Program.{AddsObjectsOf, IsFunctionOf, are_static_objects, stand_in_functions}
 use Rattle.c_typed_programs.proofs.Statics.Open.{every, opened_scope, opened_scope_wide}
 use Rattle.c_typed_programs.proofs.Statics.Walked.{items_add}
+use Rattle.c_typed_programs.proofs.Common.{both, first as left_true, second as right_true, three}
 
 -- an object that is valid in a scope of the program where the variables of its function can be named
-
-three : (a b c : Bool) → a ≡ true → b ≡ true → c ≡ true → (a && b && c) ≡ true
-three a b c e g h = both (a && b) c (both a b e g) h
 
 pub object_in : (p : Program) (a : Scope) → AreOfOneProgram a (scope_in p [] [] kind.Void) → (o : ℕ × StaticObject)
     → AreAmong a.variables (variables_of_function p.functions o.1.function)

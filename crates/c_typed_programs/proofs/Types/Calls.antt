@@ -38,10 +38,11 @@ use Rattle.c_call_rules.specs.Routines.{routine_words}
 use Rattle.c_typed_declarators.proofs.Chained.{IfAnswer}
 use Rattle.c_typed_programs.specs.SpelledTypes.Spelled.{IsFunctionType, IsValueType, fits, has_parameters}
 use Rattle.c_typed_programs.specs.SpelledTypes.Spelled.{is_readable, is_spelled}
-use Rattle.c_typed_programs.proofs.SpelledTypes.Words.{both, left, result_spelled, right, still_more, unqualified_readable}
+use Rattle.c_typed_programs.proofs.SpelledTypes.Words.{result_spelled, still_more, unqualified_readable}
 use Rattle.c_typed_programs.proofs.SpelledTypes.Words.{unqualified_spelled}
 use Rattle.c_typed_programs.specs.Types.Typed.{OfValueType, OfValueTypes, Structures}
 use Rattle.c_typed_programs.proofs.Types.Operators.{IfValue, is_incomplete, target_readable, then_value}
+use Rattle.c_typed_programs.proofs.Common.{both, first as left, second as right}
 
 -- parameters
 

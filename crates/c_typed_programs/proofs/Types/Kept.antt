@@ -21,9 +21,9 @@ use Rattle.c_typed_validity.specs.More.{AreMore}
 use Rattle.c_typed_validity.proofs.Kept.{extent_kept, kind_kept}
 use Rattle.c_typed_programs.specs.SpelledTypes.Spelled.{IsFunctionType, IsValueType, fits, has_parameters, is_readable}
 use Rattle.c_typed_programs.specs.SpelledTypes.Spelled.{is_spelled}
-use Rattle.c_typed_programs.proofs.SpelledTypes.Words.{both, left, right}
 use Rattle.c_typed_programs.specs.Types.Typed.{AreMembers, AreNamed, Each, HasType, HaveTypes, IsEntity, IsNamed, IsSpelled}
 use Rattle.c_typed_programs.specs.Types.Typed.{OfType, Structures}
+use Rattle.c_typed_programs.proofs.Common.{both, first as left, second as right, the_same}
 
 -- lists
 
@@ -48,9 +48,6 @@ pub each_bound : {A : Type 0} (p : A → Type 0) (name : Name) (x : A) (es : Nam
     → EachName p (bound name x es)
 each_bound p name x [] is h = (is, tt)
 each_bound p name x (e ∷ es) is h = bound_by p name x e es (is_name name e.0) is h (each_bound p name x es is h.1)
-
-the_same : {A : Type 0} {a b : A} → Some a ≡ Some b → a ≡ b
-the_same e = cc
 
 declared_by : {A : Type 0} (p : A → Type 0) (name : Name) (x : A) (e : Name × A) (es : Names A) (b : Bool)
     → EachName p (e ∷ es) → (declared name es ≡ Some x → p x)

@@ -59,10 +59,11 @@ use Rattle.c_typing.specs.State.{State, extents, with_const}
 use Rattle.c_expression_typing.specs.Constructs.{cast_to, chosen, sized}
 use Rattle.c_typed_declarators.proofs.Chained.{IfAnswer}
 use Rattle.c_typed_programs.specs.SpelledTypes.Spelled.{IsValueType, is_readable}
-use Rattle.c_typed_programs.proofs.SpelledTypes.Words.{element_spelled, left, pointee_spelled}
-use Rattle.c_typed_programs.proofs.SpelledTypes.Words.{qualified_spelled, right, unqualified_readable}
+use Rattle.c_typed_programs.proofs.SpelledTypes.Words.{element_spelled, pointee_spelled}
+use Rattle.c_typed_programs.proofs.SpelledTypes.Words.{qualified_spelled, unqualified_readable}
 use Rattle.c_typed_programs.proofs.SpelledTypes.Words.{unqualified_spelled}
 use Rattle.c_typed_programs.specs.Types.Typed.{IsPlaceType, IsSpelled, OfType, OfValueType, Structures}
+use Rattle.c_typed_programs.proofs.Common.{first as left, second as right}
 
 abbrev pub IfValue : Structures → Answer Value → Type 0
 IfValue es a = IfAnswer (OfValueType es) a
@@ -78,9 +79,6 @@ then_value es (Err f) next h = tt
 pub operand_of_type : (es : Structures) (a : Answer Value) → IfValue es a → IfOperand es (as_operand a)
 operand_of_type es (Ok v) h = h
 operand_of_type es (Err f) h = tt
-
-none_some : {A : Type 0} (x : A) (P : Type 0) → None ≡ Some x → P
-none_some x P e = cc
 
 is_known : (o : Option TypeExtent) (e : TypeExtent) → o ≡ Some e → is_some o ≡ true
 is_known o e g = ap is_some g

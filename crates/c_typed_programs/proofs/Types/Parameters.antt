@@ -18,7 +18,7 @@ use Rattle.c_scope.specs.declared.meaning.Storage.{Storage}
 use Rattle.c_scope.specs.declared.meaning.Storage.TheVariants as storage
 use Rattle.c_scope.specs.Declaring.{Declaration, Surroundings, is_complete, is_extern, is_function, is_incomplete}
 use Rattle.c_scope.specs.Declaring.{is_misplaced as is_misplaced_storage, is_redeclared, is_tentative, is_typedef}
-use Rattle.c_scope.specs.Declaring.{is_undefined, is_wrongly_initialized, judged as judged_declarator, when, when_some}
+use Rattle.c_scope.specs.Declaring.{is_undefined, is_wrongly_initialized, judged as judged_declarator}
 use Rattle.c_scope.specs.Environment.{in_file, surroundings, with_declarator}
 use Rattle.c_scope.specs.Names.{Name}
 use Rattle.c_typing.specs.Declarators.{Shape, built_in, declaring, is_misplaced, is_void, nameless_parameter}
@@ -29,12 +29,13 @@ use Rattle.c_typing.specs.State.{State, extents}
 use Rattle.c_typed_declarators.proofs.Chained.{IfAnswer}
 use Rattle.c_typed_declarators.proofs.Parameters.{behind, within}
 use Rattle.c_typed_declarators.proofs.Types.{NoFaults, without_faults}
-use Rattle.c_typed_programs.proofs.SpelledTypes.Words.{left as left_true, right, unqualified_spelled}
+use Rattle.c_typed_programs.proofs.SpelledTypes.Words.{unqualified_spelled}
 use Rattle.c_typed_programs.specs.Types.Typed.{AreNamed, IsSpelled, OfShape, OfSpecification, Structures, Typed}
 use Rattle.c_typed_programs.specs.Types.Typed.{Types}
 use Rattle.c_typed_programs.proofs.Types.Built.{adjusted_spelled, built_spelled}
 use Rattle.c_typed_programs.proofs.Types.Kept.{each_append, each_around, each_innermost}
 use Rattle.c_typed_programs.proofs.Types.States.{declarator_extents, declarator_types}
+use Rattle.c_typed_programs.proofs.Common.{first as left_true, neither_right as second_false, passed, passed_some, second as right}
 
 -- the scope of a list of parameters
 
@@ -60,16 +61,6 @@ behind_types before t h = record {
 }
 
 -- rules that are not violated
-
-pub passed : (b : Bool) (r : Rule) (line : ℕ) (other : Answer (Unit {0})) (x : Unit {0}) → when b r line other ≡ Ok x
-    → (b ≡ false) × (other ≡ Ok x)
-passed true r line other x e = absurd cc
-passed false r line other x e = (refl, e)
-
-passed_some : (o : Option Rule) (line : ℕ) (other : Answer (Unit {0})) (x : Unit {0})
-    → when_some o line other ≡ Ok x → (o ≡ None) × (other ≡ Ok x)
-passed_some (Some r) line other x e = absurd cc
-passed_some None line other x e = (refl, e)
 
 -- a declarator that violates no rule
 pub record IsJudged (s : Surroundings) (d : Declaration) : Type 0 where
@@ -197,10 +188,6 @@ no_function (word.Structure n ∷ ws) = refl
 no_function (word.Const ∷ ws) = refl
 no_function (word.Takes ∷ ws) = refl
 no_function (word.Gives ∷ ws) = refl
-
-second_false : (a b : Bool) → (a || b) ≡ false → b ≡ false
-second_false true b e = absurd cc
-second_false false b e = e
 
 no_longer : (a b : Bool) → a ≡ true → (not a && b) ≡ false
 no_longer true b e = refl

@@ -62,7 +62,6 @@ use Rattle.c_typed_declarators.proofs.Steps.{called_extends, format_extends, val
 use Rattle.c_typed_declarators.proofs.Tags.{BegunFrom, begun_extends}
 use Rattle.c_typed_declarators.proofs.Words.{int_word}
 use Rattle.c_typed_programs.specs.SpelledTypes.Spelled.{IsValueType}
-use Rattle.c_typed_programs.proofs.SpelledTypes.Words.{both}
 use Rattle.c_typed_programs.specs.Types.Typed.{AreSpelled, Each, IsCalled, IsSpelled, IsSpelledIf, OfGathered, OfType}
 use Rattle.c_typed_programs.specs.Types.Typed.{OfSpecification, OfValueType, OfValueTypes, Structures, Typed, Types, nothing}
 use Rattle.c_typed_programs.proofs.Types.Built.{specified_spelled}
@@ -76,6 +75,7 @@ use Rattle.c_typed_programs.proofs.Types.Steps.{accessed_typed, applied_to_typed
 use Rattle.c_typed_programs.proofs.Types.Steps.{judged_typed, literal_typed, named_typed, prefixed_typed, then_typed}
 use Rattle.c_typed_programs.proofs.Types.Steps.{typedef_spelled, valued_typed, values_kept, weaker_typed}
 use Rattle.c_typed_programs.proofs.Types.Tags.{begun_types, completed_types, tagged_types}
+use Rattle.c_typed_programs.proofs.Common.{both}
 
 value_then : {B : Type 0} (s : State) (operand : Typing Operand) (h : Structures → B → Type 0) (next : Value → Typing B)
     → Extending false s OperandHasWords (operand s) → Typed OfType (operand s)

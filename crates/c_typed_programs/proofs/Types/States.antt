@@ -9,7 +9,6 @@ use Rattle.c_tree.specs.declared.c_type.TypeWord.TheVariants as word
 use Rattle.c_tree.specs.TypesAgree.{same_word, same_words}
 use Rattle.c_rules.proofs.SameTypes.{words_are}
 use Rattle.c_rules.proofs.TypeKinds.{same_number}
-use Rattle.c_typed_programs.proofs.SpelledTypes.Words.{both}
 use Rattle.c_place_rules.specs.Operands.{Operand, a_value, a_place, a_variable, a_function}
 use Rattle.c_scope.specs.declared.meaning.Designated.{Designated}
 use Rattle.c_scope.specs.declared.meaning.Designated.TheVariants as what
@@ -33,6 +32,7 @@ use Rattle.c_typed_programs.proofs.SpelledTypes.Composites.{composite_spelled, n
 use Rattle.c_typed_programs.specs.Types.Typed.{are_different, HasType, IsEntity, IsNamed, IsSpelled}
 use Rattle.c_typed_programs.specs.Types.Typed.{Structures, Types}
 use Rattle.c_typed_programs.proofs.Types.Kept.{each_append, each_bound, each_declared, each_meaning}
+use Rattle.c_typed_programs.proofs.Common.{both}
 
 -- states with the same structures, whose types are still spelled
 pub record Stays (s t : State) : Type 0 where

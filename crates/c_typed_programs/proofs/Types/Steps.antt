@@ -58,7 +58,7 @@ use Rattle.c_typed_declarators.specs.Extending.{Extending, Extends}
 use Rattle.c_typed_declarators.specs.Given.{OperandHasWords, anything}
 use Rattle.c_typed_declarators.proofs.Chained.{IfAnswer}
 use Rattle.c_typed_programs.specs.SpelledTypes.Spelled.{IsFunctionType, IsValueType, is_readable}
-use Rattle.c_typed_programs.proofs.SpelledTypes.Words.{both, callee_spelled, qualified_spelled}
+use Rattle.c_typed_programs.proofs.SpelledTypes.Words.{callee_spelled, qualified_spelled}
 use Rattle.c_typed_programs.specs.Types.Typed.{AreMembers, Each, HasType, IsCalled, IsNamed, IsSpelled, OfType, OfValueType}
 use Rattle.c_typed_programs.specs.Types.Typed.{OfValueTypes, Structures, Typed, Types, nothing}
 use Rattle.c_typed_programs.proofs.Types.Calls.{called_kinded, called_type, formatted_type, routine_spelled}
@@ -67,6 +67,7 @@ use Rattle.c_typed_programs.proofs.Types.Kept.{each_declared, each_map, each_mea
 use Rattle.c_typed_programs.proofs.Types.Operators.{IfOperand, IfValue, address_type, among_type, operand_of_type}
 use Rattle.c_typed_programs.proofs.Types.Operators.{object_type, stepped_by_type, unary_value_type}
 use Rattle.c_typed_programs.proofs.Types.States.{Stays, address_stays, literal_stays, name_types, type_stays, used_stays}
+use Rattle.c_typed_programs.proofs.Common.{both}
 
 -- one behind the other
 

@@ -224,7 +224,7 @@ def constants(count):
 def line_of(expected):
     kind = expected.split()
     if kind[0] == "accepted":
-        return "typed" if kind[1] == "true" else "typed, not valid"
+        return "typed"
     if kind[0] == "refused":
         return f"rule {NAMES.index(kind[1].split('.')[1])} line {kind[2]}"
     return f"{kind[1].split('.')[1].lower()} {kind[2]}"

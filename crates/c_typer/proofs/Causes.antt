@@ -1,10 +1,12 @@
 -- Why a file has no typed program.
 use Rattle.std.proofs.Common.{◌≡◌, ℕ, List, Some, None, refl, sym, ap, ◌∙◌, subst}
-use Rattle.std.specs.Prelude.{◌*◌, ◌≤◌, IfOk, Option, Result, Ok, Err, length}
+use Rattle.std.specs.Prelude.{◌*◌, ◌≤◌, true, IfOk, Option, Result, Ok, Err, length}
+use Rattle.c_syntax.specs.Formed.{IsWellFormed}
 use Rattle.c_syntax.specs.Statements.{External, Unit as SyntaxUnit}
 use Rattle.c_syntax.specs.Words.{unit_words}
 use Rattle.c_tree.specs.declared.program.Program.{Program as CodeProgram}
 use Rattle.c_tree.specs.Programs.{Program}
+use Rattle.c_tree.specs.ValidProgram.{is_valid_program}
 use Rattle.c_tree.specs.View as view
 use Rattle.c_rules.specs.declared.fault.Fault.{Fault}
 use Rattle.c_rules.specs.declared.fault.Refusal.{Refusal}
@@ -13,13 +15,15 @@ use Rattle.c_rules.specs.Answer.{Fails}
 use Rattle.c_unit_typing.specs.declared.limits.Limited.{Limited}
 use Rattle.c_unit_typing.specs.Files.{File}
 use Rattle.c_unit_typing.specs.Programs.{program_of}
-use Rattle.c_unit_typing.specs.Typed.{TypedUnit, a_fault, a_program, too_large, typed_as, typed_unit, within_limits}
+use Rattle.c_unit_typing.specs.Typed.{TypedUnit, a_fault, a_program, are_constant, too_large, typed_as, typed_unit}
+use Rattle.c_unit_typing.specs.Typed.{within_limits}
 use Rattle.c_unit_typing.specs.Units.{file_in}
 use Rattle.c_unit_program.specs.Limits.{IsExcess}
 use Rattle.c_unit_program.specs.Outlines.{Outline, program_in}
 use Rattle.c_unit_program.specs.Rooms.{first_without_room}
 use Rattle.c_typed_sizes.specs.Nodes.{nodes_of}
 use Rattle.c_program_sizes.proofs.Programs.{unit_words_program}
+use Rattle.c_typed_programs.proofs.Programs.Units.{unit_valid}
 use Rattle.c_typer.specs.declared.unit.UnitRefusal.{UnitRefusal}
 use Rattle.c_typer.specs.declared.unit.UnitRefusal.TheVariants.{Fault as OfFault, Memory, RoomTooLarge, TooLarge}
 use Rattle.c_typer.specs.Refused.{IsCauseOf, IsWithoutRoom, UnlessMemory, refusal_of}
@@ -81,3 +85,13 @@ pub few_nodes : (end : ℕ) (u : SyntaxUnit) (r : Result CodeProgram UnitRefusal
     → IfOk r (λ program. nodes_of (view.program_of program) ≤ 3 * length (unit_words u))
 few_nodes end u (Ok program) typed = unit_words_program end u (view.program_of program) typed
 few_nodes end u (Err e) typed = tt
+
+-- and is valid
+
+pub valid_program : (end : ℕ) (u : SyntaxUnit) (r : Result CodeProgram UnitRefusal)
+    → IfOk r (λ program. typed_unit end u ≡ a_program (view.program_of program))
+    → IfOk r (λ program. IsWellFormed u → are_constant (view.program_of program) ≡ true
+    → is_valid_program (view.program_of program) ≡ true)
+valid_program end u (Ok program) typed = λ formed constant.
+    unit_valid end u (view.program_of program) formed typed constant
+valid_program end u (Err e) typed = tt

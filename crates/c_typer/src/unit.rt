@@ -1,13 +1,15 @@
 //! The typed program of a file.
 
-ghost use Rattle.std.specs.Prelude.{◌≡◌, ◌*◌, ◌≤◌, IfErr, IfOk, length};
+ghost use Rattle.std.specs.Prelude.{◌≡◌, ◌*◌, ◌≤◌, true, IfErr, IfOk, length};
+ghost use Rattle.c_syntax.specs.Formed.{IsWellFormed};
 ghost use Rattle.c_syntax.specs.StatementsView.{externals_in, unit_of};
 ghost use Rattle.c_syntax.specs.Words.{unit_words};
+ghost use Rattle.c_tree.specs.ValidProgram.{is_valid_program};
 ghost use Rattle.c_tree.specs.View as view;
 ghost use Rattle.c_typed_sizes.specs.Nodes.{nodes_of};
 ghost use Rattle.c_unit_state.specs.FileState.{file_of};
 ghost use Rattle.c_unit_typing.specs.Programs.{program_of};
-ghost use Rattle.c_unit_typing.specs.Typed.{a_program, typed_unit, within_limits};
+ghost use Rattle.c_unit_typing.specs.Typed.{a_program, are_constant, typed_unit, within_limits};
 ghost use Rattle.c_unit_program.specs.Outlines.{outline_of, program_in};
 ghost use Rattle.c_typer.specs.Refused.{IsCauseOf, UnlessMemory, refusal_of};
 
@@ -89,12 +91,15 @@ fn program_in(alloc: Global, unit: &Unit, file: FileTyper) -> Result<Program, Un
 
 /// The typed program of a file whose text ends on a line (C99 6.9), or why there is none: a rule that it violates, else
 /// that it has too much of something, else that calls of a function take too much; or that there is no memory. The
-/// program has at most 3 nodes for each word of the file, the bytes of its literals aside.
+/// program has at most 3 nodes for each word of the file, the bytes of its literals aside. That of a well-formed file,
+/// in which the initializers of static objects are constant (6.7.8 paragraph 4), is valid.
 pub fn type_unit(alloc: Global, end: Line, unit: &Unit) -> Result<Program, UnitRefusal>
     ensures typed { IfOk result
         (λ program. typed_unit end (unit_of unit.now) ≡ a_program (view.program_of program)) }
     ensures small { IfOk result
         (λ program. nodes_of (view.program_of program) ≤ 3 * length (unit_words (unit_of unit.now))) }
+    ensures valid { IfOk result (λ program. IsWellFormed (unit_of unit.now)
+        → are_constant (view.program_of program) ≡ true → is_valid_program (view.program_of program) ≡ true) }
     ensures refused { IfErr result
         (λ refusal. UnlessMemory refusal (IsCauseOf refusal (typed_unit end (unit_of unit.now)))) }
 {

@@ -5,6 +5,7 @@ use Rattle.std.proofs.Common.{refl, sym, ap, ◌∙◌, subst, arith}
 use Rattle.std.specs.Prelude.{◌&&◌, nat_le, nat_lt, if◌then◌else◌}
 use Rattle.std.specs.List.{list_all}
 use Rattle.std.proofs.lemmas.Bool.Decides.{nat_tests}
+use Rattle.c_syntax.specs.Formed.{IsWellFormed}
 use Rattle.c_syntax.specs.Statements.{Unit as Tree, External}
 use Rattle.c_counts.specs.Counts.{Count, counts_of}
 use Rattle.c_counts.specs.Excess.{first_above, parameters_among, members_among, most_parameters as most_listed}
@@ -27,12 +28,13 @@ use Rattle.c_unit_typing.specs.Typed.{limited_program}
 use Rattle.c_unit_typing.specs.Typed.{typed_as, typed_unit}
 use Rattle.c_unit_program.specs.Rooms.{first_without_room}
 use Rattle.c_typed_limits.proofs.Files.{unit_bounded}
+use Rattle.c_typed_programs.proofs.Programs.Units.{unit_valid}
 use Rattle.source_meaning.specs.Calls.{function_at}
 use Rattle.integer_images.specs.Images.{HaveFewParameters, most_parameters}
 use Rattle.integer_programs.specs.Programs.{is_integer_program}
 use Rattle.sbcets_core.specs.declared.refusal.SourceRefusal.TheVariants.{Uncompiled}
 use Rattle.sbcets_core.specs.Programs.{Judged, line_unless, content_fault, or_later, parts_fault, statics_fault}
-use Rattle.sbcets_core.specs.Programs.{constant_fault, is_compiled, unless_large, unless_fault}
+use Rattle.sbcets_core.specs.Programs.{constant_fault, unless_large, unless_fault}
 use Rattle.sbcets_core.specs.Programs.{judged_program, judged_unit}
 use Rattle.sbcets_core.specs.Accepted.{Readable, supported_tokens, JudgesReadable, Judges}
 
@@ -177,12 +179,11 @@ pub record IsFine (p : Program) : Type 0 where
   pub few : length p.functions ≤ most_functions
   pub parameters : HaveFewParameters p
 
-fine : (p : Program) → is_compiled p ≡ true → length p.functions ≤ most_functions
+fine : (p : Program) → is_integer_program p ≡ true → is_valid_program p ≡ true → length p.functions ≤ most_functions
     → list_all has_few_parameters p.functions ≡ true → IsFine p
-unfolding is_compiled
-fine p e few all = record {
-  integers = first_holds (is_integer_program p) (is_valid_program p) e;
-  valid = second_holds (is_integer_program p) (is_valid_program p) e;
+fine p e valid few all = record {
+  integers = e;
+  valid = valid;
   few = few;
   parameters = record { each = each_few p.functions all };
 }
@@ -191,13 +192,13 @@ fine p e few all = record {
 record IsTested (q p : Program) : Type 0 where
   same : q ≡ p
   constant : constant_fault q ≡ None
-  compiled : is_compiled q ≡ true
+  compiled : is_integer_program q ≡ true
 
 tested : (end : ℕ) (q p : Program) → judged_program end q ≡ Ok p → IsTested q p
 unfolding judged_program
-tested end q p e = by (first_without_room 0 q.functions) (constant_fault q) (is_compiled q) refl refl e
+tested end q p e = by (first_without_room 0 q.functions) (constant_fault q) (is_integer_program q) refl refl e
   where
-    by : (room fault : Option ℕ) (b : Bool) → constant_fault q ≡ fault → is_compiled q ≡ b
+    by : (room fault : Option ℕ) (b : Bool) → constant_fault q ≡ fault → is_integer_program q ≡ b
         → ◌≡◌ {A = Judged} (unless_large room (unless_fault fault (if b then Ok q else Err (Uncompiled end)))) (Ok p)
         → IsTested q p
     by (Some n) fault b cf cb e = absurd (cc e)
@@ -205,21 +206,23 @@ tested end q p e = by (first_without_room 0 q.functions) (constant_fault q) (is_
     by None None false cf cb e = absurd (cc e)
     by None None true cf cb e = record { same = cc e; constant = cf; compiled = cb }
 
-by_typed : (end : ℕ) (u : Tree) (p : Program) (t : TypedUnit) → typed_unit end u ≡ t
+by_typed : (end : ℕ) (u : Tree) (p : Program) (t : TypedUnit) → IsWellFormed u → typed_unit end u ≡ t
     → ◌≡◌ {A = Judged} (judged_unit end t) (Ok p) → IsFine p
-by_typed end u p (a_program q) typed e =
+by_typed end u p (a_program q) formed typed e =
     let t = tested end q p e in
     let same = t.same in
-    let compiled : is_compiled p ≡ true = subst (λ x. is_compiled x ≡ true) same t.compiled in
+    let compiled : is_integer_program p ≡ true = subst (λ x. is_integer_program x ≡ true) same t.compiled in
     let none : constant_fault p ≡ None = subst (λ x. constant_fault x ≡ None) same t.constant in
     let typed_so : typed_unit end u ≡ a_program p = typed ∙ ap a_program same in
-    fine p compiled (few_functions end u p typed_so none) (unit_bounded end u p typed_so (constant p none))
-by_typed end u p (a_fault f) typed e = absurd (cc e)
-by_typed end u p (too_large which n) typed e = absurd (cc e)
+    fine p compiled (unit_valid end u p formed typed_so (constant p none)) (few_functions end u p typed_so none)
+    (unit_bounded end u p typed_so (constant p none))
+by_typed end u p (a_fault f) formed typed e = absurd (cc e)
+by_typed end u p (too_large which n) formed typed e = absurd (cc e)
 
 by_readable : (readable : Readable) (p : Program) → JudgesReadable readable (Ok p) → IsFine p
 by_readable (Err early) p j = absurd (cc j)
-by_readable (Ok list) p j = by_typed list.end j.tree p (typed_unit list.end j.tree) refl (sym j.as_typed)
+by_readable (Ok list) p j =
+    by_typed list.end j.tree p (typed_unit list.end j.tree) j.written.formed refl (sym j.as_typed)
 
 pub accepted_is_fine : (source : List ℕ) (p : Program) → Judges source (Ok p) → IsFine p
 accepted_is_fine source p j = by_readable (supported_tokens source) p j

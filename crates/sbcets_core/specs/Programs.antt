@@ -1,10 +1,9 @@
 -- What comes of a typed file: the program that is compiled, or why there is none.
-use Rattle.std.specs.Prelude.{ℕ, Bool, ◌&&◌, if◌then◌else◌, List, [], ◌∷◌, Option}
+use Rattle.std.specs.Prelude.{ℕ, Bool, if◌then◌else◌, List, [], ◌∷◌, Option}
 use Rattle.std.specs.Prelude.{Some, None, Result, Ok, Err}
 use Rattle.c_tree.specs.Programs.{Program, StaticObject}
 use Rattle.c_tree.specs.Statements.{Content, Part, literal_content, value_content}
 use Rattle.c_tree.specs.Tree.{line_of}
-use Rattle.c_tree.specs.ValidProgram.{is_valid_program}
 use Rattle.c_const.specs.Addresses.{Pointers}
 use Rattle.c_unit_typing.specs.declared.limits.Limited.{Limited}
 use Rattle.c_unit_typing.specs.declared.limits.Limited.TheVariants as limited
@@ -46,13 +45,8 @@ statics_fault ps (o ∷ statics) = or_later (parts_fault ps o.parts) (statics_fa
 unfoldable pub constant_fault : Program → Option ℕ
 constant_fault p = statics_fault (any_pointers p) p.statics
 
--- The programs that are compiled: valid ones of integers alone. (Each typed file is valid; as long as that is not proved,
--- it is tested.)
-unfoldable pub is_compiled : Program → Bool
-is_compiled p = is_integer_program p && is_valid_program p
-
--- The tests of a typed program in their order: the room of its functions, its initializers, and whether it is compiled.
--- The text ends on this line.
+-- The tests of a typed program in their order: the room of its functions, its initializers, and whether it is one of
+-- integers alone, as programs are that are compiled. The text ends on this line.
 
 abbrev pub unless_large : Option ℕ → Judged → Judged
 unless_large (Some number) other = Err (RoomTooLarge number)
@@ -63,7 +57,7 @@ unless_fault (Some line) other = Err (Const line)
 unless_fault None other = other
 
 abbrev pub if_compiled : (end : ℕ) → Program → Judged
-if_compiled end p = if is_compiled p then Ok p else Err (Uncompiled end)
+if_compiled end p = if is_integer_program p then Ok p else Err (Uncompiled end)
 
 unfoldable pub judged_program : (end : ℕ) → Program → Judged
 judged_program end p =

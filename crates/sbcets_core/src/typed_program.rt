@@ -6,15 +6,14 @@ ghost use Rattle.c_const.specs.Contents.{constant_in};
 ghost use Rattle.c_const.specs.View.{pointers_of};
 ghost use Rattle.c_unit_program.specs.Rooms.{first_without_room};
 ghost use Rattle.sbcets_core.specs.Accepted.{UnlessMemory};
-ghost use Rattle.sbcets_core.specs.Programs.{constant_fault, content_fault, is_compiled};
-ghost use Rattle.sbcets_core.specs.Programs.{judged_program, parts_fault, statics_fault};
+ghost use Rattle.sbcets_core.specs.Programs.{constant_fault, content_fault, judged_program, parts_fault};
+ghost use Rattle.sbcets_core.specs.Programs.{statics_fault};
 
 use crate::refusal::SourceRefusal;
 use c_const::{Pointers, address_constant, constant_word};
 use c_tree::{Content, Expression, Function, Kind, Part, Program, StaticObject};
 use integer_programs::program::is_integer_program;
 use obj_memory::{Scalar, Tag, Value};
-use program_validity::is_valid;
 use sb_base::Line;
 use std::alloc::{AllocError, Global};
 
@@ -107,19 +106,7 @@ fn rooms_are_numbers(functions: &[Function])
     }
 }
 
-// Whether it is a valid program of integers alone.
-#[tactic(auto, unfolding(crate::specs::Programs::is_compiled))]
-fn is_compiled(alloc: Global, program: &Program) -> Result<bool, AllocError>
-    ensures { IfOk result (λ answer. answer ≡ is_compiled (program_of program.now)) }
-{
-    if !is_integer_program(program) {
-        return Ok(false);
-    }
-    let valid = is_valid(alloc, program)?;
-    Ok(valid)
-}
-
-/// Tests the program of a text that ends on a line: its initializers are constant, and it is compiled.
+/// Tests the program of a text that ends on a line: its initializers are constant, and it is one of integers alone.
 #[tactic(auto, unfolding(crate::specs::Programs::judged_program))]
 pub fn test(alloc: Global, end: Line, program: &Program) -> Result<(), SourceRefusal>
     ensures ok { OnOk result (judged_program end (program_of program.now) ≡ Ok (program_of program.now)) }
@@ -132,9 +119,9 @@ pub fn test(alloc: Global, end: Line, program: &Program) -> Result<(), SourceRef
         Ok(Some(line)) => return Err(SourceRefusal::Const(line)),
         Err(AllocError) => return Err(SourceRefusal::Memory),
     }
-    match is_compiled(alloc, program) {
-        Ok(true) => Ok(()),
-        Ok(false) => Err(SourceRefusal::Uncompiled(end)),
-        Err(AllocError) => Err(SourceRefusal::Memory),
+    if is_integer_program(program) {
+        Ok(())
+    } else {
+        Err(SourceRefusal::Uncompiled(end))
     }
 }

@@ -5,8 +5,7 @@
 // wrote, and then on a line of its own its status, or what else the run came to.
 //
 // The second has cases. A line of a case that begins with one of these words says what is given, the others are lines
-// of
-// the file `hi.c`:
+// of the file `hi.c`:
 //
 // - `%call WORDS`: the program is called with these words. A line is printed for each call: its status, what the output
 //   and the error output took, and what `%holds` asks for.
@@ -20,7 +19,7 @@
 // - `%compile hi.c`: what `compile` says of `hi.c`, on a line of its own.
 //
 // The third has sources. For each is printed the first rule that it violates and its line, or what it has too much of
-// and how much, or that it is typed, and whether what it is typed to is valid.
+// and how much, or that it is typed.
 //
 // The fourth has such sources too. For each come first its static objects, in the order of their names, with the bytes
 // that they hold before a run.

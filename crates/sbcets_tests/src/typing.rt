@@ -10,9 +10,7 @@ use c_syntax::Unit;
 use c_tree::Program;
 use c_typer::{UnitRefusal, type_unit};
 use c_unit_typing::limits::Limited;
-use program_validity::is_valid;
 use sb_base::Line;
-use std::alloc::Global;
 use std::fmt::{self, Display, Formatter, Write};
 
 /// What is asked of a source.
@@ -27,8 +25,8 @@ pub enum Question {
 /// What the typing of a source comes to.
 #[derive(Clone, Copy)]
 pub enum Verdict {
-    /// It is typed, and valid or not.
-    Typed { is_valid: bool },
+    /// It is typed.
+    Typed,
     /// It violates a rule.
     Fault(Fault),
     /// It has too much of something.
@@ -48,8 +46,7 @@ pub enum Verdict {
 impl Display for Verdict {
     fn fmt<W: Write>(&self, f: &mut Formatter<W>) -> fmt::Result {
         match self {
-            Verdict::Typed { is_valid: true } => write!(f, "typed"),
-            Verdict::Typed { is_valid: false } => write!(f, "typed, not valid"),
+            Verdict::Typed => write!(f, "typed"),
             Verdict::Fault(fault) => write!(
                 f,
                 "rule {} line {}",
@@ -86,17 +83,12 @@ fn parse_verdict(fault: ParseFault) -> Result<Verdict> {
     }
 }
 
-fn typed_verdict(alloc: Global, program: &Program) -> Result<Verdict> {
-    let is_valid = is_valid(alloc, program)?;
-    Ok(Verdict::Typed { is_valid })
-}
-
 // What a program that is typed comes to, by what is asked of it.
 fn asked_verdict(rt: &HostRuntime, question: Question, program: &Program) -> Result<Verdict> {
     if question == Question::Statics {
         put_statics(rt, program)?;
     }
-    typed_verdict(rt.alloc(), program)
+    Ok(Verdict::Typed)
 }
 
 fn unit_verdict(rt: &HostRuntime, question: Question, end: Line, unit: &Unit) -> Result<Verdict> {

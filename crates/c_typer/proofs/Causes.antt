@@ -18,9 +18,9 @@ use Rattle.c_unit_typing.specs.Programs.{program_of}
 use Rattle.c_unit_typing.specs.Typed.{TypedUnit, a_fault, a_program, are_constant, too_large, typed_as, typed_unit}
 use Rattle.c_unit_typing.specs.Typed.{within_limits}
 use Rattle.c_unit_typing.specs.Units.{file_in}
-use Rattle.c_unit_program.specs.Limits.{IsExcess}
-use Rattle.c_unit_program.specs.Outlines.{Outline, program_in}
-use Rattle.c_unit_program.specs.Rooms.{first_without_room}
+use Rattle.c_typer.specs.Limits.{IsExcess}
+use Rattle.c_typer.specs.Outlines.{Outline, program_in}
+use Rattle.c_typer.specs.Rooms.{first_without_room}
 use Rattle.c_typed_sizes.specs.Nodes.{nodes_of}
 use Rattle.c_program_sizes.proofs.Programs.{unit_words_program}
 use Rattle.c_typed_programs.proofs.Programs.Units.{unit_valid}

@@ -10,9 +10,9 @@ ghost use Rattle.c_typing.specs.State.{Types, extents, judged, state_of, â—Œ>>>â
 ghost use Rattle.c_unit_typing.specs.Units.{defined_as, definition_of, definition_rule, gives_incomplete};
 ghost use Rattle.c_unit_typing.specs.Units.{is_incomplete_structure};
 
+use crate::declarations::naming::meaning_here;
+use crate::declarations::specifying::misplaced;
 use c_call_rules::function_type::result_type;
-use c_declaration_typing::naming::meaning_here;
-use c_declaration_typing::specifying::misplaced;
 use c_declarators::BuiltType;
 use c_declarators::faults::TypeFaults;
 use c_rules::value::unqualified;

@@ -17,7 +17,7 @@ use Rattle.sbcets_core.specs.declared.refusal.SourceRefusal.TheVariants.{Syntax,
 use Rattle.sbcets_core.specs.declared.refusal.Counted.TheVariants.{Source}
 use Rattle.sbcets_core.specs.Outcomes.{max_source}
 use Rattle.c_tree.specs.Programs.{Program}
-use Rattle.c_unit_program.specs.Rooms.{first_without_room}
+use Rattle.c_typer.specs.Rooms.{first_without_room}
 use Rattle.c_unit_typing.specs.Typed.{TypedUnit, a_program, a_fault, too_large, typed_unit}
 use Rattle.sbcets_core.specs.Programs.{Judged, constant_fault, is_compiled, unless_large, unless_fault, judged_program}
 use Rattle.sbcets_core.specs.Programs.{judged_unit}

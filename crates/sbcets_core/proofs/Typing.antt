@@ -26,7 +26,7 @@ use Rattle.c_unit_typing.specs.Typed.{has_constants}
 use Rattle.c_unit_typing.specs.Typed.{are_constant, most_functions, most_bytes, global_bytes, when_large}
 use Rattle.c_unit_typing.specs.Typed.{limited_program}
 use Rattle.c_unit_typing.specs.Typed.{typed_as, typed_unit}
-use Rattle.c_unit_program.specs.Rooms.{first_without_room}
+use Rattle.c_typer.specs.Rooms.{first_without_room}
 use Rattle.c_typed_limits.proofs.Files.{unit_bounded}
 use Rattle.c_typed_programs.proofs.Programs.Units.{unit_valid}
 use Rattle.source_meaning.specs.Calls.{function_at}

@@ -4,7 +4,7 @@ ghost use Rattle.c_tree.specs.View.{content_of, expression_of, function_of, part
 ghost use Rattle.c_const.specs.Addresses.{untagged};
 ghost use Rattle.c_const.specs.Contents.{constant_in};
 ghost use Rattle.c_const.specs.View.{pointers_of};
-ghost use Rattle.c_unit_program.specs.Rooms.{first_without_room};
+ghost use Rattle.c_typer.specs.Rooms.{first_without_room};
 ghost use Rattle.sbcets_core.specs.Accepted.{UnlessMemory};
 ghost use Rattle.sbcets_core.specs.Programs.{constant_fault, content_fault, judged_program, parts_fault};
 ghost use Rattle.sbcets_core.specs.Programs.{statics_fault};

@@ -3,7 +3,7 @@ use Rattle.std.specs.Prelude.{IfErr, IfOk, Ok}
 use Rattle.c_syntax.specs.StatementsView.{externals_in, unit_of}
 use Rattle.c_tree.specs.View as view
 use Rattle.c_rules.specs.Answer.{Fails}
-use Rattle.c_unit_state.specs.FileState.{file_of}
+use Rattle.c_typer.specs.FileState.{file_of}
 use Rattle.c_unit_typing.specs.Typed.{TypedUnit, a_program}
 use Rattle.c_unit_typing.specs.Units.{file_in}
 use Rattle.c_typer.specs.Refused.{IsCauseOf, UnlessMemory}

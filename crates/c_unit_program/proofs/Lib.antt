@@ -1,5 +1,0 @@
-mod Placing
-mod Filling
-mod Making
-mod Files
-mod Limiting

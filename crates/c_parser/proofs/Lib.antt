@@ -1,3 +1,5 @@
 mod Answered
-mod UnitLists
 mod BlockSteps
+mod InitializerLists
+mod Typedefs
+mod UnitLists

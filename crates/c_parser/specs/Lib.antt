@@ -1,3 +1,4 @@
+pub mod InitializerSteps
 pub mod Parsed
 pub mod StatementParts
 pub mod StatementSteps

@@ -1,8 +1,10 @@
 //! The parser: the one well-formed tree that has the words of a text, or the token at which the parser stood where
-//! there is none (C99 6.8, 6.9).
+//! there is none (C99 6.7 to 6.9).
 #![tactic(auto)]
 
+mod declaration;
 pub mod fault;
+mod initializer;
 pub mod parser;
 mod statement;
 mod statement_tree;

@@ -12,12 +12,12 @@ ghost use Rattle.c_syntax.specs.View.{expression_of};
 ghost use Rattle.c_syntax.specs.Words.{word_at};
 ghost use Rattle.c_syntax.specs.StatementsView.{optional_of, for_init_of, statement_of, block_of, block_item_of};
 
+use crate::declaration::local;
 use crate::statement_tree::{
     block_with, break_with, case_with, compound, continue_with, declaration_item, default_with,
     do_with, expression_with, for_with, if_else_with, if_with, return_with, statement_item,
     switch_with, while_with,
 };
-use c_declarations::declaration::local;
 use c_expressions::nested::expression;
 use c_expressions::specifier::begins_specifiers;
 use c_grammar::cursor::{Cursor, Fault, is_same, next_is};

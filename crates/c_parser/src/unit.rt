@@ -7,10 +7,10 @@ ghost use Rattle.c_syntax.specs.Formed as formed;
 ghost use Rattle.c_syntax.specs.View.{declarator_of, specifiers_in};
 ghost use Rattle.c_syntax.specs.StatementsView.{external_of, externals_in, unit_of};
 
-use crate::statement::block;
-use c_declarations::declaration::{
+use crate::declaration::{
     add_defined_name, bare_declaration, declaration_behind, named_declarator,
 };
+use crate::statement::block;
 use c_expressions::nested::specifiers;
 use c_grammar::cursor::{Cursor, Fault, next_is};
 use c_grammar::typedef_names::TypedefNames;

@@ -3,10 +3,10 @@ use Rattle.c_syntax.specs.StatementsView.{item_of}
 use Rattle.c_syntax.proofs.StatementViews.{braced_view}
 use Rattle.c_grammar.specs.InitializerReader.{item_from, initializers}
 use Rattle.c_grammar.specs.Nested.{readers}
-use Rattle.c_declarations.specs.InitializerSteps.{items_to_brace}
+use Rattle.c_parser.specs.InitializerSteps.{items_to_brace}
 use Rattle.c_expressions.proofs.Given.{read}
-use Rattle.c_declarations.proofs.InitializerLists.{braced_read}
-use Rattle.c_declarations.proofs.initializer.Initializers.braced.Goals as goal
+use Rattle.c_parser.proofs.InitializerLists.{braced_read}
+use Rattle.c_parser.proofs.initializer.Initializers.braced.Goals as goal
 
 pub returns : goal.returns
 returns g c =

@@ -5,11 +5,11 @@ use Rattle.c_syntax.specs.View.{declarator_of}
 use Rattle.c_syntax.specs.StatementsView.{init_declarator_of, more_init_declarators_in}
 use Rattle.c_grammar.specs.DeclarationReader.{more_init_declarators_from}
 use Rattle.c_grammar.proofs.Extending.{extending}
-use Rattle.c_declarations.proofs.Typedefs.{init_declarator_turn, init_declarator_fails, init_declarators_end}
-use Rattle.c_declarations.proofs.Typedefs.{init_declarators_done, names_turn}
+use Rattle.c_parser.proofs.Typedefs.{init_declarator_turn, init_declarator_fails, init_declarators_end}
+use Rattle.c_parser.proofs.Typedefs.{init_declarators_done, names_turn}
 use Rattle.c_expressions.proofs.Given.{read, refused, of_ok}
 use Rattle.c_grammar.proofs.Turns.{one_more, no_more}
-use Rattle.c_declarations.proofs.declaration.more_typedef_declarators.Goals as goal
+use Rattle.c_parser.proofs.declaration.more_typedef_declarators.Goals as goal
 
 pub returns-in_default-clause-read : goal.returns-in_default-clause-read
 returns-in_default-clause-read c =

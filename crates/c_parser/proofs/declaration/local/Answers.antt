@@ -3,8 +3,8 @@ use Rattle.c_syntax.specs.StatementsView.{declaration_of}
 use Rattle.c_syntax.specs.View.{declarator_of}
 use Rattle.c_grammar.specs.Reads.{Reads}
 use Rattle.c_expressions.proofs.Given.{read}
-use Rattle.c_declarations.proofs.Typedefs.{local_is}
-use Rattle.c_declarations.proofs.declaration.local.Goals as goal
+use Rattle.c_parser.proofs.Typedefs.{local_is}
+use Rattle.c_parser.proofs.declaration.local.Goals as goal
 
 pub returns : goal.returns
 returns c =

@@ -2,8 +2,8 @@ use Rattle.std.proofs.Common.{◌≡◌, suc, ◌-◌, ap, subst, sym, ◌∙◌
 use Rattle.c_syntax.specs.StatementsView.{initializer_of}
 use Rattle.c_grammar.specs.Reads.{Reads}
 use Rattle.c_grammar.specs.InitializerReader.{initializers}
-use Rattle.c_declarations.proofs.InitializerLists.{braced_is, value_is}
-use Rattle.c_declarations.proofs.initializer.+initializer.Goals as goal
+use Rattle.c_parser.proofs.InitializerLists.{braced_is, value_is}
+use Rattle.c_parser.proofs.initializer.+initializer.Goals as goal
 
 pub returns-then-levels-eq0 : goal.returns-then-levels-eq0
 unfolding initializers

@@ -1,7 +1,7 @@
 use Rattle.std.proofs.Common.{sym}
 use Rattle.c_syntax.specs.StatementsView.{declaration_of}
-use Rattle.c_declarations.proofs.Typedefs.{plain_leaves}
-use Rattle.c_declarations.proofs.declaration.declaration_behind.Goals as goal
+use Rattle.c_parser.proofs.Typedefs.{plain_leaves}
+use Rattle.c_parser.proofs.declaration.declaration_behind.Goals as goal
 
 pub returns-clause-names : goal.returns-clause-names
 returns-clause-names c =

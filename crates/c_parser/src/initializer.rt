@@ -7,7 +7,7 @@ ghost use Rattle.c_grammar.specs.Reader as reader;
 ghost use Rattle.c_grammar.specs.Reader.{behind_commas_to_brace};
 ghost use Rattle.c_grammar.specs.Nested.{readers};
 ghost use Rattle.c_grammar.specs.Reads.{Reads};
-ghost use Rattle.c_declarations.specs.InitializerSteps.{DeeperInitializers, items_to_brace};
+ghost use Rattle.c_parser.specs.InitializerSteps.{DeeperInitializers, items_to_brace};
 ghost use Rattle.c_syntax.specs.StatementsView.{designator_of, designators_in, designation_of, initializer_of, item_of};
 
 use c_expressions::leveled::{beside, with_item};
@@ -123,7 +123,7 @@ fn designation<'a>(
 
 /// Reads an expression as an initializer (C99 6.7.8).
 #[tactic(auto, unfolding(c_grammar::specs::InitializerReader::value_from))]
-pub fn value<'a>(
+pub(crate) fn value<'a>(
     alloc: Global,
     names: &TypedefNames<'a>,
     tokens: &mut Cursor<'_, 'a>,
@@ -140,7 +140,7 @@ pub fn value<'a>(
 
 /// The rules for initializers whose parts have fewer levels than a number, with the function that reads these parts.
 #[derive(Drop)]
-pub struct Initializers<'t, 'a, I> {
+pub(crate) struct Initializers<'t, 'a, I> {
     /// Where memory comes from.
     alloc: Global,
     /// The typedef names.
@@ -207,7 +207,7 @@ impl<
 
     /// Reads `{ items }` (C99 6.7.8).
     #[tactic(auto, unfolding(c_grammar::specs::InitializerReader::braced_from))]
-    pub fn braced(&self, tokens: &mut Cursor<'_, 'a>) -> Result<Initializer<'a>, Fault>
+    pub(crate) fn braced(&self, tokens: &mut Cursor<'_, 'a>) -> Result<Initializer<'a>, Fault>
         requires { DeeperInitializers self.now.levels (I.pre self.now.initializer) (I.post self.now.initializer) }
         ensures { Reads initializer_of (spec.braced_from (spec.item_from (readers self.now.names.now self.now.levels)
             (spec.initializers self.now.names.now self.now.levels)) tokens.old.rest.now) result tokens.new.rest.now }
@@ -222,14 +222,14 @@ impl<
 }
 
 /// Whether an initializer in braces begins with the next word, where there may be this number of levels.
-pub fn begins_braced(rest: &[Positioned], levels: usize) -> bool
+pub(crate) fn begins_braced(rest: &[Positioned], levels: usize) -> bool
     ensures { result ≡ reader.next_is_punctuator p.LeftBrace rest.now && nat_le 1 levels }
 {
     next_is(rest, Punctuator::LeftBrace) && 1 <= levels
 }
 
 /// Reads an initializer with fewer than this number of levels (C99 6.7.8).
-pub fn initializer<'a>(
+pub(crate) fn initializer<'a>(
     alloc: Global,
     names: &TypedefNames<'a>,
     tokens: &mut Cursor<'_, 'a>,

@@ -5,11 +5,11 @@ use Rattle.c_syntax.specs.StatementsView.{item_of}
 use Rattle.c_grammar.specs.InitializerReader.{item_from, initializers}
 use Rattle.c_grammar.specs.Nested.{readers}
 use Rattle.c_grammar.specs.Reader.{behind_commas_to_brace}
-use Rattle.c_declarations.proofs.InitializerLists.{extending_to_brace, to_brace_turn, to_brace_fails, to_brace_last}
-use Rattle.c_declarations.proofs.InitializerLists.{to_brace_end, to_brace_done}
+use Rattle.c_parser.proofs.InitializerLists.{extending_to_brace, to_brace_turn, to_brace_fails, to_brace_last}
+use Rattle.c_parser.proofs.InitializerLists.{to_brace_end, to_brace_done}
 use Rattle.c_expressions.proofs.Given.{read, refused}
 use Rattle.c_grammar.proofs.Turns.{one_more, no_more}
-use Rattle.c_declarations.proofs.initializer.Initializers.more_items.Goals as goal
+use Rattle.c_parser.proofs.initializer.Initializers.more_items.Goals as goal
 
 pub returns-in_default : goal.returns-in_default
 returns-in_default g c =

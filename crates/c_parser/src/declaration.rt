@@ -43,7 +43,7 @@ fn add_typedef_name<'a>(
 
 /// Puts the name of a declarator, if the specifiers before it have `typedef`, behind the typedef names, or answers that
 /// there is no memory (C99 6.7.7).
-pub fn add_defined_name<'a>(
+pub(crate) fn add_defined_name<'a>(
     names: &mut TypedefNames<'a>,
     specifiers: &[Specifier<'a>],
     declarator: &Declarator<'a>,
@@ -58,7 +58,7 @@ pub fn add_defined_name<'a>(
 }
 
 /// Reads a declarator with a name (C99 6.7.5).
-pub fn named_declarator<'a>(
+pub(crate) fn named_declarator<'a>(
     alloc: Global,
     names: &TypedefNames<'a>,
     tokens: &mut Cursor<'_, 'a>,
@@ -281,7 +281,7 @@ fn typedef_declaration_behind<'a>(
 
 /// Reads the rest of a declaration behind its first declarator, and puts the names of a typedef behind the typedef
 /// names (C99 6.7, 6.7.7).
-pub fn declaration_behind<'a>(
+pub(crate) fn declaration_behind<'a>(
     alloc: Global,
     names: &mut TypedefNames<'a>,
     tokens: &mut Cursor<'_, 'a>,
@@ -304,7 +304,7 @@ pub fn declaration_behind<'a>(
 
 /// Reads the semicolon of a declaration without declarators (C99 6.7).
 #[tactic(auto, unfolding(c_grammar::specs::DeclarationReader::bare_declaration_from))]
-pub fn bare_declaration<'a>(
+pub(crate) fn bare_declaration<'a>(
     tokens: &mut Cursor<'_, 'a>,
     levels: u8,
     specifiers: Items<Specifier<'a>>,
@@ -324,7 +324,7 @@ pub fn bare_declaration<'a>(
 
 /// Reads a declaration in a function, where no `typedef` stands (C99 6.7).
 #[tactic(auto, unfolding(c_grammar::specs::DeclarationReader::local_from), using(crate::proofs::Typedefs::no_typedef))]
-pub fn local<'a>(
+pub(crate) fn local<'a>(
     alloc: Global,
     names: &TypedefNames<'a>,
     tokens: &mut Cursor<'_, 'a>,

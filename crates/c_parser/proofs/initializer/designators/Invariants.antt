@@ -3,7 +3,7 @@ use Rattle.c_syntax.specs.StatementsView.{designators_in}
 use Rattle.c_grammar.specs.InitializerReader.{designators_from}
 use Rattle.c_grammar.specs.Nested.{readers}
 use Rattle.c_grammar.proofs.Extending.{extending}
-use Rattle.c_declarations.proofs.initializer.designators.Given as goal
+use Rattle.c_parser.proofs.initializer.designators.Given as goal
 
 abbrev pub invariant-loop : goal.invariant-loop
 invariant-loop l =

@@ -2,7 +2,7 @@ use Rattle.std.proofs.Common.{◌≡◌, ◌-◌, length, false}
 use Rattle.c_syntax.specs.StatementsView.{more_init_declarators_in}
 use Rattle.c_grammar.specs.DeclarationReader.{more_init_declarators_from}
 use Rattle.c_grammar.proofs.Extending.{extending}
-use Rattle.c_declarations.proofs.declaration.more_init_declarators.Given as goal
+use Rattle.c_parser.proofs.declaration.more_init_declarators.Given as goal
 
 abbrev pub invariant-loop : goal.invariant-loop
 invariant-loop l =

@@ -4,10 +4,10 @@ use Rattle.c_syntax.specs.StatementsView.{designator_of, designators_in}
 use Rattle.c_grammar.specs.InitializerReader.{designators_from}
 use Rattle.c_grammar.specs.Nested.{readers}
 use Rattle.c_grammar.proofs.Extending.{extending}
-use Rattle.c_declarations.proofs.InitializerLists.{designator_turn, designator_fails, designators_end, designators_done}
+use Rattle.c_parser.proofs.InitializerLists.{designator_turn, designator_fails, designators_end, designators_done}
 use Rattle.c_expressions.proofs.Given.{read, refused}
 use Rattle.c_grammar.proofs.Turns.{one_more, no_more}
-use Rattle.c_declarations.proofs.initializer.designators.Goals as goal
+use Rattle.c_parser.proofs.initializer.designators.Goals as goal
 
 pub returns-then-not-begins_designator : goal.returns-then-not-begins_designator
 returns-then-not-begins_designator c =

@@ -3,7 +3,7 @@ use Rattle.c_syntax.specs.Formed.{names_after_more}
 use Rattle.c_syntax.specs.StatementsView.{more_init_declarators_in}
 use Rattle.c_grammar.specs.DeclarationReader.{more_init_declarators_from}
 use Rattle.c_grammar.proofs.Extending.{extending}
-use Rattle.c_declarations.proofs.declaration.more_typedef_declarators.Given as goal
+use Rattle.c_parser.proofs.declaration.more_typedef_declarators.Given as goal
 
 abbrev pub invariant-loop : goal.invariant-loop
 invariant-loop l = record {

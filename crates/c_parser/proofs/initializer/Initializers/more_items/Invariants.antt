@@ -4,8 +4,8 @@ use Rattle.c_syntax.specs.StatementsView.{item_of}
 use Rattle.c_grammar.specs.InitializerReader.{item_from, initializers}
 use Rattle.c_grammar.specs.Nested.{readers}
 use Rattle.c_grammar.specs.Reader.{behind_commas_to_brace}
-use Rattle.c_declarations.proofs.InitializerLists.{extending_to_brace}
-use Rattle.c_declarations.proofs.initializer.Initializers.more_items.Given as goal
+use Rattle.c_parser.proofs.InitializerLists.{extending_to_brace}
+use Rattle.c_parser.proofs.initializer.Initializers.more_items.Given as goal
 
 abbrev pub invariant-loop : goal.invariant-loop
 invariant-loop g l =

@@ -1,2 +1,0 @@
-mod InitializerLists
-mod Typedefs
